@@ -1,0 +1,10 @@
+pub mod BitsLemmas
+pub mod CountLemmas
+pub mod FlipLemmas
+pub mod NumberLemmas
+pub mod PickLemmas
+pub mod PlaceLemmas
+pub mod ReadLemmas
+pub mod SearchLemmas
+pub mod WordLemmas
+pub mod WriteLemmas

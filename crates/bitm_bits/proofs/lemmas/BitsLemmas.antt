@@ -1,0 +1,63 @@
+-- Item i of the list of bits is a digit of a word.
+use Rattle.std.proofs.Common.{◌≡◌, ℕ, suc, ◌+◌, ◌-◌, ◌*◌, ◌/◌, ◌%◌, ◌^◌, ◌<◌, Bool, false, not, List, [], ◌∷◌, ◌++◌, length, get_or, eqb, sym, refl, ap, ◌∙◌, ⊎_elim, arith, length-append, bit_and, ◌⊎◌}
+use Rattle.std.proofs.lemmas.Bool.{cases_lt}
+use Rattle.std.proofs.lemmas.List.{ext_get_or, get_or_append_left, get_or-append_right}
+use Rattle.std.proofs.lemmas.List.FromFn.{length-map-range_with_len, get_or-map-range_with_len}
+use Rattle.bitm_bits.proofs.lemmas.WordLemmas.{digit_tested}
+use Rattle.bitm_bits.specs.Bits.{digit, low_digits, bit_of, bits_of, item}
+
+-- ---- lists
+
+pub length-low_digits : (n v : ℕ) → length (low_digits n v) ≡ n
+unfolding low_digits
+length-low_digits n v = length-map-range_with_len (digit v) 0 n
+
+pub item-low_digits : (n v j : ℕ) → j < n → item (low_digits n v) j ≡ digit v j
+unfolding low_digits
+item-low_digits n v j l = get_or-map-range_with_len (digit v) 0 n j j false l (omega arith)
+
+pub length-bits_of : (words : List ℕ) → length (bits_of words) ≡ 64 * length words
+unfolding bits_of
+length-bits_of words = length-map-range_with_len (bit_of words) 0 (64 * length words)
+
+pub item-bits_of : (words : List ℕ) (i : ℕ) → i < 64 * length words → item (bits_of words) i ≡ bit_of words i
+unfolding bits_of
+item-bits_of words i l = get_or-map-range_with_len (bit_of words) 0 (64 * length words) i i false l (omega arith)
+
+-- the bit at digit j of word q
+pub item-bits_of_at : (words : List ℕ) (i q j : ℕ) → i ≡ 64 * q + j → j < 64 → q < length words → item (bits_of words) i ≡ digit (get_or words q 0) j
+item-bits_of_at words i q j e low within =
+    let place : i < 64 * length words = omega arith in
+    let word : i / 64 ≡ q = omega arith in
+    let rest : i % 64 ≡ j = omega arith in
+    item-bits_of words i place ∙ ap (λ k. digit (get_or words k 0) (i % 64)) word ∙ ap (digit (get_or words q 0)) rest
+
+pub same_bits : (b c : List Bool) → length b ≡ length c → ((i : ℕ) → i < length b → item b i ≡ item c i) → b ≡ c
+same_bits b c = ext_get_or false b c
+
+pub item_tested : (words : List ℕ) (i : ℕ) → i < 64 * length words
+    → not (eqb (bit_and (get_or words (i / 64) 0) (1 * 2 ^ (i % 64) % 2 ^ 64)) 0) ≡ item (bits_of words) i
+item_tested words i l = digit_tested (get_or words (i / 64) 0) (i % 64) (omega arith) ∙ sym (item-bits_of words i l)
+
+pub bits_of-cons : (w : ℕ) (words : List ℕ) → bits_of (w ∷ words) ≡ low_digits 64 w ++ bits_of words
+bits_of-cons w words =
+    same_bits (bits_of (w ∷ words)) (low_digits 64 w ++ bits_of words)
+    (omega (arith, length-bits_of (w ∷ words), length-append (low_digits 64 w) (bits_of words), length-low_digits 64 w, length-bits_of words))
+    (λ i l.
+    let within : i < 64 * suc (length words) = omega (arith, length-bits_of (w ∷ words)) in
+    ⊎_elim
+    (λ first.
+    item-bits_of_at (w ∷ words) i 0 i (omega arith) first (omega arith)
+    ∙ sym (get_or_append_left (low_digits 64 w) (bits_of words) false i (omega (arith, length-low_digits 64 w)) ∙ item-low_digits 64 w i first))
+    (λ later.
+    let q = i / 64 - 1 in
+    let word : i / 64 ≡ suc q = omega arith in
+    let place : i ≡ 64 * suc q + i % 64 = omega arith in
+    item-bits_of_at (w ∷ words) i (suc q) (i % 64) place (omega arith) (omega arith)
+    ∙ sym (get_or-append_right (low_digits 64 w) (bits_of words) 64 i false (length-low_digits 64 w) later
+    ∙ item-bits_of_at words (i - 64) q (i % 64) (omega arith) (omega arith) (omega arith)))
+    (cases_lt i 64))
+
+pub no_bits : bits_of [] ≡ []
+unfolding bits_of
+no_bits = refl

@@ -1,0 +1,132 @@
+-- Counts over one item more, over a word and over all words.
+use Rattle.std.proofs.Common.{◌≡◌, ℕ, zero, suc, ◌+◌, ◌-◌, ◌*◌, ◌%◌, ◌^◌, ◌<◌, ◌≤◌, Bool, true, false, not, List, [], ◌∷◌, length, get_or, take, sym, refl, ap, ◌∙◌, ⊎_elim, arith, count_ones, sum_by, w64, ap₂, take_all, mod-eq_of_lt, add_comm, ◌⊎◌}
+use Rattle.std.proofs.lemmas.Bool.{cases_eq}
+use Rattle.std.proofs.lemmas.List.Sums.{sum_by_more, sum_by-cons}
+use Rattle.std.proofs.lemmas.Nat.{mod-pow-add, ones_cat, pow_pos, ones_le_self, zero_from_ones}
+use Rattle.std.proofs.lemmas.Nat.Bits.{bit_at-lt, bit_at_not}
+use Rattle.std.specs.Int.{bit_at, bit_not, count_zeros}
+use Rattle.bitm_bits.proofs.lemmas.BitsLemmas.{length-bits_of, item-bits_of_at}
+use Rattle.bitm_bits.proofs.lemmas.WordLemmas.{truth, truth-digit}
+use Rattle.bitm_bits.specs.Bits.{bits_of, item}
+use Rattle.bitm_bits.specs.Count.{ones_before, zeros_before}
+
+-- ---- one item more
+
+pub ones_before_more : (b : List Bool) (i : ℕ) → i < length b → ones_before b (i + 1) ≡ ones_before b i + truth (item b i)
+unfolding ones_before
+ones_before_more b i l = sum_by_more truth b i false l
+
+pub zeros_before_more : (b : List Bool) (i : ℕ) → i < length b → zeros_before b (i + 1) ≡ zeros_before b i + truth (not (item b i))
+unfolding zeros_before
+zeros_before_more b i l = sum_by_more (λ x. truth (not x)) b i false l
+
+pub ones_before_none : (b : List Bool) → ones_before b 0 ≡ 0
+unfolding ones_before
+ones_before_none b = refl
+
+pub zeros_before_none : (b : List Bool) → zeros_before b 0 ≡ 0
+unfolding zeros_before
+zeros_before_none b = refl
+
+-- each of the first i items is true or false
+pub ones_before-add-zeros_before : (b : List Bool) (i : ℕ) → i ≤ length b → ones_before b i + zeros_before b i ≡ i
+ones_before-add-zeros_before b zero l = omega (arith, ones_before_none b, zeros_before_none b)
+ones_before-add-zeros_before b (suc i) l =
+    let step : suc i ≡ i + 1 = omega arith in
+    omega (arith, ap (ones_before b) step, ap (zeros_before b) step, ones_before_more b i (omega arith), zeros_before_more b i (omega arith), one_of (item b i), ones_before-add-zeros_before b i (omega arith))
+  where
+    one_of : (x : Bool) → truth x + truth (not x) ≡ 1
+    one_of true = refl
+    one_of false = refl
+
+-- ---- the ones of a word
+
+-- a digit has itself as its number of ones
+count_ones_digit : (d : ℕ) → d < 2 → count_ones d ≡ d
+count_ones_digit zero l = omega (arith, ones_le_self 0)
+count_ones_digit (suc zero) l =
+    ⊎_elim (λ e. absurd (omega (arith, zero_from_ones 1 e))) (λ some. omega (arith, ones_le_self 1)) (cases_eq (count_ones 1) 0)
+count_ones_digit (suc (suc d)) l = absurd (omega arith)
+
+-- digit k more of v
+pub count_ones_more : (v k : ℕ) → count_ones (v % 2 ^ (k + 1)) ≡ count_ones (v % 2 ^ k) + bit_at v k
+count_ones_more v k =
+    let turn : k + 1 ≡ 1 + k = omega arith in
+    ap (λ e. count_ones (v % 2 ^ e)) turn
+    ∙ ap count_ones (mod-pow-add v 1 k)
+    ∙ ones_cat k (bit_at v k) (v % 2 ^ k) (omega (arith, pow_pos k))
+    ∙ ap (λ d. d + count_ones (v % 2 ^ k)) (count_ones_digit (bit_at v k) (bit_at-lt v k))
+    ∙ add_comm (bit_at v k) (count_ones (v % 2 ^ k))
+
+-- the ones before digit j of word q, from those before the word
+within_word : (words : List ℕ) (q : ℕ) → q < length words → (j : ℕ) → j ≤ 64
+    → ones_before (bits_of words) (64 * q + j) ≡ ones_before (bits_of words) (64 * q) + count_ones (get_or words q 0 % 2 ^ j)
+within_word words q within zero l =
+    let e : 64 * q + 0 ≡ 64 * q = omega arith in
+    let none : get_or words q 0 % 1 ≡ 0 = omega arith in
+    ap (ones_before (bits_of words)) e ∙ omega (arith, ap count_ones none, count_ones_digit 0)
+within_word words q within (suc j) l =
+    let b = bits_of words in
+    let w = get_or words q 0 in
+    let next : 64 * q + suc j ≡ 64 * q + j + 1 = omega arith in
+    let more : ones_before b (64 * q + j + 1) ≡ ones_before b (64 * q + j) + truth (item b (64 * q + j)) = ones_before_more b (64 * q + j) (omega (arith, length-bits_of words)) in
+    let here : truth (item b (64 * q + j)) ≡ bit_at w j = ap truth (item-bits_of_at words (64 * q + j) q j refl (omega arith) within) ∙ truth-digit w j in
+    let before = within_word words q within j (omega arith) in
+    let step : suc j ≡ j + 1 = omega arith in
+    ap (ones_before b) next ∙ more
+    ∙ omega (arith, here, before, count_ones_more w j, ap (λ e. count_ones (w % 2 ^ e)) step)
+
+module _ (words : List ℕ) (fit : (k : ℕ) → get_or words k 0 < 2 ^ 64) where
+  pub ones_before-bits_of_front : (q : ℕ) → q ≤ length words → ones_before (bits_of words) (64 * q) ≡ sum_by count_ones (take q words)
+  ones_before-bits_of_front zero l = ones_before_none (bits_of words)
+  ones_before-bits_of_front (suc q) l =
+      let next : 64 * suc q ≡ 64 * q + 64 = omega arith in
+      let step : suc q ≡ q + 1 = omega arith in
+      let whole : get_or words q 0 % 2 ^ 64 ≡ get_or words q 0 = mod-eq_of_lt (fit q) in
+      ap (ones_before (bits_of words)) next
+      ∙ within_word words q (omega arith) 64 (omega arith)
+      ∙ ap₂ (λ a v. a + count_ones v) (ones_before-bits_of_front q (omega arith)) whole
+      ∙ sym (ap (λ k. sum_by count_ones (take k words)) step ∙ sum_by_more count_ones words q 0 (omega arith))
+
+  -- the ones before digit j of word q
+  pub ones_before-bits_of : (q j : ℕ) → q < length words → j ≤ 64
+      → ones_before (bits_of words) (64 * q + j) ≡ sum_by count_ones (take q words) + count_ones (get_or words q 0 % 2 ^ j)
+  ones_before-bits_of q j within l =
+      within_word words q within j l ∙ ap (λ a. a + count_ones (get_or words q 0 % 2 ^ j)) (ones_before-bits_of_front q (omega arith))
+
+  pub ones_before-bits_of_all : ones_before (bits_of words) (64 * length words) ≡ sum_by count_ones words
+  ones_before-bits_of_all = ones_before-bits_of_front (length words) (omega arith) ∙ ap (sum_by count_ones) (take_all (length words) words (omega arith))
+
+-- a word has 64 digits
+digits_of_both : (v k : ℕ) → v < 2 ^ 64 → k ≤ 64 → count_ones (bit_not w64 v % 2 ^ k) + count_ones (v % 2 ^ k) ≡ k
+digits_of_both v zero fits l =
+    let left : bit_not w64 v % 1 ≡ 0 = omega arith in
+    let right : v % 1 ≡ 0 = omega arith in
+    omega (arith, ap count_ones left, ap count_ones right, count_ones_digit 0)
+digits_of_both v (suc k) fits l =
+    let step : suc k ≡ k + 1 = omega arith in
+    omega (
+      arith,
+      ap (λ e. count_ones (bit_not w64 v % 2 ^ e)) step,
+      ap (λ e. count_ones (v % 2 ^ e)) step,
+      count_ones_more v k,
+      count_ones_more (bit_not w64 v) k,
+      bit_at_not w64 v k fits (omega arith),
+      bit_at-lt v k,
+      digits_of_both v k fits (omega arith),
+    )
+
+count_zeros-add-count_ones : (v : ℕ) → v < 2 ^ 64 → count_zeros w64 v + count_ones v ≡ 64
+count_zeros-add-count_ones v fits =
+    let all : v % 2 ^ 64 ≡ v = mod-eq_of_lt fits in
+    let inverse : bit_not w64 v % 2 ^ 64 ≡ bit_not w64 v = mod-eq_of_lt (omega arith) in
+    omega (arith, digits_of_both v 64 fits (omega arith), ap count_ones all, ap count_ones inverse)
+
+sum_of_both : (words : List ℕ) → ((k : ℕ) → get_or words k 0 < 2 ^ 64) → sum_by (count_zeros w64) words + sum_by count_ones words ≡ 64 * length words
+sum_of_both [] fit = refl
+sum_of_both (w ∷ words) fit =
+    omega (arith, sum_by-cons (count_zeros w64) w words, sum_by-cons count_ones w words, count_zeros-add-count_ones w (fit 0), sum_of_both words (λ k. fit (suc k)))
+
+pub zeros_before-bits_of_all : (words : List ℕ) → ((k : ℕ) → get_or words k 0 < 2 ^ 64) → zeros_before (bits_of words) (64 * length words) ≡ sum_by (count_zeros w64) words
+zeros_before-bits_of_all words fit =
+    omega (arith, ones_before-add-zeros_before (bits_of words) (64 * length words) (omega (arith, length-bits_of words)), ones_before-bits_of_all words fit, sum_of_both words fit)

@@ -1,0 +1,87 @@
+-- One place is picked for each rank, and item k of the rising places is the one for k.
+use Rattle.std.proofs.Common.{◌≡◌, ℕ, zero, suc, ◌+◌, ◌-◌, ◌<◌, ◌≤◌, Bool, true, false, not, List, [], ◌∷◌, length, get_or, take, refl, ap, ◌∙◌, ⊎_elim, arith, subst, ◌⊎◌}
+use Rattle.std.proofs.lemmas.Bool.{cases_order}
+use Rattle.std.proofs.lemmas.List.Sums.{sum_by-cons}
+use Rattle.bitm_bits.proofs.lemmas.CountLemmas.{ones_before_more, zeros_before_more}
+use Rattle.bitm_bits.proofs.lemmas.WordLemmas.{truth}
+use Rattle.bitm_bits.specs.Bits.{item}
+use Rattle.bitm_bits.specs.Count.{ones_before, zeros_before, count_before, Picks, is_same, places}
+
+-- ---- one place for each rank
+
+count_before_more : (v : Bool) (b : List Bool) (i : ℕ) → i < length b → count_before b v (i + 1) ≡ count_before b v i + truth (is_same v (item b i))
+count_before_more true b i l = ones_before_more b i l
+count_before_more false b i l = zeros_before_more b i l
+
+count_before_grows : (v : Bool) (b : List Bool) (i d : ℕ) → i + d ≤ length b → count_before b v i ≤ count_before b v (i + d)
+count_before_grows v b i zero l = let e : i + 0 ≡ i = omega arith in omega (arith, ap (count_before b v) e)
+count_before_grows v b i (suc d) l =
+    let e : i + suc d ≡ i + d + 1 = omega arith in
+    omega (arith, count_before_grows v b i d (omega arith), count_before_more v b (i + d) (omega arith), ap (count_before b v) e)
+
+is_same_self : (v : Bool) → truth (is_same v v) ≡ 1
+is_same_self true = refl
+is_same_self false = refl
+
+later : (b : List Bool) (v : Bool) (r p q : ℕ) → Picks b v r p → Picks b v r q → p < q → ⊥
+later b v r p q here there l =
+    let one : truth (is_same v (item b p)) ≡ 1 = ap (λ x. truth (is_same v x)) here.item ∙ is_same_self v in
+    let e : p + 1 + (q - (p + 1)) ≡ q = omega arith in
+    omega (arith, count_before_more v b p here.inside, one, here.before, there.before, count_before_grows v b (p + 1) (q - (p + 1)) (omega (arith, there.inside)), ap (count_before b v) e)
+
+pub same_from_Picks : (b : List Bool) (v : Bool) (r p q : ℕ) → Picks b v r p → Picks b v r q → p ≡ q
+same_from_Picks b v r p q here there =
+    ⊎_elim (λ e. e)
+    (λ apart. ⊎_elim (λ l. absurd (later b v r p q here there l)) (λ l. absurd (later b v r q p there here l)) apart)
+    (cases_order p q)
+
+-- ---- item k of the places is the one with k before it
+
+count_before_after : (v x : Bool) (b : List Bool) (i : ℕ) → count_before (x ∷ b) v (suc i) ≡ truth (is_same v x) + count_before b v i
+unfolding ones_before zeros_before
+count_before_after true x b i = sum_by-cons truth x (take i b)
+count_before_after false x b i = sum_by-cons (λ y. truth (not y)) x (take i b)
+
+count_before_first : (v : Bool) (b : List Bool) → count_before b v 0 ≡ 0
+unfolding ones_before zeros_before
+count_before_first true b = refl
+count_before_first false b = refl
+
+-- p is the place of item k of the places, where the first item's place is from
+record IsPlace (b : List Bool) (v : Bool) (k from p : ℕ) : Type 0 where
+  pub at : ℕ
+  pub is : p ≡ from + at
+  pub picked : Picks b v k at
+
+skip : (b : List Bool) (v x : Bool) (k from p : ℕ) → is_same v x ≡ false → IsPlace b v k (from + 1) p → IsPlace (x ∷ b) v k from p
+skip b v x k from p other h = record {
+  at = suc h.at;
+  is = omega (arith, h.is);
+  picked = record { inside = omega (arith, h.picked.inside); item = h.picked.item; before = count_before_after v x b h.at ∙ ap (λ y. truth y + count_before b v h.at) other ∙ omega (arith, h.picked.before) };
+}
+
+next_place : (b : List Bool) (v x : Bool) (k from p : ℕ) → is_same v x ≡ true → IsPlace b v k (from + 1) p → IsPlace (x ∷ b) v (suc k) from p
+next_place b v x k from p one h = record {
+  at = suc h.at;
+  is = omega (arith, h.is);
+  picked = record { inside = omega (arith, h.picked.inside); item = h.picked.item; before = count_before_after v x b h.at ∙ ap (λ y. truth y + count_before b v h.at) one ∙ omega (arith, h.picked.before) };
+}
+
+here_place : (b : List Bool) (v : Bool) (from : ℕ) → IsPlace (v ∷ b) v 0 from from
+here_place b v from = record { at = 0; is = omega arith; picked = record { inside = omega arith; item = refl; before = count_before_first v (v ∷ b) } }
+
+place_at : (b : List Bool) (v : Bool) (k from d : ℕ) → k < length (places v from b) → IsPlace b v k from (get_or (places v from b) k d)
+place_at [] v k from d l = absurd (omega arith)
+place_at (true ∷ b) true zero from d l = here_place b true from
+place_at (true ∷ b) true (suc k) from d l = next_place b true true k from _ refl (place_at b true k (from + 1) d (omega arith))
+place_at (false ∷ b) true k from d l = skip b true false k from _ refl (place_at b true k (from + 1) d l)
+place_at (false ∷ b) false zero from d l = here_place b false from
+place_at (false ∷ b) false (suc k) from d l = next_place b false false k from _ refl (place_at b false k (from + 1) d (omega arith))
+place_at (true ∷ b) false k from d l = skip b false true k from _ refl (place_at b false k (from + 1) d l)
+
+pub Picks-places : (b : List Bool) (v : Bool) (k d : ℕ) → k < length (places v 0 b) → Picks b v k (get_or (places v 0 b) k d)
+Picks-places b v k d l =
+    let h = place_at b v k 0 d l in
+    let e : h.at ≡ get_or (places v 0 b) k d = omega (arith, h.is) in
+    let P : ℕ → Type 0 = λ p. Picks b v k p in
+    subst P e h.picked

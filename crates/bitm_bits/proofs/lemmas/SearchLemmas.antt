@@ -1,0 +1,95 @@
+-- The search for the next one, word by word.
+use Rattle.std.proofs.Common.{◌≡◌, ℕ, ◌+◌, ◌-◌, ◌*◌, ◌/◌, ◌%◌, ◌^◌, ◌<◌, ◌≤◌, false, List, length, get_or, eqb, sym, refl, ap, ◌∙◌, ⊎_elim, arith, w64, bit_and, ◌⊎◌}
+use Rattle.std.proofs.lemmas.Bool.{cases_lt}
+use Rattle.std.proofs.lemmas.List.{get_or_past}
+use Rattle.std.proofs.lemmas.Nat.{and_le_l, pow_below}
+use Rattle.std.proofs.lemmas.Nat.Bits.{bit_at-lt, bit_at-zero, bit_at_not, bit_at_and, bit_at_ones, bit_at_ones_above, bit_at-trailing_zeros}
+use Rattle.std.specs.Int.{bit_at, bit_not, trailing_zeros}
+use Rattle.bitm_bits.proofs.lemmas.BitsLemmas.{length-bits_of, item-bits_of_at}
+use Rattle.bitm_bits.specs.Bits.{bits_of, item}
+use Rattle.bitm_bits.specs.Count.{IsFirstOneFrom}
+
+-- rest is word q without its bits before s, and no bit from s up to word q is a one
+pub record IsRestFrom (words : List ℕ) (s q rest : ℕ) : Type 0 where
+  pub within : q < length words
+  pub fits : rest < 2 ^ 64
+  pub kept : (j : ℕ) → j < 64 → s ≤ 64 * q + j → bit_at rest j ≡ bit_at (get_or words q 0) j
+  pub cleared : (j : ℕ) → j < 64 → 64 * q + j < s → bit_at rest j ≡ 0
+  pub passed : (i : ℕ) → s ≤ i → i < 64 * q → item (bits_of words) i ≡ false
+
+-- `word & !mask`
+pub IsRestFrom-start : (words : List ℕ) (s mask : ℕ) → s / 64 < length words → get_or words (s / 64) 0 < 2 ^ 64 → mask ≡ 2 ^ (s % 64) - 1
+    → IsRestFrom words s (s / 64) (bit_and (get_or words (s / 64) 0) (bit_not w64 mask))
+IsRestFrom-start words s mask within fits low = record {
+  within = within;
+  fits = omega (arith, and_le_l w (bit_not w64 mask));
+  kept = λ j l from.
+      let m : bit_at mask j ≡ 0 = ap (λ x. bit_at x j) low ∙ bit_at_ones_above (s % 64) j (omega arith) in
+      omega (arith, bit_at_and w (bit_not w64 mask) j, bit_at_not w64 mask j small l, m, bit_at-lt w j);
+  cleared = λ j l before.
+      let m : bit_at mask j ≡ 1 = ap (λ x. bit_at x j) low ∙ bit_at_ones (s % 64) j (omega arith) in
+      omega (arith, bit_at_and w (bit_not w64 mask) j, bit_at_not w64 mask j small l, m);
+  passed = λ i from before. absurd (omega arith);
+}
+  where
+    w : ℕ
+    w = get_or words (s / 64) 0
+
+    small : mask < 2 ^ 64
+    small = omega (arith, low, pow_below (s % 64) 64 (omega arith))
+
+-- where nothing is left of word q, no bit up to its end is a one
+pub passed_word : (words : List ℕ) (s q : ℕ) → IsRestFrom words s q 0 → (i : ℕ) → s ≤ i → i < 64 * (q + 1) → item (bits_of words) i ≡ false
+passed_word words s q h i from before =
+    ⊎_elim
+    (λ earlier. h.passed i from earlier)
+    (λ here.
+    let j = i - 64 * q in
+    let place : i ≡ 64 * q + j = omega arith in
+    let digit_is : bit_at (get_or words q 0) j ≡ 0 = sym (h.kept j (omega arith) (omega arith)) ∙ bit_at-zero j in
+    item-bits_of_at words i q j place (omega arith) h.within ∙ ap (λ d. eqb d 1) digit_is)
+    (cases_lt i (64 * q))
+
+pub IsRestFrom-next : (words : List ℕ) (s q : ℕ) → IsRestFrom words s q 0 → s < 64 * (q + 1) → q + 1 < length words → get_or words (q + 1) 0 < 2 ^ 64
+    → IsRestFrom words s (q + 1) (get_or words (q + 1) 0)
+IsRestFrom-next words s q h near within fits = record {
+  within = within;
+  fits = fits;
+  kept = λ j l from. refl;
+  cleared = λ j l before. absurd (omega arith);
+  passed = passed_word words s q h;
+}
+
+-- where the words end, there is no one
+pub none_left : (words : List ℕ) (s q : ℕ) → IsRestFrom words s q 0 → length words ≤ q + 1 → (i : ℕ) → s ≤ i → item (bits_of words) i ≡ false
+none_left words s q h end i from =
+    ⊎_elim
+    (λ inside. passed_word words s q h i from (omega arith))
+    (λ past. get_or_past (bits_of words) i false (omega (arith, length-bits_of words)))
+    (cases_lt i (64 * length words))
+
+pub none_from : (words : List ℕ) (s : ℕ) → length words ≤ s / 64 → (i : ℕ) → s ≤ i → item (bits_of words) i ≡ false
+none_from words s end i from = get_or_past (bits_of words) i false (omega (arith, length-bits_of words))
+
+-- the lowest one of what is left is the first one
+pub first_left : (words : List ℕ) (s q rest : ℕ) → IsRestFrom words s q rest → 0 < rest → IsFirstOneFrom (bits_of words) s (64 * q + trailing_zeros w64 rest)
+first_left words s q rest h some =
+    let t = trailing_zeros w64 rest in
+    let lowest = bit_at-trailing_zeros w64 rest some h.fits in
+    let low : t < 64 = lowest.0 in
+    let late : s ≤ 64 * q + t = ⊎_elim (λ early. let none : bit_at rest t ≡ 0 = h.cleared t low early in let one : bit_at rest t ≡ 1 = lowest.1 in absurd (omega arith)) (λ l. l) (cases_lt (64 * q + t) s) in
+    let at : bit_at (get_or words q 0) t ≡ 1 = sym (h.kept t low late) ∙ lowest.1 in
+    record {
+      from = late;
+      inside = omega (arith, length-bits_of words, h.within);
+      one = item-bits_of_at words (64 * q + t) q t refl low h.within ∙ ap (λ d. eqb d 1) at;
+      least = λ i from before.
+          ⊎_elim
+          (λ earlier. h.passed i from earlier)
+          (λ here.
+          let j = i - 64 * q in
+          let place : i ≡ 64 * q + j = omega arith in
+          let zero_there : bit_at (get_or words q 0) j ≡ 0 = sym (h.kept j (omega arith) (omega arith)) ∙ lowest.2 j (omega arith) in
+          item-bits_of_at words i q j place (omega arith) h.within ∙ ap (λ d. eqb d 1) zero_there)
+          (cases_lt i (64 * q));
+    }

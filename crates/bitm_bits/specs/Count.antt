@@ -1,0 +1,63 @@
+-- Counting in a list of bits, and what a rank picks there.
+use Rattle.std.specs.Prelude.{◌≡◌, ℕ, ◌+◌, ◌<◌, ◌≤◌, Bool, true, false, not, if◌then◌else◌, List, [], ◌∷◌, length, take, count_by, Option, MatchOption, zero, suc}
+use Rattle.bitm_bits.specs.Bits.{item}
+
+-- how many of the first i items of b are true; past the end, of all
+unfoldable pub ones_before : List Bool → ℕ → ℕ
+ones_before b i = count_by (λ x. x) (take i b)
+
+-- how many of the first i items of b are false; past the end, of all
+unfoldable pub zeros_before : List Bool → ℕ → ℕ
+zeros_before b i = count_by not (take i b)
+
+-- how many of the first i items of b are v
+abbrev pub count_before : List Bool → Bool → ℕ → ℕ
+count_before b true i = ones_before b i
+count_before b false i = zeros_before b i
+
+-- p is a place of b, item p is v, and exactly r of the items before p are v
+pub record Picks (b : List Bool) (v : Bool) (r p : ℕ) : Type 0 where
+  pub inside : p < length b
+  pub item : item b p ≡ v
+  pub before : count_before b v p ≡ r
+
+-- the place with bit v and r such bits before it, and None exactly where there are no more than r of them
+abbrev pub IsSelect : List Bool → Bool → ℕ → Option ℕ → Type 0
+IsSelect b v r o = MatchOption o (count_before b v (length b) ≤ r) (Picks b v r)
+
+-- the ones before place i, and None exactly where there is no such place
+abbrev pub IsRank : List Bool → ℕ → Option ℕ → Type 0
+IsRank b i o = MatchOption o (length b ≤ i) (λ n. (i < length b) × (n ≡ ones_before b i))
+
+-- the zeros before place i, and None exactly where there is no such place
+abbrev pub IsRank0 : List Bool → ℕ → Option ℕ → Type 0
+IsRank0 b i o = MatchOption o (length b ≤ i) (λ n. (i < length b) × (n ≡ zeros_before b i))
+
+-- whether x is v
+abbrev pub is_same : Bool → Bool → Bool
+is_same true x = x
+is_same false x = not x
+
+-- the places of the items that are v, rising, where the first item's place is k
+abbrev pub places : Bool → ℕ → List Bool → List ℕ
+places v k [] = []
+places v k (x ∷ b) = if is_same v x then k ∷ places v (k + 1) b else places v (k + 1) b
+
+-- the bit that a number stands for: zero for 0, one for each other
+abbrev pub kind : ℕ → Bool
+kind zero = false
+kind (suc n) = true
+
+-- p is the least place from s on whose item is true
+pub record IsFirstOneFrom (b : List Bool) (s p : ℕ) : Type 0 where
+  pub from : s ≤ p
+  pub inside : p < length b
+  pub one : item b p ≡ true
+  pub least : (i : ℕ) → s ≤ i → i < p → item b i ≡ false
+
+-- p is the greatest place up to s whose item is true
+pub record IsLastOneTo (b : List Bool) (s p : ℕ) : Type 0 where
+  pub to : p ≤ s
+  pub inside : p < length b
+  pub one : item b p ≡ true
+  pub greatest : (i : ℕ) → p < i → i ≤ s → item b i ≡ false

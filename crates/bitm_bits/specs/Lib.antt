@@ -1,0 +1,6 @@
+pub mod Bits
+pub mod Bytes
+pub mod Coming
+pub mod Count
+pub mod Number
+pub mod Window

@@ -1,0 +1,24 @@
+-- Items of a list of bits read as a number, and replaced by one.
+use Rattle.std.specs.Prelude.{ℕ, ◌+◌, ◌*◌, ◌^◌, ◌<◌, ◌≤◌, Bool, if◌then◌else◌, List, [], ◌∷◌, ◌++◌, length, take, drop}
+use Rattle.bitm_bits.specs.Bits.{low_digits}
+
+-- a list of truths read as a binary number, lowest first
+unfoldable pub number_of_bits : List Bool → ℕ
+number_of_bits [] = 0
+number_of_bits (x ∷ xs) = (if x then 1 else 0) + 2 * number_of_bits xs
+
+-- the len items of b from begin on, as a number
+unfoldable pub number_at : List Bool → ℕ → ℕ → ℕ
+number_at b begin len = number_of_bits (take len (drop begin b))
+
+-- b with the len items from begin on replaced by the len lowest digits of v
+unfoldable pub with_number : List Bool → ℕ → ℕ → ℕ → List Bool
+with_number b begin len v = take begin b ++ low_digits len v ++ drop (begin + len) b
+
+-- there is a bit at begin, and there are len bits from there on
+abbrev pub IsInRange : List ℕ → ℕ → ℕ → Type 0
+IsInRange words begin len = (begin < 64 * length words) × (begin + len ≤ 64 * length words)
+
+-- fragment k of this width begins at a place that a `usize` names, and is in range
+abbrev pub IsFragmentInRange : List ℕ → ℕ → ℕ → Type 0
+IsFragmentInRange words k width = (k * width < 2 ^ 64) × IsInRange words (k * width) width

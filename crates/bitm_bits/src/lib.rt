@@ -1,0 +1,23 @@
+//! Bits and fragments of slices of `u64`.
+//!
+//! Bit `i` of a slice is bit `i % 64`, lowest first, of word `i / 64`, so a slice of `n` words has `64 * n` bits.
+//! `BitAccess` reads the bits of a slice that is lent, `BitAccessMut` writes them, and the functions of `words` do the
+//! same by value. Contracts see a slice as the list of its bits.
+//!
+//! ```
+//! let mut array = [0u64; 32];
+//! let mut content = array.as_mut_slice();
+//! content.set_bit(100);
+//! prove!(content.get_bit(100));
+//! ```
+#![tactic(auto)]
+
+mod bitvec;
+mod masks;
+#[cfg(test)]
+mod tests;
+pub mod words;
+
+pub use bitvec::access::BitAccess;
+pub use bitvec::access_mut::BitAccessMut;
+pub use masks::{ceiling_div, n_lowest_bits, n_lowest_bits_0_64, n_lowest_bits_1_64};
