@@ -85,7 +85,7 @@ impl Session {
             return Answer::Absent;
         }
         set_bit_to(self.words.as_mut_slice(), place as usize, value);
-        self.index = None;
+        self.index = None; // the index counts the bits as they were
         Answer::Accepted(place)
     }
 

@@ -148,10 +148,9 @@ impl<BV: AsSlice<u64>> Rank for RankSimple<BV> {
 
     #[inline(always)]
     fn try_rank(&self, index: usize) -> Option<usize> {
-        if index / 64 < self.content.as_slice().len() {
-            Some(RankSimple::<BV>::rank(self, index) as usize)
-        } else {
-            None
+        match RankSimple::<BV>::try_rank(self, index) {
+            Some(count) => Some(count as usize),
+            None => None,
         }
     }
 }
