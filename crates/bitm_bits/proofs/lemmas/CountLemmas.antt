@@ -184,3 +184,8 @@ ones_before-bits_of_stretch words a n within fit =
       ones_before-bits_of_front words fit (a + n) within,
       ones_before-bits_of_all (take n (drop a words)) (fits_in_stretch words a n fit),
     )
+
+-- there are no more ones than bits (a name that an attribute can write)
+pub few_ones : (words : List ℕ) → ones_before (bits_of words) (length (bits_of words)) ≤ 64 * length words
+few_ones words =
+    omega (arith, ones_before-add-zeros_before (bits_of words) (length (bits_of words)) (omega arith), length-bits_of words)
