@@ -2,6 +2,9 @@
 
 pub mod access;
 pub mod access_mut;
+pub mod closures;
 pub mod counting;
+pub mod fragments;
 pub mod reading;
+pub mod successive;
 pub mod writing;
