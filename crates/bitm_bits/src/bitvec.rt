@@ -5,6 +5,7 @@ pub mod access_mut;
 pub mod closures;
 pub mod counting;
 pub mod fragments;
+pub mod lent;
 pub mod reading;
 pub mod successive;
 pub mod writing;
