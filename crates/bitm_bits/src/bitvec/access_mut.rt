@@ -450,8 +450,8 @@ pub trait BitAccessMut: BitAccess {
         ensures len { length (Self.words self.new) ≡ length (Self.words self.old) }
         ensures swapped { bits_of (Self.words self.new)
             ≡ with_number (with_number (bits_of (Self.words self.old)) (i * s) s
-                (number_at (bits_of (Self.words self.old)) (j * s) s)) (j * s) s
-                (number_at (bits_of (Self.words self.old)) (i * s) s) }
+            (number_at (bits_of (Self.words self.old)) (j * s) s)) (j * s) s
+            (number_at (bits_of (Self.words self.old)) (i * s) s) }
         ensures kept { i ≡ j → Self.words self.new ≡ Self.words self.old };
 
     /// The `s` bits from `begin` on as a number, lowest first, as they were: `new_value`, called once on that number, answers
@@ -476,8 +476,8 @@ pub trait BitAccessMut: BitAccess {
         ensures old { result ≡ number_at (bits_of (Self.words self.old)) begin s }
         ensures after { (answer : _) × F.post new_value result answer
             × MatchOption answer (Self.words self.new ≡ Self.words self.old)
-                (λ v. bits_of (Self.words self.new)
-                    ≡ with_number (bits_of (Self.words self.old)) begin s v) };
+            (λ v. bits_of (Self.words self.new)
+            ≡ with_number (bits_of (Self.words self.old)) begin s v) };
 
     /// Fragment `index` of width `s` as a number, lowest bit first, as it was: `new_value`, called once on that number,
     /// answers what replaces it, or `None` where it stays.
@@ -501,8 +501,8 @@ pub trait BitAccessMut: BitAccess {
         ensures old { result ≡ number_at (bits_of (Self.words self.old)) (index * s) s }
         ensures after { (answer : _) × F.post new_value result answer
             × MatchOption answer (Self.words self.new ≡ Self.words self.old)
-                (λ v. bits_of (Self.words self.new)
-                    ≡ with_number (bits_of (Self.words self.old)) (index * s) s v) };
+            (λ v. bits_of (Self.words self.new)
+            ≡ with_number (bits_of (Self.words self.old)) (index * s) s v) };
 
     /// Replaces the `s` bits from `begin` on by those of `src` at the same place, where `predicate`, called once on the two
     /// numbers, the old one first, answers true.
@@ -524,12 +524,12 @@ pub trait BitAccessMut: BitAccess {
         ensures same { Self.lender self.new ≡ Self.lender self.old }
         ensures len { length (Self.words self.new) ≡ length (Self.words self.old) }
         ensures after { (taken : _) × F.post predicate (number_at (bits_of (Self.words self.old)) begin s)
-                (number_at (bits_of src.now) begin s) taken
+            (number_at (bits_of src.now) begin s) taken
             × (bits_of (Self.words self.new)
-                ≡ (if taken
-                    then with_number (bits_of (Self.words self.old)) begin s
-                        (number_at (bits_of src.now) begin s)
-                    else bits_of (Self.words self.old))) };
+            ≡ (if taken
+            then with_number (bits_of (Self.words self.old)) begin s
+            (number_at (bits_of src.now) begin s)
+            else bits_of (Self.words self.old))) };
 
     /// Replaces fragment `index` of width `s` by that of `src`, where `predicate`, called once on the two numbers, the old
     /// one first, answers true.
@@ -551,10 +551,10 @@ pub trait BitAccessMut: BitAccess {
         ensures same { Self.lender self.new ≡ Self.lender self.old }
         ensures len { length (Self.words self.new) ≡ length (Self.words self.old) }
         ensures after { (taken : _) × F.post predicate (number_at (bits_of (Self.words self.old)) (index * s) s)
-                (number_at (bits_of src.now) (index * s) s) taken
+            (number_at (bits_of src.now) (index * s) s) taken
             × (bits_of (Self.words self.new)
-                ≡ (if taken
-                    then with_number (bits_of (Self.words self.old)) (index * s) s
-                        (number_at (bits_of src.now) (index * s) s)
-                    else bits_of (Self.words self.old))) };
+            ≡ (if taken
+            then with_number (bits_of (Self.words self.old)) (index * s) s
+            (number_at (bits_of src.now) (index * s) s)
+            else bits_of (Self.words self.old))) };
 }

@@ -26,7 +26,7 @@ pub fn conditionally_change_bits<F: FnOnce(u64) -> Option<u64>>(
     ensures old { result ≡ number_at (bits_of words.old) begin s }
     ensures after { (answer : _) × F.post new_value result answer
         × MatchOption answer (words.new ≡ words.old)
-            (λ v. bits_of words.new ≡ with_number (bits_of words.old) begin s v) }
+        (λ v. bits_of words.new ≡ with_number (bits_of words.old) begin s v) }
 {
     let old = get_bits(words, begin, s);
     if let Some(new) = new_value(old) {
@@ -56,7 +56,7 @@ pub fn conditionally_change_fragment<F: FnOnce(u64) -> Option<u64>>(
     ensures old { result ≡ number_at (bits_of words.old) (index * s) s }
     ensures after { (answer : _) × F.post new_value result answer
         × MatchOption answer (words.new ≡ words.old)
-            (λ v. bits_of words.new ≡ with_number (bits_of words.old) (index * s) s v) }
+        (λ v. bits_of words.new ≡ with_number (bits_of words.old) (index * s) s v) }
 {
     conditionally_change_bits(words, new_value, index * s as usize, s)
 }
@@ -80,11 +80,11 @@ pub fn conditionally_copy_bits<F: FnOnce(u64, u64) -> bool>(
     requires callable { F.pre predicate (number_at (bits_of words.old) begin s)
         (number_at (bits_of src.now) begin s) }
     ensures { (taken : _) × F.post predicate (number_at (bits_of words.old) begin s)
-            (number_at (bits_of src.now) begin s) taken
+        (number_at (bits_of src.now) begin s) taken
         × (bits_of words.new
-            ≡ (if taken
-                then with_number (bits_of words.old) begin s (number_at (bits_of src.now) begin s)
-                else bits_of words.old)) }
+        ≡ (if taken
+        then with_number (bits_of words.old) begin s (number_at (bits_of src.now) begin s)
+        else bits_of words.old)) }
 {
     let old = get_bits(words, begin, s);
     let new = get_bits(src, begin, s);
@@ -112,12 +112,12 @@ pub fn conditionally_copy_fragment<F: FnOnce(u64, u64) -> bool>(
     requires callable { F.pre predicate (number_at (bits_of words.old) (index * s) s)
         (number_at (bits_of src.now) (index * s) s) }
     ensures { (taken : _) × F.post predicate (number_at (bits_of words.old) (index * s) s)
-            (number_at (bits_of src.now) (index * s) s) taken
+        (number_at (bits_of src.now) (index * s) s) taken
         × (bits_of words.new
-            ≡ (if taken
-                then with_number (bits_of words.old) (index * s) s
-                    (number_at (bits_of src.now) (index * s) s)
-                else bits_of words.old)) }
+        ≡ (if taken
+        then with_number (bits_of words.old) (index * s) s
+        (number_at (bits_of src.now) (index * s) s)
+        else bits_of words.old)) }
 {
     conditionally_copy_bits(words, src, predicate, index * s as usize, s);
 }

@@ -4,9 +4,7 @@ ghost use Rattle.bitm_bits.specs.Bits.{bits_of};
 ghost use Rattle.bitm_bits.specs.Number.{number_at, with_number, IsFragmentInRange};
 ghost use Rattle.bitm_bits.specs.Window.{reach_of, with_flips};
 
-use crate::bitvec::reading::{
-    get_bits, get_bits_unmasked, try_get_bits, try_get_bits_unmasked,
-};
+use crate::bitvec::reading::{get_bits, get_bits_unmasked, try_get_bits, try_get_bits_unmasked};
 use crate::bitvec::writing::{init_bits, set_bits, xor_bits};
 
 /// The bits from the begin of fragment `index` to the end of its word, or 64 of them where the fragment crosses that end,
@@ -121,8 +119,8 @@ pub fn swap_fragments(words: &mut [u64], i: usize, j: usize, s: u8)
     requires width { s ≤ 63 }
     ensures swapped { bits_of words.new
         ≡ with_number (with_number (bits_of words.old) (i * s) s
-            (number_at (bits_of words.old) (j * s) s)) (j * s) s
-            (number_at (bits_of words.old) (i * s) s) }
+        (number_at (bits_of words.old) (j * s) s)) (j * s) s
+        (number_at (bits_of words.old) (i * s) s) }
     ensures same { i ≡ j → words.new ≡ words.old }
 {
     let first = get_fragment(words, i, s);
