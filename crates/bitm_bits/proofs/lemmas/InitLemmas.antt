@@ -1,6 +1,6 @@
 -- What the code leaves where it joins a number to bits that are zeros or already that number.
-use Rattle.std.proofs.Common.{◌≡◌, ℕ, ◌+◌, ◌-◌, ◌*◌, ◌/◌, ◌%◌, ◌^◌, ◌<◌, ◌≤◌, Bool, true, false, cond, List, length, get_or, eqb, sym, refl, ap, ◌∙◌, ⊎_elim, arith, ◌≢◌, set, bit_or, subst, ◌⊎◌, inl, inr}
-use Rattle.std.proofs.lemmas.Nat.Bits.{bit_at-zero, bit_at-lt, bit_at_above, bit_at_or}
+use Rattle.std.proofs.Common.{◌≡◌, ℕ, ◌+◌, ◌-◌, ◌*◌, ◌/◌, ◌%◌, ◌^◌, ◌<◌, ◌≤◌, Bool, true, false, cond, List, length, get_or, sym, refl, ap, ◌∙◌, ⊎_elim, arith, set, bit_or, ◌⊎◌, inl, inr}
+use Rattle.std.proofs.lemmas.Nat.Bits.{bit_at-zero, bit_at_above, bit_at_or}
 use Rattle.std.specs.Int.{bit_at}
 use Rattle.bitm_bits.proofs.lemmas.NumberLemmas.{bit_at-number_at-bits_of, number_at-one}
 use Rattle.bitm_bits.proofs.lemmas.BitsLemmas.{length-bits_of}

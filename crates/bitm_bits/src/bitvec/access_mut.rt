@@ -9,6 +9,19 @@ use crate::bitvec::access::BitAccess;
 ///
 /// Each call leaves every bit that it does not name as it was, and the value lends the same slice afterwards. A call ending
 /// in `_unchecked` is the plain one: both have the same condition, which the checker proves at each call.
+///
+/// # What the slice's owner holds afterwards
+/// The checker knows it by the form of the call:
+///
+/// | The caller has | The calls |
+/// |---|---|
+/// | a parameter `slice: &mut [u64]` | `let mut lent = std::convert::identity(slice);`, then `lent.set_bit(3)` |
+/// | a boxed slice, a vector, an array | `let slice = owner.as_mut_slice();` and `let lent = &mut (&mut *slice,);`, then `lent.0.set_bit(3)` |
+/// | any of these | the functions of `words` on the slice, as `words::set_bit(slice, 3)` |
+/// | a `B: BitAccessMut` | the methods, where the caller's own contract says that `B.lender` and the number of words stay |
+///
+/// After a method on a local slice, as `slice.set_bit(3)`, it knows what `slice` lends as long as `slice` is used, and of the
+/// owner no more than the number of words.
 pub trait BitAccessMut: BitAccess {
     /// The name of the borrow: values with one name lend the same slice.
     ghost lender: { Self → ℕ };

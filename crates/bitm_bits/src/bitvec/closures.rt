@@ -29,8 +29,8 @@ pub fn conditionally_change_bits<F: FnOnce(u64) -> Option<u64>>(
         (λ v. bits_of words.new ≡ with_number (bits_of words.old) begin s v) }
 {
     let old = get_bits(words, begin, s);
-    if let Some(new) = new_value(old) {
-        set_bits(words, begin, new, s);
+    if let Some(v) = new_value(old) {
+        set_bits(words, begin, v, s);
     }
     old
 }

@@ -45,8 +45,7 @@ pub fn try_get_fragment_unmasked(words: &[u64], index: usize, s: u8) -> Option<u
     ensures { SomeIff result (IsFragmentInRange words.now index s)
         (number_at (bits_of words.now) (index * s) (reach_of (index * s) s)) }
 {
-    let begin = index.checked_mul(s as usize)?;
-    try_get_bits_unmasked(words, begin, s)
+    try_get_bits_unmasked(words, index.checked_mul(s as usize)?, s)
 }
 
 /// Fragment `index` of width `s` as a number, lowest bit first; `None` exactly where it is not in range, or begins past
@@ -60,8 +59,7 @@ pub fn try_get_fragment(words: &[u64], index: usize, s: u8) -> Option<u64>
     ensures { SomeIff result (IsFragmentInRange words.now index s)
         (number_at (bits_of words.now) (index * s) s) }
 {
-    let begin = index.checked_mul(s as usize)?;
-    try_get_bits(words, begin, s)
+    try_get_bits(words, index.checked_mul(s as usize)?, s)
 }
 
 /// Replaces fragment `index` of width `s` by the number `v`, lowest bit first.

@@ -160,12 +160,7 @@ fn raise_to_five(words: &mut [u64]) -> u64
     requires { 1 ≤ length words.old }
     ensures { length words.new ≡ length words.old }
 {
-    words::conditionally_change_fragment(
-        words,
-        |old| if 5 > old { Some(5) } else { None },
-        1,
-        3,
-    )
+    words::conditionally_change_fragment(words, |old| if 5 > old { Some(5) } else { None }, 1, 3)
 }
 
 #[test]

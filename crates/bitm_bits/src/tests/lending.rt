@@ -98,10 +98,14 @@ fn owners_hold_what_was_written(rt: HostRuntime) {
     let mut vector = vec![in rt.alloc(); 0u64, 0].expect(&rt, "memory");
     write_vector(&mut vector);
     assert_eq!(rt; vector.as_slice(), written.as_slice());
-    let mut boxed = vec![in rt.alloc(); 0u64, 0].expect(&rt, "memory").into_boxed_slice();
+    let mut boxed = vec![in rt.alloc(); 0u64, 0]
+        .expect(&rt, "memory")
+        .into_boxed_slice();
     write_boxed(&mut boxed);
     assert_eq!(rt; boxed.as_slice(), written.as_slice());
-    let mut by_any = vec![in rt.alloc(); 0u64, 0].expect(&rt, "memory").into_boxed_slice();
+    let mut by_any = vec![in rt.alloc(); 0u64, 0]
+        .expect(&rt, "memory")
+        .into_boxed_slice();
     write_boxed_by_any(&mut by_any);
     assert_eq!(rt; by_any.as_slice(), written.as_slice());
 }

@@ -1,4 +1,4 @@
-use Rattle.std.proofs.Common.{◌≡◌, ℕ, ◌+◌, ◌*◌, ◌<◌, ◌≤◌, ◌^◌, Bool, List, length, get_or, ap, ◌∙◌, sym, subst, arith, rules}
+use Rattle.std.proofs.Common.{◌≡◌, ℕ, ◌+◌, ◌*◌, ◌≤◌, Bool, List, length, ap, ◌∙◌, sym, arith, rules}
 use Rattle.bitm_bits.proofs.lemmas.BitsLemmas.{length-bits_of, bits_of-injective}
 use Rattle.bitm_bits.proofs.lemmas.NumberLemmas.{with_number-number_at}
 use Rattle.bitm_bits.proofs.bitvec.fragments.swap_fragments.Goals as goal

@@ -1,4 +1,4 @@
-use Rattle.std.proofs.Common.{◌/◌, ◌*◌, ◌%◌, ◌^◌, ◌<◌, get_or, set, bit_or, ap, ◌∙◌, arith}
+use Rattle.std.proofs.Common.{◌/◌, ◌*◌, ◌%◌, ◌^◌, get_or, set, bit_or, ap, ◌∙◌, arith}
 use Rattle.bitm_bits.specs.Bits.{bits_of}
 use Rattle.bitm_bits.proofs.lemmas.InitLemmas.{init_bits_within, init_bits_across}
 use Rattle.bitm_bits.proofs.bitvec.writing.init_bits.Goals as goal
