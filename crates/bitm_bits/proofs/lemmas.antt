@@ -1,6 +1,7 @@
 pub mod BitsLemmas
 pub mod CountLemmas
 pub mod FlipLemmas
+pub mod InitLemmas
 pub mod NumberLemmas
 pub mod PickLemmas
 pub mod PlaceLemmas

@@ -2,6 +2,10 @@
 
 pub mod access;
 pub mod access_mut;
+pub mod closures;
 pub mod counting;
+pub mod fragments;
+pub mod lent;
 pub mod reading;
+pub mod successive;
 pub mod writing;
