@@ -5,6 +5,7 @@ pub mod NumberLemmas
 pub mod PickLemmas
 pub mod PlaceLemmas
 pub mod ReadLemmas
+pub mod SearchBackLemmas
 pub mod SearchLemmas
 pub mod WordLemmas
 pub mod WriteLemmas

@@ -3,5 +3,6 @@
 pub mod access;
 pub mod access_mut;
 pub mod counting;
+pub mod finding;
 pub mod reading;
 pub mod writing;
