@@ -3,6 +3,8 @@
 pub mod access;
 pub mod access_mut;
 pub mod counting;
+pub mod each_bit;
 pub mod finding;
+pub mod places;
 pub mod reading;
 pub mod writing;

@@ -2,11 +2,11 @@
 use Rattle.std.proofs.Common.{◌≡◌, ℕ, zero, suc, ◌+◌, ◌-◌, ◌*◌, ◌%◌, ◌^◌, ◌<◌, Bool, true, false, not, List, [], ◌∷◌, ◌++◌, length, get_or, eqb, sym, refl, ap, ◌∙◌, arith, length-append, count_ones, w64, ap₂, take_all, ◌≢◌, bit_and, append-nil, count_by}
 use Rattle.std.proofs.lemmas.Bool.{false≢true}
 use Rattle.std.proofs.lemmas.List.Sums.{sum_by-cons}
-use Rattle.std.proofs.lemmas.Nat.Bits.{bit_at-lt, bit_at-zero, bit_at_not, bit_at-trailing_zeros, bit_at_clear_same, bit_at_clear_other}
+use Rattle.std.proofs.lemmas.Nat.Bits.{bit_at-lt, bit_at-zero, bit_at_not, bit_at-trailing_zeros}
 use Rattle.std.specs.Int.{bit_at, bit_not, trailing_zeros}
 use Rattle.bitm_bits.proofs.lemmas.BitsLemmas.{length-low_digits, item-low_digits, length-bits_of, same_bits, bits_of-cons, no_bits}
 use Rattle.bitm_bits.proofs.lemmas.CountLemmas.{ones_before-bits_of_all}
-use Rattle.bitm_bits.proofs.lemmas.WordLemmas.{truth}
+use Rattle.bitm_bits.proofs.lemmas.WordLemmas.{truth, bit_at-lowest_cleared_same, bit_at-lowest_cleared_other}
 use Rattle.bitm_bits.specs.Bits.{low_digits, bits_of, item}
 use Rattle.bitm_bits.specs.Coming.{word_of, coming}
 use Rattle.bitm_bits.specs.Count.{ones_before, zeros_before, places, kind}
@@ -106,21 +106,18 @@ coming_turn v first w rest fits =
     ap (λ l. l ++ places (kind v) (first + 64) (bits_of (w ∷ rest))) (no_places first) ∙ places-cons v (first + 64) w rest fits
 
 -- the lowest one of the current word comes first
-pub coming_next : (v first current after : ℕ) (rest : List ℕ) → 0 < current → current < 2 ^ 64
-    → after ≡ bit_and current (bit_not w64 (1 * 2 ^ trailing_zeros w64 current % 2 ^ 64))
-    → coming v first current rest ≡ (first + trailing_zeros w64 current) ∷ coming v first after rest
-coming_next v first current after rest some fits is =
+pub coming_next : (v first current : ℕ) (rest : List ℕ) → 0 < current → current < 2 ^ 64
+    → coming v first current rest ≡ (first + trailing_zeros w64 current) ∷ coming v first (bit_and current (current - 1)) rest
+coming_next v first current rest some fits =
     ap (λ l. l ++ places (kind v) (first + 64) (bits_of rest))
     (places_first first t b c (length-low_digits 64 after ∙ sym (length-low_digits 64 current)) (omega (arith, low, length-low_digits 64 current))
     (item-low_digits 64 current t low ∙ ap (λ d. eqb d 1) lowest.1)
-    (item-low_digits 64 after t low ∙ ap (λ d. eqb d 1) (ap (λ x. bit_at x t) is ∙ bit_at_clear_same w64 current t low))
+    (item-low_digits 64 after t low ∙ ap (λ d. eqb d 1) (bit_at-lowest_cleared_same current t lowest.1 lowest.2))
     (λ i l. item-low_digits 64 current i (omega (arith, low)) ∙ ap (λ d. eqb d 1) (lowest.2 i l))
-    (λ i l. item-low_digits 64 after i (omega (arith, low)) ∙ ap (λ d. eqb d 1) (ap (λ x. bit_at x i) is ∙ bit_at_clear_other w64 current t low i (omega (arith, low)) (λ e. omega arith) ∙ lowest.2 i l))
+    (λ i l. item-low_digits 64 after i (omega (arith, low)) ∙ ap (λ d. eqb d 1) (kept i (λ e. omega arith) ∙ lowest.2 i l))
     (λ i l m.
     let small : i < 64 = omega (arith, length-low_digits 64 current) in
-    item-low_digits 64 after i small
-    ∙ ap (λ d. eqb d 1) (ap (λ x. bit_at x i) is ∙ bit_at_clear_other w64 current t low i small (λ e. omega arith))
-    ∙ sym (item-low_digits 64 current i small)))
+    item-low_digits 64 after i small ∙ ap (λ d. eqb d 1) (kept i (λ e. omega arith)) ∙ sym (item-low_digits 64 current i small)))
   where
     t : ℕ
     t = trailing_zeros w64 current
@@ -130,6 +127,12 @@ coming_next v first current after rest some fits is =
 
     low : t < 64
     low = lowest.0
+
+    after : ℕ
+    after = bit_and current (current - 1)
+
+    kept : (i : ℕ) → i ≢ t → bit_at after i ≡ bit_at current i
+    kept i apart = bit_at-lowest_cleared_other current t lowest.1 lowest.2 i apart
 
     b : List Bool
     b = low_digits 64 current
