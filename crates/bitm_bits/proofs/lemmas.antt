@@ -1,4 +1,5 @@
 pub mod BitsLemmas
+pub mod ComingLemmas
 pub mod CountLemmas
 pub mod FlipLemmas
 pub mod NumberLemmas
