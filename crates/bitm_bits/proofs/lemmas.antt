@@ -8,5 +8,6 @@ pub mod PlaceLemmas
 pub mod ReadLemmas
 pub mod SearchBackLemmas
 pub mod SearchLemmas
+pub mod SwapLemmas
 pub mod WordLemmas
 pub mod WriteLemmas

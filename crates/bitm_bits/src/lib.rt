@@ -13,6 +13,7 @@
 #![tactic(auto)]
 
 mod bitvec;
+pub mod laws;
 mod masks;
 #[cfg(test)]
 mod tests;

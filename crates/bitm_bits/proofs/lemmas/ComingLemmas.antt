@@ -1,7 +1,7 @@
 -- The bits of a range, from either end.
 use Rattle.std.proofs.Common.{◌≡◌, ℕ, zero, suc, ◌+◌, ◌-◌, ◌*◌, ◌<◌, ◌≤◌, min, Bool, false, List, [], ◌∷◌, ◌++◌, length, get_or, take, drop, sym, refl, ap, ap₂, ◌∙◌, arith, length-drop, take_all}
-use Rattle.std.proofs.lemmas.List.{length-take-le, get_or-drop, take_more}
-use Rattle.std.proofs.Math.Seq.{drop-cons}
+use Rattle.std.proofs.lemmas.List.{length-take-le, get_or-drop, take_more, drop-drop}
+use Rattle.std.proofs.Math.Seq.{drop-cons, take-nil}
 use Rattle.bitm_bits.proofs.lemmas.BitsLemmas.{length-bits_of}
 use Rattle.bitm_bits.specs.Bits.{bits_of, item}
 use Rattle.bitm_bits.specs.Coming.{bits_coming}
@@ -44,6 +44,28 @@ bits_coming_last words start end l within =
     ap (λ n. take n front) left
     ∙ take_more front (end - 1 - start) false (omega (arith, length-drop start (bits_of words), length-bits_of words))
     ∙ ap (λ x. take (end - 1 - start) front ++ x ∷ []) (get_or-drop start (bits_of words) (end - 1 - start) false ∙ ap (item (bits_of words)) at)
+
+take-add : (m n : ℕ) (b : List Bool) → take (m + n) b ≡ take m b ++ take n (drop m b)
+take-add zero n b = let e : 0 + n ≡ n = omega arith in ap (λ k. take k b) e
+take-add (suc m) n [] = take-nil (suc m + n) ∙ sym (take-nil n)
+take-add (suc m) n (x ∷ b) = let e : suc m + n ≡ suc (m + n) = omega arith in ap (λ k. take k (x ∷ b)) e ∙ ap (λ l. x ∷ l) (take-add m n b)
+
+-- the bits before a place of the range, and those from it on
+bits_coming_split : (words : List ℕ) (start middle end : ℕ) → start ≤ middle → middle ≤ end
+    → bits_coming words start end ≡ bits_coming words start middle ++ bits_coming words middle end
+unfolding bits_coming
+bits_coming_split words start middle end l m =
+    let all : end - start ≡ middle - start + (end - middle) = omega arith in
+    let at : start + (middle - start) ≡ middle = omega arith in
+    ap (λ n. take n (drop start (bits_of words))) all
+    ∙ take-add (middle - start) (end - middle) (drop start (bits_of words))
+    ∙ ap (λ r. take (middle - start) (drop start (bits_of words)) ++ take (end - middle) r) (drop-drop (middle - start) start (bits_of words) ∙ ap (λ k. drop k (bits_of words)) at)
+
+-- what came from the front, what is left, and what came from the back
+pub bits_coming_parts : (words : List ℕ) (start i j end : ℕ) → start ≤ i → i ≤ j → j ≤ end
+    → bits_coming words start end ≡ bits_coming words start i ++ (bits_coming words i j ++ bits_coming words j end)
+bits_coming_parts words start i j end l m n =
+    bits_coming_split words start i end l (omega arith) ∙ ap (λ r. bits_coming words start i ++ r) (bits_coming_split words i j end m n)
 
 -- ---- the same, where the range after a step is known by equations
 
