@@ -2,6 +2,9 @@
 ghost use Rattle.std.specs.Prelude.{◌≡◌, ◌*◌, ◌<◌, length};
 ghost use Rattle.bitm_bits.specs.Bits.{IsShort};
 
+mod finds;
+mod iterators;
+
 use crate::{BitAccess, BitAccessMut, ceiling_div, n_lowest_bits};
 
 #[test]

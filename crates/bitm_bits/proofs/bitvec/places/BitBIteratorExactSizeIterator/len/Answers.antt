@@ -1,10 +1,11 @@
-use Rattle.std.proofs.Common.{◌≡◌, ℕ, zero, suc, ◌+◌, ◌*◌, ◌^◌, ◌<◌, ◌≢◌, true, List, length, count_ones, refl, sym, ap, ◌∙◌, arith, rules}
+-- The ones left in the current word, and the bits of the kind in the words after it.
+use Rattle.std.proofs.Common.{◌≡◌, ℕ, zero, suc, ◌+◌, ◌*◌, ◌^◌, ◌<◌, ◌≢◌, Bool, true, List, length, count_ones, refl, sym, ap, ◌∙◌, arith, rules}
 use Rattle.std.proofs.lemmas.Nat.{ones-le}
-use Rattle.bitm_bits.specs.Bits.{bits_of}
-use Rattle.bitm_bits.specs.Count.{ones_before, zeros_before, kind}
 use Rattle.bitm_bits.proofs.lemmas.BitsLemmas.{length-bits_of}
 use Rattle.bitm_bits.proofs.lemmas.CountLemmas.{ones_before-add-zeros_before}
-use Rattle.bitm_bits.proofs.lemmas.PlaceLemmas.{length-coming_one, length-coming_zero}
+use Rattle.bitm_bits.proofs.lemmas.PlaceLemmas.{length-coming}
+use Rattle.bitm_bits.specs.Bits.{bits_of}
+use Rattle.bitm_bits.specs.Count.{ones_before, zeros_before, count_before, kind}
 use Rattle.bitm_bits.proofs.bitvec.places.BitBIteratorExactSizeIterator.len.Goals as goal
 use Rattle.bitm_bits.proofs.bitvec.places.BitBIteratorExactSizeIterator.len.Goals.{then-this-eq0, else-this-eq0}
 
@@ -27,14 +28,10 @@ overflow_add-result g c =
 pub returns-clause-value : goal.returns-clause-value
 returns-clause-value g c =
     let it = c.self.inside in
+    let counted = λ (v : Bool). count_ones it.current + count_before (bits_of it.rest.now) v (64 * length it.rest.now) in
     let fits : it.current < 2 ^ 64 = search rules in
+    let coming = sym (length-coming g.row.B it.first it.current it.rest.now fits) ∙ ap length c.self.view_is in
     elim c.if-this-eq0.branch [
-      | then-this-eq0 w ↦
-          ap (λ n. count_ones it.current + n) (w.rest-is ∙ w.count_bit_zeros-rest.ensures)
-          ∙ sym (length-coming_zero g.row.B it.first it.current it.rest.now (ap kind w.if-this-eq0.true) fits)
-          ∙ ap length c.self.view_is
-      | else-this-eq0 w ↦
-          ap (λ n. count_ones it.current + n) (w.rest-is ∙ w.count_bit_ones-rest.ensures)
-          ∙ sym (length-coming_one g.row.B it.first it.current it.rest.now (kind_one g.row.B w.if-this-eq0.false) fits)
-          ∙ ap length c.self.view_is
+      | then-this-eq0 w ↦ ap (λ n. count_ones it.current + n) (w.rest-is ∙ w.count_bit_zeros-rest.ensures) ∙ sym (ap counted (ap kind w.if-this-eq0.true)) ∙ coming
+      | else-this-eq0 w ↦ ap (λ n. count_ones it.current + n) (w.rest-is ∙ w.count_bit_ones-rest.ensures) ∙ sym (ap counted (kind_one g.row.B w.if-this-eq0.false)) ∙ coming
     ]
