@@ -1,4 +1,5 @@
 pub mod BitsLemmas
+pub mod ComingLemmas
 pub mod CountLemmas
 pub mod FlipLemmas
 pub mod InitLemmas
@@ -6,6 +7,8 @@ pub mod NumberLemmas
 pub mod PickLemmas
 pub mod PlaceLemmas
 pub mod ReadLemmas
+pub mod SearchBackLemmas
 pub mod SearchLemmas
+pub mod SwapLemmas
 pub mod WordLemmas
 pub mod WriteLemmas

@@ -2,5 +2,6 @@ pub mod Bits
 pub mod Bytes
 pub mod Coming
 pub mod Count
+pub mod Laws
 pub mod Number
 pub mod Window

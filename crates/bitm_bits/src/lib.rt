@@ -13,6 +13,7 @@
 #![tactic(auto)]
 
 mod bitvec;
+pub mod laws;
 mod masks;
 #[cfg(test)]
 mod tests;
@@ -20,4 +21,6 @@ pub mod words;
 
 pub use bitvec::access::BitAccess;
 pub use bitvec::access_mut::BitAccessMut;
+pub use bitvec::each_bit::BitIterator;
+pub use bitvec::places::{BitBIterator, BitOnesIterator, BitZerosIterator};
 pub use masks::{ceiling_div, n_lowest_bits, n_lowest_bits_0_64, n_lowest_bits_1_64};

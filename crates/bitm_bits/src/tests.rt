@@ -2,7 +2,9 @@
 ghost use Rattle.std.specs.Prelude.{◌≡◌, ◌*◌, ◌<◌, length};
 ghost use Rattle.bitm_bits.specs.Bits.{IsShort};
 
+mod finds;
 mod fragments;
+mod iterators;
 mod lending;
 
 use crate::{BitAccess, BitAccessMut, ceiling_div, n_lowest_bits};

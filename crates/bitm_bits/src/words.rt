@@ -7,6 +7,9 @@ pub use crate::bitvec::closures::{
     conditionally_copy_fragment,
 };
 pub use crate::bitvec::counting::{count_bit_ones, count_bit_zeros};
+pub use crate::bitvec::finding::{
+    find_bit_one, find_bit_one_unchecked, rfind_bit_one_unchecked, trailing_zero_bits,
+};
 pub use crate::bitvec::fragments::{
     get_fragment, get_fragment_unmasked, init_fragment, set_fragment, swap_fragments,
     try_get_fragment, try_get_fragment_unmasked, xor_fragment,
