@@ -1,5 +1,6 @@
 pub mod BitsLemmas
 pub mod CountLemmas
+pub mod DigitLemmas
 pub mod FlipLemmas
 pub mod NumberLemmas
 pub mod PickLemmas

@@ -20,4 +20,6 @@ pub mod words;
 
 pub use bitvec::access::BitAccess;
 pub use bitvec::access_mut::BitAccessMut;
-pub use masks::{ceiling_div, n_lowest_bits, n_lowest_bits_0_64, n_lowest_bits_1_64};
+pub use masks::{
+    bits_to_store, ceiling_div, n_lowest_bits, n_lowest_bits_0_64, n_lowest_bits_1_64,
+};
