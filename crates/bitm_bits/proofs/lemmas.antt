@@ -1,4 +1,6 @@
 pub mod BitsLemmas
+pub mod ByteLemmas
+pub mod ByteWindowLemmas
 pub mod CountLemmas
 pub mod DigitLemmas
 pub mod FlipLemmas

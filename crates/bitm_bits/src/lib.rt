@@ -13,6 +13,7 @@
 #![tactic(auto)]
 
 mod bitvec;
+mod bytes;
 mod masks;
 #[cfg(test)]
 mod tests;
@@ -20,6 +21,7 @@ pub mod words;
 
 pub use bitvec::access::BitAccess;
 pub use bitvec::access_mut::BitAccessMut;
+pub use bytes::{get_bits25, get_bits57, init_bits25, init_bits57, set_bits25, set_bits57};
 pub use masks::{
     bits_to_store, ceiling_div, n_lowest_bits, n_lowest_bits_0_64, n_lowest_bits_1_64,
 };
