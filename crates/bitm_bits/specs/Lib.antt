@@ -3,4 +3,5 @@ pub mod Bytes
 pub mod Coming
 pub mod Count
 pub mod Number
+pub mod Size
 pub mod Window

@@ -14,7 +14,9 @@
 
 mod bitvec;
 mod bytes;
+mod clone_words;
 mod masks;
+mod size;
 #[cfg(test)]
 mod tests;
 pub mod words;
@@ -22,6 +24,8 @@ pub mod words;
 pub use bitvec::access::BitAccess;
 pub use bitvec::access_mut::BitAccessMut;
 pub use bytes::{get_bits25, get_bits57, init_bits25, init_bits57, set_bits25, set_bits57};
+pub use clone_words::CloneWords;
 pub use masks::{
     bits_to_store, ceiling_div, n_lowest_bits, n_lowest_bits_0_64, n_lowest_bits_1_64,
 };
+pub use size::GetSize;
