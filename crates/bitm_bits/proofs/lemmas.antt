@@ -8,6 +8,7 @@ pub mod NumberLemmas
 pub mod PickLemmas
 pub mod PlaceLemmas
 pub mod ReadLemmas
+pub mod RunLemmas
 pub mod SearchLemmas
 pub mod WordLemmas
 pub mod WriteLemmas

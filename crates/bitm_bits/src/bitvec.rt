@@ -3,5 +3,6 @@
 pub mod access;
 pub mod access_mut;
 pub mod counting;
+pub mod making;
 pub mod reading;
 pub mod writing;

@@ -23,6 +23,7 @@ pub mod words;
 
 pub use bitvec::access::BitAccess;
 pub use bitvec::access_mut::BitAccessMut;
+pub use bitvec::making::BitVec;
 pub use bytes::{get_bits25, get_bits57, init_bits25, init_bits57, set_bits25, set_bits57};
 pub use clone_words::CloneWords;
 pub use masks::{
