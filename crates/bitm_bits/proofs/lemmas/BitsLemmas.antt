@@ -58,6 +58,6 @@ bits_of-cons w words =
     ∙ item-bits_of_at words (i - 64) q (i % 64) (omega arith) (omega arith) (omega arith)))
     (cases_lt i 64))
 
-pub no_bits : bits_of [] ≡ []
+pub bits_of-nil : bits_of [] ≡ []
 unfolding bits_of
-no_bits = refl
+bits_of-nil = refl

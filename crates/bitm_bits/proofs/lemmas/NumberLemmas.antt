@@ -1,9 +1,10 @@
 -- Items read as a number, and items replaced by one: what was written is what is read.
-use Rattle.std.proofs.Common.{◌≡◌, ℕ, zero, suc, ◌+◌, ◌-◌, ◌*◌, ◌/◌, ◌%◌, ◌^◌, ◌<◌, ◌≤◌, Bool, true, false, List, [], ◌∷◌, ◌++◌, length, get_or, take, drop, sym, ap, ◌∙◌, arith, length-append, length-drop, length-take, pow-suc}
+use Rattle.std.proofs.Common.{◌≢◌, ⊎_elim, subst, set, length-set, get_or-set_same, get_or-set_other, refl, ◌≡◌, ℕ, zero, suc, ◌+◌, ◌-◌, ◌*◌, ◌/◌, ◌%◌, ◌^◌, ◌<◌, ◌≤◌, Bool, true, false, List, [], ◌∷◌, ◌++◌, length, get_or, take, drop, sym, ap, ◌∙◌, arith, length-append, length-drop, length-take, pow-suc}
+use Rattle.std.proofs.lemmas.Bool.{cases_lt, cases_eq}
 use Rattle.std.proofs.lemmas.List.{get_or-drop, get_or-take, get_or_append_left, get_or-append_right}
 use Rattle.std.proofs.lemmas.Nat.Bits.{bit_at-suc, bit_at_lowest, bit_at-zero, same_from_bits_below}
 use Rattle.std.specs.Int.{bit_at}
-use Rattle.bitm_bits.proofs.lemmas.BitsLemmas.{length-low_digits, item-low_digits, length-bits_of, item-bits_of_at}
+use Rattle.bitm_bits.proofs.lemmas.BitsLemmas.{length-low_digits, item-low_digits, length-bits_of, item-bits_of_at, same_bits}
 use Rattle.bitm_bits.proofs.lemmas.WordLemmas.{truth, truth-digit}
 use Rattle.bitm_bits.specs.Bits.{digit, low_digits, bits_of, item}
 use Rattle.bitm_bits.specs.Number.{number_of_bits, number_at, with_number}
@@ -97,3 +98,35 @@ pub number_at-with_number : (b : List Bool) (s n v : ℕ) → s + n ≤ length b
 number_at-with_number b s n v within fits =
     same_from_bits_below n (number_at (with_number b s n v) s n) v (number_at-lt (with_number b s n v) s n (omega (arith, length-with_number b s n v within))) fits
     (λ k l. bit_at-number_at (with_number b s n v) s n k l ∙ ap truth (item-with_number_inside b s n v k within l) ∙ truth-digit v k)
+
+-- one item put in is that item changed
+pub with_number-one : (b : List Bool) (i : ℕ) (v : Bool) → i < length b → with_number b i 1 (truth v) ≡ set b i v
+with_number-one b i v inside =
+    same_bits (with_number b i 1 (truth v)) (set b i v)
+    (length-with_number b i 1 (truth v) room ∙ sym (length-set b i v))
+    (λ j l.
+    let within : j < length b = omega (arith, length-with_number b i 1 (truth v) room) in
+    ⊎_elim
+    (λ same.
+    let P : ℕ → Type 0 = λ k. item (with_number b i 1 (truth v)) k ≡ item (set b i v) k in
+    subst P (sym same)
+    (ap (item (with_number b i 1 (truth v))) (let e : i ≡ i + 0 = omega arith in e)
+    ∙ item-with_number_inside b i 1 (truth v) 0 room (omega arith)
+    ∙ lowest v
+    ∙ sym (get_or-set_same b i v false inside)))
+    (λ apart. elsewhere j within apart ∙ sym (get_or-set_other b i j v false apart))
+    (cases_eq j i))
+  where
+    room : i + 1 ≤ length b
+    room = omega arith
+
+    lowest : (v : Bool) → digit (truth v) 0 ≡ v
+    lowest true = refl
+    lowest false = refl
+
+    elsewhere : (j : ℕ) → j < length b → j ≢ i → item (with_number b i 1 (truth v)) j ≡ item b j
+    elsewhere j l apart =
+        ⊎_elim
+        (λ before. item-with_number_below b i 1 (truth v) j room before)
+        (λ after. item-with_number_above b i 1 (truth v) j room (omega arith))
+        (cases_lt j i)
