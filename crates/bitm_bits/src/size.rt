@@ -4,6 +4,7 @@ ghost use Rattle.std.specs.Box.{boxed_slice_len};
 
 use std::alloc::Allocator;
 use std::boxed::BoxedSlice;
+use std::mem::size_of;
 
 /// The bytes that a value keeps outside itself, on the heap.
 ///
@@ -27,7 +28,7 @@ impl<A: Allocator> GetSize for BoxedSlice<u64, A> {
 
     #[inline(always)]
     fn size_bytes_dyn(&self) -> usize {
-        self.as_slice().len() * 8
+        self.as_slice().len() * size_of::<u64>()
     }
 }
 
@@ -38,7 +39,7 @@ impl<A: Allocator> GetSize for BoxedSlice<usize, A> {
 
     #[inline(always)]
     fn size_bytes_dyn(&self) -> usize {
-        self.as_slice().len() * 8
+        self.as_slice().len() * size_of::<usize>()
     }
 }
 
@@ -49,13 +50,14 @@ impl<A: Allocator> GetSize for BoxedSlice<u32, A> {
 
     #[inline(always)]
     fn size_bytes_dyn(&self) -> usize {
-        self.as_slice().len() * 4
+        self.as_slice().len() * size_of::<u32>()
     }
 }
 
 impl GetSize for &[u64] {
     #[inline(always)]
     fn size_bytes_dyn(&self) -> usize {
+        // The words are their owner's.
         0
     }
 }
