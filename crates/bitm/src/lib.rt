@@ -11,8 +11,10 @@
 mod rank;
 
 pub use bitm_bits::{
-    BitAccess, BitAccessMut, ceiling_div, n_lowest_bits, n_lowest_bits_0_64, n_lowest_bits_1_64,
-    words,
+    BitAccess, BitAccessMut, BitBIterator, BitIterator, BitOnesIterator, BitVec, BitZerosIterator,
+    CloneWords, GetSize, bits_to_store, ceiling_div, get_bits25, get_bits57, init_bits25,
+    init_bits57, laws, n_lowest_bits, n_lowest_bits_0_64, n_lowest_bits_1_64, set_bits25,
+    set_bits57, words,
 };
 pub use rank::Rank;
 pub use rank::simple::{ArrayWithRankSimple, RankSimple};

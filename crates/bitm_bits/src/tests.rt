@@ -2,15 +2,14 @@
 ghost use Rattle.std.specs.Prelude.{◌≡◌, ◌*◌, ◌<◌, length};
 ghost use Rattle.bitm_bits.specs.Bits.{IsShort};
 
+mod bytes;
 mod finds;
 mod fragments;
 mod iterators;
 mod lending;
+mod making;
 
 use crate::{BitAccess, BitAccessMut, ceiling_div, n_lowest_bits};
-
-mod bytes;
-mod making;
 
 #[test]
 fn test_ceiling_div(rt: HostRuntime) {

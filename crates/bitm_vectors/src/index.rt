@@ -1,10 +1,11 @@
 //! An index over a copy of the vector.
 ghost use Rattle.std.specs.Prelude.{◌≡◌, ◌≤◌, length, IfOk};
+ghost use Rattle.std.specs.Box.{boxed_slice_items, boxed_slice_len};
 ghost use Rattle.bitm_bits.specs.Bits.{bits_of};
 ghost use Rattle.bitm_bits.specs.Count.{ones_before, IsRank};
 
 use crate::command::Kind;
-use bitm::{ArrayWithRankSimple, Rank, RankSimple};
+use bitm::{ArrayWithRankSimple, CloneWords, Rank, RankSimple};
 use std::alloc::{AllocError, Global};
 use std::boxed::BoxedSlice;
 
@@ -21,15 +22,16 @@ impl Index {
     pub(crate) fn build(
         alloc: Global,
         kind: Kind,
-        words: &[u64],
+        words: &BoxedSlice<u64, Global>,
     ) -> Result<(Index, usize), AllocError>
-        requires { length words.now ≤ 65536 }
-        ensures content { IfOk result (λ built. indexed built.0 ≡ words.now) }
+        requires { boxed_slice_len words.now ≤ 65536 }
+        ensures content { IfOk result (λ built. indexed built.0 ≡ boxed_slice_items words.now) }
         ensures kind { IfOk result (λ built. kind_of_index built.0 ≡ kind) }
         ensures total { IfOk result (λ built. built.1
-            ≡ ones_before (bits_of words.now) (length (bits_of words.now))) }
+            ≡ ones_before (bits_of (boxed_slice_items words.now))
+            (length (bits_of (boxed_slice_items words.now)))) }
     {
-        let copy = BoxedSlice::from_slice(alloc, words)?;
+        let copy = words.try_same(alloc)?;
         match kind {
             Kind::Simple => match RankSimple::build(alloc, copy) {
                 Ok((rank, total)) => Ok((Index::Simple(rank), total as usize)),

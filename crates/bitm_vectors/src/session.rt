@@ -1,5 +1,6 @@
 //! The vector, the index that is built over a copy of it, and what a line does to them.
 ghost use Rattle.std.specs.Prelude.{◌≡◌, ◌≤◌, vec_len, IfSome, option_map, Some};
+ghost use Rattle.std.specs.Box.{boxed_slice_items, boxed_slice_len};
 ghost use Rattle.bitm_bits.specs.Bits.{bits_of};
 ghost use Rattle.bitm_vectors.specs.Index.{indexed, kind_of_index};
 ghost use Rattle.bitm_vectors.specs.Request.{Request, Words, Build, Rank, Bits, request, request_of, IsWithinLimits};
@@ -10,12 +11,13 @@ use crate::command::{Command, Kind, parse};
 use crate::index::Index;
 use bitm::words::{set_bit_to, try_get_bits};
 use std::alloc::Global;
+use std::boxed::BoxedSlice;
 use std::marker::Model;
 
 /// A vector, empty at first, and the index that is built.
 #[derive(Drop)]
 pub(crate) struct Session {
-    words: Vec<u64>,
+    words: BoxedSlice<u64, Global>,
     index: Option<Index>,
 }
 
@@ -23,12 +25,12 @@ impl Model for Session {
     ghost Value = { State };
 
     ghost view = { λ s. record {
-      bits = bits_of s.words.items;
+      bits = bits_of (boxed_slice_items s.words);
       built = option_map kind_of_index s.index;
     } };
 
-    ghost invariant = { λ s. (vec_len s.words ≤ 65536)
-        × IfSome s.index (λ index. indexed index ≡ s.words.items) };
+    ghost invariant = { λ s. (boxed_slice_len s.words ≤ 65536)
+        × IfSome s.index (λ index. indexed index ≡ boxed_slice_items s.words) };
 }
 
 impl Session {
@@ -37,7 +39,7 @@ impl Session {
         ensures { result ≡ start }
     {
         Session {
-            words: Vec::new(alloc),
+            words: Vec::new(alloc).into_boxed_slice(),
             index: None,
         }
     }
@@ -72,7 +74,7 @@ impl Session {
         ensures { Step self.old (Some (Words words.items)) result self.new }
     {
         let count = words.len() as u64;
-        self.words = words;
+        self.words = words.into_boxed_slice();
         self.index = None;
         Answer::Accepted(count)
     }
@@ -94,7 +96,7 @@ impl Session {
         ensures { Step self.old (Some (Build kind)) result self.new }
     {
         self.index = None;
-        match Index::build(alloc, kind, self.words.as_slice()) {
+        match Index::build(alloc, kind, &self.words) {
             Ok((index, total)) => {
                 self.index = Some(index);
                 Answer::Ones(total as u64)

@@ -1,12 +1,14 @@
 //! Rank by one number for each begun run of eight words.
 ghost use Rattle.std.specs.Prelude.{◌≡◌, ◌<◌, ◌≤◌, ◌+◌, ◌*◌, ◌/◌, ◌^◌, List, ℕ, length, slice_index, IfOk, IfErr, ◌-◌};
 ghost use Rattle.std.specs.Box.{boxed_slice_items};
+ghost use Rattle.std.specs.Int.{div_ceil};
+ghost use Rattle.bitm_bits.specs.Size.{saturated};
 ghost use Rattle.bitm_bits.specs.Bits.{bits_of, IsShort};
 ghost use Rattle.bitm_bits.specs.Count.{ones_before, IsRank};
 ghost use Rattle.bitm.specs.Simple.{simple_table_of};
 
 use crate::rank::Rank;
-use bitm_bits::{n_lowest_bits, words};
+use bitm_bits::{CloneWords, GetSize, n_lowest_bits, words};
 use std::alloc::{AllocError, Global};
 use std::boxed::BoxedSlice;
 use std::convert::AsSlice;
@@ -161,5 +163,34 @@ impl<BV: AsSlice<u64>> AsSlice<u64> for RankSimple<BV> {
     #[inline(always)]
     fn as_slice(&self) -> &[u64] {
         self.content.as_slice()
+    }
+}
+
+impl<BV: AsSlice<u64> + GetSize> GetSize for RankSimple<BV> {
+    // the content, and four bytes for each begun run of eight words
+    ghost dyn_bytes = { λ s. saturated (BV.dyn_bytes s + 4 * div_ceil (length (BV.items s)) 8) };
+
+    const USES_DYN_MEM: bool = true;
+
+    fn size_bytes_dyn(&self) -> usize {
+        self.content
+            .size_bytes_dyn()
+            .saturating_add(self.ranks.size_bytes_dyn())
+    }
+}
+
+impl<BV: CloneWords> RankSimple<BV> {
+    /// A simple rank over the same words, with a table of its own.
+    ///
+    /// # Errors
+    /// `AllocError` where memory was refused; this value is as it was.
+    pub fn try_clone(&self, alloc: Global) -> Result<Self, AllocError>
+        ensures { IfOk result (λ copy. BV.items copy ≡ BV.items self.now) }
+    {
+        let content = self.content.try_same(alloc)?;
+        match RankSimple::build(alloc, content) {
+            Ok((copy, _)) => Ok(copy),
+            Err(_) => Err(AllocError),
+        }
     }
 }

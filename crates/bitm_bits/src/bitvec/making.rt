@@ -4,6 +4,7 @@ ghost use Rattle.std.specs.Int.{div_ceil};
 ghost use Rattle.bitm_bits.specs.Bits.{bits_of, item};
 ghost use Rattle.bitm_bits.specs.Number.{number_at, with_number, IsInRange};
 
+use crate::bitvec::writing::init_bits;
 use std::alloc::{AllocError, Allocator};
 use std::boxed::BoxedSlice;
 
@@ -122,21 +123,4 @@ fn init_fragments(words: &mut [u64], word: u64, s: u8, n: usize)
     for i in 0..n {
         init_bits(words, i * s as usize, word, s);
     }
-}
-
-/// Makes the `len` bits from `begin` on equal to `v`, where they are zeros or `v` already.
-#[inline(always)]
-fn init_bits(words: &mut [u64], begin: usize, v: u64, len: u8)
-    requires in_range { IsInRange words.old begin len }
-    requires width { len ≤ 64 }
-    requires fits { v < 2 ^ len }
-    requires clear { (number_at (bits_of words.old) begin len ≡ 0)
-        ⊎ (number_at (bits_of words.old) begin len ≡ v) }
-    ensures { bits_of words.new ≡ with_number (bits_of words.old) begin len v }
-{
-    let (segment, offset) = (begin / 64, (begin % 64) as u8);
-    if offset + len > 64 {
-        words[segment + 1] |= v >> (64 - offset);
-    }
-    words[segment] |= v << offset;
 }
