@@ -10,4 +10,4 @@ pub build-requires-clause-few : goal.build-requires-clause-few
 build-requires-clause-few c =
     let words = boxed_slice_items c.in_ok-copy.copy in
     let b = bits_of words in
-    omega (arith, ones_before-add-zeros_before b (length b) (omega arith), length-bits_of words, ap length c.in_ok-copy.ensures.ok, c.requires)
+    omega (arith, ones_before-add-zeros_before b (length b) (omega arith), length-bits_of words, ap length c.in_ok-copy.ensures, c.args.words.now.items.ok.0, c.requires)
