@@ -11,8 +11,12 @@ use std::ops::Range;
 
 /// Reads the bits of the words that a value lends: of a slice of `u64`, shared or mutable.
 ///
-/// Places and counts are in bits. A call ending in `_unchecked` is the plain one: both have the same condition, which the
-/// checker proves at each call, and neither tests it when it runs.
+/// Places, widths and counts are in bits. A call ending in `_unchecked` is the plain one: both have the same condition, which
+/// the checker proves at each call, and neither tests it when it runs.
+///
+/// A range is in range where there is a bit at its begin and none of its bits is past the end: a range of width 0 at the
+/// exact end is not. Fragment `index` of width `s` is the range of `s` bits from bit `index * s` on, a product of whole
+/// numbers: where it does not fit `usize`, the fragment is not in range.
 pub trait BitAccess {
     /// The words that are lent.
     ghost words: { Self → List ℕ };

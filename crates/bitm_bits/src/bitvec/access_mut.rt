@@ -8,7 +8,8 @@ use crate::bitvec::access::BitAccess;
 /// Writes bits of the words that a value lends: of a mutable slice of `u64`.
 ///
 /// Each call leaves every bit that it does not name as it was, and the value lends the same slice afterwards. A call ending
-/// in `_unchecked` is the plain one: both have the same condition, which the checker proves at each call.
+/// in `_unchecked` is the plain one: both have the same condition, which the checker proves at each call. Ranges and
+/// fragments are those of `BitAccess`.
 ///
 /// # What the slice's owner holds afterwards
 /// The checker knows it by the form of the call:
