@@ -10,9 +10,9 @@
 
 mod rank;
 
-pub use bitm_bits::words;
 pub use bitm_bits::{
     BitAccess, BitAccessMut, ceiling_div, n_lowest_bits, n_lowest_bits_0_64, n_lowest_bits_1_64,
+    words,
 };
 pub use rank::Rank;
 pub use rank::simple::{ArrayWithRankSimple, RankSimple};

@@ -1,6 +1,7 @@
 -- What an iterator over the bits of words still gives.
-use Rattle.std.specs.Prelude.{ℕ, ◌+◌, true, List, ◌++◌, zero, suc}
+use Rattle.std.specs.Prelude.{ℕ, ◌+◌, ◌-◌, Bool, true, if◌then◌else◌, nat_lt, List, ◌++◌, take, drop, zero, suc}
 use Rattle.std.specs.Int.{bit_not, w64}
+use Rattle.std.specs.declared.ops.Range.{Range}
 use Rattle.bitm_bits.specs.Bits.{low_digits, bits_of}
 use Rattle.bitm_bits.specs.Count.{places, kind}
 
@@ -13,3 +14,30 @@ word_of (suc n) w = w
 -- the words after it
 abbrev pub coming : ℕ → ℕ → ℕ → List ℕ → List ℕ
 coming v first current rest = places true first (low_digits 64 current) ++ places (kind v) (first + 64) (bits_of rest)
+
+-- the bits of a range of the words, none where it is reversed
+unfoldable pub bits_coming : List ℕ → ℕ → ℕ → List Bool
+bits_coming words start end = take (end - start) (drop start (bits_of words))
+
+-- what an iterator over bits shows: the words that it reads, and the range that is left
+pub record BitsLeft : Type 0 where
+  pub bit_vec : List ℕ
+  pub bit_range : Range ℕ
+
+-- the bits that are still to come
+abbrev pub bits_left : BitsLeft → List Bool
+bits_left it = bits_coming it.bit_vec it.bit_range.start it.bit_range.end
+
+-- the range without its first place, and the range itself where it has no place
+abbrev pub without_first : BitsLeft → BitsLeft
+without_first it =
+    let start = it.bit_range.start in
+    let end = it.bit_range.end in
+    record it { bit_range = record { start = if nat_lt start end then start + 1 else start; end = end } }
+
+-- the range without its last place, and the range itself where it has no place
+abbrev pub without_last : BitsLeft → BitsLeft
+without_last it =
+    let start = it.bit_range.start in
+    let end = it.bit_range.end in
+    record it { bit_range = record { start = start; end = if nat_lt start end then end - 1 else end } }

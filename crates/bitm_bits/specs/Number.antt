@@ -15,6 +15,11 @@ number_at b begin len = number_of_bits (take len (drop begin b))
 unfoldable pub with_number : List Bool → ℕ → ℕ → ℕ → List Bool
 with_number b begin len v = take begin b ++ low_digits len v ++ drop (begin + len) b
 
+-- b with fragments i and j of this width in each other's place
+unfoldable pub with_swapped : List Bool → ℕ → ℕ → ℕ → List Bool
+with_swapped b i j width =
+    with_number (with_number b (i * width) width (number_at b (j * width) width)) (j * width) width (number_at b (i * width) width)
+
 -- there is a bit at begin, and there are len bits from there on
 abbrev pub IsInRange : List ℕ → ℕ → ℕ → Type 0
 IsInRange words begin len = (begin < 64 * length words) × (begin + len ≤ 64 * length words)

@@ -15,6 +15,7 @@
 mod bitvec;
 mod bytes;
 mod clone_words;
+pub mod laws;
 mod masks;
 mod size;
 #[cfg(test)]
@@ -23,7 +24,9 @@ pub mod words;
 
 pub use bitvec::access::BitAccess;
 pub use bitvec::access_mut::BitAccessMut;
+pub use bitvec::each_bit::BitIterator;
 pub use bitvec::making::BitVec;
+pub use bitvec::places::{BitBIterator, BitOnesIterator, BitZerosIterator};
 pub use bytes::{get_bits25, get_bits57, init_bits25, init_bits57, set_bits25, set_bits57};
 pub use clone_words::CloneWords;
 pub use masks::{

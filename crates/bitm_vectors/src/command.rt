@@ -79,10 +79,11 @@ fn words(alloc: Global, rest: Option<&[u8]>) -> Result<Option<Vec<u64>>, AllocEr
     let Some(text) = rest else {
         return Ok(Some(Vec::new(alloc)));
     };
-    if count_parts(text) > MAX_WORDS || !are_words(text) {
+    let count = count_parts(text);
+    if count > MAX_WORDS || !are_words(text) {
         return Ok(None);
     }
-    Ok(Some(collect_words(alloc, text)?))
+    Ok(Some(collect_words(alloc, text, count)?))
 }
 
 fn count_parts(text: &[u8]) -> usize
@@ -98,9 +99,12 @@ fn are_words(text: &[u8]) -> bool
     parts.all(|part| hexadecimal(part).is_some())
 }
 
-fn collect_words(alloc: Global, text: &[u8]) -> Result<Vec<u64>, AllocError>
+/// The words that the parts write, of which there are so many, in one allocation of just their size.
+fn collect_words(alloc: Global, text: &[u8], count: usize) -> Result<Vec<u64>, AllocError>
     ensures { IfOk result (λ words. words.items ≡ filter_map hexadecimal_of (parts_of text.now)) }
 {
+    let mut words = Vec::with_capacity(alloc, count)?;
     let parts = text.split(|byte| *byte == b' ');
-    parts.filter_map(hexadecimal).collect(alloc)
+    words.extend(parts.filter_map(hexadecimal))?;
+    Ok(words)
 }

@@ -13,7 +13,6 @@ mod text;
 
 pub use answering::{WriteFailed, run};
 pub use starting::{CANNOT_READ, start};
-
 use std::env::Env;
 use std::io::BufWriter;
 use std::process::ExitCode;

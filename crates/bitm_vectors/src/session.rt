@@ -23,8 +23,8 @@ impl Model for Session {
     ghost Value = { State };
 
     ghost view = { λ s. record {
-        bits = bits_of s.words.items;
-        built = option_map kind_of_index s.index
+      bits = bits_of s.words.items;
+      built = option_map kind_of_index s.index;
     } };
 
     ghost invariant = { λ s. (vec_len s.words ≤ 65536)

@@ -1,5 +1,5 @@
 -- Items read as a number, and items replaced by one: what was written is what is read.
-use Rattle.std.proofs.Common.{◌≢◌, ⊎_elim, subst, set, length-set, get_or-set_same, get_or-set_other, refl, ◌≡◌, ℕ, zero, suc, ◌+◌, ◌-◌, ◌*◌, ◌/◌, ◌%◌, ◌^◌, ◌<◌, ◌≤◌, Bool, true, false, List, [], ◌∷◌, ◌++◌, length, get_or, take, drop, sym, ap, ◌∙◌, arith, length-append, length-drop, length-take, pow-suc}
+use Rattle.std.proofs.Common.{◌≢◌, ⊎_elim, subst, set, length-set, get_or-set_same, get_or-set_other, refl, ◌≡◌, ℕ, zero, suc, ◌+◌, ◌-◌, ◌*◌, ◌/◌, ◌%◌, ◌^◌, ◌<◌, ◌≤◌, Bool, true, false, List, [], ◌∷◌, ◌++◌, length, get_or, take, drop, sym, ap, ◌∙◌, arith, length-append, length-drop, length-take, pow-suc, eqb}
 use Rattle.std.proofs.lemmas.Bool.{cases_lt, cases_eq}
 use Rattle.std.proofs.lemmas.List.{get_or-drop, get_or-take, get_or_append_left, get_or-append_right}
 use Rattle.std.proofs.lemmas.Nat.Bits.{bit_at-suc, bit_at_lowest, bit_at-zero, same_from_bits_below}
@@ -57,6 +57,23 @@ number_at_is words s n v within fits same =
     (λ k l. let i = s + k in
     same k (i / 64) (i % 64) l (omega arith) (omega arith)
     ∙ sym (bit_at-number_at-bits_of words s n k (i / 64) (i % 64) l (omega arith) (omega arith) (omega arith)))
+
+-- one item as a number
+pub number_at-one : (b : List Bool) (i : ℕ) → i < length b → number_at b i 1 ≡ truth (item b i)
+number_at-one b i inside =
+    same_from_bits_below 1 (number_at b i 1) (truth (item b i)) (number_at-lt b i 1 (omega arith)) (small (item b i))
+    (λ k l.
+    let lowest : k ≡ 0 = omega arith in
+    let there : i + k ≡ i = omega arith in
+    bit_at-number_at b i 1 k l ∙ ap (λ j. truth (item b j)) there ∙ sym (ap (bit_at (truth (item b i))) lowest ∙ itself (item b i)))
+  where
+    small : (x : Bool) → truth x < 2 ^ 1
+    small true = omega arith
+    small false = omega arith
+
+    itself : (x : Bool) → bit_at (truth x) 0 ≡ truth x
+    itself true = bit_at_lowest 1
+    itself false = bit_at_lowest 0
 
 -- ---- writes
 
@@ -130,3 +147,26 @@ with_number-one b i v inside =
         (λ before. item-with_number_below b i 1 (truth v) j room before)
         (λ after. item-with_number_above b i 1 (truth v) j room (omega arith))
         (cases_lt j i)
+
+-- what was read, put where it was read, changes nothing
+pub with_number-number_at : (b : List Bool) (s n : ℕ) → s + n ≤ length b → with_number b s n (number_at b s n) ≡ b
+with_number-number_at b s n within =
+    same_bits (with_number b s n v) b (length-with_number b s n v within)
+    (λ i l.
+    ⊎_elim
+    (λ before. item-with_number_below b s n v i within before)
+    (λ from. ⊎_elim
+    (λ inside.
+    let at : s + (i - s) ≡ i = omega arith in
+    let P : ℕ → Type 0 = λ k. item (with_number b s n v) k ≡ item b k in
+    subst P at (item-with_number_inside b s n v (i - s) within (omega arith) ∙ ap (λ d. eqb d 1) (bit_at-number_at b s n (i - s) (omega arith)) ∙ itself (item b (s + (i - s)))))
+    (λ past. item-with_number_above b s n v i within past)
+    (cases_lt i (s + n)))
+    (cases_lt i s))
+  where
+    v : ℕ
+    v = number_at b s n
+
+    itself : (x : Bool) → eqb (truth x) 1 ≡ x
+    itself true = refl
+    itself false = refl

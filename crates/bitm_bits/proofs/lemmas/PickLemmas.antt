@@ -1,7 +1,8 @@
 -- One place is picked for each rank, and item k of the rising places is the one for k.
-use Rattle.std.proofs.Common.{◌≡◌, ℕ, zero, suc, ◌+◌, ◌-◌, ◌<◌, ◌≤◌, Bool, true, false, not, List, [], ◌∷◌, length, get_or, take, refl, ap, ◌∙◌, ⊎_elim, arith, subst, ◌⊎◌}
-use Rattle.std.proofs.lemmas.Bool.{cases_order}
+use Rattle.std.proofs.Common.{◌≡◌, ℕ, zero, suc, ◌+◌, ◌-◌, ◌<◌, ◌≤◌, Bool, true, false, not, List, [], ◌∷◌, length, get_or, take, refl, ap, ◌∙◌, ⊎_elim, arith, sym, subst, ◌⊎◌, ◌↔◌}
+use Rattle.std.proofs.lemmas.Bool.{cases_order, cases_lt}
 use Rattle.std.proofs.lemmas.List.Sums.{sum_by-cons}
+use Rattle.std.specs.List.Sorted.{IsStrictlyIncreasing}
 use Rattle.bitm_bits.proofs.lemmas.CountLemmas.{ones_before_more, zeros_before_more}
 use Rattle.bitm_bits.proofs.lemmas.WordLemmas.{truth}
 use Rattle.bitm_bits.specs.Bits.{item}
@@ -85,3 +86,50 @@ Picks-places b v k d l =
     let e : h.at ≡ get_or (places v 0 b) k d = omega (arith, h.is) in
     let P : ℕ → Type 0 = λ p. Picks b v k p in
     subst P e h.picked
+
+-- ---- how many places are picked
+
+pub length-places : (v : Bool) (k : ℕ) (b : List Bool) → length (places v k b) ≡ count_before b v (length b)
+length-places v k [] = sym (count_before_first v [])
+length-places true k (true ∷ b) = omega (arith, length-places true (k + 1) b, count_before_after true true b (length b))
+length-places true k (false ∷ b) = omega (arith, length-places true (k + 1) b, count_before_after true false b (length b))
+length-places false k (true ∷ b) = omega (arith, length-places false (k + 1) b, count_before_after false true b (length b))
+length-places false k (false ∷ b) = omega (arith, length-places false (k + 1) b, count_before_after false false b (length b))
+
+pub some_picked : (b : List Bool) (v : Bool) (r : ℕ) → r < count_before b v (length b) → (p : ℕ) × Picks b v r p
+some_picked b v r l = (get_or (places v 0 b) r 0, Picks-places b v r 0 (omega (arith, length-places v 0 b)))
+
+-- the rank of a place that is picked is below the count
+pub rank_below : (b : List Bool) (v : Bool) (r p : ℕ) → Picks b v r p → r < count_before b v (length b)
+rank_below b v r p h =
+    let one : truth (is_same v (item b p)) ≡ 1 = ap (λ x. truth (is_same v x)) h.item ∙ is_same_self v in
+    let all : p + 1 + (length b - (p + 1)) ≡ length b = omega (arith, h.inside) in
+    omega (
+      arith,
+      count_before_more v b p h.inside,
+      one,
+      h.before,
+      count_before_grows v b (p + 1) (length b - (p + 1)) (omega (arith, all)),
+      ap (count_before b v) all,
+    )
+
+pub none_picked : (b : List Bool) (v : Bool) (r : ℕ) → (count_before b v (length b) ≤ r) ↔ ((p : ℕ) → ¬ (Picks b v r p))
+none_picked b v r =
+    (λ past p h. absurd (omega (arith, past, rank_below b v r p h)),
+    λ none. ⊎_elim (λ below. let some = some_picked b v r below in absurd (none some.0 some.1)) (λ past. past) (cases_lt r (count_before b v (length b))))
+
+-- each place is picked by its rank
+pub Picks-rank : (b : List Bool) (v : Bool) (p : ℕ) → p < length b → item b p ≡ v → Picks b v (count_before b v p) p
+Picks-rank b v p within is = record { inside = within; item = is; before = refl }
+
+pub places-rise : (b : List Bool) (v : Bool) → IsStrictlyIncreasing (places v 0 b)
+places-rise b v k l =
+    let p = get_or (places v 0 b) k 0 in
+    let q = get_or (places v 0 b) (k + 1) 0 in
+    let here = Picks-places b v k 0 (omega arith) in
+    let there = Picks-places b v (k + 1) 0 l in
+    ⊎_elim (λ less. less)
+    (λ back.
+    let at : q + (p - q) ≡ p = omega arith in
+    absurd (omega (arith, here.before, there.before, count_before_grows v b q (p - q) (omega (arith, here.inside)), ap (count_before b v) at)))
+    (cases_lt p q)

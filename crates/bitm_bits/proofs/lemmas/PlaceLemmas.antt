@@ -2,14 +2,15 @@
 use Rattle.std.proofs.Common.{◌≡◌, ℕ, zero, suc, ◌+◌, ◌-◌, ◌*◌, ◌%◌, ◌^◌, ◌<◌, Bool, true, false, not, List, [], ◌∷◌, ◌++◌, length, get_or, eqb, sym, refl, ap, ◌∙◌, arith, length-append, count_ones, w64, ap₂, take_all, ◌≢◌, bit_and, append-nil, count_by}
 use Rattle.std.proofs.lemmas.Bool.{false≢true}
 use Rattle.std.proofs.lemmas.List.Sums.{sum_by-cons}
-use Rattle.std.proofs.lemmas.Nat.Bits.{bit_at-lt, bit_at-zero, bit_at_not, bit_at-trailing_zeros, bit_at_clear_same, bit_at_clear_other}
+use Rattle.std.proofs.lemmas.Nat.Bits.{bit_at-lt, bit_at-zero, bit_at_not, bit_at-trailing_zeros}
 use Rattle.std.specs.Int.{bit_at, bit_not, trailing_zeros}
 use Rattle.bitm_bits.proofs.lemmas.BitsLemmas.{length-low_digits, item-low_digits, length-bits_of, same_bits, bits_of-cons, bits_of-nil}
 use Rattle.bitm_bits.proofs.lemmas.CountLemmas.{ones_before-bits_of_all}
-use Rattle.bitm_bits.proofs.lemmas.WordLemmas.{truth}
+use Rattle.bitm_bits.proofs.lemmas.PickLemmas.{length-places}
+use Rattle.bitm_bits.proofs.lemmas.WordLemmas.{truth, bit_at-lowest_cleared_same, bit_at-lowest_cleared_other}
 use Rattle.bitm_bits.specs.Bits.{low_digits, bits_of, item}
 use Rattle.bitm_bits.specs.Coming.{word_of, coming}
-use Rattle.bitm_bits.specs.Count.{ones_before, zeros_before, places, kind}
+use Rattle.bitm_bits.specs.Count.{count_before, places, kind}
 
 -- ---- lists
 
@@ -106,21 +107,18 @@ coming_turn v first w rest fits =
     ap (λ l. l ++ places (kind v) (first + 64) (bits_of (w ∷ rest))) (no_places first) ∙ places-cons v (first + 64) w rest fits
 
 -- the lowest one of the current word comes first
-pub coming_next : (v first current after : ℕ) (rest : List ℕ) → 0 < current → current < 2 ^ 64
-    → after ≡ bit_and current (bit_not w64 (1 * 2 ^ trailing_zeros w64 current % 2 ^ 64))
-    → coming v first current rest ≡ (first + trailing_zeros w64 current) ∷ coming v first after rest
-coming_next v first current after rest some fits is =
+pub coming_next : (v first current : ℕ) (rest : List ℕ) → 0 < current → current < 2 ^ 64
+    → coming v first current rest ≡ (first + trailing_zeros w64 current) ∷ coming v first (bit_and current (current - 1)) rest
+coming_next v first current rest some fits =
     ap (λ l. l ++ places (kind v) (first + 64) (bits_of rest))
     (places_first first t b c (length-low_digits 64 after ∙ sym (length-low_digits 64 current)) (omega (arith, low, length-low_digits 64 current))
     (item-low_digits 64 current t low ∙ ap (λ d. eqb d 1) lowest.1)
-    (item-low_digits 64 after t low ∙ ap (λ d. eqb d 1) (ap (λ x. bit_at x t) is ∙ bit_at_clear_same w64 current t low))
+    (item-low_digits 64 after t low ∙ ap (λ d. eqb d 1) (bit_at-lowest_cleared_same current t lowest.1 lowest.2))
     (λ i l. item-low_digits 64 current i (omega (arith, low)) ∙ ap (λ d. eqb d 1) (lowest.2 i l))
-    (λ i l. item-low_digits 64 after i (omega (arith, low)) ∙ ap (λ d. eqb d 1) (ap (λ x. bit_at x i) is ∙ bit_at_clear_other w64 current t low i (omega (arith, low)) (λ e. omega arith) ∙ lowest.2 i l))
+    (λ i l. item-low_digits 64 after i (omega (arith, low)) ∙ ap (λ d. eqb d 1) (kept i (λ e. omega arith) ∙ lowest.2 i l))
     (λ i l m.
     let small : i < 64 = omega (arith, length-low_digits 64 current) in
-    item-low_digits 64 after i small
-    ∙ ap (λ d. eqb d 1) (ap (λ x. bit_at x i) is ∙ bit_at_clear_other w64 current t low i small (λ e. omega arith))
-    ∙ sym (item-low_digits 64 current i small)))
+    item-low_digits 64 after i small ∙ ap (λ d. eqb d 1) (kept i (λ e. omega arith)) ∙ sym (item-low_digits 64 current i small)))
   where
     t : ℕ
     t = trailing_zeros w64 current
@@ -131,6 +129,12 @@ coming_next v first current after rest some fits is =
     low : t < 64
     low = lowest.0
 
+    after : ℕ
+    after = bit_and current (current - 1)
+
+    kept : (i : ℕ) → i ≢ t → bit_at after i ≡ bit_at current i
+    kept i apart = bit_at-lowest_cleared_other current t lowest.1 lowest.2 i apart
+
     b : List Bool
     b = low_digits 64 current
 
@@ -139,56 +143,27 @@ coming_next v first current after rest some fits is =
 
 -- ---- how many places there are
 
-length-places_one : (k : ℕ) (b : List Bool) → length (places true k b) ≡ count_by (λ x. x) b
-length-places_one k [] = refl
-length-places_one k (true ∷ b) = omega (arith, length-places_one (k + 1) b, sum_by-cons truth true b)
-length-places_one k (false ∷ b) = omega (arith, length-places_one (k + 1) b, sum_by-cons truth false b)
-
-length-places_zero : (k : ℕ) (b : List Bool) → length (places false k b) ≡ count_by not b
-length-places_zero k [] = refl
-length-places_zero k (true ∷ b) = omega (arith, length-places_zero (k + 1) b, sum_by-cons (λ x. truth (not x)) true b)
-length-places_zero k (false ∷ b) = omega (arith, length-places_zero (k + 1) b, sum_by-cons (λ x. truth (not x)) false b)
-
-pub length-places-bits_of_one : (k : ℕ) (words : List ℕ) → length (places true k (bits_of words)) ≡ ones_before (bits_of words) (64 * length words)
-unfolding ones_before
-length-places-bits_of_one k words =
-    length-places_one k (bits_of words) ∙ sym (ap (count_by (λ x. x)) (take_all (64 * length words) (bits_of words) (omega (arith, length-bits_of words))))
-
-pub length-places-bits_of_zero : (k : ℕ) (words : List ℕ) → length (places false k (bits_of words)) ≡ zeros_before (bits_of words) (64 * length words)
-unfolding zeros_before
-length-places-bits_of_zero k words =
-    length-places_zero k (bits_of words) ∙ sym (ap (count_by not) (take_all (64 * length words) (bits_of words) (omega (arith, length-bits_of words))))
+length-places-bits_of : (v : Bool) (k : ℕ) (words : List ℕ) → length (places v k (bits_of words)) ≡ count_before (bits_of words) v (64 * length words)
+length-places-bits_of v k words = length-places v k (bits_of words) ∙ ap (count_before (bits_of words) v) (length-bits_of words)
 
 -- the ones left in a word
 length-places_word : (k w : ℕ) → w < 2 ^ 64 → length (places true k (low_digits 64 w)) ≡ count_ones w
 length-places_word k w fits =
     let alone : bits_of (w ∷ []) ≡ low_digits 64 w = bits_of-cons w [] ∙ ap (λ b. low_digits 64 w ++ b) bits_of-nil ∙ append-nil (low_digits 64 w) in
     let one : length (places true k (bits_of (w ∷ []))) ≡ count_ones w =
-    length-places-bits_of_one k (w ∷ []) ∙ ones_before-bits_of_all (w ∷ []) only ∙ sum_by-cons count_ones w [] ∙ (let e : count_ones w + 0 ≡ count_ones w = omega arith in e) in
+    length-places-bits_of true k (w ∷ []) ∙ ones_before-bits_of_all (w ∷ []) only ∙ sum_by-cons count_ones w [] ∙ (let e : count_ones w + 0 ≡ count_ones w = omega arith in e) in
     ap (λ b. length (places true k b)) (sym alone) ∙ one
   where
     only : (j : ℕ) → get_or (w ∷ []) j 0 < 2 ^ 64
     only zero = fits
     only (suc j) = omega arith
 
-pub length-coming_one : (v first current : ℕ) (rest : List ℕ) → kind v ≡ true → current < 2 ^ 64
-    → length (coming v first current rest) ≡ count_ones current + ones_before (bits_of rest) (64 * length rest)
-length-coming_one v first current rest is fits =
+pub length-coming : (v first current : ℕ) (rest : List ℕ) → current < 2 ^ 64
+    → length (coming v first current rest) ≡ count_ones current + count_before (bits_of rest) (kind v) (64 * length rest)
+length-coming v first current rest fits =
     omega (
       arith,
       length-append (places true first (low_digits 64 current)) (places (kind v) (first + 64) (bits_of rest)),
       length-places_word first current fits,
-      ap (λ b. length (places b (first + 64) (bits_of rest))) is,
-      length-places-bits_of_one (first + 64) rest,
-    )
-
-pub length-coming_zero : (v first current : ℕ) (rest : List ℕ) → kind v ≡ false → current < 2 ^ 64
-    → length (coming v first current rest) ≡ count_ones current + zeros_before (bits_of rest) (64 * length rest)
-length-coming_zero v first current rest is fits =
-    omega (
-      arith,
-      length-append (places true first (low_digits 64 current)) (places (kind v) (first + 64) (bits_of rest)),
-      length-places_word first current fits,
-      ap (λ b. length (places b (first + 64) (bits_of rest))) is,
-      length-places-bits_of_zero (first + 64) rest,
+      length-places-bits_of (kind v) (first + 64) rest,
     )

@@ -1,6 +1,6 @@
 -- The search for the next one, word by word.
-use Rattle.std.proofs.Common.{◌≡◌, ℕ, ◌+◌, ◌-◌, ◌*◌, ◌/◌, ◌%◌, ◌^◌, ◌<◌, ◌≤◌, false, List, length, get_or, eqb, sym, refl, ap, ◌∙◌, ⊎_elim, arith, w64, bit_and, ◌⊎◌}
-use Rattle.std.proofs.lemmas.Bool.{cases_lt}
+use Rattle.std.proofs.Common.{◌≡◌, ℕ, ◌+◌, ◌-◌, ◌*◌, ◌/◌, ◌%◌, ◌^◌, ◌<◌, ◌≤◌, true, false, List, length, get_or, eqb, sym, refl, ap, ◌∙◌, ⊎_elim, arith, w64, bit_and, ◌⊎◌}
+use Rattle.std.proofs.lemmas.Bool.{cases_lt, false≢true}
 use Rattle.std.proofs.lemmas.List.{get_or_past}
 use Rattle.std.proofs.lemmas.Nat.{and_le_l, pow_below}
 use Rattle.std.proofs.lemmas.Nat.Bits.{bit_at-lt, bit_at-zero, bit_at_not, bit_at_and, bit_at_ones, bit_at_ones_above, bit_at-trailing_zeros}
@@ -8,6 +8,12 @@ use Rattle.std.specs.Int.{bit_at, bit_not, trailing_zeros}
 use Rattle.bitm_bits.proofs.lemmas.BitsLemmas.{length-bits_of, item-bits_of_at}
 use Rattle.bitm_bits.specs.Bits.{bits_of, item}
 use Rattle.bitm_bits.specs.Count.{IsFirstOneFrom}
+
+-- a one stands inside
+pub inside_from_one : (words : List ℕ) (p : ℕ) → item (bits_of words) p ≡ true → p < 64 * length words
+inside_from_one words p one =
+    ⊎_elim (λ l. l) (λ past. absurd (false≢true (sym (get_or_past (bits_of words) p false (omega (arith, length-bits_of words))) ∙ one)))
+    (cases_lt p (64 * length words))
 
 -- rest is word q without its bits before s, and no bit from s up to word q is a one
 pub record IsRestFrom (words : List ℕ) (s q rest : ℕ) : Type 0 where
@@ -70,6 +76,22 @@ none_left words s q h end i from =
 
 pub none_from : (words : List ℕ) (s : ℕ) → length words ≤ s / 64 → (i : ℕ) → s ≤ i → item (bits_of words) i ≡ false
 none_from words s end i from = get_or_past (bits_of words) i false (omega (arith, length-bits_of words))
+
+-- word q whole, where no bit before it is a one
+pub IsRestFrom-word : (words : List ℕ) (q : ℕ) → q < length words → get_or words q 0 < 2 ^ 64 → ((i : ℕ) → i < 64 * q → item (bits_of words) i ≡ false)
+    → IsRestFrom words 0 q (get_or words q 0)
+IsRestFrom-word words q within fits before = record {
+  within = within;
+  fits = fits;
+  kept = λ j l from. refl;
+  cleared = λ j l early. absurd (omega arith);
+  passed = λ i from l. before i l;
+}
+
+-- where some one is left, word q or a word after it has it
+pub some_left : (words : List ℕ) (s q p : ℕ) → IsRestFrom words s q 0 → s ≤ p → item (bits_of words) p ≡ true → q + 1 < length words
+some_left words s q p h from one =
+    ⊎_elim (λ more. more) (λ end. absurd (false≢true (sym (none_left words s q h end p from) ∙ one))) (cases_lt (q + 1) (length words))
 
 -- the lowest one of what is left is the first one
 pub first_left : (words : List ℕ) (s q rest : ℕ) → IsRestFrom words s q rest → 0 < rest → IsFirstOneFrom (bits_of words) s (64 * q + trailing_zeros w64 rest)

@@ -1,7 +1,8 @@
 -- The binary digits of what shifts, masks and tests compute on one word. `bit_at v j` is digit j of v as a number.
-use Rattle.std.proofs.Common.{◌≡◌, ℕ, zero, suc, ◌+◌, ◌-◌, ◌*◌, ◌/◌, ◌%◌, ◌^◌, ◌<◌, ◌≤◌, Bool, cond, not, eqb, sym, refl, ap, ◌∙◌, arith, w64, min, max, bit_and, bit_or, ne_eqb}
-use Rattle.std.proofs.lemmas.Nat.{pow_pos, shr-shr, shr_split, one_shl}
-use Rattle.std.proofs.lemmas.Nat.Bits.{bit_at-lt, bit_at-zero, bit_at_not, bit_at_cat_low, bit_at_cat_high, bit_at_above, bit_at_and, bit_at_or, and_pow}
+use Rattle.std.proofs.Common.{◌≡◌, ℕ, zero, suc, ◌+◌, ◌-◌, ◌*◌, ◌/◌, ◌%◌, ◌^◌, ◌<◌, ◌≤◌, Bool, cond, not, eqb, sym, refl, ap, ◌∙◌, arith, w64, min, max, bit_and, bit_or, ne_eqb, ap₂, ⊎_elim, ◌⊎◌, ◌≢◌}
+use Rattle.std.proofs.lemmas.Bool.{cases_lt}
+use Rattle.std.proofs.lemmas.Nat.{pow_pos, pow_below, mod-pow-add, shr-shr, shr_split, one_shl}
+use Rattle.std.proofs.lemmas.Nat.Bits.{bit_at-lt, bit_at-zero, bit_at_not, bit_at_cat_low, bit_at_cat_high, bit_at_above, bit_at_and, bit_at_or, and_pow, bit_at_ones_above, same_from_bits_below}
 use Rattle.std.specs.Int.{bit_at, bit_not}
 use Rattle.bitm_bits.specs.Bits.{digit}
 
@@ -64,3 +65,37 @@ pub bit_at-replaced : (word mask value j : ℕ) → mask < 2 ^ 64 → j < 64
     → bit_at (bit_or (bit_and word (bit_not w64 mask)) value) j ≡ max (min (bit_at word j) (1 - bit_at mask j)) (bit_at value j)
 bit_at-replaced word mask value j fits low =
     omega (arith, bit_at_or (bit_and word (bit_not w64 mask)) value j, bit_at_and word (bit_not w64 mask) j, bit_at_not w64 mask j fits low)
+
+-- ---- the lowest one
+
+-- n is its digits above t, a one at t, and zeros below
+split_at_lowest : (n t : ℕ) → bit_at n t ≡ 1 → ((i : ℕ) → i < t → bit_at n i ≡ 0) → n / 2 ^ (1 + t) * 2 ^ (1 + t) + 2 ^ t ≡ n
+split_at_lowest n t one below =
+    let none : n % 2 ^ t ≡ 0 =
+    same_from_bits_below t (n % 2 ^ t) 0 (omega (arith, pow_pos t)) (pow_pos t)
+    (λ i l. bit_at-mod n t i l ∙ below i l ∙ sym (bit_at-zero i)) in
+    let rest : n % 2 ^ (1 + t) ≡ 1 * 2 ^ t + 0 = mod-pow-add n 1 t ∙ ap₂ (λ d r. d * 2 ^ t + r) one none in
+    omega (arith, shr_split n (1 + t), rest)
+
+-- `n & (n - 1)` is n without its lowest one, at t
+pub bit_at-lowest_cleared_same : (n t : ℕ) → bit_at n t ≡ 1 → ((i : ℕ) → i < t → bit_at n i ≡ 0) → bit_at (bit_and n (n - 1)) t ≡ 0
+bit_at-lowest_cleared_same n t one below =
+    let less : n / 2 ^ (1 + t) * 2 ^ (1 + t) + (2 ^ t - 1) ≡ n - 1 = omega (arith, split_at_lowest n t one below, pow_pos t) in
+    let gone : bit_at (n - 1) t ≡ 0 =
+    ap (λ x. bit_at x t) (sym less) ∙ bit_at_cat_low (n / 2 ^ (1 + t)) (1 + t) (2 ^ t - 1) t (omega arith) ∙ bit_at_ones_above t t (omega arith) in
+    omega (arith, bit_at_and n (n - 1) t, gone)
+
+pub bit_at-lowest_cleared_other : (n t : ℕ) → bit_at n t ≡ 1 → ((i : ℕ) → i < t → bit_at n i ≡ 0) → (i : ℕ) → i ≢ t → bit_at (bit_and n (n - 1)) i ≡ bit_at n i
+bit_at-lowest_cleared_other n t one below i apart =
+    ⊎_elim
+    (λ before. omega (arith, bit_at_and n (n - 1) i, below i before))
+    (λ from.
+    let high = n / 2 ^ (1 + t) in
+    let split = split_at_lowest n t one below in
+    let less : high * 2 ^ (1 + t) + (2 ^ t - 1) ≡ n - 1 = omega (arith, split, pow_pos t) in
+    let power : 2 ^ t < 2 ^ (1 + t) = pow_below t (1 + t) (omega arith) in
+    let of_n : bit_at n i ≡ bit_at high (i - (1 + t)) = ap (λ x. bit_at x i) (sym split) ∙ bit_at_cat_high high (1 + t) (2 ^ t) i power (omega arith) in
+    let of_less : bit_at (n - 1) i ≡ bit_at high (i - (1 + t)) =
+    ap (λ x. bit_at x i) (sym less) ∙ bit_at_cat_high high (1 + t) (2 ^ t - 1) i (omega (arith, power)) (omega arith) in
+    omega (arith, bit_at_and n (n - 1) i, of_n, of_less))
+    (cases_lt i t)

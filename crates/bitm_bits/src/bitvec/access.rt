@@ -1,8 +1,13 @@
-ghost use Rattle.std.specs.Prelude.{◌≡◌, ◌*◌, ◌<◌, ℕ, List, length, SomeIff};
+ghost use Rattle.std.specs.Prelude.{◌≡◌, ◌+◌, ◌*◌, ◌^◌, ◌<◌, ◌≤◌, ℕ, List, length, SomeIff, true, false, MatchOption};
 ghost use Rattle.bitm_bits.specs.Bits.{bits_of, item, IsShort};
-ghost use Rattle.bitm_bits.specs.Count.{ones_before, zeros_before};
+ghost use Rattle.bitm_bits.specs.Count.{ones_before, zeros_before, places, IsFirstOneFrom, IsLastOneTo};
+ghost use Rattle.bitm_bits.specs.Number.{number_at, IsInRange, IsFragmentInRange};
+ghost use Rattle.bitm_bits.specs.Window.{reach_of};
 
+use crate::bitvec::each_bit::BitIterator;
+use crate::bitvec::places::{BitOnesIterator, BitZerosIterator};
 use crate::words;
+use std::ops::Range;
 
 /// Reads the bits of the words that a value lends: of a slice of `u64`, shared or mutable.
 ///
@@ -37,6 +42,182 @@ pub trait BitAccess {
         ensures { SomeIff result (place < 64 * length (words self.now))
             (item (bits_of (words self.now)) place) };
 
+    /// The bit at `place`, which moves on by one.
+    ///
+    /// # Conditions
+    /// The place is inside; there are fewer than 2^58 words.
+    fn get_successive_bit(&self, place: &mut usize) -> bool
+        requires inside { place.old < 64 * length (words self.now) }
+        requires short { IsShort (words self.now) }
+        ensures bit { result ≡ item (bits_of (words self.now)) place.old }
+        ensures advances { place.new ≡ place.old + 1 };
+
+    /// Does nothing: a caller may name a place that it reads soon, inside or not.
+    #[inline(always)]
+    fn prefetch_bit(&self, _place: usize) {}
+
+    /// The bits from `begin` to the end of the word, or 64 of them where `len` bits cross that end, as a number, lowest
+    /// first.
+    ///
+    /// # Conditions
+    /// The `len` bits from `begin` on are in range; `len` is 0 to 64.
+    fn get_bits_unmasked(&self, begin: usize, len: u8) -> u64
+        requires in_range { IsInRange (words self.now) begin len }
+        requires width { len ≤ 64 }
+        ensures { result ≡ number_at (bits_of (words self.now)) begin (reach_of begin len) };
+
+    /// What `get_bits_unmasked` reads.
+    ///
+    /// # Conditions
+    /// The `len` bits from `begin` on are in range; `len` is 0 to 64.
+    #[inline(always)]
+    fn get_bits_unmasked_unchecked(&self, begin: usize, len: u8) -> u64
+        requires in_range { IsInRange (words self.now) begin len }
+        requires width { len ≤ 64 }
+        ensures { result ≡ number_at (bits_of (words self.now)) begin (reach_of begin len) }
+    {
+        self.get_bits_unmasked(begin, len)
+    }
+
+    /// The `len` bits from `begin` on as a number, lowest first.
+    ///
+    /// # Conditions
+    /// They are in range; `len` is 0 to 63.
+    fn get_bits(&self, begin: usize, len: u8) -> u64
+        requires in_range { IsInRange (words self.now) begin len }
+        requires width { len ≤ 63 }
+        ensures value { result ≡ number_at (bits_of (words self.now)) begin len }
+        ensures bound { result < 2 ^ len };
+
+    /// The `len` bits from `begin` on as a number, as `get_bits`.
+    ///
+    /// # Conditions
+    /// They are in range; `len` is 0 to 63.
+    #[inline(always)]
+    fn get_bits_unchecked(&self, begin: usize, len: u8) -> u64
+        requires in_range { IsInRange (words self.now) begin len }
+        requires width { len ≤ 63 }
+        ensures value { result ≡ number_at (bits_of (words self.now)) begin len }
+        ensures bound { result < 2 ^ len }
+    {
+        self.get_bits(begin, len)
+    }
+
+    /// What `get_bits_unmasked` reads; `None` exactly where the `len` bits from `begin` on are not in range.
+    ///
+    /// # Conditions
+    /// `len` is 0 to 64.
+    fn try_get_bits_unmasked(&self, begin: usize, len: u8) -> Option<u64>
+        requires { len ≤ 64 }
+        ensures { SomeIff result (IsInRange (words self.now) begin len)
+            (number_at (bits_of (words self.now)) begin (reach_of begin len)) };
+
+    /// The `len` bits from `begin` on as a number, lowest first; `None` exactly where they are not in range.
+    ///
+    /// # Conditions
+    /// `len` is 0 to 63.
+    fn try_get_bits(&self, begin: usize, len: u8) -> Option<u64>
+        requires { len ≤ 63 }
+        ensures { SomeIff result (IsInRange (words self.now) begin len)
+            (number_at (bits_of (words self.now)) begin len) };
+
+    /// The `len` bits from `begin` on as a number, lowest first; `begin` moves on by `len`.
+    ///
+    /// # Conditions
+    /// They are in range; there are fewer than 2^58 words; `len` is 0 to 63.
+    fn get_successive_bits(&self, begin: &mut usize, len: u8) -> u64
+        requires in_range { IsInRange (words self.now) begin.old len }
+        requires short { IsShort (words self.now) }
+        requires width { len ≤ 63 }
+        ensures value { result ≡ number_at (bits_of (words self.now)) begin.old len }
+        ensures bound { result < 2 ^ len }
+        ensures advances { begin.new ≡ begin.old + len };
+
+    /// The bits from the begin of fragment `index` of width `s` to the end of its word, or 64 of them where the fragment
+    /// crosses that end, as a number, lowest first.
+    ///
+    /// # Conditions
+    /// The fragment is in range; `s` is 0 to 64.
+    fn get_fragment_unmasked(&self, index: usize, s: u8) -> u64
+        requires in_range { IsFragmentInRange (words self.now) index s }
+        requires width { s ≤ 64 }
+        ensures { result
+            ≡ number_at (bits_of (words self.now)) (index * s) (reach_of (index * s) s) };
+
+    /// What `get_fragment_unmasked` reads.
+    ///
+    /// # Conditions
+    /// The fragment is in range; `s` is 0 to 64.
+    #[inline(always)]
+    fn get_fragment_unmasked_unchecked(&self, index: usize, s: u8) -> u64
+        requires in_range { IsFragmentInRange (words self.now) index s }
+        requires width { s ≤ 64 }
+        ensures { result
+            ≡ number_at (bits_of (words self.now)) (index * s) (reach_of (index * s) s) }
+    {
+        self.get_fragment_unmasked(index, s)
+    }
+
+    /// Fragment `index` of width `s` as a number, lowest bit first.
+    ///
+    /// # Conditions
+    /// The fragment is in range; `s` is 0 to 63.
+    fn get_fragment(&self, index: usize, s: u8) -> u64
+        requires in_range { IsFragmentInRange (words self.now) index s }
+        requires width { s ≤ 63 }
+        ensures value { result ≡ number_at (bits_of (words self.now)) (index * s) s }
+        ensures bound { result < 2 ^ s };
+
+    /// Fragment `index` of width `s` as a number, as `get_fragment`.
+    ///
+    /// # Conditions
+    /// The fragment is in range; `s` is 0 to 63.
+    #[inline(always)]
+    fn get_fragment_unchecked(&self, index: usize, s: u8) -> u64
+        requires in_range { IsFragmentInRange (words self.now) index s }
+        requires width { s ≤ 63 }
+        ensures value { result ≡ number_at (bits_of (words self.now)) (index * s) s }
+        ensures bound { result < 2 ^ s }
+    {
+        self.get_fragment(index, s)
+    }
+
+    /// What `get_fragment_unmasked` reads; `None` exactly where the fragment is not in range, or begins past `usize::MAX`.
+    ///
+    /// # Conditions
+    /// `s` is 0 to 64.
+    fn try_get_fragment_unmasked(&self, index: usize, s: u8) -> Option<u64>
+        requires { s ≤ 64 }
+        ensures { SomeIff result (IsFragmentInRange (words self.now) index s)
+            (number_at (bits_of (words self.now)) (index * s) (reach_of (index * s) s)) };
+
+    /// Fragment `index` of width `s` as a number, lowest bit first; `None` exactly where it is not in range, or begins past
+    /// `usize::MAX`.
+    ///
+    /// # Conditions
+    /// `s` is 0 to 63.
+    fn try_get_fragment(&self, index: usize, s: u8) -> Option<u64>
+        requires { s ≤ 63 }
+        ensures { SomeIff result (IsFragmentInRange (words self.now) index s)
+            (number_at (bits_of (words self.now)) (index * s) s) };
+
+    /// Fragment `index` of width `s` as a number, lowest bit first; `index` moves on by one.
+    ///
+    /// # Conditions
+    /// The fragment is in range; there are fewer than 2^58 words; `index` is below `usize::MAX`; `s` is 0 to 63.
+    fn get_successive_fragment(&self, index: &mut usize, s: u8) -> u64
+        requires in_range { IsFragmentInRange (words self.now) index.old s }
+        requires short { IsShort (words self.now) }
+        requires room { index.old < usize.MAX }
+        requires width { s ≤ 63 }
+        ensures value { result ≡ number_at (bits_of (words self.now)) (index.old * s) s }
+        ensures bound { result < 2 ^ s }
+        ensures advances { index.new ≡ index.old + 1 };
+
+    /// Does nothing: a caller may name a fragment that it reads soon, in range or not.
+    #[inline(always)]
+    fn prefetch_fragment(&self, _index: usize, _s: u8) {}
+
     /// How many bits are ones.
     ///
     /// # Conditions
@@ -52,6 +233,93 @@ pub trait BitAccess {
     fn count_bit_zeros(&self) -> usize
         requires { IsShort (words self.now) }
         ensures { result ≡ zeros_before (bits_of (words self.now)) (64 * length (words self.now)) };
+
+    /// The places of the ones, rising.
+    ///
+    /// # Conditions
+    /// There are fewer than 2^58 words.
+    fn bit_ones(&self) -> BitOnesIterator<'_>
+        requires { IsShort (words self.now) }
+        ensures { result ≡ places true 0 (bits_of (words self.now)) };
+
+    /// The places of the zeros, rising.
+    ///
+    /// # Conditions
+    /// There are fewer than 2^58 words.
+    fn bit_zeros(&self) -> BitZerosIterator<'_>
+        requires { IsShort (words self.now) }
+        ensures { result ≡ places false 0 (bits_of (words self.now)) };
+
+    /// All bits, from either end.
+    ///
+    /// # Conditions
+    /// There are fewer than 2^58 words.
+    fn bit_iter(&self) -> BitIterator<'_>
+        requires { IsShort (words self.now) }
+        ensures { result ≡ record { bit_vec = words self.now;
+            bit_range = record { start = 0; end = 64 * length (words self.now) } } };
+
+    /// The bits of the range, from either end; none where it is reversed.
+    ///
+    /// # Conditions
+    /// The range ends inside or at the end of the words, of which there are fewer than 2^58.
+    fn bit_in_range_iter(&self, range: Range<usize>) -> BitIterator<'_>
+        requires inside { range.end ≤ 64 * length (words self.now) }
+        requires short { IsShort (words self.now) }
+        ensures { result ≡ record { bit_vec = words self.now; bit_range = range } };
+
+    /// The bits of the range, as `bit_in_range_iter`.
+    ///
+    /// # Conditions
+    /// The range ends inside or at the end of the words, of which there are fewer than 2^58.
+    #[inline(always)]
+    fn bit_in_unchecked_range_iter(&self, range: Range<usize>) -> BitIterator<'_>
+        requires inside { range.end ≤ 64 * length (words self.now) }
+        requires short { IsShort (words self.now) }
+        ensures { result ≡ record { bit_vec = words self.now; bit_range = range } }
+    {
+        self.bit_in_range_iter(range)
+    }
+
+    /// How many zeros stand before the first one: its place, or the number of bits where there is no one.
+    ///
+    /// # Conditions
+    /// There are fewer than 2^58 words.
+    fn trailing_zero_bits(&self) -> usize
+        requires { IsShort (words self.now) }
+        ensures within { result ≤ 64 * length (words self.now) }
+        ensures zeros { (i : ℕ) → i < result → item (bits_of (words self.now)) i ≡ false }
+        ensures one { result < 64 * length (words self.now)
+            → item (bits_of (words self.now)) result ≡ true };
+
+    /// The place of the first one from `start` on; `None` exactly where there is none, also where `start` is outside.
+    ///
+    /// # Conditions
+    /// There are fewer than 2^58 words.
+    fn find_bit_one(&self, start: usize) -> Option<usize>
+        requires { IsShort (words self.now) }
+        ensures { MatchOption result
+            ((p : ℕ) → start ≤ p → item (bits_of (words self.now)) p ≡ false)
+            (IsFirstOneFrom (bits_of (words self.now)) start) };
+
+    /// The place of the first one from `start` on.
+    ///
+    /// # Conditions
+    /// There is a one at `start` or after it, and there are fewer than 2^58 words.
+    fn find_bit_one_unchecked(&self, start: usize) -> usize
+        requires exists { (p : ℕ) × (start ≤ p) × (item (bits_of (words self.now)) p ≡ true) }
+        requires short { IsShort (words self.now) }
+        ensures { IsFirstOneFrom (bits_of (words self.now)) start result };
+
+    /// The place of the last one up to `start`.
+    ///
+    /// # Conditions
+    /// The place `start` is inside, there is a one at `start` or before it, and there are fewer than 2^58 words.
+    fn rfind_bit_one_unchecked(&self, start: usize) -> usize
+        requires inside { start < 64 * length (words self.now) }
+        requires exists { (p : ℕ) × (p ≤ start) × (item (bits_of (words self.now)) p ≡ true) }
+        requires short { IsShort (words self.now) }
+        ensures { IsLastOneTo (bits_of (words self.now)) start result };
 }
 
 impl BitAccess for &[u64] {
@@ -67,6 +335,61 @@ impl BitAccess for &[u64] {
         words::try_get_bit(*self, place)
     }
 
+    #[inline(always)]
+    fn get_successive_bit(&self, place: &mut usize) -> bool {
+        words::get_successive_bit(*self, place)
+    }
+
+    #[inline(always)]
+    fn get_bits_unmasked(&self, begin: usize, len: u8) -> u64 {
+        words::get_bits_unmasked(*self, begin, len)
+    }
+
+    #[inline(always)]
+    fn get_bits(&self, begin: usize, len: u8) -> u64 {
+        words::get_bits(*self, begin, len)
+    }
+
+    #[inline(always)]
+    fn try_get_bits_unmasked(&self, begin: usize, len: u8) -> Option<u64> {
+        words::try_get_bits_unmasked(*self, begin, len)
+    }
+
+    #[inline(always)]
+    fn try_get_bits(&self, begin: usize, len: u8) -> Option<u64> {
+        words::try_get_bits(*self, begin, len)
+    }
+
+    #[inline(always)]
+    fn get_successive_bits(&self, begin: &mut usize, len: u8) -> u64 {
+        words::get_successive_bits(*self, begin, len)
+    }
+
+    #[inline(always)]
+    fn get_fragment_unmasked(&self, index: usize, s: u8) -> u64 {
+        words::get_fragment_unmasked(*self, index, s)
+    }
+
+    #[inline(always)]
+    fn get_fragment(&self, index: usize, s: u8) -> u64 {
+        words::get_fragment(*self, index, s)
+    }
+
+    #[inline(always)]
+    fn try_get_fragment_unmasked(&self, index: usize, s: u8) -> Option<u64> {
+        words::try_get_fragment_unmasked(*self, index, s)
+    }
+
+    #[inline(always)]
+    fn try_get_fragment(&self, index: usize, s: u8) -> Option<u64> {
+        words::try_get_fragment(*self, index, s)
+    }
+
+    #[inline(always)]
+    fn get_successive_fragment(&self, index: &mut usize, s: u8) -> u64 {
+        words::get_successive_fragment(*self, index, s)
+    }
+
     #[inline]
     fn count_bit_ones(&self) -> usize {
         words::count_bit_ones(*self)
@@ -75,6 +398,46 @@ impl BitAccess for &[u64] {
     #[inline]
     fn count_bit_zeros(&self) -> usize {
         words::count_bit_zeros(*self)
+    }
+
+    #[inline(always)]
+    fn bit_ones(&self) -> BitOnesIterator<'_> {
+        BitOnesIterator::new(*self)
+    }
+
+    #[inline(always)]
+    fn bit_zeros(&self) -> BitZerosIterator<'_> {
+        BitZerosIterator::new(*self)
+    }
+
+    #[inline(always)]
+    fn bit_iter(&self) -> BitIterator<'_> {
+        BitIterator::new(*self)
+    }
+
+    #[inline(always)]
+    fn bit_in_range_iter(&self, range: Range<usize>) -> BitIterator<'_> {
+        BitIterator::with_range(*self, range)
+    }
+
+    #[inline]
+    fn trailing_zero_bits(&self) -> usize {
+        words::trailing_zero_bits(*self)
+    }
+
+    #[inline]
+    fn find_bit_one(&self, start: usize) -> Option<usize> {
+        words::find_bit_one(*self, start)
+    }
+
+    #[inline]
+    fn find_bit_one_unchecked(&self, start: usize) -> usize {
+        words::find_bit_one_unchecked(*self, start)
+    }
+
+    #[inline]
+    fn rfind_bit_one_unchecked(&self, start: usize) -> usize {
+        words::rfind_bit_one_unchecked(*self, start)
     }
 }
 
@@ -91,6 +454,61 @@ impl BitAccess for &mut [u64] {
         words::try_get_bit(&**self, place)
     }
 
+    #[inline(always)]
+    fn get_successive_bit(&self, place: &mut usize) -> bool {
+        words::get_successive_bit(&**self, place)
+    }
+
+    #[inline(always)]
+    fn get_bits_unmasked(&self, begin: usize, len: u8) -> u64 {
+        words::get_bits_unmasked(&**self, begin, len)
+    }
+
+    #[inline(always)]
+    fn get_bits(&self, begin: usize, len: u8) -> u64 {
+        words::get_bits(&**self, begin, len)
+    }
+
+    #[inline(always)]
+    fn try_get_bits_unmasked(&self, begin: usize, len: u8) -> Option<u64> {
+        words::try_get_bits_unmasked(&**self, begin, len)
+    }
+
+    #[inline(always)]
+    fn try_get_bits(&self, begin: usize, len: u8) -> Option<u64> {
+        words::try_get_bits(&**self, begin, len)
+    }
+
+    #[inline(always)]
+    fn get_successive_bits(&self, begin: &mut usize, len: u8) -> u64 {
+        words::get_successive_bits(&**self, begin, len)
+    }
+
+    #[inline(always)]
+    fn get_fragment_unmasked(&self, index: usize, s: u8) -> u64 {
+        words::get_fragment_unmasked(&**self, index, s)
+    }
+
+    #[inline(always)]
+    fn get_fragment(&self, index: usize, s: u8) -> u64 {
+        words::get_fragment(&**self, index, s)
+    }
+
+    #[inline(always)]
+    fn try_get_fragment_unmasked(&self, index: usize, s: u8) -> Option<u64> {
+        words::try_get_fragment_unmasked(&**self, index, s)
+    }
+
+    #[inline(always)]
+    fn try_get_fragment(&self, index: usize, s: u8) -> Option<u64> {
+        words::try_get_fragment(&**self, index, s)
+    }
+
+    #[inline(always)]
+    fn get_successive_fragment(&self, index: &mut usize, s: u8) -> u64 {
+        words::get_successive_fragment(&**self, index, s)
+    }
+
     #[inline]
     fn count_bit_ones(&self) -> usize {
         words::count_bit_ones(&**self)
@@ -99,5 +517,45 @@ impl BitAccess for &mut [u64] {
     #[inline]
     fn count_bit_zeros(&self) -> usize {
         words::count_bit_zeros(&**self)
+    }
+
+    #[inline(always)]
+    fn bit_ones(&self) -> BitOnesIterator<'_> {
+        BitOnesIterator::new(&**self)
+    }
+
+    #[inline(always)]
+    fn bit_zeros(&self) -> BitZerosIterator<'_> {
+        BitZerosIterator::new(&**self)
+    }
+
+    #[inline(always)]
+    fn bit_iter(&self) -> BitIterator<'_> {
+        BitIterator::new(&**self)
+    }
+
+    #[inline(always)]
+    fn bit_in_range_iter(&self, range: Range<usize>) -> BitIterator<'_> {
+        BitIterator::with_range(&**self, range)
+    }
+
+    #[inline]
+    fn trailing_zero_bits(&self) -> usize {
+        words::trailing_zero_bits(&**self)
+    }
+
+    #[inline]
+    fn find_bit_one(&self, start: usize) -> Option<usize> {
+        words::find_bit_one(&**self, start)
+    }
+
+    #[inline]
+    fn find_bit_one_unchecked(&self, start: usize) -> usize {
+        words::find_bit_one_unchecked(&**self, start)
+    }
+
+    #[inline]
+    fn rfind_bit_one_unchecked(&self, start: usize) -> usize {
+        words::rfind_bit_one_unchecked(&**self, start)
     }
 }

@@ -1,9 +1,10 @@
-ghost use Rattle.std.specs.Prelude.{◌≡◌, ◌*◌, ◌^◌, ◌<◌, ◌≤◌, ◌-◌, ◌⊎◌, ℕ, List, false, length, replicate, IfOk};
+ghost use Rattle.std.specs.Prelude.{◌≡◌, ◌*◌, ◌^◌, ◌<◌, ◌≤◌, ◌-◌, ℕ, List, false, length, replicate, IfOk};
 ghost use Rattle.std.specs.Box.{boxed_slice_items};
 ghost use Rattle.std.specs.Int.{div_ceil};
 ghost use Rattle.bitm_bits.specs.Bits.{bits_of, item};
-ghost use Rattle.bitm_bits.specs.Number.{number_at, with_number, IsInRange};
+ghost use Rattle.bitm_bits.specs.Number.{number_at};
 
+use crate::words;
 use std::alloc::{AllocError, Allocator};
 use std::boxed::BoxedSlice;
 
@@ -120,23 +121,6 @@ fn init_fragments(words: &mut [u64], word: u64, s: u8, n: usize)
         return;
     }
     for i in 0..n {
-        init_bits(words, i * s as usize, word, s);
+        words::init_fragment(words, i, word, s);
     }
-}
-
-/// Makes the `len` bits from `begin` on equal to `v`, where they are zeros or `v` already.
-#[inline(always)]
-fn init_bits(words: &mut [u64], begin: usize, v: u64, len: u8)
-    requires in_range { IsInRange words.old begin len }
-    requires width { len ≤ 64 }
-    requires fits { v < 2 ^ len }
-    requires clear { (number_at (bits_of words.old) begin len ≡ 0)
-        ⊎ (number_at (bits_of words.old) begin len ≡ v) }
-    ensures { bits_of words.new ≡ with_number (bits_of words.old) begin len v }
-{
-    let (segment, offset) = (begin / 64, (begin % 64) as u8);
-    if offset + len > 64 {
-        words[segment + 1] |= v >> (64 - offset);
-    }
-    words[segment] |= v << offset;
 }
