@@ -1,10 +1,10 @@
-ghost use Rattle.std.specs.Prelude.{◌≡◌, ◌*◌, ◌^◌, ◌<◌, ◌≤◌, ◌-◌, ◌⊎◌, ℕ, List, false, length, replicate, IfOk};
+ghost use Rattle.std.specs.Prelude.{◌≡◌, ◌*◌, ◌^◌, ◌<◌, ◌≤◌, ◌-◌, ℕ, List, false, length, replicate, IfOk};
 ghost use Rattle.std.specs.Box.{boxed_slice_items};
 ghost use Rattle.std.specs.Int.{div_ceil};
 ghost use Rattle.bitm_bits.specs.Bits.{bits_of, item};
-ghost use Rattle.bitm_bits.specs.Number.{number_at, with_number, IsInRange};
+ghost use Rattle.bitm_bits.specs.Number.{number_at};
 
-use crate::bitvec::writing::init_bits;
+use crate::words;
 use std::alloc::{AllocError, Allocator};
 use std::boxed::BoxedSlice;
 
@@ -121,6 +121,6 @@ fn init_fragments(words: &mut [u64], word: u64, s: u8, n: usize)
         return;
     }
     for i in 0..n {
-        init_bits(words, i * s as usize, word, s);
+        words::init_fragment(words, i, word, s);
     }
 }

@@ -1,5 +1,5 @@
 //! Vectors that are made, their sizes and copies, and the width that stores a number.
-use crate::{BitAccess, BitVec, CloneWords, GetSize, bits_to_store};
+use crate::{BitAccess, BitVec, CloneWords, GetSize, bits_to_store, words};
 use std::alloc::{AllocError, Global};
 use std::boxed::BoxedSlice;
 
@@ -53,6 +53,17 @@ fn vectors_have_the_words_of_their_form(rt: HostRuntime) {
         let vector: Words = made(rt.alloc(), form).expect(&rt, "memory is left");
         assert_eq!(rt; vector.as_slice(), words);
     }
+}
+
+#[test]
+fn vectors_are_read_and_written(rt: HostRuntime) {
+    let mut zeros = Words::with_zeroed_bits(rt.alloc(), 2048).expect(&rt, "memory is left");
+    words::set_bit(zeros.as_mut_slice(), 100);
+    assert_eq!(rt; zeros.as_slice().get_bits(99, 5), 0b00010);
+    let filled = Words::with_filled_bits(rt.alloc(), 65).expect(&rt, "memory is left");
+    assert_eq!(rt; filled.as_slice().count_bit_ones(), 128);
+    let fragments = Words::with_bitwords(rt.alloc(), 5, 3, 22).expect(&rt, "memory is left");
+    assert_eq!(rt; fragments.as_slice().get_bits(63, 3), 5);
 }
 
 #[test]

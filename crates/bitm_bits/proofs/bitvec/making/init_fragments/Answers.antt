@@ -12,11 +12,11 @@ returns-then-s-eq0-clause-after c = (IsRun_empty c.args.words.now _ c.args.word 
 pub loop-i-init : goal.loop-i-init
 loop-i-init c = IsRun_none _ _ _ _ c.requires.clear
 
-pub init_bits-requires-clause-clear : goal.init_bits-requires-clause-clear
-init_bits-requires-clause-clear c =
+pub init_fragment-requires-clause-clear : goal.init_fragment-requires-clause-clear
+init_fragment-requires-clause-clear c =
     inl (next_zeros c.loop-i.words _ _ _ c.loop-i.invariant (next_inside _ _ c.args.n _ _ c.requires.clear c.loop-i.auto.words c.loop-i-test.true))
 
 pub loop-i-preserved : goal.loop-i-preserved
 loop-i-preserved c =
-    IsRun_more c.loop-i.words _ _ _ _ c.loop-i.invariant c.init_bits.ensures
+    IsRun_more c.loop-i.words _ _ _ _ c.loop-i.invariant c.init_fragment.ensures
     (next_inside _ _ c.args.n _ _ c.requires.clear c.loop-i.auto.words c.loop-i-test.true) c.requires.fits
