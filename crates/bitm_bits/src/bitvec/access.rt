@@ -1,5 +1,6 @@
 ghost use Rattle.std.specs.Prelude.{◌≡◌, ◌*◌, ◌<◌, ◌≤◌, ℕ, true, false, List, length, MatchOption, SomeIff};
 ghost use Rattle.bitm_bits.specs.Bits.{bits_of, item, IsShort};
+ghost use Rattle.bitm_bits.specs.Coming.{all_bits_left};
 ghost use Rattle.bitm_bits.specs.Count.{ones_before, zeros_before, places, IsFirstOneFrom, IsLastOneTo};
 
 use crate::bitvec::each_bit::BitIterator;
@@ -78,8 +79,7 @@ pub trait BitAccess {
     /// There are fewer than 2^58 words.
     fn bit_iter(&self) -> BitIterator<'_>
         requires { IsShort (words self.now) }
-        ensures { result ≡ record { bit_vec = words self.now;
-            bit_range = record { start = 0; end = 64 * length (words self.now) } } };
+        ensures { result ≡ all_bits_left (words self.now) };
 
     /// The bits of the range, from either end; none where it is reversed.
     ///
