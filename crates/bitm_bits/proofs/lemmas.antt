@@ -2,6 +2,7 @@ pub mod BitsLemmas
 pub mod ComingLemmas
 pub mod CountLemmas
 pub mod FlipLemmas
+pub mod InitLemmas
 pub mod NumberLemmas
 pub mod PickLemmas
 pub mod PlaceLemmas

@@ -2,9 +2,13 @@
 
 pub mod access;
 pub mod access_mut;
+pub mod closures;
 pub mod counting;
 pub mod each_bit;
 pub mod finding;
+pub mod fragments;
+pub mod lent;
 pub mod places;
 pub mod reading;
+pub mod successive;
 pub mod writing;

@@ -3,7 +3,9 @@ ghost use Rattle.std.specs.Prelude.{◌≡◌, ◌*◌, ◌<◌, length};
 ghost use Rattle.bitm_bits.specs.Bits.{IsShort};
 
 mod finds;
+mod fragments;
 mod iterators;
+mod lending;
 
 use crate::{BitAccess, BitAccessMut, ceiling_div, n_lowest_bits};
 
@@ -48,7 +50,7 @@ fn counts_while_clear<B: BitAccessMut>(bits: &mut B, place: usize) -> (usize, us
 }
 
 #[test]
-fn bits_one_at_a_time(rt: HostRuntime) {
+fn bits(rt: HostRuntime) {
     let mut array = [u64::MAX; 2];
     let mut content = array.as_mut_slice();
     assert_eq!(rt;
@@ -68,4 +70,9 @@ fn bits_one_at_a_time(rt: HostRuntime) {
     content.set_bit_to(73, true);
     assert!(rt; content.get_bit_unchecked(73));
     assert_eq!(rt; &*content, [u64::MAX; 2].as_slice());
+    content.xor_bits(72, 3, 3);
+    assert_eq!(rt;
+        tried(&content, [72, 73, 74, 127]),
+        [Some(false), Some(false), Some(true), Some(true)]
+    );
 }

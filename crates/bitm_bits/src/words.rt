@@ -2,9 +2,26 @@
 //!
 //! A caller that lends a slice to one of these learns what the slice's owner holds afterwards, in every form of call.
 
+pub use crate::bitvec::closures::{
+    conditionally_change_bits, conditionally_change_fragment, conditionally_copy_bits,
+    conditionally_copy_fragment,
+};
 pub use crate::bitvec::counting::{count_bit_ones, count_bit_zeros};
 pub use crate::bitvec::finding::{
     find_bit_one, find_bit_one_unchecked, rfind_bit_one_unchecked, trailing_zero_bits,
 };
-pub use crate::bitvec::reading::{get_bit, try_get_bit};
-pub use crate::bitvec::writing::{clear_bit, set_bit, set_bit_to};
+pub use crate::bitvec::fragments::{
+    get_fragment, get_fragment_unmasked, init_fragment, set_fragment, swap_fragments,
+    try_get_fragment, try_get_fragment_unmasked, xor_fragment,
+};
+pub use crate::bitvec::reading::{
+    get_bit, get_bits, get_bits_unmasked, try_get_bit, try_get_bits, try_get_bits_unmasked,
+};
+pub use crate::bitvec::successive::{
+    get_successive_bit, get_successive_bits, get_successive_fragment, init_successive_bit,
+    init_successive_bits, init_successive_fragment, set_successive_bit_to, set_successive_bits,
+    set_successive_fragment, xor_successive_bits, xor_successive_fragment,
+};
+pub use crate::bitvec::writing::{
+    clear_bit, init_bit, init_bits, set_bit, set_bit_to, set_bits, xor_bits,
+};

@@ -1,7 +1,9 @@
 -- Item i of the list of bits is a digit of a word.
-use Rattle.std.proofs.Common.{◌≡◌, ℕ, suc, ◌+◌, ◌-◌, ◌*◌, ◌/◌, ◌%◌, ◌^◌, ◌<◌, Bool, false, not, List, [], ◌∷◌, ◌++◌, length, get_or, eqb, sym, refl, ap, ◌∙◌, ⊎_elim, arith, length-append, bit_and, ◌⊎◌}
+use Rattle.std.proofs.Common.{◌≡◌, ℕ, zero, suc, ◌+◌, ◌-◌, ◌*◌, ◌/◌, ◌%◌, ◌^◌, ◌<◌, Bool, false, not, List, [], ◌∷◌, ◌++◌, length, get_or, eqb, sym, refl, ap, ◌∙◌, ⊎_elim, arith, length-append, bit_and}
 use Rattle.std.proofs.lemmas.Bool.{cases_lt}
 use Rattle.std.proofs.lemmas.List.{ext_get_or, get_or_append_left, get_or-append_right}
+use Rattle.std.proofs.lemmas.Nat.Bits.{bit_at-lt, same_from_bits_below}
+use Rattle.std.specs.Int.{bit_at}
 use Rattle.std.proofs.lemmas.List.FromFn.{length-map-range_with_len, get_or-map-range_with_len}
 use Rattle.bitm_bits.proofs.lemmas.WordLemmas.{digit_tested}
 use Rattle.bitm_bits.specs.Bits.{digit, low_digits, bit_of, bits_of, item}
@@ -35,6 +37,26 @@ item-bits_of_at words i q j e low within =
 pub same_bits : (b c : List Bool) → length b ≡ length c → ((i : ℕ) → i < length b → item b i ≡ item c i) → b ≡ c
 same_bits b c = ext_get_or false b c
 
+-- words of 64 bits each are the same where their bits are
+pub bits_of-injective : (a b : List ℕ) → ((k : ℕ) → get_or a k 0 < 2 ^ 64) → ((k : ℕ) → get_or b k 0 < 2 ^ 64) → bits_of a ≡ bits_of b → a ≡ b
+bits_of-injective a b fits_a fits_b same =
+    ext_get_or 0 a b len
+    (λ q l. same_from_bits_below 64 (get_or a q 0) (get_or b q 0) (fits_a q) (fits_b q)
+    (λ j low. by_digit (bit_at (get_or a q 0) j) (bit_at (get_or b q 0) j) (bit_at-lt (get_or a q 0) j) (bit_at-lt (get_or b q 0) j)
+    (sym (item-bits_of_at a (64 * q + j) q j refl low l) ∙ ap (λ c. item c (64 * q + j)) same ∙ item-bits_of_at b (64 * q + j) q j refl low (omega (arith, len)))))
+  where
+    len : length a ≡ length b
+    len = omega (arith, length-bits_of a, length-bits_of b, ap length same)
+
+    by_digit : (d e : ℕ) → d < 2 → e < 2 → eqb d 1 ≡ eqb e 1 → d ≡ e
+    by_digit zero zero l m same = refl
+    by_digit zero (suc zero) l m same = cc
+    by_digit (suc zero) zero l m same = cc
+    by_digit (suc zero) (suc zero) l m same = refl
+    by_digit (suc (suc d)) e l m same = absurd (omega arith)
+    by_digit zero (suc (suc e)) l m same = absurd (omega arith)
+    by_digit (suc zero) (suc (suc e)) l m same = absurd (omega arith)
+
 pub item_tested : (words : List ℕ) (i : ℕ) → i < 64 * length words
     → not (eqb (bit_and (get_or words (i / 64) 0) (1 * 2 ^ (i % 64) % 2 ^ 64)) 0) ≡ item (bits_of words) i
 item_tested words i l = digit_tested (get_or words (i / 64) 0) (i % 64) (omega arith) ∙ sym (item-bits_of words i l)
@@ -58,6 +80,6 @@ bits_of-cons w words =
     ∙ item-bits_of_at words (i - 64) q (i % 64) (omega arith) (omega arith) (omega arith)))
     (cases_lt i 64))
 
-pub no_bits : bits_of [] ≡ []
+pub bits_of-nil : bits_of [] ≡ []
 unfolding bits_of
-no_bits = refl
+bits_of-nil = refl

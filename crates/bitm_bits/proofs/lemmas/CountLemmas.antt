@@ -1,7 +1,8 @@
 -- Counts over one item more, over a word and over all words.
-use Rattle.std.proofs.Common.{◌≡◌, ℕ, zero, suc, ◌+◌, ◌-◌, ◌*◌, ◌%◌, ◌^◌, ◌<◌, ◌≤◌, Bool, true, false, not, List, [], ◌∷◌, length, get_or, take, sym, refl, ap, ◌∙◌, ⊎_elim, arith, count_ones, sum_by, w64, ap₂, take_all, mod-eq_of_lt, add_comm, ◌⊎◌}
-use Rattle.std.proofs.lemmas.Bool.{cases_eq}
-use Rattle.std.proofs.lemmas.List.Sums.{sum_by_more, sum_by-cons}
+use Rattle.std.proofs.Common.{◌≡◌, ℕ, zero, suc, ◌+◌, ◌-◌, ◌*◌, ◌%◌, ◌^◌, ◌<◌, ◌≤◌, Bool, true, false, not, List, [], ◌∷◌, length, get_or, take, sym, refl, ap, ◌∙◌, ⊎_elim, arith, count_ones, sum_by, w64, ap₂, take_all, drop, count_by, mod-eq_of_lt, add_comm}
+use Rattle.std.proofs.lemmas.Bool.{cases_eq, cases_lt}
+use Rattle.std.proofs.lemmas.List.Sums.{sum_by_more, sum_by-cons, sum_by-take-drop}
+use Rattle.std.proofs.lemmas.List.{drop-take, take-take, get_or-drop, get_or-take, get_or_past, length-take}
 use Rattle.std.proofs.lemmas.Nat.{mod-pow-add, ones_cat, pow_pos, ones_le_self, zero_from_ones}
 use Rattle.std.proofs.lemmas.Nat.Bits.{bit_at-lt, bit_at_not}
 use Rattle.std.specs.Int.{bit_at, bit_not, count_zeros}
@@ -59,19 +60,19 @@ count_ones_more v k =
     ∙ add_comm (bit_at v k) (count_ones (v % 2 ^ k))
 
 -- the ones before digit j of word q, from those before the word
-within_word : (words : List ℕ) (q : ℕ) → q < length words → (j : ℕ) → j ≤ 64
+pub ones_before-bits_of_in_word : (words : List ℕ) (q : ℕ) → q < length words → (j : ℕ) → j ≤ 64
     → ones_before (bits_of words) (64 * q + j) ≡ ones_before (bits_of words) (64 * q) + count_ones (get_or words q 0 % 2 ^ j)
-within_word words q within zero l =
+ones_before-bits_of_in_word words q within zero l =
     let e : 64 * q + 0 ≡ 64 * q = omega arith in
     let none : get_or words q 0 % 1 ≡ 0 = omega arith in
     ap (ones_before (bits_of words)) e ∙ omega (arith, ap count_ones none, count_ones_digit 0)
-within_word words q within (suc j) l =
+ones_before-bits_of_in_word words q within (suc j) l =
     let b = bits_of words in
     let w = get_or words q 0 in
     let next : 64 * q + suc j ≡ 64 * q + j + 1 = omega arith in
     let more : ones_before b (64 * q + j + 1) ≡ ones_before b (64 * q + j) + truth (item b (64 * q + j)) = ones_before_more b (64 * q + j) (omega (arith, length-bits_of words)) in
     let here : truth (item b (64 * q + j)) ≡ bit_at w j = ap truth (item-bits_of_at words (64 * q + j) q j refl (omega arith) within) ∙ truth-digit w j in
-    let before = within_word words q within j (omega arith) in
+    let before = ones_before-bits_of_in_word words q within j (omega arith) in
     let step : suc j ≡ j + 1 = omega arith in
     ap (ones_before b) next ∙ more
     ∙ omega (arith, here, before, count_ones_more w j, ap (λ e. count_ones (w % 2 ^ e)) step)
@@ -84,7 +85,7 @@ module _ (words : List ℕ) (fit : (k : ℕ) → get_or words k 0 < 2 ^ 64) wher
       let step : suc q ≡ q + 1 = omega arith in
       let whole : get_or words q 0 % 2 ^ 64 ≡ get_or words q 0 = mod-eq_of_lt (fit q) in
       ap (ones_before (bits_of words)) next
-      ∙ within_word words q (omega arith) 64 (omega arith)
+      ∙ ones_before-bits_of_in_word words q (omega arith) 64 (omega arith)
       ∙ ap₂ (λ a v. a + count_ones v) (ones_before-bits_of_front q (omega arith)) whole
       ∙ sym (ap (λ k. sum_by count_ones (take k words)) step ∙ sum_by_more count_ones words q 0 (omega arith))
 
@@ -92,7 +93,7 @@ module _ (words : List ℕ) (fit : (k : ℕ) → get_or words k 0 < 2 ^ 64) wher
   pub ones_before-bits_of : (q j : ℕ) → q < length words → j ≤ 64
       → ones_before (bits_of words) (64 * q + j) ≡ sum_by count_ones (take q words) + count_ones (get_or words q 0 % 2 ^ j)
   ones_before-bits_of q j within l =
-      within_word words q within j l ∙ ap (λ a. a + count_ones (get_or words q 0 % 2 ^ j)) (ones_before-bits_of_front q (omega arith))
+      ones_before-bits_of_in_word words q within j l ∙ ap (λ a. a + count_ones (get_or words q 0 % 2 ^ j)) (ones_before-bits_of_front q (omega arith))
 
   pub ones_before-bits_of_all : ones_before (bits_of words) (64 * length words) ≡ sum_by count_ones words
   ones_before-bits_of_all = ones_before-bits_of_front (length words) (omega arith) ∙ ap (sum_by count_ones) (take_all (length words) words (omega arith))
@@ -130,3 +131,61 @@ sum_of_both (w ∷ words) fit =
 pub zeros_before-bits_of_all : (words : List ℕ) → ((k : ℕ) → get_or words k 0 < 2 ^ 64) → zeros_before (bits_of words) (64 * length words) ≡ sum_by (count_zeros w64) words
 zeros_before-bits_of_all words fit =
     omega (arith, ones_before-add-zeros_before (bits_of words) (64 * length words) (omega (arith, length-bits_of words)), ones_before-bits_of_all words fit, sum_of_both words fit)
+
+-- ---- longer stretches
+
+-- past the end there are no more ones
+pub ones_before_past : (b : List Bool) (i : ℕ) → length b ≤ i → ones_before b i ≡ ones_before b (length b)
+unfolding ones_before
+ones_before_past b i l = ap (count_by (λ x. x)) (take_all i b l ∙ sym (take_all (length b) b (omega arith)))
+
+ones_before_grows : (b : List Bool) (i d : ℕ) → i + d ≤ length b → ones_before b i ≤ ones_before b (i + d)
+ones_before_grows b i zero l = let e : i + 0 ≡ i = omega arith in omega (arith, ap (ones_before b) e)
+ones_before_grows b i (suc d) l =
+    let e : i + suc d ≡ i + d + 1 = omega arith in
+    omega (arith, ones_before_grows b i d (omega arith), ones_before_more b (i + d) (omega arith), ap (ones_before b) e)
+
+-- no more ones stand before an earlier place
+pub ones_before-le : (b : List Bool) (i j : ℕ) → i ≤ j → j ≤ length b → ones_before b i ≤ ones_before b j
+ones_before-le b i j l within =
+    let e : i + (j - i) ≡ j = omega arith in
+    omega (arith, ones_before_grows b i (j - i) (omega arith), ap (ones_before b) e)
+
+-- no more ones stand before any place than there are
+pub ones_before-at_most_all : (b : List Bool) (i : ℕ) → ones_before b i ≤ ones_before b (length b)
+ones_before-at_most_all b i =
+    ⊎_elim
+    (λ inside. ones_before-le b i (length b) (omega arith) (omega arith))
+    (λ past. omega (arith, ones_before_past b i past))
+    (cases_lt i (length b))
+
+-- the words of a stretch fit, where all do
+fits_in_stretch : (words : List ℕ) (a n : ℕ) → ((k : ℕ) → get_or words k 0 < 2 ^ 64) → (k : ℕ) → get_or (take n (drop a words)) k 0 < 2 ^ 64
+fits_in_stretch words a n fit k =
+    ⊎_elim
+    (λ inside. omega (arith, get_or-take n (drop a words) k 0 inside, get_or-drop a words k 0, fit (a + k)))
+    (λ past. omega (arith, get_or_past (take n (drop a words)) k 0 (omega (arith, length-take n (drop a words)))))
+    (cases_lt k n)
+
+-- the ones of the n words from word a on
+pub ones_before-bits_of_stretch : (words : List ℕ) (a n : ℕ) → a + n ≤ length words → ((k : ℕ) → get_or words k 0 < 2 ^ 64)
+    → ones_before (bits_of words) (64 * a) + ones_before (bits_of (take n (drop a words))) (64 * length (take n (drop a words)))
+    ≡ ones_before (bits_of words) (64 * (a + n))
+ones_before-bits_of_stretch words a n within fit =
+    let both = sum_by-take-drop count_ones (take (a + n) words) a in
+    let front = ap (sum_by count_ones) (take-take a (a + n) words (omega arith)) in
+    let back = ap (sum_by count_ones) (drop-take a n words) in
+    omega (
+      arith,
+      both,
+      front,
+      back,
+      ones_before-bits_of_front words fit a (omega arith),
+      ones_before-bits_of_front words fit (a + n) within,
+      ones_before-bits_of_all (take n (drop a words)) (fits_in_stretch words a n fit),
+    )
+
+-- there are no more ones than bits (a name that an attribute can write)
+pub few_ones : (words : List ℕ) → ones_before (bits_of words) (length (bits_of words)) ≤ 64 * length words
+few_ones words =
+    omega (arith, ones_before-add-zeros_before (bits_of words) (length (bits_of words)) (omega arith), length-bits_of words)

@@ -1,9 +1,10 @@
 -- Items read as a number, and items replaced by one: what was written is what is read.
-use Rattle.std.proofs.Common.{◌≡◌, ℕ, zero, suc, ◌+◌, ◌-◌, ◌*◌, ◌/◌, ◌%◌, ◌^◌, ◌<◌, ◌≤◌, Bool, true, false, List, [], ◌∷◌, ◌++◌, length, get_or, take, drop, sym, ap, ◌∙◌, arith, length-append, length-drop, length-take, pow-suc}
+use Rattle.std.proofs.Common.{◌≢◌, ⊎_elim, subst, set, length-set, get_or-set_same, get_or-set_other, refl, ◌≡◌, ℕ, zero, suc, ◌+◌, ◌-◌, ◌*◌, ◌/◌, ◌%◌, ◌^◌, ◌<◌, ◌≤◌, Bool, true, false, List, [], ◌∷◌, ◌++◌, length, get_or, take, drop, sym, ap, ◌∙◌, arith, length-append, length-drop, length-take, pow-suc, eqb}
+use Rattle.std.proofs.lemmas.Bool.{cases_lt, cases_eq}
 use Rattle.std.proofs.lemmas.List.{get_or-drop, get_or-take, get_or_append_left, get_or-append_right}
 use Rattle.std.proofs.lemmas.Nat.Bits.{bit_at-suc, bit_at_lowest, bit_at-zero, same_from_bits_below}
 use Rattle.std.specs.Int.{bit_at}
-use Rattle.bitm_bits.proofs.lemmas.BitsLemmas.{length-low_digits, item-low_digits, length-bits_of, item-bits_of_at}
+use Rattle.bitm_bits.proofs.lemmas.BitsLemmas.{length-low_digits, item-low_digits, length-bits_of, item-bits_of_at, same_bits}
 use Rattle.bitm_bits.proofs.lemmas.WordLemmas.{truth, truth-digit}
 use Rattle.bitm_bits.specs.Bits.{digit, low_digits, bits_of, item}
 use Rattle.bitm_bits.specs.Number.{number_of_bits, number_at, with_number}
@@ -57,6 +58,23 @@ number_at_is words s n v within fits same =
     same k (i / 64) (i % 64) l (omega arith) (omega arith)
     ∙ sym (bit_at-number_at-bits_of words s n k (i / 64) (i % 64) l (omega arith) (omega arith) (omega arith)))
 
+-- one item as a number
+pub number_at-one : (b : List Bool) (i : ℕ) → i < length b → number_at b i 1 ≡ truth (item b i)
+number_at-one b i inside =
+    same_from_bits_below 1 (number_at b i 1) (truth (item b i)) (number_at-lt b i 1 (omega arith)) (small (item b i))
+    (λ k l.
+    let lowest : k ≡ 0 = omega arith in
+    let there : i + k ≡ i = omega arith in
+    bit_at-number_at b i 1 k l ∙ ap (λ j. truth (item b j)) there ∙ sym (ap (bit_at (truth (item b i))) lowest ∙ itself (item b i)))
+  where
+    small : (x : Bool) → truth x < 2 ^ 1
+    small true = omega arith
+    small false = omega arith
+
+    itself : (x : Bool) → bit_at (truth x) 0 ≡ truth x
+    itself true = bit_at_lowest 1
+    itself false = bit_at_lowest 0
+
 -- ---- writes
 
 pub length-with_number : (b : List Bool) (s n v : ℕ) → s + n ≤ length b → length (with_number b s n v) ≡ length b
@@ -97,3 +115,58 @@ pub number_at-with_number : (b : List Bool) (s n v : ℕ) → s + n ≤ length b
 number_at-with_number b s n v within fits =
     same_from_bits_below n (number_at (with_number b s n v) s n) v (number_at-lt (with_number b s n v) s n (omega (arith, length-with_number b s n v within))) fits
     (λ k l. bit_at-number_at (with_number b s n v) s n k l ∙ ap truth (item-with_number_inside b s n v k within l) ∙ truth-digit v k)
+
+-- one item put in is that item changed
+pub with_number-one : (b : List Bool) (i : ℕ) (v : Bool) → i < length b → with_number b i 1 (truth v) ≡ set b i v
+with_number-one b i v inside =
+    same_bits (with_number b i 1 (truth v)) (set b i v)
+    (length-with_number b i 1 (truth v) room ∙ sym (length-set b i v))
+    (λ j l.
+    let within : j < length b = omega (arith, length-with_number b i 1 (truth v) room) in
+    ⊎_elim
+    (λ same.
+    let P : ℕ → Type 0 = λ k. item (with_number b i 1 (truth v)) k ≡ item (set b i v) k in
+    subst P (sym same)
+    (ap (item (with_number b i 1 (truth v))) (let e : i ≡ i + 0 = omega arith in e)
+    ∙ item-with_number_inside b i 1 (truth v) 0 room (omega arith)
+    ∙ lowest v
+    ∙ sym (get_or-set_same b i v false inside)))
+    (λ apart. elsewhere j within apart ∙ sym (get_or-set_other b i j v false apart))
+    (cases_eq j i))
+  where
+    room : i + 1 ≤ length b
+    room = omega arith
+
+    lowest : (v : Bool) → digit (truth v) 0 ≡ v
+    lowest true = refl
+    lowest false = refl
+
+    elsewhere : (j : ℕ) → j < length b → j ≢ i → item (with_number b i 1 (truth v)) j ≡ item b j
+    elsewhere j l apart =
+        ⊎_elim
+        (λ before. item-with_number_below b i 1 (truth v) j room before)
+        (λ after. item-with_number_above b i 1 (truth v) j room (omega arith))
+        (cases_lt j i)
+
+-- what was read, put where it was read, changes nothing
+pub with_number-number_at : (b : List Bool) (s n : ℕ) → s + n ≤ length b → with_number b s n (number_at b s n) ≡ b
+with_number-number_at b s n within =
+    same_bits (with_number b s n v) b (length-with_number b s n v within)
+    (λ i l.
+    ⊎_elim
+    (λ before. item-with_number_below b s n v i within before)
+    (λ from. ⊎_elim
+    (λ inside.
+    let at : s + (i - s) ≡ i = omega arith in
+    let P : ℕ → Type 0 = λ k. item (with_number b s n v) k ≡ item b k in
+    subst P at (item-with_number_inside b s n v (i - s) within (omega arith) ∙ ap (λ d. eqb d 1) (bit_at-number_at b s n (i - s) (omega arith)) ∙ itself (item b (s + (i - s)))))
+    (λ past. item-with_number_above b s n v i within past)
+    (cases_lt i (s + n)))
+    (cases_lt i s))
+  where
+    v : ℕ
+    v = number_at b s n
+
+    itself : (x : Bool) → eqb (truth x) 1 ≡ x
+    itself true = refl
+    itself false = refl

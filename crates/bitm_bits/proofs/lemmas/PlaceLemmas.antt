@@ -4,7 +4,7 @@ use Rattle.std.proofs.lemmas.Bool.{false≢true}
 use Rattle.std.proofs.lemmas.List.Sums.{sum_by-cons}
 use Rattle.std.proofs.lemmas.Nat.Bits.{bit_at-lt, bit_at-zero, bit_at_not, bit_at-trailing_zeros}
 use Rattle.std.specs.Int.{bit_at, bit_not, trailing_zeros}
-use Rattle.bitm_bits.proofs.lemmas.BitsLemmas.{length-low_digits, item-low_digits, length-bits_of, same_bits, bits_of-cons, no_bits}
+use Rattle.bitm_bits.proofs.lemmas.BitsLemmas.{length-low_digits, item-low_digits, length-bits_of, same_bits, bits_of-cons, bits_of-nil}
 use Rattle.bitm_bits.proofs.lemmas.CountLemmas.{ones_before-bits_of_all}
 use Rattle.bitm_bits.proofs.lemmas.PickLemmas.{length-places}
 use Rattle.bitm_bits.proofs.lemmas.WordLemmas.{bit_at-lowest_cleared_same, bit_at-lowest_cleared_other}
@@ -75,7 +75,7 @@ no_places k =
     (λ i l. item-low_digits 64 0 i (omega (arith, length-low_digits 64 0)) ∙ ap (λ d. eqb d 1) (bit_at-zero i))
 
 pub coming_end : (v first : ℕ) → coming v first 0 [] ≡ []
-coming_end v first = ap₂ (λ a b. a ++ places (kind v) (first + 64) b) (no_places first) no_bits
+coming_end v first = ap₂ (λ a b. a ++ places (kind v) (first + 64) b) (no_places first) bits_of-nil
 
 negated : (d e : ℕ) → d < 2 → e ≡ 1 - d → eqb e 1 ≡ not (eqb d 1)
 negated zero e l is = ap (λ x. eqb x 1) is
@@ -101,7 +101,7 @@ places-cons v k w rest fits =
     ∙ ap₂ (λ l n. l ++ places (kind v) (k + n) (bits_of rest)) (places_of_word v k w fits) (length-low_digits 64 w)
 
 pub places_nil : (v k : ℕ) → places (kind v) k (bits_of []) ≡ []
-places_nil v k = ap (places (kind v) k) no_bits
+places_nil v k = ap (places (kind v) k) bits_of-nil
 
 -- where nothing is left of the current word, the next word comes
 pub coming_turn : (v first w : ℕ) (rest : List ℕ) → w < 2 ^ 64 → coming v first 0 (w ∷ rest) ≡ coming v (first + 64) (word_of v w) rest
@@ -154,7 +154,7 @@ length-places-bits_of v k words = length-places v k (bits_of words) ∙ ap (coun
 length-places_word : (k w : ℕ) → w < 2 ^ 64 → length (places true k (low_digits 64 w)) ≡ count_ones w
 length-places_word k w fits =
     let alone : bits_of (w ∷ []) ≡ low_digits 64 w =
-    bits_of-cons w [] ∙ ap (λ b. low_digits 64 w ++ b) no_bits ∙ append-nil (low_digits 64 w) in
+    bits_of-cons w [] ∙ ap (λ b. low_digits 64 w ++ b) bits_of-nil ∙ append-nil (low_digits 64 w) in
     let none : count_ones w + 0 ≡ count_ones w = omega arith in
     let one : length (places true k (bits_of (w ∷ []))) ≡ count_ones w =
     length-places-bits_of true k (w ∷ []) ∙ ones_before-bits_of_all (w ∷ []) only ∙ sum_by-cons count_ones w [] ∙ none in

@@ -153,26 +153,22 @@ bit_cleared words i inside =
     (λ j small apart. bit_at_clear_other w64 (get_or words (i / 64) 0) (i % 64) low j small apart)
 
 -- a write to one word
-pub bits_of_set_is_with_number : (words : List ℕ) (s n v y : ℕ) → IsInRange words s n → s % 64 + n ≤ 64 → v < 2 ^ n
-    → y ≡ bit_or (bit_and (get_or words (s / 64) 0) (bit_not w64 ((2 ^ n - 1) * 2 ^ (s % 64) % 2 ^ 64))) (v * 2 ^ (s % 64) % 2 ^ 64)
+pub put_in_one_word : (words : List ℕ) (s n v y : ℕ) → IsInRange words s n → s % 64 + n ≤ 64
+    → IsPutWord (get_or words (s / 64) 0) y s n v (s / 64)
     → bits_of (set words (s / 64) y) ≡ with_number (bits_of words) s n v
-bits_of_set_is_with_number words s n v y h inside fits is =
+put_in_one_word words s n v y h inside at =
     bits_of_is_with_number words (set words (s / 64) y) s n v (length-set words (s / 64) y) (omega arith)
     (λ q within. put_at_place words s n v (s / 64) y q within at (λ apart. untouched (get_or words q 0) s n v q (away q apart)))
   where
-    at : IsPutWord (get_or words (s / 64) 0) y s n v (s / 64)
-    at = let P : ℕ → Type 0 = λ z. IsPutWord (get_or words (s / 64) 0) z s n v (s / 64) in
-        subst P (sym is) (first_word (get_or words (s / 64) 0) s n v (s / 64) (s % 64) (omega arith) (omega arith) fits)
-
     away : (q : ℕ) → q ≢ s / 64 → (64 * q + 64 ≤ s) ⊎ (s + n ≤ 64 * q)
     away q apart = ⊎_elim (λ before. inl (omega arith)) (λ after. inr (omega arith)) (cases_lt q (s / 64))
 
 -- a write to two words, the second first
-pub bits_of_set_set_is_with_number : (words : List ℕ) (s n v x y : ℕ) → IsInRange words s n → 64 < s % 64 + n → n ≤ 64 → v < 2 ^ n
-    → x ≡ bit_or (bit_and (get_or words (s / 64 + 1) 0) (bit_not w64 ((2 ^ n - 1) / 2 ^ (64 - s % 64)))) (v / 2 ^ (64 - s % 64))
-    → y ≡ bit_or (bit_and (get_or words (s / 64) 0) (bit_not w64 ((2 ^ n - 1) * 2 ^ (s % 64) % 2 ^ 64))) (v * 2 ^ (s % 64) % 2 ^ 64)
+pub put_in_two_words : (words : List ℕ) (s n v x y : ℕ) → IsInRange words s n → 64 < s % 64 + n → n ≤ 64
+    → IsPutWord (get_or words (s / 64 + 1) 0) x s n v (s / 64 + 1)
+    → IsPutWord (get_or words (s / 64) 0) y s n v (s / 64)
     → bits_of (set (set words (s / 64 + 1) x) (s / 64) y) ≡ with_number (bits_of words) s n v
-bits_of_set_set_is_with_number words s n v x y h across small fits is_x is_y =
+put_in_two_words words s n v x y h across small second first =
     bits_of_is_with_number words (set (set words (p + 1) x) p y) s n v
     (length-set (set words (p + 1) x) p y ∙ length-set words (p + 1) x) (omega arith)
     (λ q within. ⊎_elim
@@ -190,24 +186,26 @@ bits_of_set_set_is_with_number words s n v x y h across small fits is_x is_y =
     p : ℕ
     p = s / 64
 
-    first : IsPutWord (get_or words p 0) y s n v p
-    first = let P : ℕ → Type 0 = λ z. IsPutWord (get_or words p 0) z s n v p in
-        subst P (sym is_y) (first_word (get_or words p 0) s n v p (s % 64) (omega arith) (omega arith) fits)
-
-    second : IsPutWord (get_or words (p + 1) 0) x s n v (p + 1)
-    second = let P : ℕ → Type 0 = λ z. IsPutWord (get_or words (p + 1) 0) z s n v (p + 1) in
-        subst P (sym is_x) (second_word (get_or words (p + 1) 0) s n v (p + 1) (64 - s % 64) (omega arith) fits small)
-
     away : (q : ℕ) → q ≢ p → q ≢ p + 1 → (64 * q + 64 ≤ s) ⊎ (s + n ≤ 64 * q)
     away q apart also = ⊎_elim (λ before. inl (omega arith)) (λ after. inr (omega arith)) (cases_lt q p)
+
+-- a write to the second word leaves the first
+pub between_left : (words between : List ℕ) (p x : ℕ) → between ≡ set words (p + 1) x → get_or between p 0 ≡ get_or words p 0
+between_left words between p x step =
+    ap (λ b. get_or b p 0) step ∙ get_or-set_other words (p + 1) p x 0 (λ e. omega arith)
 
 -- what `set_bits` leaves, with the mask and the words between its two writes as the code has them
 pub set_bits_within : (words : List ℕ) (s n v mask y : ℕ) → IsInRange words s n → s % 64 + n ≤ 64 → v < 2 ^ n → mask ≡ 2 ^ n - 1
     → y ≡ bit_or (bit_and (get_or words (s / 64) 0) (bit_not w64 (mask * 2 ^ (s % 64) % 2 ^ 64))) (v * 2 ^ (s % 64) % 2 ^ 64)
     → bits_of (set words (s / 64) y) ≡ with_number (bits_of words) s n v
 set_bits_within words s n v mask y h inside fits low is =
-    bits_of_set_is_with_number words s n v y h inside fits
-    (is ∙ ap (λ m. bit_or (bit_and (get_or words (s / 64) 0) (bit_not w64 (m * 2 ^ (s % 64) % 2 ^ 64))) (v * 2 ^ (s % 64) % 2 ^ 64)) low)
+    put_in_one_word words s n v y h inside
+    (let P : ℕ → Type 0 = λ z. IsPutWord (get_or words p 0) z s n v p in
+    let masked = ap (λ m. bit_or (bit_and (get_or words p 0) (bit_not w64 (m * 2 ^ (s % 64) % 2 ^ 64))) (v * 2 ^ (s % 64) % 2 ^ 64)) low in
+    subst P (sym (is ∙ masked)) (first_word (get_or words p 0) s n v p (s % 64) (omega arith) (omega arith) fits))
+  where
+    p : ℕ
+    p = s / 64
 
 pub set_bits_across : (words between : List ℕ) (s n v mask x y : ℕ) → IsInRange words s n → 64 < s % 64 + n → n ≤ 64 → v < 2 ^ n → mask ≡ 2 ^ n - 1
     → between ≡ set words (s / 64 + 1) x
@@ -216,12 +214,15 @@ pub set_bits_across : (words between : List ℕ) (s n v mask x y : ℕ) → IsIn
     → bits_of (set between (s / 64) y) ≡ with_number (bits_of words) s n v
 set_bits_across words between s n v mask x y h across small fits low step is_x is_y =
     ap (λ b. bits_of (set b p y)) step
-    ∙ bits_of_set_set_is_with_number words s n v x y h across small fits
-    (is_x ∙ ap (λ m. bit_or (bit_and (get_or words (p + 1) 0) (bit_not w64 (m / 2 ^ (64 - s % 64)))) (v / 2 ^ (64 - s % 64))) low)
-    (is_y
-    ∙ ap (λ b. bit_or (bit_and (get_or b p 0) (bit_not w64 (mask * 2 ^ (s % 64) % 2 ^ 64))) (v * 2 ^ (s % 64) % 2 ^ 64)) step
-    ∙ ap (λ w. bit_or (bit_and w (bit_not w64 (mask * 2 ^ (s % 64) % 2 ^ 64))) (v * 2 ^ (s % 64) % 2 ^ 64)) (get_or-set_other words (p + 1) p x 0 (λ e. omega arith))
-    ∙ ap (λ m. bit_or (bit_and (get_or words p 0) (bit_not w64 (m * 2 ^ (s % 64) % 2 ^ 64))) (v * 2 ^ (s % 64) % 2 ^ 64)) low)
+    ∙ put_in_two_words words s n v x y h across small
+    (let P : ℕ → Type 0 = λ z. IsPutWord (get_or words (p + 1) 0) z s n v (p + 1) in
+    let masked = ap (λ m. bit_or (bit_and (get_or words (p + 1) 0) (bit_not w64 (m / 2 ^ (64 - s % 64)))) (v / 2 ^ (64 - s % 64))) low in
+    subst P (sym (is_x ∙ masked)) (second_word (get_or words (p + 1) 0) s n v (p + 1) (64 - s % 64) (omega arith) fits small))
+    (let P : ℕ → Type 0 = λ z. IsPutWord (get_or words p 0) z s n v p in
+    let left = between_left words between p x step in
+    let kept = ap (λ w. bit_or (bit_and w (bit_not w64 (mask * 2 ^ (s % 64) % 2 ^ 64))) (v * 2 ^ (s % 64) % 2 ^ 64)) left in
+    let masked = ap (λ m. bit_or (bit_and (get_or words p 0) (bit_not w64 (m * 2 ^ (s % 64) % 2 ^ 64))) (v * 2 ^ (s % 64) % 2 ^ 64)) low in
+    subst P (sym (is_y ∙ kept ∙ masked)) (first_word (get_or words p 0) s n v p (s % 64) (omega arith) (omega arith) fits))
   where
     p : ℕ
     p = s / 64

@@ -1,7 +1,9 @@
-ghost use Rattle.std.specs.Prelude.{◌≡◌, ◌*◌, ◌<◌, ◌≤◌, ℕ, true, false, List, length, MatchOption, SomeIff};
+ghost use Rattle.std.specs.Prelude.{◌≡◌, ◌+◌, ◌*◌, ◌^◌, ◌<◌, ◌≤◌, ℕ, List, length, SomeIff, true, false, MatchOption};
 ghost use Rattle.bitm_bits.specs.Bits.{bits_of, item, IsShort};
 ghost use Rattle.bitm_bits.specs.Coming.{all_bits_left};
 ghost use Rattle.bitm_bits.specs.Count.{ones_before, zeros_before, places, IsFirstOneFrom, IsLastOneTo};
+ghost use Rattle.bitm_bits.specs.Number.{number_at, IsInRange, IsFragmentInRange};
+ghost use Rattle.bitm_bits.specs.Window.{reach_of};
 
 use crate::bitvec::each_bit::BitIterator;
 use crate::bitvec::places::{BitOnesIterator, BitZerosIterator};
@@ -40,6 +42,182 @@ pub trait BitAccess {
     fn try_get_bit(&self, place: usize) -> Option<bool>
         ensures { SomeIff result (place < 64 * length (words self.now))
             (item (bits_of (words self.now)) place) };
+
+    /// The bit at `place`, which moves on by one.
+    ///
+    /// # Conditions
+    /// The place is inside; there are fewer than 2^58 words.
+    fn get_successive_bit(&self, place: &mut usize) -> bool
+        requires inside { place.old < 64 * length (words self.now) }
+        requires short { IsShort (words self.now) }
+        ensures bit { result ≡ item (bits_of (words self.now)) place.old }
+        ensures advances { place.new ≡ place.old + 1 };
+
+    /// Does nothing: a caller may name a place that it reads soon, inside or not.
+    #[inline(always)]
+    fn prefetch_bit(&self, _place: usize) {}
+
+    /// The bits from `begin` to the end of the word, or 64 of them where `len` bits cross that end, as a number, lowest
+    /// first.
+    ///
+    /// # Conditions
+    /// The `len` bits from `begin` on are in range; `len` is 0 to 64.
+    fn get_bits_unmasked(&self, begin: usize, len: u8) -> u64
+        requires in_range { IsInRange (words self.now) begin len }
+        requires width { len ≤ 64 }
+        ensures { result ≡ number_at (bits_of (words self.now)) begin (reach_of begin len) };
+
+    /// What `get_bits_unmasked` reads.
+    ///
+    /// # Conditions
+    /// The `len` bits from `begin` on are in range; `len` is 0 to 64.
+    #[inline(always)]
+    fn get_bits_unmasked_unchecked(&self, begin: usize, len: u8) -> u64
+        requires in_range { IsInRange (words self.now) begin len }
+        requires width { len ≤ 64 }
+        ensures { result ≡ number_at (bits_of (words self.now)) begin (reach_of begin len) }
+    {
+        self.get_bits_unmasked(begin, len)
+    }
+
+    /// The `len` bits from `begin` on as a number, lowest first.
+    ///
+    /// # Conditions
+    /// They are in range; `len` is 0 to 63.
+    fn get_bits(&self, begin: usize, len: u8) -> u64
+        requires in_range { IsInRange (words self.now) begin len }
+        requires width { len ≤ 63 }
+        ensures value { result ≡ number_at (bits_of (words self.now)) begin len }
+        ensures bound { result < 2 ^ len };
+
+    /// The `len` bits from `begin` on as a number, as `get_bits`.
+    ///
+    /// # Conditions
+    /// They are in range; `len` is 0 to 63.
+    #[inline(always)]
+    fn get_bits_unchecked(&self, begin: usize, len: u8) -> u64
+        requires in_range { IsInRange (words self.now) begin len }
+        requires width { len ≤ 63 }
+        ensures value { result ≡ number_at (bits_of (words self.now)) begin len }
+        ensures bound { result < 2 ^ len }
+    {
+        self.get_bits(begin, len)
+    }
+
+    /// What `get_bits_unmasked` reads; `None` exactly where the `len` bits from `begin` on are not in range.
+    ///
+    /// # Conditions
+    /// `len` is 0 to 64.
+    fn try_get_bits_unmasked(&self, begin: usize, len: u8) -> Option<u64>
+        requires { len ≤ 64 }
+        ensures { SomeIff result (IsInRange (words self.now) begin len)
+            (number_at (bits_of (words self.now)) begin (reach_of begin len)) };
+
+    /// The `len` bits from `begin` on as a number, lowest first; `None` exactly where they are not in range.
+    ///
+    /// # Conditions
+    /// `len` is 0 to 63.
+    fn try_get_bits(&self, begin: usize, len: u8) -> Option<u64>
+        requires { len ≤ 63 }
+        ensures { SomeIff result (IsInRange (words self.now) begin len)
+            (number_at (bits_of (words self.now)) begin len) };
+
+    /// The `len` bits from `begin` on as a number, lowest first; `begin` moves on by `len`.
+    ///
+    /// # Conditions
+    /// They are in range; there are fewer than 2^58 words; `len` is 0 to 63.
+    fn get_successive_bits(&self, begin: &mut usize, len: u8) -> u64
+        requires in_range { IsInRange (words self.now) begin.old len }
+        requires short { IsShort (words self.now) }
+        requires width { len ≤ 63 }
+        ensures value { result ≡ number_at (bits_of (words self.now)) begin.old len }
+        ensures bound { result < 2 ^ len }
+        ensures advances { begin.new ≡ begin.old + len };
+
+    /// The bits from the begin of fragment `index` of width `s` to the end of its word, or 64 of them where the fragment
+    /// crosses that end, as a number, lowest first.
+    ///
+    /// # Conditions
+    /// The fragment is in range; `s` is 0 to 64.
+    fn get_fragment_unmasked(&self, index: usize, s: u8) -> u64
+        requires in_range { IsFragmentInRange (words self.now) index s }
+        requires width { s ≤ 64 }
+        ensures { result
+            ≡ number_at (bits_of (words self.now)) (index * s) (reach_of (index * s) s) };
+
+    /// What `get_fragment_unmasked` reads.
+    ///
+    /// # Conditions
+    /// The fragment is in range; `s` is 0 to 64.
+    #[inline(always)]
+    fn get_fragment_unmasked_unchecked(&self, index: usize, s: u8) -> u64
+        requires in_range { IsFragmentInRange (words self.now) index s }
+        requires width { s ≤ 64 }
+        ensures { result
+            ≡ number_at (bits_of (words self.now)) (index * s) (reach_of (index * s) s) }
+    {
+        self.get_fragment_unmasked(index, s)
+    }
+
+    /// Fragment `index` of width `s` as a number, lowest bit first.
+    ///
+    /// # Conditions
+    /// The fragment is in range; `s` is 0 to 63.
+    fn get_fragment(&self, index: usize, s: u8) -> u64
+        requires in_range { IsFragmentInRange (words self.now) index s }
+        requires width { s ≤ 63 }
+        ensures value { result ≡ number_at (bits_of (words self.now)) (index * s) s }
+        ensures bound { result < 2 ^ s };
+
+    /// Fragment `index` of width `s` as a number, as `get_fragment`.
+    ///
+    /// # Conditions
+    /// The fragment is in range; `s` is 0 to 63.
+    #[inline(always)]
+    fn get_fragment_unchecked(&self, index: usize, s: u8) -> u64
+        requires in_range { IsFragmentInRange (words self.now) index s }
+        requires width { s ≤ 63 }
+        ensures value { result ≡ number_at (bits_of (words self.now)) (index * s) s }
+        ensures bound { result < 2 ^ s }
+    {
+        self.get_fragment(index, s)
+    }
+
+    /// What `get_fragment_unmasked` reads; `None` exactly where the fragment is not in range, or begins past `usize::MAX`.
+    ///
+    /// # Conditions
+    /// `s` is 0 to 64.
+    fn try_get_fragment_unmasked(&self, index: usize, s: u8) -> Option<u64>
+        requires { s ≤ 64 }
+        ensures { SomeIff result (IsFragmentInRange (words self.now) index s)
+            (number_at (bits_of (words self.now)) (index * s) (reach_of (index * s) s)) };
+
+    /// Fragment `index` of width `s` as a number, lowest bit first; `None` exactly where it is not in range, or begins past
+    /// `usize::MAX`.
+    ///
+    /// # Conditions
+    /// `s` is 0 to 63.
+    fn try_get_fragment(&self, index: usize, s: u8) -> Option<u64>
+        requires { s ≤ 63 }
+        ensures { SomeIff result (IsFragmentInRange (words self.now) index s)
+            (number_at (bits_of (words self.now)) (index * s) s) };
+
+    /// Fragment `index` of width `s` as a number, lowest bit first; `index` moves on by one.
+    ///
+    /// # Conditions
+    /// The fragment is in range; there are fewer than 2^58 words; `index` is below `usize::MAX`; `s` is 0 to 63.
+    fn get_successive_fragment(&self, index: &mut usize, s: u8) -> u64
+        requires in_range { IsFragmentInRange (words self.now) index.old s }
+        requires short { IsShort (words self.now) }
+        requires room { index.old < usize.MAX }
+        requires width { s ≤ 63 }
+        ensures value { result ≡ number_at (bits_of (words self.now)) (index.old * s) s }
+        ensures bound { result < 2 ^ s }
+        ensures advances { index.new ≡ index.old + 1 };
+
+    /// Does nothing: a caller may name a fragment that it reads soon, in range or not.
+    #[inline(always)]
+    fn prefetch_fragment(&self, _index: usize, _s: u8) {}
 
     /// How many bits are ones.
     ///
@@ -157,6 +335,61 @@ impl BitAccess for &[u64] {
         words::try_get_bit(*self, place)
     }
 
+    #[inline(always)]
+    fn get_successive_bit(&self, place: &mut usize) -> bool {
+        words::get_successive_bit(*self, place)
+    }
+
+    #[inline(always)]
+    fn get_bits_unmasked(&self, begin: usize, len: u8) -> u64 {
+        words::get_bits_unmasked(*self, begin, len)
+    }
+
+    #[inline(always)]
+    fn get_bits(&self, begin: usize, len: u8) -> u64 {
+        words::get_bits(*self, begin, len)
+    }
+
+    #[inline(always)]
+    fn try_get_bits_unmasked(&self, begin: usize, len: u8) -> Option<u64> {
+        words::try_get_bits_unmasked(*self, begin, len)
+    }
+
+    #[inline(always)]
+    fn try_get_bits(&self, begin: usize, len: u8) -> Option<u64> {
+        words::try_get_bits(*self, begin, len)
+    }
+
+    #[inline(always)]
+    fn get_successive_bits(&self, begin: &mut usize, len: u8) -> u64 {
+        words::get_successive_bits(*self, begin, len)
+    }
+
+    #[inline(always)]
+    fn get_fragment_unmasked(&self, index: usize, s: u8) -> u64 {
+        words::get_fragment_unmasked(*self, index, s)
+    }
+
+    #[inline(always)]
+    fn get_fragment(&self, index: usize, s: u8) -> u64 {
+        words::get_fragment(*self, index, s)
+    }
+
+    #[inline(always)]
+    fn try_get_fragment_unmasked(&self, index: usize, s: u8) -> Option<u64> {
+        words::try_get_fragment_unmasked(*self, index, s)
+    }
+
+    #[inline(always)]
+    fn try_get_fragment(&self, index: usize, s: u8) -> Option<u64> {
+        words::try_get_fragment(*self, index, s)
+    }
+
+    #[inline(always)]
+    fn get_successive_fragment(&self, index: &mut usize, s: u8) -> u64 {
+        words::get_successive_fragment(*self, index, s)
+    }
+
     #[inline]
     fn count_bit_ones(&self) -> usize {
         words::count_bit_ones(*self)
@@ -219,6 +452,61 @@ impl BitAccess for &mut [u64] {
     #[inline(always)]
     fn try_get_bit(&self, place: usize) -> Option<bool> {
         words::try_get_bit(&**self, place)
+    }
+
+    #[inline(always)]
+    fn get_successive_bit(&self, place: &mut usize) -> bool {
+        words::get_successive_bit(&**self, place)
+    }
+
+    #[inline(always)]
+    fn get_bits_unmasked(&self, begin: usize, len: u8) -> u64 {
+        words::get_bits_unmasked(&**self, begin, len)
+    }
+
+    #[inline(always)]
+    fn get_bits(&self, begin: usize, len: u8) -> u64 {
+        words::get_bits(&**self, begin, len)
+    }
+
+    #[inline(always)]
+    fn try_get_bits_unmasked(&self, begin: usize, len: u8) -> Option<u64> {
+        words::try_get_bits_unmasked(&**self, begin, len)
+    }
+
+    #[inline(always)]
+    fn try_get_bits(&self, begin: usize, len: u8) -> Option<u64> {
+        words::try_get_bits(&**self, begin, len)
+    }
+
+    #[inline(always)]
+    fn get_successive_bits(&self, begin: &mut usize, len: u8) -> u64 {
+        words::get_successive_bits(&**self, begin, len)
+    }
+
+    #[inline(always)]
+    fn get_fragment_unmasked(&self, index: usize, s: u8) -> u64 {
+        words::get_fragment_unmasked(&**self, index, s)
+    }
+
+    #[inline(always)]
+    fn get_fragment(&self, index: usize, s: u8) -> u64 {
+        words::get_fragment(&**self, index, s)
+    }
+
+    #[inline(always)]
+    fn try_get_fragment_unmasked(&self, index: usize, s: u8) -> Option<u64> {
+        words::try_get_fragment_unmasked(&**self, index, s)
+    }
+
+    #[inline(always)]
+    fn try_get_fragment(&self, index: usize, s: u8) -> Option<u64> {
+        words::try_get_fragment(&**self, index, s)
+    }
+
+    #[inline(always)]
+    fn get_successive_fragment(&self, index: &mut usize, s: u8) -> u64 {
+        words::get_successive_fragment(&**self, index, s)
     }
 
     #[inline]

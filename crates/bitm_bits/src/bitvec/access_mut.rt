@@ -1,14 +1,27 @@
-ghost use Rattle.std.specs.Prelude.{◌≡◌, ◌*◌, ◌<◌, ℕ, length, if◌then◌else◌};
-ghost use Rattle.bitm_bits.specs.Bits.{bits_of};
-ghost use Rattle.bitm_bits.specs.Number.{with_number};
+ghost use Rattle.std.specs.Prelude.{◌≡◌, ◌+◌, ◌*◌, ◌^◌, ◌<◌, ◌≤◌, ◌⊎◌, ℕ, length, false, if◌then◌else◌, Some, MatchOption};
+ghost use Rattle.bitm_bits.specs.Bits.{bits_of, item, IsShort};
+ghost use Rattle.bitm_bits.specs.Number.{number_at, with_number, IsInRange, IsFragmentInRange};
+ghost use Rattle.bitm_bits.specs.Window.{with_flips};
 
 use crate::bitvec::access::BitAccess;
-use crate::words;
 
 /// Writes bits of the words that a value lends: of a mutable slice of `u64`.
 ///
 /// Each call leaves every bit that it does not name as it was, and the value lends the same slice afterwards. A call ending
 /// in `_unchecked` is the plain one: both have the same condition, which the checker proves at each call.
+///
+/// # What the slice's owner holds afterwards
+/// The checker knows it by the form of the call:
+///
+/// | The caller has | The calls |
+/// |---|---|
+/// | a parameter `slice: &mut [u64]` | `let mut lent = std::convert::identity(slice);`, then `lent.set_bit(3)` |
+/// | a boxed slice, a vector, an array | `let slice = owner.as_mut_slice();` and `let lent = &mut (&mut *slice,);`, then `lent.0.set_bit(3)` |
+/// | any of these | the functions of `words` on the slice, as `words::set_bit(slice, 3)` |
+/// | a `B: BitAccessMut` | the methods, where the caller's own contract says that `B.lender` and the number of words stay |
+///
+/// After a method on a local slice, as `slice.set_bit(3)`, it knows what `slice` lends as long as `slice` is used, and of the
+/// owner no more than the number of words.
 pub trait BitAccessMut: BitAccess {
     /// The name of the borrow: values with one name lend the same slice.
     ghost lender: { Self → ℕ };
@@ -90,23 +103,471 @@ pub trait BitAccessMut: BitAccess {
     {
         self.clear_bit(place);
     }
-}
 
-impl BitAccessMut for &mut [u64] {
-    ghost lender = { λ s. s.ghost_name };
+    /// Makes the bit at `place`, which is zero or already `value`, equal to `value`.
+    ///
+    /// # Conditions
+    /// The place is inside; its bit is zero or already `value`.
+    fn init_bit(&mut self, place: usize, value: bool)
+        requires inside { place < 64 * length (Self.words self.old) }
+        requires clear { (item (bits_of (Self.words self.old)) place ≡ false)
+            ⊎ (item (bits_of (Self.words self.old)) place ≡ value) }
+        ensures same { Self.lender self.new ≡ Self.lender self.old }
+        ensures len { length (Self.words self.new) ≡ length (Self.words self.old) }
+        ensures after { bits_of (Self.words self.new)
+            ≡ with_number (bits_of (Self.words self.old)) place 1 (if value then 1 else 0) };
 
+    /// Makes the bit at `place`, which is zero or already `value`, equal to `value`, as `init_bit`.
+    ///
+    /// # Conditions
+    /// The place is inside; its bit is zero or already `value`.
     #[inline(always)]
-    fn set_bit_to(&mut self, place: usize, value: bool) {
-        words::set_bit_to(&mut **self, place, value);
+    fn init_bit_unchecked(&mut self, place: usize, value: bool)
+        requires inside { place < 64 * length (Self.words self.old) }
+        requires clear { (item (bits_of (Self.words self.old)) place ≡ false)
+            ⊎ (item (bits_of (Self.words self.old)) place ≡ value) }
+        ensures same { Self.lender self.new ≡ Self.lender self.old }
+        ensures len { length (Self.words self.new) ≡ length (Self.words self.old) }
+        ensures after { bits_of (Self.words self.new)
+            ≡ with_number (bits_of (Self.words self.old)) place 1 (if value then 1 else 0) }
+    {
+        self.init_bit(place, value);
     }
 
+    /// Makes the bit at `place` equal to `value`; `place` moves on by one.
+    ///
+    /// # Conditions
+    /// The place is inside; there are fewer than 2^58 words.
+    fn set_successive_bit_to(&mut self, place: &mut usize, value: bool)
+        requires inside { place.old < 64 * length (Self.words self.old) }
+        requires short { IsShort (Self.words self.old) }
+        ensures same { Self.lender self.new ≡ Self.lender self.old }
+        ensures len { length (Self.words self.new) ≡ length (Self.words self.old) }
+        ensures after { bits_of (Self.words self.new)
+            ≡ with_number (bits_of (Self.words self.old)) place.old 1 (if value then 1 else 0) }
+        ensures advances { place.new ≡ place.old + 1 };
+
+    /// Makes the bit at `place` equal to `value`, as `set_successive_bit_to`.
+    ///
+    /// # Conditions
+    /// The place is inside; there are fewer than 2^58 words.
     #[inline(always)]
-    fn set_bit(&mut self, place: usize) {
-        words::set_bit(&mut **self, place);
+    fn set_successive_bit_to_unchecked(&mut self, place: &mut usize, value: bool)
+        requires inside { place.old < 64 * length (Self.words self.old) }
+        requires short { IsShort (Self.words self.old) }
+        ensures same { Self.lender self.new ≡ Self.lender self.old }
+        ensures len { length (Self.words self.new) ≡ length (Self.words self.old) }
+        ensures after { bits_of (Self.words self.new)
+            ≡ with_number (bits_of (Self.words self.old)) place.old 1 (if value then 1 else 0) }
+        ensures advances { place.new ≡ place.old + 1 }
+    {
+        self.set_successive_bit_to(place, value);
     }
 
+    /// Makes the bit at `place`, which is zero or already `value`, equal to `value`; `place` moves on by one.
+    ///
+    /// # Conditions
+    /// The place is inside; its bit is zero or already `value`; there are fewer than 2^58 words.
+    fn init_successive_bit(&mut self, place: &mut usize, value: bool)
+        requires inside { place.old < 64 * length (Self.words self.old) }
+        requires clear { (item (bits_of (Self.words self.old)) place.old ≡ false)
+            ⊎ (item (bits_of (Self.words self.old)) place.old ≡ value) }
+        requires short { IsShort (Self.words self.old) }
+        ensures same { Self.lender self.new ≡ Self.lender self.old }
+        ensures len { length (Self.words self.new) ≡ length (Self.words self.old) }
+        ensures after { bits_of (Self.words self.new)
+            ≡ with_number (bits_of (Self.words self.old)) place.old 1 (if value then 1 else 0) }
+        ensures advances { place.new ≡ place.old + 1 };
+
+    /// Makes the bit at `place`, which is zero or already `value`, equal to `value`, as `init_successive_bit`.
+    ///
+    /// # Conditions
+    /// The place is inside; its bit is zero or already `value`; there are fewer than 2^58 words.
     #[inline(always)]
-    fn clear_bit(&mut self, place: usize) {
-        words::clear_bit(&mut **self, place);
+    fn init_successive_bit_unchecked(&mut self, place: &mut usize, value: bool)
+        requires inside { place.old < 64 * length (Self.words self.old) }
+        requires clear { (item (bits_of (Self.words self.old)) place.old ≡ false)
+            ⊎ (item (bits_of (Self.words self.old)) place.old ≡ value) }
+        requires short { IsShort (Self.words self.old) }
+        ensures same { Self.lender self.new ≡ Self.lender self.old }
+        ensures len { length (Self.words self.new) ≡ length (Self.words self.old) }
+        ensures after { bits_of (Self.words self.new)
+            ≡ with_number (bits_of (Self.words self.old)) place.old 1 (if value then 1 else 0) }
+        ensures advances { place.new ≡ place.old + 1 }
+    {
+        self.init_successive_bit(place, value);
     }
+
+    /// Replaces the `len` bits from `begin` on by the number `v`, lowest first.
+    ///
+    /// # Conditions
+    /// They are in range; `len` is 0 to 63; `v` is below 2^`len`.
+    fn set_bits(&mut self, begin: usize, v: u64, len: u8)
+        requires in_range { IsInRange (Self.words self.old) begin len }
+        requires width { len ≤ 63 }
+        requires fits { v < 2 ^ len }
+        ensures same { Self.lender self.new ≡ Self.lender self.old }
+        ensures len { length (Self.words self.new) ≡ length (Self.words self.old) }
+        ensures after { bits_of (Self.words self.new)
+            ≡ with_number (bits_of (Self.words self.old)) begin len v };
+
+    /// Replaces the `len` bits from `begin` on by the number `v`, as `set_bits`.
+    ///
+    /// # Conditions
+    /// They are in range; `len` is 0 to 63; `v` is below 2^`len`.
+    #[inline(always)]
+    fn set_bits_unchecked(&mut self, begin: usize, v: u64, len: u8)
+        requires in_range { IsInRange (Self.words self.old) begin len }
+        requires width { len ≤ 63 }
+        requires fits { v < 2 ^ len }
+        ensures same { Self.lender self.new ≡ Self.lender self.old }
+        ensures len { length (Self.words self.new) ≡ length (Self.words self.old) }
+        ensures after { bits_of (Self.words self.new)
+            ≡ with_number (bits_of (Self.words self.old)) begin len v }
+    {
+        self.set_bits(begin, v, len);
+    }
+
+    /// Makes the `len` bits from `begin` on, which are zeros or already the number `v`, the number `v`, lowest first.
+    ///
+    /// # Conditions
+    /// They are in range, and as a number 0 or `v`; `len` is 0 to 64; `v` is below 2^`len`.
+    fn init_bits(&mut self, begin: usize, v: u64, len: u8)
+        requires in_range { IsInRange (Self.words self.old) begin len }
+        requires width { len ≤ 64 }
+        requires fits { v < 2 ^ len }
+        requires clear { (number_at (bits_of (Self.words self.old)) begin len ≡ 0)
+            ⊎ (number_at (bits_of (Self.words self.old)) begin len ≡ v) }
+        ensures same { Self.lender self.new ≡ Self.lender self.old }
+        ensures len { length (Self.words self.new) ≡ length (Self.words self.old) }
+        ensures after { bits_of (Self.words self.new)
+            ≡ with_number (bits_of (Self.words self.old)) begin len v };
+
+    /// Makes the `len` bits from `begin` on, which are zeros or already `v`, the number `v`, as `init_bits`.
+    ///
+    /// # Conditions
+    /// They are in range, and as a number 0 or `v`; `len` is 0 to 64; `v` is below 2^`len`.
+    #[inline(always)]
+    fn init_bits_unchecked(&mut self, begin: usize, v: u64, len: u8)
+        requires in_range { IsInRange (Self.words self.old) begin len }
+        requires width { len ≤ 64 }
+        requires fits { v < 2 ^ len }
+        requires clear { (number_at (bits_of (Self.words self.old)) begin len ≡ 0)
+            ⊎ (number_at (bits_of (Self.words self.old)) begin len ≡ v) }
+        ensures same { Self.lender self.new ≡ Self.lender self.old }
+        ensures len { length (Self.words self.new) ≡ length (Self.words self.old) }
+        ensures after { bits_of (Self.words self.new)
+            ≡ with_number (bits_of (Self.words self.old)) begin len v }
+    {
+        self.init_bits(begin, v, len);
+    }
+
+    /// Negates each bit from `begin` on at whose place `v` has a one, also past `len`: up to the end of the word, or 64 bits
+    /// where `len` bits cross that end.
+    ///
+    /// # Conditions
+    /// The `len` bits from `begin` on are in range; `len` is 0 to 64.
+    fn xor_bits(&mut self, begin: usize, v: u64, len: u8)
+        requires in_range { IsInRange (Self.words self.old) begin len }
+        requires width { len ≤ 64 }
+        ensures same { Self.lender self.new ≡ Self.lender self.old }
+        ensures len { length (Self.words self.new) ≡ length (Self.words self.old) }
+        ensures after { bits_of (Self.words self.new)
+            ≡ with_flips (bits_of (Self.words self.old)) begin len v };
+
+    /// Replaces the `len` bits from `begin` on by the number `v`, lowest first; `begin` moves on by `len`.
+    ///
+    /// # Conditions
+    /// They are in range; there are fewer than 2^58 words; `len` is 0 to 63; `v` is below 2^`len`.
+    fn set_successive_bits(&mut self, begin: &mut usize, v: u64, len: u8)
+        requires in_range { IsInRange (Self.words self.old) begin.old len }
+        requires short { IsShort (Self.words self.old) }
+        requires width { len ≤ 63 }
+        requires fits { v < 2 ^ len }
+        ensures same { Self.lender self.new ≡ Self.lender self.old }
+        ensures len { length (Self.words self.new) ≡ length (Self.words self.old) }
+        ensures after { bits_of (Self.words self.new)
+            ≡ with_number (bits_of (Self.words self.old)) begin.old len v }
+        ensures advances { begin.new ≡ begin.old + len };
+
+    /// Makes the `len` bits from `begin` on, which are zeros or already the number `v`, the number `v`, lowest first; `begin`
+    /// moves on by `len`.
+    ///
+    /// # Conditions
+    /// They are in range, and as a number 0 or `v`; there are fewer than 2^58 words; `len` is 0 to 64; `v` is below 2^`len`.
+    fn init_successive_bits(&mut self, begin: &mut usize, v: u64, len: u8)
+        requires in_range { IsInRange (Self.words self.old) begin.old len }
+        requires short { IsShort (Self.words self.old) }
+        requires width { len ≤ 64 }
+        requires fits { v < 2 ^ len }
+        requires clear { (number_at (bits_of (Self.words self.old)) begin.old len ≡ 0)
+            ⊎ (number_at (bits_of (Self.words self.old)) begin.old len ≡ v) }
+        ensures same { Self.lender self.new ≡ Self.lender self.old }
+        ensures len { length (Self.words self.new) ≡ length (Self.words self.old) }
+        ensures after { bits_of (Self.words self.new)
+            ≡ with_number (bits_of (Self.words self.old)) begin.old len v }
+        ensures advances { begin.new ≡ begin.old + len };
+
+    /// Negates bits from `begin` on as `xor_bits` does; `begin` moves on by `len`.
+    ///
+    /// # Conditions
+    /// The `len` bits from `begin` on are in range; there are fewer than 2^58 words; `len` is 0 to 64.
+    fn xor_successive_bits(&mut self, begin: &mut usize, v: u64, len: u8)
+        requires in_range { IsInRange (Self.words self.old) begin.old len }
+        requires short { IsShort (Self.words self.old) }
+        requires width { len ≤ 64 }
+        ensures same { Self.lender self.new ≡ Self.lender self.old }
+        ensures len { length (Self.words self.new) ≡ length (Self.words self.old) }
+        ensures after { bits_of (Self.words self.new)
+            ≡ with_flips (bits_of (Self.words self.old)) begin.old len v }
+        ensures advances { begin.new ≡ begin.old + len };
+
+    /// Replaces fragment `index` of width `s` by the number `v`, lowest bit first.
+    ///
+    /// # Conditions
+    /// The fragment is in range; `s` is 0 to 63; `v` is below 2^`s`.
+    fn set_fragment(&mut self, index: usize, v: u64, s: u8)
+        requires in_range { IsFragmentInRange (Self.words self.old) index s }
+        requires width { s ≤ 63 }
+        requires fits { v < 2 ^ s }
+        ensures same { Self.lender self.new ≡ Self.lender self.old }
+        ensures len { length (Self.words self.new) ≡ length (Self.words self.old) }
+        ensures after { bits_of (Self.words self.new)
+            ≡ with_number (bits_of (Self.words self.old)) (index * s) s v };
+
+    /// Replaces fragment `index` of width `s` by the number `v`, as `set_fragment`.
+    ///
+    /// # Conditions
+    /// The fragment is in range; `s` is 0 to 63; `v` is below 2^`s`.
+    #[inline(always)]
+    fn set_fragment_unchecked(&mut self, index: usize, v: u64, s: u8)
+        requires in_range { IsFragmentInRange (Self.words self.old) index s }
+        requires width { s ≤ 63 }
+        requires fits { v < 2 ^ s }
+        ensures same { Self.lender self.new ≡ Self.lender self.old }
+        ensures len { length (Self.words self.new) ≡ length (Self.words self.old) }
+        ensures after { bits_of (Self.words self.new)
+            ≡ with_number (bits_of (Self.words self.old)) (index * s) s v }
+    {
+        self.set_fragment(index, v, s);
+    }
+
+    /// Makes fragment `index` of width `s`, whose bits are zeros or already the number `v`, the number `v`, lowest bit first.
+    ///
+    /// # Conditions
+    /// The fragment is in range, and as a number 0 or `v`; `s` is 0 to 64; `v` is below 2^`s`.
+    fn init_fragment(&mut self, index: usize, v: u64, s: u8)
+        requires in_range { IsFragmentInRange (Self.words self.old) index s }
+        requires width { s ≤ 64 }
+        requires fits { v < 2 ^ s }
+        requires clear { (number_at (bits_of (Self.words self.old)) (index * s) s ≡ 0)
+            ⊎ (number_at (bits_of (Self.words self.old)) (index * s) s ≡ v) }
+        ensures same { Self.lender self.new ≡ Self.lender self.old }
+        ensures len { length (Self.words self.new) ≡ length (Self.words self.old) }
+        ensures after { bits_of (Self.words self.new)
+            ≡ with_number (bits_of (Self.words self.old)) (index * s) s v };
+
+    /// Makes fragment `index` of width `s`, whose bits are zeros or already `v`, the number `v`, as `init_fragment`.
+    ///
+    /// # Conditions
+    /// The fragment is in range, and as a number 0 or `v`; `s` is 0 to 64; `v` is below 2^`s`.
+    #[inline(always)]
+    fn init_fragment_unchecked(&mut self, index: usize, v: u64, s: u8)
+        requires in_range { IsFragmentInRange (Self.words self.old) index s }
+        requires width { s ≤ 64 }
+        requires fits { v < 2 ^ s }
+        requires clear { (number_at (bits_of (Self.words self.old)) (index * s) s ≡ 0)
+            ⊎ (number_at (bits_of (Self.words self.old)) (index * s) s ≡ v) }
+        ensures same { Self.lender self.new ≡ Self.lender self.old }
+        ensures len { length (Self.words self.new) ≡ length (Self.words self.old) }
+        ensures after { bits_of (Self.words self.new)
+            ≡ with_number (bits_of (Self.words self.old)) (index * s) s v }
+    {
+        self.init_fragment(index, v, s);
+    }
+
+    /// Negates each bit from the begin of fragment `index` on at whose place `v` has a one, also past the fragment: up to the
+    /// end of the word, or 64 bits where the fragment crosses that end.
+    ///
+    /// # Conditions
+    /// The fragment is in range; `s` is 0 to 64.
+    fn xor_fragment(&mut self, index: usize, v: u64, s: u8)
+        requires in_range { IsFragmentInRange (Self.words self.old) index s }
+        requires width { s ≤ 64 }
+        ensures same { Self.lender self.new ≡ Self.lender self.old }
+        ensures len { length (Self.words self.new) ≡ length (Self.words self.old) }
+        ensures after { bits_of (Self.words self.new)
+            ≡ with_flips (bits_of (Self.words self.old)) (index * s) s v };
+
+    /// Replaces fragment `index` of width `s` by the number `v`, lowest bit first; `index` moves on by one.
+    ///
+    /// # Conditions
+    /// The fragment is in range; there are fewer than 2^58 words; `index` is below `usize::MAX`; `s` is 0 to 63; `v` is below
+    /// 2^`s`.
+    fn set_successive_fragment(&mut self, index: &mut usize, v: u64, s: u8)
+        requires in_range { IsFragmentInRange (Self.words self.old) index.old s }
+        requires short { IsShort (Self.words self.old) }
+        requires room { index.old < usize.MAX }
+        requires width { s ≤ 63 }
+        requires fits { v < 2 ^ s }
+        ensures same { Self.lender self.new ≡ Self.lender self.old }
+        ensures len { length (Self.words self.new) ≡ length (Self.words self.old) }
+        ensures after { bits_of (Self.words self.new)
+            ≡ with_number (bits_of (Self.words self.old)) (index.old * s) s v }
+        ensures advances { index.new ≡ index.old + 1 };
+
+    /// Makes fragment `index` of width `s`, whose bits are zeros or already the number `v`, the number `v`, lowest bit first;
+    /// `index` moves on by one.
+    ///
+    /// # Conditions
+    /// The fragment is in range, and as a number 0 or `v`; there are fewer than 2^58 words; `index` is below `usize::MAX`; `s`
+    /// is 0 to 64; `v` is below 2^`s`.
+    fn init_successive_fragment(&mut self, index: &mut usize, v: u64, s: u8)
+        requires in_range { IsFragmentInRange (Self.words self.old) index.old s }
+        requires short { IsShort (Self.words self.old) }
+        requires room { index.old < usize.MAX }
+        requires width { s ≤ 64 }
+        requires fits { v < 2 ^ s }
+        requires clear { (number_at (bits_of (Self.words self.old)) (index.old * s) s ≡ 0)
+            ⊎ (number_at (bits_of (Self.words self.old)) (index.old * s) s ≡ v) }
+        ensures same { Self.lender self.new ≡ Self.lender self.old }
+        ensures len { length (Self.words self.new) ≡ length (Self.words self.old) }
+        ensures after { bits_of (Self.words self.new)
+            ≡ with_number (bits_of (Self.words self.old)) (index.old * s) s v }
+        ensures advances { index.new ≡ index.old + 1 };
+
+    /// Negates bits from the begin of fragment `index` on as `xor_fragment` does; `index` moves on by one.
+    ///
+    /// # Conditions
+    /// The fragment is in range; there are fewer than 2^58 words; `index` is below `usize::MAX`; `s` is 0 to 64.
+    fn xor_successive_fragment(&mut self, index: &mut usize, v: u64, s: u8)
+        requires in_range { IsFragmentInRange (Self.words self.old) index.old s }
+        requires short { IsShort (Self.words self.old) }
+        requires room { index.old < usize.MAX }
+        requires width { s ≤ 64 }
+        ensures same { Self.lender self.new ≡ Self.lender self.old }
+        ensures len { length (Self.words self.new) ≡ length (Self.words self.old) }
+        ensures after { bits_of (Self.words self.new)
+            ≡ with_flips (bits_of (Self.words self.old)) (index.old * s) s v }
+        ensures advances { index.new ≡ index.old + 1 };
+
+    /// Makes fragments `i` and `j` of width `s` change places; nothing changes where `i` is `j`.
+    ///
+    /// # Conditions
+    /// Both fragments are in range; `s` is 0 to 63.
+    fn swap_fragments(&mut self, i: usize, j: usize, s: u8)
+        requires first { IsFragmentInRange (Self.words self.old) i s }
+        requires second { IsFragmentInRange (Self.words self.old) j s }
+        requires width { s ≤ 63 }
+        ensures same { Self.lender self.new ≡ Self.lender self.old }
+        ensures len { length (Self.words self.new) ≡ length (Self.words self.old) }
+        ensures swapped { bits_of (Self.words self.new)
+            ≡ with_number (with_number (bits_of (Self.words self.old)) (i * s) s
+            (number_at (bits_of (Self.words self.old)) (j * s) s)) (j * s) s
+            (number_at (bits_of (Self.words self.old)) (i * s) s) }
+        ensures kept { i ≡ j → Self.words self.new ≡ Self.words self.old };
+
+    /// The `s` bits from `begin` on as a number, lowest first, as they were: `new_value`, called once on that number, answers
+    /// what replaces them, or `None` where they stay.
+    ///
+    /// # Conditions
+    /// The bits are in range; `s` is 0 to 63; the closure may be called on their number, and what it may answer is below
+    /// 2^`s`.
+    fn conditionally_change_bits<F: FnOnce(u64) -> Option<u64>>(
+        &mut self,
+        new_value: F,
+        begin: usize,
+        s: u8,
+    ) -> u64
+        requires in_range { IsInRange (Self.words self.old) begin s }
+        requires width { s ≤ 63 }
+        requires callable { F.pre new_value (number_at (bits_of (Self.words self.old)) begin s) }
+        requires fits { (v : ℕ)
+            → F.post new_value (number_at (bits_of (Self.words self.old)) begin s) (Some v) → v < 2 ^ s }
+        ensures same { Self.lender self.new ≡ Self.lender self.old }
+        ensures len { length (Self.words self.new) ≡ length (Self.words self.old) }
+        ensures old { result ≡ number_at (bits_of (Self.words self.old)) begin s }
+        ensures after { (answer : _) × F.post new_value result answer
+            × MatchOption answer (Self.words self.new ≡ Self.words self.old)
+            (λ v. bits_of (Self.words self.new)
+            ≡ with_number (bits_of (Self.words self.old)) begin s v) };
+
+    /// Fragment `index` of width `s` as a number, lowest bit first, as it was: `new_value`, called once on that number,
+    /// answers what replaces it, or `None` where it stays.
+    ///
+    /// # Conditions
+    /// The fragment is in range; `s` is 0 to 63; the closure may be called on its number, and what it may answer is below
+    /// 2^`s`.
+    fn conditionally_change_fragment<F: FnOnce(u64) -> Option<u64>>(
+        &mut self,
+        new_value: F,
+        index: usize,
+        s: u8,
+    ) -> u64
+        requires in_range { IsFragmentInRange (Self.words self.old) index s }
+        requires width { s ≤ 63 }
+        requires callable { F.pre new_value (number_at (bits_of (Self.words self.old)) (index * s) s) }
+        requires fits { (v : ℕ)
+            → F.post new_value (number_at (bits_of (Self.words self.old)) (index * s) s) (Some v) → v < 2 ^ s }
+        ensures same { Self.lender self.new ≡ Self.lender self.old }
+        ensures len { length (Self.words self.new) ≡ length (Self.words self.old) }
+        ensures old { result ≡ number_at (bits_of (Self.words self.old)) (index * s) s }
+        ensures after { (answer : _) × F.post new_value result answer
+            × MatchOption answer (Self.words self.new ≡ Self.words self.old)
+            (λ v. bits_of (Self.words self.new)
+            ≡ with_number (bits_of (Self.words self.old)) (index * s) s v) };
+
+    /// Replaces the `s` bits from `begin` on by those of `src` at the same place, where `predicate`, called once on the two
+    /// numbers, the old one first, answers true.
+    ///
+    /// # Conditions
+    /// The bits are in range in both; `s` is 0 to 63; the closure may be called on the two numbers.
+    fn conditionally_copy_bits<F: FnOnce(u64, u64) -> bool>(
+        &mut self,
+        src: &[u64],
+        predicate: F,
+        begin: usize,
+        s: u8,
+    )
+        requires in_range { IsInRange (Self.words self.old) begin s }
+        requires in_source { IsInRange src.now begin s }
+        requires width { s ≤ 63 }
+        requires callable { F.pre predicate (number_at (bits_of (Self.words self.old)) begin s)
+            (number_at (bits_of src.now) begin s) }
+        ensures same { Self.lender self.new ≡ Self.lender self.old }
+        ensures len { length (Self.words self.new) ≡ length (Self.words self.old) }
+        ensures after { (taken : _) × F.post predicate (number_at (bits_of (Self.words self.old)) begin s)
+            (number_at (bits_of src.now) begin s) taken
+            × (bits_of (Self.words self.new)
+            ≡ (if taken
+            then with_number (bits_of (Self.words self.old)) begin s
+            (number_at (bits_of src.now) begin s)
+            else bits_of (Self.words self.old))) };
+
+    /// Replaces fragment `index` of width `s` by that of `src`, where `predicate`, called once on the two numbers, the old
+    /// one first, answers true.
+    ///
+    /// # Conditions
+    /// The fragment is in range in both; `s` is 0 to 63; the closure may be called on the two numbers.
+    fn conditionally_copy_fragment<F: FnOnce(u64, u64) -> bool>(
+        &mut self,
+        src: &[u64],
+        predicate: F,
+        index: usize,
+        s: u8,
+    )
+        requires in_range { IsFragmentInRange (Self.words self.old) index s }
+        requires in_source { IsFragmentInRange src.now index s }
+        requires width { s ≤ 63 }
+        requires callable { F.pre predicate (number_at (bits_of (Self.words self.old)) (index * s) s)
+            (number_at (bits_of src.now) (index * s) s) }
+        ensures same { Self.lender self.new ≡ Self.lender self.old }
+        ensures len { length (Self.words self.new) ≡ length (Self.words self.old) }
+        ensures after { (taken : _) × F.post predicate (number_at (bits_of (Self.words self.old)) (index * s) s)
+            (number_at (bits_of src.now) (index * s) s) taken
+            × (bits_of (Self.words self.new)
+            ≡ (if taken
+            then with_number (bits_of (Self.words self.old)) (index * s) s
+            (number_at (bits_of src.now) (index * s) s)
+            else bits_of (Self.words self.old))) };
 }

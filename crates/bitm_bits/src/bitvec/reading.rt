@@ -1,6 +1,10 @@
 //! Reads of bits of words.
-ghost use Rattle.std.specs.Prelude.{◌≡◌, ◌*◌, ◌<◌, length, SomeIff};
+ghost use Rattle.std.specs.Prelude.{◌≡◌, ◌*◌, ◌^◌, ◌<◌, ◌≤◌, length, SomeIff};
 ghost use Rattle.bitm_bits.specs.Bits.{bits_of, item};
+ghost use Rattle.bitm_bits.specs.Number.{number_at, IsInRange};
+ghost use Rattle.bitm_bits.specs.Window.{reach_of};
+
+use crate::masks::n_lowest_bits;
 
 /// The bit at `place`.
 ///
@@ -24,4 +28,74 @@ pub fn try_get_bit(words: &[u64], place: usize) -> Option<bool>
     } else {
         None
     }
+}
+
+/// The bits from `begin` to the end of the word, or 64 of them where `len` bits cross that end, as a number, lowest first.
+///
+/// # Conditions
+/// The `len` bits from `begin` on are in range; `len` is 0 to 64.
+#[inline(always)]
+pub fn get_bits_unmasked(words: &[u64], begin: usize, len: u8) -> u64
+    requires in_range { IsInRange words.now begin len }
+    requires width { len ≤ 64 }
+    ensures { result ≡ number_at (bits_of words.now) begin (reach_of begin len) }
+{
+    let (segment, offset) = (begin / 64, (begin % 64) as u8);
+    let low = words[segment] >> offset;
+    if offset + len > 64 {
+        low | (words[segment + 1] << (64 - offset))
+    } else {
+        low
+    }
+}
+
+/// The `len` bits from `begin` on as a number, lowest first.
+///
+/// # Conditions
+/// They are in range; `len` is 0 to 63.
+#[inline(always)]
+pub fn get_bits(words: &[u64], begin: usize, len: u8) -> u64
+    requires in_range { IsInRange words.now begin len }
+    requires width { len ≤ 63 }
+    ensures value { result ≡ number_at (bits_of words.now) begin len }
+    ensures bound { result < 2 ^ len }
+{
+    get_bits_unmasked(words, begin, len) & n_lowest_bits(len)
+}
+
+/// What `get_bits_unmasked` reads; `None` exactly where the `len` bits from `begin` on are not in range.
+///
+/// # Conditions
+/// `len` is 0 to 64.
+#[inline(always)]
+pub fn try_get_bits_unmasked(words: &[u64], begin: usize, len: u8) -> Option<u64>
+    requires { len ≤ 64 }
+    ensures { SomeIff result (IsInRange words.now begin len)
+        (number_at (bits_of words.now) begin (reach_of begin len)) }
+{
+    let (segment, offset) = (begin / 64, (begin % 64) as u8);
+    let last = if offset + len > 64 {
+        segment + 1
+    } else {
+        segment
+    };
+    if last < words.len() {
+        Some(get_bits_unmasked(words, begin, len))
+    } else {
+        None
+    }
+}
+
+/// The `len` bits from `begin` on as a number, lowest first; `None` exactly where they are not in range.
+///
+/// # Conditions
+/// `len` is 0 to 63.
+#[inline(always)]
+pub fn try_get_bits(words: &[u64], begin: usize, len: u8) -> Option<u64>
+    requires { len ≤ 63 }
+    ensures { SomeIff result (IsInRange words.now begin len)
+        (number_at (bits_of words.now) begin len) }
+{
+    let wide = try_get_bits_unmasked(words, begin, len)?;
+    Some(wide & n_lowest_bits(len))
 }

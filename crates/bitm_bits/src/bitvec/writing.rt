@@ -1,8 +1,11 @@
 //! Writes of bits of words: all bits that a call does not name stay.
-ghost use Rattle.std.specs.Prelude.{◌≡◌, ◌*◌, ◌<◌, length, bit_and, bit_or, if◌then◌else◌};
+ghost use Rattle.std.specs.Prelude.{◌≡◌, ◌*◌, ◌^◌, ◌<◌, ◌≤◌, ◌⊎◌, length, bit_and, bit_or, false, if◌then◌else◌};
 ghost use Rattle.std.specs.Int.{bit_not, w64};
-ghost use Rattle.bitm_bits.specs.Bits.{bits_of};
-ghost use Rattle.bitm_bits.specs.Number.{with_number};
+ghost use Rattle.bitm_bits.specs.Bits.{bits_of, item};
+ghost use Rattle.bitm_bits.specs.Number.{number_at, with_number, IsInRange};
+ghost use Rattle.bitm_bits.specs.Window.{with_flips};
+
+use crate::masks::n_lowest_bits;
 
 /// Replaces the bits of `mask` by those of `value`.
 #[inline(always)]
@@ -52,4 +55,76 @@ pub fn clear_bit(words: &mut [u64], place: usize)
     ensures { bits_of words.new ≡ with_number (bits_of words.old) place 1 0 }
 {
     words[place / 64] &= !(1u64 << (place % 64));
+}
+
+/// Makes the bit at `place`, which is zero or already `value`, equal to `value`.
+///
+/// # Conditions
+/// The place is inside; its bit is zero or already `value`.
+#[inline(always)]
+pub fn init_bit(words: &mut [u64], place: usize, value: bool)
+    requires inside { place < 64 * length words.old }
+    requires clear { (item (bits_of words.old) place ≡ false)
+        ⊎ (item (bits_of words.old) place ≡ value) }
+    ensures { bits_of words.new ≡ with_number (bits_of words.old) place 1 (if value then 1 else 0) }
+{
+    words[place / 64] |= (value as u64) << (place % 64);
+}
+
+/// Replaces the `len` bits from `begin` on by the number `v`, lowest first.
+///
+/// # Conditions
+/// They are in range; `len` is 0 to 63; `v` is below 2^`len`.
+#[inline(always)]
+pub fn set_bits(words: &mut [u64], begin: usize, v: u64, len: u8)
+    requires in_range { IsInRange words.old begin len }
+    requires width { len ≤ 63 }
+    requires fits { v < 2 ^ len }
+    ensures { bits_of words.new ≡ with_number (bits_of words.old) begin len v }
+{
+    let (segment, offset) = (begin / 64, (begin % 64) as u8);
+    let mask = n_lowest_bits(len);
+    if offset + len > 64 {
+        let shift = 64 - offset;
+        set_bits_to(&mut words[segment + 1], v >> shift, mask >> shift);
+    }
+    set_bits_to(&mut words[segment], v << offset, mask << offset);
+}
+
+/// Makes the `len` bits from `begin` on, which are zeros or already the number `v`, the number `v`, lowest first.
+///
+/// # Conditions
+/// They are in range, and as a number 0 or `v`; `len` is 0 to 64; `v` is below 2^`len`.
+#[inline(always)]
+pub fn init_bits(words: &mut [u64], begin: usize, v: u64, len: u8)
+    requires in_range { IsInRange words.old begin len }
+    requires width { len ≤ 64 }
+    requires fits { v < 2 ^ len }
+    requires clear { (number_at (bits_of words.old) begin len ≡ 0)
+        ⊎ (number_at (bits_of words.old) begin len ≡ v) }
+    ensures { bits_of words.new ≡ with_number (bits_of words.old) begin len v }
+{
+    let (segment, offset) = (begin / 64, (begin % 64) as u8);
+    if offset + len > 64 {
+        words[segment + 1] |= v >> (64 - offset);
+    }
+    words[segment] |= v << offset;
+}
+
+/// Negates each bit from `begin` on at whose place `v` has a one, also past `len`: up to the end of the word, or 64 bits
+/// where `len` bits cross that end.
+///
+/// # Conditions
+/// The `len` bits from `begin` on are in range; `len` is 0 to 64.
+#[inline(always)]
+pub fn xor_bits(words: &mut [u64], begin: usize, v: u64, len: u8)
+    requires in_range { IsInRange words.old begin len }
+    requires width { len ≤ 64 }
+    ensures { bits_of words.new ≡ with_flips (bits_of words.old) begin len v }
+{
+    let (segment, offset) = (begin / 64, (begin % 64) as u8);
+    if offset + len > 64 {
+        words[segment + 1] ^= v >> (64 - offset);
+    }
+    words[segment] ^= v << offset;
 }

@@ -1,0 +1,7 @@
+check:
+	rt all check
+test:
+	scripts/test
+ci:
+	.ci/run
+.PHONY: check test ci

@@ -1,0 +1,9 @@
+-- The table of a simple rank.
+use Rattle.std.specs.Prelude.{ℕ, ◌*◌, Bool, List, length, map}
+use Rattle.std.specs.Int.{div_ceil}
+use Rattle.std.specs.List.{range_with_len}
+use Rattle.bitm_bits.specs.Count.{ones_before}
+
+-- how many ones stand before each begun run of 512 bits
+unfoldable pub simple_table_of : List Bool → List ℕ
+simple_table_of b = map (λ k. ones_before b (512 * k)) (range_with_len 0 (div_ceil (length b) 512))

@@ -1,0 +1,18 @@
+//! Rank and select over slices of `u64`, and the bits and fragments of `bitm_bits` under the same names.
+//!
+//! Contracts see a content as the list of its bits, and rank as plain counting in that list.
+//!
+//! ```
+//! let (index, ones) = RankSimple::build(alloc, [0b1101u64].as_slice())?;
+//! prove!(index.try_rank(2) == Some(1));
+//! ```
+#![tactic(auto)]
+
+mod rank;
+
+pub use bitm_bits::{
+    BitAccess, BitAccessMut, ceiling_div, n_lowest_bits, n_lowest_bits_0_64, n_lowest_bits_1_64,
+    words,
+};
+pub use rank::Rank;
+pub use rank::simple::{ArrayWithRankSimple, RankSimple};

@@ -1,0 +1,81 @@
+//! How many bits of a kind stand before a place.
+ghost use Rattle.std.specs.Prelude.{◌≡◌, ◌<◌, List, Bool, length};
+ghost use Rattle.bitm_bits.specs.Count.{ones_before, zeros_before, IsRank, IsRank0};
+
+pub mod simple;
+
+/// Answers how many ones, and how many zeros, stand before a place of a value's bits.
+pub trait Rank {
+    /// The bits of the value.
+    ghost bits: { Self → List Bool };
+
+    /// How many ones stand before place `index`; `None` exactly where that place is outside.
+    fn try_rank(&self, index: usize) -> Option<usize>
+        ensures { IsRank (bits self.now) index result };
+
+    /// How many ones stand before place `index`.
+    ///
+    /// # Conditions
+    /// The place is inside.
+    #[inline(always)]
+    fn rank(&self, index: usize) -> usize
+        requires { index < length (bits self.now) }
+        ensures { result ≡ ones_before (bits self.now) index }
+    {
+        match self.try_rank(index) {
+            Some(count) => count,
+            None => unreachable!(),
+        }
+    }
+
+    /// How many ones stand before place `index`, as `rank`.
+    ///
+    /// # Conditions
+    /// The place is inside.
+    #[inline(always)]
+    fn rank_unchecked(&self, index: usize) -> usize
+        requires { index < length (bits self.now) }
+        ensures { result ≡ ones_before (bits self.now) index }
+    {
+        self.rank(index)
+    }
+
+    /// How many zeros stand before place `index`; `None` exactly where that place is outside.
+    #[inline(always)]
+    fn try_rank0(&self, index: usize) -> Option<usize>
+        ensures { IsRank0 (bits self.now) index result }
+    {
+        match self.try_rank(index) {
+            Some(count) => Some(index - count),
+            None => None,
+        }
+    }
+
+    /// How many zeros stand before place `index`.
+    ///
+    /// # Conditions
+    /// The place is inside.
+    #[inline(always)]
+    fn rank0(&self, index: usize) -> usize
+        requires { index < length (bits self.now) }
+        ensures { result ≡ zeros_before (bits self.now) index }
+    {
+        index - self.rank(index)
+    }
+
+    /// How many zeros stand before place `index`, as `rank0`.
+    ///
+    /// # Conditions
+    /// The place is inside.
+    #[inline(always)]
+    fn rank0_unchecked(&self, index: usize) -> usize
+        requires { index < length (bits self.now) }
+        ensures { result ≡ zeros_before (bits self.now) index }
+    {
+        self.rank0(index)
+    }
+
+    /// Does nothing: it stands for a hint to load what `rank` of `index` reads.
+    #[inline(always)]
+    fn prefetch(&self, _index: usize) {}
+}

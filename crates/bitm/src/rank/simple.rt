@@ -1,0 +1,165 @@
+//! Rank by one number for each begun run of eight words.
+ghost use Rattle.std.specs.Prelude.{◌≡◌, ◌<◌, ◌≤◌, ◌+◌, ◌*◌, ◌/◌, ◌^◌, List, ℕ, length, slice_index, IfOk, IfErr, ◌-◌};
+ghost use Rattle.std.specs.Box.{boxed_slice_items};
+ghost use Rattle.bitm_bits.specs.Bits.{bits_of, IsShort};
+ghost use Rattle.bitm_bits.specs.Count.{ones_before, IsRank};
+ghost use Rattle.bitm.specs.Simple.{simple_table_of};
+
+use crate::rank::Rank;
+use bitm_bits::{n_lowest_bits, words};
+use std::alloc::{AllocError, Global};
+use std::boxed::BoxedSlice;
+use std::convert::AsSlice;
+use std::marker::Model;
+
+/// Words of one run: the ones before its first bit are kept.
+const WORDS_PER_RUN: usize = 8;
+
+/// Bits of one run.
+const BITS_PER_RUN: usize = 512;
+
+/// A content that lends words, with the number of ones before each begun run of eight words: 32 bits for each 512.
+///
+/// A contract sees it as the content that it was built over.
+#[derive(Drop)]
+pub struct RankSimple<BV: AsSlice<u64>> {
+    content: BV,
+    ranks: BoxedSlice<u32, Global>,
+}
+
+/// A simple rank over words that it owns.
+pub type ArrayWithRankSimple = RankSimple<BoxedSlice<u64, Global>>;
+
+impl<BV: AsSlice<u64>> Model for RankSimple<BV> {
+    ghost use Rattle.std.specs.Prelude.{◌≡◌, ◌<◌, ◌^◌, length};
+    ghost use Rattle.std.specs.Box.{boxed_slice_items};
+    ghost use Rattle.bitm_bits.specs.Bits.{bits_of, IsShort};
+    ghost use Rattle.bitm_bits.specs.Count.{ones_before};
+    ghost use Rattle.bitm.specs.Simple.{simple_table_of};
+
+    ghost Value = { BV };
+
+    ghost view = { λ s. s.content };
+
+    ghost invariant = { λ s. IsShort (BV.items s.content)
+        × (ones_before (bits_of (BV.items s.content)) (length (bits_of (BV.items s.content))) < 2 ^ 32)
+        × (boxed_slice_items s.ranks ≡ simple_table_of (bits_of (BV.items s.content))) };
+}
+
+/// The table of the words, and the number of ones.
+fn make(alloc: Global, words: &[u64]) -> Result<(BoxedSlice<u32, Global>, u32), AllocError>
+    requires short { IsShort words.now }
+    requires few { ones_before (bits_of words.now) (length (bits_of words.now)) < 2 ^ 32 }
+    ensures table { IfOk result
+        (λ made. boxed_slice_items made.0 ≡ simple_table_of (bits_of words.now)) }
+    ensures total { IfOk result
+        (λ made. made.1 ≡ ones_before (bits_of words.now) (length (bits_of words.now))) }
+{
+    let runs = words.len().div_ceil(WORDS_PER_RUN);
+    let mut ranks = Vec::with_capacity(alloc, runs)?;
+    let mut total = 0u32;
+    for run in 0..runs {
+        ranks.push(total)?;
+        total += ones_of_run(words, run);
+    }
+    Ok((ranks.into_boxed_slice(), total))
+}
+
+/// How many ones a run has.
+#[inline(always)]
+fn ones_of_run(words: &[u64], run: usize) -> u32
+    requires short { IsShort words.now }
+    requires few { ones_before (bits_of words.now) (length (bits_of words.now)) < 2 ^ 32 }
+    requires begun { 8 * run < length words.now }
+    ensures { ones_before (bits_of words.now) (512 * run) + result
+        ≡ ones_before (bits_of words.now) (512 * (run + 1)) }
+{
+    let first = run * WORDS_PER_RUN;
+    let end = words.len().min(first + WORDS_PER_RUN);
+    words::count_bit_ones(&words[first..end]) as u32
+}
+
+/// How many ones stand before place `index`, where `before` stand before its run.
+#[inline(always)]
+fn rank_from(words: &[u64], before: u32, index: usize) -> u32
+    requires inside { index < 64 * length words.now }
+    requires short { IsShort words.now }
+    requires few { ones_before (bits_of words.now) (length (bits_of words.now)) < 2 ^ 32 }
+    requires before { before ≡ ones_before (bits_of words.now) (512 * (index / 512)) }
+    ensures { result ≡ ones_before (bits_of words.now) index }
+{
+    let first = index / BITS_PER_RUN * WORDS_PER_RUN;
+    let word = index / 64;
+    let whole = words::count_bit_ones(&words[first..word]) as u32;
+    let part = (words[word] & n_lowest_bits((index % 64) as u8)).count_ones();
+    before + whole + part
+}
+
+impl<BV: AsSlice<u64>> RankSimple<BV> {
+    /// A simple rank over the content, and the number of ones.
+    ///
+    /// # Conditions
+    /// The content has fewer than 2^58 words and fewer than 2^32 ones (`count_bit_ones` tells).
+    /// # Errors
+    /// The content itself, where no memory was found for the table; nothing else is left.
+    pub fn build(alloc: Global, content: BV) -> Result<(Self, u32), BV>
+        requires short { IsShort (BV.items content) }
+        requires few { ones_before (bits_of (BV.items content))
+            (length (bits_of (BV.items content))) < 2 ^ 32 }
+        ensures kept { IfOk result (λ made. made.0 ≡ content) }
+        ensures total { IfOk result (λ made. made.1
+            ≡ ones_before (bits_of (BV.items content)) (length (bits_of (BV.items content)))) }
+        ensures content_back { IfErr result (λ back. back ≡ content) }
+    {
+        match make(alloc, content.as_slice()) {
+            Ok((ranks, total)) => Ok((RankSimple { content, ranks }, total)),
+            Err(AllocError) => Err(content),
+        }
+    }
+
+    /// How many ones stand before place `index`; `None` exactly where that place is outside.
+    #[inline(always)]
+    pub fn try_rank(&self, index: usize) -> Option<u32>
+        ensures { IsRank (bits_of (BV.items self.now)) index result }
+    {
+        if index / 64 < self.content.as_slice().len() {
+            Some(self.rank(index))
+        } else {
+            None
+        }
+    }
+
+    /// How many ones stand before place `index`.
+    ///
+    /// # Conditions
+    /// The place is inside.
+    #[inline(always)]
+    pub fn rank(&self, index: usize) -> u32
+        requires { index < length (bits_of (BV.items self.now)) }
+        ensures { result ≡ ones_before (bits_of (BV.items self.now)) index }
+    {
+        let before = self.ranks.as_slice()[index / BITS_PER_RUN];
+        rank_from(self.content.as_slice(), before, index)
+    }
+}
+
+impl<BV: AsSlice<u64>> Rank for RankSimple<BV> {
+    ghost bits = { λ s. bits_of (BV.items s) };
+
+    #[inline(always)]
+    fn try_rank(&self, index: usize) -> Option<usize> {
+        match RankSimple::<BV>::try_rank(self, index) {
+            Some(count) => Some(count as usize),
+            None => None,
+        }
+    }
+}
+
+impl<BV: AsSlice<u64>> AsSlice<u64> for RankSimple<BV> {
+    ghost items = { λ s. BV.items s };
+
+    #[inline(always)]
+    fn as_slice(&self) -> &[u64] {
+        self.content.as_slice()
+    }
+}

@@ -1,0 +1,5 @@
+//! Tests that cross crates: values from outside, and users of the traits.
+#![tactic(auto)]
+
+#[cfg(test)]
+mod simple;

@@ -1,0 +1,3 @@
+pub mod NumeralLemmas
+pub mod PartLemmas
+pub mod SessionLemmas

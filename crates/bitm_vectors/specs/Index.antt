@@ -1,0 +1,14 @@
+-- What an index is built over, and its kind.
+use Rattle.std.specs.Prelude.{ℕ, List}
+use Rattle.std.specs.Box.{boxed_slice_items}
+use Rattle.bitm_vectors.specs.declared.command.Kind.{Kind}
+use Rattle.bitm_vectors.specs.declared.command.Kind.TheVariants as kind
+use Rattle.bitm_vectors.specs.declared.index.Index.{Index}
+use Rattle.bitm_vectors.specs.declared.index.Index.TheVariants.{Simple}
+
+-- the words that it is built over
+abbrev pub indexed : Index → List ℕ
+indexed (Simple rank) = boxed_slice_items rank
+
+abbrev pub kind_of_index : Index → Kind
+kind_of_index (Simple rank) = kind.Simple

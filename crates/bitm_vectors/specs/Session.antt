@@ -1,0 +1,77 @@
+-- A session: which answers the lines of an input may have.
+use Rattle.std.specs.Prelude.{◌≡◌, ℕ, List, [], ◌∷◌, length, Bool, true, false, Option, None, Some, nat_lt, slice_set, ◌⊎◌, if◌then◌else◌}
+use Rattle.std.specs.List.{list_all}
+use Rattle.std.specs.Io.KnownBytes.{Appends}
+use Rattle.bitm_vectors.specs.Answer.{text_of, is_good}
+use Rattle.bitm_bits.specs.Bits.{bits_of}
+use Rattle.bitm_bits.specs.Count.{ones_before}
+use Rattle.bitm_vectors.specs.Request.{Request, Words, Set, Clear, Build, Rank, request_of}
+use Rattle.bitm_vectors.specs.declared.answer.Answer.{Answer}
+use Rattle.bitm_vectors.specs.declared.answer.Answer.TheVariants.{Accepted, Ones, Number, Absent, NotBuilt, NoMemory, BadCommand}
+use Rattle.bitm_vectors.specs.declared.command.Kind.{Kind}
+
+-- the bits of the vector, and the kind of index that is built over them
+pub record State : Type 0 where
+  pub bits : List Bool
+  pub built : Option Kind
+
+-- an empty vector, and nothing is built
+abbrev pub start : State
+start = record { bits = []; built = None }
+
+-- the answer where the bit at the place is changed, and the state after it
+abbrev pub changed_answer : State → ℕ → Answer
+changed_answer state place = if nat_lt place (length state.bits) then Accepted place else Absent
+
+abbrev pub changed : State → ℕ → Bool → State
+changed state place bit = if nat_lt place (length state.bits) then record { bits = slice_set state.bits place bit; built = None } else state
+
+-- the answer where a number is asked of an index, if one is built
+abbrev pub indexed_answer : Option Kind → Answer → Answer
+indexed_answer None answer = NotBuilt
+indexed_answer (Some kind) answer = answer
+
+-- what is answered where memory is found
+abbrev pub answer_to : State → Request → Answer
+answer_to state (Words words) = Accepted (length words)
+answer_to state (Set place) = changed_answer state place
+answer_to state (Clear place) = changed_answer state place
+answer_to state (Build kind) = Ones (ones_before state.bits (length state.bits))
+answer_to state (Rank index) = indexed_answer state.built (if nat_lt index (length state.bits) then Number (ones_before state.bits index) else Absent)
+
+-- the state after that answer
+abbrev pub state_after : State → Request → State
+state_after state (Words words) = record { bits = bits_of words; built = None }
+state_after state (Set place) = changed state place true
+state_after state (Clear place) = changed state place false
+state_after state (Build kind) = record { bits = state.bits; built = Some kind }
+state_after state (Rank index) = state
+
+-- the state after a refusal for memory, which only these two can meet
+abbrev pub IsAfterRefusal : State → Request → State → Type 0
+IsAfterRefusal old (Words words) new = new ≡ old
+IsAfterRefusal old (Set place) new = ⊥
+IsAfterRefusal old (Clear place) new = ⊥
+IsAfterRefusal old (Build kind) new = new ≡ record { bits = old.bits; built = None }
+IsAfterRefusal old (Rank index) new = ⊥
+
+-- From old, a line that asks for this may have this answer, and the session goes on to new.
+abbrev pub Step : State → Option Request → Answer → State → Type 0
+Step old None answer new = (answer ≡ BadCommand) × (new ≡ old)
+Step old (Some request) answer new =
+    ((answer ≡ answer_to old request) × (new ≡ state_after old request)) ⊎ ((answer ≡ NoMemory) × IsAfterRefusal old request new)
+
+-- From old, these lines may have these answers, one for each and in their order, and the session ends at new.
+abbrev pub Answers : State → List (List ℕ) → List Answer → State → Type 0
+Answers old [] [] new = new ≡ old
+Answers old (line ∷ lines) (answer ∷ answers) new = (mid : State) × Step old (request_of line) answer mid × Answers mid lines answers new
+Answers old [] (answer ∷ answers) new = ⊥
+Answers old (line ∷ lines) [] new = ⊥
+
+-- A session over these lines ends in this state, and it was written: the writer's bytes, where it tells them, went from
+-- before to after by just its answers, and good says that none was `bad command`.
+pub record Wrote (lines : List (List ℕ)) (end : State) (before after : Option (List ℕ)) (good : Bool) : Type 0 where
+  pub answers : List Answer
+  pub session : Answers start lines answers end
+  pub written : Appends before after (text_of answers)
+  pub told : good ≡ list_all is_good answers

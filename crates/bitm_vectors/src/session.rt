@@ -1,0 +1,117 @@
+//! The vector, the index that is built over a copy of it, and what a line does to them.
+ghost use Rattle.std.specs.Prelude.{◌≡◌, ◌≤◌, vec_len, IfSome, option_map, Some};
+ghost use Rattle.bitm_bits.specs.Bits.{bits_of};
+ghost use Rattle.bitm_vectors.specs.Index.{indexed, kind_of_index};
+ghost use Rattle.bitm_vectors.specs.Request.{Request, Words, Build, Rank, request, request_of, HasFewWords};
+ghost use Rattle.bitm_vectors.specs.Session.{State, start, Step, changed_answer, changed};
+
+use crate::answer::Answer;
+use crate::command::{Command, Kind, parse};
+use crate::index::Index;
+use bitm::words::set_bit_to;
+use std::alloc::Global;
+use std::marker::Model;
+
+/// A vector, empty at first, and the index that is built.
+#[derive(Drop)]
+pub(crate) struct Session {
+    words: Vec<u64>,
+    index: Option<Index>,
+}
+
+impl Model for Session {
+    ghost Value = { State };
+
+    ghost view = { λ s. record {
+      bits = bits_of s.words.items;
+      built = option_map kind_of_index s.index;
+    } };
+
+    ghost invariant = { λ s. (vec_len s.words ≤ 65536)
+        × IfSome s.index (λ index. indexed index ≡ s.words.items) };
+}
+
+impl Session {
+    #[tactic(auto, using(crate::proofs::lemmas::SessionLemmas::starts_empty))]
+    pub(crate) fn new(alloc: Global) -> Session
+        ensures { result ≡ start }
+    {
+        Session {
+            words: Vec::new(alloc),
+            index: None,
+        }
+    }
+
+    /// Answers a line.
+    pub(crate) fn answer(&mut self, alloc: Global, line: &[u8]) -> Answer
+        ensures { Step self.old (request_of line.now) result self.new }
+    {
+        match parse(alloc, line) {
+            Ok(Some(command)) => self.perform(alloc, command),
+            Ok(None) => Answer::BadCommand,
+            Err(_) => Answer::NoMemory,
+        }
+    }
+
+    fn perform(&mut self, alloc: Global, command: Command) -> Answer
+        requires { HasFewWords (request command) }
+        ensures { Step self.old (Some (request command)) result self.new }
+    {
+        match command {
+            Command::Words(words) => self.replace(words),
+            Command::Set(place) => self.change(place, true),
+            Command::Clear(place) => self.change(place, false),
+            Command::Build(kind) => self.build(alloc, kind),
+            Command::Rank(index) => self.rank(index),
+        }
+    }
+
+    fn replace(&mut self, words: Vec<u64>) -> Answer
+        requires { vec_len words ≤ 65536 }
+        ensures { Step self.old (Some (Words words.items)) result self.new }
+    {
+        let count = words.len() as u64;
+        self.words = words;
+        self.index = None;
+        Answer::Accepted(count)
+    }
+
+    #[tactic(auto, using(crate::proofs::lemmas::SessionLemmas::count_of_bits))]
+    fn change(&mut self, place: u64, value: bool) -> Answer
+        ensures answer { result ≡ changed_answer self.old place }
+        ensures state { self.new ≡ changed self.old place value }
+    {
+        if place >= 64 * self.words.len() as u64 {
+            return Answer::Absent;
+        }
+        set_bit_to(self.words.as_mut_slice(), place as usize, value);
+        self.index = None; // the index counts the bits as they were
+        Answer::Accepted(place)
+    }
+
+    fn build(&mut self, alloc: Global, kind: Kind) -> Answer
+        ensures { Step self.old (Some (Build kind)) result self.new }
+    {
+        self.index = None;
+        match Index::build(alloc, kind, self.words.as_slice()) {
+            Ok((index, total)) => {
+                self.index = Some(index);
+                Answer::Ones(total as u64)
+            }
+            Err(_) => Answer::NoMemory,
+        }
+    }
+
+    #[tactic(auto, using(crate::proofs::lemmas::SessionLemmas::count_of_bits))]
+    fn rank(&self, place: u64) -> Answer
+        ensures { Step self.now (Some (Rank place)) result self.now }
+    {
+        match &self.index {
+            None => Answer::NotBuilt,
+            Some(index) => match index.try_rank(place as usize) {
+                Some(count) => Answer::Number(count as u64),
+                None => Answer::Absent,
+            },
+        }
+    }
+}

@@ -1,0 +1,55 @@
+//! The program without its process: arguments, statuses and texts.
+ghost use Rattle.std.specs.Prelude.{◌≡◌, ◌≢◌, ◌≤◌, length};
+
+use crate::answering::run;
+use std::fs;
+use std::io::Write;
+use std::rt::Files;
+
+/// What is written where the file, or the arguments before it, can't be read.
+pub const CANNOT_READ: &str = "bitm_vectors: cannot read the file";
+
+/// What is written where an answer can't be written.
+const CANNOT_WRITE: &str = "bitm_vectors: cannot write";
+
+/// What is written where there is not exactly one argument.
+const USAGE: &str = "usage: bitm_vectors FILE";
+
+/// Answers the lines of the file that the one argument names, and answers the status that the program ends with.
+///
+/// `args` are the arguments without the program's name. The status is 0 where no line was a bad command and 1 where one was.
+///
+/// # Errors
+/// The status is 2, and a text goes to `err`, where there is not exactly one argument, where the file can't be read whole or
+/// its bytes find no memory, and where a write to `out` or its flush failed. A failed write to `err` changes nothing.
+pub fn start<R: Files + AllocGlobal, W: Write, E: Write>(
+    rt: &R,
+    args: &[String],
+    out: &mut W,
+    err: &mut E,
+) -> u8
+    ensures status { result ≤ 2 }
+    ensures usage { length args.now ≢ 1 → result ≡ 2 }
+{
+    let [path] = args else {
+        return fail(err, USAGE);
+    };
+    let Ok(input) = fs::read(rt, path.as_str()) else {
+        return fail(err, CANNOT_READ);
+    };
+    let Ok(good) = run(rt.alloc(), input.as_slice(), out) else {
+        return fail(err, CANNOT_WRITE);
+    };
+    if out.flush().is_err() {
+        return fail(err, CANNOT_WRITE);
+    }
+    if good { 0 } else { 1 }
+}
+
+/// Says why the program ends with status 2, as far as that can be written.
+fn fail<E: Write>(err: &mut E, reason: &str) -> u8
+    ensures { result ≡ 2 }
+{
+    let _ = writeln!(err, "{reason}");
+    2
+}
