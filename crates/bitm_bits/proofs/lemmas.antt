@@ -1,12 +1,16 @@
 pub mod BitsLemmas
+pub mod ByteLemmas
+pub mod ByteWindowLemmas
 pub mod ComingLemmas
 pub mod CountLemmas
+pub mod DigitLemmas
 pub mod FlipLemmas
 pub mod InitLemmas
 pub mod NumberLemmas
 pub mod PickLemmas
 pub mod PlaceLemmas
 pub mod ReadLemmas
+pub mod RunLemmas
 pub mod SearchBackLemmas
 pub mod SearchLemmas
 pub mod SwapLemmas

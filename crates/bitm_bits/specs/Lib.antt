@@ -4,4 +4,5 @@ pub mod Coming
 pub mod Count
 pub mod Laws
 pub mod Number
+pub mod Size
 pub mod Window

@@ -8,6 +8,7 @@ pub mod each_bit;
 pub mod finding;
 pub mod fragments;
 pub mod lent;
+pub mod making;
 pub mod places;
 pub mod reading;
 pub mod successive;

@@ -13,8 +13,11 @@
 #![tactic(auto)]
 
 mod bitvec;
+mod bytes;
+mod clone_words;
 pub mod laws;
 mod masks;
+mod size;
 #[cfg(test)]
 mod tests;
 pub mod words;
@@ -22,5 +25,11 @@ pub mod words;
 pub use bitvec::access::BitAccess;
 pub use bitvec::access_mut::BitAccessMut;
 pub use bitvec::each_bit::BitIterator;
+pub use bitvec::making::BitVec;
 pub use bitvec::places::{BitBIterator, BitOnesIterator, BitZerosIterator};
-pub use masks::{ceiling_div, n_lowest_bits, n_lowest_bits_0_64, n_lowest_bits_1_64};
+pub use bytes::{get_bits25, get_bits57, init_bits25, init_bits57, set_bits25, set_bits57};
+pub use clone_words::CloneWords;
+pub use masks::{
+    bits_to_store, ceiling_div, n_lowest_bits, n_lowest_bits_0_64, n_lowest_bits_1_64,
+};
+pub use size::GetSize;

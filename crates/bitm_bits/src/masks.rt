@@ -1,5 +1,6 @@
-//! Numbers of which the lowest bits are set, and division that rounds up.
+//! Numbers of which the lowest bits are set, how many digits a number has, and division that rounds up.
 ghost use Rattle.std.specs.Prelude.{◌≡◌, ℕ, ◌-◌, ◌*◌, ◌^◌, ◌<◌, ◌≤◌, min};
+ghost use Rattle.bitm_bits.specs.Bits.{digit_count};
 
 /// The least number whose product with `d` is at least `n`: exact up to `usize::MAX`.
 ///
@@ -48,4 +49,13 @@ pub fn n_lowest_bits_0_64(count: u8) -> u64
         return u64::MAX;
     }
     n_lowest_bits(count)
+}
+
+/// How many binary digits `v` has, none for 0: the width, in bits, that stores it.
+#[inline(always)]
+#[tactic(auto, using(crate::proofs::lemmas::DigitLemmas::digit_count_from_leading_zeros))]
+pub fn bits_to_store(v: u64) -> u8
+    ensures { result ≡ digit_count v }
+{
+    (64 - v.leading_zeros()) as u8
 }

@@ -9,6 +9,9 @@ mod lending;
 
 use crate::{BitAccess, BitAccessMut, ceiling_div, n_lowest_bits};
 
+mod bytes;
+mod making;
+
 #[test]
 fn test_ceiling_div(rt: HostRuntime) {
     for (n, quotient) in [(7, 4), (8, 4), (9, 5)] {

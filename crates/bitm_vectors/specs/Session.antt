@@ -1,11 +1,12 @@
 -- A session: which answers the lines of an input may have.
-use Rattle.std.specs.Prelude.{◌≡◌, ℕ, List, [], ◌∷◌, length, Bool, true, false, Option, None, Some, nat_lt, slice_set, ◌⊎◌, if◌then◌else◌}
+use Rattle.std.specs.Prelude.{◌≡◌, ℕ, ◌+◌, ◌&&◌, nat_le, List, [], ◌∷◌, length, Bool, true, false, Option, None, Some, nat_lt, slice_set, ◌⊎◌, if◌then◌else◌}
 use Rattle.std.specs.List.{list_all}
 use Rattle.std.specs.Io.KnownBytes.{Appends}
 use Rattle.bitm_vectors.specs.Answer.{text_of, is_good}
 use Rattle.bitm_bits.specs.Bits.{bits_of}
 use Rattle.bitm_bits.specs.Count.{ones_before}
-use Rattle.bitm_vectors.specs.Request.{Request, Words, Set, Clear, Build, Rank, request_of}
+use Rattle.bitm_bits.specs.Number.{number_at}
+use Rattle.bitm_vectors.specs.Request.{Request, Words, Set, Clear, Build, Rank, Bits, request_of}
 use Rattle.bitm_vectors.specs.declared.answer.Answer.{Answer}
 use Rattle.bitm_vectors.specs.declared.answer.Answer.TheVariants.{Accepted, Ones, Number, Absent, NotBuilt, NoMemory, BadCommand}
 use Rattle.bitm_vectors.specs.declared.command.Kind.{Kind}
@@ -31,6 +32,11 @@ abbrev pub indexed_answer : Option Kind → Answer → Answer
 indexed_answer None answer = NotBuilt
 indexed_answer (Some kind) answer = answer
 
+-- the number that stands in a range of the bits, if it is in range
+abbrev pub range_answer : List Bool → ℕ → ℕ → Answer
+range_answer bits begin len =
+    if nat_lt begin (length bits) && nat_le (begin + len) (length bits) then Number (number_at bits begin len) else Absent
+
 -- what is answered where memory is found
 abbrev pub answer_to : State → Request → Answer
 answer_to state (Words words) = Accepted (length words)
@@ -38,6 +44,7 @@ answer_to state (Set place) = changed_answer state place
 answer_to state (Clear place) = changed_answer state place
 answer_to state (Build kind) = Ones (ones_before state.bits (length state.bits))
 answer_to state (Rank index) = indexed_answer state.built (if nat_lt index (length state.bits) then Number (ones_before state.bits index) else Absent)
+answer_to state (Bits begin len) = range_answer state.bits begin len
 
 -- the state after that answer
 abbrev pub state_after : State → Request → State
@@ -46,6 +53,7 @@ state_after state (Set place) = changed state place true
 state_after state (Clear place) = changed state place false
 state_after state (Build kind) = record { bits = state.bits; built = Some kind }
 state_after state (Rank index) = state
+state_after state (Bits begin len) = state
 
 -- the state after a refusal for memory, which only these two can meet
 abbrev pub IsAfterRefusal : State → Request → State → Type 0
@@ -54,6 +62,7 @@ IsAfterRefusal old (Set place) new = ⊥
 IsAfterRefusal old (Clear place) new = ⊥
 IsAfterRefusal old (Build kind) new = new ≡ record { bits = old.bits; built = None }
 IsAfterRefusal old (Rank index) new = ⊥
+IsAfterRefusal old (Bits begin len) new = ⊥
 
 -- From old, a line that asks for this may have this answer, and the session goes on to new.
 abbrev pub Step : State → Option Request → Answer → State → Type 0

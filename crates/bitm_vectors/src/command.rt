@@ -2,7 +2,7 @@
 ghost use Rattle.std.specs.Prelude.{◌≡◌, ◌≤◌, IfOk, OnErr, IfSome, IsSome, is_some, option_map, length};
 ghost use Rattle.std.specs.List.{filter_map, list_all};
 ghost use Rattle.bitm_vectors.specs.Text.{parts_of, parts_left, only_part, words_of, hexadecimal_of};
-ghost use Rattle.bitm_vectors.specs.Request.{request, request_of, kind_of, AsksForWords, HasFewWords};
+ghost use Rattle.bitm_vectors.specs.Request.{request, request_of, range_request, kind_of, AsksForWords, IsWithinLimits};
 
 use crate::text::{decimal, first_part, hexadecimal};
 use std::alloc::{AllocError, Global};
@@ -24,12 +24,14 @@ pub(crate) enum Command {
     Clear(u64),
     Build(Kind),
     Rank(u64),
+    /// A range: its first place and its width.
+    Bits(u64, u8),
 }
 
 /// The command of a line, or `None` where it is none. It finds no memory only for the words of a vector.
 pub(crate) fn parse(alloc: Global, line: &[u8]) -> Result<Option<Command>, AllocError>
     ensures parsed { IfOk result (λ command. option_map request command ≡ request_of line.now) }
-    ensures few { IfOk result (λ command. IfSome command (λ c. HasFewWords (request c))) }
+    ensures few { IfOk result (λ command. IfSome command (λ c. IsWithinLimits (request c))) }
     ensures refused { OnErr result (AsksForWords (request_of line.now)) }
 {
     let (name, rest) = first_part(line, b' ');
@@ -43,6 +45,8 @@ pub(crate) fn parse(alloc: Global, line: &[u8]) -> Result<Option<Command>, Alloc
         Ok(only(rest).and_then(kind_named).map(Command::Build))
     } else if name == b"rank".as_slice() {
         Ok(only(rest).and_then(decimal).map(Command::Rank))
+    } else if name == b"bits".as_slice() {
+        Ok(range(rest))
     } else {
         Ok(None)
     }
@@ -55,6 +59,21 @@ fn only(rest: Option<&[u8]>) -> Option<&[u8]>
     match first_part(rest?, b' ') {
         (part, None) => Some(part),
         (_, Some(_)) => None,
+    }
+}
+
+/// The bits of the range that just two parts write, of a width up to 63.
+fn range(rest: Option<&[u8]>) -> Option<Command>
+    ensures read { option_map request result ≡ range_request (parts_left rest.entry) }
+    ensures few { IfSome result (λ command. IsWithinLimits (request command)) }
+{
+    let (first, rest) = first_part(rest?, b' ');
+    let begin = decimal(first)?;
+    let len = decimal(only(rest)?)?;
+    if len <= 63 {
+        Some(Command::Bits(begin, len as u8))
+    } else {
+        None
     }
 }
 

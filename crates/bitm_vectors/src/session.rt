@@ -2,13 +2,13 @@
 ghost use Rattle.std.specs.Prelude.{◌≡◌, ◌≤◌, vec_len, IfSome, option_map, Some};
 ghost use Rattle.bitm_bits.specs.Bits.{bits_of};
 ghost use Rattle.bitm_vectors.specs.Index.{indexed, kind_of_index};
-ghost use Rattle.bitm_vectors.specs.Request.{Request, Words, Build, Rank, request, request_of, HasFewWords};
+ghost use Rattle.bitm_vectors.specs.Request.{Request, Words, Build, Rank, Bits, request, request_of, IsWithinLimits};
 ghost use Rattle.bitm_vectors.specs.Session.{State, start, Step, changed_answer, changed};
 
 use crate::answer::Answer;
 use crate::command::{Command, Kind, parse};
 use crate::index::Index;
-use bitm::words::set_bit_to;
+use bitm::words::{set_bit_to, try_get_bits};
 use std::alloc::Global;
 use std::marker::Model;
 
@@ -54,7 +54,7 @@ impl Session {
     }
 
     fn perform(&mut self, alloc: Global, command: Command) -> Answer
-        requires { HasFewWords (request command) }
+        requires { IsWithinLimits (request command) }
         ensures { Step self.old (Some (request command)) result self.new }
     {
         match command {
@@ -63,6 +63,7 @@ impl Session {
             Command::Clear(place) => self.change(place, false),
             Command::Build(kind) => self.build(alloc, kind),
             Command::Rank(index) => self.rank(index),
+            Command::Bits(begin, len) => self.bits(begin, len),
         }
     }
 
@@ -112,6 +113,17 @@ impl Session {
                 Some(count) => Answer::Number(count as u64),
                 None => Answer::Absent,
             },
+        }
+    }
+
+    #[tactic(auto, using(crate::proofs::lemmas::SessionLemmas::count_of_bits))]
+    fn bits(&self, begin: u64, len: u8) -> Answer
+        requires { len ≤ 63 }
+        ensures { Step self.now (Some (Bits begin len)) result self.now }
+    {
+        match try_get_bits(self.words.as_slice(), begin as usize, len) {
+            Some(number) => Answer::Number(number),
+            None => Answer::Absent,
         }
     }
 }

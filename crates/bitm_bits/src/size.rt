@@ -1,0 +1,77 @@
+//! How many bytes values keep outside themselves.
+ghost use Rattle.std.specs.Prelude.{◌≡◌, ◌*◌, ℕ};
+ghost use Rattle.std.specs.Box.{boxed_slice_len};
+
+use std::alloc::Allocator;
+use std::boxed::BoxedSlice;
+use std::mem::size_of;
+
+/// The bytes that a value keeps outside itself, on the heap.
+///
+/// A slice that is lent keeps none: they belong to its owner.
+pub trait GetSize {
+    /// How many bytes a value keeps.
+    ghost dyn_bytes: { Self → ℕ } = { λ _. 0 };
+
+    /// Whether values of this type may keep any bytes.
+    const USES_DYN_MEM: bool = false;
+
+    /// How many bytes the value keeps.
+    fn size_bytes_dyn(&self) -> usize
+        ensures { result ≡ dyn_bytes self.now };
+}
+
+impl<A: Allocator> GetSize for BoxedSlice<u64, A> {
+    ghost dyn_bytes = { λ b. 8 * boxed_slice_len b };
+
+    const USES_DYN_MEM: bool = true;
+
+    #[inline(always)]
+    fn size_bytes_dyn(&self) -> usize {
+        self.as_slice().len() * size_of::<u64>()
+    }
+}
+
+impl<A: Allocator> GetSize for BoxedSlice<usize, A> {
+    ghost dyn_bytes = { λ b. 8 * boxed_slice_len b };
+
+    const USES_DYN_MEM: bool = true;
+
+    #[inline(always)]
+    fn size_bytes_dyn(&self) -> usize {
+        self.as_slice().len() * size_of::<usize>()
+    }
+}
+
+impl<A: Allocator> GetSize for BoxedSlice<u32, A> {
+    ghost dyn_bytes = { λ b. 4 * boxed_slice_len b };
+
+    const USES_DYN_MEM: bool = true;
+
+    #[inline(always)]
+    fn size_bytes_dyn(&self) -> usize {
+        self.as_slice().len() * size_of::<u32>()
+    }
+}
+
+impl GetSize for &[u64] {
+    #[inline(always)]
+    fn size_bytes_dyn(&self) -> usize {
+        // The words are their owner's.
+        0
+    }
+}
+
+impl GetSize for () {
+    #[inline(always)]
+    fn size_bytes_dyn(&self) -> usize {
+        0
+    }
+}
+
+impl GetSize for u8 {
+    #[inline(always)]
+    fn size_bytes_dyn(&self) -> usize {
+        0
+    }
+}
