@@ -1,5 +1,5 @@
 -- The definitions compute: values that were worked out by hand.
-use Rattle.std.proofs.Common.{◌≡◌, true, false, [], ◌∷◌, refl, take, length}
+use Rattle.std.proofs.Common.{◌≡◌, true, false, [], ◌∷◌, refl, take}
 use Rattle.bitm_bits.specs.Bits.{low_digits, bits_of, item, digit_count_in, digit_count}
 use Rattle.bitm_bits.specs.Bytes.{byte_bits_of, byte_window, with_window}
 use Rattle.bitm_bits.specs.Count.{ones_before, zeros_before, places}

@@ -1,5 +1,5 @@
 -- What an iterator over the bits of words still gives.
-use Rattle.std.specs.Prelude.{ℕ, ◌+◌, ◌-◌, Bool, true, if◌then◌else◌, nat_lt, List, ◌++◌, take, drop, zero, suc}
+use Rattle.std.specs.Prelude.{ℕ, ◌+◌, ◌-◌, ◌*◌, Bool, true, if◌then◌else◌, nat_lt, List, ◌++◌, length, take, drop, zero, suc}
 use Rattle.std.specs.Int.{bit_not, w64}
 use Rattle.std.specs.declared.ops.Range.{Range}
 use Rattle.bitm_bits.specs.Bits.{low_digits, bits_of}
@@ -23,6 +23,10 @@ bits_coming words start end = take (end - start) (drop start (bits_of words))
 pub record BitsLeft : Type 0 where
   pub bit_vec : List ℕ
   pub bit_range : Range ℕ
+
+-- the words with all their bits left
+abbrev pub all_bits_left : List ℕ → BitsLeft
+all_bits_left words = record { bit_vec = words; bit_range = record { start = 0; end = 64 * length words } }
 
 -- the bits that are still to come
 abbrev pub bits_left : BitsLeft → List Bool

@@ -37,7 +37,8 @@ OnesAndZeros = (b : List Bool) (i : ℕ) → i ≤ length b → ones_before b i 
 -- each bit of a content is a one or a zero
 abbrev pub OnesAndZerosOfContent : Type 0
 OnesAndZerosOfContent =
-    (words : List ℕ) → ones_before (bits_of words) (64 * length words) + zeros_before (bits_of words) (64 * length words) ≡ 64 * length words
+    (words : List ℕ)
+    → ones_before (bits_of words) (64 * length words) + zeros_before (bits_of words) (64 * length words) ≡ 64 * length words
 
 -- ---- what a rank picks
 

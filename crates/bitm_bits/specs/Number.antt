@@ -16,7 +16,7 @@ unfoldable pub with_number : List Bool → ℕ → ℕ → ℕ → List Bool
 with_number b begin len v = take begin b ++ low_digits len v ++ drop (begin + len) b
 
 -- b with fragments i and j of this width in each other's place
-unfoldable pub with_swapped : List Bool → ℕ → ℕ → ℕ → List Bool
+abbrev pub with_swapped : List Bool → ℕ → ℕ → ℕ → List Bool
 with_swapped b i j width =
     with_number (with_number b (i * width) width (number_at b (j * width) width)) (j * width) width (number_at b (i * width) width)
 

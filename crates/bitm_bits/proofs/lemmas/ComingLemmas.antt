@@ -1,5 +1,5 @@
 -- The bits of a range, from either end.
-use Rattle.std.proofs.Common.{◌≡◌, ℕ, zero, suc, ◌+◌, ◌-◌, ◌*◌, ◌<◌, ◌≤◌, min, Bool, false, List, [], ◌∷◌, ◌++◌, length, get_or, take, drop, sym, refl, ap, ap₂, ◌∙◌, arith, length-drop, take_all}
+use Rattle.std.proofs.Common.{◌≡◌, ℕ, zero, suc, ◌+◌, ◌-◌, ◌*◌, ◌<◌, ◌≤◌, Bool, false, List, [], ◌∷◌, ◌++◌, length, take, drop, sym, ap, ap₂, ◌∙◌, arith, length-drop, take_all}
 use Rattle.std.proofs.lemmas.List.{length-take-le, get_or-drop, take_more, drop-drop}
 use Rattle.std.proofs.Math.Seq.{drop-cons, take-nil}
 use Rattle.bitm_bits.proofs.lemmas.BitsLemmas.{length-bits_of}
@@ -39,11 +39,12 @@ pub bits_coming_last : (words : List ℕ) (start end : ℕ) → start < end → 
 unfolding bits_coming
 bits_coming_last words start end l within =
     let front = drop start (bits_of words) in
-    let left : end - start ≡ end - 1 - start + 1 = omega arith in
-    let at : start + (end - 1 - start) ≡ end - 1 = omega arith in
+    let before = end - 1 - start in
+    let left : end - start ≡ before + 1 = omega arith in
+    let at : start + before ≡ end - 1 = omega arith in
     ap (λ n. take n front) left
-    ∙ take_more front (end - 1 - start) false (omega (arith, length-drop start (bits_of words), length-bits_of words))
-    ∙ ap (λ x. take (end - 1 - start) front ++ x ∷ []) (get_or-drop start (bits_of words) (end - 1 - start) false ∙ ap (item (bits_of words)) at)
+    ∙ take_more front before false (omega (arith, length-drop start (bits_of words), length-bits_of words))
+    ∙ ap (λ x. take before front ++ x ∷ []) (get_or-drop start (bits_of words) before false ∙ ap (item (bits_of words)) at)
 
 take-add : (m n : ℕ) (b : List Bool) → take (m + n) b ≡ take m b ++ take n (drop m b)
 take-add zero n b = let e : 0 + n ≡ n = omega arith in ap (λ k. take k b) e
@@ -55,11 +56,13 @@ bits_coming_split : (words : List ℕ) (start middle end : ℕ) → start ≤ mi
     → bits_coming words start end ≡ bits_coming words start middle ++ bits_coming words middle end
 unfolding bits_coming
 bits_coming_split words start middle end l m =
-    let all : end - start ≡ middle - start + (end - middle) = omega arith in
-    let at : start + (middle - start) ≡ middle = omega arith in
-    ap (λ n. take n (drop start (bits_of words))) all
-    ∙ take-add (middle - start) (end - middle) (drop start (bits_of words))
-    ∙ ap (λ r. take (middle - start) (drop start (bits_of words)) ++ take (end - middle) r) (drop-drop (middle - start) start (bits_of words) ∙ ap (λ k. drop k (bits_of words)) at)
+    let front = drop start (bits_of words) in
+    let before = middle - start in
+    let all : end - start ≡ before + (end - middle) = omega arith in
+    let at : start + before ≡ middle = omega arith in
+    ap (λ n. take n front) all
+    ∙ take-add before (end - middle) front
+    ∙ ap (λ r. take before front ++ take (end - middle) r) (drop-drop before start (bits_of words) ∙ ap (λ k. drop k (bits_of words)) at)
 
 -- what came from the front, what is left, and what came from the back
 pub bits_coming_parts : (words : List ℕ) (start i j end : ℕ) → start ≤ i → i ≤ j → j ≤ end

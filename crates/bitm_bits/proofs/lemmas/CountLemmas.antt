@@ -1,5 +1,5 @@
 -- Counts over one item more, over a word and over all words.
-use Rattle.std.proofs.Common.{◌≡◌, ℕ, zero, suc, ◌+◌, ◌-◌, ◌*◌, ◌%◌, ◌^◌, ◌<◌, ◌≤◌, Bool, true, false, not, List, [], ◌∷◌, length, get_or, take, sym, refl, ap, ◌∙◌, ⊎_elim, arith, count_ones, sum_by, w64, ap₂, take_all, drop, count_by, mod-eq_of_lt, add_comm, ◌⊎◌}
+use Rattle.std.proofs.Common.{◌≡◌, ℕ, zero, suc, ◌+◌, ◌-◌, ◌*◌, ◌%◌, ◌^◌, ◌<◌, ◌≤◌, Bool, true, false, not, List, [], ◌∷◌, length, get_or, take, sym, refl, ap, ◌∙◌, ⊎_elim, arith, count_ones, sum_by, w64, ap₂, take_all, drop, count_by, mod-eq_of_lt, add_comm}
 use Rattle.std.proofs.lemmas.Bool.{cases_eq, cases_lt}
 use Rattle.std.proofs.lemmas.List.Sums.{sum_by_more, sum_by-cons, sum_by-take-drop}
 use Rattle.std.proofs.lemmas.List.{drop-take, take-take, get_or-drop, get_or-take, get_or_past, length-take}

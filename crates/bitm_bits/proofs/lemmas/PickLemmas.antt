@@ -1,5 +1,5 @@
 -- One place is picked for each rank, and item k of the rising places is the one for k.
-use Rattle.std.proofs.Common.{◌≡◌, ℕ, zero, suc, ◌+◌, ◌-◌, ◌<◌, ◌≤◌, Bool, true, false, not, List, [], ◌∷◌, length, get_or, take, refl, ap, ◌∙◌, ⊎_elim, arith, sym, subst, ◌⊎◌, ◌↔◌}
+use Rattle.std.proofs.Common.{◌≡◌, ℕ, zero, suc, ◌+◌, ◌-◌, ◌<◌, ◌≤◌, Bool, true, false, not, List, [], ◌∷◌, length, get_or, take, refl, ap, ◌∙◌, ⊎_elim, arith, sym, subst, ◌↔◌}
 use Rattle.std.proofs.lemmas.Bool.{cases_order, cases_lt}
 use Rattle.std.proofs.lemmas.List.Sums.{sum_by-cons}
 use Rattle.std.specs.List.Sorted.{IsStrictlyIncreasing}
@@ -10,7 +10,8 @@ use Rattle.bitm_bits.specs.Count.{ones_before, zeros_before, count_before, Picks
 
 -- ---- one place for each rank
 
-count_before_more : (v : Bool) (b : List Bool) (i : ℕ) → i < length b → count_before b v (i + 1) ≡ count_before b v i + truth (is_same v (item b i))
+count_before_more : (v : Bool) (b : List Bool) (i : ℕ) → i < length b
+    → count_before b v (i + 1) ≡ count_before b v i + truth (is_same v (item b i))
 count_before_more true b i l = ones_before_more b i l
 count_before_more false b i l = zeros_before_more b i l
 
@@ -28,7 +29,15 @@ later : (b : List Bool) (v : Bool) (r p q : ℕ) → Picks b v r p → Picks b v
 later b v r p q here there l =
     let one : truth (is_same v (item b p)) ≡ 1 = ap (λ x. truth (is_same v x)) here.item ∙ is_same_self v in
     let e : p + 1 + (q - (p + 1)) ≡ q = omega arith in
-    omega (arith, count_before_more v b p here.inside, one, here.before, there.before, count_before_grows v b (p + 1) (q - (p + 1)) (omega (arith, there.inside)), ap (count_before b v) e)
+    omega (
+      arith,
+      count_before_more v b p here.inside,
+      one,
+      here.before,
+      there.before,
+      count_before_grows v b (p + 1) (q - (p + 1)) (omega (arith, there.inside)),
+      ap (count_before b v) e,
+    )
 
 pub same_from_Picks : (b : List Bool) (v : Bool) (r p q : ℕ) → Picks b v r p → Picks b v r q → p ≡ q
 same_from_Picks b v r p q here there =
@@ -58,18 +67,31 @@ skip : (b : List Bool) (v x : Bool) (k from p : ℕ) → is_same v x ≡ false �
 skip b v x k from p other h = record {
   at = suc h.at;
   is = omega (arith, h.is);
-  picked = record { inside = omega (arith, h.picked.inside); item = h.picked.item; before = count_before_after v x b h.at ∙ ap (λ y. truth y + count_before b v h.at) other ∙ omega (arith, h.picked.before) };
+  picked = record {
+    inside = omega (arith, h.picked.inside);
+    item = h.picked.item;
+    before = count_before_after v x b h.at ∙ ap (λ y. truth y + count_before b v h.at) other ∙ omega (arith, h.picked.before);
+  };
 }
 
-next_place : (b : List Bool) (v x : Bool) (k from p : ℕ) → is_same v x ≡ true → IsPlace b v k (from + 1) p → IsPlace (x ∷ b) v (suc k) from p
+next_place : (b : List Bool) (v x : Bool) (k from p : ℕ) → is_same v x ≡ true
+    → IsPlace b v k (from + 1) p → IsPlace (x ∷ b) v (suc k) from p
 next_place b v x k from p one h = record {
   at = suc h.at;
   is = omega (arith, h.is);
-  picked = record { inside = omega (arith, h.picked.inside); item = h.picked.item; before = count_before_after v x b h.at ∙ ap (λ y. truth y + count_before b v h.at) one ∙ omega (arith, h.picked.before) };
+  picked = record {
+    inside = omega (arith, h.picked.inside);
+    item = h.picked.item;
+    before = count_before_after v x b h.at ∙ ap (λ y. truth y + count_before b v h.at) one ∙ omega (arith, h.picked.before);
+  };
 }
 
 here_place : (b : List Bool) (v : Bool) (from : ℕ) → IsPlace (v ∷ b) v 0 from from
-here_place b v from = record { at = 0; is = omega arith; picked = record { inside = omega arith; item = refl; before = count_before_first v (v ∷ b) } }
+here_place b v from = record {
+  at = 0;
+  is = omega arith;
+  picked = record { inside = omega arith; item = refl; before = count_before_first v (v ∷ b) };
+}
 
 place_at : (b : List Bool) (v : Bool) (k from d : ℕ) → k < length (places v from b) → IsPlace b v k from (get_or (places v from b) k d)
 place_at [] v k from d l = absurd (omega arith)
@@ -114,9 +136,12 @@ rank_below b v r p h =
     )
 
 pub none_picked : (b : List Bool) (v : Bool) (r : ℕ) → (count_before b v (length b) ≤ r) ↔ ((p : ℕ) → ¬ (Picks b v r p))
-none_picked b v r =
-    (λ past p h. absurd (omega (arith, past, rank_below b v r p h)),
-    λ none. ⊎_elim (λ below. let some = some_picked b v r below in absurd (none some.0 some.1)) (λ past. past) (cases_lt r (count_before b v (length b))))
+none_picked b v r = (λ past p h. absurd (omega (arith, past, rank_below b v r p h)), counted)
+  where
+    counted : ((p : ℕ) → ¬ (Picks b v r p)) → count_before b v (length b) ≤ r
+    counted none =
+        ⊎_elim (λ below. let some = some_picked b v r below in absurd (none some.0 some.1)) (λ past. past)
+        (cases_lt r (count_before b v (length b)))
 
 -- each place is picked by its rank
 pub Picks-rank : (b : List Bool) (v : Bool) (p : ℕ) → p < length b → item b p ≡ v → Picks b v (count_before b v p) p
@@ -131,5 +156,6 @@ places-rise b v k l =
     ⊎_elim (λ less. less)
     (λ back.
     let at : q + (p - q) ≡ p = omega arith in
-    absurd (omega (arith, here.before, there.before, count_before_grows v b q (p - q) (omega (arith, here.inside)), ap (count_before b v) at)))
+    let more = count_before_grows v b q (p - q) (omega (arith, here.inside)) in
+    absurd (omega (arith, here.before, there.before, more, ap (count_before b v) at)))
     (cases_lt p q)

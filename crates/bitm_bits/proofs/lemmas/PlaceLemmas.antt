@@ -1,5 +1,5 @@
 -- The rising list of places of a kind of bit, one item after the other and word by word.
-use Rattle.std.proofs.Common.{◌≡◌, ℕ, zero, suc, ◌+◌, ◌-◌, ◌*◌, ◌%◌, ◌^◌, ◌<◌, Bool, true, false, not, List, [], ◌∷◌, ◌++◌, length, get_or, eqb, sym, refl, ap, ◌∙◌, arith, length-append, count_ones, w64, ap₂, take_all, ◌≢◌, bit_and, append-nil, count_by}
+use Rattle.std.proofs.Common.{◌≡◌, ℕ, zero, suc, ◌+◌, ◌-◌, ◌*◌, ◌^◌, ◌<◌, Bool, true, false, not, List, [], ◌∷◌, ◌++◌, length, get_or, eqb, sym, refl, ap, ◌∙◌, arith, length-append, count_ones, w64, ap₂, ◌≢◌, bit_and, append-nil}
 use Rattle.std.proofs.lemmas.Bool.{false≢true}
 use Rattle.std.proofs.lemmas.List.Sums.{sum_by-cons}
 use Rattle.std.proofs.lemmas.Nat.Bits.{bit_at-lt, bit_at-zero, bit_at_not, bit_at-trailing_zeros}
@@ -7,7 +7,7 @@ use Rattle.std.specs.Int.{bit_at, bit_not, trailing_zeros}
 use Rattle.bitm_bits.proofs.lemmas.BitsLemmas.{length-low_digits, item-low_digits, length-bits_of, same_bits, bits_of-cons, bits_of-nil}
 use Rattle.bitm_bits.proofs.lemmas.CountLemmas.{ones_before-bits_of_all}
 use Rattle.bitm_bits.proofs.lemmas.PickLemmas.{length-places}
-use Rattle.bitm_bits.proofs.lemmas.WordLemmas.{truth, bit_at-lowest_cleared_same, bit_at-lowest_cleared_other}
+use Rattle.bitm_bits.proofs.lemmas.WordLemmas.{bit_at-lowest_cleared_same, bit_at-lowest_cleared_other}
 use Rattle.bitm_bits.specs.Bits.{low_digits, bits_of, item}
 use Rattle.bitm_bits.specs.Coming.{word_of, coming}
 use Rattle.bitm_bits.specs.Count.{count_before, places, kind}
@@ -56,13 +56,15 @@ places_first k (suc t) (false ∷ b) (false ∷ c) len l one none below_b below_
     ∙ ap (λ p. p ∷ places true (k + 1) c) at
 
 -- the zeros of b are the ones of c, where c is b negated
-pub places_negated : (k : ℕ) (b c : List Bool) → length c ≡ length b → ((i : ℕ) → i < length b → item c i ≡ not (item b i)) → places false k b ≡ places true k c
+pub places_negated : (k : ℕ) (b c : List Bool) → length c ≡ length b → ((i : ℕ) → i < length b → item c i ≡ not (item b i))
+    → places false k b ≡ places true k c
 places_negated k [] [] len each = refl
 places_negated k [] (y ∷ c) len each = absurd (omega arith)
 places_negated k (x ∷ b) [] len each = absurd (omega arith)
 places_negated k (true ∷ b) (true ∷ c) len each = absurd (false≢true (sym (each 0 (omega arith))))
 places_negated k (true ∷ b) (false ∷ c) len each = places_negated (k + 1) b c (omega arith) (λ i l. each (suc i) (omega arith))
-places_negated k (false ∷ b) (true ∷ c) len each = ap (λ l. k ∷ l) (places_negated (k + 1) b c (omega arith) (λ i l. each (suc i) (omega arith)))
+places_negated k (false ∷ b) (true ∷ c) len each =
+    ap (λ l. k ∷ l) (places_negated (k + 1) b c (omega arith) (λ i l. each (suc i) (omega arith)))
 places_negated k (false ∷ b) (false ∷ c) len each = absurd (false≢true (each 0 (omega arith)))
 
 -- ---- words
@@ -111,7 +113,8 @@ pub coming_next : (v first current : ℕ) (rest : List ℕ) → 0 < current → 
     → coming v first current rest ≡ (first + trailing_zeros w64 current) ∷ coming v first (bit_and current (current - 1)) rest
 coming_next v first current rest some fits =
     ap (λ l. l ++ places (kind v) (first + 64) (bits_of rest))
-    (places_first first t b c (length-low_digits 64 after ∙ sym (length-low_digits 64 current)) (omega (arith, low, length-low_digits 64 current))
+    (places_first first t b c (length-low_digits 64 after ∙ sym (length-low_digits 64 current))
+    (omega (arith, low, length-low_digits 64 current))
     (item-low_digits 64 current t low ∙ ap (λ d. eqb d 1) lowest.1)
     (item-low_digits 64 after t low ∙ ap (λ d. eqb d 1) (bit_at-lowest_cleared_same current t lowest.1 lowest.2))
     (λ i l. item-low_digits 64 current i (omega (arith, low)) ∙ ap (λ d. eqb d 1) (lowest.2 i l))
@@ -143,15 +146,18 @@ coming_next v first current rest some fits =
 
 -- ---- how many places there are
 
-length-places-bits_of : (v : Bool) (k : ℕ) (words : List ℕ) → length (places v k (bits_of words)) ≡ count_before (bits_of words) v (64 * length words)
+length-places-bits_of : (v : Bool) (k : ℕ) (words : List ℕ)
+    → length (places v k (bits_of words)) ≡ count_before (bits_of words) v (64 * length words)
 length-places-bits_of v k words = length-places v k (bits_of words) ∙ ap (count_before (bits_of words) v) (length-bits_of words)
 
 -- the ones left in a word
 length-places_word : (k w : ℕ) → w < 2 ^ 64 → length (places true k (low_digits 64 w)) ≡ count_ones w
 length-places_word k w fits =
-    let alone : bits_of (w ∷ []) ≡ low_digits 64 w = bits_of-cons w [] ∙ ap (λ b. low_digits 64 w ++ b) bits_of-nil ∙ append-nil (low_digits 64 w) in
+    let alone : bits_of (w ∷ []) ≡ low_digits 64 w =
+    bits_of-cons w [] ∙ ap (λ b. low_digits 64 w ++ b) bits_of-nil ∙ append-nil (low_digits 64 w) in
+    let none : count_ones w + 0 ≡ count_ones w = omega arith in
     let one : length (places true k (bits_of (w ∷ []))) ≡ count_ones w =
-    length-places-bits_of true k (w ∷ []) ∙ ones_before-bits_of_all (w ∷ []) only ∙ sum_by-cons count_ones w [] ∙ (let e : count_ones w + 0 ≡ count_ones w = omega arith in e) in
+    length-places-bits_of true k (w ∷ []) ∙ ones_before-bits_of_all (w ∷ []) only ∙ sum_by-cons count_ones w [] ∙ none in
     ap (λ b. length (places true k b)) (sym alone) ∙ one
   where
     only : (j : ℕ) → get_or (w ∷ []) j 0 < 2 ^ 64

@@ -1,5 +1,5 @@
 -- What the code reads from one or two words is the number that stands there.
-use Rattle.std.proofs.Common.{◌≡◌, ℕ, ◌+◌, ◌-◌, ◌*◌, ◌/◌, ◌%◌, ◌^◌, ◌<◌, ◌≤◌, List, length, get_or, sym, ap, ◌∙◌, ⊎_elim, arith, leb, bit_and, bit_or, le-leb, ◌⊎◌}
+use Rattle.std.proofs.Common.{◌≡◌, ℕ, ◌+◌, ◌-◌, ◌*◌, ◌/◌, ◌%◌, ◌^◌, ◌<◌, ◌≤◌, List, length, get_or, sym, ap, ◌∙◌, ⊎_elim, arith, leb, bit_and, bit_or, le-leb}
 use Rattle.std.proofs.lemmas.Bool.{cases_lt, lt-leb, cond-true, cond-false}
 use Rattle.std.proofs.lemmas.Nat.{pow_pos, shr_below, and_mask, or_lt, pow-add}
 use Rattle.std.proofs.lemmas.Nat.Bits.{same_from_bits_below, bit_at_above, bit_at_or}

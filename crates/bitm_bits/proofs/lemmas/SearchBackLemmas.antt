@@ -1,5 +1,5 @@
 -- The search for the last one, word by word.
-use Rattle.std.proofs.Common.{◌≡◌, ℕ, suc, ◌+◌, ◌-◌, ◌*◌, ◌/◌, ◌%◌, ◌^◌, ◌<◌, ◌≤◌, true, false, List, length, get_or, eqb, sym, refl, ap, ◌∙◌, ⊎_elim, arith, w64, bit_and, ◌⊎◌}
+use Rattle.std.proofs.Common.{◌≡◌, ℕ, suc, ◌+◌, ◌-◌, ◌*◌, ◌/◌, ◌%◌, ◌^◌, ◌<◌, ◌≤◌, true, false, List, length, get_or, eqb, sym, refl, ap, ◌∙◌, ⊎_elim, arith, w64, bit_and}
 use Rattle.std.proofs.lemmas.Bool.{cases_lt, false≢true}
 use Rattle.std.proofs.lemmas.Nat.{and_le_l, leading_top}
 use Rattle.std.proofs.lemmas.Nat.Bits.{bit_at-lt, bit_at-zero, bit_at_and, bit_at_ones, bit_at_ones_above, bit_at_above, bit_at_cat_high}
@@ -17,10 +17,14 @@ highest n some fits =
     let at : 63 - leading_zeros w64 n ≡ j = omega (arith, h.1) in
     let split : 1 * 2 ^ j + (n - 2 ^ j) ≡ n = omega (arith, h.2) in
     let none : j - j ≡ 0 = omega arith in
-    let next : 2 ^ suc j ≡ 2 ^ j + 2 ^ j = omega arith in
-    (omega (arith, h.1),
-    ap (bit_at n) at ∙ ap (λ x. bit_at x j) (sym split) ∙ bit_at_cat_high 1 j (n - 2 ^ j) j (omega (arith, h.3)) (omega arith) ∙ ap (bit_at 1) none,
-    λ i above. bit_at_above n (suc j) i h.3 (omega (arith, above)))
+    let next : 2 ^ suc j ≡ 2 ^ j + 2 ^ j = omega arith in (
+      omega (arith, h.1),
+      ap (bit_at n) at
+          ∙ ap (λ x. bit_at x j) (sym split)
+          ∙ bit_at_cat_high 1 j (n - 2 ^ j) j (omega (arith, h.3)) (omega arith)
+          ∙ ap (bit_at 1) none,
+      λ i above. bit_at_above n (suc j) i h.3 (omega (arith, above)),
+    )
 
 -- rest is word q without its bits after s, and no bit from the next word up to s is a one
 pub record IsRestTo (words : List ℕ) (s q rest : ℕ) : Type 0 where
@@ -76,13 +80,17 @@ some_before words s q p h to one =
     ⊎_elim (λ l. l) (λ from. absurd (false≢true (sym (passed_back words s q h p to from) ∙ one))) (cases_lt p (64 * q))
 
 -- the highest one of what is left is the last one
-pub last_left : (words : List ℕ) (s q rest : ℕ) → IsRestTo words s q rest → 0 < rest → IsLastOneTo (bits_of words) s (64 * q + (63 - leading_zeros w64 rest))
+pub last_left : (words : List ℕ) (s q rest : ℕ) → IsRestTo words s q rest → 0 < rest
+    → IsLastOneTo (bits_of words) s (64 * q + (63 - leading_zeros w64 rest))
 last_left words s q rest h some =
     let t = 63 - leading_zeros w64 rest in
     let top = highest rest some h.fits in
     let low : t < 64 = omega arith in
     let early : 64 * q + t ≤ s =
-    ⊎_elim (λ late. let none : bit_at rest t ≡ 0 = h.cleared t low late in let one : bit_at rest t ≡ 1 = top.1 in absurd (omega arith)) (λ l. l) (cases_lt s (64 * q + t)) in
+    ⊎_elim
+    (λ late. let none : bit_at rest t ≡ 0 = h.cleared t low late in let one : bit_at rest t ≡ 1 = top.1 in absurd (omega arith))
+    (λ l. l)
+    (cases_lt s (64 * q + t)) in
     let at : bit_at (get_or words q 0) t ≡ 1 = sym (h.kept t low early) ∙ top.1 in
     record {
       to = early;

@@ -1,5 +1,5 @@
 -- The search for the next one, word by word.
-use Rattle.std.proofs.Common.{◌≡◌, ℕ, ◌+◌, ◌-◌, ◌*◌, ◌/◌, ◌%◌, ◌^◌, ◌<◌, ◌≤◌, true, false, List, length, get_or, eqb, sym, refl, ap, ◌∙◌, ⊎_elim, arith, w64, bit_and, ◌⊎◌}
+use Rattle.std.proofs.Common.{◌≡◌, ℕ, ◌+◌, ◌-◌, ◌*◌, ◌/◌, ◌%◌, ◌^◌, ◌<◌, ◌≤◌, true, false, List, length, get_or, eqb, sym, refl, ap, ◌∙◌, ⊎_elim, arith, w64, bit_and}
 use Rattle.std.proofs.lemmas.Bool.{cases_lt, false≢true}
 use Rattle.std.proofs.lemmas.List.{get_or_past}
 use Rattle.std.proofs.lemmas.Nat.{and_le_l, pow_below}
@@ -56,7 +56,8 @@ passed_word words s q h i from before =
     item-bits_of_at words i q j place (omega arith) h.within ∙ ap (λ d. eqb d 1) digit_is)
     (cases_lt i (64 * q))
 
-pub IsRestFrom-next : (words : List ℕ) (s q : ℕ) → IsRestFrom words s q 0 → s < 64 * (q + 1) → q + 1 < length words → get_or words (q + 1) 0 < 2 ^ 64
+pub IsRestFrom-next : (words : List ℕ) (s q : ℕ) → IsRestFrom words s q 0 → s < 64 * (q + 1) → q + 1 < length words
+    → get_or words (q + 1) 0 < 2 ^ 64
     → IsRestFrom words s (q + 1) (get_or words (q + 1) 0)
 IsRestFrom-next words s q h near within fits = record {
   within = within;
@@ -67,7 +68,8 @@ IsRestFrom-next words s q h near within fits = record {
 }
 
 -- where the words end, there is no one
-pub none_left : (words : List ℕ) (s q : ℕ) → IsRestFrom words s q 0 → length words ≤ q + 1 → (i : ℕ) → s ≤ i → item (bits_of words) i ≡ false
+pub none_left : (words : List ℕ) (s q : ℕ) → IsRestFrom words s q 0 → length words ≤ q + 1
+    → (i : ℕ) → s ≤ i → item (bits_of words) i ≡ false
 none_left words s q h end i from =
     ⊎_elim
     (λ inside. passed_word words s q h i from (omega arith))
@@ -78,7 +80,8 @@ pub none_from : (words : List ℕ) (s : ℕ) → length words ≤ s / 64 → (i 
 none_from words s end i from = get_or_past (bits_of words) i false (omega (arith, length-bits_of words))
 
 -- word q whole, where no bit before it is a one
-pub IsRestFrom-word : (words : List ℕ) (q : ℕ) → q < length words → get_or words q 0 < 2 ^ 64 → ((i : ℕ) → i < 64 * q → item (bits_of words) i ≡ false)
+pub IsRestFrom-word : (words : List ℕ) (q : ℕ) → q < length words → get_or words q 0 < 2 ^ 64
+    → ((i : ℕ) → i < 64 * q → item (bits_of words) i ≡ false)
     → IsRestFrom words 0 q (get_or words q 0)
 IsRestFrom-word words q within fits before = record {
   within = within;
@@ -94,12 +97,17 @@ some_left words s q p h from one =
     ⊎_elim (λ more. more) (λ end. absurd (false≢true (sym (none_left words s q h end p from) ∙ one))) (cases_lt (q + 1) (length words))
 
 -- the lowest one of what is left is the first one
-pub first_left : (words : List ℕ) (s q rest : ℕ) → IsRestFrom words s q rest → 0 < rest → IsFirstOneFrom (bits_of words) s (64 * q + trailing_zeros w64 rest)
+pub first_left : (words : List ℕ) (s q rest : ℕ) → IsRestFrom words s q rest → 0 < rest
+    → IsFirstOneFrom (bits_of words) s (64 * q + trailing_zeros w64 rest)
 first_left words s q rest h some =
     let t = trailing_zeros w64 rest in
     let lowest = bit_at-trailing_zeros w64 rest some h.fits in
     let low : t < 64 = lowest.0 in
-    let late : s ≤ 64 * q + t = ⊎_elim (λ early. let none : bit_at rest t ≡ 0 = h.cleared t low early in let one : bit_at rest t ≡ 1 = lowest.1 in absurd (omega arith)) (λ l. l) (cases_lt (64 * q + t) s) in
+    let late : s ≤ 64 * q + t =
+    ⊎_elim
+    (λ early. let none : bit_at rest t ≡ 0 = h.cleared t low early in let one : bit_at rest t ≡ 1 = lowest.1 in absurd (omega arith))
+    (λ l. l)
+    (cases_lt (64 * q + t) s) in
     let at : bit_at (get_or words q 0) t ≡ 1 = sym (h.kept t low late) ∙ lowest.1 in
     record {
       from = late;

@@ -1,10 +1,10 @@
 -- Numbers written at two places: what a write leaves as it was, and numbers that change places twice.
-use Rattle.std.proofs.Common.{◌≡◌, ℕ, suc, ◌+◌, ◌-◌, ◌*◌, ◌^◌, ◌<◌, ◌≤◌, Bool, true, false, List, length, eqb, sym, refl, ap, ap₂, subst, ◌∙◌, ⊎_elim, arith, ◌≢◌, ◌⊎◌, inl, inr}
+use Rattle.std.proofs.Common.{◌≡◌, ℕ, ◌+◌, ◌-◌, ◌*◌, ◌<◌, ◌≤◌, Bool, List, length, sym, ap, ap₂, subst, ◌∙◌, ⊎_elim, arith, ◌≢◌, ◌⊎◌, inl, inr}
 use Rattle.std.proofs.lemmas.Bool.{cases_lt, cases_eq, cases_order}
 use Rattle.std.proofs.lemmas.Nat.{row_fits}
 use Rattle.std.proofs.lemmas.Nat.Bits.{same_from_bits_below}
 use Rattle.bitm_bits.proofs.lemmas.BitsLemmas.{same_bits}
-use Rattle.bitm_bits.proofs.lemmas.NumberLemmas.{number_at-lt, bit_at-number_at, length-with_number, item-with_number_below, item-with_number_inside, item-with_number_above, number_at-with_number}
+use Rattle.bitm_bits.proofs.lemmas.NumberLemmas.{number_at-lt, bit_at-number_at, length-with_number, item-with_number_below, item-with_number_inside, item-with_number_above, number_at-with_number, with_number-number_at}
 use Rattle.bitm_bits.proofs.lemmas.WordLemmas.{truth}
 use Rattle.bitm_bits.specs.Bits.{digit, item}
 use Rattle.bitm_bits.specs.Number.{number_at, with_number, with_swapped}
@@ -31,24 +31,17 @@ with_number_from_items b c s n v within len outside inside =
     (cases_lt i (s + n)))
     (cases_lt i s))
 
-item-with_number_outside : (b : List Bool) (s n v i : ℕ) → s + n ≤ length b → (i < s) ⊎ (s + n ≤ i) → item (with_number b s n v) i ≡ item b i
+item-with_number_outside : (b : List Bool) (s n v i : ℕ) → s + n ≤ length b → (i < s) ⊎ (s + n ≤ i)
+    → item (with_number b s n v) i ≡ item b i
 item-with_number_outside b s n v i within where_ =
     ⊎_elim (λ before. item-with_number_below b s n v i within before) (λ after. item-with_number_above b s n v i within after) where_
 
--- the number that stands there, written there
-digit_of_truth : (x : Bool) → eqb (truth x) 1 ≡ x
-digit_of_truth true = refl
-digit_of_truth false = refl
-
-pub with_number-number_at : (b : List Bool) (s n : ℕ) → s + n ≤ length b → with_number b s n (number_at b s n) ≡ b
-with_number-number_at b s n within =
-    sym (with_number_from_items b b s n (number_at b s n) within refl (λ i l out. refl)
-    (λ k l. sym (ap (λ d. eqb d 1) (bit_at-number_at b s n k l) ∙ digit_of_truth (item b (s + k)))))
-
 -- of two writes to one place the second stays
-pub with_number-with_number : (b : List Bool) (s n u v : ℕ) → s + n ≤ length b → with_number (with_number b s n u) s n v ≡ with_number b s n v
+pub with_number-with_number : (b : List Bool) (s n u v : ℕ) → s + n ≤ length b
+    → with_number (with_number b s n u) s n v ≡ with_number b s n v
 with_number-with_number b s n u v within =
-    with_number_from_items b (with_number (with_number b s n u) s n v) s n v within (length-with_number (with_number b s n u) s n v room ∙ len)
+    with_number_from_items b (with_number (with_number b s n u) s n v) s n v within
+    (length-with_number (with_number b s n u) s n v room ∙ len)
     (λ i l out. item-with_number_outside (with_number b s n u) s n v i room out ∙ item-with_number_outside b s n u i within out)
     (λ k l. item-with_number_inside (with_number b s n u) s n v k room l)
   where
@@ -84,7 +77,8 @@ number_at-with_number_apart b s n v t m within room apart =
 pub with_number-with_number_apart : (b : List Bool) (s n u t m v : ℕ) → s + n ≤ length b → t + m ≤ length b → Apart s n t m
     → with_number (with_number b s n u) t m v ≡ with_number (with_number b t m v) s n u
 with_number-with_number_apart b s n u t m v within room apart =
-    with_number_from_items c (with_number first t m v) s n u (omega (arith, of_c)) (length-with_number first t m v fits ∙ of_first ∙ sym of_c)
+    with_number_from_items c (with_number first t m v) s n u (omega (arith, of_c))
+    (length-with_number first t m v fits ∙ of_first ∙ sym of_c)
     (λ i l out.
     ⊎_elim
     (λ here.
@@ -125,7 +119,6 @@ with_number-with_number_apart b s n u t m v within room apart =
 -- ---- fragments that change places
 
 pub with_swapped-itself : (b : List Bool) (i width : ℕ) → i * width + width ≤ length b → with_swapped b i i width ≡ b
-unfolding with_swapped
 with_swapped-itself b i width within =
     with_number-with_number b (i * width) width (number_at b (i * width) width) (number_at b (i * width) width) within
     ∙ with_number-number_at b (i * width) width within
@@ -174,14 +167,15 @@ fragments_apart i j width apart =
     (λ order. ⊎_elim (λ l. inl (row_fits i width j width l (omega arith))) (λ l. inr (row_fits j width i width l (omega arith))) order)
     (cases_order i j)
 
-swapped_with_itself_twice : (b : List Bool) (i width : ℕ) → i * width + width ≤ length b → with_swapped (with_swapped b i i width) i i width ≡ b
+swapped_with_itself_twice : (b : List Bool) (i width : ℕ) → i * width + width ≤ length b
+    → with_swapped (with_swapped b i i width) i i width ≡ b
 swapped_with_itself_twice b i width within =
     ap (λ c. with_swapped c i i width) (with_swapped-itself b i width within) ∙ with_swapped-itself b i width within
 
 swapped_apart_twice : (b : List Bool) (i j width : ℕ) → i * width + width ≤ length b → j * width + width ≤ length b → i ≢ j
     → with_swapped (with_swapped b i j width) i j width ≡ b
-unfolding with_swapped
-swapped_apart_twice b i j width within room apart = swapped_back b (i * width) (j * width) width within room (fragments_apart i j width apart)
+swapped_apart_twice b i j width within room apart =
+    swapped_back b (i * width) (j * width) width within room (fragments_apart i j width apart)
 
 pub with_swapped-with_swapped : (b : List Bool) (i j width : ℕ) → i * width + width ≤ length b → j * width + width ≤ length b
     → with_swapped (with_swapped b i j width) i j width ≡ b

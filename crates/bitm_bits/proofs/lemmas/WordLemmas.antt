@@ -1,5 +1,5 @@
 -- The binary digits of what shifts, masks and tests compute on one word. `bit_at v j` is digit j of v as a number.
-use Rattle.std.proofs.Common.{◌≡◌, ℕ, zero, suc, ◌+◌, ◌-◌, ◌*◌, ◌/◌, ◌%◌, ◌^◌, ◌<◌, ◌≤◌, Bool, cond, not, eqb, sym, refl, ap, ◌∙◌, arith, w64, min, max, bit_and, bit_or, ne_eqb, ap₂, ⊎_elim, ◌⊎◌, ◌≢◌}
+use Rattle.std.proofs.Common.{◌≡◌, ℕ, zero, suc, ◌+◌, ◌-◌, ◌*◌, ◌/◌, ◌%◌, ◌^◌, ◌<◌, ◌≤◌, Bool, cond, not, eqb, sym, refl, ap, ◌∙◌, arith, w64, min, max, bit_and, bit_or, ne_eqb, ap₂, ⊎_elim, ◌≢◌}
 use Rattle.std.proofs.lemmas.Bool.{cases_lt}
 use Rattle.std.proofs.lemmas.Nat.{pow_pos, pow_below, mod-pow-add, shr-shr, shr_split, one_shl}
 use Rattle.std.proofs.lemmas.Nat.Bits.{bit_at-lt, bit_at-zero, bit_at_not, bit_at_cat_low, bit_at_cat_high, bit_at_above, bit_at_and, bit_at_or, and_pow, bit_at_ones_above, same_from_bits_below}
@@ -53,7 +53,10 @@ truth-digit v j = by (bit_at v j) (bit_at-lt v j)
 
 -- `v & (1 << k) != 0`
 pub digit_tested : (v k : ℕ) → k < 64 → not (eqb (bit_and v (1 * 2 ^ k % 2 ^ 64)) 0) ≡ digit v k
-digit_tested v k l = ap (λ m. not (eqb (bit_and v m) 0)) (one_shl k 64 l) ∙ ap (λ m. not (eqb m 0)) (and_pow v k) ∙ by (bit_at v k) (2 ^ k) (bit_at-lt v k) (pow_pos k)
+digit_tested v k l =
+    ap (λ m. not (eqb (bit_and v m) 0)) (one_shl k 64 l)
+    ∙ ap (λ m. not (eqb m 0)) (and_pow v k)
+    ∙ by (bit_at v k) (2 ^ k) (bit_at-lt v k) (pow_pos k)
   where
     by : (d p : ℕ) → d < 2 → 0 < p → not (eqb (d * p) 0) ≡ eqb d 1
     by zero p l some = let e : 0 * p ≡ 0 = omega arith in ap (λ m. not (eqb m 0)) e
@@ -82,10 +85,13 @@ pub bit_at-lowest_cleared_same : (n t : ℕ) → bit_at n t ≡ 1 → ((i : ℕ)
 bit_at-lowest_cleared_same n t one below =
     let less : n / 2 ^ (1 + t) * 2 ^ (1 + t) + (2 ^ t - 1) ≡ n - 1 = omega (arith, split_at_lowest n t one below, pow_pos t) in
     let gone : bit_at (n - 1) t ≡ 0 =
-    ap (λ x. bit_at x t) (sym less) ∙ bit_at_cat_low (n / 2 ^ (1 + t)) (1 + t) (2 ^ t - 1) t (omega arith) ∙ bit_at_ones_above t t (omega arith) in
+    ap (λ x. bit_at x t) (sym less)
+    ∙ bit_at_cat_low (n / 2 ^ (1 + t)) (1 + t) (2 ^ t - 1) t (omega arith)
+    ∙ bit_at_ones_above t t (omega arith) in
     omega (arith, bit_at_and n (n - 1) t, gone)
 
-pub bit_at-lowest_cleared_other : (n t : ℕ) → bit_at n t ≡ 1 → ((i : ℕ) → i < t → bit_at n i ≡ 0) → (i : ℕ) → i ≢ t → bit_at (bit_and n (n - 1)) i ≡ bit_at n i
+pub bit_at-lowest_cleared_other : (n t : ℕ) → bit_at n t ≡ 1 → ((i : ℕ) → i < t → bit_at n i ≡ 0)
+    → (i : ℕ) → i ≢ t → bit_at (bit_and n (n - 1)) i ≡ bit_at n i
 bit_at-lowest_cleared_other n t one below i apart =
     ⊎_elim
     (λ before. omega (arith, bit_at_and n (n - 1) i, below i before))
@@ -94,7 +100,8 @@ bit_at-lowest_cleared_other n t one below i apart =
     let split = split_at_lowest n t one below in
     let less : high * 2 ^ (1 + t) + (2 ^ t - 1) ≡ n - 1 = omega (arith, split, pow_pos t) in
     let power : 2 ^ t < 2 ^ (1 + t) = pow_below t (1 + t) (omega arith) in
-    let of_n : bit_at n i ≡ bit_at high (i - (1 + t)) = ap (λ x. bit_at x i) (sym split) ∙ bit_at_cat_high high (1 + t) (2 ^ t) i power (omega arith) in
+    let of_n : bit_at n i ≡ bit_at high (i - (1 + t)) =
+    ap (λ x. bit_at x i) (sym split) ∙ bit_at_cat_high high (1 + t) (2 ^ t) i power (omega arith) in
     let of_less : bit_at (n - 1) i ≡ bit_at high (i - (1 + t)) =
     ap (λ x. bit_at x i) (sym less) ∙ bit_at_cat_high high (1 + t) (2 ^ t - 1) i (omega (arith, power)) (omega arith) in
     omega (arith, bit_at_and n (n - 1) i, of_n, of_less))

@@ -1,5 +1,6 @@
 ghost use Rattle.std.specs.Prelude.{◌≡◌, ◌+◌, ◌*◌, ◌^◌, ◌<◌, ◌≤◌, ℕ, List, length, SomeIff, true, false, MatchOption};
 ghost use Rattle.bitm_bits.specs.Bits.{bits_of, item, IsShort};
+ghost use Rattle.bitm_bits.specs.Coming.{all_bits_left};
 ghost use Rattle.bitm_bits.specs.Count.{ones_before, zeros_before, places, IsFirstOneFrom, IsLastOneTo};
 ghost use Rattle.bitm_bits.specs.Number.{number_at, IsInRange, IsFragmentInRange};
 ghost use Rattle.bitm_bits.specs.Window.{reach_of};
@@ -260,8 +261,7 @@ pub trait BitAccess {
     /// There are fewer than 2^58 words.
     fn bit_iter(&self) -> BitIterator<'_>
         requires { IsShort (words self.now) }
-        ensures { result ≡ record { bit_vec = words self.now;
-            bit_range = record { start = 0; end = 64 * length (words self.now) } } };
+        ensures { result ≡ all_bits_left (words self.now) };
 
     /// The bits of the range, from either end; none where it is reversed.
     ///

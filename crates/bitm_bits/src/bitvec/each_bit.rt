@@ -3,7 +3,7 @@ ghost use Rattle.std.specs.Prelude.{◌≡◌, ℕ, ◌*◌, ◌≤◌, length, 
 ghost use Rattle.std.specs.Iterator.{YieldsFirst, YieldsLast, MakesProgress, item_count, UpTo, at_most};
 ghost use Rattle.std.specs.Iterator.SizeHint.{IsWithinCount};
 ghost use Rattle.bitm_bits.specs.Bits.{bits_of, IsShort};
-ghost use Rattle.bitm_bits.specs.Coming.{BitsLeft, bits_left, without_first, without_last};
+ghost use Rattle.bitm_bits.specs.Coming.{BitsLeft, all_bits_left, bits_left, without_first, without_last};
 
 use crate::bitvec::reading::get_bit;
 use std::iter::{DoubleEndedIterator, ExactSizeIterator, FusedIterator, Iterator};
@@ -33,8 +33,7 @@ impl<'bv> BitIterator<'bv> {
     #[inline]
     pub fn new(words: &'bv [u64]) -> Self
         requires { IsShort words.now }
-        ensures { result ≡ record { bit_vec = words.now;
-            bit_range = record { start = 0; end = 64 * length words.now } } }
+        ensures { result ≡ all_bits_left words.now }
     {
         BitIterator {
             words,

@@ -33,7 +33,11 @@ fn finds_in_a_fragment(rt: HostRuntime) {
     let mut array = [0b101u64 << 3, 0];
     let content = array.as_mut_slice();
     assert_eq!(rt;
-        [first_from(&content, 0, 3), first_from(&content, 3, 3), first_from(&content, 4, 5)],
+        [
+            first_from(&content, 0, 3),
+            first_from(&content, 3, 3),
+            first_from(&content, 4, 5)
+        ],
         [Some(3), Some(3), Some(5)]
     );
     assert_eq!(rt; last_to(&content, 127, 3), Some(5));
@@ -51,7 +55,10 @@ fn finds_pass_over_words(rt: HostRuntime) {
     assert_eq!(rt; content.trailing_zero_bits(), 66);
     let array = [0u64, 0];
     let content = array.as_slice();
-    assert_eq!(rt; (content.trailing_zero_bits(), content.find_bit_one(0)), (128, None));
+    assert_eq!(rt;
+        (content.trailing_zero_bits(), content.find_bit_one(0)),
+        (128, None)
+    );
     let array = [1u64, 0];
     let content = array.as_slice();
     assert_eq!(rt; last_to(&content, 127, 0), Some(0));

@@ -19,13 +19,22 @@ fn iterators(rt: HostRuntime) {
     ];
     assert_eq!(rt;
         steps,
-        [(3, Some(0)), (2, Some(2)), (1, Some(65)), (0, None), (0, None)]
+        [
+            (3, Some(0)),
+            (2, Some(2)),
+            (1, Some(65)),
+            (0, None),
+            (0, None)
+        ]
     );
     let mut bits = content.bit_iter();
     assert_eq!(rt; bits.len(), 128);
     let first = [bits.next(), bits.next(), bits.next()];
     assert_eq!(rt; first, [Some(true), Some(false), Some(true)]);
-    assert_eq!(rt; (bits.len(), bits.nth(60), bits.len()), (125, Some(false), 64));
+    assert_eq!(rt;
+        (bits.len(), bits.nth(60), bits.len()),
+        (125, Some(false), 64)
+    );
     assert_eq!(rt; [bits.next(), bits.next()], [Some(false), Some(true)]);
     assert_eq!(rt; (bits.len(), bits.nth(61)), (62, Some(false)));
     assert_eq!(rt; (bits.len(), bits.next()), (0, None));
@@ -40,7 +49,10 @@ fn iterators_empty_slice(rt: HostRuntime) {
     let mut zeros = BitZerosIterator::new(content);
     assert_eq!(rt; (zeros.len(), zeros.next()), (0, None));
     let mut bits = content.bit_iter();
-    assert_eq!(rt; (bits.len(), bits.next(), bits.next_back()), (0, None, None));
+    assert_eq!(rt;
+        (bits.len(), bits.next(), bits.next_back()),
+        (0, None, None)
+    );
 }
 
 #[test]
@@ -49,7 +61,10 @@ fn iterators_len_of_zeros(rt: HostRuntime) {
     let content = array.as_slice();
     let mut zeros = content.bit_zeros();
     assert_eq!(rt; (zeros.len(), zeros.next(), zeros.len()), (64, Some(0), 63));
-    assert_eq!(rt; (zeros.nth(62), zeros.len(), zeros.next()), (Some(63), 0, None));
+    assert_eq!(rt;
+        (zeros.nth(62), zeros.len(), zeros.next()),
+        (Some(63), 0, None)
+    );
     let array = [u64::MAX];
     let content = array.as_slice();
     let mut none = content.bit_zeros();
@@ -80,7 +95,10 @@ fn bit_iterator_ranges(rt: HostRuntime) {
     let mut none = content.bit_in_range_iter(7..7);
     assert_eq!(rt; (none.len(), none.next()), (0, None));
     let mut word = content.bit_in_range_iter(0..64);
-    assert_eq!(rt; (word.len(), word.nth(63), word.next()), (64, Some(false), None));
+    assert_eq!(rt;
+        (word.len(), word.nth(63), word.next()),
+        (64, Some(false), None)
+    );
     let array = [u64::MAX, 0, u64::MAX];
     let content = array.as_slice();
     let mut bits = content.bit_iter();
@@ -96,11 +114,20 @@ fn bits_come_from_both_ends(rt: HostRuntime) {
     let content = array.as_slice();
     let mut bits = content.bit_in_range_iter(0..3);
     assert_eq!(rt;
-        [bits.next(), bits.next_back(), bits.next(), bits.next(), bits.next_back()],
+        [
+            bits.next(),
+            bits.next_back(),
+            bits.next(),
+            bits.next(),
+            bits.next_back()
+        ],
         [Some(true), Some(true), Some(false), None, None]
     );
     let mut reversed = BitIterator::with_range_unchecked(content, 5..2);
-    assert_eq!(rt; (reversed.len(), reversed.next(), reversed.next_back()), (0, None, None));
+    assert_eq!(rt;
+        (reversed.len(), reversed.next(), reversed.next_back()),
+        (0, None, None)
+    );
     let left = reversed.bit_range();
     assert_eq!(rt; (left.start, left.end), (5, 2));
     assert_eq!(rt; reversed.bit_vec(), content);

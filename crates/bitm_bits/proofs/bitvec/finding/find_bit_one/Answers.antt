@@ -1,3 +1,4 @@
+-- What is left of the current word, and nothing before it, while the words are searched.
 use Rattle.std.proofs.Common.{rules, ◌≡◌, ℕ, ◌+◌, ◌*◌, ◌/◌, ◌^◌, ◌<◌, get_or, bit_and, w64, arith, subst, sym}
 use Rattle.std.specs.Int.{bit_not, trailing_zeros}
 use Rattle.bitm_bits.specs.Bits.{bits_of}
@@ -18,7 +19,9 @@ loop-rest-init c =
     let fits : get_or words q 0 < 2 ^ 64 = search rules in
     let P : ℕ → Type 0 = λ w. IsRestFrom words c.args.start q (bit_and w (bit_not w64 c.n_lowest_bits.result)) in
     record {
-      left = subst P (sym read) (IsRestFrom-start words c.args.start c.n_lowest_bits.result c.in_ok-rest.ensures.lookup.3.0 fits c.n_lowest_bits.ensures);
+      left =
+          subst P (sym read)
+          (IsRestFrom-start words c.args.start c.n_lowest_bits.result c.in_ok-rest.ensures.lookup.3.0 fits c.n_lowest_bits.ensures);
       near = omega arith;
     }
 
@@ -37,8 +40,11 @@ loop-rest-preserved c =
     let fits : get_or words (q + 1) 0 < 2 ^ 64 = search rules in
     let P : ℕ → Type 0 = λ r. IsRestFrom words c.args.start q r in
     let Q : ℕ → Type 0 = λ r. IsRestFrom words c.args.start (q + 1) r in
+    let nothing = subst P c.loop-rest-test.true c.loop-rest.invariant.left in
     record {
-      left = subst Q (sym read) (IsRestFrom-next words c.args.start q (subst P c.loop-rest-test.true c.loop-rest.invariant.left) c.loop-rest.invariant.near c.in_ok-rest-2.ensures.lookup.3.0 fits);
+      left =
+          subst Q (sym read)
+          (IsRestFrom-next words c.args.start q nothing c.loop-rest.invariant.near c.in_ok-rest-2.ensures.lookup.3.0 fits);
       near = omega arith;
     }
 

@@ -1,5 +1,5 @@
 -- The search for the last one, where the one that is known keeps it from running out of words.
-use Rattle.std.proofs.Common.{rules, ◌≡◌, ℕ, ◌+◌, ◌-◌, ◌*◌, ◌/◌, ◌%◌, ◌^◌, ◌<◌, ◌≤◌, true, List, get_or, w64, arith, ap, ◌∙◌, subst, sym}
+use Rattle.std.proofs.Common.{rules, ◌≡◌, ℕ, ◌+◌, ◌-◌, ◌*◌, ◌/◌, ◌^◌, ◌<◌, ◌≤◌, true, List, get_or, w64, arith, subst}
 use Rattle.std.specs.Int.{leading_zeros}
 use Rattle.bitm_bits.specs.Bits.{bits_of, item}
 use Rattle.bitm_bits.specs.Count.{IsLastOneTo}
@@ -22,14 +22,18 @@ later_word words s q rest p left none to one =
 
 pub overflow_sub-word_index : goal.overflow_sub-word_index
 overflow_sub-word_index c =
+    let q = c.loop-rest.word_index in
     let known = c.requires.exists in
-    let later = later_word c.args.words.now c.args.start c.loop-rest.word_index c.loop-rest.rest known.0 c.loop-rest.invariant.left c.loop-rest-test.true known.1 known.2 in
+    let left = c.loop-rest.invariant.left in
+    let later = later_word c.args.words.now c.args.start q c.loop-rest.rest known.0 left c.loop-rest-test.true known.1 known.2 in
     omega (arith, later)
 
 pub loop-rest-smaller : goal.loop-rest-smaller
 loop-rest-smaller c =
+    let q = c.loop-rest.word_index in
     let known = c.requires.exists in
-    let later = later_word c.args.words.now c.args.start c.loop-rest.word_index c.loop-rest.rest known.0 c.loop-rest.invariant.left c.loop-rest-test.true known.1 known.2 in
+    let left = c.loop-rest.invariant.left in
+    let later = later_word c.args.words.now c.args.start q c.loop-rest.rest known.0 left c.loop-rest-test.true known.1 known.2 in
     omega (arith, later)
 
 pub loop-rest-preserved : goal.loop-rest-preserved
@@ -37,13 +41,14 @@ loop-rest-preserved c =
     let words = c.args.words.now in
     let q = c.loop-rest.word_index in
     let known = c.requires.exists in
-    let later = later_word words c.args.start q c.loop-rest.rest known.0 c.loop-rest.invariant.left c.loop-rest-test.true known.1 known.2 in
+    let left = c.loop-rest.invariant.left in
+    let later = later_word words c.args.start q c.loop-rest.rest known.0 left c.loop-rest-test.true known.1 known.2 in
     let back : q ≡ q - 1 + 1 = omega (arith, later) in
     let P : ℕ → Type 0 = λ k. IsRestTo words c.args.start k 0 in
     let Q : ℕ → Type 0 = λ r. IsRestTo words c.args.start q r in
     let fits : get_or words (q - 1) 0 < 2 ^ 64 = search rules in
     record {
-      left = IsRestTo-next words c.args.start (q - 1) (subst P back (subst Q c.loop-rest-test.true c.loop-rest.invariant.left)) (omega arith) fits;
+      left = IsRestTo-next words c.args.start (q - 1) (subst P back (subst Q c.loop-rest-test.true left)) (omega arith) fits;
       near = omega arith;
     }
 

@@ -1,4 +1,4 @@
-use Rattle.std.proofs.Common.{◌*◌, ◌<◌, ◌≤◌}
+use Rattle.std.proofs.Common.{◌*◌, ◌≤◌}
 use Rattle.bitm_bits.proofs.lemmas.SearchBackLemmas.{IsRestTo}
 use Rattle.bitm_bits.proofs.bitvec.finding.rfind_bit_one_unchecked.Given as goal
 

@@ -7,7 +7,8 @@ use Rattle.bitm_bits.proofs.lemmas.SearchLemmas.{IsRestFrom, IsRestFrom-word, pa
 use Rattle.bitm_bits.proofs.bitvec.finding.trailing_zero_bits.Goals as goal
 
 first_of_word : (words : List ℕ) (q : ℕ) → q < length words → get_or words q 0 < 2 ^ 64 → 0 < get_or words q 0
-    → ((i : ℕ) → i < 64 * q → item (bits_of words) i ≡ false) → IsFirstOneFrom (bits_of words) 0 (q * 64 + trailing_zeros w64 (get_or words q 0))
+    → ((i : ℕ) → i < 64 * q → item (bits_of words) i ≡ false)
+    → IsFirstOneFrom (bits_of words) 0 (q * 64 + trailing_zeros w64 (get_or words q 0))
 first_of_word words q within fits some before =
     let place : 64 * q + trailing_zeros w64 (get_or words q 0) ≡ q * 64 + trailing_zeros w64 (get_or words q 0) = omega arith in
     let P : ℕ → Type 0 = λ p. IsFirstOneFrom (bits_of words) 0 p in
@@ -33,4 +34,5 @@ loop-word_index-preserved c =
     let q = c.loop-word_index.word_index in
     let P : ℕ → Type 0 = λ r. IsRestFrom words 0 q r in
     let fits : get_or words q 0 < 2 ^ 64 = search rules in
-    λ i l. passed_word words 0 q (subst P c.if-word-ne0.false (IsRestFrom-word words q (omega arith) fits c.loop-word_index.invariant)) i (omega arith) l
+    let rest = IsRestFrom-word words q (omega arith) fits c.loop-word_index.invariant in
+    λ i l. passed_word words 0 q (subst P c.if-word-ne0.false rest) i (omega arith) l

@@ -6,4 +6,6 @@ use Rattle.bitm_bits.proofs.bitvec.each_bit.BitIteratorExactSizeIterator.len.Goa
 pub returns-clause-value : goal.returns-clause-value
 returns-clause-value c =
     let it = c.self.inside in
-    c.len.ensures.value ∙ sym (length-bits_coming it.words.now it.range.start it.range.end c.self.invariant.0) ∙ ap (λ it. length (bits_left it)) c.self.view_is
+    c.len.ensures.value
+    ∙ sym (length-bits_coming it.words.now it.range.start it.range.end c.self.invariant.0)
+    ∙ ap (λ it. length (bits_left it)) c.self.view_is

@@ -1,7 +1,6 @@
 -- The bit at the start of the range comes, and the range goes on after it.
-use Rattle.std.proofs.Common.{◌≡◌, ◌+◌, ◌<◌, ◌∷◌, [], length, sym, ap, ap₂, ◌∙◌, arith}
+use Rattle.std.proofs.Common.{◌≡◌, ◌≤◌, [], length, sym, ap, ◌∙◌, arith}
 use Rattle.bitm_bits.proofs.lemmas.ComingLemmas.{bits_coming_none, bits_coming_step}
-use Rattle.bitm_bits.specs.Bits.{bits_of}
 use Rattle.bitm_bits.specs.Coming.{bits_left, bits_coming}
 use Rattle.bitm_bits.proofs.bitvec.each_bit.BitIteratorIterator.next.Goals as goal
 
@@ -12,7 +11,8 @@ returns-in_err-place-clause-steps c =
     let ended = c.in_err-place.ensures.steps in
     let was : bits_left c.args.self.now ≡ [] =
     sym (ap bits_left c.self.view_is) ∙ bits_coming_none it.words.now it.range.start it.range.end (omega (arith, ended.1.0)) in
-    let is : bits_coming it.words.now to.start to.end ≡ [] = bits_coming_none it.words.now to.start to.end (omega (arith, ended.0, ended.1.0, ended.1.1)) in
+    let reversed : to.end ≤ to.start = omega (arith, ended.0, ended.1.0, ended.1.1) in
+    let is : bits_coming it.words.now to.start to.end ≡ [] = bits_coming_none it.words.now to.start to.end reversed in
     rw c.from_residual.ensures (was, is)
 
 pub returns-clause-steps : goal.returns-clause-steps

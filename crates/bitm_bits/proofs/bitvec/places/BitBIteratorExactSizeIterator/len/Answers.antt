@@ -13,16 +13,18 @@ kind_one : (v : ℕ) → v ≢ 0 → kind v ≡ true
 kind_one zero apart = absurd (apart refl)
 kind_one (suc v) apart = refl
 
-both_within : (words : List ℕ) → ones_before (bits_of words) (64 * length words) + zeros_before (bits_of words) (64 * length words) ≡ 64 * length words
+both_within : (words : List ℕ)
+    → ones_before (bits_of words) (64 * length words) + zeros_before (bits_of words) (64 * length words) ≡ 64 * length words
 both_within words = ones_before-add-zeros_before (bits_of words) (64 * length words) (omega (arith, length-bits_of words))
 
 pub overflow_add-result : goal.overflow_add-result
 overflow_add-result g c =
     let rest = c.self.inside.rest.now in
     let fits : c.self.inside.current < 2 ^ 64 = search rules in
+    let left = ones-le 64 c.self.inside.current fits in
     elim c.if-this-eq0.branch [
-      | then-this-eq0 w ↦ omega (arith, w.rest-is, w.count_bit_zeros-rest.ensures, both_within rest, ones-le 64 c.self.inside.current fits, c.self.invariant)
-      | else-this-eq0 w ↦ omega (arith, w.rest-is, w.count_bit_ones-rest.ensures, both_within rest, ones-le 64 c.self.inside.current fits, c.self.invariant)
+      | then-this-eq0 w ↦ omega (arith, w.rest-is, w.count_bit_zeros-rest.ensures, both_within rest, left, c.self.invariant)
+      | else-this-eq0 w ↦ omega (arith, w.rest-is, w.count_bit_ones-rest.ensures, both_within rest, left, c.self.invariant)
     ]
 
 pub returns-clause-value : goal.returns-clause-value
@@ -32,6 +34,10 @@ returns-clause-value g c =
     let fits : it.current < 2 ^ 64 = search rules in
     let coming = sym (length-coming g.row.B it.first it.current it.rest.now fits) ∙ ap length c.self.view_is in
     elim c.if-this-eq0.branch [
-      | then-this-eq0 w ↦ ap (λ n. count_ones it.current + n) (w.rest-is ∙ w.count_bit_zeros-rest.ensures) ∙ sym (ap counted (ap kind w.if-this-eq0.true)) ∙ coming
-      | else-this-eq0 w ↦ ap (λ n. count_ones it.current + n) (w.rest-is ∙ w.count_bit_ones-rest.ensures) ∙ sym (ap counted (kind_one g.row.B w.if-this-eq0.false)) ∙ coming
+      | then-this-eq0 w ↦
+          ap (λ n. count_ones it.current + n) (w.rest-is ∙ w.count_bit_zeros-rest.ensures) ∙ sym (ap counted (ap kind w.if-this-eq0.true)) ∙ coming
+      | else-this-eq0 w ↦
+          ap (λ n. count_ones it.current + n) (w.rest-is ∙ w.count_bit_ones-rest.ensures)
+          ∙ sym (ap counted (kind_one g.row.B w.if-this-eq0.false))
+          ∙ coming
     ]
