@@ -9,6 +9,7 @@
 #![tactic(auto)]
 
 mod rank;
+mod select;
 
 pub use bitm_bits::{
     BitAccess, BitAccessMut, ceiling_div, n_lowest_bits, n_lowest_bits_0_64, n_lowest_bits_1_64,
@@ -16,3 +17,4 @@ pub use bitm_bits::{
 };
 pub use rank::Rank;
 pub use rank::simple::{ArrayWithRankSimple, RankSimple};
+pub use select::word::{byte_sums, bytes_at_most, select64};
