@@ -1,1 +1,7 @@
+pub mod AtMostLemmas
+pub mod ByteLemmas
+pub mod ByteSumLemmas
+pub mod FieldLemmas
+pub mod InWordLemmas
+pub mod SelectLemmas
 pub mod SimpleLemmas

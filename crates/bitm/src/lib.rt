@@ -9,6 +9,7 @@
 #![tactic(auto)]
 
 mod rank;
+mod select;
 
 pub use bitm_bits::{
     BitAccess, BitAccessMut, BitBIterator, BitIterator, BitOnesIterator, BitVec, BitZerosIterator,
@@ -18,3 +19,4 @@ pub use bitm_bits::{
 };
 pub use rank::Rank;
 pub use rank::simple::{ArrayWithRankSimple, RankSimple};
+pub use select::word::{byte_sums, bytes_at_most, select64};

@@ -1,0 +1,3 @@
+//! The places that ranks pick.
+
+pub mod word;
