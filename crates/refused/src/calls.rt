@@ -1,16 +1,27 @@
 //! Each call that takes memory, with its right answer and the state that a refusal has to leave.
-use bitm::RankSimple;
-use std::alloc::Global;
+use bitm::{ArrayWithRankSimple, BitVec, CloneWords, RankSimple};
+use std::alloc::{AllocError, Global};
 use std::boxed::BoxedSlice;
 use std::convert::AsSlice;
+
+type Words = BoxedSlice<u64, Global>;
 
 /// The content that is handed to the calls: five ones, at places 0, 2, 3, 65 and 66.
 const WORDS: [u64; 2] = [13, 6];
 
+/// The calls that take memory.
 #[derive(Clone, Copy)]
 pub enum Call {
+    Segments,
+    ZeroedSegments,
+    FilledSegments,
+    ZeroedBits,
+    FilledBits,
+    Bitwords,
+    TrySame,
     SimpleLent,
     SimpleOwned,
+    SimpleClone,
 }
 
 /// How a call ended.
@@ -33,22 +44,58 @@ impl Outcome {
     }
 }
 
-pub fn all() -> [Call; 2] {
-    [Call::SimpleLent, Call::SimpleOwned]
+pub fn all() -> [Call; 10] {
+    [
+        Call::Segments,
+        Call::ZeroedSegments,
+        Call::FilledSegments,
+        Call::ZeroedBits,
+        Call::FilledBits,
+        Call::Bitwords,
+        Call::TrySame,
+        Call::SimpleLent,
+        Call::SimpleOwned,
+        Call::SimpleClone,
+    ]
 }
 
 impl Call {
     pub fn name(self) -> &'static str {
         match self {
+            Call::Segments => "with-64bit-segments",
+            Call::ZeroedSegments => "with-zeroed-64bit-segments",
+            Call::FilledSegments => "with-filled-64bit-segments",
+            Call::ZeroedBits => "with-zeroed-bits",
+            Call::FilledBits => "with-filled-bits",
+            Call::Bitwords => "with-bitwords",
+            Call::TrySame => "try-same",
             Call::SimpleLent => "simple-build-lent",
             Call::SimpleOwned => "simple-build-owned",
+            Call::SimpleClone => "simple-try-clone",
         }
     }
 
     pub fn run(self, alloc: Global) -> Outcome {
         match self {
+            Call::Segments => made(Words::with_64bit_segments(alloc, 7, 3), [7, 7, 7]),
+            Call::ZeroedSegments => made(Words::with_zeroed_64bit_segments(alloc, 3), [0, 0, 0]),
+            Call::FilledSegments => made(
+                Words::with_filled_64bit_segments(alloc, 3),
+                [u64::MAX, u64::MAX, u64::MAX],
+            ),
+            Call::ZeroedBits => made(Words::with_zeroed_bits(alloc, 129), [0, 0, 0]),
+            Call::FilledBits => made(
+                Words::with_filled_bits(alloc, 129),
+                [u64::MAX, u64::MAX, u64::MAX],
+            ),
+            Call::Bitwords => made(
+                Words::with_bitwords(alloc, 1, 1, 129),
+                [u64::MAX, u64::MAX, 1],
+            ),
+            Call::TrySame => try_same(alloc),
             Call::SimpleLent => simple_lent(alloc),
             Call::SimpleOwned => simple_owned(alloc),
+            Call::SimpleClone => simple_clone(alloc),
         }
     }
 }
@@ -69,6 +116,21 @@ fn refused(unharmed: bool) -> Outcome {
     }
 }
 
+/// How a constructor of these words ended.
+fn made(words: Result<Words, AllocError>, right: [u64; 3]) -> Outcome {
+    match words {
+        Ok(words) => answered(words.as_slice() == right.as_slice()),
+        Err(AllocError) => Outcome::Refused,
+    }
+}
+
+/// Whether a simple rank over `WORDS` answers as it has to.
+fn ranks<BV: AsSlice<u64>>(index: &RankSimple<BV>) -> bool {
+    index.as_slice() == WORDS.as_slice()
+        && index.try_rank(66) == Some(4)
+        && index.try_rank(128) == None
+}
+
 /// A simple rank over the content, which has the words of `WORDS`.
 #[tactic(auto, using(bitm_bits::proofs::lemmas::CountLemmas::few_ones))]
 fn simple<BV: AsSlice<u64> + Drop>(alloc: Global, content: BV) -> Outcome {
@@ -76,12 +138,7 @@ fn simple<BV: AsSlice<u64> + Drop>(alloc: Global, content: BV) -> Outcome {
         return Outcome::Wrong;
     }
     match RankSimple::build(alloc, content) {
-        Ok((index, total)) => answered(
-            total == 5
-                && index.as_slice() == WORDS.as_slice()
-                && index.try_rank(66) == Some(4)
-                && index.try_rank(128) == None,
-        ),
+        Ok((index, total)) => answered(total == 5 && ranks(&index)),
         Err(back) => refused(back.as_slice() == WORDS.as_slice()),
     }
 }
@@ -93,6 +150,30 @@ fn simple_lent(alloc: Global) -> Outcome {
 fn simple_owned(alloc: Global) -> Outcome {
     match BoxedSlice::from_slice(alloc, WORDS.as_slice()) {
         Ok(content) => simple(alloc, content),
+        Err(_) => Outcome::Unready,
+    }
+}
+
+fn try_same(alloc: Global) -> Outcome {
+    match BoxedSlice::from_slice(alloc, WORDS.as_slice()) {
+        Ok(content) => match content.try_same(alloc) {
+            Ok(copy) => answered(copy.as_slice() == WORDS.as_slice()),
+            Err(AllocError) => refused(content.as_slice() == WORDS.as_slice()),
+        },
+        Err(AllocError) => Outcome::Unready,
+    }
+}
+
+#[tactic(auto, using(bitm_bits::proofs::lemmas::CountLemmas::few_ones))]
+fn simple_clone(alloc: Global) -> Outcome {
+    let Ok(content) = BoxedSlice::from_slice(alloc, WORDS.as_slice()) else {
+        return Outcome::Unready;
+    };
+    match ArrayWithRankSimple::build(alloc, content) {
+        Ok((index, _)) => match index.try_clone(alloc) {
+            Ok(copy) => answered(ranks(&copy) && ranks(&index)),
+            Err(AllocError) => refused(ranks(&index)),
+        },
         Err(_) => Outcome::Unready,
     }
 }
