@@ -17,8 +17,8 @@ with_itself b i j s x y same within is_x is_y =
     ∙ ap (λ a. with_number a (i * s) s (number_at b (i * s) s)) left
     ∙ left
 
-pub returns-clause-same : goal.returns-clause-same
-returns-clause-same c same =
+pub returns-clause-kept : goal.returns-clause-kept
+returns-clause-kept c same =
     let words = c.args.words.now in
     let s = c.args.s in
     bits_of-injective c.set_fragment-2.new.words words (λ k. search rules) (λ k. search rules)
