@@ -12,12 +12,12 @@ use std::ops::Range;
 
 /// Reads the bits of the words that a value lends: of a slice of `u64`, shared or mutable.
 ///
-/// Places, widths and counts are in bits. A call ending in `_unchecked` is the plain one: both have the same condition, which
-/// the checker proves at each call, and neither tests it when it runs.
+/// Places, widths and counts are in bits. A call ending in `_unchecked` is the plain one: both have the same condition,
+/// which the checker proves at each call, and neither tests it when it runs.
 ///
-/// A range is in range where there is a bit at its begin and none of its bits is past the end: a range of width 0 at the
-/// exact end is not. Fragment `index` of width `s` is the range of `s` bits from bit `index * s` on, a product of whole
-/// numbers: where it does not fit `usize`, the fragment is not in range.
+/// A range is in range where there is a bit at its begin and none of its bits is past the end: a range of width 0 at
+/// the exact end is not. Fragment `index` of width `s` is the range of `s` bits from bit `index * s` on, a product of
+/// whole numbers: where it does not fit `usize`, the fragment is not in range.
 pub trait BitAccess {
     /// The words that are lent.
     ghost words: { Self → List ℕ };
@@ -138,8 +138,8 @@ pub trait BitAccess {
         ensures bound { result < 2 ^ len }
         ensures advances { begin.new ≡ begin.old + len };
 
-    /// The bits from the begin of fragment `index` of width `s` to the end of its word, or 64 of them where the fragment
-    /// crosses that end, as a number, lowest first.
+    /// The bits from the begin of fragment `index` of width `s` to the end of its word, or 64 of them where the
+    /// fragment crosses that end, as a number, lowest first.
     ///
     /// # Conditions
     /// The fragment is in range; `s` is 0 to 64.
@@ -187,7 +187,8 @@ pub trait BitAccess {
         self.get_fragment(index, s)
     }
 
-    /// What `get_fragment_unmasked` reads; `None` exactly where the fragment is not in range, or begins past `usize::MAX`.
+    /// What `get_fragment_unmasked` reads; `None` exactly where the fragment is not in range, or begins past
+    /// `usize::MAX`.
     ///
     /// # Conditions
     /// `s` is 0 to 64.
@@ -196,8 +197,8 @@ pub trait BitAccess {
         ensures { SomeIff result (IsFragmentInRange (words self.now) index s)
             (number_at (bits_of (words self.now)) (index * s) (reach_of (index * s) s)) };
 
-    /// Fragment `index` of width `s` as a number, lowest bit first; `None` exactly where it is not in range, or begins past
-    /// `usize::MAX`.
+    /// Fragment `index` of width `s` as a number, lowest bit first; `None` exactly where it is not in range, or begins
+    /// past `usize::MAX`.
     ///
     /// # Conditions
     /// `s` is 0 to 63.
