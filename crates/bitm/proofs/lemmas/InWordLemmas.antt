@@ -38,10 +38,6 @@ ones_before-low_digits k (suc i) n fits =
 pub ones_before-low_digits_none : (k n : ℕ) → ones_before (low_digits k n) 0 ≡ 0
 ones_before-low_digits_none k n = ones_before_none (low_digits k n)
 
--- the ones of a whole word are what `count_ones` answers
-pub ones_before-low_digits_whole : (k n : ℕ) → n < 2 ^ k → ones_before (low_digits k n) k ≡ count_ones n
-ones_before-low_digits_whole k n fits = ones_before-low_digits k k n (le_refl k) ∙ ap count_ones (mod-eq_of_lt fits)
-
 -- the ones of p digits and of the q above them
 pub ones_before-low_digits_split : (k n p q : ℕ) → p + q ≤ k
     → ones_before (low_digits k n) (p + q) ≡ ones_before (low_digits k n) p + count_ones (n / 2 ^ p % 2 ^ q)
@@ -117,9 +113,13 @@ picked_above k n p q r i fits low there =
 
 -- ---- for callers that walk over words
 
+-- the ones of a word are what `count_ones` answers (a name that an attribute can write)
+pub ones_of_word : (n : ℕ) → n < 2 ^ 64 → ones_before (low_digits 64 n) 64 ≡ count_ones n
+ones_of_word n fits = ones_before-low_digits 64 64 n (le_refl 64) ∙ ap count_ones (mod-eq_of_lt fits)
+
 -- a rank below the number of ones picks a place
 pub rank_in_word : (n r : ℕ) → n < 2 ^ 64 → r < count_ones n → r < ones_before (low_digits 64 n) 64
-rank_in_word n r fits below = omega (arith, ones_before-low_digits_whole 64 n fits)
+rank_in_word n r fits below = omega (arith, ones_of_word n fits)
 
 -- the ones below the place that a rank picks, and with that place
 pub count_ones-picked : (n r p : ℕ) → Picks (low_digits 64 n) true r p → count_ones (n % 2 ^ p) ≡ r
