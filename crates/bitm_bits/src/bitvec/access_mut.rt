@@ -38,10 +38,7 @@ pub trait BitAccessMut: BitAccess {
         ensures after { bits_of (Self.words self.new)
             ≡ with_number (bits_of (Self.words self.old)) place 1 (if value then 1 else 0) };
 
-    /// Makes the bit at `place` equal to `value`, as `set_bit_to`.
-    ///
-    /// # Conditions
-    /// The place is inside.
+    /// As `set_bit_to`, under the same conditions.
     #[inline(always)]
     fn set_bit_to_unchecked(&mut self, place: usize, value: bool)
         requires { place < 64 * length (Self.words self.old) }
@@ -64,10 +61,7 @@ pub trait BitAccessMut: BitAccess {
         ensures after { bits_of (Self.words self.new)
             ≡ with_number (bits_of (Self.words self.old)) place 1 1 };
 
-    /// Makes the bit at `place` one, as `set_bit`.
-    ///
-    /// # Conditions
-    /// The place is inside.
+    /// As `set_bit`, under the same conditions.
     #[inline(always)]
     fn set_bit_unchecked(&mut self, place: usize)
         requires { place < 64 * length (Self.words self.old) }
@@ -90,10 +84,7 @@ pub trait BitAccessMut: BitAccess {
         ensures after { bits_of (Self.words self.new)
             ≡ with_number (bits_of (Self.words self.old)) place 1 0 };
 
-    /// Makes the bit at `place` zero, as `clear_bit`.
-    ///
-    /// # Conditions
-    /// The place is inside.
+    /// As `clear_bit`, under the same conditions.
     #[inline(always)]
     fn clear_bit_unchecked(&mut self, place: usize)
         requires { place < 64 * length (Self.words self.old) }
@@ -118,10 +109,7 @@ pub trait BitAccessMut: BitAccess {
         ensures after { bits_of (Self.words self.new)
             ≡ with_number (bits_of (Self.words self.old)) place 1 (if value then 1 else 0) };
 
-    /// Makes the bit at `place`, which is zero or already `value`, equal to `value`, as `init_bit`.
-    ///
-    /// # Conditions
-    /// The place is inside; its bit is zero or already `value`.
+    /// As `init_bit`, under the same conditions.
     #[inline(always)]
     fn init_bit_unchecked(&mut self, place: usize, value: bool)
         requires inside { place < 64 * length (Self.words self.old) }
@@ -148,10 +136,7 @@ pub trait BitAccessMut: BitAccess {
             ≡ with_number (bits_of (Self.words self.old)) place.old 1 (if value then 1 else 0) }
         ensures advances { place.new ≡ place.old + 1 };
 
-    /// Makes the bit at `place` equal to `value`, as `set_successive_bit_to`.
-    ///
-    /// # Conditions
-    /// The place is inside; there are fewer than 2^58 words.
+    /// As `set_successive_bit_to`, under the same conditions.
     #[inline(always)]
     fn set_successive_bit_to_unchecked(&mut self, place: &mut usize, value: bool)
         requires inside { place.old < 64 * length (Self.words self.old) }
@@ -180,10 +165,7 @@ pub trait BitAccessMut: BitAccess {
             ≡ with_number (bits_of (Self.words self.old)) place.old 1 (if value then 1 else 0) }
         ensures advances { place.new ≡ place.old + 1 };
 
-    /// Makes the bit at `place`, which is zero or already `value`, equal to `value`, as `init_successive_bit`.
-    ///
-    /// # Conditions
-    /// The place is inside; its bit is zero or already `value`; there are fewer than 2^58 words.
+    /// As `init_successive_bit`, under the same conditions.
     #[inline(always)]
     fn init_successive_bit_unchecked(&mut self, place: &mut usize, value: bool)
         requires inside { place.old < 64 * length (Self.words self.old) }
@@ -212,10 +194,7 @@ pub trait BitAccessMut: BitAccess {
         ensures after { bits_of (Self.words self.new)
             ≡ with_number (bits_of (Self.words self.old)) begin len v };
 
-    /// Replaces the `len` bits from `begin` on by the number `v`, as `set_bits`.
-    ///
-    /// # Conditions
-    /// They are in range; `len` is 0 to 63; `v` is below 2^`len`.
+    /// As `set_bits`, under the same conditions.
     #[inline(always)]
     fn set_bits_unchecked(&mut self, begin: usize, v: u64, len: u8)
         requires in_range { IsInRange (Self.words self.old) begin len }
@@ -244,10 +223,7 @@ pub trait BitAccessMut: BitAccess {
         ensures after { bits_of (Self.words self.new)
             ≡ with_number (bits_of (Self.words self.old)) begin len v };
 
-    /// Makes the `len` bits from `begin` on, which are zeros or already `v`, the number `v`, as `init_bits`.
-    ///
-    /// # Conditions
-    /// They are in range, and as a number 0 or `v`; `len` is 0 to 64; `v` is below 2^`len`.
+    /// As `init_bits`, under the same conditions.
     #[inline(always)]
     fn init_bits_unchecked(&mut self, begin: usize, v: u64, len: u8)
         requires in_range { IsInRange (Self.words self.old) begin len }
@@ -337,10 +313,7 @@ pub trait BitAccessMut: BitAccess {
         ensures after { bits_of (Self.words self.new)
             ≡ with_number (bits_of (Self.words self.old)) (index * s) s v };
 
-    /// Replaces fragment `index` of width `s` by the number `v`, as `set_fragment`.
-    ///
-    /// # Conditions
-    /// The fragment is in range; `s` is 0 to 63; `v` is below 2^`s`.
+    /// As `set_fragment`, under the same conditions.
     #[inline(always)]
     fn set_fragment_unchecked(&mut self, index: usize, v: u64, s: u8)
         requires in_range { IsFragmentInRange (Self.words self.old) index s }
@@ -370,10 +343,7 @@ pub trait BitAccessMut: BitAccess {
         ensures after { bits_of (Self.words self.new)
             ≡ with_number (bits_of (Self.words self.old)) (index * s) s v };
 
-    /// Makes fragment `index` of width `s`, whose bits are zeros or already `v`, the number `v`, as `init_fragment`.
-    ///
-    /// # Conditions
-    /// The fragment is in range, and as a number 0 or `v`; `s` is 0 to 64; `v` is below 2^`s`.
+    /// As `init_fragment`, under the same conditions.
     #[inline(always)]
     fn init_fragment_unchecked(&mut self, index: usize, v: u64, s: u8)
         requires in_range { IsFragmentInRange (Self.words self.old) index s }
