@@ -1,5 +1,5 @@
 -- The ones among the lowest digits of a number, counted part by part, and the one that a rank picks there.
-use Rattle.std.proofs.Common.{◌≡◌, ℕ, zero, suc, ◌+◌, ◌-◌, ◌*◌, ◌/◌, ◌%◌, ◌^◌, ◌<◌, ◌≤◌, true, false, ◌==◌, count_ones, refl, sym, ap, ap₂, ◌∙◌, arith, zero-add, zero-le, le_refl, mod-eq_of_lt, add_comm}
+use Rattle.std.proofs.Common.{◌≡◌, ℕ, zero, suc, ◌+◌, ◌-◌, ◌/◌, ◌%◌, ◌^◌, ◌<◌, ◌≤◌, true, ◌==◌, count_ones, ap, ◌∙◌, arith, zero-add, le_refl, mod-eq_of_lt, add_comm}
 use Rattle.std.proofs.lemmas.Nat.{mod_below, mod-pow-add, ones_cat, pow_pos, ones-le, ones_le_self}
 use Rattle.std.proofs.lemmas.Nat.Bits.{bit_at-lt}
 use Rattle.std.proofs.Math.Pow.{mod-mod-pow}
@@ -7,7 +7,7 @@ use Rattle.std.specs.Int.{bit_at}
 use Rattle.bitm_bits.proofs.lemmas.BitsLemmas.{length-low_digits, item-low_digits}
 use Rattle.bitm_bits.proofs.lemmas.CountLemmas.{ones_before_more, ones_before_none, count_ones_more}
 use Rattle.bitm_bits.proofs.lemmas.WordLemmas.{truth, truth-digit}
-use Rattle.bitm_bits.specs.Bits.{low_digits, item}
+use Rattle.bitm_bits.specs.Bits.{low_digits}
 use Rattle.bitm_bits.specs.Count.{ones_before, Picks}
 
 -- ---- counts
@@ -50,7 +50,8 @@ ones_before-low_digits_split k n p q fits =
 
 -- over q digits more, the count rises by at most q
 pub ones_before-low_digits_rises : (k n p q : ℕ) → p + q ≤ k
-    → (ones_before (low_digits k n) p ≤ ones_before (low_digits k n) (p + q)) × (ones_before (low_digits k n) (p + q) ≤ ones_before (low_digits k n) p + q)
+    → (ones_before (low_digits k n) p ≤ ones_before (low_digits k n) (p + q))
+    × (ones_before (low_digits k n) (p + q) ≤ ones_before (low_digits k n) p + q)
 ones_before-low_digits_rises k n p q fits =
     let split = ones_before-low_digits_split k n p q fits in
     let few = ones-le q (n / 2 ^ p % 2 ^ q) (mod_below (n / 2 ^ p) (2 ^ q) (pow_pos q)) in
