@@ -47,9 +47,9 @@ module _ (n sums : ℕ) (sums-are : AreSumsOf n sums) where
         size = length-low_bytes 8 sums;
         items = λ k h. sums-are k (omega arith) ∙ ap (λ j. ones_before (low_digits 64 n) (8 * j)) (add-one k);
         rises = λ k h.
-          let turned : 8 * k + 8 ≡ 8 * suc k = omega arith in
-          let rise = ones_before-low_digits_rises 64 n (8 * k) 8 (omega arith) in
-          omega (arith, ap (ones_before (low_digits 64 n)) turned);
+            let turned : 8 * k + 8 ≡ 8 * suc k = omega arith in
+            let rise = ones_before-low_digits_rises 64 n (8 * k) 8 (omega arith) in
+            omega (arith, ap (ones_before (low_digits 64 n)) turned);
       } in
       located (ones_before_byte n) 7 (low_bytes 8 sums) values r c (omega (arith, ones_before-low_digits_none 64 n)) below counted
 
