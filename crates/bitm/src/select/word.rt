@@ -55,7 +55,7 @@ fn select_in_byte(byte: u8, rank: u8) -> u8
     bytes_at_most(flags.wrapping_mul(LOWEST_OF_EACH_BYTE), rank)
 }
 
-/// The place of the one of `n` with `rank` ones before it; the zeros of a word are the ones of its complement.
+/// The place of the one of `n` with `rank` ones before it. For the place of a zero, pass `!n`.
 ///
 /// # Conditions
 /// `n` has more than `rank` ones.

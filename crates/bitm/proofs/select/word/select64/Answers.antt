@@ -37,4 +37,5 @@ returns-clause-inside c =
     omega (arith, at.inside, length-low_digits 64 c.args.n)
 
 pub returns-clause-picked : goal.returns-clause-picked
-returns-clause-picked c = picked_in_word _ _ c.byte_sums-sums.ensures _ _ _ c.requires c.bytes_at_most-place.ensures c.select_in_byte.ensures
+returns-clause-picked c =
+    picked_in_word _ _ c.byte_sums-sums.ensures _ _ _ c.requires c.bytes_at_most-place.ensures c.select_in_byte.ensures
