@@ -1,1 +1,4 @@
+pub mod EntryLemmas
 pub mod SimpleLemmas
+pub mod StretchLemmas
+pub mod TableLemmas

@@ -1,1 +1,5 @@
+pub mod Entry
+pub mod Reads
+pub mod Search
 pub mod Simple
+pub mod Tables

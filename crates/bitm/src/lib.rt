@@ -8,11 +8,16 @@
 //! ```
 #![tactic(auto)]
 
+mod probe;
 mod rank;
 
 pub use bitm_bits::{
     BitAccess, BitAccessMut, ceiling_div, n_lowest_bits, n_lowest_bits_0_64, n_lowest_bits_1_64,
     words,
 };
+pub use probe::counts::ReadCounts;
+pub use probe::entry::complement_entry;
+pub use probe::ranking::rank_on;
+pub use probe::source::{Probe, TableSource};
 pub use rank::Rank;
 pub use rank::simple::{ArrayWithRankSimple, RankSimple};
