@@ -1,7 +1,10 @@
 pub mod AtMostLemmas
 pub mod ByteLemmas
 pub mod ByteSumLemmas
+pub mod EntryLemmas
 pub mod FieldLemmas
 pub mod InWordLemmas
 pub mod SelectLemmas
 pub mod SimpleLemmas
+pub mod StretchLemmas
+pub mod TableLemmas

@@ -1,2 +1,6 @@
+pub mod Entry
+pub mod Reads
+pub mod Search
 pub mod Simple
+pub mod Tables
 pub mod Word

@@ -8,6 +8,7 @@
 //! ```
 #![tactic(auto)]
 
+mod probe;
 mod rank;
 mod select;
 
@@ -17,6 +18,10 @@ pub use bitm_bits::{
     init_bits57, laws, n_lowest_bits, n_lowest_bits_0_64, n_lowest_bits_1_64, set_bits25,
     set_bits57, words,
 };
+pub use probe::counts::ReadCounts;
+pub use probe::entry::complement_entry;
+pub use probe::ranking::rank_on;
+pub use probe::source::{Probe, TableSource};
 pub use rank::Rank;
 pub use rank::simple::{ArrayWithRankSimple, RankSimple};
 pub use select::word::{byte_sums, bytes_at_most, select64};
