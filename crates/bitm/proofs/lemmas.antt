@@ -8,3 +8,4 @@ pub mod SelectLemmas
 pub mod SimpleLemmas
 pub mod StretchLemmas
 pub mod TableLemmas
+pub mod TableMakingLemmas

@@ -8,6 +8,7 @@
 //! ```
 #![tactic(auto)]
 
+mod packed;
 mod probe;
 mod rank;
 mod select;
@@ -24,4 +25,8 @@ pub use probe::ranking::rank_on;
 pub use probe::source::{Probe, TableSource};
 pub use rank::Rank;
 pub use rank::simple::{ArrayWithRankSimple, RankSimple};
+pub use select::levels::{
+    BITS_PER_L1_ENTRY, BITS_PER_L2_ENTRY, BITS_PER_L2_RECORDS, L2_ENTRIES_PER_L1_ENTRY,
+    U64_PER_L1_ENTRY, U64_PER_L2_ENTRY, U64_PER_L2_RECORDS,
+};
 pub use select::word::{byte_sums, bytes_at_most, select64};
