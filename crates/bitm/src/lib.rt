@@ -10,6 +10,7 @@
 
 mod probe;
 mod rank;
+mod select;
 
 pub use bitm_bits::{
     BitAccess, BitAccessMut, ceiling_div, n_lowest_bits, n_lowest_bits_0_64, n_lowest_bits_1_64,
@@ -18,6 +19,11 @@ pub use bitm_bits::{
 pub use probe::counts::ReadCounts;
 pub use probe::entry::complement_entry;
 pub use probe::ranking::rank_on;
+pub use probe::selecting::binary_select_on;
 pub use probe::source::{Probe, TableSource};
 pub use rank::Rank;
 pub use rank::simple::{ArrayWithRankSimple, RankSimple};
+pub use select::levels::{
+    BITS_PER_L1_ENTRY, BITS_PER_L2_ENTRY, BITS_PER_L2_RECORDS, L2_ENTRIES_PER_L1_ENTRY,
+    U64_PER_L1_ENTRY, U64_PER_L2_ENTRY, U64_PER_L2_RECORDS,
+};

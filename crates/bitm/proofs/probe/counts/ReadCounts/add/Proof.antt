@@ -37,7 +37,7 @@ add_spec 𝓤 𝓛 𝓜 𝓡 wired =
     let x = a.1.0 in let y = a.1.1.0 in let z = a.1.1.1.0 in
     let after : ReadCounts = record { words = h.words + x; upper = h.upper + y; lower = h.lower + z } in
     let at : W.Ghost = ((κs, qs, bounds, a, (vs, (uint_vals w64 x, (uint_vals w64 y, (uint_vals w64 z, tt))))), tt) in
-    qed 𝓛 (((‵ (flft κs.0 qs.0) ⊛ ‵ ftrue) 
+    qed 𝓛 (((‵ (flft κs.0 qs.0) ⊛ ‵ ftrue)
     ⊛ ‵ ((MutRef (named 0) κs.0 R).own_val a.0 vs) ⊛ ‵ (owns (u64 ∷ u64 ∷ u64 ∷ []) a.1 at.0.4.1)) ∷ ‵ ftrue ∷ []) ∵
     split ! $ split ! $ move ! (2 ∷ []) $ split ! $ keep ! (0 ∷ 2 ∷ []) $
     enter ! _ _ _ _ _ $ alloc_all ! (λ l. pass_all ! refl

@@ -1,0 +1,3 @@
+//! Selection: the place of the bit of a kind with so many bits of that kind before it.
+
+pub(crate) mod levels;
