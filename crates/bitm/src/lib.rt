@@ -27,3 +27,4 @@ pub use select::levels::{
     BITS_PER_L1_ENTRY, BITS_PER_L2_ENTRY, BITS_PER_L2_RECORDS, L2_ENTRIES_PER_L1_ENTRY,
     U64_PER_L1_ENTRY, U64_PER_L2_ENTRY, U64_PER_L2_RECORDS,
 };
+pub use select::traits::{Select, Select0, Select0ForRank101111, SelectForRank101111};

@@ -1,3 +1,4 @@
 //! Selection: the place of the bit of a kind with so many bits of that kind before it.
 
 pub(crate) mod levels;
+pub(crate) mod traits;
