@@ -1,4 +1,5 @@
 pub mod Entry
+pub mod Parts
 pub mod Reads
 pub mod Search
 pub mod Simple

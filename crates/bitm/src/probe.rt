@@ -3,4 +3,5 @@
 pub(crate) mod counts;
 pub(crate) mod entry;
 pub(crate) mod ranking;
+pub(crate) mod selecting;
 pub(crate) mod source;

@@ -114,7 +114,8 @@ ones_before-padded (x ∷ b) n (suc i) =
     ∙ ap (λ (n : ℕ). cond x 1 0 + n) (ones_before-padded b n i)
     ∙ sym (sum_by-cons (λ (x : Bool). cond x 1 0) x (take i b))
 
-pub ones_before-complement : (b : List Bool) (i : ℕ) → i ≤ div_ceil (length b) 2048 * 2048 → ones_before (negated (padded b)) i + ones_before b i ≡ i
+pub ones_before-complement : (b : List Bool) (i : ℕ) → i ≤ div_ceil (length b) 2048 * 2048
+    → ones_before (negated (padded b)) i + ones_before b i ≡ i
 ones_before-complement b i h =
     let n = div_ceil (length b) 2048 * 2048 - length b in
     let l : i ≤ length (padded b) = omega (arith, length-append b (replicate n false), length-replicate n false) in

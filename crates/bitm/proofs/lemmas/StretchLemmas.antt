@@ -20,7 +20,8 @@ ones_before-most b i d =
     omega (arith, ones_before-add b i d, count_by-le-length (λ (x : Bool). x) (take d (drop i b)), length-take d (drop i b))
 
 -- between two places one counts no more than the places
-pub ones_before-between : (b : List Bool) (i j : ℕ) → i ≤ j → (ones_before b i ≤ ones_before b j) × (ones_before b j ≤ ones_before b i + (j - i))
+pub ones_before-between : (b : List Bool) (i j : ℕ) → i ≤ j
+    → (ones_before b i ≤ ones_before b j) × (ones_before b j ≤ ones_before b i + (j - i))
 ones_before-between b i j h =
     let e : i + (j - i) ≡ j = omega arith in
     let same = ap (ones_before b) e in

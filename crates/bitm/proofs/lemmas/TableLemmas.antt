@@ -51,7 +51,8 @@ entries b upper lower t =
 
 -- the counts that lead to the record of place i
 to_record : (b : List Bool) (i : ℕ)
-    → ones_before b (i / 2 ^ 32 * 2 ^ 32) + before_in_part b (i / 2048) + in_records b (i / 2048) (i / 512 % 4) ≡ ones_before b (64 * (i / 512 * 8))
+    → ones_before b (i / 2 ^ 32 * 2 ^ 32) + before_in_part b (i / 2048) + in_records b (i / 2048) (i / 512 % 4)
+    ≡ ones_before b (64 * (i / 512 * 8))
 to_record b i =
     let part : i / 2048 / 2 ^ 21 * 2 ^ 32 ≡ i / 2 ^ 32 * 2 ^ 32 = omega arith in
     let record_at : 2048 * (i / 2048) + 512 * (i / 512 % 4) ≡ 64 * (i / 512 * 8) = omega arith in

@@ -26,7 +26,8 @@ sum g c =
     tables_sum _ _ _ c.requires.tables c.args.index (omega arith) c.upper-rank.result c.lower-entry.result c.upper-rank.ensures.item
     (c.lower-entry.ensures.item ∙ ap (λ (l : Lists). slice_index l.lower (c.args.index / 2048)) c.upper-rank.ensures.same)
 
-at_most : (g : _) (c : After-lower-entry g) → ones_before (bits_of (g.T.TableSource.lists c.args.source.now).words) (64 * (c.args.index / 512 * 8)) < 2 ^ 64
+at_most : (g : _) (c : After-lower-entry g)
+    → ones_before (bits_of (g.T.TableSource.lists c.args.source.now).words) (64 * (c.args.index / 512 * 8)) < 2 ^ 64
 at_most g c = omega (arith, ones_before-self (bits_of (g.T.TableSource.lists c.args.source.now).words) (64 * (c.args.index / 512 * 8)))
 
 pub overflow_add-rank : goal.overflow_add-rank
