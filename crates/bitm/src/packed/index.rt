@@ -12,6 +12,7 @@ use crate::packed::tables::{self, Tables};
 use crate::probe::ranking::rank_on;
 use crate::probe::source::Probe;
 use crate::rank::Rank;
+use crate::select::binary::BinaryRankSearch;
 use crate::select::traits::{Select, Select0, Select0ForRank101111, SelectForRank101111};
 use bitm_bits::{CloneWords, GetSize};
 use std::alloc::{AllocError, Global};
@@ -298,3 +299,10 @@ impl<S: SelectForRank101111, S0: Select0ForRank101111, BV: CloneWords> RankSelec
         }
     }
 }
+
+/// An index over words that it owns, which selects ones and zeros by binary search.
+pub type ArrayWithRank101111 = RankSelect101111<
+    BinaryRankSearch,
+    BinaryRankSearch,
+    BoxedSlice<u64, Global>,
+>;

@@ -10,6 +10,7 @@ ghost use Rattle.bitm.specs.Tables.{HasTables, IsIndexable};
 use crate::probe::entry::{complement_entry, ones_to_entry};
 use crate::probe::source::TableSource;
 use crate::select::levels::{L2_ENTRIES_PER_L1_ENTRY, U64_PER_L2_ENTRY, U64_PER_L2_RECORDS};
+use crate::select::word::select64;
 
 /// How many ones, or zeros where `ONE` is 0, stand before a part.
 #[inline(always)]
@@ -121,16 +122,7 @@ fn select_in_word(word: u64, rank: usize) -> usize
     ensures before { count_ones (word % 2 ^ result) ≡ rank }
     ensures after { count_ones (word % 2 ^ (result + 1)) ≡ rank + 1 }
 {
-    let mut rest = rank;
-    for at in 0..64 {
-        if word >> at & 1 == 1 {
-            if rest == 0 {
-                return at;
-            }
-            rest -= 1;
-        }
-    }
-    unreachable!()
+    select64(word, rank as u8) as usize
 }
 
 /// Word `at` of the bits in which ones are sought.

@@ -1,19 +1,21 @@
--- One more digit counts where it is a one.
-use Rattle.std.proofs.Common.{arith}
-use Rattle.std.proofs.lemmas.Nat.Bits.{shr_and_one}
-use Rattle.bitm_bits.proofs.lemmas.CountLemmas.{count_ones_more}
+-- The one that is picked has the rank's ones before it, and is one more.
+use Rattle.std.proofs.Common.{◌<◌, ◌^◌, arith}
+use Rattle.std.proofs.lemmas.Nat.{ones-le}
+use Rattle.bitm.proofs.lemmas.InWordLemmas.{rank_in_word, count_ones-picked, count_ones-picked_too}
 use Rattle.bitm.proofs.probe.selecting.select_in_word.Goals as goal
-use Rattle.bitm.proofs.probe.selecting.select_in_word.Goals.{then-word-at-eq1+else-rest-eq0, else-word-at-eq1}
 
-pub returns-then-rest-eq0-clause-after : goal.returns-then-rest-eq0-clause-after
-returns-then-rest-eq0-clause-after c =
-    omega (arith, count_ones_more c.args.word c.loop-at.at, shr_and_one c.args.word c.loop-at.at, c.loop-at.invariant)
+pub overflow_cast-rank : goal.overflow_cast-rank
+overflow_cast-rank c =
+    let fits : c.args.word < 2 ^ 64 = omega arith in
+    omega (arith, ones-le 64 c.args.word fits, c.requires)
 
-pub loop-at-preserved : goal.loop-at-preserved
-loop-at-preserved c =
-    elim c.if-word-at-eq1.branch [
-      | then-word-at-eq1+else-rest-eq0 w ↦
-          omega (arith, count_ones_more c.args.word c.loop-at.at, shr_and_one c.args.word c.loop-at.at, c.loop-at.invariant)
-      | else-word-at-eq1 w ↦
-          omega (arith, count_ones_more c.args.word c.loop-at.at, shr_and_one c.args.word c.loop-at.at, c.loop-at.invariant)
-    ]
+pub select64-requires : goal.select64-requires
+select64-requires c =
+    let fits : c.args.word < 2 ^ 64 = omega arith in
+    rank_in_word c.args.word c.args.rank fits c.requires
+
+pub returns-clause-before : goal.returns-clause-before
+returns-clause-before c = count_ones-picked c.args.word c.args.rank c.select64.result c.select64.ensures.picked
+
+pub returns-clause-after : goal.returns-clause-after
+returns-clause-after c = count_ones-picked_too c.args.word c.args.rank c.select64.result c.select64.ensures.picked
