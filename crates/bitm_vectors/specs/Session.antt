@@ -1,15 +1,16 @@
 -- A session: which answers the lines of an input may have.
-use Rattle.std.specs.Prelude.{◌≡◌, ℕ, ◌+◌, ◌&&◌, nat_le, List, [], ◌∷◌, length, Bool, true, false, Option, None, Some, nat_lt, slice_set, ◌⊎◌, if◌then◌else◌}
+use Rattle.std.specs.Prelude.{◌≡◌, ◌≤◌, ℕ, ◌+◌, ◌&&◌, nat_le, List, [], ◌∷◌, length, Bool, true, false, Option, None, Some, nat_lt, slice_set, ◌⊎◌, if◌then◌else◌}
 use Rattle.std.specs.List.{list_all}
 use Rattle.std.specs.Io.KnownBytes.{Appends}
 use Rattle.bitm_vectors.specs.Answer.{text_of, is_good}
 use Rattle.bitm_bits.specs.Bits.{bits_of}
-use Rattle.bitm_bits.specs.Count.{ones_before}
+use Rattle.bitm_bits.specs.Count.{ones_before, zeros_before, count_before, Picks}
 use Rattle.bitm_bits.specs.Number.{number_at}
-use Rattle.bitm_vectors.specs.Request.{Request, Words, Set, Clear, Build, Rank, Bits, request_of}
+use Rattle.bitm_vectors.specs.Request.{Request, Words, Set, Clear, Build, Rank, Rank0, Select, Select0, Bits, request_of}
 use Rattle.bitm_vectors.specs.declared.answer.Answer.{Answer}
 use Rattle.bitm_vectors.specs.declared.answer.Answer.TheVariants.{Accepted, Ones, Number, Absent, NotBuilt, NoMemory, BadCommand}
 use Rattle.bitm_vectors.specs.declared.command.Kind.{Kind}
+use Rattle.bitm_vectors.specs.declared.command.Kind.TheVariants.{Simple, Binary}
 
 -- the bits of the vector, and the kind of index that is built over them
 pub record State : Type 0 where
@@ -37,14 +38,35 @@ abbrev pub range_answer : List Bool → ℕ → ℕ → Answer
 range_answer bits begin len =
     if nat_lt begin (length bits) && nat_le (begin + len) (length bits) then Number (number_at bits begin len) else Absent
 
+-- the place of the bit of the kind with so many of them before it, or none where there is none
+abbrev pub IsPlaced : List Bool → Bool → ℕ → Answer → Type 0
+IsPlaced bits v rank (Number place) = Picks bits v rank place
+IsPlaced bits v rank Absent = count_before bits v (length bits) ≤ rank
+IsPlaced bits v rank (Accepted number) = ⊥
+IsPlaced bits v rank (Ones count) = ⊥
+IsPlaced bits v rank NotBuilt = ⊥
+IsPlaced bits v rank NoMemory = ⊥
+IsPlaced bits v rank BadCommand = ⊥
+
+-- the answer where a place is asked of an index, if one is built that selects
+abbrev pub IsPlaceAnswer : Option Kind → List Bool → Bool → ℕ → Answer → Type 0
+IsPlaceAnswer None bits v rank answer = answer ≡ NotBuilt
+IsPlaceAnswer (Some Simple) bits v rank answer = answer ≡ NotBuilt
+IsPlaceAnswer (Some Binary) bits v rank answer = IsPlaced bits v rank answer
+
 -- what is answered where memory is found
-abbrev pub answer_to : State → Request → Answer
-answer_to state (Words words) = Accepted (length words)
-answer_to state (Set place) = changed_answer state place
-answer_to state (Clear place) = changed_answer state place
-answer_to state (Build kind) = Ones (ones_before state.bits (length state.bits))
-answer_to state (Rank index) = indexed_answer state.built (if nat_lt index (length state.bits) then Number (ones_before state.bits index) else Absent)
-answer_to state (Bits begin len) = range_answer state.bits begin len
+abbrev pub IsAnswer : State → Request → Answer → Type 0
+IsAnswer state (Words words) answer = answer ≡ Accepted (length words)
+IsAnswer state (Set place) answer = answer ≡ changed_answer state place
+IsAnswer state (Clear place) answer = answer ≡ changed_answer state place
+IsAnswer state (Build kind) answer = answer ≡ Ones (ones_before state.bits (length state.bits))
+IsAnswer state (Rank index) answer =
+    answer ≡ indexed_answer state.built (if nat_lt index (length state.bits) then Number (ones_before state.bits index) else Absent)
+IsAnswer state (Rank0 index) answer =
+    answer ≡ indexed_answer state.built (if nat_lt index (length state.bits) then Number (zeros_before state.bits index) else Absent)
+IsAnswer state (Select rank) answer = IsPlaceAnswer state.built state.bits true rank answer
+IsAnswer state (Select0 rank) answer = IsPlaceAnswer state.built state.bits false rank answer
+IsAnswer state (Bits begin len) answer = answer ≡ range_answer state.bits begin len
 
 -- the state after that answer
 abbrev pub state_after : State → Request → State
@@ -54,6 +76,9 @@ state_after state (Clear place) = changed state place false
 state_after state (Build kind) = record { bits = state.bits; built = Some kind }
 state_after state (Rank index) = state
 state_after state (Bits begin len) = state
+state_after state (Rank0 index) = state
+state_after state (Select rank) = state
+state_after state (Select0 rank) = state
 
 -- the state after a refusal for memory, which only these two can meet
 abbrev pub IsAfterRefusal : State → Request → State → Type 0
@@ -63,12 +88,15 @@ IsAfterRefusal old (Clear place) new = ⊥
 IsAfterRefusal old (Build kind) new = new ≡ record { bits = old.bits; built = None }
 IsAfterRefusal old (Rank index) new = ⊥
 IsAfterRefusal old (Bits begin len) new = ⊥
+IsAfterRefusal old (Rank0 index) new = ⊥
+IsAfterRefusal old (Select rank) new = ⊥
+IsAfterRefusal old (Select0 rank) new = ⊥
 
 -- From old, a line that asks for this may have this answer, and the session goes on to new.
 abbrev pub Step : State → Option Request → Answer → State → Type 0
 Step old None answer new = (answer ≡ BadCommand) × (new ≡ old)
 Step old (Some request) answer new =
-    ((answer ≡ answer_to old request) × (new ≡ state_after old request)) ⊎ ((answer ≡ NoMemory) × IsAfterRefusal old request new)
+    (IsAnswer old request answer × (new ≡ state_after old request)) ⊎ ((answer ≡ NoMemory) × IsAfterRefusal old request new)
 
 -- From old, these lines may have these answers, one for each and in their order, and the session ends at new.
 abbrev pub Answers : State → List (List ℕ) → List Answer → State → Type 0

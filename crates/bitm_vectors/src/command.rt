@@ -14,6 +14,7 @@ pub(crate) const MAX_WORDS: usize = 65536;
 #[derive(Clone, Copy, Debug, PartialEq, Eq)]
 pub(crate) enum Kind {
     Simple,
+    Binary,
 }
 
 /// What a line asks for.
@@ -26,6 +27,9 @@ pub(crate) enum Command {
     Rank(u64),
     /// A range: its first place and its width.
     Bits(u64, u8),
+    Rank0(u64),
+    Select(u64),
+    Select0(u64),
 }
 
 /// The command of a line, or `None` where it is none. It finds no memory only for the words of a vector.
@@ -47,6 +51,12 @@ pub(crate) fn parse(alloc: Global, line: &[u8]) -> Result<Option<Command>, Alloc
         Ok(only(rest).and_then(decimal).map(Command::Rank))
     } else if name == b"bits".as_slice() {
         Ok(range(rest))
+    } else if name == b"rank0".as_slice() {
+        Ok(only(rest).and_then(decimal).map(Command::Rank0))
+    } else if name == b"select".as_slice() {
+        Ok(only(rest).and_then(decimal).map(Command::Select))
+    } else if name == b"select0".as_slice() {
+        Ok(only(rest).and_then(decimal).map(Command::Select0))
     } else {
         Ok(None)
     }
@@ -83,6 +93,8 @@ fn kind_named(name: &[u8]) -> Option<Kind>
 {
     if name == b"simple".as_slice() {
         Some(Kind::Simple)
+    } else if name == b"binary".as_slice() {
+        Some(Kind::Binary)
     } else {
         None
     }

@@ -1,11 +1,14 @@
 //! An index over a copy of the vector.
-ghost use Rattle.std.specs.Prelude.{◌≡◌, ◌≤◌, length, IfOk};
+ghost use Rattle.std.specs.Prelude.{◌≡◌, ◌≤◌, length, IfOk, Some, true, false};
 ghost use Rattle.std.specs.Box.{boxed_slice_items, boxed_slice_len};
 ghost use Rattle.bitm_bits.specs.Bits.{bits_of};
-ghost use Rattle.bitm_bits.specs.Count.{ones_before, IsRank};
+ghost use Rattle.bitm_bits.specs.Count.{ones_before, IsRank, IsRank0};
 
+use crate::answer::Answer;
 use crate::command::Kind;
-use bitm::{ArrayWithRankSimple, CloneWords, Rank, RankSimple};
+use bitm::{
+    ArrayWithRank101111, ArrayWithRankSimple, CloneWords, Rank, RankSimple, Select, Select0,
+};
 use std::alloc::{AllocError, Global};
 use std::boxed::BoxedSlice;
 
@@ -13,9 +16,11 @@ use std::boxed::BoxedSlice;
 #[derive(Drop)]
 pub(crate) enum Index {
     Simple(ArrayWithRankSimple),
+    Binary(ArrayWithRank101111),
 }
 
 ghost use Rattle.bitm_vectors.specs.Index.{indexed, kind_of_index};
+ghost use Rattle.bitm_vectors.specs.Session.{IsPlaceAnswer};
 
 impl Index {
     /// An index over a copy of the words, and the number of ones.
@@ -37,6 +42,10 @@ impl Index {
                 Ok((rank, total)) => Ok((Index::Simple(rank), total as usize)),
                 Err(_) => Err(AllocError),
             },
+            Kind::Binary => match ArrayWithRank101111::build(alloc, copy) {
+                Ok((index, total)) => Ok((Index::Binary(index), total)),
+                Err(_) => Err(AllocError),
+            },
         }
     }
 
@@ -46,6 +55,45 @@ impl Index {
     {
         match self {
             Index::Simple(rank) => Rank::try_rank(rank, index),
+            Index::Binary(binary) => binary.try_rank(index),
+        }
+    }
+
+    /// How many zeros stand before a place; `None` exactly where it is outside.
+    pub(crate) fn try_rank0(&self, index: usize) -> Option<usize>
+        ensures { IsRank0 (bits_of (indexed self.now)) index result }
+    {
+        match self {
+            Index::Simple(rank) => rank.try_rank0(index),
+            Index::Binary(binary) => binary.try_rank0(index),
+        }
+    }
+
+    /// Where the one with `rank` ones before it stands, if this kind of index selects.
+    pub(crate) fn select(&self, rank: usize) -> Answer
+        ensures { IsPlaceAnswer (Some (kind_of_index self.now))
+            (bits_of (indexed self.now)) true rank result }
+    {
+        match self {
+            Index::Simple(_) => Answer::NotBuilt,
+            Index::Binary(binary) => match binary.try_select(rank) {
+                Some(place) => Answer::Number(place as u64),
+                None => Answer::Absent,
+            },
+        }
+    }
+
+    /// Where the zero with `rank` zeros before it stands, if this kind of index selects.
+    pub(crate) fn select0(&self, rank: usize) -> Answer
+        ensures { IsPlaceAnswer (Some (kind_of_index self.now))
+            (bits_of (indexed self.now)) false rank result }
+    {
+        match self {
+            Index::Simple(_) => Answer::NotBuilt,
+            Index::Binary(binary) => match binary.try_select0(rank) {
+                Some(place) => Answer::Number(place as u64),
+                None => Answer::Absent,
+            },
         }
     }
 }

@@ -3,7 +3,7 @@ ghost use Rattle.std.specs.Prelude.{◌≡◌, ◌≤◌, vec_len, IfSome, optio
 ghost use Rattle.std.specs.Box.{boxed_slice_items, boxed_slice_len};
 ghost use Rattle.bitm_bits.specs.Bits.{bits_of};
 ghost use Rattle.bitm_vectors.specs.Index.{indexed, kind_of_index};
-ghost use Rattle.bitm_vectors.specs.Request.{Request, Words, Build, Rank, Bits, request, request_of, IsWithinLimits};
+ghost use Rattle.bitm_vectors.specs.Request.{Request, Words, Build, Rank, Rank0, Select, Select0, Bits, request, request_of, IsWithinLimits};
 ghost use Rattle.bitm_vectors.specs.Session.{State, start, Step, changed_answer, changed};
 
 use crate::answer::Answer;
@@ -66,6 +66,9 @@ impl Session {
             Command::Build(kind) => self.build(alloc, kind),
             Command::Rank(index) => self.rank(index),
             Command::Bits(begin, len) => self.bits(begin, len),
+            Command::Rank0(index) => self.rank0(index),
+            Command::Select(rank) => self.select(rank),
+            Command::Select0(rank) => self.select0(rank),
         }
     }
 
@@ -126,6 +129,37 @@ impl Session {
         match try_get_bits(self.words.as_slice(), begin as usize, len) {
             Some(number) => Answer::Number(number),
             None => Answer::Absent,
+        }
+    }
+
+    #[tactic(auto, using(crate::proofs::lemmas::SessionLemmas::count_of_bits))]
+    fn rank0(&self, place: u64) -> Answer
+        ensures { Step self.now (Some (Rank0 place)) result self.now }
+    {
+        match &self.index {
+            None => Answer::NotBuilt,
+            Some(index) => match index.try_rank0(place as usize) {
+                Some(zeros) => Answer::Number(zeros as u64),
+                None => Answer::Absent,
+            },
+        }
+    }
+
+    fn select(&self, rank: u64) -> Answer
+        ensures { Step self.now (Some (Select rank)) result self.now }
+    {
+        match &self.index {
+            None => Answer::NotBuilt,
+            Some(index) => index.select(rank as usize),
+        }
+    }
+
+    fn select0(&self, rank: u64) -> Answer
+        ensures { Step self.now (Some (Select0 rank)) result self.now }
+    {
+        match &self.index {
+            None => Answer::NotBuilt,
+            Some(index) => index.select0(rank as usize),
         }
     }
 }
