@@ -1,7 +1,14 @@
 pub mod AtMostLemmas
 pub mod ByteLemmas
 pub mod ByteSumLemmas
+pub mod EntryLemmas
 pub mod FieldLemmas
 pub mod InWordLemmas
+pub mod MarkLemmas
+pub mod SearchLemmas
 pub mod SelectLemmas
 pub mod SimpleLemmas
+pub mod SoughtLemmas
+pub mod StretchLemmas
+pub mod TableLemmas
+pub mod TableMakingLemmas

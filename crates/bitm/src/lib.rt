@@ -8,6 +8,8 @@
 //! ```
 #![tactic(auto)]
 
+mod packed;
+mod probe;
 mod rank;
 mod select;
 
@@ -17,6 +19,17 @@ pub use bitm_bits::{
     init_bits57, laws, n_lowest_bits, n_lowest_bits_0_64, n_lowest_bits_1_64, set_bits25,
     set_bits57, words,
 };
+pub use packed::index::RankSelect101111;
+pub use probe::counts::ReadCounts;
+pub use probe::entry::complement_entry;
+pub use probe::ranking::rank_on;
+pub use probe::selecting::binary_select_on;
+pub use probe::source::{Probe, TableSource};
 pub use rank::Rank;
 pub use rank::simple::{ArrayWithRankSimple, RankSimple};
+pub use select::levels::{
+    BITS_PER_L1_ENTRY, BITS_PER_L2_ENTRY, BITS_PER_L2_RECORDS, L2_ENTRIES_PER_L1_ENTRY,
+    U64_PER_L1_ENTRY, U64_PER_L2_ENTRY, U64_PER_L2_RECORDS,
+};
+pub use select::traits::{Select, Select0, Select0ForRank101111, SelectForRank101111};
 pub use select::word::{byte_sums, bytes_at_most, select64};

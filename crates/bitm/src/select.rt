@@ -1,3 +1,5 @@
-//! The places that ranks pick.
+//! Selection: the place of the bit of a kind with so many bits of that kind before it.
 
-pub mod word;
+pub(crate) mod levels;
+pub(crate) mod traits;
+pub(crate) mod word;

@@ -1,4 +1,4 @@
-//! How many bytes values keep outside themselves.
+//! How many bytes values keep on the heap.
 ghost use Rattle.std.specs.Prelude.{◌≡◌, ◌*◌, ℕ};
 ghost use Rattle.std.specs.Box.{boxed_slice_len};
 
@@ -6,17 +6,18 @@ use std::alloc::Allocator;
 use std::boxed::BoxedSlice;
 use std::mem::size_of;
 
-/// The bytes that a value keeps outside itself, on the heap.
+/// Tells how many bytes a value keeps on the heap.
 ///
-/// A slice that is lent keeps none: they belong to its owner.
+/// A lent slice keeps none, since its owner does. A value made of parts keeps the sum of what they keep, or `usize::MAX`
+/// where that is less.
 pub trait GetSize {
-    /// How many bytes a value keeps.
+    /// How many bytes a value keeps on the heap: none, unless the type says otherwise.
     ghost dyn_bytes: { Self → ℕ } = { λ _. 0 };
 
-    /// Whether values of this type may keep any bytes.
+    /// Whether a value of this type may keep bytes on the heap; `false`, unless the type says otherwise.
     const USES_DYN_MEM: bool = false;
 
-    /// How many bytes the value keeps.
+    /// How many bytes the value keeps on the heap.
     fn size_bytes_dyn(&self) -> usize
         ensures { result ≡ dyn_bytes self.now };
 }

@@ -2,4 +2,6 @@
 #![tactic(auto)]
 
 #[cfg(test)]
+mod oracle_words;
+#[cfg(test)]
 mod simple;

@@ -47,7 +47,9 @@ module _ (x r : ℕ) (fits : x < 2 ^ 64) (small : All (λ s. s ≤ 64) (low_byte
   no_borrow = omega (arith, from, capped, taken.0)
 
   -- as many highest bits are left as bytes are at most r
-  pub highest_counted : count_ones (bit_and (bit_or (r * 0x0101010101010101) 0x8080808080808080 - x) 0x8080808080808080) ≡ count_by (λ s. nat_le s r) (low_bytes 8 x)
+  pub highest_counted :
+      count_ones (bit_and (bit_or (r * 0x0101010101010101) 0x8080808080808080 - x) 0x8080808080808080)
+      ≡ count_by (λ s. nat_le s r) (low_bytes 8 x)
   highest_counted =
       let y-is = ap₂ (λ a b. a - b) from capped ∙ taken.1 in
       ap count_ones (kept (left r) 0x80 x _ (record { below = λ v b. omega arith }) (lit< tt) y-is)

@@ -72,8 +72,16 @@ front_count (x ∷ xs) r rises =
           subst (InFront (x ∷ xs) r) (sym counted) (each, λ h. rest.1 (le_of_suc-le-suc h))
     ]
 
--- Of m + 1 rising items, item k of which is g (suc k), let c be at most r: then r is at least g c and below g (suc c).
-module _ (g : ℕ → ℕ) (xs : List ℕ) (m r : ℕ) (size : length xs ≡ suc m) (items : (k : ℕ) → k ≤ m → get_or xs k 0 ≡ g (suc k)) (rises : (k : ℕ) → k ≤ m → g k ≤ g (suc k)) where
+-- g rises, and the items are g at 1 to m + 1
+pub record AreValuesOf (g : ℕ → ℕ) (m : ℕ) (xs : List ℕ) : Type 0 where
+  pub size : length xs ≡ suc m
+  pub items : (k : ℕ) → k ≤ m → get_or xs k 0 ≡ g (suc k)
+  pub rises : (k : ℕ) → k ≤ m → g k ≤ g (suc k)
+
+-- where c of the items are at most r, r is at least g c and below g (suc c)
+module _ (g : ℕ → ℕ) (m : ℕ) (xs : List ℕ) (values : AreValuesOf g m xs) (r : ℕ) where
+  open values use {items, rises}
+
   rising : Rises xs
   rising i inside = omega (arith, items i (omega arith), items (suc i) (omega arith), rises (suc i) (omega arith))
 

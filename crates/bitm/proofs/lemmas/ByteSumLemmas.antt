@@ -62,7 +62,8 @@ halves_le v = omega (arith, and_le_l (v / 2) 0x55)
 masked : (t s : ℕ) (f : ℕ → ℕ) (m n y : ℕ) → Stays (t + s) f → m < 2 ^ t → t + s ≡ 8 → y ≡ map_fields 8 8 f n
     → bit_and (y / 2 ^ s) (m * 0x0101010101010101) ≡ map_fields 8 8 (λ v. bit_and (f v / 2 ^ s) m) n
 masked t s f m n y stays below eight is =
-    let at_width = λ (w : ℕ). bit_and (map_fields w 8 f n / 2 ^ s) (map_fields w 8 (λ v. m) n) ≡ map_fields w 8 (λ v. bit_and (f v / 2 ^ s) m) n in
+    let shifted = λ (w : ℕ). map_fields w 8 f n / 2 ^ s in
+    let at_width = λ (w : ℕ). bit_and (shifted w) (map_fields w 8 (λ v. m) n) ≡ map_fields w 8 (λ v. bit_and (f v / 2 ^ s) m) n in
     ap₂ (λ a b. bit_and (a / 2 ^ s) b) is (sym (in_each_byte m n)) ∙ subst at_width eight (map_fields-shr-and t s 8 f m n stays below)
 
 -- `y & m` at all bytes
@@ -89,7 +90,8 @@ byte_counts n fits =
     let p-stays : Stays 8 pairs = record { below = pairs_below } in
     let low_pairs = kept pairs 0x33 n p p-stays (lit< tt) p-is in
     let high_pairs = masked 6 2 pairs 0x33 n p p-stays (lit< tt) refl p-is in
-    let q-is : q ≡ map_fields 8 8 nibbles n = both (λ v. bit_and (pairs v) 0x33) (λ v. bit_and (pairs v / 4) 0x33) n _ _ low_pairs high_pairs in
+    let q-is : q ≡ map_fields 8 8 nibbles n =
+    both (λ v. bit_and (pairs v) 0x33) (λ v. bit_and (pairs v / 4) 0x33) n _ _ low_pairs high_pairs in
     let q-stays : Stays 8 nibbles = record { below = nibbles_below } in
     let low_nibbles = kept nibbles 0x0F n q q-stays (lit< tt) q-is in
     let high_nibbles = masked 4 4 nibbles 0x0F n q q-stays (lit< tt) refl q-is in
@@ -99,12 +101,14 @@ byte_counts n fits =
 -- ---- their running sums, by one product
 
 running_of_product : (c0 c1 c2 c3 c4 c5 c6 c7 : ℕ) → c0 ≤ 8 → c1 ≤ 8 → c2 ≤ 8 → c3 ≤ 8 → c4 ≤ 8 → c5 ≤ 8 → c6 ≤ 8 → c7 ≤ 8 →
-    let s0 = 0 + c0 in let s1 = s0 + c1 in let s2 = s1 + c2 in let s3 = s2 + c3 in let s4 = s3 + c4 in let s5 = s4 + c5 in let s6 = s5 + c6 in
+    let s0 = 0 + c0 in let s1 = s0 + c1 in let s2 = s1 + c2 in let s3 = s2 + c3 in
+    let s4 = s3 + c4 in let s5 = s4 + c5 in let s6 = s5 + c6 in
     low_bytes 8 (number_of_bytes (c0 ∷ c1 ∷ c2 ∷ c3 ∷ c4 ∷ c5 ∷ c6 ∷ c7 ∷ []) * 0x0101010101010101 % 2 ^ 64)
     ≡ s0 ∷ s1 ∷ s2 ∷ s3 ∷ s4 ∷ s5 ∷ s6 ∷ (s6 + c7) ∷ []
 unfolding number_of_bytes
 running_of_product c0 c1 c2 c3 c4 c5 c6 c7 h0 h1 h2 h3 h4 h5 h6 h7 =
-    let s0 = 0 + c0 in let s1 = s0 + c1 in let s2 = s1 + c2 in let s3 = s2 + c3 in let s4 = s3 + c4 in let s5 = s4 + c5 in let s6 = s5 + c6 in
+    let s0 = 0 + c0 in let s1 = s0 + c1 in let s2 = s1 + c2 in let s3 = s2 + c3 in
+    let s4 = s3 + c4 in let s5 = s4 + c5 in let s6 = s5 + c6 in
     let ps : List ℕ = s0 ∷ s1 ∷ s2 ∷ s3 ∷ s4 ∷ s5 ∷ s6 ∷ (s6 + c7) ∷ [] in
     let e : number_of_bytes (c0 ∷ c1 ∷ c2 ∷ c3 ∷ c4 ∷ c5 ∷ c6 ∷ c7 ∷ []) * 0x0101010101010101 % 2 ^ 64 ≡ number_of_bytes ps = omega arith in
     ap (low_bytes 8) e ∙ low_bytes-number_of_bytes ps (omega arith)
@@ -115,7 +119,8 @@ product_sums : (f : ℕ → ℕ) (n i : ℕ) → ((v : ℕ) → v < 256 → f v 
 unfolding map_fields running_sums number_of_bytes
 product_sums f n i few inside =
     let here : (x : ℕ) → f (x % 256) ≤ 8 = λ x. few (x % 256) (mod_below x 256 (omega arith)) in
-    let n1 = n / 256 in let n2 = n1 / 256 in let n3 = n2 / 256 in let n4 = n3 / 256 in let n5 = n4 / 256 in let n6 = n5 / 256 in let n7 = n6 / 256 in
+    let n1 = n / 256 in let n2 = n1 / 256 in let n3 = n2 / 256 in let n4 = n3 / 256 in
+    let n5 = n4 / 256 in let n6 = n5 / 256 in let n7 = n6 / 256 in
     let list : low_bytes 8 (map_fields 8 8 f n * 0x0101010101010101 % 2 ^ 64) ≡ running_sums f 0 8 n =
     running_of_product _ _ _ _ _ _ _ _ (here n) (here n1) (here n2) (here n3) (here n4) (here n5) (here n6) (here n7) in
     ap (λ l. get_or l i 0) list ∙ get_or-running_sums f 0 8 i n inside ∙ zero-add _

@@ -55,7 +55,8 @@ map_fields-and w zero f g x bf bg = refl
 map_fields-and w (suc k) f g x bf bg =
     let rest = x / 2 ^ w in
     let low = x % 2 ^ w in
-    and_block w (map_fields w k f rest) (map_fields w k g rest) (f low) (g low) (bf.below _ (field_below w x)) (bg.below _ (field_below w x))
+    let here = field_below w x in
+    and_block w (map_fields w k f rest) (map_fields w k g rest) (f low) (g low) (bf.below _ here) (bg.below _ here)
     ∙ ap (λ y. y * 2 ^ w + bit_and (f low) (g low)) (map_fields-and w k f g rest bf bg)
 
 pub map_fields-or : (w k : ℕ) (f g : ℕ → ℕ) (x : ℕ) → Stays w f → Stays w g
@@ -65,7 +66,8 @@ map_fields-or w zero f g x bf bg = refl
 map_fields-or w (suc k) f g x bf bg =
     let rest = x / 2 ^ w in
     let low = x % 2 ^ w in
-    or_block w (map_fields w k f rest) (map_fields w k g rest) (f low) (g low) (bf.below _ (field_below w x)) (bg.below _ (field_below w x))
+    let here = field_below w x in
+    or_block w (map_fields w k f rest) (map_fields w k g rest) (f low) (g low) (bf.below _ here) (bg.below _ here)
     ∙ ap (λ y. y * 2 ^ w + bit_or (f low) (g low)) (map_fields-or w k f g rest bf bg)
 
 -- ---- a shift down by s of fields of t + s bits, masked so that no bit of the next field stays
@@ -110,7 +112,8 @@ unfoldable pub sum_fields : ℕ → ℕ → (ℕ → ℕ) → ℕ → ℕ
 sum_fields w zero f x = 0
 sum_fields w (suc k) f x = sum_fields w k f (x / 2 ^ w) + f (x % 2 ^ w)
 
-pub count_ones-map_fields : (w k : ℕ) (f : ℕ → ℕ) (x : ℕ) → Stays w f → count_ones (map_fields w k f x) ≡ sum_fields w k (λ v. count_ones (f v)) x
+pub count_ones-map_fields : (w k : ℕ) (f : ℕ → ℕ) (x : ℕ) → Stays w f
+    → count_ones (map_fields w k f x) ≡ sum_fields w k (λ v. count_ones (f v)) x
 unfolding map_fields sum_fields ones ones_in
 count_ones-map_fields w zero f x bf = refl
 count_ones-map_fields w (suc k) f x bf =

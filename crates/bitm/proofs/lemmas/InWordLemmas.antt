@@ -1,14 +1,14 @@
 -- The ones among the lowest digits of a number, counted part by part, and the one that a rank picks there.
-use Rattle.std.proofs.Common.{◌≡◌, ℕ, zero, suc, ◌+◌, ◌-◌, ◌*◌, ◌/◌, ◌%◌, ◌^◌, ◌<◌, ◌≤◌, true, false, ◌==◌, count_ones, refl, sym, ap, ap₂, ◌∙◌, arith, zero-add, zero-le, le_refl, mod-eq_of_lt, add_comm}
+use Rattle.std.proofs.Common.{◌≡◌, ℕ, zero, suc, ◌+◌, ◌-◌, ◌/◌, ◌%◌, ◌^◌, ◌<◌, ◌≤◌, Bool, true, false, not, ◌==◌, count_ones, w64, refl, sym, ap, ◌∙◌, arith, zero-add, le_refl, mod-eq_of_lt, add_comm}
 use Rattle.std.proofs.lemmas.Nat.{mod_below, mod-pow-add, ones_cat, pow_pos, ones-le, ones_le_self}
-use Rattle.std.proofs.lemmas.Nat.Bits.{bit_at-lt}
+use Rattle.std.proofs.lemmas.Nat.Bits.{bit_at-lt, bit_at_not}
 use Rattle.std.proofs.Math.Pow.{mod-mod-pow}
-use Rattle.std.specs.Int.{bit_at}
+use Rattle.std.specs.Int.{bit_at, bit_not}
 use Rattle.bitm_bits.proofs.lemmas.BitsLemmas.{length-low_digits, item-low_digits}
-use Rattle.bitm_bits.proofs.lemmas.CountLemmas.{ones_before_more, ones_before_none, count_ones_more}
+use Rattle.bitm_bits.proofs.lemmas.CountLemmas.{ones_before_more, ones_before_none, zeros_before_more, zeros_before_none, count_ones_more}
 use Rattle.bitm_bits.proofs.lemmas.WordLemmas.{truth, truth-digit}
 use Rattle.bitm_bits.specs.Bits.{low_digits, item}
-use Rattle.bitm_bits.specs.Count.{ones_before, Picks}
+use Rattle.bitm_bits.specs.Count.{ones_before, zeros_before, Picks}
 
 -- ---- counts
 
@@ -38,10 +38,6 @@ ones_before-low_digits k (suc i) n fits =
 pub ones_before-low_digits_none : (k n : ℕ) → ones_before (low_digits k n) 0 ≡ 0
 ones_before-low_digits_none k n = ones_before_none (low_digits k n)
 
--- the ones of a whole word are what `count_ones` answers
-pub ones_before-low_digits_whole : (k n : ℕ) → n < 2 ^ k → ones_before (low_digits k n) k ≡ count_ones n
-ones_before-low_digits_whole k n fits = ones_before-low_digits k k n (le_refl k) ∙ ap count_ones (mod-eq_of_lt fits)
-
 -- the ones of p digits and of the q above them
 pub ones_before-low_digits_split : (k n p q : ℕ) → p + q ≤ k
     → ones_before (low_digits k n) (p + q) ≡ ones_before (low_digits k n) p + count_ones (n / 2 ^ p % 2 ^ q)
@@ -54,7 +50,8 @@ ones_before-low_digits_split k n p q fits =
 
 -- over q digits more, the count rises by at most q
 pub ones_before-low_digits_rises : (k n p q : ℕ) → p + q ≤ k
-    → (ones_before (low_digits k n) p ≤ ones_before (low_digits k n) (p + q)) × (ones_before (low_digits k n) (p + q) ≤ ones_before (low_digits k n) p + q)
+    → (ones_before (low_digits k n) p ≤ ones_before (low_digits k n) (p + q))
+    × (ones_before (low_digits k n) (p + q) ≤ ones_before (low_digits k n) p + q)
 ones_before-low_digits_rises k n p q fits =
     let split = ones_before-low_digits_split k n p q fits in
     let few = ones-le q (n / 2 ^ p % 2 ^ q) (mod_below (n / 2 ^ p) (2 ^ q) (pow_pos q)) in
@@ -117,9 +114,13 @@ picked_above k n p q r i fits low there =
 
 -- ---- for callers that walk over words
 
+-- the ones of a word are what `count_ones` answers (a name that an attribute can write)
+pub ones_of_word : (n : ℕ) → n < 2 ^ 64 → ones_before (low_digits 64 n) 64 ≡ count_ones n
+ones_of_word n fits = ones_before-low_digits 64 64 n (le_refl 64) ∙ ap count_ones (mod-eq_of_lt fits)
+
 -- a rank below the number of ones picks a place
 pub rank_in_word : (n r : ℕ) → n < 2 ^ 64 → r < count_ones n → r < ones_before (low_digits 64 n) 64
-rank_in_word n r fits below = omega (arith, ones_before-low_digits_whole 64 n fits)
+rank_in_word n r fits below = omega (arith, ones_of_word n fits)
 
 -- the ones below the place that a rank picks, and with that place
 pub count_ones-picked : (n r p : ℕ) → Picks (low_digits 64 n) true r p → count_ones (n % 2 ^ p) ≡ r
@@ -133,3 +134,45 @@ count_ones-picked_too n r p there =
       ones_before-low_digits 64 (p + 1) n (omega (arith, there.inside, length-low_digits 64 n)),
       ones_before-picked 64 n r p there,
     )
+
+-- ---- the zeros of a word are the ones of its complement
+
+not-digit : (d : ℕ) → d < 2 → (1 - d == 1) ≡ not (d == 1)
+not-digit zero below = refl
+not-digit (suc zero) below = refl
+not-digit (suc (suc d)) below = absurd (omega arith)
+
+item-complement : (n j : ℕ) → n < 2 ^ 64 → j < 64 → item (low_digits 64 (bit_not w64 n)) j ≡ not (item (low_digits 64 n) j)
+item-complement n j fits inside =
+    item-low_digits 64 (bit_not w64 n) j inside
+    ∙ ap (λ d. d == 1) (bit_at_not w64 n j fits inside)
+    ∙ not-digit (bit_at n j) (bit_at-lt n j)
+    ∙ ap not (sym (item-low_digits 64 n j inside))
+
+pub ones_before-complement : (n i : ℕ) → n < 2 ^ 64 → i ≤ 64 → ones_before (low_digits 64 (bit_not w64 n)) i ≡ zeros_before (low_digits 64 n) i
+ones_before-complement n zero fits within = ones_before_none (low_digits 64 (bit_not w64 n)) ∙ sym (zeros_before_none (low_digits 64 n))
+ones_before-complement n (suc i) fits within =
+    let step : suc i ≡ i + 1 = omega arith in
+    omega (
+      arith,
+      ap (ones_before (low_digits 64 (bit_not w64 n))) step,
+      ap (zeros_before (low_digits 64 n)) step,
+      ones_before_more (low_digits 64 (bit_not w64 n)) i (omega (arith, length-low_digits 64 (bit_not w64 n))),
+      zeros_before_more (low_digits 64 n) i (omega (arith, length-low_digits 64 n)),
+      ap truth (item-complement n i fits (omega arith)),
+      ones_before-complement n i fits (omega arith),
+    )
+
+-- what a rank picks among the ones of `!n` it picks among the zeros of n
+pub zero_picked : (n r p : ℕ) → n < 2 ^ 64 → Picks (low_digits 64 (bit_not w64 n)) true r p → Picks (low_digits 64 n) false r p
+zero_picked n r p fits there =
+    let inside : p < 64 = omega (arith, there.inside, length-low_digits 64 (bit_not w64 n)) in
+    record {
+      inside = omega (arith, length-low_digits 64 n);
+      item = not-true (item (low_digits 64 n) p) (sym (item-complement n p fits inside) ∙ there.item);
+      before = sym (ones_before-complement n p fits (omega arith)) ∙ there.before;
+    }
+  where
+    not-true : (x : Bool) → not x ≡ true → x ≡ false
+    not-true true h = cc
+    not-true false h = refl

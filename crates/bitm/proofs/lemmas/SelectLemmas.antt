@@ -4,7 +4,7 @@ use Rattle.std.proofs.lemmas.List.Elements.{All-from_get_or}
 use Rattle.std.proofs.lemmas.Nat.{field_of, shr-shr, and_mask, shl-shr}
 use Rattle.std.proofs.Math.Pow.{mod-mod-pow}
 use Rattle.std.specs.Int.Count.{ones, ones_in}
-use Rattle.bitm.proofs.lemmas.ByteLemmas.{length-low_bytes, get_or-low_bytes, located}
+use Rattle.bitm.proofs.lemmas.ByteLemmas.{length-low_bytes, get_or-low_bytes, AreValuesOf, located}
 use Rattle.bitm.proofs.lemmas.ByteSumLemmas.{all_below, all_below-at}
 use Rattle.bitm.proofs.lemmas.InWordLemmas.{ones_before-low_digits, ones_before-low_digits_rises, ones_before-low_digits_none, ones_before-low_digits_few, ones_before-low_digits_above, picked_in_digits, picked_above}
 use Rattle.bitm.specs.Word.{low_bytes}
@@ -42,13 +42,16 @@ module _ (n sums : ℕ) (sums-are : AreSumsOf n sums) where
       → (c ≤ 7) × (ones_before (low_digits 64 n) (8 * c) ≤ r) × (r < ones_before (low_digits 64 n) (8 * suc c))
   unfolding ones_before_byte
   byte_located r c below counted =
-      located (ones_before_byte n) (low_bytes 8 sums) 7 r (length-low_bytes 8 sums)
-      (λ k h. sums-are k (omega arith) ∙ ap (λ j. ones_before (low_digits 64 n) (8 * j)) (add-one k))
-      (λ k h.
-      let turned : 8 * k + 8 ≡ 8 * suc k = omega arith in
-      let rise = ones_before-low_digits_rises 64 n (8 * k) 8 (omega arith) in
-      omega (arith, ap (ones_before (low_digits 64 n)) turned))
-      c (omega (arith, ones_before-low_digits_none 64 n)) below counted
+      let values : AreValuesOf (ones_before_byte n) 7 (low_bytes 8 sums) =
+      record {
+        size = length-low_bytes 8 sums;
+        items = λ k h. sums-are k (omega arith) ∙ ap (λ j. ones_before (low_digits 64 n) (8 * j)) (add-one k);
+        rises = λ k h.
+            let turned : 8 * k + 8 ≡ 8 * suc k = omega arith in
+            let rise = ones_before-low_digits_rises 64 n (8 * k) 8 (omega arith) in
+            omega (arith, ap (ones_before (low_digits 64 n)) turned);
+      } in
+      located (ones_before_byte n) 7 (low_bytes 8 sums) values r c (omega (arith, ones_before-low_digits_none 64 n)) below counted
 
   -- the ones before byte c
   sum_before : (c : ℕ) → c < 8 → bit_and (sums * 256 % 2 ^ 64 / 2 ^ (8 * c)) 0xFF ≡ ones_before (low_digits 64 n) (8 * c)
@@ -71,7 +74,8 @@ module _ (n sums : ℕ) (sums-are : AreSumsOf n sums) where
       ∙ sums-are i (omega arith)
       ∙ ap (ones_before (low_digits 64 n)) (omega arith)
 
-  pub byte_of_rank : (r c : ℕ) → r < ones_before (low_digits 64 n) 64 → c ≡ count_by (λ s. nat_le s r) (low_bytes 8 sums) → IsByteOf n sums r c
+  pub byte_of_rank : (r c : ℕ) → r < ones_before (low_digits 64 n) 64 → c ≡ count_by (λ s. nat_le s r) (low_bytes 8 sums)
+      → IsByteOf n sums r c
   byte_of_rank r c below counted =
       let at = byte_located r c below counted in
       let before = sum_before c (omega arith) in
@@ -100,7 +104,9 @@ module _ (n sums : ℕ) (sums-are : AreSumsOf n sums) where
 -- byte k is the number of ones in bits 0 to k of v
 abbrev pub bit_sums : ℕ → ℕ
 bit_sums v =
-    bit_and ((bit_and (v * 0x0101010101010101) 0x8040201008040201 + 0x7F7F7F7F7F7F7F7F) / 128) 0x0101010101010101 * 0x0101010101010101 % 2 ^ 64
+    let spread = bit_and (v * 0x0101010101010101) 0x8040201008040201 in
+    let flags = bit_and ((spread + 0x7F7F7F7F7F7F7F7F) / 128) 0x0101010101010101 in
+    flags * 0x0101010101010101 % 2 ^ 64
 
 bit_sums_in_table : (v k : ℕ) → v < 256 → k < 8 → get_or (low_bytes 8 (bit_sums v)) k 0 ≡ count_ones (v % 2 ^ (k + 1))
 unfolding all_below low_bytes ones ones_in
@@ -127,8 +133,14 @@ module _ (v : ℕ) (fits : v < 256) where
       → Picks (low_digits 8 v) true r c
   unfolding ones_before_bit
   picked_in_byte r c below counted =
-      let at = located (ones_before_bit v) (low_bytes 8 (bit_sums v)) 7 r (length-low_bytes 8 (bit_sums v))
-      (λ k h. bit_sums_are v k fits (omega arith) ∙ ap (ones_before (low_digits 8 v)) (add-one k))
-      (λ k h. omega (arith, ones_before-low_digits_rises 8 v k 1 (omega arith), ap (ones_before (low_digits 8 v)) (add-one k)))
-      c (omega (arith, ones_before-low_digits_none 8 v)) below counted in
-      picked_in_digits 8 v r c (omega arith) at.1 (omega (arith, at.2, ap (ones_before (low_digits 8 v)) (add-one c)))
+      let one_more : (k : ℕ) → ones_before (low_digits 8 v) (k + 1) ≡ ones_before (low_digits 8 v) (suc k) =
+      λ k. ap (ones_before (low_digits 8 v)) (add-one k) in
+      let values : AreValuesOf (ones_before_bit v) 7 (low_bytes 8 (bit_sums v)) =
+      record {
+        size = length-low_bytes 8 (bit_sums v);
+        items = λ k h. bit_sums_are v k fits (omega arith) ∙ one_more k;
+        rises = λ k h. omega (arith, ones_before-low_digits_rises 8 v k 1 (omega arith), one_more k);
+      } in
+      let low : ones_before (low_digits 8 v) 0 ≤ r = omega (arith, ones_before-low_digits_none 8 v) in
+      let at = located (ones_before_bit v) 7 (low_bytes 8 (bit_sums v)) values r c low below counted in
+      picked_in_digits 8 v r c (omega arith) at.1 (omega (arith, at.2, one_more c))

@@ -38,12 +38,16 @@ pub same_bits : (b c : List Bool) → length b ≡ length c → ((i : ℕ) → i
 same_bits b c = ext_get_or false b c
 
 -- words of 64 bits each are the same where their bits are
-pub bits_of-injective : (a b : List ℕ) → ((k : ℕ) → get_or a k 0 < 2 ^ 64) → ((k : ℕ) → get_or b k 0 < 2 ^ 64) → bits_of a ≡ bits_of b → a ≡ b
+pub bits_of-injective : (a b : List ℕ) → ((k : ℕ) → get_or a k 0 < 2 ^ 64) → ((k : ℕ) → get_or b k 0 < 2 ^ 64)
+    → bits_of a ≡ bits_of b → a ≡ b
 bits_of-injective a b fits_a fits_b same =
     ext_get_or 0 a b len
     (λ q l. same_from_bits_below 64 (get_or a q 0) (get_or b q 0) (fits_a q) (fits_b q)
-    (λ j low. by_digit (bit_at (get_or a q 0) j) (bit_at (get_or b q 0) j) (bit_at-lt (get_or a q 0) j) (bit_at-lt (get_or b q 0) j)
-    (sym (item-bits_of_at a (64 * q + j) q j refl low l) ∙ ap (λ c. item c (64 * q + j)) same ∙ item-bits_of_at b (64 * q + j) q j refl low (omega (arith, len)))))
+    (λ j low.
+    let i = 64 * q + j in
+    by_digit (bit_at (get_or a q 0) j) (bit_at (get_or b q 0) j) (bit_at-lt (get_or a q 0) j) (bit_at-lt (get_or b q 0) j)
+    (sym (item-bits_of_at a i q j refl low l) ∙ ap (λ c. item c i) same
+    ∙ item-bits_of_at b i q j refl low (omega (arith, len)))))
   where
     len : length a ≡ length b
     len = omega (arith, length-bits_of a, length-bits_of b, ap length same)

@@ -14,6 +14,7 @@ use mir.Val.{bool_byte}
 abbrev IsClearWord : ℕ → ℕ → ℕ → ℕ → ℕ → Type 0
 IsClearWord old s n v q = (k j : ℕ) → k < n → s + k ≡ 64 * q + j → j < 64 → bit_at old j ≤ bit_at v k
 
+-- what is 0 or v has no one that v lacks
 clear_word : (words : List ℕ) (s n v q : ℕ) → (number_at (bits_of words) s n ≡ 0) ⊎ (number_at (bits_of words) s n ≡ v) → q < length words
     → IsClearWord (get_or words q 0) s n v q
 clear_word words s n v q clear within k j l e low =
@@ -54,24 +55,29 @@ second_joined old s n v q shift start fits clear = record {
       omega (arith, bit_at_or old (v / 2 ^ shift) j, x);
 }
 
--- what `init_bits` leaves
+-- what `init_bits` leaves where one word has the range
 pub init_bits_within : (words : List ℕ) (s n v : ℕ) → IsInRange words s n → s % 64 + n ≤ 64 → v < 2 ^ n
     → (number_at (bits_of words) s n ≡ 0) ⊎ (number_at (bits_of words) s n ≡ v)
     → bits_of (set words (s / 64) (bit_or (get_or words (s / 64) 0) (v * 2 ^ (s % 64) % 2 ^ 64))) ≡ with_number (bits_of words) s n v
 init_bits_within words s n v h inside fits clear =
     put_in_one_word words s n v _ h inside
-    (first_joined (get_or words (s / 64) 0) s n v (s / 64) (s % 64) (omega arith) (omega arith) fits (clear_word words s n v (s / 64) clear (omega arith)))
+    (first_joined (get_or words (s / 64) 0) s n v (s / 64) (s % 64) (omega arith) (omega arith) fits
+    (clear_word words s n v (s / 64) clear (omega arith)))
 
+-- and where two words have it
 pub init_bits_across : (words between : List ℕ) (s n v : ℕ) → IsInRange words s n → 64 < s % 64 + n → n ≤ 64 → v < 2 ^ n
     → (number_at (bits_of words) s n ≡ 0) ⊎ (number_at (bits_of words) s n ≡ v)
     → between ≡ set words (s / 64 + 1) (bit_or (get_or words (s / 64 + 1) 0) (v / 2 ^ (64 - s % 64)))
-    → bits_of (set between (s / 64) (bit_or (get_or between (s / 64) 0) (v * 2 ^ (s % 64) % 2 ^ 64))) ≡ with_number (bits_of words) s n v
+    → bits_of (set between (s / 64) (bit_or (get_or between (s / 64) 0) (v * 2 ^ (s % 64) % 2 ^ 64)))
+    ≡ with_number (bits_of words) s n v
 init_bits_across words between s n v h across small fits clear step =
     ap (λ b. bits_of (set b p (bit_or (get_or between p 0) z))) step
     ∙ ap (λ w. bits_of (set (set words (p + 1) x) p (bit_or w z))) (between_left words between p x step)
     ∙ put_in_two_words words s n v x (bit_or (get_or words p 0) z) h across small
-    (second_joined (get_or words (p + 1) 0) s n v (p + 1) (64 - s % 64) (omega arith) fits (clear_word words s n v (p + 1) clear (omega arith)))
-    (first_joined (get_or words p 0) s n v p (s % 64) (omega arith) (omega arith) fits (clear_word words s n v p clear (omega arith)))
+    (second_joined (get_or words (p + 1) 0) s n v (p + 1) (64 - s % 64) (omega arith) fits
+    (clear_word words s n v (p + 1) clear (omega arith)))
+    (first_joined (get_or words p 0) s n v p (s % 64) (omega arith) (omega arith) fits
+    (clear_word words s n v p clear (omega arith)))
   where
     p : ℕ
     p = s / 64
@@ -85,7 +91,8 @@ init_bits_across words between s n v h across small fits clear step =
 -- `word | value << offset`
 pub bit_joined : (words : List ℕ) (i : ℕ) (x : Bool) → i < 64 * length words
     → (item (bits_of words) i ≡ false) ⊎ (item (bits_of words) i ≡ x)
-    → bits_of (set words (i / 64) (bit_or (get_or words (i / 64) 0) (bool_byte x * 2 ^ (i % 64) % 2 ^ 64))) ≡ with_number (bits_of words) i 1 (cond x 1 0)
+    → bits_of (set words (i / 64) (bit_or (get_or words (i / 64) 0) (bool_byte x * 2 ^ (i % 64) % 2 ^ 64)))
+    ≡ with_number (bits_of words) i 1 (cond x 1 0)
 bit_joined words i x l clear =
     by x (⊎_elim (λ zero. inl (one ∙ ap truth zero)) (λ already. inr (one ∙ ap truth already)) clear)
   where
@@ -93,6 +100,7 @@ bit_joined words i x l clear =
     one = number_at-one (bits_of words) i (omega (arith, length-bits_of words))
 
     by : (x : Bool) → (number_at (bits_of words) i 1 ≡ 0) ⊎ (number_at (bits_of words) i 1 ≡ truth x)
-        → bits_of (set words (i / 64) (bit_or (get_or words (i / 64) 0) (bool_byte x * 2 ^ (i % 64) % 2 ^ 64))) ≡ with_number (bits_of words) i 1 (cond x 1 0)
+        → bits_of (set words (i / 64) (bit_or (get_or words (i / 64) 0) (bool_byte x * 2 ^ (i % 64) % 2 ^ 64)))
+        ≡ with_number (bits_of words) i 1 (cond x 1 0)
     by true c = init_bits_within words i 1 1 (l, omega arith) (omega arith) (omega arith) c
     by false c = init_bits_within words i 1 0 (l, omega arith) (omega arith) (omega arith) c

@@ -159,7 +159,10 @@ with_number-number_at b s n within =
     (λ inside.
     let at : s + (i - s) ≡ i = omega arith in
     let P : ℕ → Type 0 = λ k. item (with_number b s n v) k ≡ item b k in
-    subst P at (item-with_number_inside b s n v (i - s) within (omega arith) ∙ ap (λ d. eqb d 1) (bit_at-number_at b s n (i - s) (omega arith)) ∙ itself (item b (s + (i - s)))))
+    subst P at
+    (item-with_number_inside b s n v (i - s) within (omega arith)
+    ∙ ap (λ d. eqb d 1) (bit_at-number_at b s n (i - s) (omega arith))
+    ∙ itself (item b (s + (i - s)))))
     (λ past. item-with_number_above b s n v i within past)
     (cases_lt i (s + n)))
     (cases_lt i s))

@@ -17,7 +17,8 @@ pub record IsRun (words : List ℕ) (word s i : ℕ) : Type 0 where
   pub zeros : (p : ℕ) → i * s ≤ p → item (bits_of words) p ≡ false
 
 -- what is put leaves a number before it as it is
-number_at-with_number_before : (b : List Bool) (s n v t m : ℕ) → s + n ≤ length b → t + m ≤ s → number_at (with_number b s n v) t m ≡ number_at b t m
+number_at-with_number_before : (b : List Bool) (s n v t m : ℕ) → s + n ≤ length b → t + m ≤ s
+    → number_at (with_number b s n v) t m ≡ number_at b t m
 number_at-with_number_before b s n v t m within before =
     same_from_bits_below m (number_at (with_number b s n v) t m) (number_at b t m)
     (number_at-lt (with_number b s n v) t m (omega (arith, length-with_number b s n v within)))
@@ -34,11 +35,17 @@ number_at_zeros b t n within zeros =
 
 zero_words : (words : List ℕ) (count : ℕ) → words ≡ replicate count 0 → (p : ℕ) → item (bits_of words) p ≡ false
 zero_words words count is p = ap (λ l. item (bits_of l) p) is ∙ ⊎_elim
-    (λ inside. item-bits_of_at (replicate count 0) p (p / 64) (p % 64) (omega arith) (omega arith) (omega (arith, length-replicate {A = ℕ} count 0))
+    (λ inside. item-bits_of_at zeros p (p / 64) (p % 64) (omega arith) (omega arith) (omega (arith, count_is))
     ∙ ap (λ w. digit w (p % 64)) (get_or-replicate count (p / 64) 0 0 (omega arith))
     ∙ ap (λ d. eqb d 1) (bit_at-zero (p % 64)))
-    (λ past. get_or_past (bits_of (replicate count 0)) p false (omega (arith, length-bits_of (replicate count 0), length-replicate {A = ℕ} count 0)))
+    (λ past. get_or_past (bits_of zeros) p false (omega (arith, length-bits_of zeros, count_is)))
     (cases_lt p (64 * count))
+  where
+    zeros : List ℕ
+    zeros = replicate count 0
+
+    count_is : length {A = ℕ} (replicate count 0) ≡ count
+    count_is = length-replicate {A = ℕ} count 0
 
 -- no fragment yet
 pub IsRun_none : (words : List ℕ) (count word s : ℕ) → words ≡ replicate count 0 → IsRun words word s 0
@@ -50,15 +57,18 @@ IsRun_none words count word s is = record {
 -- fragments of no bits
 pub IsRun_empty : (words : List ℕ) (count word s n : ℕ) → words ≡ replicate count 0 → s ≡ 0 → word < 2 ^ s → IsRun words word s n
 IsRun_empty words count word s n is none fits = record {
-  fragments = λ k l.
-      let low : word < 1 = subst-fits in
-      let at : number_at (bits_of words) (k * 0) 0 ≡ 0 = number_at_zeros (bits_of words) (k * 0) 0 (omega arith) (λ p l. zero_words words count is p) in
-      ap (λ w. number_at (bits_of words) (k * w) w) none ∙ at ∙ (let e : 0 ≡ word = omega arith in e);
+  fragments = λ k l. ap (λ w. number_at (bits_of words) (k * w) w) none ∙ no_digits k ∙ sym no_word;
   zeros = λ p l. zero_words words count is p;
 }
   where
-    subst-fits : word < 1
-    subst-fits = let P : ℕ → Type 0 = λ w. word < 2 ^ w in subst P none fits
+    no_digits : (k : ℕ) → number_at (bits_of words) (k * 0) 0 ≡ 0
+    no_digits k = number_at_zeros (bits_of words) (k * 0) 0 (omega arith) (λ p l. zero_words words count is p)
+
+    no_word : word ≡ 0
+    no_word =
+        let P : ℕ → Type 0 = λ w. word < 2 ^ w in
+        let low : word < 1 = subst P none fits in
+        omega arith
 
 -- one more fragment
 pub IsRun_more : (old new : List ℕ) (word s i : ℕ) → IsRun old word s i → bits_of new ≡ with_number (bits_of old) (i * s) s word
@@ -86,5 +96,6 @@ next_inside made words n s i is same l =
     let room : i * s + s ≤ n * s = grind arith in
     omega (arith, room, same, ap length is, length-replicate {A = ℕ} (div_ceil (n * s) 64) 0)
 
-pub next_zeros : (words : List ℕ) (word s i : ℕ) → IsRun words word s i → i * s + s ≤ 64 * length words → number_at (bits_of words) (i * s) s ≡ 0
+pub next_zeros : (words : List ℕ) (word s i : ℕ) → IsRun words word s i → i * s + s ≤ 64 * length words
+    → number_at (bits_of words) (i * s) s ≡ 0
 next_zeros words word s i run within = number_at_zeros (bits_of words) (i * s) s (omega (arith, length-bits_of words)) run.zeros

@@ -7,17 +7,16 @@ ghost use Rattle.bitm_bits.specs.Window.{reach_of};
 
 use crate::bitvec::each_bit::BitIterator;
 use crate::bitvec::places::{BitOnesIterator, BitZerosIterator};
-use crate::words;
 use std::ops::Range;
 
 /// Reads the bits of the words that a value lends: of a slice of `u64`, shared or mutable.
 ///
-/// Places, widths and counts are in bits. A call ending in `_unchecked` is the plain one: both have the same condition, which
-/// the checker proves at each call, and neither tests it when it runs.
+/// Places, widths and counts are in bits. A call ending in `_unchecked` is the plain one: both have the same condition,
+/// which the checker proves at each call, and neither tests it when it runs.
 ///
-/// A range is in range where there is a bit at its begin and none of its bits is past the end: a range of width 0 at the
-/// exact end is not. Fragment `index` of width `s` is the range of `s` bits from bit `index * s` on, a product of whole
-/// numbers: where it does not fit `usize`, the fragment is not in range.
+/// A range is in range where there is a bit at its begin and none of its bits is past the end: a range of width 0 at
+/// the exact end is not. Fragment `index` of width `s` is the range of `s` bits from bit `index * s` on, a product of
+/// whole numbers: where it does not fit `usize`, the fragment is not in range.
 pub trait BitAccess {
     /// The words that are lent.
     ghost words: { Self → List ℕ };
@@ -138,8 +137,8 @@ pub trait BitAccess {
         ensures bound { result < 2 ^ len }
         ensures advances { begin.new ≡ begin.old + len };
 
-    /// The bits from the begin of fragment `index` of width `s` to the end of its word, or 64 of them where the fragment
-    /// crosses that end, as a number, lowest first.
+    /// The bits from the begin of fragment `index` of width `s` to the end of its word, or 64 of them where the
+    /// fragment crosses that end, as a number, lowest first.
     ///
     /// # Conditions
     /// The fragment is in range; `s` is 0 to 64.
@@ -187,7 +186,8 @@ pub trait BitAccess {
         self.get_fragment(index, s)
     }
 
-    /// What `get_fragment_unmasked` reads; `None` exactly where the fragment is not in range, or begins past `usize::MAX`.
+    /// What `get_fragment_unmasked` reads; `None` exactly where the fragment is not in range, or begins past
+    /// `usize::MAX`.
     ///
     /// # Conditions
     /// `s` is 0 to 64.
@@ -196,8 +196,8 @@ pub trait BitAccess {
         ensures { SomeIff result (IsFragmentInRange (words self.now) index s)
             (number_at (bits_of (words self.now)) (index * s) (reach_of (index * s) s)) };
 
-    /// Fragment `index` of width `s` as a number, lowest bit first; `None` exactly where it is not in range, or begins past
-    /// `usize::MAX`.
+    /// Fragment `index` of width `s` as a number, lowest bit first; `None` exactly where it is not in range, or begins
+    /// past `usize::MAX`.
     ///
     /// # Conditions
     /// `s` is 0 to 63.
@@ -324,242 +324,4 @@ pub trait BitAccess {
         requires exists { (p : ℕ) × (p ≤ start) × (item (bits_of (words self.now)) p ≡ true) }
         requires short { IsShort (words self.now) }
         ensures { IsLastOneTo (bits_of (words self.now)) start result };
-}
-
-impl BitAccess for &[u64] {
-    ghost words = { λ s. s.now };
-
-    #[inline(always)]
-    fn get_bit(&self, place: usize) -> bool {
-        words::get_bit(*self, place)
-    }
-
-    #[inline(always)]
-    fn try_get_bit(&self, place: usize) -> Option<bool> {
-        words::try_get_bit(*self, place)
-    }
-
-    #[inline(always)]
-    fn get_successive_bit(&self, place: &mut usize) -> bool {
-        words::get_successive_bit(*self, place)
-    }
-
-    #[inline(always)]
-    fn get_bits_unmasked(&self, begin: usize, len: u8) -> u64 {
-        words::get_bits_unmasked(*self, begin, len)
-    }
-
-    #[inline(always)]
-    fn get_bits(&self, begin: usize, len: u8) -> u64 {
-        words::get_bits(*self, begin, len)
-    }
-
-    #[inline(always)]
-    fn try_get_bits_unmasked(&self, begin: usize, len: u8) -> Option<u64> {
-        words::try_get_bits_unmasked(*self, begin, len)
-    }
-
-    #[inline(always)]
-    fn try_get_bits(&self, begin: usize, len: u8) -> Option<u64> {
-        words::try_get_bits(*self, begin, len)
-    }
-
-    #[inline(always)]
-    fn get_successive_bits(&self, begin: &mut usize, len: u8) -> u64 {
-        words::get_successive_bits(*self, begin, len)
-    }
-
-    #[inline(always)]
-    fn get_fragment_unmasked(&self, index: usize, s: u8) -> u64 {
-        words::get_fragment_unmasked(*self, index, s)
-    }
-
-    #[inline(always)]
-    fn get_fragment(&self, index: usize, s: u8) -> u64 {
-        words::get_fragment(*self, index, s)
-    }
-
-    #[inline(always)]
-    fn try_get_fragment_unmasked(&self, index: usize, s: u8) -> Option<u64> {
-        words::try_get_fragment_unmasked(*self, index, s)
-    }
-
-    #[inline(always)]
-    fn try_get_fragment(&self, index: usize, s: u8) -> Option<u64> {
-        words::try_get_fragment(*self, index, s)
-    }
-
-    #[inline(always)]
-    fn get_successive_fragment(&self, index: &mut usize, s: u8) -> u64 {
-        words::get_successive_fragment(*self, index, s)
-    }
-
-    #[inline]
-    fn count_bit_ones(&self) -> usize {
-        words::count_bit_ones(*self)
-    }
-
-    #[inline]
-    fn count_bit_zeros(&self) -> usize {
-        words::count_bit_zeros(*self)
-    }
-
-    #[inline(always)]
-    fn bit_ones(&self) -> BitOnesIterator<'_> {
-        BitOnesIterator::new(*self)
-    }
-
-    #[inline(always)]
-    fn bit_zeros(&self) -> BitZerosIterator<'_> {
-        BitZerosIterator::new(*self)
-    }
-
-    #[inline(always)]
-    fn bit_iter(&self) -> BitIterator<'_> {
-        BitIterator::new(*self)
-    }
-
-    #[inline(always)]
-    fn bit_in_range_iter(&self, range: Range<usize>) -> BitIterator<'_> {
-        BitIterator::with_range(*self, range)
-    }
-
-    #[inline]
-    fn trailing_zero_bits(&self) -> usize {
-        words::trailing_zero_bits(*self)
-    }
-
-    #[inline]
-    fn find_bit_one(&self, start: usize) -> Option<usize> {
-        words::find_bit_one(*self, start)
-    }
-
-    #[inline]
-    fn find_bit_one_unchecked(&self, start: usize) -> usize {
-        words::find_bit_one_unchecked(*self, start)
-    }
-
-    #[inline]
-    fn rfind_bit_one_unchecked(&self, start: usize) -> usize {
-        words::rfind_bit_one_unchecked(*self, start)
-    }
-}
-
-impl BitAccess for &mut [u64] {
-    ghost words = { λ s. s.now };
-
-    #[inline(always)]
-    fn get_bit(&self, place: usize) -> bool {
-        words::get_bit(&**self, place)
-    }
-
-    #[inline(always)]
-    fn try_get_bit(&self, place: usize) -> Option<bool> {
-        words::try_get_bit(&**self, place)
-    }
-
-    #[inline(always)]
-    fn get_successive_bit(&self, place: &mut usize) -> bool {
-        words::get_successive_bit(&**self, place)
-    }
-
-    #[inline(always)]
-    fn get_bits_unmasked(&self, begin: usize, len: u8) -> u64 {
-        words::get_bits_unmasked(&**self, begin, len)
-    }
-
-    #[inline(always)]
-    fn get_bits(&self, begin: usize, len: u8) -> u64 {
-        words::get_bits(&**self, begin, len)
-    }
-
-    #[inline(always)]
-    fn try_get_bits_unmasked(&self, begin: usize, len: u8) -> Option<u64> {
-        words::try_get_bits_unmasked(&**self, begin, len)
-    }
-
-    #[inline(always)]
-    fn try_get_bits(&self, begin: usize, len: u8) -> Option<u64> {
-        words::try_get_bits(&**self, begin, len)
-    }
-
-    #[inline(always)]
-    fn get_successive_bits(&self, begin: &mut usize, len: u8) -> u64 {
-        words::get_successive_bits(&**self, begin, len)
-    }
-
-    #[inline(always)]
-    fn get_fragment_unmasked(&self, index: usize, s: u8) -> u64 {
-        words::get_fragment_unmasked(&**self, index, s)
-    }
-
-    #[inline(always)]
-    fn get_fragment(&self, index: usize, s: u8) -> u64 {
-        words::get_fragment(&**self, index, s)
-    }
-
-    #[inline(always)]
-    fn try_get_fragment_unmasked(&self, index: usize, s: u8) -> Option<u64> {
-        words::try_get_fragment_unmasked(&**self, index, s)
-    }
-
-    #[inline(always)]
-    fn try_get_fragment(&self, index: usize, s: u8) -> Option<u64> {
-        words::try_get_fragment(&**self, index, s)
-    }
-
-    #[inline(always)]
-    fn get_successive_fragment(&self, index: &mut usize, s: u8) -> u64 {
-        words::get_successive_fragment(&**self, index, s)
-    }
-
-    #[inline]
-    fn count_bit_ones(&self) -> usize {
-        words::count_bit_ones(&**self)
-    }
-
-    #[inline]
-    fn count_bit_zeros(&self) -> usize {
-        words::count_bit_zeros(&**self)
-    }
-
-    #[inline(always)]
-    fn bit_ones(&self) -> BitOnesIterator<'_> {
-        BitOnesIterator::new(&**self)
-    }
-
-    #[inline(always)]
-    fn bit_zeros(&self) -> BitZerosIterator<'_> {
-        BitZerosIterator::new(&**self)
-    }
-
-    #[inline(always)]
-    fn bit_iter(&self) -> BitIterator<'_> {
-        BitIterator::new(&**self)
-    }
-
-    #[inline(always)]
-    fn bit_in_range_iter(&self, range: Range<usize>) -> BitIterator<'_> {
-        BitIterator::with_range(&**self, range)
-    }
-
-    #[inline]
-    fn trailing_zero_bits(&self) -> usize {
-        words::trailing_zero_bits(&**self)
-    }
-
-    #[inline]
-    fn find_bit_one(&self, start: usize) -> Option<usize> {
-        words::find_bit_one(&**self, start)
-    }
-
-    #[inline]
-    fn find_bit_one_unchecked(&self, start: usize) -> usize {
-        words::find_bit_one_unchecked(&**self, start)
-    }
-
-    #[inline]
-    fn rfind_bit_one_unchecked(&self, start: usize) -> usize {
-        words::rfind_bit_one_unchecked(&**self, start)
-    }
 }

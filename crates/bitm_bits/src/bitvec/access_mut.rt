@@ -7,9 +7,9 @@ use crate::bitvec::access::BitAccess;
 
 /// Writes bits of the words that a value lends: of a mutable slice of `u64`.
 ///
-/// Each call leaves every bit that it does not name as it was, and the value lends the same slice afterwards. A call ending
-/// in `_unchecked` is the plain one: both have the same condition, which the checker proves at each call. Ranges and
-/// fragments are those of `BitAccess`.
+/// Each call leaves every bit that it does not name as it was, and the value lends the same slice afterwards. A call
+/// ending in `_unchecked` is the plain one: both have the same condition, which the checker proves at each call. Ranges
+/// and fragments are those of `BitAccess`.
 ///
 /// # What the slice's owner holds afterwards
 /// The checker knows it by the form of the call:
@@ -21,8 +21,8 @@ use crate::bitvec::access::BitAccess;
 /// | any of these | the functions of `words` on the slice, as `words::set_bit(slice, 3)` |
 /// | a `B: BitAccessMut` | the methods, where the caller's own contract says that `B.lender` and the number of words stay |
 ///
-/// After a method on a local slice, as `slice.set_bit(3)`, it knows what `slice` lends as long as `slice` is used, and of the
-/// owner no more than the number of words.
+/// After a method on a local slice, as `slice.set_bit(3)`, it knows what `slice` lends as long as `slice` is used, and
+/// of the owner no more than the number of words.
 pub trait BitAccessMut: BitAccess {
     /// The name of the borrow: values with one name lend the same slice.
     ghost lender: { Self → ℕ };
@@ -38,10 +38,7 @@ pub trait BitAccessMut: BitAccess {
         ensures after { bits_of (Self.words self.new)
             ≡ with_number (bits_of (Self.words self.old)) place 1 (if value then 1 else 0) };
 
-    /// Makes the bit at `place` equal to `value`, as `set_bit_to`.
-    ///
-    /// # Conditions
-    /// The place is inside.
+    /// As `set_bit_to`, under the same conditions.
     #[inline(always)]
     fn set_bit_to_unchecked(&mut self, place: usize, value: bool)
         requires { place < 64 * length (Self.words self.old) }
@@ -64,10 +61,7 @@ pub trait BitAccessMut: BitAccess {
         ensures after { bits_of (Self.words self.new)
             ≡ with_number (bits_of (Self.words self.old)) place 1 1 };
 
-    /// Makes the bit at `place` one, as `set_bit`.
-    ///
-    /// # Conditions
-    /// The place is inside.
+    /// As `set_bit`, under the same conditions.
     #[inline(always)]
     fn set_bit_unchecked(&mut self, place: usize)
         requires { place < 64 * length (Self.words self.old) }
@@ -90,10 +84,7 @@ pub trait BitAccessMut: BitAccess {
         ensures after { bits_of (Self.words self.new)
             ≡ with_number (bits_of (Self.words self.old)) place 1 0 };
 
-    /// Makes the bit at `place` zero, as `clear_bit`.
-    ///
-    /// # Conditions
-    /// The place is inside.
+    /// As `clear_bit`, under the same conditions.
     #[inline(always)]
     fn clear_bit_unchecked(&mut self, place: usize)
         requires { place < 64 * length (Self.words self.old) }
@@ -118,10 +109,7 @@ pub trait BitAccessMut: BitAccess {
         ensures after { bits_of (Self.words self.new)
             ≡ with_number (bits_of (Self.words self.old)) place 1 (if value then 1 else 0) };
 
-    /// Makes the bit at `place`, which is zero or already `value`, equal to `value`, as `init_bit`.
-    ///
-    /// # Conditions
-    /// The place is inside; its bit is zero or already `value`.
+    /// As `init_bit`, under the same conditions.
     #[inline(always)]
     fn init_bit_unchecked(&mut self, place: usize, value: bool)
         requires inside { place < 64 * length (Self.words self.old) }
@@ -148,10 +136,7 @@ pub trait BitAccessMut: BitAccess {
             ≡ with_number (bits_of (Self.words self.old)) place.old 1 (if value then 1 else 0) }
         ensures advances { place.new ≡ place.old + 1 };
 
-    /// Makes the bit at `place` equal to `value`, as `set_successive_bit_to`.
-    ///
-    /// # Conditions
-    /// The place is inside; there are fewer than 2^58 words.
+    /// As `set_successive_bit_to`, under the same conditions.
     #[inline(always)]
     fn set_successive_bit_to_unchecked(&mut self, place: &mut usize, value: bool)
         requires inside { place.old < 64 * length (Self.words self.old) }
@@ -180,10 +165,7 @@ pub trait BitAccessMut: BitAccess {
             ≡ with_number (bits_of (Self.words self.old)) place.old 1 (if value then 1 else 0) }
         ensures advances { place.new ≡ place.old + 1 };
 
-    /// Makes the bit at `place`, which is zero or already `value`, equal to `value`, as `init_successive_bit`.
-    ///
-    /// # Conditions
-    /// The place is inside; its bit is zero or already `value`; there are fewer than 2^58 words.
+    /// As `init_successive_bit`, under the same conditions.
     #[inline(always)]
     fn init_successive_bit_unchecked(&mut self, place: &mut usize, value: bool)
         requires inside { place.old < 64 * length (Self.words self.old) }
@@ -212,10 +194,7 @@ pub trait BitAccessMut: BitAccess {
         ensures after { bits_of (Self.words self.new)
             ≡ with_number (bits_of (Self.words self.old)) begin len v };
 
-    /// Replaces the `len` bits from `begin` on by the number `v`, as `set_bits`.
-    ///
-    /// # Conditions
-    /// They are in range; `len` is 0 to 63; `v` is below 2^`len`.
+    /// As `set_bits`, under the same conditions.
     #[inline(always)]
     fn set_bits_unchecked(&mut self, begin: usize, v: u64, len: u8)
         requires in_range { IsInRange (Self.words self.old) begin len }
@@ -244,10 +223,7 @@ pub trait BitAccessMut: BitAccess {
         ensures after { bits_of (Self.words self.new)
             ≡ with_number (bits_of (Self.words self.old)) begin len v };
 
-    /// Makes the `len` bits from `begin` on, which are zeros or already `v`, the number `v`, as `init_bits`.
-    ///
-    /// # Conditions
-    /// They are in range, and as a number 0 or `v`; `len` is 0 to 64; `v` is below 2^`len`.
+    /// As `init_bits`, under the same conditions.
     #[inline(always)]
     fn init_bits_unchecked(&mut self, begin: usize, v: u64, len: u8)
         requires in_range { IsInRange (Self.words self.old) begin len }
@@ -263,8 +239,8 @@ pub trait BitAccessMut: BitAccess {
         self.init_bits(begin, v, len);
     }
 
-    /// Negates each bit from `begin` on at whose place `v` has a one, also past `len`: up to the end of the word, or 64 bits
-    /// where `len` bits cross that end.
+    /// Negates each bit from `begin` on at whose place `v` has a one, also past `len`: up to the end of the word, or 64
+    /// bits where `len` bits cross that end.
     ///
     /// # Conditions
     /// The `len` bits from `begin` on are in range; `len` is 0 to 64.
@@ -291,11 +267,12 @@ pub trait BitAccessMut: BitAccess {
             ≡ with_number (bits_of (Self.words self.old)) begin.old len v }
         ensures advances { begin.new ≡ begin.old + len };
 
-    /// Makes the `len` bits from `begin` on, which are zeros or already the number `v`, the number `v`, lowest first; `begin`
-    /// moves on by `len`.
+    /// Makes the `len` bits from `begin` on, which are zeros or already the number `v`, the number `v`, lowest first;
+    /// `begin` moves on by `len`.
     ///
     /// # Conditions
-    /// They are in range, and as a number 0 or `v`; there are fewer than 2^58 words; `len` is 0 to 64; `v` is below 2^`len`.
+    /// They are in range, and as a number 0 or `v`; there are fewer than 2^58 words; `len` is 0 to 64; `v` is below
+    /// 2^`len`.
     fn init_successive_bits(&mut self, begin: &mut usize, v: u64, len: u8)
         requires in_range { IsInRange (Self.words self.old) begin.old len }
         requires short { IsShort (Self.words self.old) }
@@ -336,10 +313,7 @@ pub trait BitAccessMut: BitAccess {
         ensures after { bits_of (Self.words self.new)
             ≡ with_number (bits_of (Self.words self.old)) (index * s) s v };
 
-    /// Replaces fragment `index` of width `s` by the number `v`, as `set_fragment`.
-    ///
-    /// # Conditions
-    /// The fragment is in range; `s` is 0 to 63; `v` is below 2^`s`.
+    /// As `set_fragment`, under the same conditions.
     #[inline(always)]
     fn set_fragment_unchecked(&mut self, index: usize, v: u64, s: u8)
         requires in_range { IsFragmentInRange (Self.words self.old) index s }
@@ -353,7 +327,8 @@ pub trait BitAccessMut: BitAccess {
         self.set_fragment(index, v, s);
     }
 
-    /// Makes fragment `index` of width `s`, whose bits are zeros or already the number `v`, the number `v`, lowest bit first.
+    /// Makes fragment `index` of width `s`, whose bits are zeros or already the number `v`, the number `v`, lowest bit
+    /// first.
     ///
     /// # Conditions
     /// The fragment is in range, and as a number 0 or `v`; `s` is 0 to 64; `v` is below 2^`s`.
@@ -368,10 +343,7 @@ pub trait BitAccessMut: BitAccess {
         ensures after { bits_of (Self.words self.new)
             ≡ with_number (bits_of (Self.words self.old)) (index * s) s v };
 
-    /// Makes fragment `index` of width `s`, whose bits are zeros or already `v`, the number `v`, as `init_fragment`.
-    ///
-    /// # Conditions
-    /// The fragment is in range, and as a number 0 or `v`; `s` is 0 to 64; `v` is below 2^`s`.
+    /// As `init_fragment`, under the same conditions.
     #[inline(always)]
     fn init_fragment_unchecked(&mut self, index: usize, v: u64, s: u8)
         requires in_range { IsFragmentInRange (Self.words self.old) index s }
@@ -387,8 +359,8 @@ pub trait BitAccessMut: BitAccess {
         self.init_fragment(index, v, s);
     }
 
-    /// Negates each bit from the begin of fragment `index` on at whose place `v` has a one, also past the fragment: up to the
-    /// end of the word, or 64 bits where the fragment crosses that end.
+    /// Negates each bit from the begin of fragment `index` on at whose place `v` has a one, also past the fragment: up
+    /// to the end of the word, or 64 bits where the fragment crosses that end.
     ///
     /// # Conditions
     /// The fragment is in range; `s` is 0 to 64.
@@ -403,8 +375,8 @@ pub trait BitAccessMut: BitAccess {
     /// Replaces fragment `index` of width `s` by the number `v`, lowest bit first; `index` moves on by one.
     ///
     /// # Conditions
-    /// The fragment is in range; there are fewer than 2^58 words; `index` is below `usize::MAX`; `s` is 0 to 63; `v` is below
-    /// 2^`s`.
+    /// The fragment is in range; there are fewer than 2^58 words; `index` is below `usize::MAX`; `s` is 0 to 63; `v` is
+    /// below 2^`s`.
     fn set_successive_fragment(&mut self, index: &mut usize, v: u64, s: u8)
         requires in_range { IsFragmentInRange (Self.words self.old) index.old s }
         requires short { IsShort (Self.words self.old) }
@@ -417,12 +389,12 @@ pub trait BitAccessMut: BitAccess {
             ≡ with_number (bits_of (Self.words self.old)) (index.old * s) s v }
         ensures advances { index.new ≡ index.old + 1 };
 
-    /// Makes fragment `index` of width `s`, whose bits are zeros or already the number `v`, the number `v`, lowest bit first;
-    /// `index` moves on by one.
+    /// Makes fragment `index` of width `s`, whose bits are zeros or already the number `v`, the number `v`, lowest bit
+    /// first; `index` moves on by one.
     ///
     /// # Conditions
-    /// The fragment is in range, and as a number 0 or `v`; there are fewer than 2^58 words; `index` is below `usize::MAX`; `s`
-    /// is 0 to 64; `v` is below 2^`s`.
+    /// The fragment is in range, and as a number 0 or `v`; there are fewer than 2^58 words; `index` is below
+    /// `usize::MAX`; `s` is 0 to 64; `v` is below 2^`s`.
     fn init_successive_fragment(&mut self, index: &mut usize, v: u64, s: u8)
         requires in_range { IsFragmentInRange (Self.words self.old) index.old s }
         requires short { IsShort (Self.words self.old) }
@@ -468,12 +440,12 @@ pub trait BitAccessMut: BitAccess {
             (number_at (bits_of (Self.words self.old)) (i * s) s) }
         ensures kept { i ≡ j → Self.words self.new ≡ Self.words self.old };
 
-    /// The `s` bits from `begin` on as a number, lowest first, as they were: `new_value`, called once on that number, answers
-    /// what replaces them, or `None` where they stay.
+    /// The `s` bits from `begin` on as a number, lowest first, as they were: `new_value`, called once on that number,
+    /// answers what replaces them, or `None` where they stay.
     ///
     /// # Conditions
-    /// The bits are in range; `s` is 0 to 63; the closure may be called on their number, and what it may answer is below
-    /// 2^`s`.
+    /// The bits are in range; `s` is 0 to 63; the closure may be called on their number, and what it may answer is
+    /// below 2^`s`.
     fn conditionally_change_bits<F: FnOnce(u64) -> Option<u64>>(
         &mut self,
         new_value: F,
@@ -482,9 +454,10 @@ pub trait BitAccessMut: BitAccess {
     ) -> u64
         requires in_range { IsInRange (Self.words self.old) begin s }
         requires width { s ≤ 63 }
-        requires callable { F.pre new_value (number_at (bits_of (Self.words self.old)) begin s) }
-        requires fits { (v : ℕ)
-            → F.post new_value (number_at (bits_of (Self.words self.old)) begin s) (Some v) → v < 2 ^ s }
+        requires callable { F.pre new_value
+            (number_at (bits_of (Self.words self.old)) begin s) }
+        requires fits { let old = number_at (bits_of (Self.words self.old)) begin s in
+            (v : ℕ) → F.post new_value old (Some v) → v < 2 ^ s }
         ensures same { Self.lender self.new ≡ Self.lender self.old }
         ensures len { length (Self.words self.new) ≡ length (Self.words self.old) }
         ensures old { result ≡ number_at (bits_of (Self.words self.old)) begin s }
@@ -497,8 +470,8 @@ pub trait BitAccessMut: BitAccess {
     /// answers what replaces it, or `None` where it stays.
     ///
     /// # Conditions
-    /// The fragment is in range; `s` is 0 to 63; the closure may be called on its number, and what it may answer is below
-    /// 2^`s`.
+    /// The fragment is in range; `s` is 0 to 63; the closure may be called on its number, and what it may answer is
+    /// below 2^`s`.
     fn conditionally_change_fragment<F: FnOnce(u64) -> Option<u64>>(
         &mut self,
         new_value: F,
@@ -507,9 +480,10 @@ pub trait BitAccessMut: BitAccess {
     ) -> u64
         requires in_range { IsFragmentInRange (Self.words self.old) index s }
         requires width { s ≤ 63 }
-        requires callable { F.pre new_value (number_at (bits_of (Self.words self.old)) (index * s) s) }
-        requires fits { (v : ℕ)
-            → F.post new_value (number_at (bits_of (Self.words self.old)) (index * s) s) (Some v) → v < 2 ^ s }
+        requires callable { F.pre new_value
+            (number_at (bits_of (Self.words self.old)) (index * s) s) }
+        requires fits { let old = number_at (bits_of (Self.words self.old)) (index * s) s in
+            (v : ℕ) → F.post new_value old (Some v) → v < 2 ^ s }
         ensures same { Self.lender self.new ≡ Self.lender self.old }
         ensures len { length (Self.words self.new) ≡ length (Self.words self.old) }
         ensures old { result ≡ number_at (bits_of (Self.words self.old)) (index * s) s }
@@ -518,8 +492,8 @@ pub trait BitAccessMut: BitAccess {
             (λ v. bits_of (Self.words self.new)
             ≡ with_number (bits_of (Self.words self.old)) (index * s) s v) };
 
-    /// Replaces the `s` bits from `begin` on by those of `src` at the same place, where `predicate`, called once on the two
-    /// numbers, the old one first, answers true.
+    /// Replaces the `s` bits from `begin` on by those of `src` at the same place, where `predicate`, called once on the
+    /// two numbers, the old one first, answers true.
     ///
     /// # Conditions
     /// The bits are in range in both; `s` is 0 to 63; the closure may be called on the two numbers.
@@ -533,20 +507,21 @@ pub trait BitAccessMut: BitAccess {
         requires in_range { IsInRange (Self.words self.old) begin s }
         requires in_source { IsInRange src.now begin s }
         requires width { s ≤ 63 }
-        requires callable { F.pre predicate (number_at (bits_of (Self.words self.old)) begin s)
+        requires callable { F.pre predicate
+            (number_at (bits_of (Self.words self.old)) begin s)
             (number_at (bits_of src.now) begin s) }
         ensures same { Self.lender self.new ≡ Self.lender self.old }
         ensures len { length (Self.words self.new) ≡ length (Self.words self.old) }
-        ensures after { (taken : _) × F.post predicate (number_at (bits_of (Self.words self.old)) begin s)
-            (number_at (bits_of src.now) begin s) taken
+        ensures after { let old = number_at (bits_of (Self.words self.old)) begin s in
+            let new = number_at (bits_of src.now) begin s in
+            (taken : _) × F.post predicate old new taken
             × (bits_of (Self.words self.new)
             ≡ (if taken
-            then with_number (bits_of (Self.words self.old)) begin s
-            (number_at (bits_of src.now) begin s)
+            then with_number (bits_of (Self.words self.old)) begin s new
             else bits_of (Self.words self.old))) };
 
-    /// Replaces fragment `index` of width `s` by that of `src`, where `predicate`, called once on the two numbers, the old
-    /// one first, answers true.
+    /// Replaces fragment `index` of width `s` by that of `src`, where `predicate`, called once on the two numbers, the
+    /// old one first, answers true.
     ///
     /// # Conditions
     /// The fragment is in range in both; `s` is 0 to 63; the closure may be called on the two numbers.
@@ -560,15 +535,16 @@ pub trait BitAccessMut: BitAccess {
         requires in_range { IsFragmentInRange (Self.words self.old) index s }
         requires in_source { IsFragmentInRange src.now index s }
         requires width { s ≤ 63 }
-        requires callable { F.pre predicate (number_at (bits_of (Self.words self.old)) (index * s) s)
+        requires callable { F.pre predicate
+            (number_at (bits_of (Self.words self.old)) (index * s) s)
             (number_at (bits_of src.now) (index * s) s) }
         ensures same { Self.lender self.new ≡ Self.lender self.old }
         ensures len { length (Self.words self.new) ≡ length (Self.words self.old) }
-        ensures after { (taken : _) × F.post predicate (number_at (bits_of (Self.words self.old)) (index * s) s)
-            (number_at (bits_of src.now) (index * s) s) taken
+        ensures after { let old = number_at (bits_of (Self.words self.old)) (index * s) s in
+            let new = number_at (bits_of src.now) (index * s) s in
+            (taken : _) × F.post predicate old new taken
             × (bits_of (Self.words self.new)
             ≡ (if taken
-            then with_number (bits_of (Self.words self.old)) (index * s) s
-            (number_at (bits_of src.now) (index * s) s)
+            then with_number (bits_of (Self.words self.old)) (index * s) s new
             else bits_of (Self.words self.old))) };
 }

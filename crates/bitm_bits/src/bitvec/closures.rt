@@ -6,11 +6,12 @@ ghost use Rattle.bitm_bits.specs.Number.{number_at, with_number, IsInRange, IsFr
 use crate::bitvec::reading::get_bits;
 use crate::bitvec::writing::set_bits;
 
-/// The `s` bits from `begin` on as a number, lowest first, as they were: `new_value`, called once on that number, answers
-/// what replaces them, or `None` where they stay.
+/// The `s` bits from `begin` on as a number, lowest first, as they were: `new_value`, called once on that number,
+/// answers what replaces them, or `None` where they stay.
 ///
 /// # Conditions
-/// The bits are in range; `s` is 0 to 63; the closure may be called on their number, and what it may answer is below 2^`s`.
+/// The bits are in range; `s` is 0 to 63; the closure may be called on their number, and what it may answer is below
+/// 2^`s`.
 #[inline(always)]
 pub fn conditionally_change_bits<F: FnOnce(u64) -> Option<u64>>(
     words: &mut [u64],
@@ -21,8 +22,8 @@ pub fn conditionally_change_bits<F: FnOnce(u64) -> Option<u64>>(
     requires in_range { IsInRange words.old begin s }
     requires width { s ≤ 63 }
     requires callable { F.pre new_value (number_at (bits_of words.old) begin s) }
-    requires fits { (v : ℕ)
-        → F.post new_value (number_at (bits_of words.old) begin s) (Some v) → v < 2 ^ s }
+    requires fits { let old = number_at (bits_of words.old) begin s in
+        (v : ℕ) → F.post new_value old (Some v) → v < 2 ^ s }
     ensures old { result ≡ number_at (bits_of words.old) begin s }
     ensures after { (answer : _) × F.post new_value result answer
         × MatchOption answer (words.new ≡ words.old)
@@ -35,8 +36,8 @@ pub fn conditionally_change_bits<F: FnOnce(u64) -> Option<u64>>(
     old
 }
 
-/// Fragment `index` of width `s` as a number, lowest bit first, as it was: `new_value`, called once on that number, answers
-/// what replaces it, or `None` where it stays.
+/// Fragment `index` of width `s` as a number, lowest bit first, as it was: `new_value`, called once on that number,
+/// answers what replaces it, or `None` where it stays.
 ///
 /// # Conditions
 /// The fragment is in range; `s` is 0 to 63; the closure may be called on its number, and what it may answer is below
@@ -51,8 +52,8 @@ pub fn conditionally_change_fragment<F: FnOnce(u64) -> Option<u64>>(
     requires in_range { IsFragmentInRange words.old index s }
     requires width { s ≤ 63 }
     requires callable { F.pre new_value (number_at (bits_of words.old) (index * s) s) }
-    requires fits { (v : ℕ)
-        → F.post new_value (number_at (bits_of words.old) (index * s) s) (Some v) → v < 2 ^ s }
+    requires fits { let old = number_at (bits_of words.old) (index * s) s in
+        (v : ℕ) → F.post new_value old (Some v) → v < 2 ^ s }
     ensures old { result ≡ number_at (bits_of words.old) (index * s) s }
     ensures after { (answer : _) × F.post new_value result answer
         × MatchOption answer (words.new ≡ words.old)
@@ -79,11 +80,12 @@ pub fn conditionally_copy_bits<F: FnOnce(u64, u64) -> bool>(
     requires width { s ≤ 63 }
     requires callable { F.pre predicate (number_at (bits_of words.old) begin s)
         (number_at (bits_of src.now) begin s) }
-    ensures { (taken : _) × F.post predicate (number_at (bits_of words.old) begin s)
-        (number_at (bits_of src.now) begin s) taken
+    ensures { let old = number_at (bits_of words.old) begin s in
+        let new = number_at (bits_of src.now) begin s in
+        (taken : _) × F.post predicate old new taken
         × (bits_of words.new
         ≡ (if taken
-        then with_number (bits_of words.old) begin s (number_at (bits_of src.now) begin s)
+        then with_number (bits_of words.old) begin s new
         else bits_of words.old)) }
 {
     let old = get_bits(words, begin, s);
@@ -93,8 +95,8 @@ pub fn conditionally_copy_bits<F: FnOnce(u64, u64) -> bool>(
     }
 }
 
-/// Replaces fragment `index` of width `s` by that of `src`, where `predicate`, called once on the two numbers, the old one
-/// first, answers true.
+/// Replaces fragment `index` of width `s` by that of `src`, where `predicate`, called once on the two numbers, the old
+/// one first, answers true.
 ///
 /// # Conditions
 /// The fragment is in range in both; `s` is 0 to 63; the closure may be called on the two numbers.
@@ -111,12 +113,12 @@ pub fn conditionally_copy_fragment<F: FnOnce(u64, u64) -> bool>(
     requires width { s ≤ 63 }
     requires callable { F.pre predicate (number_at (bits_of words.old) (index * s) s)
         (number_at (bits_of src.now) (index * s) s) }
-    ensures { (taken : _) × F.post predicate (number_at (bits_of words.old) (index * s) s)
-        (number_at (bits_of src.now) (index * s) s) taken
+    ensures { let old = number_at (bits_of words.old) (index * s) s in
+        let new = number_at (bits_of src.now) (index * s) s in
+        (taken : _) × F.post predicate old new taken
         × (bits_of words.new
         ≡ (if taken
-        then with_number (bits_of words.old) (index * s) s
-        (number_at (bits_of src.now) (index * s) s)
+        then with_number (bits_of words.old) (index * s) s new
         else bits_of words.old)) }
 {
     conditionally_copy_bits(words, src, predicate, index * s as usize, s);

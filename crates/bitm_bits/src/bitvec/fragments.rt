@@ -1,4 +1,5 @@
-//! Fragments of words: fragment `index` of width `s` is the `s` bits from bit `index * s` on, a product of whole numbers.
+//! Fragments of words: fragment `index` of width `s` is the `s` bits from bit `index * s` on, a product of whole
+//! numbers.
 ghost use Rattle.std.specs.Prelude.{◌≡◌, ◌*◌, ◌^◌, ◌<◌, ◌≤◌, ◌⊎◌, SomeIff};
 ghost use Rattle.bitm_bits.specs.Bits.{bits_of};
 ghost use Rattle.bitm_bits.specs.Number.{number_at, with_number, IsFragmentInRange};
@@ -7,8 +8,8 @@ ghost use Rattle.bitm_bits.specs.Window.{reach_of, with_flips};
 use crate::bitvec::reading::{get_bits, get_bits_unmasked, try_get_bits, try_get_bits_unmasked};
 use crate::bitvec::writing::{init_bits, set_bits, xor_bits};
 
-/// The bits from the begin of fragment `index` to the end of its word, or 64 of them where the fragment crosses that end,
-/// as a number, lowest first.
+/// The bits from the begin of fragment `index` to the end of its word, or 64 of them where the fragment crosses that
+/// end, as a number, lowest first.
 ///
 /// # Conditions
 /// The fragment is in range; `s` is 0 to 64.
@@ -76,7 +77,8 @@ pub fn set_fragment(words: &mut [u64], index: usize, v: u64, s: u8)
     set_bits(words, index * s as usize, v, s);
 }
 
-/// Makes fragment `index` of width `s`, whose bits are zeros or already the number `v`, the number `v`, lowest bit first.
+/// Makes fragment `index` of width `s`, whose bits are zeros or already the number `v`, the number `v`, lowest bit
+/// first.
 ///
 /// # Conditions
 /// The fragment is in range, and as a number 0 or `v`; `s` is 0 to 64; `v` is below 2^`s`.
@@ -92,8 +94,8 @@ pub fn init_fragment(words: &mut [u64], index: usize, v: u64, s: u8)
     init_bits(words, index * s as usize, v, s);
 }
 
-/// Negates each bit from the begin of fragment `index` on at whose place `v` has a one, also past the fragment: up to the
-/// end of the word, or 64 bits where the fragment crosses that end.
+/// Negates each bit from the begin of fragment `index` on at whose place `v` has a one, also past the fragment: up to
+/// the end of the word, or 64 bits where the fragment crosses that end.
 ///
 /// # Conditions
 /// The fragment is in range; `s` is 0 to 64.
@@ -119,7 +121,7 @@ pub fn swap_fragments(words: &mut [u64], i: usize, j: usize, s: u8)
         ≡ with_number (with_number (bits_of words.old) (i * s) s
         (number_at (bits_of words.old) (j * s) s)) (j * s) s
         (number_at (bits_of words.old) (i * s) s) }
-    ensures same { i ≡ j → words.new ≡ words.old }
+    ensures kept { i ≡ j → words.new ≡ words.old }
 {
     let first = get_fragment(words, i, s);
     let second = get_fragment(words, j, s);

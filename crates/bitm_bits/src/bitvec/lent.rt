@@ -1,7 +1,249 @@
-//! The writing calls of slices that are lent.
+//! The calls of slices that are lent: each is one call of `words`.
 
+use crate::bitvec::access::BitAccess;
 use crate::bitvec::access_mut::BitAccessMut;
+use crate::bitvec::each_bit::BitIterator;
+use crate::bitvec::places::{BitOnesIterator, BitZerosIterator};
 use crate::words;
+use std::ops::Range;
+
+impl BitAccess for &[u64] {
+    ghost words = { λ s. s.now };
+
+    #[inline(always)]
+    fn get_bit(&self, place: usize) -> bool {
+        words::get_bit(*self, place)
+    }
+
+    #[inline(always)]
+    fn try_get_bit(&self, place: usize) -> Option<bool> {
+        words::try_get_bit(*self, place)
+    }
+
+    #[inline(always)]
+    fn get_successive_bit(&self, place: &mut usize) -> bool {
+        words::get_successive_bit(*self, place)
+    }
+
+    #[inline(always)]
+    fn get_bits_unmasked(&self, begin: usize, len: u8) -> u64 {
+        words::get_bits_unmasked(*self, begin, len)
+    }
+
+    #[inline(always)]
+    fn get_bits(&self, begin: usize, len: u8) -> u64 {
+        words::get_bits(*self, begin, len)
+    }
+
+    #[inline(always)]
+    fn try_get_bits_unmasked(&self, begin: usize, len: u8) -> Option<u64> {
+        words::try_get_bits_unmasked(*self, begin, len)
+    }
+
+    #[inline(always)]
+    fn try_get_bits(&self, begin: usize, len: u8) -> Option<u64> {
+        words::try_get_bits(*self, begin, len)
+    }
+
+    #[inline(always)]
+    fn get_successive_bits(&self, begin: &mut usize, len: u8) -> u64 {
+        words::get_successive_bits(*self, begin, len)
+    }
+
+    #[inline(always)]
+    fn get_fragment_unmasked(&self, index: usize, s: u8) -> u64 {
+        words::get_fragment_unmasked(*self, index, s)
+    }
+
+    #[inline(always)]
+    fn get_fragment(&self, index: usize, s: u8) -> u64 {
+        words::get_fragment(*self, index, s)
+    }
+
+    #[inline(always)]
+    fn try_get_fragment_unmasked(&self, index: usize, s: u8) -> Option<u64> {
+        words::try_get_fragment_unmasked(*self, index, s)
+    }
+
+    #[inline(always)]
+    fn try_get_fragment(&self, index: usize, s: u8) -> Option<u64> {
+        words::try_get_fragment(*self, index, s)
+    }
+
+    #[inline(always)]
+    fn get_successive_fragment(&self, index: &mut usize, s: u8) -> u64 {
+        words::get_successive_fragment(*self, index, s)
+    }
+
+    #[inline]
+    fn count_bit_ones(&self) -> usize {
+        words::count_bit_ones(*self)
+    }
+
+    #[inline]
+    fn count_bit_zeros(&self) -> usize {
+        words::count_bit_zeros(*self)
+    }
+
+    #[inline(always)]
+    fn bit_ones(&self) -> BitOnesIterator<'_> {
+        BitOnesIterator::new(*self)
+    }
+
+    #[inline(always)]
+    fn bit_zeros(&self) -> BitZerosIterator<'_> {
+        BitZerosIterator::new(*self)
+    }
+
+    #[inline(always)]
+    fn bit_iter(&self) -> BitIterator<'_> {
+        BitIterator::new(*self)
+    }
+
+    #[inline(always)]
+    fn bit_in_range_iter(&self, range: Range<usize>) -> BitIterator<'_> {
+        BitIterator::with_range(*self, range)
+    }
+
+    #[inline]
+    fn trailing_zero_bits(&self) -> usize {
+        words::trailing_zero_bits(*self)
+    }
+
+    #[inline]
+    fn find_bit_one(&self, start: usize) -> Option<usize> {
+        words::find_bit_one(*self, start)
+    }
+
+    #[inline]
+    fn find_bit_one_unchecked(&self, start: usize) -> usize {
+        words::find_bit_one_unchecked(*self, start)
+    }
+
+    #[inline]
+    fn rfind_bit_one_unchecked(&self, start: usize) -> usize {
+        words::rfind_bit_one_unchecked(*self, start)
+    }
+}
+
+impl BitAccess for &mut [u64] {
+    ghost words = { λ s. s.now };
+
+    #[inline(always)]
+    fn get_bit(&self, place: usize) -> bool {
+        words::get_bit(&**self, place)
+    }
+
+    #[inline(always)]
+    fn try_get_bit(&self, place: usize) -> Option<bool> {
+        words::try_get_bit(&**self, place)
+    }
+
+    #[inline(always)]
+    fn get_successive_bit(&self, place: &mut usize) -> bool {
+        words::get_successive_bit(&**self, place)
+    }
+
+    #[inline(always)]
+    fn get_bits_unmasked(&self, begin: usize, len: u8) -> u64 {
+        words::get_bits_unmasked(&**self, begin, len)
+    }
+
+    #[inline(always)]
+    fn get_bits(&self, begin: usize, len: u8) -> u64 {
+        words::get_bits(&**self, begin, len)
+    }
+
+    #[inline(always)]
+    fn try_get_bits_unmasked(&self, begin: usize, len: u8) -> Option<u64> {
+        words::try_get_bits_unmasked(&**self, begin, len)
+    }
+
+    #[inline(always)]
+    fn try_get_bits(&self, begin: usize, len: u8) -> Option<u64> {
+        words::try_get_bits(&**self, begin, len)
+    }
+
+    #[inline(always)]
+    fn get_successive_bits(&self, begin: &mut usize, len: u8) -> u64 {
+        words::get_successive_bits(&**self, begin, len)
+    }
+
+    #[inline(always)]
+    fn get_fragment_unmasked(&self, index: usize, s: u8) -> u64 {
+        words::get_fragment_unmasked(&**self, index, s)
+    }
+
+    #[inline(always)]
+    fn get_fragment(&self, index: usize, s: u8) -> u64 {
+        words::get_fragment(&**self, index, s)
+    }
+
+    #[inline(always)]
+    fn try_get_fragment_unmasked(&self, index: usize, s: u8) -> Option<u64> {
+        words::try_get_fragment_unmasked(&**self, index, s)
+    }
+
+    #[inline(always)]
+    fn try_get_fragment(&self, index: usize, s: u8) -> Option<u64> {
+        words::try_get_fragment(&**self, index, s)
+    }
+
+    #[inline(always)]
+    fn get_successive_fragment(&self, index: &mut usize, s: u8) -> u64 {
+        words::get_successive_fragment(&**self, index, s)
+    }
+
+    #[inline]
+    fn count_bit_ones(&self) -> usize {
+        words::count_bit_ones(&**self)
+    }
+
+    #[inline]
+    fn count_bit_zeros(&self) -> usize {
+        words::count_bit_zeros(&**self)
+    }
+
+    #[inline(always)]
+    fn bit_ones(&self) -> BitOnesIterator<'_> {
+        BitOnesIterator::new(&**self)
+    }
+
+    #[inline(always)]
+    fn bit_zeros(&self) -> BitZerosIterator<'_> {
+        BitZerosIterator::new(&**self)
+    }
+
+    #[inline(always)]
+    fn bit_iter(&self) -> BitIterator<'_> {
+        BitIterator::new(&**self)
+    }
+
+    #[inline(always)]
+    fn bit_in_range_iter(&self, range: Range<usize>) -> BitIterator<'_> {
+        BitIterator::with_range(&**self, range)
+    }
+
+    #[inline]
+    fn trailing_zero_bits(&self) -> usize {
+        words::trailing_zero_bits(&**self)
+    }
+
+    #[inline]
+    fn find_bit_one(&self, start: usize) -> Option<usize> {
+        words::find_bit_one(&**self, start)
+    }
+
+    #[inline]
+    fn find_bit_one_unchecked(&self, start: usize) -> usize {
+        words::find_bit_one_unchecked(&**self, start)
+    }
+
+    #[inline]
+    fn rfind_bit_one_unchecked(&self, start: usize) -> usize {
+        words::rfind_bit_one_unchecked(&**self, start)
+    }
+}
 
 impl BitAccessMut for &mut [u64] {
     ghost lender = { λ s. s.ghost_name };

@@ -30,7 +30,8 @@ pub fn try_get_bit(words: &[u64], place: usize) -> Option<bool>
     }
 }
 
-/// The bits from `begin` to the end of the word, or 64 of them where `len` bits cross that end, as a number, lowest first.
+/// The bits from `begin` to the end of the word, or 64 of them where `len` bits cross that end, as a number, lowest
+/// first.
 ///
 /// # Conditions
 /// The `len` bits from `begin` on are in range; `len` is 0 to 64.

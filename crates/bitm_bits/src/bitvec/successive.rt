@@ -112,11 +112,12 @@ pub fn set_successive_bits(words: &mut [u64], begin: &mut usize, v: u64, len: u8
     *begin += len as usize;
 }
 
-/// Makes the `len` bits from `begin` on, which are zeros or already the number `v`, the number `v`, lowest first; `begin`
-/// moves on by `len`.
+/// Makes the `len` bits from `begin` on, which are zeros or already the number `v`, the number `v`, lowest first;
+/// `begin` moves on by `len`.
 ///
 /// # Conditions
-/// They are in range, and as a number 0 or `v`; there are fewer than 2^58 words; `len` is 0 to 64; `v` is below 2^`len`.
+/// They are in range, and as a number 0 or `v`; there are fewer than 2^58 words; `len` is 0 to 64; `v` is below
+/// 2^`len`.
 #[inline(always)]
 pub fn init_successive_bits(words: &mut [u64], begin: &mut usize, v: u64, len: u8)
     requires in_range { IsInRange words.old begin.old len }
@@ -151,8 +152,8 @@ pub fn xor_successive_bits(words: &mut [u64], begin: &mut usize, v: u64, len: u8
 /// Replaces fragment `index` of width `s` by the number `v`, lowest bit first; `index` moves on by one.
 ///
 /// # Conditions
-/// The fragment is in range; there are fewer than 2^58 words; `index` is below `usize::MAX`; `s` is 0 to 63; `v` is below
-/// 2^`s`.
+/// The fragment is in range; there are fewer than 2^58 words; `index` is below `usize::MAX`; `s` is 0 to 63; `v` is
+/// below 2^`s`.
 #[inline(always)]
 pub fn set_successive_fragment(words: &mut [u64], index: &mut usize, v: u64, s: u8)
     requires in_range { IsFragmentInRange words.old index.old s }
@@ -167,12 +168,12 @@ pub fn set_successive_fragment(words: &mut [u64], index: &mut usize, v: u64, s: 
     *index += 1;
 }
 
-/// Makes fragment `index` of width `s`, whose bits are zeros or already the number `v`, the number `v`, lowest bit first;
-/// `index` moves on by one.
+/// Makes fragment `index` of width `s`, whose bits are zeros or already the number `v`, the number `v`, lowest bit
+/// first; `index` moves on by one.
 ///
 /// # Conditions
-/// The fragment is in range, and as a number 0 or `v`; there are fewer than 2^58 words; `index` is below `usize::MAX`; `s`
-/// is 0 to 64; `v` is below 2^`s`.
+/// The fragment is in range, and as a number 0 or `v`; there are fewer than 2^58 words; `index` is below `usize::MAX`;
+/// `s` is 0 to 64; `v` is below 2^`s`.
 #[inline(always)]
 pub fn init_successive_fragment(words: &mut [u64], index: &mut usize, v: u64, s: u8)
     requires in_range { IsFragmentInRange words.old index.old s }

@@ -111,8 +111,8 @@ pub fn init_bits(words: &mut [u64], begin: usize, v: u64, len: u8)
     words[segment] |= v << offset;
 }
 
-/// Negates each bit from `begin` on at whose place `v` has a one, also past `len`: up to the end of the word, or 64 bits
-/// where `len` bits cross that end.
+/// Negates each bit from `begin` on at whose place `v` has a one, also past `len`: up to the end of the word, or 64
+/// bits where `len` bits cross that end.
 ///
 /// # Conditions
 /// The `len` bits from `begin` on are in range; `len` is 0 to 64.

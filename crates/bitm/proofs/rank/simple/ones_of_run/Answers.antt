@@ -1,6 +1,5 @@
 -- The ones of a run are those up to its end less those up to its start.
-use Rattle.std.proofs.Common.{◌≡◌, ◌+◌, ◌-◌, ◌*◌, ◌<◌, length, take, drop, ap, arith, rules}
-use Rattle.bitm_bits.proofs.lemmas.BitsLemmas.{length-bits_of}
+use Rattle.std.proofs.Common.{◌+◌, ◌-◌, ◌*◌, take, drop, ap, arith, rules}
 use Rattle.bitm_bits.proofs.lemmas.CountLemmas.{ones_before-at_most_all}
 use Rattle.bitm_bits.specs.Bits.{bits_of}
 use Rattle.bitm.proofs.lemmas.SimpleLemmas.{run_counts}

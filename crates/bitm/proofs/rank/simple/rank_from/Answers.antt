@@ -1,5 +1,5 @@
 -- What is counted on the way to the place is at most all ones, which fit.
-use Rattle.std.proofs.Common.{◌≡◌, ◌-◌, ◌^◌, ◌%◌, bit_and, count_ones, get_or, ◌/◌, refl, ap, arith, rules}
+use Rattle.std.proofs.Common.{bit_and, count_ones, get_or, ◌/◌, refl, ap, arith, rules}
 use Rattle.bitm.proofs.lemmas.SimpleLemmas.{counts_to}
 use Rattle.bitm.proofs.rank.simple.rank_from.Goals as goal
 

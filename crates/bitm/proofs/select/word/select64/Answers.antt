@@ -6,60 +6,36 @@ use Rattle.bitm_bits.proofs.lemmas.BitsLemmas.{length-low_digits}
 use Rattle.bitm.proofs.select.word.select64.Goals as goal
 
 pub bytes_at_most-place-requires-clause-small : goal.bytes_at_most-place-requires-clause-small
-bytes_at_most-place-requires-clause-small c = sums_small c.args.n c.byte_sums-sums.result c.byte_sums-sums.ensures
+bytes_at_most-place-requires-clause-small c = sums_small _ _ c.byte_sums-sums.ensures
 
 pub bytes_at_most-place-requires-clause-below : goal.bytes_at_most-place-requires-clause-below
 bytes_at_most-place-requires-clause-below c = omega (arith, ones_before-low_digits_few 64 c.args.n)
 
 pub overflow_mul-place : goal.overflow_mul-place
-overflow_mul-place c =
-    let sums = c.byte_sums-sums in
-    let byte = c.bytes_at_most-place in
-    omega (arith, (byte_of_rank c.args.n sums.result sums.ensures c.args.rank byte.result c.requires byte.ensures).inside)
+overflow_mul-place c = omega (arith, (byte_of_rank _ _ c.byte_sums-sums.ensures _ _ c.requires c.bytes_at_most-place.ensures).inside)
 
 pub overflow_shr-before : goal.overflow_shr-before
-overflow_shr-before c =
-    let sums = c.byte_sums-sums in
-    let byte = c.bytes_at_most-place in
-    omega (arith, (byte_of_rank c.args.n sums.result sums.ensures c.args.rank byte.result c.requires byte.ensures).inside)
+overflow_shr-before c = omega (arith, (byte_of_rank _ _ c.byte_sums-sums.ensures _ _ c.requires c.bytes_at_most-place.ensures).inside)
 
 pub overflow_shr-n : goal.overflow_shr-n
-overflow_shr-n c =
-    let sums = c.byte_sums-sums in
-    let byte = c.bytes_at_most-place in
-    omega (arith, (byte_of_rank c.args.n sums.result sums.ensures c.args.rank byte.result c.requires byte.ensures).inside)
+overflow_shr-n c = omega (arith, (byte_of_rank _ _ c.byte_sums-sums.ensures _ _ c.requires c.bytes_at_most-place.ensures).inside)
 
 pub overflow_sub-rank : goal.overflow_sub-rank
-overflow_sub-rank c =
-    let sums = c.byte_sums-sums in
-    let byte = c.bytes_at_most-place in
-    (byte_of_rank c.args.n sums.result sums.ensures c.args.rank byte.result c.requires byte.ensures).from
+overflow_sub-rank c = (byte_of_rank _ _ c.byte_sums-sums.ensures _ _ c.requires c.bytes_at_most-place.ensures).from
 
 pub select_in_byte-requires : goal.select_in_byte-requires
-select_in_byte-requires c =
-    let sums = c.byte_sums-sums in
-    let byte = c.bytes_at_most-place in
-    (byte_of_rank c.args.n sums.result sums.ensures c.args.rank byte.result c.requires byte.ensures).left
+select_in_byte-requires c = (byte_of_rank _ _ c.byte_sums-sums.ensures _ _ c.requires c.bytes_at_most-place.ensures).left
 
 pub overflow_add-result : goal.overflow_add-result
 overflow_add-result c =
-    let sums = c.byte_sums-sums in
-    let byte = c.bytes_at_most-place in
-    let bit = c.select_in_byte in
-    let at = picked_in_word c.args.n sums.result sums.ensures c.args.rank byte.result bit.result c.requires byte.ensures bit.ensures in
+    let at = picked_in_word _ _ c.byte_sums-sums.ensures _ _ _ c.requires c.bytes_at_most-place.ensures c.select_in_byte.ensures in
     omega (arith, at.inside, length-low_digits 64 c.args.n)
 
 pub returns-clause-inside : goal.returns-clause-inside
 returns-clause-inside c =
-    let sums = c.byte_sums-sums in
-    let byte = c.bytes_at_most-place in
-    let bit = c.select_in_byte in
-    let at = picked_in_word c.args.n sums.result sums.ensures c.args.rank byte.result bit.result c.requires byte.ensures bit.ensures in
+    let at = picked_in_word _ _ c.byte_sums-sums.ensures _ _ _ c.requires c.bytes_at_most-place.ensures c.select_in_byte.ensures in
     omega (arith, at.inside, length-low_digits 64 c.args.n)
 
 pub returns-clause-picked : goal.returns-clause-picked
 returns-clause-picked c =
-    let sums = c.byte_sums-sums in
-    let byte = c.bytes_at_most-place in
-    let bit = c.select_in_byte in
-    picked_in_word c.args.n sums.result sums.ensures c.args.rank byte.result bit.result c.requires byte.ensures bit.ensures
+    picked_in_word _ _ c.byte_sums-sums.ensures _ _ _ c.requires c.bytes_at_most-place.ensures c.select_in_byte.ensures

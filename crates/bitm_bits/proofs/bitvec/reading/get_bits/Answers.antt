@@ -1,3 +1,4 @@
+-- A masked read is the lowest `len` digits of the unmasked one.
 use Rattle.std.proofs.Common.{ap₂, ◌∙◌, bit_and, arith}
 use Rattle.bitm_bits.specs.Bits.{bits_of}
 use Rattle.bitm_bits.specs.Window.{reach_of}

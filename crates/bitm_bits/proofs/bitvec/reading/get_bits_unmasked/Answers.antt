@@ -1,3 +1,4 @@
+-- The word at the begin has the range, or that word and the next have it.
 use Rattle.std.proofs.Common.{◌/◌, ◌<◌, ◌^◌, get_or, arith, rules}
 use Rattle.bitm_bits.proofs.lemmas.ReadLemmas.{number_at_across, number_at_within}
 use Rattle.bitm_bits.proofs.bitvec.reading.get_bits_unmasked.Goals as goal

@@ -1,3 +1,4 @@
+-- A masked read is the lowest `len` digits of the unmasked one, which was in range.
 use Rattle.std.proofs.Common.{ap₂, ◌∙◌, bit_and, arith}
 use Rattle.bitm_bits.specs.Window.{reach_of}
 use Rattle.bitm_bits.proofs.lemmas.ReadLemmas.{number_at_masked, reach_of_room}

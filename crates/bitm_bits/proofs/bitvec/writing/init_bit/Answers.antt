@@ -1,3 +1,4 @@
+-- The bit is zero or already the value: to join the value leaves the value.
 use Rattle.bitm_bits.proofs.lemmas.InitLemmas.{bit_joined}
 use Rattle.bitm_bits.proofs.bitvec.writing.init_bit.Goals as goal
 

@@ -1,3 +1,4 @@
+-- The bits are zeros or already v: to join v leaves v, in one word or in two.
 use Rattle.std.proofs.Common.{◌/◌, ◌*◌, ◌%◌, ◌^◌, get_or, set, bit_or, ap, ◌∙◌, arith}
 use Rattle.bitm_bits.specs.Bits.{bits_of}
 use Rattle.bitm_bits.proofs.lemmas.InitLemmas.{init_bits_within, init_bits_across}

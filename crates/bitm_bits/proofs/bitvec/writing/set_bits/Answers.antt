@@ -1,3 +1,4 @@
+-- The mask clears the bits that v then fills, in one word or in two.
 use Rattle.std.proofs.Common.{◌/◌, set, ap, ◌∙◌, arith}
 use Rattle.bitm_bits.specs.Bits.{bits_of}
 use Rattle.bitm_bits.proofs.lemmas.WriteLemmas.{set_bits_within, set_bits_across}
@@ -11,8 +12,8 @@ returns c =
     let n = c.args.len in
     elim c.if-offset-len-gt64.branch [
       | then-offset-len-gt64 w ↦
-          set_bits_across words _ s n c.args.v _ _ _ c.requires.in_range (omega arith) (omega arith) c.requires.fits c.n_lowest_bits-mask.ensures
-          w.words-is w.set_bits_to.ensures c.set_bits_to-2.ensures
+          set_bits_across words _ s n c.args.v _ _ _ c.requires.in_range (omega arith) (omega arith) c.requires.fits
+          c.n_lowest_bits-mask.ensures w.words-is w.set_bits_to.ensures c.set_bits_to-2.ensures
       | else-offset-len-gt64 w ↦
           ap (λ b. bits_of (set b (s / 64) c.set_bits_to-2.new.word)) w.words-is
           ∙ set_bits_within words s n c.args.v _ _ c.requires.in_range (omega arith) c.requires.fits c.n_lowest_bits-mask.ensures

@@ -1,3 +1,4 @@
+-- Each of one or two words is negated by its part of v.
 use Rattle.std.proofs.Common.{◌/◌, ◌*◌, ◌%◌, ◌^◌, ◌<◌, get_or, set, bit_xor, ap, ◌∙◌, arith}
 use Rattle.bitm_bits.specs.Bits.{bits_of}
 use Rattle.bitm_bits.proofs.lemmas.FlipLemmas.{xor_bits_within, xor_bits_across}

@@ -35,7 +35,9 @@ returns-clause-value g c =
     let coming = sym (length-coming g.row.B it.first it.current it.rest.now fits) ∙ ap length c.self.view_is in
     elim c.if-this-eq0.branch [
       | then-this-eq0 w ↦
-          ap (λ n. count_ones it.current + n) (w.rest-is ∙ w.count_bit_zeros-rest.ensures) ∙ sym (ap counted (ap kind w.if-this-eq0.true)) ∙ coming
+          ap (λ n. count_ones it.current + n) (w.rest-is ∙ w.count_bit_zeros-rest.ensures)
+          ∙ sym (ap counted (ap kind w.if-this-eq0.true))
+          ∙ coming
       | else-this-eq0 w ↦
           ap (λ n. count_ones it.current + n) (w.rest-is ∙ w.count_bit_ones-rest.ensures)
           ∙ sym (ap counted (kind_one g.row.B w.if-this-eq0.false))

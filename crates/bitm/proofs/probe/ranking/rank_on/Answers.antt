@@ -1,0 +1,94 @@
+-- The two entries count up to the record, each whole word adds its ones, and so does the low part of the last one.
+use Rattle.std.proofs.Common.{◌≡◌, ℕ, ◌+◌, ◌-◌, ◌*◌, ◌/◌, ◌%◌, ◌^◌, ◌<◌, slice_index, ap, refl, ◌∙◌, arith, count_ones, bit_and}
+use Rattle.bitm_bits.specs.Bits.{bits_of}
+use Rattle.bitm_bits.specs.Count.{ones_before}
+use Rattle.bitm.specs.Entry.{field_0}
+use Rattle.bitm.specs.Tables.{Lists}
+use Rattle.bitm.specs.declared.probe.counts.ReadCounts.{ReadCounts}
+use Rattle.bitm.proofs.lemmas.StretchLemmas.{ones_before-self, word_more, word_part}
+use Rattle.bitm.proofs.lemmas.TableLemmas.{upper_inside, lower_inside, tables_sum, rank_outside, rank_inside}
+use Rattle.bitm.proofs.probe.ranking.rank_on.Goals as goal
+use Rattle.bitm.proofs.probe.ranking.rank_on.Goals.{After-lower-entry, After-word, After-word-2}
+
+pub returns-then-index-words_len-clause-answer : goal.returns-then-index-words_len-clause-answer
+returns-then-index-words_len-clause-answer g c = rank_outside _ c.args.index (omega arith)
+
+pub upper-rank-requires : goal.upper-rank-requires
+upper-rank-requires g c = upper_inside _ _ _ c.requires.tables c.args.index (omega arith)
+
+pub lower-entry-requires : goal.lower-entry-requires
+lower-entry-requires g c = rw c.upper-rank.ensures.same (lower_inside _ _ _ c.requires.tables c.args.index (omega arith))
+
+sum : (g : _) (c : After-lower-entry g)
+    → c.upper-rank.result + field_0 c.lower-entry.result + c.lower-entry.result / 2 ^ (11 * (3 - c.args.index / 512 % 4)) / 2 ^ 32 % 2 ^ 11
+    ≡ ones_before (bits_of (g.T.TableSource.lists c.args.source.now).words) (64 * (c.args.index / 512 * 8))
+sum g c =
+    tables_sum _ _ _ c.requires.tables c.args.index (omega arith) c.upper-rank.result c.lower-entry.result c.upper-rank.ensures.item
+    (c.lower-entry.ensures.item ∙ ap (λ (l : Lists). slice_index l.lower (c.args.index / 2048)) c.upper-rank.ensures.same)
+
+at_most : (g : _) (c : After-lower-entry g)
+    → ones_before (bits_of (g.T.TableSource.lists c.args.source.now).words) (64 * (c.args.index / 512 * 8)) < 2 ^ 64
+at_most g c = omega (arith, ones_before-self (bits_of (g.T.TableSource.lists c.args.source.now).words) (64 * (c.args.index / 512 * 8)))
+
+pub overflow_add-rank : goal.overflow_add-rank
+overflow_add-rank g c =
+    let d = (goal.at.overflow_add-rank g c).After-lower-entry in
+    omega (arith, sum g d, at_most g d, c.ones_to_entry-rank.ensures)
+
+pub overflow_add-rank-2 : goal.overflow_add-rank-2
+overflow_add-rank-2 g c =
+    let d = (goal.at.overflow_add-rank-2 g c).After-lower-entry in
+    omega (arith, sum g d, at_most g d, c.ones_to_entry-rank.ensures, c.ones_to_record-rank.ensures)
+
+pub loop-at-init : goal.loop-at-init
+loop-at-init g c =
+    let d = (goal.at.loop-at-init g c).After-lower-entry in
+    record {
+      rank = omega (arith, sum g d, c.ones_to_entry-rank.ensures, c.ones_to_record-rank.ensures);
+      words = refl {A = ℕ};
+      upper = refl {A = ℕ};
+      lower = refl {A = ℕ};
+      same = c.lower-entry.ensures.same ∙ c.upper-rank.ensures.same;
+    }
+
+more : (g : _) (c : After-word g)
+    → ones_before (bits_of (g.T.TableSource.lists c.args.source.now).words) (64 * c.loop-at.at) + count_ones c.word.result
+    ≡ ones_before (bits_of (g.T.TableSource.lists c.args.source.now).words) (64 * (c.loop-at.at + 1))
+more g c =
+    word_more _ c.loop-at.at c.word.result (omega arith) c.word.type_inv
+    (c.word.ensures.item ∙ ap (λ (l : Lists). slice_index l.words c.loop-at.at) c.loop-at.invariant.same)
+
+pub overflow_add-rank-in-loop-at : goal.overflow_add-rank-in-loop-at
+overflow_add-rank-in-loop-at g c =
+    let self = ones_before-self (bits_of (g.T.TableSource.lists c.args.source.now).words) (64 * (c.loop-at.at + 1)) in
+    omega (arith, c.loop-at.invariant.rank, more g c, self)
+
+pub loop-at-preserved : goal.loop-at-preserved
+loop-at-preserved g c =
+    let e = c.word.ensures in
+    let i = c.loop-at.invariant in
+    record {
+      rank = omega (arith, i.rank, more g c);
+      words = omega (arith, ap (λ (r : ReadCounts). r.words) e.counted, i.words);
+      upper = ap (λ (r : ReadCounts). r.upper) e.counted ∙ i.upper;
+      lower = ap (λ (r : ReadCounts). r.lower) e.counted ∙ i.lower;
+      same = e.same ∙ i.same;
+    }
+
+total : (g : _) (c : After-word-2 g)
+    → c.loop-at.rank + count_ones (bit_and c.word-2.result (1 * 2 ^ (c.args.index % 64) % 18446744073709551616 - 1))
+    ≡ ones_before (bits_of (g.T.TableSource.lists c.args.source.now).words) c.args.index
+total g c =
+    let at : c.loop-at.at ≡ c.args.index / 64 = omega arith in
+    let part = word_part _ c.args.index c.word-2.result (omega arith)
+    (c.word-2.ensures.item ∙ ap (λ (l : Lists). slice_index l.words (c.args.index / 64)) c.loop-at.invariant.same) in
+    let rank = rw at at c.loop-at.invariant.rank in
+    omega (arith, rank, part)
+
+pub overflow_add-result : goal.overflow_add-result
+overflow_add-result g c =
+    let self = ones_before-self (bits_of (g.T.TableSource.lists c.args.source.now).words) c.args.index in
+    omega (arith, total g c, self)
+
+pub returns-clause-answer : goal.returns-clause-answer
+returns-clause-answer g c = (rank_inside _ c.args.index (omega arith), total g c)

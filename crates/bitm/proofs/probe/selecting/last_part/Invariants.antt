@@ -1,0 +1,23 @@
+use Rattle.std.proofs.Common.{◌≡◌, ◌+◌, ◌-◌, ◌*◌, ◌^◌, ◌≤◌, length}
+use Rattle.bitm_bits.specs.Bits.{digit_count}
+use Rattle.bitm_bits.specs.Count.{ones_before}
+use Rattle.bitm.specs.Search.{sought_in}
+use Rattle.bitm.proofs.lemmas.SearchLemmas.{Between}
+use Rattle.bitm.proofs.probe.selecting.last_part.Given as goal
+
+-- where the last part is, and no more reads than halvings
+abbrev pub invariant-loop-low : goal.invariant-loop-low
+invariant-loop-low g l =
+    let T = g.T.TableSource in
+    let lists = T.lists l.fn.source in
+    let digits = digit_count (length lists.upper) in
+    record {
+      search : Between (λ k. ones_before (sought_in g.row.ONE lists.words) (k * 2 ^ 32)) (length lists.upper) l.rank l.low l.high;
+      upper : (T.reads l.source).upper + digit_count (l.high - l.low) ≤ (T.reads l.fn.source).upper + digits;
+      lower : (T.reads l.source).lower ≡ (T.reads l.fn.source).lower;
+      words : (T.reads l.source).words ≡ (T.reads l.fn.source).words;
+      same : T.lists l.source ≡ T.lists l.fn.source;
+    }
+
+abbrev pub decreases-loop-low : goal.decreases-loop-low
+decreases-loop-low g l = l.high - l.low

@@ -1,0 +1,44 @@
+-- The bits in which ones are sought, and where the tables tell that one of a rank is.
+use Rattle.std.specs.Prelude.{◌≡◌, ℕ, ◌+◌, ◌-◌, ◌*◌, ◌%◌, ◌^◌, ◌<◌, ◌≤◌, Bool, false, not, if◌then◌else◌, List, ◌++◌, length, map, min, replicate, count_ones}
+use Rattle.std.specs.Int.{div_ceil}
+use Rattle.bitm_bits.specs.Bits.{bits_of}
+use Rattle.bitm_bits.specs.Count.{ones_before, kind}
+use Rattle.bitm.specs.Entry.{before_in_part}
+
+-- the bits, and falses up to a multiple of 2048
+abbrev pub padded : List Bool → List Bool
+padded b = b ++ replicate (div_ceil (length b) 2048 * 2048 - length b) false
+
+-- each item negated
+abbrev pub negated : List Bool → List Bool
+negated b = map not b
+
+-- the padded bits, all negated where zeros are sought: a missing bit of the last entry then counts as a zero
+abbrev pub marked : Bool → List Bool → List Bool
+marked v b = if v then padded b else negated (padded b)
+
+-- the same of words, where 0 stands for zeros and each other number for ones
+abbrev pub sought_in : ℕ → List ℕ → List Bool
+sought_in one words = marked (kind one) (bits_of words)
+
+-- k is the last of n places whose count is at most r, as far as the next one tells
+pub record IsLast (count : ℕ → ℕ) (n r k : ℕ) : Type 0 where
+  pub inside : k < n
+  pub at_most : count k ≤ r
+  pub next : k + 1 < n → r < count (k + 1)
+
+-- the last part with no more than r ones before it
+abbrev pub IsLastPart : List Bool → ℕ → ℕ → ℕ → Type 0
+IsLastPart m parts r part = IsLast (λ k. ones_before m (k * 2 ^ 32)) parts r part
+
+-- how many entries a part has, of so many entries in all
+abbrev pub entries_from : ℕ → ℕ → ℕ
+entries_from entries part = min (entries - part * 2 ^ 21) (2 ^ 21)
+
+-- the last entry of a part with no more than r ones before it in the part
+abbrev pub IsLastEntry : List Bool → ℕ → ℕ → ℕ → ℕ → Type 0
+IsLastEntry m entries part r e = IsLast (λ j. before_in_part m (part * 2 ^ 21 + j)) (entries_from entries part) r e
+
+-- w is word k of the bits in which ones are sought
+abbrev pub IsWord : List Bool → ℕ → ℕ → Type 0
+IsWord m k w = (j : ℕ) → j ≤ 64 → ones_before m (64 * k + j) ≡ ones_before m (64 * k) + count_ones (w % 2 ^ j)

@@ -1,0 +1,34 @@
+-- The two tables of a content, as counts of its bits.
+use Rattle.std.specs.Prelude.{◌≡◌, ℕ, ◌*◌, ◌^◌, ◌<◌, Bool, List, map, length}
+use Rattle.std.specs.Int.{div_ceil}
+use Rattle.std.specs.List.{range_with_len}
+use Rattle.bitm_bits.specs.Bits.{bits_of}
+use Rattle.bitm_bits.specs.Count.{ones_before}
+use Rattle.bitm.specs.Entry.{lower_entry}
+
+-- how many ones stand before each begun part of 2^32 bits
+unfoldable pub upper_of : List Bool → List ℕ
+upper_of b = map (λ k. ones_before b (k * 2 ^ 32)) (range_with_len 0 (div_ceil (length b) (2 ^ 32)))
+
+-- one entry for each begun 2048 bits
+unfoldable pub lower_of : List Bool → List ℕ
+lower_of b = map (lower_entry b) (range_with_len 0 (div_ceil (length b) 2048))
+
+-- the two lists are the tables of the bits b
+pub record AreTablesOf (b : List Bool) (upper lower : List ℕ) : Type 0 where
+  pub upper_is : upper ≡ upper_of b
+  pub lower_is : lower ≡ lower_of b
+
+-- few enough words for an index
+abbrev pub IsIndexable : List ℕ → Type 0
+IsIndexable words = length words < 2 ^ 56
+
+-- the words of a content and two tables
+pub record Lists : Type 0 where
+  pub words : List ℕ
+  pub upper : List ℕ
+  pub lower : List ℕ
+
+-- the tables are those of the words
+abbrev pub HasTables : Lists → Type 0
+HasTables lists = AreTablesOf (bits_of lists.words) lists.upper lists.lower

@@ -1,0 +1,60 @@
+//! Numbers that only clauses read. They take no bytes, and no code runs for them.
+ghost use Rattle.std.specs.Prelude.{◌≡◌, ℕ, ◌+◌};
+ghost use Rattle.std.specs.Borrow.{ftrue};
+
+use std::marker::Model;
+
+/// How often each list of a source was read: words, upper entries and lower entries.
+///
+/// The numbers have no greatest one. They take no bytes at run time; only clauses see them.
+#[derive(Drop)]
+pub struct ReadCounts {
+    pub ghost words: { ℕ },
+    pub ghost upper: { ℕ },
+    pub ghost lower: { ℕ },
+}
+
+impl Model for ReadCounts {
+    ghost also_owns = { λ _. ftrue };
+}
+
+impl ReadCounts {
+    ghost use Rattle.bitm.specs.Reads.{none_read, word_read, upper_read, lower_read};
+
+    #[inline(always)]
+    pub(crate) fn new() -> ReadCounts
+        ensures { result ≡ none_read }
+    {
+        ReadCounts {}
+    }
+
+    #[inline(always)]
+    fn add(&mut self, _words: u64, _upper: u64, _lower: u64)
+        ensures { self.new ≡ record {
+          words = self.old.words + _words;
+          upper = self.old.upper + _upper;
+          lower = self.old.lower + _lower;
+        } }
+    {}
+
+    #[inline(always)]
+    pub(crate) fn read_word(&mut self)
+        ensures { self.new ≡ word_read self.old }
+    {
+        self.add(1, 0, 0)
+    }
+
+    #[inline(always)]
+    pub(crate) fn read_upper(&mut self)
+        ensures { self.new ≡ upper_read self.old }
+    {
+        self.add(0, 1, 0)
+    }
+
+    #[inline(always)]
+    pub(crate) fn read_lower(&mut self)
+        ensures { self.new ≡ lower_read self.old }
+    {
+        self.add(0, 0, 1)
+    }
+}

@@ -1,0 +1,44 @@
+//! One entry of the lower table: its fields by shifts, and the entry of the negated bits.
+ghost use Rattle.std.specs.Prelude.{◌≡◌, ℕ, ◌-◌, ◌*◌, ◌/◌, ◌%◌, ◌^◌, ◌<◌, Bool, List, length};
+ghost use Rattle.std.specs.Int.{div_ceil};
+ghost use Rattle.bitm_bits.specs.Count.{zeros_before};
+ghost use Rattle.bitm.specs.Entry.{FieldsFit, FieldsAddUp, field_0, greatest, lower_entry};
+ghost use Rattle.bitm.specs.Search.{padded, negated};
+
+/// How many ones stand before an entry in its part.
+#[inline(always)]
+pub(crate) fn ones_to_entry(entry: u64) -> usize
+    ensures { result ≡ field_0 entry }
+{
+    (entry & 0xFFFF_FFFF) as usize
+}
+
+/// How many ones stand in an entry before one of its four records: by two shifts, and no branch for the first record.
+#[inline(always)]
+pub(crate) fn ones_to_record(entry: u64, place: usize) -> usize
+    requires { place < 4 }
+    ensures { result ≡ entry / 2 ^ (11 * (3 - place)) / 2 ^ 32 % 2 ^ 11 }
+{
+    (entry >> (11 * (3 - place)) >> 32 & 0x7FF) as usize
+}
+
+/// Lower entry `at` of the negated bits, from that of the bits: each field's greatest number less the field.
+///
+/// The four fields count the ones before the entry in its part of 2^32 bits, and in its first record, first two and
+/// first three records of 512 bits. One subtraction does all four, and none borrows. Bits that miss in the last entry
+/// count as zeros.
+///
+/// # Conditions
+/// No field of `entry` exceeds its greatest number at entry `at`.
+#[inline(always)]
+pub fn complement_entry(entry: u64, at: usize) -> u64
+    requires { FieldsFit entry at }
+    ensures value { result ≡ greatest at - entry }
+    ensures fields { FieldsAddUp entry result at }
+    ensures negated { (b : List Bool) → at < div_ceil (length b) 2048
+        → entry ≡ lower_entry b at → result ≡ lower_entry (negated (padded b)) at }
+    ensures zeros { (b : List Bool) → at < div_ceil (length b) 2048 → entry ≡ lower_entry b at
+        → field_0 result ≡ zeros_before b (2048 * at) - zeros_before b (at / 2 ^ 21 * 2 ^ 32) }
+{
+    (at % (1 << 21)) as u64 * 2048 + 0x8020_0600_0000_0000 - entry
+}

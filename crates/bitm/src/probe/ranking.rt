@@ -1,0 +1,41 @@
+//! Rank over a source, with a bound on its reads.
+ghost use Rattle.std.specs.Prelude.{◌≡◌};
+ghost use Rattle.bitm_bits.specs.Bits.{bits_of};
+ghost use Rattle.bitm_bits.specs.Count.{IsRank};
+ghost use Rattle.bitm.specs.Reads.{ReadsAtMost};
+ghost use Rattle.bitm.specs.Tables.{HasTables, IsIndexable};
+
+use crate::probe::entry::{ones_to_entry, ones_to_record};
+use crate::probe::source::TableSource;
+
+/// How many ones of the source's words stand before place `index`; `None` exactly where that place is outside.
+///
+/// # Conditions
+/// The source's tables are those of its words, of fewer than 2^56 words.
+/// # Cost
+/// At most one upper entry, one lower entry and eight words are read.
+/// # Source
+/// The three levels are those of Zhou, Andersen and Kaminsky, 'Space-efficient, high-performance rank and select
+/// structures on uncompressed bit sequences' (SEA 2013), with the fields of an entry turned round so that rank needs no
+/// branch.
+#[inline]
+pub fn rank_on<T: TableSource>(source: &mut T, index: usize) -> Option<usize>
+    requires tables { HasTables (T.lists source.old) }
+    requires indexable { IsIndexable (T.lists source.old).words }
+    ensures answer { IsRank (bits_of (T.lists source.old).words) index result }
+    ensures reads { ReadsAtMost (T.reads source.old) (T.reads source.new) 1 1 8 }
+    ensures same { T.lists source.new ≡ T.lists source.old }
+{
+    if index / 64 >= source.words_len() {
+        return None;
+    }
+    let mut rank = source.upper(index >> 32);
+    let entry = source.lower(index / 2048);
+    rank += ones_to_entry(entry);
+    rank += ones_to_record(entry, index / 512 % 4);
+    for at in index / 512 * 8..index / 64 {
+        rank += source.word(at).count_ones() as usize;
+    }
+    let low = source.word(index / 64) & ((1 << (index % 64)) - 1);
+    Some(rank + low.count_ones() as usize)
+}

@@ -1,0 +1,234 @@
+//! Selection over a source, with a bound on its reads: the part, the entry, the record, the word.
+ghost use Rattle.std.specs.Prelude.{◌≡◌, ◌+◌, ◌-◌, ◌*◌, ◌/◌, ◌%◌, ◌^◌, ◌<◌, ◌≤◌, length, count_ones, IfSome};
+ghost use Rattle.bitm_bits.specs.Bits.{bits_of, digit_count, IsShort};
+ghost use Rattle.bitm_bits.specs.Count.{ones_before, kind, IsSelect};
+ghost use Rattle.bitm.specs.Entry.{lower_entry, record_field};
+ghost use Rattle.bitm.specs.Reads.{lower_read, upper_read, word_read, ReadsAtMost};
+ghost use Rattle.bitm.specs.Search.{sought_in, IsLastPart, IsLastEntry, IsWord};
+ghost use Rattle.bitm.specs.Tables.{HasTables, IsIndexable};
+
+use crate::probe::entry::{complement_entry, ones_to_entry};
+use crate::probe::source::TableSource;
+use crate::select::levels::{L2_ENTRIES_PER_L1_ENTRY, U64_PER_L2_ENTRY, U64_PER_L2_RECORDS};
+
+/// How many ones, or zeros where `ONE` is 0, stand before a part.
+#[inline(always)]
+pub(crate) fn before_part<const ONE: u8, T: TableSource>(source: &mut T, part: usize) -> usize
+    requires tables { HasTables (T.lists source.old) }
+    requires short { IsShort (T.lists source.old).words }
+    requires inside { part < length (T.lists source.old).upper }
+    ensures count { result
+        ≡ ones_before (sought_in ONE (T.lists source.old).words) (part * 2 ^ 32) }
+    ensures counted { T.reads source.new ≡ upper_read (T.reads source.old) }
+    ensures same { T.lists source.new ≡ T.lists source.old }
+{
+    let ones = source.upper(part);
+    if ONE == 0 { (part << 32) - ones } else { ones }
+}
+
+/// The last part with no more than `rank` of the kind before it.
+pub(crate) fn last_part<const ONE: u8, T: TableSource>(source: &mut T, rank: usize) -> usize
+    requires tables { HasTables (T.lists source.old) }
+    requires short { IsShort (T.lists source.old).words }
+    requires some { 0 < length (T.lists source.old).upper }
+    ensures last { IsLastPart (sought_in ONE (T.lists source.old).words)
+        (length (T.lists source.old).upper) rank result }
+    ensures reads { ReadsAtMost (T.reads source.old) (T.reads source.new)
+        (digit_count (length (T.lists source.old).upper)) 0 0 }
+    ensures same { T.lists source.new ≡ T.lists source.old }
+{
+    let mut low = 0;
+    let mut high = source.upper_len();
+    while low < high {
+        let middle = low + (high - low) / 2;
+        if before_part::<ONE, T>(source, middle) <= rank {
+            low = middle + 1;
+        } else {
+            high = middle;
+        }
+    }
+    low - 1
+}
+
+/// Lower entry `at` of the bits in which ones are sought.
+#[inline(always)]
+pub(crate) fn entry_of<const ONE: u8, T: TableSource>(source: &mut T, at: usize) -> u64
+    requires tables { HasTables (T.lists source.old) }
+    requires inside { at < length (T.lists source.old).lower }
+    ensures entry { result ≡ lower_entry (sought_in ONE (T.lists source.old).words) at }
+    ensures counted { T.reads source.new ≡ lower_read (T.reads source.old) }
+    ensures same { T.lists source.new ≡ T.lists source.old }
+{
+    let entry = source.lower(at);
+    if ONE == 0 {
+        complement_entry(entry, at)
+    } else {
+        entry
+    }
+}
+
+/// The last entry of a part with no more than `rank` of the kind before it in the part.
+fn last_entry<const ONE: u8, T: TableSource>(source: &mut T, part: usize, rank: usize) -> usize
+    requires tables { HasTables (T.lists source.old) }
+    requires short { IsShort (T.lists source.old).words }
+    requires inside { part < length (T.lists source.old).upper }
+    ensures last { IsLastEntry (sought_in ONE (T.lists source.old).words)
+        (length (T.lists source.old).lower) part rank result }
+    ensures reads { ReadsAtMost (T.reads source.old) (T.reads source.new) 0 22 0 }
+    ensures same { T.lists source.new ≡ T.lists source.old }
+{
+    let first = part * L2_ENTRIES_PER_L1_ENTRY;
+    let mut low = 0;
+    let mut high = (source.lower_len() - first).min(L2_ENTRIES_PER_L1_ENTRY);
+    while low < high {
+        let middle = low + (high - low) / 2;
+        if ones_to_entry(entry_of::<ONE, T>(source, first + middle)) <= rank {
+            low = middle + 1;
+        } else {
+            high = middle;
+        }
+    }
+    low - 1
+}
+
+/// The record of an entry that has the one with this rank, and the ones of the entry before that record.
+#[inline(always)]
+fn record_of(entry: u64, rank: usize) -> (usize, usize)
+    ensures inside { result.0 < 4 }
+    ensures before { result.1 ≡ record_field entry result.0 }
+    ensures at_most { result.1 ≤ rank }
+    ensures next { result.0 < 3 → rank < record_field entry (result.0 + 1) }
+{
+    let one = (entry >> 54) as usize;
+    let two = (entry >> 43 & 0x7FF) as usize;
+    let three = (entry >> 32 & 0x7FF) as usize;
+    if rank < one {
+        return (0, 0);
+    }
+    if rank < two {
+        return (1, one);
+    }
+    if rank < three {
+        return (2, two);
+    }
+    (3, three)
+}
+
+/// The place of the one in a word with so many ones before it.
+fn select_in_word(word: u64, rank: usize) -> usize
+    requires { rank < count_ones word }
+    ensures inside { result < 64 }
+    ensures before { count_ones (word % 2 ^ result) ≡ rank }
+    ensures after { count_ones (word % 2 ^ (result + 1)) ≡ rank + 1 }
+{
+    let mut rest = rank;
+    for at in 0..64 {
+        if word >> at & 1 == 1 {
+            if rest == 0 {
+                return at;
+            }
+            rest -= 1;
+        }
+    }
+    unreachable!()
+}
+
+/// Word `at` of the bits in which ones are sought.
+#[inline(always)]
+fn word_of<const ONE: u8, T: TableSource>(source: &mut T, at: usize) -> u64
+    requires { at < length (T.lists source.old).words }
+    ensures word { IsWord (sought_in ONE (T.lists source.old).words) at result }
+    ensures counted { T.reads source.new ≡ word_read (T.reads source.old) }
+    ensures same { T.lists source.new ≡ T.lists source.old }
+{
+    let word = source.word(at);
+    if ONE == 0 { !word } else { word }
+}
+
+/// Selection among the eight words from `first` on, of which some may miss; the rank counts from there.
+#[inline(always)]
+fn in_record<const ONE: u8, T: TableSource>(
+    source: &mut T,
+    first: usize,
+    rank: usize,
+) -> Option<usize>
+    requires short { IsShort (T.lists source.old).words }
+    requires first { first < 2 ^ 60 }
+    requires next { let m = sought_in ONE (T.lists source.old).words in
+        first + 8 < length (T.lists source.old).words
+        → ones_before m (64 * first) + rank < ones_before m (64 * (first + 8)) }
+    ensures answer { let m = sought_in ONE (T.lists source.old).words in
+        IsSelect (bits_of (T.lists source.old).words) (kind ONE)
+        (ones_before m (64 * first) + rank) result }
+    ensures inside { IfSome result (λ p. (64 * first ≤ p) × (p < 64 * (first + 8))) }
+    ensures reads { ReadsAtMost (T.reads source.old) (T.reads source.new) 0 0 8 }
+    ensures same { T.lists source.new ≡ T.lists source.old }
+{
+    let mut rest = rank;
+    for at in first..source.words_len().min(first + U64_PER_L2_RECORDS) {
+        let word = word_of::<ONE, T>(source, at);
+        let count = word.count_ones() as usize;
+        if rest < count {
+            return Some(at * 64 + select_in_word(word, rest));
+        }
+        rest -= count;
+    }
+    None
+}
+
+/// Selection in entry `entry` of a part: the last one with no more than `rank` of the kind before it in the part.
+pub(crate) fn in_entry<const ONE: u8, T: TableSource>(
+    source: &mut T,
+    part: usize,
+    entry: usize,
+    rank: usize,
+) -> Option<usize>
+    requires tables { HasTables (T.lists source.old) }
+    requires short { IsShort (T.lists source.old).words }
+    requires part { let m = sought_in ONE (T.lists source.old).words in
+        IsLastPart m (length (T.lists source.old).upper)
+        (ones_before m (part * 2 ^ 32) + rank) part }
+    requires entry { IsLastEntry (sought_in ONE (T.lists source.old).words)
+        (length (T.lists source.old).lower) part rank entry }
+    ensures answer { let m = sought_in ONE (T.lists source.old).words in
+        IsSelect (bits_of (T.lists source.old).words) (kind ONE)
+        (ones_before m (part * 2 ^ 32) + rank) result }
+    ensures inside { IfSome result (λ p. p / 2048 ≡ part * 2 ^ 21 + entry) }
+    ensures reads { ReadsAtMost (T.reads source.old) (T.reads source.new) 0 1 8 }
+    ensures same { T.lists source.new ≡ T.lists source.old }
+{
+    let at = part * L2_ENTRIES_PER_L1_ENTRY + entry;
+    let packed = entry_of::<ONE, T>(source, at);
+    let in_entry = rank - ones_to_entry(packed);
+    let (place, before) = record_of(packed, in_entry);
+    let first = at * U64_PER_L2_ENTRY + place * U64_PER_L2_RECORDS;
+    in_record::<ONE, T>(source, first, in_entry - before)
+}
+
+/// The place of the one of the source's words with exactly `rank` ones before it, and `None` exactly where there is
+/// none; zeros in place of ones where `ONE` is 0.
+///
+/// # Conditions
+/// The source's tables are those of its words, of fewer than 2^56 words.
+/// # Cost
+/// At most as many upper entries as their number has binary digits and one more, 23 lower entries and eight words are
+/// read, also where the answer is `None`.
+/// # Source
+/// The levels are those of Zhou, Andersen and Kaminsky, 'Space-efficient, high-performance rank and select structures
+/// on uncompressed bit sequences' (SEA 2013).
+pub fn binary_select_on<const ONE: u8, T: TableSource>(source: &mut T, rank: usize) -> Option<usize>
+    requires tables { HasTables (T.lists source.old) }
+    requires indexable { IsIndexable (T.lists source.old).words }
+    ensures answer { IsSelect (bits_of (T.lists source.old).words) (kind ONE) rank result }
+    ensures reads { ReadsAtMost (T.reads source.old) (T.reads source.new)
+        (digit_count (length (T.lists source.old).upper) + 1) 23 8 }
+    ensures same { T.lists source.new ≡ T.lists source.old }
+{
+    if source.upper_len() == 0 {
+        return None;
+    }
+    let part = last_part::<ONE, T>(source, rank);
+    let in_part = rank - before_part::<ONE, T>(source, part);
+    let entry = last_entry::<ONE, T>(source, part, in_part);
+    in_entry::<ONE, T>(source, part, entry, in_part)
+}
