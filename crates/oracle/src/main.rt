@@ -1,0 +1,69 @@
+//! Replays a file of answers of the original crate against the calls of `bitm`.
+//!
+//! The file, `data/answers.txt`, was printed by a program over the Rust crate `bitm`, unchanged, and each answer was
+//! computed again from the definitions by a second program, which shares no code with that crate: none differed. A rank at
+//! the exact length is `-` there.
+//!
+//! A line is a kind and then words that stand apart by one space, and `#` begins a comment. Numbers are decimal, words and
+//! bytes hexadecimal, and `-` is `None`. In a list X*COUNT is a run of COUNT items X, and X+STEP*COUNT the COUNT items X,
+//! X+STEP, X+2*STEP, .. ID names the content of the last line `content ID`. A pair A:V is an argument and its answer.
+//!
+//! ```text
+//! content ID COUNT WORDS               the words of the content
+//! ones ID TOTAL                        how many ones there are
+//! rank ID I:V..  rank0 ID I:V..        `try_rank`, `try_rank0`
+//! simple ID N..                        the ones before each begun run of 512 bits
+//! bits ID B,L:V..  raw ID B,L:V..      `try_get_bits`, `try_get_bits_unmasked`, V hexadecimal
+//! find ID S:V..  rfind ID S:V..        `find_bit_one`, `rfind_bit_one_unchecked`
+//! trail ID V                           `trailing_zero_bits`
+//! set ID B L V / WORDS                 `set_bits(B, V, L)`: V hexadecimal, then the words after it
+//! xor ID B L V / WORDS                 `xor_bits`, likewise
+//! init B L V / WORDS                   `init_bits` on as many zero words
+//! swap ID I J L / WORDS                `swap_fragments(I, J, L)`
+//! sel64 WORD P..                       `select64` of the word at each rank below its number of ones
+//! ceil N D V                           `ceiling_div`
+//! store V B                            `bits_to_store`
+//! bytes BYTES                          the bytes of the lines after it
+//! get57 K V                            `get_bits57` at first bit K of those bytes, V hexadecimal
+//! init57 K V / BYTES                   `init_bits57` on as many zero bytes
+//! set57 K V MASK / BYTES               `set_bits57` on those bytes
+//! get25, init25, set25                 likewise
+//! ```
+//!
+//! A line of a kind that is still to come is counted as not replayed. The program prints each difference, up to ten, and a
+//! line for each kind, and ends with status 0 where nothing differs.
+#![tactic(auto)]
+
+mod bits;
+mod bytes;
+mod conditions;
+mod content;
+mod fault;
+mod finds;
+mod found;
+mod ranks;
+mod replay;
+mod report;
+mod text;
+mod word;
+mod writes;
+
+use std::process::ExitCode;
+use std::{env, fs, io};
+
+fn main(rt: HostRuntime) -> io::Result<ExitCode> {
+    let alloc = rt.alloc();
+    let mut args = env::args(&rt)?.skip(1);
+    let (Some(path), None) = (args.next(), args.next()) else {
+        eprintln!(rt; "usage: oracle FILE")?;
+        return Ok(ExitCode::FAILURE);
+    };
+    let text = fs::read_to_string(&rt, path.as_str())?;
+    let report = replay::replay(alloc, text.as_str())?;
+    report.print(&rt)?;
+    if report.is_clean() {
+        Ok(ExitCode::SUCCESS)
+    } else {
+        Ok(ExitCode::FAILURE)
+    }
+}

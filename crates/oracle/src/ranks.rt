@@ -1,0 +1,99 @@
+//! Ranks: the kinds `ones`, `simple`, `rank` and `rank0`.
+ghost use Rattle.std.specs.Prelude.{◌≡◌, IfOk};
+ghost use Rattle.bitm_bits.specs.Bits.{IsShort};
+
+use crate::content::State;
+use crate::fault::Fault;
+use crate::found::Found;
+use crate::text;
+use crate::text::Base;
+use bitm::{Rank, RankSimple, words};
+use std::alloc::{AllocError, Global};
+use std::convert::AsSlice;
+
+/// A simple rank over the words, and the number of ones.
+fn build(alloc: Global, words: &[u64]) -> Result<(RankSimple<&[u64]>, u32), Fault>
+    requires { IsShort words.now }
+    ensures { IfOk result (λ built. built.0.now ≡ words.now) }
+{
+    if words::count_bit_ones(words) >= 1 << 32 {
+        return Err(Fault::Condition);
+    }
+    RankSimple::build(alloc, words).map_err(|_| Fault::NoMemory)
+}
+
+/// Compares the number of ones, as `build` gives it and as it is counted.
+pub fn ones<'a>(
+    alloc: Global,
+    state: &State<'a>,
+    line: &'a str,
+    found: &mut Found<'a>,
+) -> Result<(), Fault> {
+    let (words, theirs) = state.content(line)?;
+    let (_, total) = build(alloc, words)?;
+    found.compare("build", Base::Decimal, Some(u64::from(total)), theirs)?;
+    let counted = words::count_bit_ones(words) as u64;
+    found.compare("count_bit_ones", Base::Decimal, Some(counted), theirs)
+}
+
+/// The ones before each begun run of 512 bits.
+fn table(alloc: Global, index: &RankSimple<&[u64]>) -> Result<Vec<u64>, AllocError>
+    requires { IsShort index.now.now }
+{
+    let mut ranks = Vec::new(alloc);
+    for run in 0..index.as_slice().len().div_ceil(8) {
+        ranks.push(u64::from(index.rank(512 * run)))?;
+    }
+    Ok(ranks)
+}
+
+/// Compares the ranks at each begun run of 512 bits.
+pub fn simple<'a>(
+    alloc: Global,
+    state: &State<'a>,
+    line: &'a str,
+    found: &mut Found<'a>,
+) -> Result<(), Fault> {
+    let (words, theirs) = state.content(line)?;
+    let (index, _) = build(alloc, words)?;
+    let ours = table(alloc, &index)?;
+    let theirs = text::list(alloc, theirs, Base::Decimal)?;
+    found.compare_lists(line, Base::Decimal, ours.as_slice(), theirs.as_slice());
+    Ok(())
+}
+
+/// Compares the ones before places.
+pub fn rank<'a>(
+    alloc: Global,
+    state: &State<'a>,
+    line: &'a str,
+    found: &mut Found<'a>,
+) -> Result<(), Fault> {
+    let (words, pairs) = state.content(line)?;
+    let (index, _) = build(alloc, words)?;
+    for pair in pairs.split_ascii_whitespace() {
+        let (argument, theirs) = text::pair(pair)?;
+        let ours = index.try_rank(text::place(argument)?).map(u64::from);
+        found.compare(argument, Base::Decimal, ours, theirs)?;
+    }
+    Ok(())
+}
+
+/// Compares the zeros before places.
+pub fn rank0<'a>(
+    alloc: Global,
+    state: &State<'a>,
+    line: &'a str,
+    found: &mut Found<'a>,
+) -> Result<(), Fault> {
+    let (words, pairs) = state.content(line)?;
+    let (index, _) = build(alloc, words)?;
+    for pair in pairs.split_ascii_whitespace() {
+        let (argument, theirs) = text::pair(pair)?;
+        let ours = index
+            .try_rank0(text::place(argument)?)
+            .map(|count| count as u64);
+        found.compare(argument, Base::Decimal, ours, theirs)?;
+    }
+    Ok(())
+}

@@ -1,0 +1,87 @@
+//! Replays the lines in order, each by its kind.
+use crate::content::State;
+use crate::fault::Fault;
+use crate::found::{Difference, Found};
+use crate::report::Report;
+use crate::{bits, bytes, finds, ranks, text, word, writes};
+use std::alloc::{AllocError, Global};
+
+/// What all lines of a text show.
+pub fn replay<'a>(alloc: Global, text: &'a str) -> Result<Report<'a>, AllocError> {
+    let mut report = Report::new(alloc);
+    let mut state = State::new(alloc);
+    for (index, line) in text.lines().enumerate() {
+        if line.is_empty() || line.starts_with('#') {
+            continue;
+        }
+        let (kind, rest) = text::first_word(line);
+        if is_to_come(kind) {
+            report.skip();
+            continue;
+        }
+        let mut found = Found::new(alloc);
+        if let Err(fault) = replay_line(alloc, &mut state, kind, rest, &mut found) {
+            found.differs(Difference::Fault(fault));
+        }
+        report.add(kind, index, found)?;
+    }
+    Ok(report)
+}
+
+/// Whether lines of this kind are known, but not replayed yet.
+fn is_to_come(kind: &str) -> bool {
+    matches!(
+        kind,
+        "l1" | "l2" | "select" | "select0" | "samples" | "samplesat" | "ocs"
+    )
+}
+
+/// Replays what follows the kind of a line: here the kinds that set or name a content.
+fn replay_line<'a>(
+    alloc: Global,
+    state: &mut State<'a>,
+    kind: &str,
+    line: &'a str,
+    found: &mut Found<'a>,
+) -> Result<(), Fault> {
+    match kind {
+        "content" => state.set_content(alloc, line, found),
+        "ones" => ranks::ones(alloc, state, line, found),
+        "simple" => ranks::simple(alloc, state, line, found),
+        "rank" => ranks::rank(alloc, state, line, found),
+        "rank0" => ranks::rank0(alloc, state, line, found),
+        "bits" => bits::bits(state, line, found),
+        "raw" => bits::raw(state, line, found),
+        "find" => finds::find(state, line, found),
+        "rfind" => finds::rfind(state, line, found),
+        "trail" => finds::trail(state, line, found),
+        "set" => writes::set(alloc, state, line, found),
+        "xor" => writes::xor(alloc, state, line, found),
+        "swap" => writes::swap(alloc, state, line, found),
+        _ => replay_apart(alloc, state, kind, line, found),
+    }
+}
+
+/// Replays what follows the kind of a line: here the kinds that have nothing to do with a content.
+fn replay_apart<'a>(
+    alloc: Global,
+    state: &mut State<'a>,
+    kind: &str,
+    line: &'a str,
+    found: &mut Found<'a>,
+) -> Result<(), Fault> {
+    match kind {
+        "init" => writes::init(alloc, line, found),
+        "sel64" => word::sel64(alloc, line, found),
+        "ceil" => word::ceil(line, found),
+        "store" => word::store(line, found),
+        "bytes" => state.set_bytes(alloc, line),
+        "get57" => bytes::get57(state, line, found),
+        "init57" => bytes::init57(alloc, line, found),
+        "set57" => bytes::set57(alloc, state, line, found),
+        "get25" => bytes::get25(state, line, found),
+        "init25" => bytes::init25(alloc, line, found),
+        "set25" => bytes::set25(alloc, state, line, found),
+        _ => Err(Fault::UnknownKind),
+    }
+}

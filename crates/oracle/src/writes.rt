@@ -1,0 +1,122 @@
+//! Writes of ranges and fragments: the kinds `set`, `xor`, `init` and `swap`.
+ghost use Rattle.std.specs.Prelude.{◌≤◌, IfOk};
+
+use crate::conditions::{fits, is_clear, is_fragment_in_range, is_in_range};
+use crate::content::State;
+use crate::fault::Fault;
+use crate::found::Found;
+use crate::text;
+use crate::text::Base;
+use bitm::{BitAccessMut, BitVec};
+use std::alloc::Global;
+use std::boxed::BoxedSlice;
+
+/// The arguments of a write.
+#[derive(Clone, Copy)]
+struct Arguments {
+    begin: usize,
+    len: u8,
+    number: u64,
+}
+
+/// The arguments that a line writes, with a width of at most `most`.
+fn read_arguments(text: &str, most: u8) -> Result<Arguments, Fault>
+    ensures { IfOk result (λ arguments. arguments.len ≤ most) }
+{
+    let (begin, rest) = text::first_word(text);
+    let (len, number) = text::first_word(rest);
+    Ok(Arguments {
+        begin: text::place(begin)?,
+        len: text::width(len, most)?,
+        number: text::number(number, Base::Hexadecimal)?,
+    })
+}
+
+/// Compares the words after a number was written.
+pub fn set<'a>(
+    alloc: Global,
+    state: &State<'a>,
+    line: &'a str,
+    found: &mut Found<'a>,
+) -> Result<(), Fault> {
+    let (call, theirs) = text::halves(line)?;
+    let (words, arguments) = state.content(call)?;
+    let Arguments { begin, len, number } = read_arguments(arguments, 63)?;
+    if !is_in_range(words, begin, len) || !fits(number, len) {
+        return Err(Fault::Condition);
+    }
+    let mut ours = Vec::from_slice(alloc, words)?;
+    ours.as_mut_slice().set_bits(begin, number, len);
+    let theirs = text::list(alloc, theirs, Base::Hexadecimal)?;
+    found.compare_lists(call, Base::Hexadecimal, ours.as_slice(), theirs.as_slice());
+    Ok(())
+}
+
+/// Compares the words after bits were negated.
+pub fn xor<'a>(
+    alloc: Global,
+    state: &State<'a>,
+    line: &'a str,
+    found: &mut Found<'a>,
+) -> Result<(), Fault> {
+    let (call, theirs) = text::halves(line)?;
+    let (words, arguments) = state.content(call)?;
+    let Arguments { begin, len, number } = read_arguments(arguments, 64)?;
+    if !is_in_range(words, begin, len) {
+        return Err(Fault::Condition);
+    }
+    let mut ours = Vec::from_slice(alloc, words)?;
+    ours.as_mut_slice().xor_bits(begin, number, len);
+    let theirs = text::list(alloc, theirs, Base::Hexadecimal)?;
+    found.compare_lists(call, Base::Hexadecimal, ours.as_slice(), theirs.as_slice());
+    Ok(())
+}
+
+/// Compares the words after a number was written to zero words.
+pub fn init<'a>(alloc: Global, line: &'a str, found: &mut Found<'a>) -> Result<(), Fault> {
+    let (call, theirs) = text::halves(line)?;
+    let Arguments { begin, len, number } = read_arguments(call, 64)?;
+    let theirs = text::list(alloc, theirs, Base::Hexadecimal)?;
+    let mut ours = BoxedSlice::with_zeroed_64bit_segments(alloc, theirs.len())?;
+    init_zeros(ours.as_mut_slice(), begin, number, len)?;
+    found.compare_lists(call, Base::Hexadecimal, ours.as_slice(), theirs.as_slice());
+    Ok(())
+}
+
+/// Writes a number to bits that are zeros.
+fn init_zeros(words: &mut [u64], begin: usize, number: u64, len: u8) -> Result<(), Fault>
+    requires { len ≤ 64 }
+{
+    let is_short = words.len() < 1 << 58;
+    if !is_short || !is_in_range(&*words, begin, len) || !fits(number, len) {
+        return Err(Fault::Condition);
+    }
+    if !is_clear(&*words, begin, len) {
+        return Err(Fault::Condition);
+    }
+    let mut lent = words;
+    lent.init_bits(begin, number, len);
+    Ok(())
+}
+
+/// Compares the words after two fragments have changed places.
+pub fn swap<'a>(
+    alloc: Global,
+    state: &State<'a>,
+    line: &'a str,
+    found: &mut Found<'a>,
+) -> Result<(), Fault> {
+    let (call, theirs) = text::halves(line)?;
+    let (words, arguments) = state.content(call)?;
+    let (i, arguments) = text::first_word(arguments);
+    let (j, len) = text::first_word(arguments);
+    let (i, j, len) = (text::place(i)?, text::place(j)?, text::width(len, 63)?);
+    if !is_fragment_in_range(words, i, len) || !is_fragment_in_range(words, j, len) {
+        return Err(Fault::Condition);
+    }
+    let mut ours = Vec::from_slice(alloc, words)?;
+    ours.as_mut_slice().swap_fragments(i, j, len);
+    let theirs = text::list(alloc, theirs, Base::Hexadecimal)?;
+    found.compare_lists(call, Base::Hexadecimal, ours.as_slice(), theirs.as_slice());
+    Ok(())
+}
