@@ -1,7 +1,12 @@
+pub mod DensityLemmas
 pub mod EntryLemmas
+pub mod MadeLemmas
 pub mod MarkLemmas
+pub mod PartLemmas
+pub mod SampleLemmas
 pub mod SearchLemmas
 pub mod SimpleLemmas
 pub mod SoughtLemmas
 pub mod StretchLemmas
 pub mod TableLemmas
+pub mod WalkLemmas
