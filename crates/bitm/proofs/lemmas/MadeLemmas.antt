@@ -65,7 +65,8 @@ module _ (b : List Bool) (upper lower : List ℕ) (total len : ℕ) (t : Tabled 
 
     module _ (end : ℕ) (is : end ≡ ones_before b (min (length b) ((k + 1) * 2 ^ 32))) where
       between : (ones_before b (k * 2 ^ 32) ≤ ones_before b (min (length b) ((k + 1) * 2 ^ 32)))
-          × (ones_before b (min (length b) ((k + 1) * 2 ^ 32)) ≤ ones_before b (k * 2 ^ 32) + (min (length b) ((k + 1) * 2 ^ 32) - k * 2 ^ 32))
+          × (ones_before b (min (length b) ((k + 1) * 2 ^ 32))
+          ≤ ones_before b (k * 2 ^ 32) + (min (length b) ((k + 1) * 2 ^ 32) - k * 2 ^ 32))
       between = ones_before-between b (k * 2 ^ 32) (min (length b) ((k + 1) * 2 ^ 32)) (omega (arith, begins))
 
       pub before_end : slice_index upper k ≤ end
@@ -85,8 +86,9 @@ module _ (b : List Bool) (upper lower : List ℕ) (total len : ℕ) (t : Tabled 
           omega (arith, ones_in, t.bits_are, length-part_of b k, both)
 
 -- what an advance to an item finds is the item's entry
-pub advanced : (b : List Bool) (upper lower : List ℕ) (total len : ℕ) → Tabled b upper lower total len → (v : Bool) (k : ℕ) → k < length upper
-    → (item e : ℕ) → item < items_of (part_of b k) v → IsLastEntry (marked v b) (length lower) k item e → e ≡ entry_of (part_of b k) v item
+pub advanced : (b : List Bool) (upper lower : List ℕ) (total len : ℕ) → Tabled b upper lower total len
+    → (v : Bool) (k : ℕ) → k < length upper → (item e : ℕ) → item < items_of (part_of b k) v
+    → IsLastEntry (marked v b) (length lower) k item e → e ≡ entry_of (part_of b k) v item
 advanced b upper lower total len t v k inside item e some last =
     let c = part_of b k in
     let n = div_ceil (length c) 2048 in
@@ -103,7 +105,8 @@ pub sample_middle : (c : List Bool) (v : Bool) (d item e later : ℕ) → item +
 sample_middle c v d item e later h i j =
     let t : nat_lt (item + 2 ^ (d - 1)) (items_of c v) ≡ true = lt-ltb (item + 2 ^ (d - 1)) (items_of c v) h in rw t (omega (arith, i, j))
 
-pub sample_alone : (c : List Bool) (v : Bool) (d item e : ℕ) → items_of c v ≤ item + 2 ^ (d - 1) → e ≡ entry_of c v item → e ≡ sample c v d item
+pub sample_alone : (c : List Bool) (v : Bool) (d item e : ℕ) → items_of c v ≤ item + 2 ^ (d - 1) → e ≡ entry_of c v item
+    → e ≡ sample c v d item
 sample_alone c v d item e h i =
     let t : nat_lt (item + 2 ^ (d - 1)) (items_of c v) ≡ false = le-ltb (item + 2 ^ (d - 1)) (items_of c v) h in rw t (omega (arith, i))
 

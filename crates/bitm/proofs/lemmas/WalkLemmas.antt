@@ -60,12 +60,14 @@ module _ (b : List Bool) (upper lower : List ℕ) (t : HasEntries b upper lower)
     interval_inside h =
         by_lt (k + 1) (parts b)
         (λ more.
-        ceil_more (rank_in b v rank k / 2 ^ d) (items_of (part_of b k) v) (2 ^ d) (pow_pos d) (omega (arith, interval_is, rank_inside more)))
+        ceil_more (rank_in b v rank k / 2 ^ d) (items_of (part_of b k) v) (2 ^ d) (pow_pos d)
+        (omega (arith, interval_is, rank_inside more)))
         (λ end.
         let e : k + 1 ≡ parts b = omega (arith, last.inside, t.upper_length) in
         omega (arith, before_more b v d k, ap (sample_count_before b v d) e, length-samples b v d (parts b)))
 
-    pub first_inside : rank_in b v rank k / 2 ^ d < intervals (part_of b k) v d → first_item d (rank_in b v rank k) < items_of (part_of b k) v
+    pub first_inside : rank_in b v rank k / 2 ^ d < intervals (part_of b k) v d
+        → first_item d (rank_in b v rank k) < items_of (part_of b k) v
     first_inside h =
         omega (arith, interval_is, ceil_less (rank_in b v rank k / 2 ^ d) (items_of (part_of b k) v) (2 ^ d) (pow_pos d) h)
 
@@ -160,7 +162,8 @@ module _ (b : List Bool) (upper lower : List ℕ) (t : HasEntries b upper lower)
         → WalkedTo (part_of b k) v d (rank_in b v rank k) e (digit_count (parts b) + 1) early late
         → (o : Option ℕ) → IsSelect b v rank o → IfSome o (λ p. p / 2048 ≡ k * 2 ^ 21 + e) → SampledReads b v d rank o early late
     sampled_reads e low some early late walked None is inside = none_reads e (digit_count (parts b) + 1) low some early late walked is
-    sampled_reads e low some early late walked (Some p) is inside = found_reads e (digit_count (parts b) + 1) low some early late walked p inside
+    sampled_reads e low some early late walked (Some p) is inside =
+        found_reads e (digit_count (parts b) + 1) low some early late walked p inside
 
 -- an empty content has nothing to read
 pub empty_reads : (b : List Bool) (v : Bool) (d rank : ℕ) (reads : ReadCounts) → 0 ≡ parts b → SampledReads b v d rank None reads reads

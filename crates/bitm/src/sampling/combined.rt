@@ -17,8 +17,9 @@ use std::boxed::BoxedSlice;
 /// Selection that begins at samples: one 32-bit sample for each begun interval of 2^d items of a part of 2^32 bits, and
 /// one number for each part, where the density `D` chooses d for the content.
 ///
-/// A sample has the entry of 2048 bits of its interval's first item, in the part, and the distance in entries from there
-/// to the item half an interval later, kept as at most 2047. Selection walks over the lower entries from there on.
+/// A sample has the entry of 2048 bits of its interval's first item, counted in the part, and the distance in entries
+/// from there to the item half an interval later, kept as at most 2047. Selection walks over the lower entries from
+/// there on.
 ///
 /// # Source
 /// Samples beside the counts of rank are from Navarro and Providel, 'Fast, small, simple rank/select on bitmaps'
@@ -89,15 +90,16 @@ impl<D: CombinedSamplingDensity> CombinedSampling<D> {
         self.samples.len()
     }
 
-    /// The place of the one of the source's words with exactly `rank` ones before it; `None` exactly where there is none.
+    /// The place of the one of the source's words with exactly `rank` ones before it; `None` exactly where there is
+    /// none.
     ///
     /// # Conditions
     /// The source's tables are those of its words, and the value supports these for ones.
     /// # Cost
-    /// At most as many upper entries as their number has binary digits and one more are read. Where a place is found, at
-    /// most two lower entries more than lie between the place of the sample and the answer's entry, and eight words.
-    /// Where none is found, these bounds hold with the last entry of the last part, if that part has items of the
-    /// rank's interval; else neither a lower entry nor a word is read.
+    /// At most as many upper entries as their number has binary digits and one more are read; and eight words and two
+    /// lower entries more than the walk passes from where the sample lets it begin to the answer's entry. Where there
+    /// is no answer, the walk ends at the last entry of the last part, if that part has items of the rank's interval;
+    /// else neither a lower entry nor a word is read.
     pub fn select_counted<T: TableSource>(&self, source: &mut T, rank: usize) -> Option<usize>
         requires tables { HasTables (T.lists source.old) }
         requires supported { ⟦<CombinedSampling<D> as SelectForRank101111>⟧.supports self.now

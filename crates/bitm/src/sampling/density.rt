@@ -82,7 +82,8 @@ impl<const VALUE_LOG2: u8> CombinedSamplingDensity for ConstCombinedSamplingDens
     ghost in_range = { λ _. Prim.search rules };
 }
 
-/// A density for the share of items, of a logarithm of at most `MAX_RESULT`, which is brought to the nearer end of 7 to 31.
+/// A density for the share of items, by `optimal_combined_sampling`, of a logarithm of at most `MAX_RESULT`, which is
+/// brought to the nearer end of 7 to 31.
 #[derive(Clone, Copy)]
 pub struct AdaptiveCombinedSamplingDensity<const MAX_RESULT: u8>;
 

@@ -108,8 +108,8 @@ fn advance<const ONE: u8>(counts: &TableCounts<'_>, part: usize, from: usize, it
     end - 1
 }
 
-/// The sample of an interval that begins at `item`, and an entry that is no later than that of the next interval's first
-/// item.
+/// The sample of an interval that begins at `item`, and an entry that is no later than that of the next interval's
+/// first item.
 fn sample_from<const ONE: u8>(
     counts: &TableCounts<'_>,
     part: usize,

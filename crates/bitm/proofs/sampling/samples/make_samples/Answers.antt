@@ -26,8 +26,8 @@ loop-part-preserved g c =
           (omega (arith, len, c.loop-part.kept.ok.0, ap length (inv.samples b t), length-samples b v d k));
     }
 
-ended : (g : _) (c : After-loop-part g) (b : List Bool) → CountsOf b c.args.counts.now → length c.args.counts.now.upper.now ≤ c.loop-part.part
-    → c.loop-part.part ≡ parts b
+ended : (g : _) (c : After-loop-part g) (b : List Bool) → CountsOf b c.args.counts.now
+    → length c.args.counts.now.upper.now ≤ c.loop-part.part → c.loop-part.part ≡ parts b
 ended g c b t h = omega (arith, (entries b _ _ t.tables).upper_length, h)
 
 pub returns-clause-samples : goal.returns-clause-samples

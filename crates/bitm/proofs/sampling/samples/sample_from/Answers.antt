@@ -47,5 +47,6 @@ returns-else-middle-items-clause-sample g c b t is below =
     let half : 1 * 2 ^ (c.args.log2 - 1) % 18446744073709551616 ≡ 2 ^ (c.args.log2 - 1) =
     one_shl (c.args.log2 - 1) 64 (omega arith) in
     let here =
-    advanced b _ _ _ _ t v k c.requires.inside c.args.item entry (omega (arith, is, c.requires.item)) (c.advance-entry.ensures.last b t below) in
+    advanced b _ _ _ _ t v k c.requires.inside c.args.item entry (omega (arith, is, c.requires.item))
+    (c.advance-entry.ensures.last b t below) in
     sample_alone (part_of b k) v c.args.log2 c.args.item entry (omega (arith, is, half, c.if-middle-items.false)) here

@@ -90,7 +90,8 @@ overflow_add-at g c =
 -- ---- no sample
 
 over : (g : _) (c : goal.Then-at-sampled g)
-    → length (samples_of (bits_of (g.T.TableSource.lists c.args.source.now).words) (kind g.row.ONE) (g.D.CombinedSamplingDensity.log c.args.density))
+    → length (samples_of (bits_of (g.T.TableSource.lists c.args.source.now).words) (kind g.row.ONE)
+    (g.D.CombinedSamplingDensity.log c.args.density))
     ≤ number_of g.row.ONE (g.T.TableSource.lists c.args.source.now) (g.D.CombinedSamplingDensity.log c.args.density) c.args.rank
     c.last_part-part.result
 over g c =
@@ -132,7 +133,8 @@ module _ (g : _) (c : After-first_entry-from g)
 
   there : number_of g.row.ONE (g.T.TableSource.lists c.args.source.now) (g.D.CombinedSamplingDensity.log c.args.density) c.args.rank
       c.last_part-part.result
-      < length (samples_of (bits_of (g.T.TableSource.lists c.args.source.now).words) (kind g.row.ONE) (g.D.CombinedSamplingDensity.log c.args.density))
+      < length (samples_of (bits_of (g.T.TableSource.lists c.args.source.now).words) (kind g.row.ONE)
+      (g.D.CombinedSamplingDensity.log c.args.density))
   there = omega (arith, place_is, c.if-at-sampled.false, ap length c.requires.samples)
 
   from_is : c.first_entry-from.result
@@ -221,9 +223,9 @@ returns-clause-reads g c =
       order = order;
       reads =
           record {
-            upper = omega (arith, e.reads.upper, w.reads.upper, ap (λ (x : ReadCounts). x.upper) u.counted, p.reads.upper, ap digit_count t.upper_length);
-            lower = omega (arith, e.reads.lower, w.reads.lower, ap (λ (x : ReadCounts). x.lower) u.counted, p.reads.lower, from, order);
-            words = omega (arith, e.reads.words, w.reads.words, ap (λ (x : ReadCounts). x.words) u.counted, p.reads.words);
+            upper = omega (arith, e.reads, w.reads, p.reads, ap (λ (x : ReadCounts). x.upper) u.counted, ap digit_count t.upper_length);
+            lower = omega (arith, e.reads, w.reads, p.reads, ap (λ (x : ReadCounts). x.lower) u.counted, from, order);
+            words = omega (arith, e.reads, w.reads, p.reads, ap (λ (x : ReadCounts). x.words) u.counted);
           };
     })
     c.in_entry.result selected e.inside
