@@ -1,10 +1,14 @@
 pub mod AtMostLemmas
 pub mod ByteLemmas
 pub mod ByteSumLemmas
+pub mod DensityLemmas
 pub mod EntryLemmas
 pub mod FieldLemmas
 pub mod InWordLemmas
+pub mod MadeLemmas
 pub mod MarkLemmas
+pub mod PartLemmas
+pub mod SampleLemmas
 pub mod SearchLemmas
 pub mod SelectLemmas
 pub mod SimpleLemmas
@@ -12,3 +16,4 @@ pub mod SoughtLemmas
 pub mod StretchLemmas
 pub mod TableLemmas
 pub mod TableMakingLemmas
+pub mod WalkLemmas

@@ -1,6 +1,8 @@
+pub mod Density
 pub mod Entry
 pub mod Parts
 pub mod Reads
+pub mod Samples
 pub mod Search
 pub mod Simple
 pub mod Tables

@@ -39,6 +39,10 @@ entries_from entries part = min (entries - part * 2 ^ 21) (2 ^ 21)
 abbrev pub IsLastEntry : List Bool → ℕ → ℕ → ℕ → ℕ → Type 0
 IsLastEntry m entries part r e = IsLast (λ j. before_in_part m (part * 2 ^ 21 + j)) (entries_from entries part) r e
 
+-- how many ones stand before entry j of a part in the part, or zeros where they are sought
+abbrev pub items_to : ℕ → List Bool → ℕ → ℕ → ℕ
+items_to one b part j = before_in_part (marked (kind one) b) (part * 2 ^ 21 + j)
+
 -- w is word k of the bits in which ones are sought
 abbrev pub IsWord : List Bool → ℕ → ℕ → Type 0
 IsWord m k w = (j : ℕ) → j ≤ 64 → ones_before m (64 * k + j) ≡ ones_before m (64 * k) + count_ones (w % 2 ^ j)

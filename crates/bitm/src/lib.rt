@@ -11,6 +11,7 @@
 mod packed;
 mod probe;
 mod rank;
+mod sampling;
 mod select;
 
 pub use bitm_bits::{
@@ -27,10 +28,15 @@ pub use probe::selecting::binary_select_on;
 pub use probe::source::{Probe, TableSource};
 pub use rank::Rank;
 pub use rank::simple::{ArrayWithRankSimple, RankSimple};
+pub use sampling::combined::CombinedSampling;
+pub use sampling::density::{
+    AdaptiveCombinedSamplingDensity, CombinedSamplingDensity, ConstCombinedSamplingDensity,
+};
 pub use select::binary::BinaryRankSearch;
 pub use select::levels::{
     BITS_PER_L1_ENTRY, BITS_PER_L2_ENTRY, BITS_PER_L2_RECORDS, L2_ENTRIES_PER_L1_ENTRY,
     U64_PER_L1_ENTRY, U64_PER_L2_ENTRY, U64_PER_L2_RECORDS,
 };
+pub use select::optimal::optimal_combined_sampling;
 pub use select::traits::{Select, Select0, Select0ForRank101111, SelectForRank101111};
 pub use select::word::{byte_sums, bytes_at_most, select64};

@@ -2,5 +2,6 @@
 
 pub(crate) mod binary;
 pub(crate) mod levels;
+pub(crate) mod optimal;
 pub(crate) mod traits;
 pub(crate) mod word;

@@ -1,0 +1,199 @@
+//! Selection by samples: what is kept, how it is made, and the strategy of both kinds.
+ghost use Rattle.std.specs.Prelude.{◌≡◌, ℕ, List, length, true, false, IfOk};
+ghost use Rattle.std.specs.Box.{boxed_slice_items};
+ghost use Rattle.bitm_bits.specs.Bits.{bits_of};
+ghost use Rattle.bitm_bits.specs.Count.{ones_before, kind, IsSelect};
+ghost use Rattle.bitm.specs.Samples.{items_of, SampledReads, Supported, CountIs};
+ghost use Rattle.bitm.specs.Tables.{AreTablesOf, HasTables, IsIndexable};
+
+use crate::probe::source::{Probe, TableSource};
+use crate::sampling::density::CombinedSamplingDensity;
+use crate::sampling::samples::{TableCounts, items_among, make_samples};
+use crate::sampling::walking::sampled_select_on;
+use crate::select::traits::{Select0ForRank101111, SelectForRank101111};
+use std::alloc::{AllocError, Global};
+use std::boxed::BoxedSlice;
+
+/// Selection that begins at samples: one 32-bit sample for each begun interval of 2^d items of a part of 2^32 bits, and
+/// one number for each part, where the density `D` chooses d for the content.
+///
+/// A sample has the entry of 2048 bits of its interval's first item, counted in the part, and the distance in entries
+/// from there to the item half an interval later, kept as at most 2047. Selection walks over the lower entries from
+/// there on.
+///
+/// # Source
+/// Samples beside the counts of rank are from Navarro and Providel, 'Fast, small, simple rank/select on bitmaps'
+/// (SEA 2012).
+pub struct CombinedSampling<D: CombinedSamplingDensity> {
+    samples: BoxedSlice<u32, Global>,
+    begins: BoxedSlice<usize, Global>,
+    density: D::SamplingDensity,
+}
+
+impl<D: CombinedSamplingDensity> Drop for CombinedSampling<D> {
+    fn drop(self) {
+        let Self {
+            samples: _,
+            begins: _,
+            density: _,
+        } = self;
+    }
+}
+
+impl<D: CombinedSamplingDensity> CombinedSampling<D> {
+    fn make<const ONE: u8>(
+        alloc: Global,
+        content: &[u64],
+        l1ranks: &[usize],
+        l2ranks: &[u64],
+        total_rank: usize,
+    ) -> Result<Self, AllocError>
+        requires indexable { IsIndexable content.now }
+        requires tables { AreTablesOf (bits_of content.now) l1ranks.now l2ranks.now }
+        requires total { total_rank
+            ≡ ones_before (bits_of content.now) (length (bits_of content.now)) }
+        ensures { IfOk result (λ s. Supported D.log D.chosen (kind ONE) content.now s.density
+            (boxed_slice_items s.samples) (boxed_slice_items s.begins)) }
+    {
+        let len = content.len() * 64;
+        let density = D::density_for(items_among::<ONE>(total_rank, len), len);
+        let counts = TableCounts {
+            upper: l1ranks,
+            lower: l2ranks,
+            total: total_rank,
+            len,
+        };
+        let (samples, begins) = make_samples::<ONE>(
+            alloc,
+            &counts,
+            D::items_per_sample_log2(density),
+        )?;
+        Ok(CombinedSampling {
+            samples,
+            begins,
+            density,
+        })
+    }
+
+    /// How many samples are kept: for each part its items divided by how many one sample stands for, rounded up.
+    #[inline(always)]
+    pub fn sample_count(&self) -> usize
+        ensures ones { (words : List ℕ)
+            → ⟦<CombinedSampling<D> as SelectForRank101111>⟧.supports self.now words
+            → let b = bits_of words in
+            CountIs b true (D.log (D.chosen (items_of b true) (length b))) result }
+        ensures zeros { (words : List ℕ)
+            → ⟦<CombinedSampling<D> as Select0ForRank101111>⟧.supports0 self.now words
+            → let b = bits_of words in
+            CountIs b false (D.log (D.chosen (items_of b false) (length b))) result }
+    {
+        self.samples.len()
+    }
+
+    /// The place of the one of the source's words with exactly `rank` ones before it; `None` exactly where there is
+    /// none.
+    ///
+    /// # Conditions
+    /// The source's tables are those of its words, and the value supports these for ones.
+    /// # Cost
+    /// At most as many upper entries as their number has binary digits and one more are read; and eight words and two
+    /// lower entries more than the walk passes from where the sample lets it begin to the answer's entry. Where there
+    /// is no answer, the walk ends at the last entry of the last part, if that part has items of the rank's interval;
+    /// else neither a lower entry nor a word is read.
+    pub fn select_counted<T: TableSource>(&self, source: &mut T, rank: usize) -> Option<usize>
+        requires tables { HasTables (T.lists source.old) }
+        requires supported { ⟦<CombinedSampling<D> as SelectForRank101111>⟧.supports self.now
+            (T.lists source.old).words }
+        ensures answer { IsSelect (bits_of (T.lists source.old).words) true rank result }
+        ensures reads { let b = bits_of (T.lists source.old).words in
+            SampledReads b true (D.log (D.chosen (items_of b true) (length b)))
+            rank result (T.reads source.old) (T.reads source.new) }
+        ensures same { T.lists source.new ≡ T.lists source.old }
+    {
+        sampled_select_on::<1, D, T>(
+            self.samples.as_slice(),
+            self.begins.as_slice(),
+            self.density,
+            source,
+            rank,
+        )
+    }
+
+    /// The place of the zero of the source's words with exactly `rank` zeros before it; `None` exactly where there is
+    /// none.
+    ///
+    /// # Conditions
+    /// The source's tables are those of its words, and the value supports these for zeros.
+    /// # Cost
+    /// The reads of `select_counted`.
+    pub fn select0_counted<T: TableSource>(&self, source: &mut T, rank: usize) -> Option<usize>
+        requires tables { HasTables (T.lists source.old) }
+        requires supported { ⟦<CombinedSampling<D> as Select0ForRank101111>⟧.supports0 self.now
+            (T.lists source.old).words }
+        ensures answer { IsSelect (bits_of (T.lists source.old).words) false rank result }
+        ensures reads { let b = bits_of (T.lists source.old).words in
+            SampledReads b false (D.log (D.chosen (items_of b false) (length b)))
+            rank result (T.reads source.old) (T.reads source.new) }
+        ensures same { T.lists source.new ≡ T.lists source.old }
+    {
+        sampled_select_on::<0, D, T>(
+            self.samples.as_slice(),
+            self.begins.as_slice(),
+            self.density,
+            source,
+            rank,
+        )
+    }
+}
+
+impl<D: CombinedSamplingDensity> SelectForRank101111 for CombinedSampling<D> {
+    ghost supports = { λ it words. Supported D.log D.chosen true words it.density
+        (boxed_slice_items it.samples) (boxed_slice_items it.begins) };
+
+    fn new(
+        alloc: Global,
+        content: &[u64],
+        l1ranks: &[usize],
+        l2ranks: &[u64],
+        total_rank: usize,
+    ) -> Result<Self, AllocError> {
+        CombinedSampling::<D>::make::<1>(alloc, content, l1ranks, l2ranks, total_rank)
+    }
+
+    #[inline(always)]
+    fn select(
+        &self,
+        content: &[u64],
+        l1ranks: &[usize],
+        l2ranks: &[u64],
+        rank: usize,
+    ) -> Option<usize> {
+        self.select_counted(&mut Probe::new(content, l1ranks, l2ranks), rank)
+    }
+}
+
+impl<D: CombinedSamplingDensity> Select0ForRank101111 for CombinedSampling<D> {
+    ghost supports0 = { λ it words. Supported D.log D.chosen false words it.density
+        (boxed_slice_items it.samples) (boxed_slice_items it.begins) };
+
+    fn new0(
+        alloc: Global,
+        content: &[u64],
+        l1ranks: &[usize],
+        l2ranks: &[u64],
+        total_rank: usize,
+    ) -> Result<Self, AllocError> {
+        CombinedSampling::<D>::make::<0>(alloc, content, l1ranks, l2ranks, total_rank)
+    }
+
+    #[inline(always)]
+    fn select0(
+        &self,
+        content: &[u64],
+        l1ranks: &[usize],
+        l2ranks: &[u64],
+        rank: usize,
+    ) -> Option<usize> {
+        self.select0_counted(&mut Probe::new(content, l1ranks, l2ranks), rank)
+    }
+}

@@ -1,0 +1,195 @@
+//! Samples made from the tables alone: no word is read.
+ghost use Rattle.std.specs.Prelude.{◌≡◌, ◌+◌, ◌-◌, ◌*◌, ◌^◌, ◌<◌, ◌≤◌, ◌++◌, Bool, List, length, min, IfOk};
+ghost use Rattle.std.specs.Box.{boxed_slice_items};
+ghost use Rattle.bitm_bits.specs.Count.{ones_before, kind};
+ghost use Rattle.bitm.specs.Entry.{lower_entry};
+ghost use Rattle.bitm.specs.Samples.{AreCounts, CountsOf, items_of, part_of, sample};
+ghost use Rattle.bitm.specs.Samples.{part_samples, samples_of, sample_starts_of};
+ghost use Rattle.bitm.specs.Search.{IsLastEntry, entries_from, items_to, marked};
+
+use crate::probe::entry::{complement_entry, ones_to_entry};
+use crate::select::levels::L2_ENTRIES_PER_L1_ENTRY;
+use std::alloc::{AllocError, Global};
+use std::boxed::BoxedSlice;
+
+/// The tables of some bits, and how many ones and bits there are.
+#[derive(Clone, Copy)]
+pub(crate) struct TableCounts<'a> {
+    pub upper: &'a [usize],
+    pub lower: &'a [u64],
+    pub total: usize,
+    pub len: usize,
+}
+
+/// How many ones there are, or zeros where `ONE` is 0, of so many ones among so many bits.
+#[inline(always)]
+pub(crate) fn items_among<const ONE: u8>(total: usize, len: usize) -> usize
+    requires { total ≤ len }
+    ensures most { result ≤ len }
+    ensures items { (b : List Bool) → total ≡ ones_before b (length b) → len ≡ length b
+        → result ≡ items_of b (kind ONE) }
+{
+    if ONE == 0 { len - total } else { total }
+}
+
+/// How many ones stand before a part's end.
+fn ones_to_end(counts: &TableCounts<'_>, part: usize) -> usize
+    requires tabled { AreCounts counts.now }
+    requires inside { part < length counts.now.upper.now }
+    ensures { (b : List Bool) → CountsOf b counts.now
+        → result ≡ ones_before b (min (length b) ((part + 1) * 2 ^ 32)) }
+{
+    if part + 1 < counts.upper.len() {
+        counts.upper[part + 1]
+    } else {
+        counts.total
+    }
+}
+
+/// How many ones, or zeros where `ONE` is 0, a part has.
+fn items_in<const ONE: u8>(counts: &TableCounts<'_>, part: usize) -> usize
+    requires tabled { AreCounts counts.now }
+    requires inside { part < length counts.now.upper.now }
+    ensures few { result ≤ 2 ^ 32 }
+    ensures items { (b : List Bool) → CountsOf b counts.now
+        → result ≡ items_of (part_of b part) (kind ONE) }
+{
+    let ones = ones_to_end(counts, part) - counts.upper[part];
+    if ONE == 0 {
+        (counts.len - (part << 32)).min(1 << 32) - ones
+    } else {
+        ones
+    }
+}
+
+/// Lower entry `at` of the bits in which ones are sought.
+#[inline(always)]
+fn entry_at<const ONE: u8>(counts: &TableCounts<'_>, at: usize) -> u64
+    requires tabled { AreCounts counts.now }
+    requires inside { at < length counts.now.lower.now }
+    ensures { (b : List Bool) → CountsOf b counts.now
+        → result ≡ lower_entry (marked (kind ONE) b) at }
+{
+    let entry = counts.lower[at];
+    if ONE == 0 {
+        complement_entry(entry, at)
+    } else {
+        entry
+    }
+}
+
+/// How many entries a part has.
+#[inline(always)]
+fn entries_in(counts: &TableCounts<'_>, part: usize) -> usize
+    requires tabled { AreCounts counts.now }
+    requires inside { part < length counts.now.upper.now }
+    ensures { result ≡ entries_from (length counts.now.lower.now) part }
+{
+    (counts.lower.len() - part * L2_ENTRIES_PER_L1_ENTRY).min(L2_ENTRIES_PER_L1_ENTRY)
+}
+
+/// The last entry of a part, from entry `from` on, with no more than `item` items before it in the part.
+fn advance<const ONE: u8>(counts: &TableCounts<'_>, part: usize, from: usize, item: usize) -> usize
+    requires tabled { AreCounts counts.now }
+    requires inside { part < length counts.now.upper.now }
+    requires from { from < entries_from (length counts.now.lower.now) part }
+    ensures order { from ≤ result }
+    ensures inside { result < entries_from (length counts.now.lower.now) part }
+    ensures last { (b : List Bool) → CountsOf b counts.now → items_to ONE b part from ≤ item
+        → IsLastEntry (marked (kind ONE) b) (length counts.now.lower.now) part item result }
+{
+    let first = part * L2_ENTRIES_PER_L1_ENTRY;
+    let end = entries_in(counts, part);
+    for next in from + 1..end {
+        if item < ones_to_entry(entry_at::<ONE>(counts, first + next)) {
+            return next - 1;
+        }
+    }
+    end - 1
+}
+
+/// The sample of an interval that begins at `item`, and an entry that is no later than that of the next interval's
+/// first item.
+fn sample_from<const ONE: u8>(
+    counts: &TableCounts<'_>,
+    part: usize,
+    log2: u8,
+    from: usize,
+    item: usize,
+    items: usize,
+) -> (u32, usize)
+    requires tabled { AreCounts counts.now }
+    requires inside { part < length counts.now.upper.now }
+    requires low { 7 ≤ log2 }
+    requires high { log2 ≤ 31 }
+    requires from { from < entries_from (length counts.now.lower.now) part }
+    requires item { item < items }
+    requires few { items ≤ 2 ^ 32 }
+    ensures inside { result.1 < entries_from (length counts.now.lower.now) part }
+    ensures sample { (b : List Bool) → CountsOf b counts.now
+        → items ≡ items_of (part_of b part) (kind ONE) → items_to ONE b part from ≤ item
+        → result.0 ≡ sample (part_of b part) (kind ONE) log2 item }
+    ensures at_most { (b : List Bool) → CountsOf b counts.now → items_to ONE b part from ≤ item
+        → items_to ONE b part result.1 ≤ item + 2 ^ (log2 - 1) }
+{
+    let entry = advance::<ONE>(counts, part, from, item);
+    let middle = item + (1 << (log2 - 1));
+    if middle < items {
+        let later = advance::<ONE>(counts, part, entry, middle);
+        let distance = (later - entry).min(2047);
+        ((entry + (distance << 21)) as u32, later)
+    } else {
+        (entry as u32, entry)
+    }
+}
+
+/// Adds the samples of a part.
+fn push_part<const ONE: u8>(
+    samples: &mut Vec<u32>,
+    counts: &TableCounts<'_>,
+    part: usize,
+    log2: u8,
+) -> Result<(), AllocError>
+    requires tabled { AreCounts counts.now }
+    requires inside { part < length counts.now.upper.now }
+    requires low { 7 ≤ log2 }
+    requires high { log2 ≤ 31 }
+    ensures { IfOk result (λ _. (b : List Bool) → CountsOf b counts.now
+        → samples.new.items
+        ≡ samples.old.items ++ part_samples (part_of b part) (kind ONE) log2) }
+{
+    let items = items_in::<ONE>(counts, part);
+    let mut entry = 0;
+    for interval in 0..items.div_ceil(1 << log2) {
+        let (sample, next) = sample_from::<ONE>(counts, part, log2, entry, interval << log2, items);
+        samples.push(sample)?;
+        entry = next;
+    }
+    Ok(())
+}
+
+/// The samples of some bits at a density, and how many there are before each part.
+///
+/// # Errors
+/// `AllocError` where no memory was found; nothing is left.
+pub(crate) fn make_samples<const ONE: u8>(
+    alloc: Global,
+    counts: &TableCounts<'_>,
+    log2: u8,
+) -> Result<(BoxedSlice<u32, Global>, BoxedSlice<usize, Global>), AllocError>
+    requires tabled { AreCounts counts.now }
+    requires low { 7 ≤ log2 }
+    requires high { log2 ≤ 31 }
+    ensures samples { IfOk result (λ made. (b : List Bool) → CountsOf b counts.now
+        → boxed_slice_items made.0 ≡ samples_of b (kind ONE) log2) }
+    ensures starts { IfOk result (λ made. (b : List Bool) → CountsOf b counts.now
+        → boxed_slice_items made.1 ≡ sample_starts_of b (kind ONE) log2) }
+{
+    let mut kept = Vec::new(alloc);
+    let mut begins = Vec::new(alloc);
+    for part in 0..counts.upper.len() {
+        begins.push(kept.len())?;
+        push_part::<ONE>(&mut kept, counts, part, log2)?;
+    }
+    Ok((kept.into_boxed_slice(), begins.into_boxed_slice()))
+}

@@ -1,0 +1,95 @@
+//! Selection that begins at a sample, over a source, with a bound on its reads.
+ghost use Rattle.std.specs.Prelude.{◌≡◌, ◌+◌, ◌-◌, ◌/◌, ◌%◌, ◌^◌, ◌<◌, ◌≤◌, length, nat_eq, if◌then◌else◌};
+ghost use Rattle.bitm_bits.specs.Bits.{bits_of, IsShort};
+ghost use Rattle.bitm_bits.specs.Count.{kind, IsSelect};
+ghost use Rattle.bitm.specs.Reads.{ReadsAtMost};
+ghost use Rattle.bitm.specs.Samples.{samples_of, sample_starts_of, SampledReads};
+ghost use Rattle.bitm.specs.Search.{IsLastEntry, entries_from, items_to, sought_in};
+ghost use Rattle.bitm.specs.Tables.{HasTables, IsIndexable};
+
+use crate::probe::entry::ones_to_entry;
+use crate::probe::selecting::{before_part, entry_of, in_entry, last_part};
+use crate::probe::source::TableSource;
+use crate::sampling::density::CombinedSamplingDensity;
+use crate::select::levels::L2_ENTRIES_PER_L1_ENTRY;
+
+/// The last entry of a part, from entry `from` on, with no more than `rank` of the kind before it in the part.
+fn walk<const ONE: u8, T: TableSource>(
+    source: &mut T,
+    part: usize,
+    from: usize,
+    rank: usize,
+) -> usize
+    requires tables { HasTables (T.lists source.old) }
+    requires short { IsShort (T.lists source.old).words }
+    requires inside { part < length (T.lists source.old).upper }
+    requires from { from < entries_from (length (T.lists source.old).lower) part }
+    requires at_most { items_to ONE (bits_of (T.lists source.old).words) part from ≤ rank }
+    ensures last { IsLastEntry (sought_in ONE (T.lists source.old).words)
+        (length (T.lists source.old).lower) part rank result }
+    ensures order { from ≤ result }
+    ensures reads { ReadsAtMost (T.reads source.old) (T.reads source.new)
+        0 (result - from + 1) 0 }
+    ensures same { T.lists source.new ≡ T.lists source.old }
+{
+    let first = part * L2_ENTRIES_PER_L1_ENTRY;
+    let end = (source.lower_len() - first).min(L2_ENTRIES_PER_L1_ENTRY);
+    for next in from + 1..end {
+        if rank < ones_to_entry(entry_of::<ONE, T>(source, first + next)) {
+            return next - 1;
+        }
+    }
+    end - 1
+}
+
+/// The entry at which a sample lets the selection of this rank begin.
+#[inline(always)]
+fn first_entry<D: CombinedSamplingDensity>(
+    sample: u32,
+    rank: usize,
+    density: D::SamplingDensity,
+) -> usize
+    ensures { result ≡ sample % 2 ^ 21
+        + (if nat_eq (rank / 2 ^ (D.log density - 1) % 2) 1 then sample / 2 ^ 21 else 0) }
+{
+    let first = (sample & 0x1F_FFFF) as usize;
+    if D::is_in_second_half(rank, density) {
+        first + (sample >> 21) as usize
+    } else {
+        first
+    }
+}
+
+/// Selection by the samples of the source's words, kept at this density: one read of an upper entry for each halving
+/// and one more, and a walk over the lower entries from the sample on.
+pub(crate) fn sampled_select_on<const ONE: u8, D: CombinedSamplingDensity, T: TableSource>(
+    sampled: &[u32],
+    begins: &[usize],
+    density: D::SamplingDensity,
+    source: &mut T,
+    rank: usize,
+) -> Option<usize>
+    requires tables { HasTables (T.lists source.old) }
+    requires indexable { IsIndexable (T.lists source.old).words }
+    requires samples { sampled.now
+        ≡ samples_of (bits_of (T.lists source.old).words) (kind ONE) (D.log density) }
+    requires starts { begins.now
+        ≡ sample_starts_of (bits_of (T.lists source.old).words) (kind ONE) (D.log density) }
+    ensures answer { IsSelect (bits_of (T.lists source.old).words) (kind ONE) rank result }
+    ensures reads { SampledReads (bits_of (T.lists source.old).words) (kind ONE) (D.log density)
+        rank result (T.reads source.old) (T.reads source.new) }
+    ensures same { T.lists source.new ≡ T.lists source.old }
+{
+    if source.upper_len() == 0 {
+        return None;
+    }
+    let part = last_part::<ONE, T>(source, rank);
+    let in_part = rank - before_part::<ONE, T>(source, part);
+    let at = begins[part] + D::divide(in_part, density);
+    if at >= sampled.len() {
+        return None;
+    }
+    let from = first_entry::<D>(sampled[at], in_part, density);
+    let entry = walk::<ONE, T>(source, part, from, in_part);
+    in_entry::<ONE, T>(source, part, entry, in_part)
+}
