@@ -4,13 +4,15 @@ use Rattle.std.specs.Box.{boxed_slice_items}
 use Rattle.bitm_vectors.specs.declared.command.Kind.{Kind}
 use Rattle.bitm_vectors.specs.declared.command.Kind.TheVariants as kind
 use Rattle.bitm_vectors.specs.declared.index.Index.{Index}
-use Rattle.bitm_vectors.specs.declared.index.Index.TheVariants.{Simple, Binary}
+use Rattle.bitm_vectors.specs.declared.index.Index.TheVariants.{Simple, Binary, Sampled}
 
 -- the words that it is built over
 abbrev pub indexed : Index → List ℕ
 indexed (Simple rank) = boxed_slice_items rank
 indexed (Binary index) = boxed_slice_items index.content
+indexed (Sampled index) = boxed_slice_items index.content
 
 abbrev pub kind_of_index : Index → Kind
 kind_of_index (Simple rank) = kind.Simple
 kind_of_index (Binary index) = kind.Binary
+kind_of_index (Sampled index) = kind.Sampled

@@ -10,7 +10,7 @@ use Rattle.bitm_vectors.specs.Request.{Request, Words, Set, Clear, Build, Rank, 
 use Rattle.bitm_vectors.specs.declared.answer.Answer.{Answer}
 use Rattle.bitm_vectors.specs.declared.answer.Answer.TheVariants.{Accepted, Ones, Number, Absent, NotBuilt, NoMemory, BadCommand}
 use Rattle.bitm_vectors.specs.declared.command.Kind.{Kind}
-use Rattle.bitm_vectors.specs.declared.command.Kind.TheVariants.{Simple, Binary}
+use Rattle.bitm_vectors.specs.declared.command.Kind.TheVariants.{Simple, Binary, Sampled}
 
 -- the bits of the vector, and the kind of index that is built over them
 pub record State : Type 0 where
@@ -53,6 +53,7 @@ abbrev pub IsPlaceAnswer : Option Kind → List Bool → Bool → ℕ → Answer
 IsPlaceAnswer None bits v rank answer = answer ≡ NotBuilt
 IsPlaceAnswer (Some Simple) bits v rank answer = answer ≡ NotBuilt
 IsPlaceAnswer (Some Binary) bits v rank answer = IsPlaced bits v rank answer
+IsPlaceAnswer (Some Sampled) bits v rank answer = IsPlaced bits v rank answer
 
 -- what is answered where memory is found
 abbrev pub IsAnswer : State → Request → Answer → Type 0

@@ -15,6 +15,7 @@ pub(crate) const MAX_WORDS: usize = 65536;
 pub(crate) enum Kind {
     Simple,
     Binary,
+    Sampled,
 }
 
 /// What a line asks for.
@@ -95,6 +96,8 @@ fn kind_named(name: &[u8]) -> Option<Kind>
         Some(Kind::Simple)
     } else if name == b"binary".as_slice() {
         Some(Kind::Binary)
+    } else if name == b"sampled".as_slice() {
+        Some(Kind::Sampled)
     } else {
         None
     }

@@ -7,16 +7,23 @@ ghost use Rattle.bitm_bits.specs.Count.{ones_before, IsRank, IsRank0};
 use crate::answer::Answer;
 use crate::command::Kind;
 use bitm::{
-    ArrayWithRank101111, ArrayWithRankSimple, CloneWords, Rank, RankSimple, Select, Select0,
+    AdaptiveCombinedSamplingDensity, ArrayWithRank101111, ArrayWithRankSimple, CloneWords,
+    CombinedSampling, Rank, RankSelect101111, RankSimple, Select, Select0,
 };
 use std::alloc::{AllocError, Global};
 use std::boxed::BoxedSlice;
+
+/// Samples for ones and for zeros, at a density that adapts to how many there are.
+type Samples = CombinedSampling<AdaptiveCombinedSamplingDensity<13>>;
+
+type SampledIndex = RankSelect101111<Samples, Samples, BoxedSlice<u64, Global>>;
 
 /// An index of one of the kinds.
 #[derive(Drop)]
 pub(crate) enum Index {
     Simple(ArrayWithRankSimple),
     Binary(ArrayWithRank101111),
+    Sampled(SampledIndex),
 }
 
 ghost use Rattle.bitm_vectors.specs.Index.{indexed, kind_of_index};
@@ -46,6 +53,10 @@ impl Index {
                 Ok((index, total)) => Ok((Index::Binary(index), total)),
                 Err(_) => Err(AllocError),
             },
+            Kind::Sampled => match SampledIndex::build(alloc, copy) {
+                Ok((index, ones)) => Ok((Index::Sampled(index), ones)),
+                Err(_) => Err(AllocError),
+            },
         }
     }
 
@@ -56,6 +67,7 @@ impl Index {
         match self {
             Index::Simple(rank) => Rank::try_rank(rank, index),
             Index::Binary(binary) => binary.try_rank(index),
+            Index::Sampled(sampled) => sampled.try_rank(index),
         }
     }
 
@@ -66,6 +78,7 @@ impl Index {
         match self {
             Index::Simple(rank) => rank.try_rank0(index),
             Index::Binary(binary) => binary.try_rank0(index),
+            Index::Sampled(sampled) => sampled.try_rank0(index),
         }
     }
 
@@ -76,10 +89,8 @@ impl Index {
     {
         match self {
             Index::Simple(_) => Answer::NotBuilt,
-            Index::Binary(binary) => match binary.try_select(rank) {
-                Some(place) => Answer::Number(place as u64),
-                None => Answer::Absent,
-            },
+            Index::Binary(binary) => Answer::of_place(binary.try_select(rank)),
+            Index::Sampled(sampled) => Answer::of_place(sampled.try_select(rank)),
         }
     }
 
@@ -90,10 +101,8 @@ impl Index {
     {
         match self {
             Index::Simple(_) => Answer::NotBuilt,
-            Index::Binary(binary) => match binary.try_select0(rank) {
-                Some(place) => Answer::Number(place as u64),
-                None => Answer::Absent,
-            },
+            Index::Binary(binary) => Answer::of_place(binary.try_select0(rank)),
+            Index::Sampled(sampled) => Answer::of_place(sampled.try_select0(rank)),
         }
     }
 }
