@@ -1,13 +1,16 @@
 //! Each call that takes memory, with its right answer and the state that a refusal has to leave.
-use bitm::{ArrayWithRankSimple, BitVec, CloneWords, RankSimple};
+use crate::packed::{packed, packed_clone, packed_owned, sampled_new, sampled_new0};
+use bitm::{ArrayWithRankSimple, BinaryRankSearch, BitVec, CloneWords, RankSimple};
 use std::alloc::{AllocError, Global};
 use std::boxed::BoxedSlice;
 use std::convert::AsSlice;
 
+type Samples = crate::packed::Samples;
+
 type Words = BoxedSlice<u64, Global>;
 
 /// The content that is handed to the calls: five ones, at places 0, 2, 3, 65 and 66.
-const WORDS: [u64; 2] = [13, 6];
+pub const WORDS: [u64; 2] = [13, 6];
 
 /// The calls that take memory.
 #[derive(Clone, Copy)]
@@ -22,6 +25,14 @@ pub enum Call {
     SimpleLent,
     SimpleOwned,
     SimpleClone,
+    BinaryLent,
+    BinaryOwned,
+    SampledLent,
+    SampledOwned,
+    SampledNew,
+    SampledNew0,
+    BinaryClone,
+    SampledClone,
 }
 
 /// How a call ended.
@@ -44,7 +55,7 @@ impl Outcome {
     }
 }
 
-pub fn all() -> [Call; 10] {
+pub fn all() -> [Call; 18] {
     [
         Call::Segments,
         Call::ZeroedSegments,
@@ -56,6 +67,14 @@ pub fn all() -> [Call; 10] {
         Call::SimpleLent,
         Call::SimpleOwned,
         Call::SimpleClone,
+        Call::BinaryLent,
+        Call::BinaryOwned,
+        Call::SampledLent,
+        Call::SampledOwned,
+        Call::SampledNew,
+        Call::SampledNew0,
+        Call::BinaryClone,
+        Call::SampledClone,
     ]
 }
 
@@ -72,6 +91,14 @@ impl Call {
             Call::SimpleLent => "simple-build-lent",
             Call::SimpleOwned => "simple-build-owned",
             Call::SimpleClone => "simple-try-clone",
+            Call::BinaryLent => "packed-build-lent-binary",
+            Call::BinaryOwned => "packed-build-owned-binary",
+            Call::SampledLent => "packed-build-lent-sampled",
+            Call::SampledOwned => "packed-build-owned-sampled",
+            Call::SampledNew => "sampled-new",
+            Call::SampledNew0 => "sampled-new0",
+            Call::BinaryClone => "packed-try-clone-binary",
+            Call::SampledClone => "packed-try-clone-sampled",
         }
     }
 
@@ -96,11 +123,19 @@ impl Call {
             Call::SimpleLent => simple_lent(alloc),
             Call::SimpleOwned => simple_owned(alloc),
             Call::SimpleClone => simple_clone(alloc),
+            Call::BinaryLent => packed::<BinaryRankSearch, &[u64]>(alloc, WORDS.as_slice()),
+            Call::BinaryOwned => packed_owned::<BinaryRankSearch>(alloc),
+            Call::SampledLent => packed::<Samples, &[u64]>(alloc, WORDS.as_slice()),
+            Call::SampledOwned => packed_owned::<Samples>(alloc),
+            Call::SampledNew => sampled_new(alloc),
+            Call::SampledNew0 => sampled_new0(alloc),
+            Call::BinaryClone => packed_clone::<BinaryRankSearch>(alloc),
+            Call::SampledClone => packed_clone::<Samples>(alloc),
         }
     }
 }
 
-fn answered(right: bool) -> Outcome {
+pub fn answered(right: bool) -> Outcome {
     if right {
         Outcome::Answered
     } else {
@@ -108,7 +143,7 @@ fn answered(right: bool) -> Outcome {
     }
 }
 
-fn refused(unharmed: bool) -> Outcome {
+pub fn refused(unharmed: bool) -> Outcome {
     if unharmed {
         Outcome::Refused
     } else {

@@ -9,6 +9,7 @@
 #![tactic(auto)]
 
 mod calls;
+mod packed;
 
 use calls::{Outcome, all};
 use std::alloc::{AllocError, Global};
