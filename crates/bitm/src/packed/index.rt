@@ -202,11 +202,7 @@ impl<S: SelectForRank101111, S0: Select0ForRank101111, BV: AsSlice<u64>> RankSel
         ensures indexable { IsIndexable result.lists.words }
         ensures reads { result.reads ≡ none_read }
     {
-        Probe::new(
-            self.content.as_slice(),
-            self.l1ranks.as_slice(),
-            self.l2ranks.as_slice(),
-        )
+        Probe::new(self.content().as_slice(), self.l1ranks(), self.l2ranks())
     }
 }
 
@@ -226,13 +222,9 @@ impl<S: SelectForRank101111, S0: Select0ForRank101111, BV: AsSlice<u64>> Select
 
     #[inline(always)]
     fn try_select(&self, rank: usize) -> Option<usize> {
-        let words = self.content.as_slice();
-        self.select.select(
-            words,
-            self.l1ranks.as_slice(),
-            self.l2ranks.as_slice(),
-            rank,
-        )
+        let words = self.as_slice();
+        self.select
+            .select(words, self.l1ranks(), self.l2ranks(), rank)
     }
 }
 
@@ -242,13 +234,9 @@ impl<S: SelectForRank101111, S0: Select0ForRank101111, BV: AsSlice<u64>> Select0
 
     #[inline(always)]
     fn try_select0(&self, rank: usize) -> Option<usize> {
-        let words = self.content.as_slice();
-        self.select0.select0(
-            words,
-            self.l1ranks.as_slice(),
-            self.l2ranks.as_slice(),
-            rank,
-        )
+        let words = self.as_slice();
+        self.select0
+            .select0(words, self.l1ranks(), self.l2ranks(), rank)
     }
 }
 
