@@ -3,6 +3,7 @@ ghost use Rattle.std.specs.Prelude.{◌≡◌, ℕ, ◌+◌};
 ghost use Rattle.std.specs.Borrow.{ftrue};
 
 use std::marker::Model;
+use std::mem::size_of;
 
 /// How often each list of a source was read: words, upper entries and lower entries.
 ///
@@ -13,6 +14,8 @@ pub struct ReadCounts {
     pub ghost upper: { ℕ },
     pub ghost lower: { ℕ },
 }
+
+const _: () = prove!(size_of::<ReadCounts>() == 0);
 
 impl Model for ReadCounts {
     ghost also_owns = { λ _. ftrue };
