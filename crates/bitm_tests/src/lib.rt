@@ -2,6 +2,14 @@
 #![tactic(auto)]
 
 #[cfg(test)]
+mod contents;
+#[cfg(test)]
+mod large;
+#[cfg(test)]
+mod odd_contents;
+#[cfg(test)]
 mod oracle_words;
+#[cfg(test)]
+mod plain;
 #[cfg(test)]
 mod simple;

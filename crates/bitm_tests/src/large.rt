@@ -1,0 +1,69 @@
+//! A content of 2^20 words with ones at the even places: ranks and places at each step of 256 bits.
+use crate::plain::Sampled;
+use bitm::{
+    BinaryRankSearch, BitVec, Rank, RankSelect101111, RankSimple, Select, Select0,
+    Select0ForRank101111, SelectForRank101111,
+};
+use std::alloc::{AllocError, Global};
+use std::boxed::BoxedSlice;
+use std::process::Abort;
+use std::test::Fail;
+
+type Words = BoxedSlice<u64, Global>;
+
+/// Words whose ones are at the even places.
+fn even_ones(alloc: Global) -> Result<Words, AllocError> {
+    Words::with_64bit_segments(alloc, 0x5555_5555_5555_5555, 0x10_0000)
+}
+
+/// Half of the bits before each place are ones.
+fn expect_ranks<I: Rank>(rt: &impl Abort, index: &I) {
+    for k in 0..0x4_0000usize {
+        assert_eq!(rt; index.try_rank(256 * k), Some(128 * k));
+    }
+}
+
+/// Each two places have one bit of each kind.
+fn expect_places<S: SelectForRank101111, S0: Select0ForRank101111>(
+    rt: &impl Abort,
+    alloc: Global,
+) -> Result<(), Fail> {
+    let content = even_ones(alloc)?;
+    assert!(rt; content.as_slice().len() < 2_000_000);
+    let (index, total) = match RankSelect101111::<S, S0, Words>::build(alloc, content) {
+        Ok(built) => built,
+        Err(_) => panic!(rt; "no memory"),
+    };
+    assert_eq!(rt; total, 0x200_0000);
+    expect_ranks(rt, &index);
+    for k in 0..0x4_0000usize {
+        assert_eq!(rt; index.try_select(128 * k), Some(256 * k));
+        assert_eq!(rt; index.try_select0(128 * k), Some(256 * k + 1));
+    }
+    Ok(())
+}
+
+#[test]
+#[tactic(auto, using(bitm_bits::proofs::lemmas::CountLemmas::few_ones))]
+fn simple_rank(rt: HostRuntime) -> Result<(), Fail> {
+    let content = even_ones(rt.alloc())?;
+    assert!(rt; content.as_slice().len() < 2_000_000);
+    match RankSimple::build(rt.alloc(), content) {
+        Ok((index, total)) => {
+            assert_eq!(rt; total, 0x200_0000);
+            expect_ranks(&rt, &index);
+        }
+        Err(_) => panic!(rt; "no memory"),
+    }
+    Ok(())
+}
+
+#[test]
+fn binary_search(rt: HostRuntime) -> Result<(), Fail> {
+    expect_places::<BinaryRankSearch, BinaryRankSearch>(&rt, rt.alloc())
+}
+
+#[test]
+fn samples(rt: HostRuntime) -> Result<(), Fail> {
+    expect_places::<Sampled, Sampled>(&rt, rt.alloc())
+}

@@ -1,0 +1,63 @@
+//! The index over odd contents, with each strategy: every place and rank, to past the end.
+use crate::plain::{Sampled, expect_all, indexed};
+use bitm::{BinaryRankSearch, Rank, Select, Select0, Select0ForRank101111, SelectForRank101111};
+use std::alloc::Global;
+use std::process::Abort;
+use std::test::Fail;
+
+/// Compares all answers over so many words: all zeros, all ones, and with the last bit alone set.
+fn expect_forms<S: SelectForRank101111, S0: Select0ForRank101111>(
+    rt: &impl Abort,
+    alloc: Global,
+    len: usize,
+) -> Result<(), Fail> {
+    let zeros = vec![in alloc; 0; len]?;
+    expect_all::<S, S0>(rt, alloc, zeros.as_slice())?;
+    let ones = vec![in alloc; u64::MAX; len]?;
+    expect_all::<S, S0>(rt, alloc, ones.as_slice())?;
+    let mut last = zeros;
+    if let Some(word) = last.last_mut() {
+        *word = 1 << 63;
+    }
+    expect_all::<S, S0>(rt, alloc, last.as_slice())?;
+    Ok(())
+}
+
+#[test]
+fn every_place_and_rank(rt: HostRuntime) -> Result<(), Fail> {
+    for len in [0, 1, 9, 32, 33, 60] {
+        expect_forms::<BinaryRankSearch, BinaryRankSearch>(&rt, rt.alloc(), len)?;
+        expect_forms::<Sampled, Sampled>(&rt, rt.alloc(), len)?;
+    }
+    Ok(())
+}
+
+/// Nine words whose last bit alone is set, and 32 words of ones.
+fn expect_rows<S: SelectForRank101111, S0: Select0ForRank101111>(rt: &impl Abort, alloc: Global) {
+    let words = [0, 0, 0, 0, 0, 0, 0, 0, 1 << 63];
+    let (index, _) = indexed::<S, S0>(rt, alloc, words.as_slice());
+    assert_eq!(rt;
+        (index.try_select(0), index.try_rank(575)),
+        (Some(575), Some(0))
+    );
+    assert_eq!(rt;
+        (index.try_select0(574), index.try_select0(575)),
+        (Some(574), None)
+    );
+    let words = [u64::MAX; 32];
+    let (index, _) = indexed::<S, S0>(rt, alloc, words.as_slice());
+    assert_eq!(rt;
+        (index.try_select(2047), index.try_select(2048)),
+        (Some(2047), None)
+    );
+    assert_eq!(rt; index.try_select0(0), None);
+    let far = usize::MAX;
+    assert_eq!(rt; (index.try_rank(far), index.try_select(far)), (None, None));
+    assert_eq!(rt; index.try_select0(far), None);
+}
+
+#[test]
+fn last_bit_alone_and_full_words(rt: HostRuntime) {
+    expect_rows::<BinaryRankSearch, BinaryRankSearch>(&rt, rt.alloc());
+    expect_rows::<Sampled, Sampled>(&rt, rt.alloc());
+}
