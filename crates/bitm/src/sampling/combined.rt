@@ -1,8 +1,9 @@
 //! Selection by samples: what is kept, how it is made, and the strategy of both kinds.
-ghost use Rattle.std.specs.Prelude.{◌≡◌, ℕ, List, length, true, false, IfOk};
-ghost use Rattle.std.specs.Box.{boxed_slice_items};
+ghost use Rattle.std.specs.Prelude.{◌≡◌, ◌+◌, ◌*◌, ℕ, List, length, true, false, IfOk};
+ghost use Rattle.std.specs.Box.{boxed_slice_items, boxed_slice_len};
 ghost use Rattle.bitm_bits.specs.Bits.{bits_of};
 ghost use Rattle.bitm_bits.specs.Count.{ones_before, kind, IsSelect};
+ghost use Rattle.bitm_bits.specs.Size.{saturated};
 ghost use Rattle.bitm.specs.Samples.{items_of, SampledReads, Supported, CountIs};
 ghost use Rattle.bitm.specs.Tables.{AreTablesOf, HasTables, IsIndexable};
 
@@ -11,8 +12,14 @@ use crate::sampling::density::CombinedSamplingDensity;
 use crate::sampling::samples::{TableCounts, items_among, make_samples};
 use crate::sampling::walking::sampled_select_on;
 use crate::select::traits::{Select0ForRank101111, SelectForRank101111};
+use bitm_bits::GetSize;
 use std::alloc::{AllocError, Global};
 use std::boxed::BoxedSlice;
+
+#[cfg(test)]
+mod original;
+#[cfg(test)]
+mod tests;
 
 /// Selection that begins at samples: one 32-bit sample for each begun interval of 2^d items of a part of 2^32 bits, and
 /// one number for each part, where the density `D` chooses d for the content.
@@ -195,5 +202,23 @@ impl<D: CombinedSamplingDensity> Select0ForRank101111 for CombinedSampling<D> {
         rank: usize,
     ) -> Option<usize> {
         self.select0_counted(&mut Probe::new(content, l1ranks, l2ranks), rank)
+    }
+}
+
+impl<D: CombinedSamplingDensity> GetSize for CombinedSampling<D>
+where
+    D::SamplingDensity: GetSize,
+{
+    // four bytes a sample, eight for each part, and what the density keeps
+    ghost dyn_bytes = { λ it. saturated (4 * boxed_slice_len it.samples
+        + 8 * boxed_slice_len it.begins + D.SamplingDensity.dyn_bytes it.density) };
+
+    const USES_DYN_MEM: bool = true;
+
+    fn size_bytes_dyn(&self) -> usize {
+        self.samples
+            .size_bytes_dyn()
+            .saturating_add(self.begins.size_bytes_dyn())
+            .saturating_add(self.density.size_bytes_dyn())
     }
 }

@@ -1,0 +1,187 @@
+//! The samples that are kept: as the original crate keeps them, and as one walk over the bits finds them.
+use super::original::{
+    Content, EIGHT_WORDS, Kept, LAST_BIT_ALONE, LAST_BIT_MISSING, NINE_FULL, SIXTY, Samples,
+    THIRTY_FIVE_FULL, THIRTY_THREE_EMPTY, THIRTY_TWO_FULL, THREE_WORDS, Words,
+};
+use crate::packed::index::RankSelect101111;
+use crate::sampling::combined::CombinedSampling;
+use crate::sampling::density::{
+    AdaptiveCombinedSamplingDensity, CombinedSamplingDensity, ConstCombinedSamplingDensity,
+};
+use bitm_bits::BitAccess;
+use std::alloc::{AllocError, Global};
+use std::process::Abort;
+
+/// An index over words, which selects both kinds by samples.
+type Index<'a, D> = RankSelect101111<CombinedSampling<D>, CombinedSampling<D>, &'a [u64]>;
+
+/// An index over the words.
+fn indexed<'a, D: CombinedSamplingDensity>(
+    rt: &impl Abort,
+    alloc: Global,
+    words: &'a [u64],
+) -> Index<'a, D> {
+    assert!(rt; words.len() < 100_000);
+    match RankSelect101111::build(alloc, words) {
+        Ok((index, _)) => index,
+        Err(_) => panic!(rt; "no memory"),
+    }
+}
+
+/// The words of runs.
+fn words_of(alloc: Global, runs: &[Words]) -> Result<Vec<u64>, AllocError> {
+    let mut words = Vec::new(alloc);
+    for (word, count) in runs {
+        for _ in 0..*count {
+            words.push(*word)?;
+        }
+    }
+    Ok(words)
+}
+
+/// The samples of runs.
+fn samples_of(alloc: Global, runs: &[Samples]) -> Result<Vec<u32>, AllocError> {
+    let mut samples = Vec::new(alloc);
+    for (entry, distance, count) in runs {
+        for _ in 0..*count {
+            samples.push(*entry | *distance << 21)?;
+        }
+    }
+    Ok(samples)
+}
+
+/// Compares what is kept at a density with the original's samples.
+fn expect_kept<D: CombinedSamplingDensity>(
+    rt: &impl Abort,
+    alloc: Global,
+    words: &[u64],
+    kept: Kept,
+) -> Result<(), AllocError> {
+    let index = indexed::<D>(rt, alloc, words);
+    let ones = samples_of(alloc, kept.0)?;
+    assert_eq!(rt; index.select_support().samples.as_slice(), ones.as_slice());
+    let zeros = samples_of(alloc, kept.1)?;
+    assert_eq!(rt;
+        index.select0_support().samples.as_slice(),
+        zeros.as_slice()
+    );
+    Ok(())
+}
+
+/// Compares what is kept at the six densities with the original's samples.
+fn expect_content(rt: &impl Abort, alloc: Global, content: &Content) -> Result<(), AllocError> {
+    let words = words_of(alloc, content.words)?;
+    let words = words.as_slice();
+    let [a13, a7, c7, c8, c10, c31] = content.kept;
+    expect_kept::<AdaptiveCombinedSamplingDensity<13>>(rt, alloc, words, a13)?;
+    expect_kept::<AdaptiveCombinedSamplingDensity<7>>(rt, alloc, words, a7)?;
+    expect_kept::<ConstCombinedSamplingDensity<7>>(rt, alloc, words, c7)?;
+    expect_kept::<ConstCombinedSamplingDensity<8>>(rt, alloc, words, c8)?;
+    expect_kept::<ConstCombinedSamplingDensity<10>>(rt, alloc, words, c10)?;
+    expect_kept::<ConstCombinedSamplingDensity<31>>(rt, alloc, words, c31)
+}
+
+#[test]
+fn samples_are_the_originals(rt: HostRuntime) -> Result<(), AllocError> {
+    let contents = [
+        SIXTY,
+        NINE_FULL,
+        THIRTY_FIVE_FULL,
+        THIRTY_TWO_FULL,
+        THIRTY_THREE_EMPTY,
+        LAST_BIT_ALONE,
+        LAST_BIT_MISSING,
+        THREE_WORDS,
+        EIGHT_WORDS,
+    ];
+    for content in contents.iter() {
+        expect_content(&rt, rt.alloc(), content)?;
+    }
+    Ok(())
+}
+
+#[test]
+fn distance_is_capped(rt: HostRuntime) -> Result<(), AllocError> {
+    let words = words_of(rt.alloc(), &[(u64::MAX, 1), (0, 95_999), (u64::MAX, 1)])?;
+    let index = indexed::<ConstCombinedSamplingDensity<7>>(&rt, rt.alloc(), words.as_slice());
+    let ones = [0xFFE0_0000];
+    assert_eq!(rt; index.select_support().samples.as_slice(), ones.as_slice());
+    let zeros = index.select0_support().samples.as_slice();
+    assert_eq!(rt; zeros.len(), 48_000);
+    let rows = [
+        (0, 0),
+        (15, 0x20_0000),
+        (16, 1),
+        (2400, 0x96),
+        (48_000 - 9600, 0x960),
+    ];
+    for (place, sample) in rows {
+        assert_eq!(rt; zeros.get(place).copied(), Some(sample), "sample {place}");
+    }
+    Ok(())
+}
+
+#[test]
+fn distance_to_the_half(rt: HostRuntime) -> Result<(), AllocError> {
+    let words = words_of(rt.alloc(), &[(u64::MAX, 1), (0, 62), (u64::MAX, 1)])?;
+    let index = indexed::<ConstCombinedSamplingDensity<7>>(&rt, rt.alloc(), words.as_slice());
+    let ones = [0x0020_0000];
+    assert_eq!(rt; index.select_support().samples.as_slice(), ones.as_slice());
+    Ok(())
+}
+
+/// The samples of one part of words, by a walk over its bits: an item that is a whole number of intervals from the first begins
+/// a sample, and one half an interval later adds the distance to it.
+fn walked(alloc: Global, words: &[u64], kind: bool, log2: u8) -> Result<Vec<u32>, AllocError> {
+    let in_interval = 1u64.wrapping_shl(u32::from(log2)).wrapping_sub(1);
+    let mut samples: Vec<u32> = Vec::new(alloc);
+    let mut items = 0u64;
+    for place in 0..usize::MAX {
+        let Some(bit) = words.try_get_bit(place) else {
+            break;
+        };
+        if bit != kind {
+            continue;
+        }
+        let entry = (place / 2048 % 0x20_0000) as u32;
+        if items & in_interval == 0 {
+            samples.push(entry)?;
+        } else if items & in_interval >> 1 == 0 {
+            if let Some(last) = samples.last_mut() {
+                *last |= entry.wrapping_sub(*last).min(2047) << 21;
+            }
+        }
+        items = items.wrapping_add(1);
+    }
+    Ok(samples)
+}
+
+/// Compares what is kept at a density with a walk over the bits.
+fn expect_walked<D: CombinedSamplingDensity>(
+    rt: &impl Abort,
+    alloc: Global,
+    words: &[u64],
+) -> Result<(), AllocError> {
+    let index = indexed::<D>(rt, alloc, words);
+    let kept = index.select_support();
+    let ones = walked(alloc, words, true, D::items_per_sample_log2(kept.density))?;
+    assert_eq!(rt; kept.samples.as_slice(), ones.as_slice());
+    let kept = index.select0_support();
+    let zeros = walked(alloc, words, false, D::items_per_sample_log2(kept.density))?;
+    assert_eq!(rt; kept.samples.as_slice(), zeros.as_slice());
+    Ok(())
+}
+
+#[test]
+fn samples_are_those_of_a_walk(rt: HostRuntime) -> Result<(), AllocError> {
+    for len in [0, 1, 9, 32, 33, 60, 300] {
+        for word in [0, u64::MAX, 1, 1 << 63, 0x5555_5555_5555_5555, 0xFFFF] {
+            let words = words_of(rt.alloc(), &[(word, len), (!word, 1)])?;
+            let words = words.as_slice();
+            expect_walked::<AdaptiveCombinedSamplingDensity<13>>(&rt, rt.alloc(), words)?;
+            expect_walked::<ConstCombinedSamplingDensity<7>>(&rt, rt.alloc(), words)?;
+            expect_walked::<ConstCombinedSamplingDensity<9>>(&rt, rt.alloc(), words)?;
+        }
+    }
+    Ok(())
+}
