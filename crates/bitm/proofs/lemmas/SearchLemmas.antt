@@ -6,44 +6,43 @@ use Rattle.bitm.specs.Search.{IsLast}
 
 -- ---- the range of a search
 
--- a search, among n counts, for the last one that is at most r: one just below low is, and one at high is not
-pub record Between (count : ℕ → ℕ) (n r low high : ℕ) : Type 0 where
-  pub order : low ≤ high
-  pub bound : high ≤ n
-  pub below : 0 < low → count (low - 1) ≤ r
-  pub above : high < n → r < count high
+-- a search, among n counts that rise, for the last one that is at most r: it is among those from low on, of which so many are left
+pub record Between (count : ℕ → ℕ) (n r low left : ℕ) : Type 0 where
+  pub some : 0 < left
+  pub bound : low + left ≤ n
+  pub at_most : count low ≤ r
+  pub above : low + left < n → r < count (low + left)
 
 module _ (count : ℕ → ℕ) (n r : ℕ) where
-  pub search_begins : Between count n r 0 n
-  search_begins =
-      record { order = omega arith; bound = omega arith; below = λ h. absurd (omega arith); above = λ h. absurd (omega arith) }
+  pub search_begins : 0 < n → count 0 ≤ r → Between count n r 0 n
+  search_begins some z = record { some = some; bound = omega arith; at_most = z; above = λ h. absurd (omega arith) }
 
-  pub goes_up : (low high : ℕ) → Between count n r low high → low < high → count (low + (high - low) / 2) ≤ r
-      → Between count n r (low + (high - low) / 2 + 1) high
-  goes_up low high b h le =
-      let middle = low + (high - low) / 2 in
-      let e : middle + 1 - 1 ≡ middle = omega arith in
-      record { order = omega arith; bound = b.bound; below = λ _. subst (λ k. count k ≤ r) (sym e) le; above = b.above }
+  pub goes_up : (low left : ℕ) → Between count n r low left → 1 < left → count (low + left / 2) ≤ r
+      → Between count n r (low + left / 2) (left - left / 2)
+  goes_up low left b h le =
+      let e : low + left / 2 + (left - left / 2) ≡ low + left = omega arith in
+      record {
+        some = omega arith;
+        bound = omega (arith, b.bound);
+        at_most = le;
+        above = λ m. subst (λ k. r < count k) (sym e) (b.above (omega arith));
+      }
 
-  pub goes_down : (low high : ℕ) → Between count n r low high → low < high → r < count (low + (high - low) / 2)
-      → Between count n r low (low + (high - low) / 2)
-  goes_down low high b h lt = record { order = omega arith; bound = omega (arith, b.bound); below = b.below; above = λ _. lt }
+  pub goes_down : (low left : ℕ) → Between count n r low left → 1 < left → r < count (low + left / 2)
+      → ((j k : ℕ) → j ≤ k → k < n → count j ≤ count k) → Between count n r low (left - left / 2)
+  goes_down low left b h lt rise =
+      record {
+        some = omega arith;
+        bound = omega (arith, b.bound);
+        at_most = b.at_most;
+        above = λ m. omega (arith, lt, rise (low + left / 2) (low + (left - left / 2)) (omega arith) m);
+      }
 
-  pub search_ends : (low high : ℕ) → Between count n r low high → high ≤ low → count 0 ≤ r → 0 < n
-      → (0 < low) × IsLast count n r (low - 1)
-  search_ends low high b h z some =
-      let same : high ≡ low = omega (arith, b.order) in
-      let pos : 0 < low =
-      elim (eq-zero-or-pos low) [
-        | inl e ↦
-            let none : high ≡ 0 = omega arith in
-            let over : r < count 0 = subst (λ k. r < count k) none (b.above (omega arith)) in
-            absurd (omega arith)
-        | inr p ↦ p
-      ] in
-      let e : low - 1 + 1 ≡ high = omega arith in
-      let next : low - 1 + 1 < n → r < count (low - 1 + 1) = λ m. subst (λ k. r < count k) (sym e) (b.above (omega arith)) in
-      (pos, record { inside = omega (arith, b.bound); at_most = b.below pos; next = next })
+  pub search_ends : (low left : ℕ) → Between count n r low left → left ≤ 1 → IsLast count n r low
+  search_ends low left b h =
+      let e : low + 1 ≡ low + left = omega (arith, b.some) in
+      let next : low + 1 < n → r < count (low + 1) = λ m. subst (λ k. r < count k) (sym e) (b.above (omega arith)) in
+      record { inside = omega (arith, b.bound, b.some); at_most = b.at_most; next = next }
 
 -- ---- binary digits
 
@@ -85,6 +84,10 @@ pub digit_count_most : (k n : ℕ) → n < 2 ^ k → digit_count n ≤ k
 unfolding digit_count
 digit_count_most k n h = most_in n k n h
 
--- a search that looks at one of s items has at most half of them left
+-- the number halved has one digit less, and a smaller one no more
 pub search_step : (s t : ℕ) → 0 < s → t ≤ s / 2 → digit_count t + 1 ≤ digit_count s
 search_step s t h l = omega (arith, digit_count_half s h, digit_count-mono t (s / 2) l)
+
+-- a test leaves half of what was left, rounded up
+pub halves_left : (left : ℕ) → 1 < left → digit_count (left - left / 2 - 1) + 1 ≤ digit_count (left - 1)
+halves_left left h = search_step (left - 1) (left - left / 2 - 1) (omega arith) (omega arith)

@@ -69,6 +69,17 @@ pub first_none : (b : List Bool) (k : ℕ) → before_in_part b (k * 2 ^ 21 + 0)
 first_none b k =
     let e : (k * 2 ^ 21 + 0) / 2 ^ 21 * 2 ^ 32 ≡ 2048 * (k * 2 ^ 21 + 0) = omega arith in rw e (omega arith)
 
+-- the counts before parts rise, and those before the entries of a part
+pub parts_rise : (m : List Bool) (j k : ℕ) → j ≤ k → ones_before m (j * 2 ^ 32) ≤ ones_before m (k * 2 ^ 32)
+parts_rise m j k h = (ones_before-between m (j * 2 ^ 32) (k * 2 ^ 32) (omega arith)).0
+
+pub entries_rise : (m : List Bool) (part j k : ℕ) → j ≤ k → k < 2 ^ 21
+    → before_in_part m (part * 2 ^ 21 + j) ≤ before_in_part m (part * 2 ^ 21 + k)
+entries_rise m part j k h l =
+    let same : (part * 2 ^ 21 + j) / 2 ^ 21 * 2 ^ 32 ≡ (part * 2 ^ 21 + k) / 2 ^ 21 * 2 ^ 32 = omega arith in
+    let g = ones_before-between m (2048 * (part * 2 ^ 21 + j)) (2048 * (part * 2 ^ 21 + k)) (omega arith) in
+    omega (arith, g.0, ap (ones_before m) same)
+
 -- ---- the record chosen: r is the rank in the part, e the entry there, and k the record in the entry
 
 module _ (words upper lower : List ℕ) (t : AreTablesOf (bits_of words) upper lower) (m : List Bool) (part r e k : ℕ)

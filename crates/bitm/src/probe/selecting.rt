@@ -39,16 +39,15 @@ pub(crate) fn last_part<const ONE: u8, T: TableSource>(source: &mut T, rank: usi
     ensures same { T.lists source.new ≡ T.lists source.old }
 {
     let mut low = 0;
-    let mut high = source.upper_len();
-    while low < high {
-        let middle = low + (high - low) / 2;
-        if before_part::<ONE, T>(source, middle) <= rank {
-            low = middle + 1;
-        } else {
-            high = middle;
+    let mut left = source.upper_len();
+    while left > 1 {
+        let half = left / 2;
+        if before_part::<ONE, T>(source, low + half) <= rank {
+            low += half;
         }
+        left -= half;
     }
-    low - 1
+    low
 }
 
 /// Lower entry `at` of the bits in which ones are sought.
@@ -80,16 +79,15 @@ fn last_entry<const ONE: u8, T: TableSource>(source: &mut T, part: usize, rank: 
 {
     let first = part * L2_ENTRIES_PER_L1_ENTRY;
     let mut low = 0;
-    let mut high = (source.lower_len() - first).min(L2_ENTRIES_PER_L1_ENTRY);
-    while low < high {
-        let middle = low + (high - low) / 2;
-        if ones_to_entry(entry_of::<ONE, T>(source, first + middle)) <= rank {
-            low = middle + 1;
-        } else {
-            high = middle;
+    let mut left = (source.lower_len() - first).min(L2_ENTRIES_PER_L1_ENTRY);
+    while left > 1 {
+        let half = left / 2;
+        if ones_to_entry(entry_of::<ONE, T>(source, first + low + half)) <= rank {
+            low += half;
         }
+        left -= half;
     }
-    low - 1
+    low
 }
 
 /// The record of an entry that has the one with this rank, and the ones of the entry before that record.

@@ -6,18 +6,18 @@ use Rattle.bitm.proofs.lemmas.SearchLemmas.{Between}
 use Rattle.bitm.proofs.probe.selecting.last_entry.Given as goal
 
 -- where the last entry is, and no more reads than halvings
-abbrev pub invariant-loop-low : goal.invariant-loop-low
-invariant-loop-low g l =
+abbrev pub invariant-loop-left : goal.invariant-loop-left
+invariant-loop-left g l =
     let T = g.T.TableSource in
     let lists = T.lists l.fn.source in
     let m = sought_in g.row.ONE lists.words in
     record {
-      search : Between (λ j. before_in_part m (l.part * 2 ^ 21 + j)) (entries_from (length lists.lower) l.part) l.rank l.low l.high;
-      lower : (T.reads l.source).lower + digit_count (l.high - l.low) ≤ (T.reads l.fn.source).lower + 22;
+      search : Between (λ j. before_in_part m (l.part * 2 ^ 21 + j)) (entries_from (length lists.lower) l.part) l.rank l.low l.left;
+      lower : (T.reads l.source).lower + digit_count (l.left - 1) ≤ (T.reads l.fn.source).lower + 22;
       upper : (T.reads l.source).upper ≡ (T.reads l.fn.source).upper;
       words : (T.reads l.source).words ≡ (T.reads l.fn.source).words;
       same : T.lists l.source ≡ T.lists l.fn.source;
     }
 
-abbrev pub decreases-loop-low : goal.decreases-loop-low
-decreases-loop-low g l = l.high - l.low
+abbrev pub decreases-loop-left : goal.decreases-loop-left
+decreases-loop-left g l = l.left

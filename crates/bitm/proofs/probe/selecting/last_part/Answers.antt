@@ -1,85 +1,71 @@
 -- Each test halves what is left, and tells on which side the last part is.
-use Rattle.std.proofs.Common.{◌≡◌, ℕ, ◌+◌, ◌*◌, ◌-◌, ◌/◌, ◌^◌, ◌<◌, ◌≤◌, length, ap, ◌∙◌, subst, arith}
+use Rattle.std.proofs.Common.{◌≡◌, ℕ, ◌+◌, ◌*◌, ◌-◌, ◌/◌, ◌^◌, ◌<◌, ◌≤◌, length, refl, ap, sym, ◌∙◌, subst, arith}
 use Rattle.bitm_bits.proofs.lemmas.CountLemmas.{ones_before_none}
 use Rattle.bitm_bits.specs.Count.{ones_before}
-use Rattle.bitm.specs.Search.{IsLastPart, sought_in}
+use Rattle.bitm.specs.Search.{sought_in}
 use Rattle.bitm.specs.Tables.{Lists}
 use Rattle.bitm.specs.declared.probe.counts.ReadCounts.{ReadCounts}
-use Rattle.bitm.proofs.lemmas.SearchLemmas.{search_step, goes_up, goes_down, search_ends}
+use Rattle.bitm.proofs.lemmas.SearchLemmas.{Between, search_begins, goes_up, goes_down, search_ends, halves_left, digit_count-mono}
+use Rattle.bitm.proofs.lemmas.SoughtLemmas.{parts_rise}
 use Rattle.bitm.proofs.probe.selecting.last_part.Goals as goal
-use Rattle.bitm.proofs.probe.selecting.last_part.Goals.{After-before_part, After-loop-low}
+use Rattle.bitm.proofs.probe.selecting.last_part.Goals.{After-before_part, then-before_part-rank, else-before_part-rank}
+
+pub loop-left-init : goal.loop-left-init
+loop-left-init g c =
+    let lists = g.T.TableSource.lists c.args.source.now in
+    let m = sought_in g.row.ONE lists.words in
+    let n = length lists.upper in
+    let count : ℕ → ℕ = λ k. ones_before m (k * 2 ^ 32) in
+    let begins = search_begins count n c.args.rank c.requires.some (omega (arith, ones_before_none m)) in
+    record {
+      search = subst (Between count n c.args.rank 0) (sym c.upper_len-left.ensures) begins;
+      upper = omega (arith, digit_count-mono (c.upper_len-left.result - 1) n (omega (arith, c.upper_len-left.ensures)));
+      lower = refl {A = ℕ};
+      words = refl {A = ℕ};
+      same = refl {A = Lists};
+    }
 
 count : (g : _) (c : After-before_part g)
     → c.before_part.result
     ≡ ones_before (sought_in g.row.ONE (g.T.TableSource.lists c.args.source.now).words)
-    ((c.loop-low.low + (c.loop-low.high - c.loop-low.low) / 2) * 2 ^ 32)
+    ((c.loop-left.low + c.loop-left.left / 2) * 2 ^ 32)
 count g c =
-    let at = (c.loop-low.low + (c.loop-low.high - c.loop-low.low) / 2) * 2 ^ 32 in
-    c.before_part.ensures.count ∙ ap (λ (l : Lists). ones_before (sought_in g.row.ONE l.words) at) c.loop-low.invariant.same
+    let at = (c.loop-left.low + c.loop-left.left / 2) * 2 ^ 32 in
+    c.before_part.ensures.count ∙ ap (λ (l : Lists). ones_before (sought_in g.row.ONE l.words) at) c.loop-left.invariant.same
 
-pub loop-low-preserved-then-before_part-rank : goal.loop-low-preserved-then-before_part-rank
-loop-low-preserved-then-before_part-rank g c =
-    let i = c.loop-low.invariant in
+pub loop-left-preserved : goal.loop-left-preserved
+loop-left-preserved g c =
+    let i = c.loop-left.invariant in
     let e = c.before_part.ensures in
     let lists = g.T.TableSource.lists c.args.source.now in
     let m = sought_in g.row.ONE lists.words in
-    let low = c.loop-low.low in
-    let high = c.loop-low.high in
-    let d = (goal.at.loop-low-preserved-then-before_part-rank g c).After-before_part in
-    let at_most = subst (λ (n : ℕ). n ≤ c.args.rank) (count g d) c.if-before_part-rank.true in
+    let n = length lists.upper in
+    let low = c.loop-left.low in
+    let left = c.loop-left.left in
+    let d = (goal.at.loop-left-preserved g c).After-before_part in
+    let counts : ℕ → ℕ = λ k. ones_before m (k * 2 ^ 32) in
+    let search : Between counts n c.args.rank c.if-before_part-rank.low (left - left / 2) =
+    elim c.if-before_part-rank.branch [
+      | then-before_part-rank w ↦
+          let at_most = subst (λ (n : ℕ). n ≤ c.args.rank) (count g d) w.if-before_part-rank.true in
+          subst (λ (k : ℕ). Between counts n c.args.rank k (left - left / 2)) (sym w.low-is)
+          (goes_up counts n c.args.rank low left i.search c.loop-left-test.true at_most)
+      | else-before_part-rank w ↦
+          let above = subst (λ (n : ℕ). c.args.rank < n) (count g d) w.if-before_part-rank.false in
+          subst (λ (k : ℕ). Between counts n c.args.rank k (left - left / 2)) (sym w.low-is)
+          (goes_down counts n c.args.rank low left i.search c.loop-left-test.true above (λ j k h _. parts_rise m j k h))
+    ] in
     record {
-      search =
-          goes_up (λ k. ones_before m (k * 2 ^ 32)) (length lists.upper) c.args.rank low high i.search c.loop-low-test.true at_most;
-      upper =
-          omega (
-            arith,
-            i.upper,
-            ap (λ (r : ReadCounts). r.upper) e.counted,
-            search_step (high - low) (high - (low + (high - low) / 2 + 1)) (omega arith) (omega arith),
-          );
+      search = search;
+      upper = omega (arith, i.upper, ap (λ (r : ReadCounts). r.upper) e.counted, halves_left left c.loop-left-test.true);
       lower = ap (λ (r : ReadCounts). r.lower) e.counted ∙ i.lower;
       words = ap (λ (r : ReadCounts). r.words) e.counted ∙ i.words;
       same = e.same ∙ i.same;
     }
-
-pub loop-low-preserved : goal.loop-low-preserved
-loop-low-preserved g c =
-    let i = c.loop-low.invariant in
-    let e = c.before_part.ensures in
-    let lists = g.T.TableSource.lists c.args.source.now in
-    let m = sought_in g.row.ONE lists.words in
-    let low = c.loop-low.low in
-    let high = c.loop-low.high in
-    let d = (goal.at.loop-low-preserved g c).After-before_part in
-    let above = subst (λ (n : ℕ). c.args.rank < n) (count g d) c.if-before_part-rank.false in
-    record {
-      search =
-          goes_down (λ k. ones_before m (k * 2 ^ 32)) (length lists.upper) c.args.rank low high i.search c.loop-low-test.true above;
-      upper =
-          omega (
-            arith,
-            i.upper,
-            ap (λ (r : ReadCounts). r.upper) e.counted,
-            search_step (high - low) (low + (high - low) / 2 - low) (omega arith) (omega arith),
-          );
-      lower = ap (λ (r : ReadCounts). r.lower) e.counted ∙ i.lower;
-      words = ap (λ (r : ReadCounts). r.words) e.counted ∙ i.words;
-      same = e.same ∙ i.same;
-    }
-
-last : (g : _) (c : After-loop-low g) → c.loop-low.high ≤ c.loop-low.low
-    → (0 < c.loop-low.low)
-    × IsLastPart (sought_in g.row.ONE (g.T.TableSource.lists c.args.source.now).words)
-    (length (g.T.TableSource.lists c.args.source.now).upper)
-    c.args.rank (c.loop-low.low - 1)
-last g c h =
-    let lists = g.T.TableSource.lists c.args.source.now in
-    let m = sought_in g.row.ONE lists.words in
-    search_ends (λ k. ones_before m (k * 2 ^ 32)) (length lists.upper) c.args.rank c.loop-low.low c.loop-low.high
-    c.loop-low.invariant.search h (omega (arith, ones_before_none m)) c.requires.some
-
-pub overflow_sub-result : goal.overflow_sub-result
-overflow_sub-result g c = (last g (goal.at.overflow_sub-result g c).After-loop-low c.loop-low-test.false).0
 
 pub returns-clause-last : goal.returns-clause-last
-returns-clause-last g c = (last g (goal.at.returns-clause-last g c).After-loop-low c.loop-low-test.false).1
+returns-clause-last g c =
+    let lists = g.T.TableSource.lists c.args.source.now in
+    let m = sought_in g.row.ONE lists.words in
+    search_ends (λ k. ones_before m (k * 2 ^ 32)) (length lists.upper) c.args.rank c.loop-left.low c.loop-left.left
+    c.loop-left.invariant.search c.loop-left-test.false
