@@ -50,6 +50,7 @@ mod content;
 mod fault;
 mod finds;
 mod found;
+mod index;
 mod ranks;
 mod replay;
 mod report;

@@ -5,11 +5,11 @@ ghost use Rattle.bitm.specs.Tables.{IsIndexable};
 use crate::content::State;
 use crate::fault::Fault;
 use crate::found::Found;
-use crate::text;
 use crate::text::Base;
+use crate::{index, text};
 use bitm::{
     AdaptiveCombinedSamplingDensity as Adaptive, CombinedSampling, CombinedSamplingDensity,
-    ConstCombinedSamplingDensity as Const, RankSelect101111, optimal_combined_sampling,
+    ConstCombinedSamplingDensity as Const, optimal_combined_sampling,
 };
 use std::alloc::Global;
 
@@ -57,13 +57,7 @@ fn compare_at<'a, D: CombinedSamplingDensity>(
 ) -> Result<(), Fault>
     requires { IsIndexable words.now }
 {
-    let Ok((index, ones)) = RankSelect101111::<
-        CombinedSampling<D>,
-        CombinedSampling<D>,
-        &[u64],
-    >::build(alloc, words) else {
-        return Err(Fault::NoMemory);
-    };
+    let (index, ones) = index::build::<CombinedSampling<D>>(alloc, words)?;
     let len = 64 * words.len();
     let items = items_among(claim.of_ones, ones, len);
     let logarithm = D::items_per_sample_log2(D::density_for(items, len));
@@ -98,7 +92,7 @@ fn compare<'a>(
     }
 }
 
-/// Compares the logarithm of a density, and the number of samples with that of the samples in a list.
+/// Compares the logarithm of a density, and the number of samples with the length of a list of them.
 pub fn samples<'a>(
     alloc: Global,
     state: &State<'a>,
@@ -132,7 +126,7 @@ pub fn samplesat<'a>(
     )
 }
 
-/// The logarithms that are chosen for a share of items, each below one of the greatest ones that the lines speak of.
+/// The logarithms that are chosen for a share of items, one for each greatest result that the lines speak of.
 fn chosen(n: usize, len: usize) -> [u64; 6] {
     [
         u64::from(optimal_combined_sampling(n, len, 7)),

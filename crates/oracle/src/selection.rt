@@ -4,11 +4,11 @@ ghost use Rattle.bitm.specs.Tables.{IsIndexable};
 use crate::content::State;
 use crate::fault::Fault;
 use crate::found::Found;
-use crate::text;
 use crate::text::Base;
+use crate::{index, text};
 use bitm::{
-    AdaptiveCombinedSamplingDensity, BinaryRankSearch, CombinedSampling, RankSelect101111, Select,
-    Select0, Select0ForRank101111, SelectForRank101111,
+    AdaptiveCombinedSamplingDensity, BinaryRankSearch, CombinedSampling, Select, Select0,
+    Select0ForRank101111, SelectForRank101111,
 };
 use std::alloc::Global;
 
@@ -24,9 +24,7 @@ fn select_by<'a, S: SelectForRank101111 + Select0ForRank101111>(
 ) -> Result<(), Fault>
     requires { IsIndexable words.now }
 {
-    let Ok((index, _)) = RankSelect101111::<S, S, &[u64]>::build(alloc, words) else {
-        return Err(Fault::NoMemory);
-    };
+    let (index, _) = index::build::<S>(alloc, words)?;
     for pair in pairs.split_ascii_whitespace() {
         let (argument, theirs) = text::pair(pair)?;
         let ours = index.try_select(text::place(argument)?);
@@ -49,9 +47,7 @@ fn select0_by<'a, S: SelectForRank101111 + Select0ForRank101111>(
 ) -> Result<(), Fault>
     requires { IsIndexable words.now }
 {
-    let Ok((index, _)) = RankSelect101111::<S, S, &[u64]>::build(alloc, words) else {
-        return Err(Fault::NoMemory);
-    };
+    let (index, _) = index::build::<S>(alloc, words)?;
     for pair in pairs.split_ascii_whitespace() {
         let (argument, theirs) = text::pair(pair)?;
         let ours = index.try_select0(text::place(argument)?);

@@ -1,26 +1,11 @@
 //! The two tables of an index: the kinds `l1` and `l2`.
-ghost use Rattle.bitm.specs.Tables.{IsIndexable};
-
 use crate::content::State;
 use crate::fault::Fault;
 use crate::found::Found;
-use crate::text;
 use crate::text::Base;
-use bitm::{BinaryRankSearch, RankSelect101111};
+use crate::{index, text};
+use bitm::BinaryRankSearch;
 use std::alloc::Global;
-
-/// An index that keeps nothing beside its two tables.
-type Index<'a> = RankSelect101111<BinaryRankSearch, BinaryRankSearch, &'a [u64]>;
-
-/// An index over the words.
-fn build<'a>(alloc: Global, words: &'a [u64]) -> Result<Index<'a>, Fault>
-    requires { IsIndexable words.now }
-{
-    match RankSelect101111::build(alloc, words) {
-        Ok((index, _)) => Ok(index),
-        Err(_) => Err(Fault::NoMemory),
-    }
-}
 
 /// Compares the upper table.
 pub fn l1<'a>(
@@ -30,7 +15,7 @@ pub fn l1<'a>(
     found: &mut Found<'a>,
 ) -> Result<(), Fault> {
     let (words, theirs) = state.content(line)?;
-    let index = build(alloc, words)?;
+    let (index, _) = index::build::<BinaryRankSearch>(alloc, words)?;
     let ours: Vec<u64> = index
         .l1ranks()
         .iter()
@@ -49,7 +34,7 @@ pub fn l2<'a>(
     found: &mut Found<'a>,
 ) -> Result<(), Fault> {
     let (words, theirs) = state.content(line)?;
-    let index = build(alloc, words)?;
+    let (index, _) = index::build::<BinaryRankSearch>(alloc, words)?;
     let theirs = text::list(alloc, theirs, Base::Hexadecimal)?;
     found.compare_lists(line, Base::Hexadecimal, index.l2ranks(), theirs.as_slice());
     Ok(())

@@ -8,4 +8,4 @@ use Rattle.oracle.proofs.samples.compare_at.Goals as goal
 pub items_among-items-requires : goal.items_among-items-requires
 items_among-items-requires g c =
     let b = bits_of c.args.words.now in
-    omega (arith, c.in-Ok.ensures.total, length-bits_of c.args.words.now, ones_before-add-zeros_before b (length b) (omega arith))
+    omega (arith, length-bits_of c.args.words.now, ones_before-add-zeros_before b (length b) (omega arith))
