@@ -1,6 +1,6 @@
 //! The content and the bytes that the lines speak of.
 ghost use Rattle.std.specs.Prelude.{IfOk};
-ghost use Rattle.bitm_bits.specs.Bits.{IsShort};
+ghost use Rattle.bitm.specs.Tables.{IsIndexable};
 
 use crate::fault::Fault;
 use crate::found::Found;
@@ -56,12 +56,12 @@ impl<'a> State<'a> {
 
     /// The words of the content that the first word of a line names, and what follows it.
     pub fn content(&self, line: &'a str) -> Result<(&[u64], &'a str), Fault>
-        ensures { IfOk result (λ found. IsShort found.0.now) }
+        ensures { IfOk result (λ found. IsIndexable found.0.now) }
     {
         let (name, rest) = text::first_word(line);
         match &self.content {
             Some(content) if content.name == name => {
-                if content.words.len() < 1 << 58 {
+                if content.words.len() < 1 << 56 {
                     Ok((content.words.as_slice(), rest))
                 } else {
                     Err(Fault::Condition)

@@ -116,6 +116,11 @@ impl<'a> Found<'a> {
         Ok(())
     }
 
+    /// Compares two numbers.
+    pub fn compare_numbers(&mut self, argument: &'a str, ours: u64, theirs: u64) {
+        self.compare_values(argument, None, Base::Decimal, Some(ours), Some(theirs));
+    }
+
     /// Compares two lists item by item: where one is longer, its items differ from `None`.
     pub fn compare_lists(&mut self, argument: &'a str, base: Base, ours: &[u64], theirs: &[u64]) {
         for item in 0..ours.len().max(theirs.len()) {

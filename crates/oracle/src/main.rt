@@ -13,6 +13,11 @@
 //! ones ID TOTAL                        how many ones there are
 //! rank ID I:V..  rank0 ID I:V..        `try_rank`, `try_rank0`
 //! simple ID N..                        the ones before each begun run of 512 bits
+//! l1 ID N..  l2 ID WORDS               the upper and the lower table of an index
+//! select ID R:P..  select0 ID R:P..    `try_select`, `try_select0`
+//! samples ID KIND B D BEGINS / WORDS   the samples of ones (B 1) or zeros (B 0), after where those of each part begin
+//! samplesat ID KIND B D COUNT BEGINS / J:WORD..   the same where there are many: COUNT of them, some by their place J
+//! ocs LEN N V..                        `optimal_combined_sampling(N, LEN, M)` for M 7, 8, 13, 14, 15 and 31
 //! bits ID B,L:V..  raw ID B,L:V..      `try_get_bits`, `try_get_bits_unmasked`, V hexadecimal
 //! find ID S:V..  rfind ID S:V..        `find_bit_one`, `rfind_bit_one_unchecked`
 //! trail ID V                           `trailing_zero_bits`
@@ -30,8 +35,12 @@
 //! get25, init25, set25                 likewise
 //! ```
 //!
-//! A line of a kind that is still to come is counted as not replayed. The program prints each difference, up to ten, and a
-//! line for each kind, and ends with status 0 where nothing differs.
+//! `try_select` and `try_select0` are compared both by binary search and by samples. KIND is a density, cM one that is
+//! the same for each content and aM an adaptive one, and D its logarithm. Samples are private to `bitm`: their number and
+//! D are compared, and no sample.
+//!
+//! The program prints each difference, up to ten, and a line for each kind, and ends with status 0 where nothing
+//! differs.
 #![tactic(auto)]
 
 mod bits;
@@ -41,9 +50,13 @@ mod content;
 mod fault;
 mod finds;
 mod found;
+mod index;
 mod ranks;
 mod replay;
 mod report;
+mod samples;
+mod selection;
+mod tables;
 mod text;
 mod word;
 mod writes;

@@ -3,7 +3,7 @@ use crate::content::State;
 use crate::fault::Fault;
 use crate::found::{Difference, Found};
 use crate::report::Report;
-use crate::{bits, bytes, finds, ranks, text, word, writes};
+use crate::{bits, bytes, finds, ranks, samples, selection, tables, text, word, writes};
 use std::alloc::{AllocError, Global};
 
 /// What all lines of a text show.
@@ -15,10 +15,6 @@ pub fn replay<'a>(alloc: Global, text: &'a str) -> Result<Report<'a>, AllocError
             continue;
         }
         let (kind, rest) = text::first_word(line);
-        if is_to_come(kind) {
-            report.skip();
-            continue;
-        }
         let mut found = Found::new(alloc);
         if let Err(fault) = replay_line(alloc, &mut state, kind, rest, &mut found) {
             found.differs(Difference::Fault(fault));
@@ -28,15 +24,7 @@ pub fn replay<'a>(alloc: Global, text: &'a str) -> Result<Report<'a>, AllocError
     Ok(report)
 }
 
-/// Whether lines of this kind are known, but not replayed yet.
-fn is_to_come(kind: &str) -> bool {
-    matches!(
-        kind,
-        "l1" | "l2" | "select" | "select0" | "samples" | "samplesat" | "ocs"
-    )
-}
-
-/// Replays what follows the kind of a line: here the kinds that set or name a content.
+/// Replays what follows the kind of a line: here the kinds of an index over a content.
 fn replay_line<'a>(
     alloc: Global,
     state: &mut State<'a>,
@@ -45,11 +33,30 @@ fn replay_line<'a>(
     found: &mut Found<'a>,
 ) -> Result<(), Fault> {
     match kind {
-        "content" => state.set_content(alloc, line, found),
         "ones" => ranks::ones(alloc, state, line, found),
         "simple" => ranks::simple(alloc, state, line, found),
         "rank" => ranks::rank(alloc, state, line, found),
         "rank0" => ranks::rank0(alloc, state, line, found),
+        "l1" => tables::l1(alloc, state, line, found),
+        "l2" => tables::l2(alloc, state, line, found),
+        "select" => selection::select(alloc, state, line, found),
+        "select0" => selection::select0(alloc, state, line, found),
+        "samples" => samples::samples(alloc, state, line, found),
+        "samplesat" => samples::samplesat(alloc, state, line, found),
+        _ => replay_content(alloc, state, kind, line, found),
+    }
+}
+
+/// Replays what follows the kind of a line: here the other kinds that set or name a content.
+fn replay_content<'a>(
+    alloc: Global,
+    state: &mut State<'a>,
+    kind: &str,
+    line: &'a str,
+    found: &mut Found<'a>,
+) -> Result<(), Fault> {
+    match kind {
+        "content" => state.set_content(alloc, line, found),
         "bits" => bits::bits(state, line, found),
         "raw" => bits::raw(state, line, found),
         "find" => finds::find(state, line, found),
@@ -73,6 +80,7 @@ fn replay_apart<'a>(
     match kind {
         "init" => writes::init(alloc, line, found),
         "sel64" => word::sel64(alloc, line, found),
+        "ocs" => samples::ocs(alloc, line, found),
         "ceil" => word::ceil(line, found),
         "store" => word::store(line, found),
         "bytes" => state.set_bytes(alloc, line),

@@ -47,7 +47,6 @@ struct Located<'a> {
 pub struct Report<'a> {
     tallies: Vec<Tally<'a>>,
     differences: Vec<Located<'a>>,
-    not_replayed: u64,
 }
 
 impl<'a> Report<'a> {
@@ -56,13 +55,7 @@ impl<'a> Report<'a> {
         Report {
             tallies: Vec::new(alloc),
             differences: Vec::new(alloc),
-            not_replayed: 0,
         }
-    }
-
-    /// Counts a line that is not replayed.
-    pub fn skip(&mut self) {
-        self.not_replayed = self.not_replayed.saturating_add(1);
     }
 
     /// Adds what a line shows; lines before it are `index`.
@@ -108,7 +101,6 @@ impl<'a> Report<'a> {
             } = tally;
             println!(rt; "{kind} {lines} lines, {answers} answers, {differ} differ")?;
         }
-        let count = self.not_replayed;
-        println!(rt; "not replayed {count} lines")
+        Ok(())
     }
 }

@@ -1,0 +1,41 @@
+//! The two tables of an index: the kinds `l1` and `l2`.
+use crate::content::State;
+use crate::fault::Fault;
+use crate::found::Found;
+use crate::text::Base;
+use crate::{index, text};
+use bitm::BinaryRankSearch;
+use std::alloc::Global;
+
+/// Compares the upper table.
+pub fn l1<'a>(
+    alloc: Global,
+    state: &State<'a>,
+    line: &'a str,
+    found: &mut Found<'a>,
+) -> Result<(), Fault> {
+    let (words, theirs) = state.content(line)?;
+    let (index, _) = index::build::<BinaryRankSearch>(alloc, words)?;
+    let ours: Vec<u64> = index
+        .l1ranks()
+        .iter()
+        .map(|count| *count as u64)
+        .collect(alloc)?;
+    let theirs = text::list(alloc, theirs, Base::Decimal)?;
+    found.compare_lists(line, Base::Decimal, ours.as_slice(), theirs.as_slice());
+    Ok(())
+}
+
+/// Compares the lower table.
+pub fn l2<'a>(
+    alloc: Global,
+    state: &State<'a>,
+    line: &'a str,
+    found: &mut Found<'a>,
+) -> Result<(), Fault> {
+    let (words, theirs) = state.content(line)?;
+    let (index, _) = index::build::<BinaryRankSearch>(alloc, words)?;
+    let theirs = text::list(alloc, theirs, Base::Hexadecimal)?;
+    found.compare_lists(line, Base::Hexadecimal, index.l2ranks(), theirs.as_slice());
+    Ok(())
+}
