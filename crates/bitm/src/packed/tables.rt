@@ -51,9 +51,12 @@ fn ones_of_record(words: &[u64], first: usize) -> usize
         ≡ ones_before (bits_of words.now) (64 * (first + 8)) }
     ensures most { result ≤ 512 }
 {
-    let start = words.len().min(first);
-    let end = words.len().min(first + U64_PER_L2_RECORDS);
-    words::count_bit_ones(&words[start..end])
+    let end = first + U64_PER_L2_RECORDS;
+    if end <= words.len() {
+        words::count_bit_ones(&words[first..end])
+    } else {
+        words::count_bit_ones(&words[words.len().min(first)..])
+    }
 }
 
 /// Lower entry `at`, where `before` ones stand before it in its part, and the number of ones in it.
