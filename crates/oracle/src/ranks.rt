@@ -5,9 +5,9 @@ ghost use Rattle.bitm_bits.specs.Bits.{IsShort};
 use crate::content::State;
 use crate::fault::Fault;
 use crate::found::Found;
-use crate::text;
 use crate::text::Base;
-use bitm::{Rank, RankSimple, words};
+use crate::{index, text};
+use bitm::{BinaryRankSearch, Rank, RankSimple, words};
 use std::alloc::{AllocError, Global};
 use std::convert::AsSlice;
 
@@ -62,7 +62,37 @@ pub fn simple<'a>(
     Ok(())
 }
 
-/// Compares the ones before places.
+/// Compares the ones before places, as an index counts them.
+fn rank_by<'a, I: Rank>(index: &I, pairs: &'a str, found: &mut Found<'a>) -> Result<(), Fault> {
+    for pair in pairs.split_ascii_whitespace() {
+        let (argument, theirs) = text::pair(pair)?;
+        let ours = index.try_rank(text::place(argument)?);
+        found.compare(
+            argument,
+            Base::Decimal,
+            ours.map(|count| count as u64),
+            theirs,
+        )?;
+    }
+    Ok(())
+}
+
+/// Compares the zeros before places, as an index counts them.
+fn rank0_by<'a, I: Rank>(index: &I, pairs: &'a str, found: &mut Found<'a>) -> Result<(), Fault> {
+    for pair in pairs.split_ascii_whitespace() {
+        let (argument, theirs) = text::pair(pair)?;
+        let ours = index.try_rank0(text::place(argument)?);
+        found.compare(
+            argument,
+            Base::Decimal,
+            ours.map(|count| count as u64),
+            theirs,
+        )?;
+    }
+    Ok(())
+}
+
+/// Compares the ones before places, by the simple rank and by the tables of an index.
 pub fn rank<'a>(
     alloc: Global,
     state: &State<'a>,
@@ -70,16 +100,13 @@ pub fn rank<'a>(
     found: &mut Found<'a>,
 ) -> Result<(), Fault> {
     let (words, pairs) = state.content(line)?;
-    let (index, _) = build(alloc, words)?;
-    for pair in pairs.split_ascii_whitespace() {
-        let (argument, theirs) = text::pair(pair)?;
-        let ours = index.try_rank(text::place(argument)?).map(u64::from);
-        found.compare(argument, Base::Decimal, ours, theirs)?;
-    }
-    Ok(())
+    let (simple, _) = build(alloc, words)?;
+    rank_by(&simple, pairs, found)?;
+    let (index, _) = index::build::<BinaryRankSearch>(alloc, words)?;
+    rank_by(&index, pairs, found)
 }
 
-/// Compares the zeros before places.
+/// Compares the zeros before places, by the simple rank and by the tables of an index.
 pub fn rank0<'a>(
     alloc: Global,
     state: &State<'a>,
@@ -87,13 +114,8 @@ pub fn rank0<'a>(
     found: &mut Found<'a>,
 ) -> Result<(), Fault> {
     let (words, pairs) = state.content(line)?;
-    let (index, _) = build(alloc, words)?;
-    for pair in pairs.split_ascii_whitespace() {
-        let (argument, theirs) = text::pair(pair)?;
-        let ours = index
-            .try_rank0(text::place(argument)?)
-            .map(|count| count as u64);
-        found.compare(argument, Base::Decimal, ours, theirs)?;
-    }
-    Ok(())
+    let (simple, _) = build(alloc, words)?;
+    rank0_by(&simple, pairs, found)?;
+    let (index, _) = index::build::<BinaryRankSearch>(alloc, words)?;
+    rank0_by(&index, pairs, found)
 }
