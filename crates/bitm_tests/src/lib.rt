@@ -3,6 +3,7 @@
 
 #[cfg(test)]
 mod contents;
+pub mod density;
 #[cfg(test)]
 mod large;
 #[cfg(test)]
@@ -10,6 +11,9 @@ mod odd_contents;
 #[cfg(test)]
 mod oracle_words;
 #[cfg(test)]
+mod own_strategies;
+#[cfg(test)]
 mod plain;
 #[cfg(test)]
 mod simple;
+pub mod strategies;
