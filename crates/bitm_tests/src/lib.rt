@@ -3,13 +3,23 @@
 
 #[cfg(test)]
 mod contents;
+pub mod density;
 #[cfg(test)]
 mod large;
 #[cfg(test)]
 mod odd_contents;
 #[cfg(test)]
+mod optimal;
+#[cfg(test)]
 mod oracle_words;
+#[cfg(test)]
+mod own_strategies;
 #[cfg(test)]
 mod plain;
 #[cfg(test)]
+mod samples;
+#[cfg(test)]
 mod simple;
+pub mod strategies;
+#[cfg(test)]
+mod tables;

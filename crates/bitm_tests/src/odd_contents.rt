@@ -6,7 +6,7 @@ use std::process::Abort;
 use std::test::Fail;
 
 /// Compares all answers over so many words: all zeros, all ones, and with the last bit alone set.
-fn expect_forms<S: SelectForRank101111, S0: Select0ForRank101111>(
+pub fn expect_forms<S: SelectForRank101111, S0: Select0ForRank101111>(
     rt: &impl Abort,
     alloc: Global,
     len: usize,

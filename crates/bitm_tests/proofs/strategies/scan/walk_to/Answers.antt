@@ -1,0 +1,12 @@
+-- The walk gives the item of the places at the rank.
+use Rattle.std.proofs.lemmas.Iterator.Consumers.{nth_from_yields_List, YieldsList-from_first}
+use Rattle.bitm_bits.specs.Bits.{bits_of}
+use Rattle.bitm_bits.specs.Count.{kind}
+use Rattle.bitm_tests.proofs.lemmas.ListLemmas.{IsSelect-item}
+use Rattle.bitm_tests.proofs.strategies.scan.walk_to.Goals as goal
+
+pub returns : goal.returns
+returns g c =
+    IsSelect-item (bits_of c.args.content.now) (kind g.row.B) c.args.rank c.nth.result
+    (nth_from_yields_List c.nth.result c.nth.new.self c.args.rank c.nth.ensures.ran
+    (YieldsList-from_first (λ x. x) (λ coming. coming) _ c.new.ensures))

@@ -1,0 +1,100 @@
+//! Selection by samples: how many are kept, and what the index selects by them.
+use crate::plain::{Sampled, indexed};
+use bitm::{
+    BinaryRankSearch, BitVec, CombinedSampling, ConstCombinedSamplingDensity, RankSelect101111,
+    Select, Select0,
+};
+use std::alloc::{AllocError, Global};
+use std::boxed::BoxedSlice;
+use std::convert::AsSlice;
+use std::process::Abort;
+use std::test::Fail;
+
+/// One sample for each 2^`LOG` items.
+type Each<const LOG: u8> = CombinedSampling<ConstCombinedSamplingDensity<LOG>>;
+
+/// What `select` answers, where there is an answer.
+fn selected<I: Select>(index: &I, rank: usize) -> Option<usize> {
+    index.try_select(rank)?;
+    Some(index.select(rank))
+}
+
+/// What `select0` answers, where there is an answer.
+fn selected0<I: Select0>(index: &I, rank: usize) -> Option<usize> {
+    index.try_select0(rank)?;
+    Some(index.select0(rank))
+}
+
+#[test]
+fn full_words(rt: HostRuntime) {
+    let words = [u64::MAX; 35];
+    let (index, _) = indexed::<Sampled, Sampled>(&rt, rt.alloc(), words.as_slice());
+    let entries = [0x8020_0600_0000_0000, 0x3006_00C0_0000_0800];
+    assert_eq!(rt; index.l2ranks(), entries.as_slice());
+    assert_eq!(rt; index.select_support().sample_count(), 1);
+    assert_eq!(rt; index.select0_support().sample_count(), 0);
+    assert_eq!(rt; selected(&index, 2239), Some(2239));
+    assert_eq!(rt; index.try_select0(0), None);
+}
+
+#[test]
+fn empty_words(rt: HostRuntime) {
+    let words = [0; 33];
+    let (index, _) = indexed::<BinaryRankSearch, Each<7>>(&rt, rt.alloc(), words.as_slice());
+    assert_eq!(rt; index.select0_support().sample_count(), 17);
+    assert_eq!(rt; selected0(&index, 2048), Some(2048));
+}
+
+#[test]
+fn a_logarithm_below_seven_is_seven(rt: HostRuntime) {
+    let words = [0; 33];
+    let (index, _) = indexed::<BinaryRankSearch, Each<3>>(&rt, rt.alloc(), words.as_slice());
+    assert_eq!(rt; index.select0_support().sample_count(), 17);
+    assert_eq!(rt; selected0(&index, 2048), Some(2048));
+}
+
+/// Words of which the first and the last are full and the others empty.
+fn full_ends(alloc: Global, len: usize) -> Result<BoxedSlice<u64, Global>, AllocError> {
+    let mut content = BoxedSlice::with_zeroed_64bit_segments(alloc, len)?;
+    let words = content.as_mut_slice();
+    if let Some(word) = words.first_mut() {
+        *word = u64::MAX;
+    }
+    if let Some(word) = words.last_mut() {
+        *word = u64::MAX;
+    }
+    Ok(content)
+}
+
+/// Compares what an index over full ends selects, by one sample, with the rows.
+fn expect_full_ends(
+    rt: &impl Abort,
+    alloc: Global,
+    len: usize,
+    rows: &[(usize, Option<usize>)],
+) -> Result<(), Fail> {
+    let content = full_ends(alloc, len)?;
+    assert!(rt; content.as_slice().len() < 100_000);
+    match RankSelect101111::<Each<7>, BinaryRankSearch, _>::build(alloc, content) {
+        Ok((index, _)) => {
+            assert_eq!(rt; index.select_support().sample_count(), 1);
+            for (rank, place) in rows {
+                assert_eq!(rt; selected(&index, *rank), *place, "rank {rank}");
+            }
+        }
+        Err(_) => panic!(rt; "no memory"),
+    }
+    Ok(())
+}
+
+#[test]
+fn ones_in_two_entries(rt: HostRuntime) -> Result<(), Fail> {
+    let rows = [(64, Some(4032)), (127, Some(4095))];
+    expect_full_ends(&rt, rt.alloc(), 64, rows.as_slice())
+}
+
+#[test]
+fn a_distance_above_what_a_sample_keeps(rt: HostRuntime) -> Result<(), Fail> {
+    let rows = [(63, Some(63)), (64, Some(6_144_000)), (128, None)];
+    expect_full_ends(&rt, rt.alloc(), 96_001, rows.as_slice())
+}

@@ -1,0 +1,82 @@
+//! Selection by a list of all places.
+ghost use Rattle.std.specs.Prelude.{◌≡◌, Bool, List, true, false, IfOk};
+ghost use Rattle.bitm_bits.specs.Bits.{bits_of, IsShort};
+ghost use Rattle.bitm_bits.specs.Count.{kind, places, IsSelect};
+
+use bitm::{BitBIterator, Select0ForRank101111, SelectForRank101111};
+use std::alloc::{AllocError, Global};
+use std::iter::Iterator;
+
+/// Selects by a look into the list of the places, which it keeps.
+#[derive(Drop)]
+pub struct Listed {
+    places: Vec<usize>,
+}
+
+/// The places of the bits of the kind.
+fn places_of<const B: u8>(alloc: Global, content: &[u64]) -> Result<Vec<usize>, AllocError>
+    requires { IsShort content.now }
+    ensures { IfOk result (λ list. list.items ≡ places (kind B) 0 (bits_of content.now)) }
+{
+    BitBIterator::<B>::new(content).collect(alloc)
+}
+
+impl Listed {
+    /// Item `rank` of the list: where it has the places of a kind of bit, what that rank picks.
+    fn look_up(&self, rank: usize) -> Option<usize>
+        ensures { (b : List Bool) (v : Bool) → self.now.places.items ≡ places v 0 b
+            → IsSelect b v rank result }
+    {
+        self.places.get(rank).copied()
+    }
+}
+
+impl SelectForRank101111 for Listed {
+    ghost supports = { λ it words. it.places.items ≡ places true 0 (bits_of words) };
+
+    fn new(
+        alloc: Global,
+        content: &[u64],
+        _l1ranks: &[usize],
+        _l2ranks: &[u64],
+        _total_rank: usize,
+    ) -> Result<Self, AllocError> {
+        let places = places_of::<1>(alloc, content)?;
+        Ok(Listed { places })
+    }
+
+    fn select(
+        &self,
+        _content: &[u64],
+        _l1ranks: &[usize],
+        _l2ranks: &[u64],
+        rank: usize,
+    ) -> Option<usize> {
+        self.look_up(rank)
+    }
+}
+
+impl Select0ForRank101111 for Listed {
+    ghost supports0 = { λ it words. it.places.items ≡ places false 0 (bits_of words) };
+
+    fn new0(
+        alloc: Global,
+        content: &[u64],
+        _l1ranks: &[usize],
+        _l2ranks: &[u64],
+        _total_rank: usize,
+    ) -> Result<Self, AllocError> {
+        let places = places_of::<0>(alloc, content)?;
+        Ok(Listed { places })
+    }
+
+    fn select0(
+        &self,
+        _content: &[u64],
+        _l1ranks: &[usize],
+        _l2ranks: &[u64],
+        rank: usize,
+    ) -> Option<usize> {
+        self.look_up(rank)
+    }
+}

@@ -1,0 +1,153 @@
+//! What an index keeps and counts: its tables, its size, and ranks of a few contents.
+use crate::plain::indexed;
+use bitm::{
+    ArrayWithRank101111, BinaryRankSearch, BitAccess, BitAccessMut, BitVec, GetSize, Rank,
+    RankSelect101111, Select, Select0, complement_entry, rank_on,
+};
+use std::alloc::Global;
+use std::boxed::BoxedSlice;
+use std::convert::AsSlice;
+use std::process::Abort;
+use std::test::Fail;
+
+/// An index over words that are lent.
+type Lent<'a> = RankSelect101111<BinaryRankSearch, BinaryRankSearch, &'a [u64]>;
+
+/// An index over the words, and the number of ones.
+fn built<'a>(rt: &impl Abort, alloc: Global, words: &'a [u64]) -> (Lent<'a>, usize) {
+    indexed::<BinaryRankSearch, BinaryRankSearch>(rt, alloc, words)
+}
+
+/// An index over words that it owns, and the number of ones.
+fn owned(
+    rt: &impl Abort,
+    alloc: Global,
+    content: BoxedSlice<u64, Global>,
+) -> (ArrayWithRank101111, usize) {
+    assert!(rt; content.as_slice().len() < 1000);
+    match RankSelect101111::build(alloc, content) {
+        Ok(built) => built,
+        Err(_) => panic!(rt; "no memory"),
+    }
+}
+
+/// What `rank` answers, where the place is inside.
+fn ranked<I: Rank>(index: &I, place: usize) -> Option<usize> {
+    if index.try_rank(place).is_some() {
+        Some(index.rank(place))
+    } else {
+        None
+    }
+}
+
+#[test]
+fn one_word(rt: HostRuntime) -> Result<(), Fail> {
+    let content = BoxedSlice::from_slice(rt.alloc(), [0b1101].as_slice())?;
+    let (index, total) = owned(&rt, rt.alloc(), content);
+    assert_eq!(rt; total, 3);
+    assert_eq!(rt; index.l1ranks(), [0].as_slice());
+    assert_eq!(rt; index.l2ranks(), [0x00C0_1803_0000_0000].as_slice());
+    assert_eq!(rt; ranked(&index, 2), Some(1));
+    assert_eq!(rt; (index.try_select(2), index.try_select(3)), (Some(3), None));
+    assert_eq!(rt; index.size_bytes_dyn(), 24);
+    Ok(())
+}
+
+#[test]
+fn no_words(rt: HostRuntime) {
+    let (index, total) = built(&rt, rt.alloc(), &[]);
+    assert_eq!(rt; total, 0);
+    assert_eq!(rt; index.try_rank(0), None);
+    assert_eq!(rt; (index.try_select(0), index.try_select0(0)), (None, None));
+    assert_eq!(rt; (index.l1ranks().len(), index.l2ranks().len()), (0, 0));
+}
+
+#[test]
+fn a_second_entry(rt: HostRuntime) {
+    let words = [0b1101; 60];
+    let (index, _) = built(&rt, rt.alloc(), words.as_slice());
+    let entries = [0x0601_8048_0000_0000, 0x0601_8048_0000_0060];
+    assert_eq!(rt; index.l2ranks(), entries.as_slice());
+}
+
+#[test]
+fn full_words(rt: HostRuntime) {
+    let words = [u64::MAX; 33];
+    let (index, total) = built(&rt, rt.alloc(), words.as_slice());
+    let entries = [0x8020_0600_0000_0000, 0x1002_0040_0000_0800];
+    assert_eq!(rt; index.l2ranks(), entries.as_slice());
+    assert_eq!(rt; total, 2112);
+    assert_eq!(rt; ranked(&index, 2048), Some(2048));
+    assert_eq!(rt; ranked(&index, 2111), Some(2111));
+    assert_eq!(rt; index.try_rank(2112), None);
+    assert_eq!(rt;
+        (index.try_select(2111), index.try_select(2112)),
+        (Some(2111), None)
+    );
+    assert_eq!(rt; index.try_select0(0), None);
+}
+
+#[test]
+fn empty_words(rt: HostRuntime) {
+    let words = [0; 33];
+    let (index, total) = built(&rt, rt.alloc(), words.as_slice());
+    assert_eq!(rt; index.l2ranks(), [0, 0].as_slice());
+    assert_eq!(rt; total, 0);
+    assert_eq!(rt; ranked(&index, 2111), Some(0));
+    assert_eq!(rt; index.try_rank0(2111), Some(2111));
+    assert_eq!(rt; index.try_select(0), None);
+    assert_eq!(rt;
+        (index.try_select0(2111), index.try_select0(2112)),
+        (Some(2111), None)
+    );
+}
+
+#[test]
+fn one_empty_word(rt: HostRuntime) {
+    let (index, _) = built(&rt, rt.alloc(), &[0]);
+    assert_eq!(rt; index.try_select(0), None);
+    assert_eq!(rt;
+        (index.try_select0(63), index.try_select0(64)),
+        (Some(63), None)
+    );
+}
+
+#[test]
+fn one_bit_of_many(rt: HostRuntime) -> Result<(), Fail> {
+    let mut content = BoxedSlice::with_zeroed_bits(rt.alloc(), 2048)?;
+    let mut bits = content.as_mut_slice();
+    bits.set_bit(100);
+    assert_eq!(rt; bits.get_bits(99, 5), 0b00010);
+    let (index, ones) = owned(&rt, rt.alloc(), content);
+    assert_eq!(rt; ones, 1);
+    for (place, count) in [(100, 0), (101, 1), (999, 1)] {
+        assert_eq!(rt; ranked(&index, place), Some(count));
+    }
+    Ok(())
+}
+
+#[test]
+fn rank_over_a_probe(rt: HostRuntime) {
+    let words = [0b1101; 60];
+    let (index, _) = built(&rt, rt.alloc(), words.as_slice());
+    for place in 0..3842 {
+        let mut probe = index.probe();
+        assert_eq!(rt; rank_on(&mut probe, place), index.try_rank(place));
+    }
+}
+
+#[test]
+fn entries_of_negated_bits(rt: HostRuntime) {
+    assert_eq!(rt;
+        complement_entry(0x00C0_1803_0000_0000, 0),
+        0x7F5F_EDFD_0000_0000
+    );
+    assert_eq!(rt;
+        complement_entry(0x0601_8048_0000_0060, 1),
+        0x7A1E_85B8_0000_07A0
+    );
+    assert_eq!(rt;
+        complement_entry(0x1002_0040_0000_0800, 1),
+        0x701E_05C0_0000_0000
+    );
+}
