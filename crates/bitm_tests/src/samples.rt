@@ -1,8 +1,8 @@
 //! Selection by samples: how many are kept, and what the index selects by them.
 use crate::plain::{Sampled, indexed};
 use bitm::{
-    BinaryRankSearch, BitVec, CombinedSampling, ConstCombinedSamplingDensity, RankSelect101111,
-    Select, Select0,
+    BinaryRankSearch, BitVec, CombinedSampling, ConstCombinedSamplingDensity, GetSize,
+    RankSelect101111, Select, Select0,
 };
 use std::alloc::{AllocError, Global};
 use std::boxed::BoxedSlice;
@@ -97,4 +97,16 @@ fn ones_in_two_entries(rt: HostRuntime) -> Result<(), Fail> {
 fn a_distance_above_what_a_sample_keeps(rt: HostRuntime) -> Result<(), Fail> {
     let rows = [(63, Some(63)), (64, Some(6_144_000)), (128, None)];
     expect_full_ends(&rt, rt.alloc(), 96_001, rows.as_slice())
+}
+
+#[test]
+fn sizes_are_those_of_the_parts(rt: HostRuntime) -> Result<(), Fail> {
+    let content = BoxedSlice::with_filled_64bit_segments(rt.alloc(), 35)?;
+    assert!(rt; content.as_slice().len() < 100_000);
+    match RankSelect101111::<Sampled, Sampled, _>::build(rt.alloc(), content) {
+        // 35 words, one upper and two lower entries, one sample and one start of ones, one start of zeros
+        Ok((index, _)) => assert_eq!(rt; index.size_bytes_dyn(), 280 + 8 + 16 + 4 + 8 + 8),
+        Err(_) => panic!(rt; "no memory"),
+    }
+    Ok(())
 }

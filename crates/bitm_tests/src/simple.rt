@@ -1,5 +1,5 @@
 //! The simple rank: ranks of full words, and generic code over its trait.
-use bitm::{ArrayWithRankSimple, Rank, RankSimple};
+use bitm::{ArrayWithRankSimple, GetSize, Rank, RankSimple};
 use std::alloc::Global;
 use std::boxed::BoxedSlice;
 use std::convert::AsSlice;
@@ -49,6 +49,7 @@ fn nine_full_words(rt: HostRuntime) -> Result<(), Fail> {
     expect_ranks(&rt, &index, rows.as_slice());
     assert_eq!(rt; index.try_rank(512), Some(512));
     assert_eq!(rt; index.try_rank(576), None);
+    assert_eq!(rt; index.size_bytes_dyn(), 80);
     Ok(())
 }
 
