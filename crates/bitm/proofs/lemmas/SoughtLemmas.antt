@@ -80,6 +80,41 @@ entries_rise m part j k h l =
     let g = ones_before-between m (2048 * (part * 2 ^ 21 + j)) (2048 * (part * 2 ^ 21 + k)) (omega arith) in
     omega (arith, g.0, ap (ones_before m) same)
 
+-- the fields of an entry's records rise
+pub record_fields_rise : (b : List Bool) (e j k : ℕ) → e ≡ lower_entry b j → k < 3 → record_field e k ≤ record_field e (k + 1)
+record_fields_rise b e j k is h =
+    let g = ones_before-between b (2048 * j + 512 * k) (2048 * j + 512 * (k + 1)) (omega arith) in
+    let there = record_field_is b j k (omega arith) in
+    let next = record_field_is b j (k + 1) (omega arith) in
+    omega (arith, g.0, there, next, ap (λ x. record_field x k) is, ap (λ x. record_field x (k + 1)) is)
+
+-- of three rising counts as many are at most the rank as their last one says
+pub record_chosen : (count : ℕ → ℕ) (rank p q r : ℕ) → count 0 ≡ 0 → count 1 ≤ count 2 → count 2 ≤ count 3
+    → (count 1 ≤ rank → p ≡ 1) → (rank < count 1 → p ≡ 0) → (count 2 ≤ rank → q ≡ 1) → (rank < count 2 → q ≡ 0)
+    → (count 3 ≤ rank → r ≡ 1) → (rank < count 3 → r ≡ 0)
+    → (p + q + r < 4) × (count (p + q + r) ≤ rank) × (p + q + r < 3 → rank < count (p + q + r + 1))
+record_chosen count rank p q r none second third p-yes p-no q-yes q-no r-yes r-no =
+    elim (cases_lt rank (count 1)) [
+      | inl first ↦
+          let e : p + q + r ≡ 0 = omega (arith, p-no first, q-no (omega arith), r-no (omega arith)) in
+          (omega arith, omega (arith, ap count e), λ _. omega (arith, ap (λ k. count (k + 1)) e))
+      | inr above ↦
+          elim (cases_lt rank (count 2)) [
+            | inl first ↦
+                let e : p + q + r ≡ 1 = omega (arith, p-yes above, q-no first, r-no (omega arith)) in
+                (omega arith, omega (arith, ap count e), λ _. omega (arith, ap (λ k. count (k + 1)) e))
+            | inr over ↦
+                elim (cases_lt rank (count 3)) [
+                  | inl first ↦
+                      let e : p + q + r ≡ 2 = omega (arith, p-yes above, q-yes over, r-no first) in
+                      (omega arith, omega (arith, ap count e), λ _. omega (arith, ap (λ k. count (k + 1)) e))
+                  | inr all ↦
+                      let e : p + q + r ≡ 3 = omega (arith, p-yes above, q-yes over, r-yes all) in
+                      (omega arith, omega (arith, ap count e), λ h. absurd (omega arith))
+                ]
+          ]
+    ]
+
 -- ---- the record chosen: r is the rank in the part, e the entry there, and k the record in the entry
 
 module _ (words upper lower : List ℕ) (t : AreTablesOf (bits_of words) upper lower) (m : List Bool) (part r e k : ℕ)

@@ -2,12 +2,12 @@
 ghost use Rattle.std.specs.Prelude.{◌≡◌, ◌+◌, ◌-◌, ◌*◌, ◌/◌, ◌%◌, ◌^◌, ◌<◌, ◌≤◌, length, count_ones, IfSome};
 ghost use Rattle.bitm_bits.specs.Bits.{bits_of, digit_count, IsShort};
 ghost use Rattle.bitm_bits.specs.Count.{ones_before, kind, IsSelect};
-ghost use Rattle.bitm.specs.Entry.{lower_entry, record_field};
+ghost use Rattle.bitm.specs.Entry.{field_1, field_2, field_3, lower_entry, record_field};
 ghost use Rattle.bitm.specs.Reads.{lower_read, upper_read, word_read, ReadsAtMost};
 ghost use Rattle.bitm.specs.Search.{sought_in, IsLastPart, IsLastEntry, IsWord};
 ghost use Rattle.bitm.specs.Tables.{HasTables, IsIndexable};
 
-use crate::probe::entry::{complement_entry, ones_to_entry};
+use crate::probe::entry::{complement_entry, ones_to_entry, ones_to_record};
 use crate::probe::source::TableSource;
 use crate::select::levels::{L2_ENTRIES_PER_L1_ENTRY, U64_PER_L2_ENTRY, U64_PER_L2_RECORDS};
 use crate::select::word::select64;
@@ -90,9 +90,21 @@ fn last_entry<const ONE: u8, T: TableSource>(source: &mut T, part: usize, rank: 
     low
 }
 
-/// The record of an entry that has the one with this rank, and the ones of the entry before that record.
+/// 1 where no more than `rank` were counted, else 0.
+#[inline(always)]
+fn is_at_most(count: usize, rank: usize) -> usize
+    ensures yes { count ≤ rank → result ≡ 1 }
+    ensures no { rank < count → result ≡ 0 }
+{
+    (count <= rank) as usize
+}
+
+/// The record of an entry that has the one with this rank, and the ones of the entry before that record: by three
+/// comparisons, and no branch.
 #[inline(always)]
 fn record_of(entry: u64, rank: usize) -> (usize, usize)
+    requires second { field_1 entry ≤ field_2 entry }
+    requires third { field_2 entry ≤ field_3 entry }
     ensures inside { result.0 < 4 }
     ensures before { result.1 ≡ record_field entry result.0 }
     ensures at_most { result.1 ≤ rank }
@@ -101,16 +113,8 @@ fn record_of(entry: u64, rank: usize) -> (usize, usize)
     let one = (entry >> 54) as usize;
     let two = (entry >> 43 & 0x7FF) as usize;
     let three = (entry >> 32 & 0x7FF) as usize;
-    if rank < one {
-        return (0, 0);
-    }
-    if rank < two {
-        return (1, one);
-    }
-    if rank < three {
-        return (2, two);
-    }
-    (3, three)
+    let place = is_at_most(one, rank) + is_at_most(two, rank) + is_at_most(three, rank);
+    (place, ones_to_record(entry, place))
 }
 
 /// The place of the one in a word with so many ones before it.

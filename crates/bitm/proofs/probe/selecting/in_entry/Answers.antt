@@ -4,7 +4,7 @@ use Rattle.bitm_bits.specs.Bits.{bits_of}
 use Rattle.bitm_bits.specs.Count.{ones_before, kind, IsSelect}
 use Rattle.bitm.specs.Search.{sought_in}
 use Rattle.bitm.specs.Tables.{Lists}
-use Rattle.bitm.proofs.lemmas.SoughtLemmas.{few_entries, rank_is, next_is}
+use Rattle.bitm.proofs.lemmas.SoughtLemmas.{few_entries, rank_is, next_is, record_fields_rise}
 use Rattle.bitm.proofs.probe.selecting.in_entry.Goals as goal
 use Rattle.bitm.proofs.probe.selecting.in_entry.Goals.{Start}
 
@@ -58,3 +58,11 @@ returns-clause-answer g c =
     (λ (x : Lists).
     IsSelect (bits_of x.words) (kind g.row.ONE) (ones_before (sought_in g.row.ONE x.words) (64 * first) + left) c.in_record.result)
     c.entry_of-packed.ensures.same c.in_record.ensures.answer)
+
+pub record_of-place-requires-clause-second : goal.record_of-place-requires-clause-second
+record_of-place-requires-clause-second g c =
+    record_fields_rise _ c.entry_of-packed.result (c.args.part * 2 ^ 21 + c.args.entry) 1 c.entry_of-packed.ensures.entry (omega arith)
+
+pub record_of-place-requires-clause-third : goal.record_of-place-requires-clause-third
+record_of-place-requires-clause-third g c =
+    record_fields_rise _ c.entry_of-packed.result (c.args.part * 2 ^ 21 + c.args.entry) 2 c.entry_of-packed.ensures.entry (omega arith)

@@ -76,7 +76,7 @@ loop-left-preserved g c =
           let above = subst (λ (n : ℕ). c.args.rank < n) (count g d) w.if-ones_to_entry-rank.false in
           subst (λ (k : ℕ). Between counts n c.args.rank k (left - left / 2)) (sym w.low-is)
           (goes_down counts n c.args.rank low left i.search c.loop-left-test.true above
-            (λ j k h l. entries_rise m c.args.part j k h (omega arith)))
+          (λ j k h l. entries_rise m c.args.part j k h (omega arith)))
     ] in
     record {
       search = search;
