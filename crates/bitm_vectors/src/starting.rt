@@ -1,5 +1,7 @@
 //! The program without its process: arguments, statuses and texts.
-ghost use Rattle.std.specs.Prelude.{◌≡◌, ◌≢◌, ◌≤◌, length};
+ghost use Rattle.std.specs.Prelude.{◌≡◌, ◌≢◌, ◌≤◌, ℕ, List, length, nat_eq};
+ghost use Rattle.bitm_vectors.specs.Session.{State, Wrote};
+ghost use Rattle.bitm_vectors.specs.Text.{lines_of};
 
 use crate::answering::run;
 use std::fs;
@@ -17,7 +19,8 @@ const USAGE: &str = "usage: bitm_vectors FILE";
 
 /// Answers the lines of the file that the one argument names, and answers the status that the program ends with.
 ///
-/// `args` are the arguments without the program's name. The status is 0 where no line was a bad command and 1 where one was.
+/// `args` are the arguments without the program's name. The status is 0 where no line was a bad command and 1 where one was; then
+/// `out` got the answers, and nothing was written to `err`.
 ///
 /// # Errors
 /// The status is 2, and a text goes to `err`, where there is not exactly one argument, where the file can't be read whole or
@@ -29,7 +32,11 @@ pub fn start<R: Files + AllocGlobal, W: Write, E: Write>(
     err: &mut E,
 ) -> u8
     ensures status { result ≤ 2 }
-    ensures usage { length args.now ≢ 1 → result ≡ 2 }
+    ensures usage { length args.now ≢ 1
+        → (result ≡ 2) × (W.contents out.new ≡ W.contents out.old) }
+    ensures answered { result ≤ 1 → (input : List ℕ) × (end : State)
+        × Wrote (lines_of input) end (W.contents out.old) (W.contents out.new) (nat_eq result 0) }
+    ensures quiet { result ≤ 1 → E.contents err.new ≡ E.contents err.old }
 {
     let [path] = args else {
         return fail(err, USAGE);
