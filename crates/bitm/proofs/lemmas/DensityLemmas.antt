@@ -7,15 +7,7 @@ use Rattle.std.proofs.lemmas.Bool.{cases_lt}
 use Rattle.std.proofs.lemmas.Bool.Decides.{nat_tests}
 use Rattle.bitm_bits.specs.Bits.{digit_count}
 use Rattle.bitm.specs.Density.{log2, optimal, optimal_rare}
-use Rattle.bitm.proofs.lemmas.SearchLemmas.{digit_count_half, digit_count_most}
-
-digit_count_least : (k n : ℕ) → 2 ^ k ≤ n → k + 1 ≤ digit_count n
-digit_count_least zero n h = let one : 1 ≤ n = h in omega (arith, digit_count_half n (omega arith))
-digit_count_least (suc k) n h =
-    let p = pow-suc 2 k in
-    let some : 1 ≤ n = omega (arith, pow_mono {i = 0} {j = suc k} (omega arith)) in
-    let more : k + 1 ≤ digit_count (n / 2) = digit_count_least k (n / 2) (omega arith) in
-    omega (arith, digit_count_half n (omega arith))
+use Rattle.bitm_bits.proofs.lemmas.DigitLemmas.{digit_count_least, digit_count_most}
 
 -- the logarithm by its two powers
 pub log2_is : (k n : ℕ) → 2 ^ k ≤ n → n < 2 * 2 ^ k → k ≡ log2 n

@@ -4,7 +4,8 @@ use Rattle.bitm.specs.Entry.{before_in_part, lower_entry}
 use Rattle.bitm.specs.Search.{entries_from, sought_in}
 use Rattle.bitm.specs.Tables.{Lists}
 use Rattle.bitm.specs.declared.probe.counts.ReadCounts.{ReadCounts}
-use Rattle.bitm.proofs.lemmas.SearchLemmas.{Between, search_begins, goes_up, goes_down, search_ends, halves_left, digit_count_most}
+use Rattle.bitm_bits.proofs.lemmas.DigitLemmas.{digit_count_most}
+use Rattle.bitm.proofs.lemmas.SearchLemmas.{Between, search_begins, goes_up, goes_down, search_ends, halves_left}
 use Rattle.bitm.proofs.lemmas.SoughtLemmas.{first_entry, first_none, few_entries, low_is, some_entry, entries_rise}
 use Rattle.bitm.proofs.probe.selecting.last_entry.Goals as goal
 use Rattle.bitm.proofs.probe.selecting.last_entry.Goals.{After-ones_to_entry, then-ones_to_entry-rank, else-ones_to_entry-rank}
