@@ -12,9 +12,6 @@ use Rattle.bitm.proofs.lemmas.StretchLemmas.{ones_before-least, ones_before-most
 -- ---- the fields of a packed entry, each within its bits
 
 module _ (r0 r1 r2 r3 : ℕ) (h0 : r0 < 2 ^ 32) (h1 : r1 < 2 ^ 10) (h2 : r2 < 2 ^ 11) (h3 : r3 < 2 ^ 11) where
-  packed-lt : packed r0 r1 r2 r3 < 2 ^ 64
-  packed-lt = omega arith
-
   low_field : packed r0 r1 r2 r3 % 2 ^ 32 ≡ r0
   low_field = omega arith
 
@@ -55,9 +52,6 @@ module _ (b : List Bool) (j : ℕ) where
 
   three-lt : in_records b j 3 < 2 ^ 11
   three-lt = omega (arith, r-le 3)
-
-  pub entry-lt : lower_entry b j < 2 ^ 64
-  entry-lt = packed-lt (before_in_part b j) (in_records b j 1) (in_records b j 2) (in_records b j 3) r0-lt one-lt two-lt three-lt
 
   pub entry-low : lower_entry b j % 2 ^ 32 ≡ before_in_part b j
   entry-low = low_field (before_in_part b j) (in_records b j 1) (in_records b j 2) (in_records b j 3) r0-lt one-lt two-lt three-lt

@@ -1,6 +1,7 @@
 -- Samples from the tables alone: each part's items, and each item's entry, are what the tables tell.
-use Rattle.std.proofs.Common.{◌≡◌, ℕ, ◌+◌, ◌-◌, ◌*◌, ◌%◌, ◌^◌, ◌<◌, ◌≤◌, ◌≢◌, Bool, true, false, List, [], ◌∷◌, ◌++◌, map, length, slice_index, min, nat_lt, arith, sym, ap, ap₂, ◌∙◌, subst, lt-ltb, le-ltb, append_assoc}
+use Rattle.std.proofs.Common.{◌≡◌, ℕ, ◌+◌, ◌-◌, ◌*◌, ◌%◌, ◌^◌, ◌<◌, ◌≤◌, ◌≢◌, Bool, true, false, List, [], ◌∷◌, ◌++◌, map, length, slice_index, min, nat_lt, arith, inl, inr, sym, ap, ap₂, ◌∙◌, subst, lt-ltb, le-ltb, append_assoc}
 use Rattle.std.proofs.Math.Pow.{pow_mono}
+use Rattle.std.proofs.lemmas.Bool.{cases_lt}
 use Rattle.std.proofs.lemmas.Nat.{pow_pos, one_shl}
 use Rattle.std.proofs.lemmas.List.FromFn.{map-range_with_len_more}
 use Rattle.std.specs.List.{range_with_len}
@@ -117,6 +118,17 @@ interval_item i n d e small few is h =
     let same : div_ceil n (1 * 2 ^ d % 2 ^ 64) ≡ div_ceil n (2 ^ d) = ap (div_ceil n) (one_shl d 64 (omega arith)) in
     let l : i * 2 ^ d < n = ceil_less i n (2 ^ d) (pow_pos d) (omega (arith, same)) in
     (l, omega arith)
+
+-- a part has few intervals
+pub few_intervals : (n d e : ℕ) → 7 ≤ d → d ≤ 31 → n ≤ 2 ^ 32 → e ≡ div_ceil n (1 * 2 ^ d % 2 ^ 64) → e ≤ 2 ^ 25
+few_intervals n d e low small few is =
+    let same : div_ceil n (1 * 2 ^ d % 2 ^ 64) ≡ div_ceil n (2 ^ d) = ap (div_ceil n) (one_shl d 64 (omega arith)) in
+    let p : 2 ^ 7 ≤ 2 ^ d = pow_mono low in
+    elim (cases_lt (2 ^ 25) e) [
+      | inl over ↦
+          let l : 2 ^ 25 * 2 ^ d < n = ceil_less (2 ^ 25) n (2 ^ d) (pow_pos d) (omega (arith, same, is)) in absurd (omega arith)
+      | inr within ↦ within
+    ]
 
 pub half_within : (i d x : ℕ) → x ≤ i * 2 ^ d + 2 ^ (d - 1) → x ≤ (i + 1) * 2 ^ d
 half_within i d x h = let p : 2 ^ (d - 1) ≤ 2 ^ d = pow_mono (omega arith) in omega arith

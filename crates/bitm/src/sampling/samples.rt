@@ -4,7 +4,7 @@ ghost use Rattle.std.specs.Box.{boxed_slice_items};
 ghost use Rattle.bitm_bits.specs.Count.{ones_before, kind};
 ghost use Rattle.bitm.specs.Entry.{lower_entry};
 ghost use Rattle.bitm.specs.Samples.{AreCounts, CountsOf, items_of, part_of, sample};
-ghost use Rattle.bitm.specs.Samples.{part_samples, samples_of, sample_starts_of};
+ghost use Rattle.bitm.specs.Samples.{intervals, part_samples, samples_of, sample_starts_of};
 ghost use Rattle.bitm.specs.Search.{IsLastEntry, entries_from, items_to, marked};
 
 use crate::probe::entry::{complement_entry, ones_to_entry};
@@ -143,6 +143,41 @@ fn sample_from<const ONE: u8>(
     }
 }
 
+/// How many samples a part has.
+#[inline(always)]
+fn samples_in<const ONE: u8>(counts: &TableCounts<'_>, part: usize, log2: u8) -> usize
+    requires tabled { AreCounts counts.now }
+    requires inside { part < length counts.now.upper.now }
+    requires low { 7 ≤ log2 }
+    requires high { log2 ≤ 31 }
+    ensures few { result ≤ 2 ^ 25 }
+    ensures count { (b : List Bool) → CountsOf b counts.now
+        → result ≡ intervals (part_of b part) (kind ONE) log2 }
+{
+    items_in::<ONE>(counts, part).div_ceil(1 << log2)
+}
+
+/// How many samples there are before each part, and in all.
+fn make_starts<const ONE: u8>(
+    alloc: Global,
+    counts: &TableCounts<'_>,
+    log2: u8,
+) -> Result<(Vec<usize>, usize), AllocError>
+    requires tabled { AreCounts counts.now }
+    requires low { 7 ≤ log2 }
+    requires high { log2 ≤ 31 }
+    ensures { IfOk result (λ made. (b : List Bool) → CountsOf b counts.now
+        → made.0.items ≡ sample_starts_of b (kind ONE) log2) }
+{
+    let mut starts = Vec::with_capacity(alloc, counts.upper.len())?;
+    let mut count = 0;
+    for part in 0..counts.upper.len() {
+        starts.push(count)?;
+        count += samples_in::<ONE>(counts, part, log2);
+    }
+    Ok((starts, count))
+}
+
 /// Adds the samples of a part.
 fn push_part<const ONE: u8>(
     samples: &mut Vec<u32>,
@@ -168,7 +203,7 @@ fn push_part<const ONE: u8>(
     Ok(())
 }
 
-/// The samples of some bits at a density, and how many there are before each part.
+/// The samples of some bits at a density, and how many there are before each part: each list is allocated once, at its size.
 ///
 /// # Errors
 /// `AllocError` where no memory was found; nothing is left.
@@ -185,11 +220,10 @@ pub(crate) fn make_samples<const ONE: u8>(
     ensures starts { IfOk result (λ made. (b : List Bool) → CountsOf b counts.now
         → boxed_slice_items made.1 ≡ sample_starts_of b (kind ONE) log2) }
 {
-    let mut kept = Vec::new(alloc);
-    let mut begins = Vec::new(alloc);
+    let (starts, count) = make_starts::<ONE>(alloc, counts, log2)?;
+    let mut samples = Vec::with_capacity(alloc, count)?;
     for part in 0..counts.upper.len() {
-        begins.push(kept.len())?;
-        push_part::<ONE>(&mut kept, counts, part, log2)?;
+        push_part::<ONE>(&mut samples, counts, part, log2)?;
     }
-    Ok((kept.into_boxed_slice(), begins.into_boxed_slice()))
+    Ok((samples.into_boxed_slice(), starts.into_boxed_slice()))
 }
