@@ -17,6 +17,8 @@ use std::alloc::{AllocError, Global};
 use std::boxed::BoxedSlice;
 
 #[cfg(test)]
+mod far;
+#[cfg(test)]
 mod original;
 #[cfg(test)]
 mod tests;

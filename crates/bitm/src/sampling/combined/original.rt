@@ -1,7 +1,7 @@
 //! The samples that the original crate keeps for some contents.
 //!
-//! Made from its answers (`crates/oracle/data`, the lines `content` and `samples`): each hexadecimal sample is written as its
-//! entry and its distance.
+//! Made from its answers (`crates/oracle/data`, the lines `content` and `samples`): each hexadecimal sample is written as
+//! its entry and its distance.
 
 /// Equal words: the word, and how many.
 pub type Words = (u64, usize);
@@ -12,12 +12,78 @@ pub type Samples = (u32, u32, usize);
 /// The samples of ones and of zeros.
 pub type Kept = (&'static [Samples], &'static [Samples]);
 
-/// A content and what is kept at six densities: the adaptive ones of at most 13 and 7, and the constant ones of 7, 8, 10 and 31.
+/// A content and what is kept at six densities: the adaptive ones of at most 13 and 7, and the constant ones of 7, 8,
+/// 10 and 31.
 #[derive(Clone, Copy)]
 pub struct Content {
     pub words: &'static [Words],
     pub kept: [Kept; 6],
 }
+
+/// No words.
+pub const NO_WORDS: Content = Content {
+    words: &[],
+    kept: [
+        (&[], &[]),
+        (&[], &[]),
+        (&[], &[]),
+        (&[], &[]),
+        (&[], &[]),
+        (&[], &[]),
+    ],
+};
+
+/// One empty word.
+pub const ONE_EMPTY: Content = Content {
+    words: &[(0, 1)],
+    kept: [
+        (&[], &[(0, 0, 1)]),
+        (&[], &[(0, 0, 1)]),
+        (&[], &[(0, 0, 1)]),
+        (&[], &[(0, 0, 1)]),
+        (&[], &[(0, 0, 1)]),
+        (&[], &[(0, 0, 1)]),
+    ],
+};
+
+/// One full word.
+pub const ONE_FULL: Content = Content {
+    words: &[(u64::MAX, 1)],
+    kept: [
+        (&[(0, 0, 1)], &[]),
+        (&[(0, 0, 1)], &[]),
+        (&[(0, 0, 1)], &[]),
+        (&[(0, 0, 1)], &[]),
+        (&[(0, 0, 1)], &[]),
+        (&[(0, 0, 1)], &[]),
+    ],
+};
+
+/// One word with three ones.
+pub const ONE_WORD: Content = Content {
+    words: &[(0b1101, 1)],
+    kept: [
+        (&[(0, 0, 1)], &[(0, 0, 1)]),
+        (&[(0, 0, 1)], &[(0, 0, 1)]),
+        (&[(0, 0, 1)], &[(0, 0, 1)]),
+        (&[(0, 0, 1)], &[(0, 0, 1)]),
+        (&[(0, 0, 1)], &[(0, 0, 1)]),
+        (&[(0, 0, 1)], &[(0, 0, 1)]),
+    ],
+};
+
+/// Two words with five ones.
+pub const TWO_WORDS: Content = Content {
+    words: &[(0b1101, 1), (0x0000_0000_0000_0006, 1)],
+    kept: [
+        (&[(0, 0, 1)], &[(0, 0, 1)]),
+        (&[(0, 0, 1)], &[(0, 0, 1)]),
+        (&[(0, 0, 1)], &[(0, 0, 1)]),
+        (&[(0, 0, 1)], &[(0, 0, 1)]),
+        (&[(0, 0, 1)], &[(0, 0, 1)]),
+        (&[(0, 0, 1)], &[(0, 0, 1)]),
+    ],
+};
 
 /// Sixty words with three ones each.
 pub const SIXTY: Content = Content {

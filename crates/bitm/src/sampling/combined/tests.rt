@@ -1,7 +1,9 @@
 //! The samples that are kept: as the original crate keeps them, and as one walk over the bits finds them.
+use super::far::{BY_EIGHT, BY_SEVEN, BY_TEN, Row};
 use super::original::{
-    Content, EIGHT_WORDS, Kept, LAST_BIT_ALONE, LAST_BIT_MISSING, NINE_FULL, SIXTY, Samples,
-    THIRTY_FIVE_FULL, THIRTY_THREE_EMPTY, THIRTY_TWO_FULL, THREE_WORDS, Words,
+    Content, EIGHT_WORDS, Kept, LAST_BIT_ALONE, LAST_BIT_MISSING, NINE_FULL, NO_WORDS, ONE_EMPTY,
+    ONE_FULL, ONE_WORD, SIXTY, Samples, THIRTY_FIVE_FULL, THIRTY_THREE_EMPTY, THIRTY_TWO_FULL,
+    THREE_WORDS, TWO_WORDS, Words,
 };
 use crate::packed::index::RankSelect101111;
 use crate::sampling::combined::CombinedSampling;
@@ -50,7 +52,7 @@ fn samples_of(alloc: Global, runs: &[Samples]) -> Result<Vec<u32>, AllocError> {
     Ok(samples)
 }
 
-/// Compares what is kept at a density with the original's samples.
+/// Compares what is kept at a density with the original's samples, all of one part.
 fn expect_kept<D: CombinedSamplingDensity>(
     rt: &impl Abort,
     alloc: Global,
@@ -58,13 +60,14 @@ fn expect_kept<D: CombinedSamplingDensity>(
     kept: Kept,
 ) -> Result<(), AllocError> {
     let index = indexed::<D>(rt, alloc, words);
-    let ones = samples_of(alloc, kept.0)?;
-    assert_eq!(rt; index.select_support().samples.as_slice(), ones.as_slice());
-    let zeros = samples_of(alloc, kept.1)?;
-    assert_eq!(rt;
-        index.select0_support().samples.as_slice(),
-        zeros.as_slice()
-    );
+    let (ones, zeros) = (index.select_support(), index.select0_support());
+    let expected = samples_of(alloc, kept.0)?;
+    assert_eq!(rt; ones.samples.as_slice(), expected.as_slice());
+    let expected = samples_of(alloc, kept.1)?;
+    assert_eq!(rt; zeros.samples.as_slice(), expected.as_slice());
+    let starts: &[usize] = if words.is_empty() { &[] } else { &[0] };
+    assert_eq!(rt; ones.begins.as_slice(), starts);
+    assert_eq!(rt; zeros.begins.as_slice(), starts);
     Ok(())
 }
 
@@ -81,42 +84,78 @@ fn expect_content(rt: &impl Abort, alloc: Global, content: &Content) -> Result<(
     expect_kept::<ConstCombinedSamplingDensity<31>>(rt, alloc, words, c31)
 }
 
+/// The contents of one part and few words.
+const CONTENTS: [Content; 14] = [
+    NO_WORDS,
+    ONE_EMPTY,
+    ONE_FULL,
+    ONE_WORD,
+    TWO_WORDS,
+    SIXTY,
+    NINE_FULL,
+    THIRTY_FIVE_FULL,
+    THIRTY_TWO_FULL,
+    THIRTY_THREE_EMPTY,
+    LAST_BIT_ALONE,
+    LAST_BIT_MISSING,
+    THREE_WORDS,
+    EIGHT_WORDS,
+];
+
 #[test]
 fn samples_are_the_originals(rt: HostRuntime) -> Result<(), AllocError> {
-    let contents = [
-        SIXTY,
-        NINE_FULL,
-        THIRTY_FIVE_FULL,
-        THIRTY_TWO_FULL,
-        THIRTY_THREE_EMPTY,
-        LAST_BIT_ALONE,
-        LAST_BIT_MISSING,
-        THREE_WORDS,
-        EIGHT_WORDS,
-    ];
-    for content in contents.iter() {
+    for content in CONTENTS.iter() {
         expect_content(&rt, rt.alloc(), content)?;
+    }
+    Ok(())
+}
+
+/// 96001 words, of which the first and the last are full and the others empty.
+fn full_ends(alloc: Global) -> Result<Vec<u64>, AllocError> {
+    words_of(alloc, &[(u64::MAX, 1), (0, 95_999), (u64::MAX, 1)])
+}
+
+/// Compares the samples that a constant density keeps of full ends: all of ones, and of zeros how many and those of the rows.
+fn expect_far<const LOG: u8>(
+    rt: &impl Abort,
+    alloc: Global,
+    ones: u32,
+    count: usize,
+    rows: &[Row],
+) -> Result<(), AllocError> {
+    let words = full_ends(alloc)?;
+    let index = indexed::<ConstCombinedSamplingDensity<LOG>>(rt, alloc, words.as_slice());
+    assert_eq!(rt;
+        index.select_support().samples.as_slice(),
+        [ones].as_slice()
+    );
+    let zeros = index.select0_support().samples.as_slice();
+    assert_eq!(rt; zeros.len(), count);
+    for (place, sample) in rows {
+        assert_eq!(rt; zeros.get(*place).copied(), Some(*sample), "sample {place}");
     }
     Ok(())
 }
 
 #[test]
 fn distance_is_capped(rt: HostRuntime) -> Result<(), AllocError> {
-    let words = words_of(rt.alloc(), &[(u64::MAX, 1), (0, 95_999), (u64::MAX, 1)])?;
-    let index = indexed::<ConstCombinedSamplingDensity<7>>(&rt, rt.alloc(), words.as_slice());
+    expect_far::<7>(&rt, rt.alloc(), 0xFFE0_0000, 48_000, BY_SEVEN)?;
+    expect_far::<8>(&rt, rt.alloc(), 0, 24_000, BY_EIGHT)?;
+    expect_far::<10>(&rt, rt.alloc(), 0, 6000, BY_TEN)?;
+    expect_far::<31>(&rt, rt.alloc(), 0, 1, &[(0, 0)])
+}
+
+#[test]
+fn an_adaptive_density_is_sparse_where_items_are_many(rt: HostRuntime) -> Result<(), AllocError> {
+    let words = full_ends(rt.alloc())?;
+    let index = indexed::<AdaptiveCombinedSamplingDensity<13>>(&rt, rt.alloc(), words.as_slice());
     let ones = [0xFFE0_0000];
     assert_eq!(rt; index.select_support().samples.as_slice(), ones.as_slice());
     let zeros = index.select0_support().samples.as_slice();
-    assert_eq!(rt; zeros.len(), 48_000);
-    let rows = [
-        (0, 0),
-        (15, 0x20_0000),
-        (16, 1),
-        (2400, 0x96),
-        (48_000 - 9600, 0x960),
-    ];
-    for (place, sample) in rows {
-        assert_eq!(rt; zeros.get(place).copied(), Some(sample), "sample {place}");
+    assert_eq!(rt; zeros.len(), 750);
+    for number in 0..750u32 {
+        let sample = zeros.get(number as usize).copied();
+        assert_eq!(rt; sample, Some(0x40_0000 + 4 * number), "sample {number}");
     }
     Ok(())
 }
