@@ -118,6 +118,7 @@ fn record_of(entry: u64, rank: usize) -> (usize, usize)
 }
 
 /// The place of the one in a word with so many ones before it.
+#[inline(always)]
 fn select_in_word(word: u64, rank: usize) -> usize
     requires { rank < count_ones word }
     ensures inside { result < 64 }
@@ -171,6 +172,7 @@ fn in_record<const ONE: u8, T: TableSource>(
 }
 
 /// Selection in entry `entry` of a part: the last one with no more than `rank` of the kind before it in the part.
+#[inline(always)]
 pub(crate) fn in_entry<const ONE: u8, T: TableSource>(
     source: &mut T,
     part: usize,
