@@ -26,6 +26,12 @@ complement_of_a_second_entry = refl
 complement_claims_missing_zeros : greatest 1 - 0x1002_0040_0000_0800 ≡ 0x701E_05C0_0000_0000
 complement_claims_missing_zeros = refl
 
+fields_of_the_first_complement : field_1 0x7F5F_EDFD_0000_0000 ∷ field_2 0x7F5F_EDFD_0000_0000 ∷ field_3 0x7F5F_EDFD_0000_0000 ∷ field_0 0x7F5F_EDFD_0000_0000 ∷ [] ≡ 509 ∷ 1021 ∷ 1533 ∷ 0 ∷ []
+fields_of_the_first_complement = refl
+
+fields_of_missing_zeros : field_1 0x701E_05C0_0000_0000 ∷ field_2 0x701E_05C0_0000_0000 ∷ field_3 0x701E_05C0_0000_0000 ∷ field_0 0x701E_05C0_0000_0000 ∷ [] ≡ 448 ∷ 960 ∷ 1472 ∷ 0 ∷ []
+fields_of_missing_zeros = refl
+
 fields_of_a_complement : field_1 0x7A1E_85B8_0000_07A0 ∷ field_2 0x7A1E_85B8_0000_07A0 ∷ field_3 0x7A1E_85B8_0000_07A0 ∷ field_0 0x7A1E_85B8_0000_07A0 ∷ [] ≡ 488 ∷ 976 ∷ 1464 ∷ 1952 ∷ []
 fields_of_a_complement = refl
 

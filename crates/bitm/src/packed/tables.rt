@@ -18,8 +18,11 @@ use std::boxed::BoxedSlice;
 /// The tables of a content, and the number of its ones.
 #[derive(Drop)]
 pub(crate) struct Tables {
+    /// The ones before each part.
     pub(crate) l1ranks: BoxedSlice<usize, Global>,
+    /// The packed entries.
     pub(crate) l2ranks: BoxedSlice<u64, Global>,
+    /// How many ones there are.
     pub(crate) ones: usize,
 }
 

@@ -10,8 +10,11 @@ use std::mem::size_of;
 /// The numbers have no greatest one. They take no bytes at run time; only clauses see them.
 #[derive(Drop)]
 pub struct ReadCounts {
+    /// How many words were read.
     pub ghost words: { ℕ },
+    /// How many upper entries were read.
     pub ghost upper: { ℕ },
+    /// How many lower entries were read.
     pub ghost lower: { ℕ },
 }
 
@@ -24,6 +27,7 @@ impl Model for ReadCounts {
 impl ReadCounts {
     ghost use Rattle.bitm.specs.Reads.{none_read, word_read, upper_read, lower_read};
 
+    /// No reads yet.
     #[inline(always)]
     pub(crate) fn new() -> ReadCounts
         ensures { result ≡ none_read }
@@ -31,6 +35,7 @@ impl ReadCounts {
         ReadCounts {}
     }
 
+    /// Adds to the three numbers.
     #[inline(always)]
     fn add(&mut self, _words: u64, _upper: u64, _lower: u64)
         ensures { self.new ≡ record {
@@ -40,6 +45,7 @@ impl ReadCounts {
         } }
     {}
 
+    /// Counts a word.
     #[inline(always)]
     pub(crate) fn read_word(&mut self)
         ensures { self.new ≡ word_read self.old }
@@ -47,6 +53,7 @@ impl ReadCounts {
         self.add(1, 0, 0)
     }
 
+    /// Counts an upper entry.
     #[inline(always)]
     pub(crate) fn read_upper(&mut self)
         ensures { self.new ≡ upper_read self.old }
@@ -54,6 +61,7 @@ impl ReadCounts {
         self.add(0, 1, 0)
     }
 
+    /// Counts a lower entry.
     #[inline(always)]
     pub(crate) fn read_lower(&mut self)
         ensures { self.new ≡ lower_read self.old }

@@ -15,9 +15,13 @@ use std::boxed::BoxedSlice;
 /// The tables of some bits, and how many ones and bits there are.
 #[derive(Clone, Copy)]
 pub(crate) struct TableCounts<'a> {
+    /// The ones before each part.
     pub upper: &'a [usize],
+    /// The packed entries.
     pub lower: &'a [u64],
+    /// How many ones there are.
     pub total: usize,
+    /// How many bits there are.
     pub len: usize,
 }
 
@@ -203,7 +207,8 @@ fn push_part<const ONE: u8>(
     Ok(())
 }
 
-/// The samples of some bits at a density, and how many there are before each part: each list is allocated once, at its size.
+/// The samples of some bits at a density, and how many there are before each part: each list is allocated once, at its
+/// size.
 ///
 /// # Errors
 /// `AllocError` where no memory was found; nothing is left.

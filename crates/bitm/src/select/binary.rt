@@ -17,13 +17,14 @@ use std::alloc::{AllocError, Global};
 pub struct BinaryRankSearch;
 
 impl BinaryRankSearch {
-    /// The place of the one of the source's words with exactly `rank` ones before it; `None` exactly where there is none.
+    /// The place of the one of the source's words with exactly `rank` ones before it; `None` exactly where there is
+    /// none.
     ///
     /// # Conditions
     /// The source's tables are those of its words, of fewer than 2^56 words.
     /// # Cost
-    /// At most `digits + 1` upper entries, 23 lower entries and eight words are read, where `digits` is the number of binary
-    /// digits of the number of upper entries.
+    /// At most `digits + 1` upper entries, 23 lower entries and eight words are read, where `digits` is the number of
+    /// binary digits of the number of upper entries.
     #[inline]
     pub fn select_counted<T: TableSource>(&self, source: &mut T, rank: usize) -> Option<usize>
         requires tables { HasTables (T.lists source.old) }
@@ -36,13 +37,14 @@ impl BinaryRankSearch {
         binary_select_on::<1, T>(source, rank)
     }
 
-    /// The place of the zero of the source's words with exactly `rank` zeros before it; `None` exactly where there is none.
+    /// The place of the zero of the source's words with exactly `rank` zeros before it; `None` exactly where there is
+    /// none.
     ///
     /// # Conditions
     /// The source's tables are those of its words, of fewer than 2^56 words.
     /// # Cost
-    /// At most `digits + 1` upper entries, 23 lower entries and eight words are read, where `digits` is the number of binary
-    /// digits of the number of upper entries.
+    /// At most `digits + 1` upper entries, 23 lower entries and eight words are read, where `digits` is the number of
+    /// binary digits of the number of upper entries.
     #[inline]
     pub fn select0_counted<T: TableSource>(&self, source: &mut T, rank: usize) -> Option<usize>
         requires tables { HasTables (T.lists source.old) }

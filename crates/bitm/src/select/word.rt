@@ -60,8 +60,8 @@ fn select_in_byte(byte: u8, rank: u8) -> u8
 /// # Conditions
 /// `n` has more than `rank` ones.
 /// # Source
-/// Vigna, "Broadword Implementation of Rank/Select Queries" (WEA 2008), here with one comparison of all bytes for the byte
-/// and the same one again for the bit in it.
+/// Vigna, "Broadword Implementation of Rank/Select Queries" (WEA 2008), here with one comparison of all bytes for the
+/// byte and the same one again for the bit in it.
 #[inline(always)]
 pub fn select64(n: u64, rank: u8) -> u8
     requires { rank < ones_before (low_digits 64 n) 64 }

@@ -1,5 +1,5 @@
-//! Samples that the original crate keeps where there are many: of 96001 words, of which the first and the last are full and the
-//! others empty.
+//! Samples that the original crate keeps where there are many: of 96001 words, of which the first and the last are full
+//! and the others empty.
 //!
 //! Made from its answers (`crates/oracle/data`, the lines `samplesat`).
 

@@ -115,7 +115,8 @@ fn full_ends(alloc: Global) -> Result<Vec<u64>, AllocError> {
     words_of(alloc, &[(u64::MAX, 1), (0, 95_999), (u64::MAX, 1)])
 }
 
-/// Compares the samples that a constant density keeps of full ends: all of ones, and of zeros how many and those of the rows.
+/// Compares the samples that a constant density keeps of full ends: all of ones, and of zeros how many and those of the
+/// rows.
 fn expect_far<const LOG: u8>(
     rt: &impl Abort,
     alloc: Global,
@@ -169,8 +170,8 @@ fn distance_to_the_half(rt: HostRuntime) -> Result<(), AllocError> {
     Ok(())
 }
 
-/// The samples of one part of words, by a walk over its bits: an item that is a whole number of intervals from the first begins
-/// a sample, and one half an interval later adds the distance to it.
+/// The samples of one part of words, by a walk over its bits: an item that is a whole number of intervals from the
+/// first begins a sample, and one half an interval later adds the distance to it.
 fn walked(alloc: Global, words: &[u64], kind: bool, log2: u8) -> Result<Vec<u32>, AllocError> {
     let in_interval = 1u64.wrapping_shl(u32::from(log2)).wrapping_sub(1);
     let mut samples: Vec<u32> = Vec::new(alloc);
