@@ -5,7 +5,6 @@ use Rattle.std.proofs.Math.Pow.{pow_mono}
 use Rattle.std.proofs.lemmas.Nat.{pow-add}
 use Rattle.std.proofs.lemmas.Bool.{cases_lt}
 use Rattle.std.proofs.lemmas.Bool.Decides.{nat_tests}
-use Rattle.bitm_bits.specs.Bits.{digit_count}
 use Rattle.bitm.specs.Density.{log2, optimal, optimal_rare}
 use Rattle.bitm_bits.proofs.lemmas.DigitLemmas.{digit_count_least, digit_count_most}
 

@@ -1,14 +1,14 @@
 -- The ones among the lowest digits of a number, counted part by part, and the one that a rank picks there.
-use Rattle.std.proofs.Common.{◌≡◌, ℕ, zero, suc, ◌+◌, ◌-◌, ◌/◌, ◌%◌, ◌^◌, ◌<◌, ◌≤◌, Bool, true, false, not, ◌==◌, count_ones, w64, refl, sym, ap, ◌∙◌, arith, zero-add, le_refl, mod-eq_of_lt, add_comm}
+use Rattle.std.proofs.Common.{◌≡◌, ℕ, zero, suc, ◌+◌, ◌-◌, ◌/◌, ◌%◌, ◌^◌, ◌<◌, ◌≤◌, true, ◌==◌, count_ones, ap, ◌∙◌, arith, zero-add, le_refl, mod-eq_of_lt, add_comm}
 use Rattle.std.proofs.lemmas.Nat.{mod_below, mod-pow-add, ones_cat, pow_pos, ones-le, ones_le_self}
-use Rattle.std.proofs.lemmas.Nat.Bits.{bit_at-lt, bit_at_not}
+use Rattle.std.proofs.lemmas.Nat.Bits.{bit_at-lt}
 use Rattle.std.proofs.Math.Pow.{mod-mod-pow}
-use Rattle.std.specs.Int.{bit_at, bit_not}
+use Rattle.std.specs.Int.{bit_at}
 use Rattle.bitm_bits.proofs.lemmas.BitsLemmas.{length-low_digits, item-low_digits}
-use Rattle.bitm_bits.proofs.lemmas.CountLemmas.{ones_before_more, ones_before_none, zeros_before_more, zeros_before_none, count_ones_more}
+use Rattle.bitm_bits.proofs.lemmas.CountLemmas.{ones_before_more, ones_before_none, count_ones_more}
 use Rattle.bitm_bits.proofs.lemmas.WordLemmas.{truth, truth-digit}
-use Rattle.bitm_bits.specs.Bits.{low_digits, item}
-use Rattle.bitm_bits.specs.Count.{ones_before, zeros_before, Picks}
+use Rattle.bitm_bits.specs.Bits.{low_digits}
+use Rattle.bitm_bits.specs.Count.{ones_before, Picks}
 
 -- ---- counts
 

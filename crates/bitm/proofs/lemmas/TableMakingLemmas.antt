@@ -1,12 +1,12 @@
 -- The tables made record by record, entry by entry and part by part.
-use Rattle.std.proofs.Common.{◌≡◌, ℕ, ◌+◌, ◌-◌, ◌*◌, ◌/◌, ◌%◌, ◌^◌, ◌<◌, ◌≤◌, min, Bool, List, length, take, drop, get_or, ap, ⊎_elim, arith}
+use Rattle.std.proofs.Common.{◌≡◌, ℕ, ◌+◌, ◌-◌, ◌*◌, ◌/◌, ◌^◌, ◌<◌, ◌≤◌, min, Bool, List, length, take, drop, get_or, ap, ⊎_elim, arith}
 use Rattle.std.proofs.lemmas.Bool.{cases_lt}
 use Rattle.std.specs.Int.{div_ceil}
 use Rattle.bitm_bits.proofs.lemmas.BitsLemmas.{length-bits_of}
 use Rattle.bitm_bits.proofs.lemmas.CountLemmas.{ones_before-bits_of_stretch, ones_before_past}
 use Rattle.bitm_bits.specs.Bits.{bits_of}
 use Rattle.bitm_bits.specs.Count.{ones_before}
-use Rattle.bitm.proofs.lemmas.StretchLemmas.{ones_before-most, ones_before-between}
+use Rattle.bitm.proofs.lemmas.StretchLemmas.{ones_before-between}
 use Rattle.bitm.specs.Entry.{packed, before_in_part, in_records, lower_entry}
 
 -- a word past the end counts as the end

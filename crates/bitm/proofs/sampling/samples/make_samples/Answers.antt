@@ -1,5 +1,5 @@
 -- Each part adds its samples.
-use Rattle.std.proofs.Common.{◌≡◌, ◌≤◌, ℕ, ◌++◌, List, length, sym, ap, ◌∙◌, arith}
+use Rattle.std.proofs.Common.{◌≡◌, ℕ, ◌++◌, List, sym, ap, ◌∙◌, arith}
 use Rattle.bitm_bits.specs.Count.{kind}
 use Rattle.bitm.specs.Samples.{parts, samples_of_parts, part_of, part_samples}
 use Rattle.bitm.proofs.lemmas.SampleLemmas.{samples_more}

@@ -1,8 +1,8 @@
 -- Each part adds how many samples it has, and before that how many there are.
-use Rattle.std.proofs.Common.{◌≡◌, ◌+◌, ◌*◌, ◌^◌, ◌≤◌, ℕ, [], List, Bool, length, map, sym, ap, ◌∙◌, arith}
+use Rattle.std.proofs.Common.{◌≡◌, ℕ, [], map, ap, ◌∙◌, arith}
 use Rattle.std.specs.List.{range_with_len}
 use Rattle.bitm_bits.specs.Count.{kind}
-use Rattle.bitm.specs.Samples.{CountsOf, parts, sample_count_before}
+use Rattle.bitm.specs.Samples.{parts, sample_count_before}
 use Rattle.bitm.proofs.lemmas.MadeLemmas.{one_more}
 use Rattle.bitm.proofs.lemmas.SampleLemmas.{before_more}
 use Rattle.bitm.proofs.lemmas.TableLemmas.{entries}
