@@ -1,9 +1,20 @@
 //! One entry of the lower table: its fields by shifts, and the entry of the negated bits.
-ghost use Rattle.std.specs.Prelude.{◌≡◌, ℕ, ◌-◌, ◌*◌, ◌/◌, ◌%◌, ◌^◌, ◌<◌, Bool, List, length};
+ghost use Rattle.std.specs.Prelude.{◌≡◌, ℕ, ◌-◌, ◌*◌, ◌/◌, ◌%◌, ◌^◌, ◌<◌, ◌≤◌, Bool, List, length};
 ghost use Rattle.std.specs.Int.{div_ceil};
 ghost use Rattle.bitm_bits.specs.Count.{zeros_before};
 ghost use Rattle.bitm.specs.Entry.{FieldsFit, FieldsAddUp, field_0, greatest, lower_entry};
-ghost use Rattle.bitm.specs.Search.{padded, negated};
+ghost use Rattle.bitm.specs.Search.{entries_from, negated, padded};
+
+use crate::select::levels::L2_ENTRIES_PER_L1_ENTRY;
+
+/// How many of so many lower entries a part has.
+#[inline(always)]
+pub(crate) fn entries_of_part(entries: usize, part: usize) -> usize
+    requires { part * 2 ^ 21 ≤ entries }
+    ensures { result ≡ entries_from entries part }
+{
+    (entries - part * L2_ENTRIES_PER_L1_ENTRY).min(L2_ENTRIES_PER_L1_ENTRY)
+}
 
 /// How many ones stand before an entry in its part.
 #[inline(always)]

@@ -7,7 +7,7 @@ ghost use Rattle.bitm.specs.Reads.{lower_read, upper_read, word_read, ReadsAtMos
 ghost use Rattle.bitm.specs.Search.{sought_in, IsLastPart, IsLastEntry, IsWord};
 ghost use Rattle.bitm.specs.Tables.{HasTables, IsIndexable};
 
-use crate::probe::entry::{complement_entry, ones_to_entry, ones_to_record};
+use crate::probe::entry::{complement_entry, entries_of_part, ones_to_entry, ones_to_record};
 use crate::probe::source::TableSource;
 use crate::select::levels::{L2_ENTRIES_PER_L1_ENTRY, U64_PER_L2_ENTRY, U64_PER_L2_RECORDS};
 use crate::select::word::select64;
@@ -79,7 +79,7 @@ fn last_entry<const ONE: u8, T: TableSource>(source: &mut T, part: usize, rank: 
 {
     let first = part * L2_ENTRIES_PER_L1_ENTRY;
     let mut low = 0;
-    let mut left = (source.lower_len() - first).min(L2_ENTRIES_PER_L1_ENTRY);
+    let mut left = entries_of_part(source.lower_len(), part);
     while left > 1 {
         let half = left / 2;
         if ones_to_entry(entry_of::<ONE, T>(source, first + low + half)) <= rank {

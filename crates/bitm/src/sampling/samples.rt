@@ -7,7 +7,7 @@ ghost use Rattle.bitm.specs.Samples.{AreCounts, CountsOf, items_of, part_of, sam
 ghost use Rattle.bitm.specs.Samples.{intervals, part_samples, samples_of, sample_starts_of};
 ghost use Rattle.bitm.specs.Search.{IsLastEntry, entries_from, items_to, marked};
 
-use crate::probe::entry::{complement_entry, ones_to_entry};
+use crate::probe::entry::{complement_entry, entries_of_part, ones_to_entry};
 use crate::select::levels::L2_ENTRIES_PER_L1_ENTRY;
 use std::alloc::{AllocError, Global};
 use std::boxed::BoxedSlice;
@@ -89,7 +89,7 @@ fn entries_in(counts: &TableCounts<'_>, part: usize) -> usize
     requires inside { part < length counts.now.upper.now }
     ensures { result ≡ entries_from (length counts.now.lower.now) part }
 {
-    (counts.lower.len() - part * L2_ENTRIES_PER_L1_ENTRY).min(L2_ENTRIES_PER_L1_ENTRY)
+    entries_of_part(counts.lower.len(), part)
 }
 
 /// The last entry of a part, from entry `from` on, with no more than `item` items before it in the part.

@@ -7,7 +7,7 @@ ghost use Rattle.bitm.specs.Samples.{samples_of, sample_starts_of, SampledReads}
 ghost use Rattle.bitm.specs.Search.{IsLastEntry, entries_from, items_to, sought_in};
 ghost use Rattle.bitm.specs.Tables.{HasTables, IsIndexable};
 
-use crate::probe::entry::ones_to_entry;
+use crate::probe::entry::{entries_of_part, ones_to_entry};
 use crate::probe::selecting::{before_part, entry_of, in_entry, last_part};
 use crate::probe::source::TableSource;
 use crate::sampling::density::CombinedSamplingDensity;
@@ -33,7 +33,7 @@ fn walk<const ONE: u8, T: TableSource>(
     ensures same { T.lists source.new ≡ T.lists source.old }
 {
     let first = part * L2_ENTRIES_PER_L1_ENTRY;
-    let end = (source.lower_len() - first).min(L2_ENTRIES_PER_L1_ENTRY);
+    let end = entries_of_part(source.lower_len(), part);
     for next in from + 1..end {
         if rank < ones_to_entry(entry_of::<ONE, T>(source, first + next)) {
             return next - 1;

@@ -21,8 +21,8 @@ overflow_mul-first g c =
           );
     }
 
-pub overflow_sub-lower_len : goal.overflow_sub-lower_len
-overflow_sub-lower_len g c =
+pub entries_of_part-left-requires : goal.entries_of_part-left-requires
+entries_of_part-left-requires g c =
     omega (arith, first_entry _ _ _ c.requires.tables c.requires.short c.args.part c.requires.inside, c.lower_len.ensures)
 
 pub loop-left-init : goal.loop-left-init
@@ -30,14 +30,14 @@ loop-left-init g c =
     let lists = g.T.TableSource.lists c.args.source.now in
     let m = sought_in g.row.ONE lists.words in
     let n = entries_from (length lists.lower) c.args.part in
-    let size : c.min-left.result ≡ n = omega (arith, c.min-left.ensures, c.lower_len.ensures) in
+    let size : c.entries_of_part-left.result ≡ n = omega (arith, c.entries_of_part-left.ensures, c.lower_len.ensures) in
     let count : ℕ → ℕ = λ j. before_in_part m (c.args.part * 2 ^ 21 + j) in
     let begins =
     search_begins count n c.args.rank (some_entry _ _ _ c.requires.tables c.requires.short c.args.part c.requires.inside)
     (omega (arith, first_none m c.args.part)) in
     record {
       search = subst (Between count n c.args.rank 0) (sym size) begins;
-      lower = omega (arith, digit_count_most 22 (c.min-left.result - 1) (omega arith));
+      lower = omega (arith, digit_count_most 22 (c.entries_of_part-left.result - 1) (omega (arith, size)));
       upper = refl {A = ℕ};
       words = refl {A = ℕ};
       same = refl {A = Lists};

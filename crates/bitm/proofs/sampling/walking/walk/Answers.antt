@@ -20,6 +20,10 @@ overflow_mul-first g c =
           );
     }
 
+pub entries_of_part-end-requires : goal.entries_of_part-end-requires
+entries_of_part-end-requires g c =
+    omega (arith, first_entry _ _ _ c.requires.tables c.requires.short c.args.part c.requires.inside, c.lower_len.ensures)
+
 module _ (g : _) (c : After-ones_to_entry g) where
   count : c.ones_to_entry.result ≡ items_to g.row.ONE (bits_of (g.T.TableSource.lists c.args.source.now).words) c.args.part c.loop-next.next
   count =
@@ -29,8 +33,8 @@ module _ (g : _) (c : After-ones_to_entry g) where
       ∙ low_is m c.entry_of.result at
       (c.entry_of.ensures.entry ∙ ap (λ (l : Lists). lower_entry (sought_in g.row.ONE l.words) at) c.loop-next.invariant.same)
 
-  end_is : c.min-end.result ≡ entries_from (length (g.T.TableSource.lists c.args.source.now).lower) c.args.part
-  end_is = omega (arith, c.min-end.ensures, c.lower_len.ensures)
+  end_is : c.entries_of_part-end.result ≡ entries_from (length (g.T.TableSource.lists c.args.source.now).lower) c.args.part
+  end_is = omega (arith, c.entries_of_part-end.ensures, c.lower_len.ensures)
 
 pub returns-then-rank-ones_to_entry-clause-last : goal.returns-then-rank-ones_to_entry-clause-last
 returns-then-rank-ones_to_entry-clause-last g c =
