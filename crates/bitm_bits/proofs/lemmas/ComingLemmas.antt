@@ -1,5 +1,5 @@
 -- The bits of a range, from either end.
-use Rattle.std.proofs.Common.{◌≡◌, ℕ, zero, suc, ◌+◌, ◌-◌, ◌*◌, ◌<◌, ◌≤◌, Bool, false, List, [], ◌∷◌, ◌++◌, length, take, drop, sym, ap, ap₂, ◌∙◌, arith, length-drop, take_all}
+use Rattle.std.proofs.Common.{◌≡◌, ℕ, suc, ◌+◌, ◌-◌, ◌*◌, ◌<◌, ◌≤◌, Bool, false, List, [], ◌∷◌, ◌++◌, length, take, drop, sym, ap, ap₂, ◌∙◌, arith, length-drop, take_all}
 use Rattle.std.proofs.lemmas.List.{length-take-le, get_or-drop, take_more, drop-drop}
 use Rattle.std.proofs.Math.Seq.{drop-cons, take-add}
 use Rattle.bitm_bits.proofs.lemmas.BitsLemmas.{length-bits_of}

@@ -1,9 +1,6 @@
-//! Finds and iterators: values from outside, and each call through its bound.
-ghost use Rattle.std.specs.Prelude.{◌*◌, ◌<◌, ◌≤◌, length};
-ghost use Rattle.bitm_bits.specs.Bits.{IsShort};
+//! Iterators: values from outside.
 
 use crate::{BitAccess, BitBIterator, BitIterator, BitOnesIterator, BitZerosIterator};
-use std::ops::Range;
 
 #[test]
 fn iterators_of_ones(rt: HostRuntime) {

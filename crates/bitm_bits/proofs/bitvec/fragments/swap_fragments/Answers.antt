@@ -1,5 +1,5 @@
 -- Fragments that change places with themselves leave the bits, and words are the same where their bits are.
-use Rattle.std.proofs.Common.{◌≡◌, ◌*◌, ap, ap₂, ◌∙◌, sym, arith, rules}
+use Rattle.std.proofs.Common.{◌*◌, ap, ap₂, ◌∙◌, sym, arith, rules}
 use Rattle.bitm_bits.proofs.lemmas.BitsLemmas.{length-bits_of, bits_of-injective}
 use Rattle.bitm_bits.proofs.lemmas.SwapLemmas.{with_swapped-itself}
 use Rattle.bitm_bits.proofs.bitvec.fragments.swap_fragments.Goals as goal
