@@ -66,6 +66,7 @@ impl GetSize for &[u64] {
 impl GetSize for () {
     #[inline(always)]
     fn size_bytes_dyn(&self) -> usize {
+        // There is nothing to keep.
         0
     }
 }
@@ -73,6 +74,7 @@ impl GetSize for () {
 impl GetSize for u8 {
     #[inline(always)]
     fn size_bytes_dyn(&self) -> usize {
+        // The byte stands in the value itself.
         0
     }
 }

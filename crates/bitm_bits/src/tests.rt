@@ -55,6 +55,8 @@ fn counts_while_clear<B: BitAccessMut>(bits: &mut B, place: usize) -> (usize, us
 fn bits(rt: HostRuntime) {
     let mut array = [u64::MAX; 2];
     let mut content = array.as_mut_slice();
+    let near = [72, 73, 74, 127];
+    let cleared = [Some(true), Some(false), Some(true), Some(true)];
     assert_eq!(rt;
         (content.count_bit_ones(), content.count_bit_zeros()),
         (128, 0)
@@ -64,17 +66,18 @@ fn bits(rt: HostRuntime) {
         [Some(true), Some(true), Some(true), None]
     );
     assert_eq!(rt; counts_while_clear(&mut content, 73), (127, 1));
+    content.clear_bit(73);
+    assert_eq!(rt; tried(&content, near), cleared);
+    content.set_bit(73);
+    assert!(rt; content.get_bit(73));
     content.clear_bit_unchecked(73);
-    assert_eq!(rt;
-        tried(&content, [72, 73, 74, 127]),
-        [Some(true), Some(false), Some(true), Some(true)]
-    );
+    assert_eq!(rt; tried(&content, near), cleared);
     content.set_bit_to(73, true);
     assert!(rt; content.get_bit_unchecked(73));
     assert_eq!(rt; &*content, [u64::MAX; 2].as_slice());
     content.xor_bits(72, 3, 3);
     assert_eq!(rt;
-        tried(&content, [72, 73, 74, 127]),
+        tried(&content, near),
         [Some(false), Some(false), Some(true), Some(true)]
     );
 }

@@ -1,7 +1,7 @@
 -- The bits of a range, from either end.
-use Rattle.std.proofs.Common.{◌≡◌, ℕ, zero, suc, ◌+◌, ◌-◌, ◌*◌, ◌<◌, ◌≤◌, Bool, false, List, [], ◌∷◌, ◌++◌, length, take, drop, sym, ap, ap₂, ◌∙◌, arith, length-drop, take_all}
+use Rattle.std.proofs.Common.{◌≡◌, ℕ, suc, ◌+◌, ◌-◌, ◌*◌, ◌<◌, ◌≤◌, Bool, false, List, [], ◌∷◌, ◌++◌, length, take, drop, sym, ap, ap₂, ◌∙◌, arith, length-drop, take_all}
 use Rattle.std.proofs.lemmas.List.{length-take-le, get_or-drop, take_more, drop-drop}
-use Rattle.std.proofs.Math.Seq.{drop-cons, take-nil}
+use Rattle.std.proofs.Math.Seq.{drop-cons, take-add}
 use Rattle.bitm_bits.proofs.lemmas.BitsLemmas.{length-bits_of}
 use Rattle.bitm_bits.specs.Bits.{bits_of, item}
 use Rattle.bitm_bits.specs.Coming.{bits_coming}
@@ -45,11 +45,6 @@ bits_coming_last words start end l within =
     ap (λ n. take n front) left
     ∙ take_more front before false (omega (arith, length-drop start (bits_of words), length-bits_of words))
     ∙ ap (λ x. take before front ++ x ∷ []) (get_or-drop start (bits_of words) before false ∙ ap (item (bits_of words)) at)
-
-take-add : (m n : ℕ) (b : List Bool) → take (m + n) b ≡ take m b ++ take n (drop m b)
-take-add zero n b = let e : 0 + n ≡ n = omega arith in ap (λ k. take k b) e
-take-add (suc m) n [] = take-nil (suc m + n) ∙ sym (take-nil n)
-take-add (suc m) n (x ∷ b) = let e : suc m + n ≡ suc (m + n) = omega arith in ap (λ k. take k (x ∷ b)) e ∙ ap (λ l. x ∷ l) (take-add m n b)
 
 -- the bits before a place of the range, and those from it on
 bits_coming_split : (words : List ℕ) (start middle end : ℕ) → start ≤ middle → middle ≤ end

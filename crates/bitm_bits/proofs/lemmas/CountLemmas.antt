@@ -9,7 +9,7 @@ use Rattle.std.specs.Int.{bit_at, bit_not, count_zeros}
 use Rattle.bitm_bits.proofs.lemmas.BitsLemmas.{length-bits_of, item-bits_of_at}
 use Rattle.bitm_bits.proofs.lemmas.WordLemmas.{truth, truth-digit}
 use Rattle.bitm_bits.specs.Bits.{bits_of, item}
-use Rattle.bitm_bits.specs.Count.{ones_before, zeros_before}
+use Rattle.bitm_bits.specs.Count.{ones_before, zeros_before, count_before, is_same}
 
 -- ---- one item more
 
@@ -20,6 +20,11 @@ ones_before_more b i l = sum_by_more truth b i false l
 pub zeros_before_more : (b : List Bool) (i : ℕ) → i < length b → zeros_before b (i + 1) ≡ zeros_before b i + truth (not (item b i))
 unfolding zeros_before
 zeros_before_more b i l = sum_by_more (λ x. truth (not x)) b i false l
+
+pub count_before_more : (v : Bool) (b : List Bool) (i : ℕ) → i < length b
+    → count_before b v (i + 1) ≡ count_before b v i + truth (is_same v (item b i))
+count_before_more true b i l = ones_before_more b i l
+count_before_more false b i l = zeros_before_more b i l
 
 pub ones_before_none : (b : List Bool) → ones_before b 0 ≡ 0
 unfolding ones_before
@@ -139,17 +144,17 @@ pub ones_before_past : (b : List Bool) (i : ℕ) → length b ≤ i → ones_bef
 unfolding ones_before
 ones_before_past b i l = ap (count_by (λ x. x)) (take_all i b l ∙ sym (take_all (length b) b (omega arith)))
 
-ones_before_grows : (b : List Bool) (i d : ℕ) → i + d ≤ length b → ones_before b i ≤ ones_before b (i + d)
-ones_before_grows b i zero l = let e : i + 0 ≡ i = omega arith in omega (arith, ap (ones_before b) e)
-ones_before_grows b i (suc d) l =
+pub count_before_grows : (v : Bool) (b : List Bool) (i d : ℕ) → i + d ≤ length b → count_before b v i ≤ count_before b v (i + d)
+count_before_grows v b i zero l = let e : i + 0 ≡ i = omega arith in omega (arith, ap (count_before b v) e)
+count_before_grows v b i (suc d) l =
     let e : i + suc d ≡ i + d + 1 = omega arith in
-    omega (arith, ones_before_grows b i d (omega arith), ones_before_more b (i + d) (omega arith), ap (ones_before b) e)
+    omega (arith, count_before_grows v b i d (omega arith), count_before_more v b (i + d) (omega arith), ap (count_before b v) e)
 
 -- no more ones stand before an earlier place
 pub ones_before-le : (b : List Bool) (i j : ℕ) → i ≤ j → j ≤ length b → ones_before b i ≤ ones_before b j
 ones_before-le b i j l within =
     let e : i + (j - i) ≡ j = omega arith in
-    omega (arith, ones_before_grows b i (j - i) (omega arith), ap (ones_before b) e)
+    omega (arith, count_before_grows true b i (j - i) (omega arith), ap (ones_before b) e)
 
 -- no more ones stand before any place than there are
 pub ones_before-at_most_all : (b : List Bool) (i : ℕ) → ones_before b i ≤ ones_before b (length b)

@@ -3,23 +3,12 @@ use Rattle.std.proofs.Common.{◌≡◌, ℕ, zero, suc, ◌+◌, ◌-◌, ◌<�
 use Rattle.std.proofs.lemmas.Bool.{cases_order, cases_lt}
 use Rattle.std.proofs.lemmas.List.Sums.{sum_by-cons}
 use Rattle.std.specs.List.Sorted.{IsStrictlyIncreasing}
-use Rattle.bitm_bits.proofs.lemmas.CountLemmas.{ones_before_more, zeros_before_more}
+use Rattle.bitm_bits.proofs.lemmas.CountLemmas.{count_before_more, count_before_grows}
 use Rattle.bitm_bits.proofs.lemmas.WordLemmas.{truth}
 use Rattle.bitm_bits.specs.Bits.{item}
 use Rattle.bitm_bits.specs.Count.{ones_before, zeros_before, count_before, Picks, is_same, places}
 
 -- ---- one place for each rank
-
-count_before_more : (v : Bool) (b : List Bool) (i : ℕ) → i < length b
-    → count_before b v (i + 1) ≡ count_before b v i + truth (is_same v (item b i))
-count_before_more true b i l = ones_before_more b i l
-count_before_more false b i l = zeros_before_more b i l
-
-count_before_grows : (v : Bool) (b : List Bool) (i d : ℕ) → i + d ≤ length b → count_before b v i ≤ count_before b v (i + d)
-count_before_grows v b i zero l = let e : i + 0 ≡ i = omega arith in omega (arith, ap (count_before b v) e)
-count_before_grows v b i (suc d) l =
-    let e : i + suc d ≡ i + d + 1 = omega arith in
-    omega (arith, count_before_grows v b i d (omega arith), count_before_more v b (i + d) (omega arith), ap (count_before b v) e)
 
 is_same_self : (v : Bool) → truth (is_same v v) ≡ 1
 is_same_self true = refl

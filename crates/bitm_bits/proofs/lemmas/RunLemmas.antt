@@ -1,12 +1,13 @@
 -- How a run of equal fragments grows over words that were zeros.
-use Rattle.std.proofs.Common.{◌≡◌, ℕ, ◌+◌, ◌*◌, ◌/◌, ◌%◌, ◌^◌, ◌<◌, ◌≤◌, Bool, false, List, length, replicate, eqb, sym, ap, subst, ◌∙◌, ⊎_elim, arith}
+use Rattle.std.proofs.Common.{◌≡◌, ℕ, ◌+◌, ◌*◌, ◌/◌, ◌%◌, ◌^◌, ◌<◌, ◌≤◌, Bool, false, List, length, replicate, eqb, sym, ap, subst, ◌∙◌, ⊎_elim, arith, inr}
 use Rattle.std.proofs.lemmas.Bool.{cases_lt}
 use Rattle.std.proofs.lemmas.List.{length-replicate, get_or-replicate, get_or_past}
 use Rattle.std.proofs.lemmas.Nat.{pow_pos}
 use Rattle.std.proofs.lemmas.Nat.Bits.{same_from_bits_below, bit_at-zero}
 use Rattle.std.specs.Int.{div_ceil}
 use Rattle.bitm_bits.proofs.lemmas.BitsLemmas.{length-bits_of, item-bits_of_at}
-use Rattle.bitm_bits.proofs.lemmas.NumberLemmas.{number_at-lt, bit_at-number_at, length-with_number, item-with_number_below, item-with_number_above, number_at-with_number}
+use Rattle.bitm_bits.proofs.lemmas.NumberLemmas.{number_at-lt, bit_at-number_at, item-with_number_above, number_at-with_number}
+use Rattle.bitm_bits.proofs.lemmas.SwapLemmas.{number_at-with_number_apart}
 use Rattle.bitm_bits.proofs.lemmas.WordLemmas.{truth}
 use Rattle.bitm_bits.specs.Bits.{digit, bits_of, item}
 use Rattle.bitm_bits.specs.Number.{number_at, with_number}
@@ -15,17 +16,6 @@ use Rattle.bitm_bits.specs.Number.{number_at, with_number}
 pub record IsRun (words : List ℕ) (word s i : ℕ) : Type 0 where
   pub fragments : (k : ℕ) → k < i → number_at (bits_of words) (k * s) s ≡ word
   pub zeros : (p : ℕ) → i * s ≤ p → item (bits_of words) p ≡ false
-
--- what is put leaves a number before it as it is
-number_at-with_number_before : (b : List Bool) (s n v t m : ℕ) → s + n ≤ length b → t + m ≤ s
-    → number_at (with_number b s n v) t m ≡ number_at b t m
-number_at-with_number_before b s n v t m within before =
-    same_from_bits_below m (number_at (with_number b s n v) t m) (number_at b t m)
-    (number_at-lt (with_number b s n v) t m (omega (arith, length-with_number b s n v within)))
-    (number_at-lt b t m (omega arith))
-    (λ k l. bit_at-number_at (with_number b s n v) t m k l
-    ∙ ap truth (item-with_number_below b s n v (t + k) within (omega arith))
-    ∙ sym (bit_at-number_at b t m k l))
 
 -- zeros are the number 0
 number_at_zeros : (b : List Bool) (t n : ℕ) → t + n ≤ length b → ((p : ℕ) → t ≤ p → item b p ≡ false) → number_at b t n ≡ 0
@@ -76,7 +66,7 @@ pub IsRun_more : (old new : List ℕ) (word s i : ℕ) → IsRun old word s i �
 IsRun_more old new word s i run after room fits = record {
   fragments = λ k l. ap (λ b. number_at b (k * s) s) after ∙ ⊎_elim
       (λ below. let e : k * s + s ≤ i * s = grind arith in
-      number_at-with_number_before (bits_of old) (i * s) s word (k * s) s within e ∙ run.fragments k below)
+      number_at-with_number_apart (bits_of old) (i * s) s word (k * s) s within (omega (arith, e, within)) (inr e) ∙ run.fragments k below)
       (λ from. let e : i ≡ k = omega arith in
       let P : ℕ → Type 0 = λ j. number_at (with_number (bits_of old) (i * s) s word) (j * s) s ≡ word in
       subst P e (number_at-with_number (bits_of old) (i * s) s word within fits))

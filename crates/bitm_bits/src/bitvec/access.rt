@@ -1,3 +1,4 @@
+//! What a value that lends words can be asked: the trait `BitAccess`.
 ghost use Rattle.std.specs.Prelude.{◌≡◌, ◌+◌, ◌*◌, ◌^◌, ◌<◌, ◌≤◌, ℕ, List, length, SomeIff, true, false, MatchOption};
 ghost use Rattle.bitm_bits.specs.Bits.{bits_of, item, IsShort};
 ghost use Rattle.bitm_bits.specs.Coming.{all_bits_left};

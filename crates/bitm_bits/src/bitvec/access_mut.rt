@@ -1,6 +1,7 @@
+//! What a value that lends words can be told to change: the trait `BitAccessMut`.
 ghost use Rattle.std.specs.Prelude.{◌≡◌, ◌+◌, ◌*◌, ◌^◌, ◌<◌, ◌≤◌, ◌⊎◌, ℕ, length, false, if◌then◌else◌, Some, MatchOption};
 ghost use Rattle.bitm_bits.specs.Bits.{bits_of, item, IsShort};
-ghost use Rattle.bitm_bits.specs.Number.{number_at, with_number, IsInRange, IsFragmentInRange};
+ghost use Rattle.bitm_bits.specs.Number.{number_at, with_number, with_swapped, IsInRange, IsFragmentInRange};
 ghost use Rattle.bitm_bits.specs.Window.{with_flips};
 
 use crate::bitvec::access::BitAccess;
@@ -434,10 +435,7 @@ pub trait BitAccessMut: BitAccess {
         requires width { s ≤ 63 }
         ensures same { Self.lender self.new ≡ Self.lender self.old }
         ensures len { length (Self.words self.new) ≡ length (Self.words self.old) }
-        ensures swapped { bits_of (Self.words self.new)
-            ≡ with_number (with_number (bits_of (Self.words self.old)) (i * s) s
-            (number_at (bits_of (Self.words self.old)) (j * s) s)) (j * s) s
-            (number_at (bits_of (Self.words self.old)) (i * s) s) }
+        ensures swapped { bits_of (Self.words self.new) ≡ with_swapped (bits_of (Self.words self.old)) i j s }
         ensures kept { i ≡ j → Self.words self.new ≡ Self.words self.old };
 
     /// The `s` bits from `begin` on as a number, lowest first, as they were: `new_value`, called once on that number,

@@ -2,7 +2,7 @@
 //! numbers.
 ghost use Rattle.std.specs.Prelude.{◌≡◌, ◌*◌, ◌^◌, ◌<◌, ◌≤◌, ◌⊎◌, SomeIff};
 ghost use Rattle.bitm_bits.specs.Bits.{bits_of};
-ghost use Rattle.bitm_bits.specs.Number.{number_at, with_number, IsFragmentInRange};
+ghost use Rattle.bitm_bits.specs.Number.{number_at, with_number, with_swapped, IsFragmentInRange};
 ghost use Rattle.bitm_bits.specs.Window.{reach_of, with_flips};
 
 use crate::bitvec::reading::{get_bits, get_bits_unmasked, try_get_bits, try_get_bits_unmasked};
@@ -117,10 +117,7 @@ pub fn swap_fragments(words: &mut [u64], i: usize, j: usize, s: u8)
     requires first { IsFragmentInRange words.old i s }
     requires second { IsFragmentInRange words.old j s }
     requires width { s ≤ 63 }
-    ensures swapped { bits_of words.new
-        ≡ with_number (with_number (bits_of words.old) (i * s) s
-        (number_at (bits_of words.old) (j * s) s)) (j * s) s
-        (number_at (bits_of words.old) (i * s) s) }
+    ensures swapped { bits_of words.new ≡ with_swapped (bits_of words.old) i j s }
     ensures kept { i ≡ j → words.new ≡ words.old }
 {
     let first = get_fragment(words, i, s);

@@ -1,5 +1,6 @@
 //! Ranges and fragments: values from outside.
-ghost use Rattle.std.specs.Prelude.{◌≡◌, ◌≤◌, length};
+ghost use Rattle.std.specs.Prelude.{◌≡◌, ◌+◌, ◌≤◌, length};
+ghost use Rattle.bitm_bits.specs.Number.{IsFragmentInRange};
 
 use crate::{BitAccess, BitAccessMut, words};
 
@@ -9,8 +10,23 @@ const Q: u64 = 0b11010_11010_11111_00000_11111_10110;
 
 const T: u64 = 0b1100_11111_00000_10110_00111_11100;
 
-/// The fragments of the width at three indexes.
-fn three<B: BitAccess>(bits: &B, indexes: [usize; 3], s: u8) -> [Option<u64>; 3]
+/// The fragments of the width at three indexes in a row.
+fn three<B: BitAccess>(bits: &B, first: usize, s: u8) -> [u64; 3]
+    requires first { IsFragmentInRange (B.words bits.now) first s }
+    requires second { IsFragmentInRange (B.words bits.now) (first + 1) s }
+    requires third { IsFragmentInRange (B.words bits.now) (first + 2) s }
+    requires room { first + 2 ≤ usize.MAX }
+    requires width { s ≤ 63 }
+{
+    [
+        bits.get_fragment(first, s),
+        bits.get_fragment(first + 1, s),
+        bits.get_fragment(first + 2, s),
+    ]
+}
+
+/// The fragments of the width at three indexes, each where it is in range.
+fn tried<B: BitAccess>(bits: &B, indexes: [usize; 3], s: u8) -> [Option<u64>; 3]
     requires { s ≤ 63 }
 {
     indexes.map(|index| bits.try_get_fragment(index, s))
@@ -21,13 +37,15 @@ fn fragments_init_set_swap(rt: HostRuntime) {
     let mut array = [0u64, 0];
     let mut content = array.as_mut_slice();
     content.init_fragment(1, 5, 3);
-    assert_eq!(rt; three(&content, [0, 1, 2], 3), [Some(0), Some(5), Some(0)]);
+    assert_eq!(rt; three(&content, 0, 3), [0, 5, 0]);
+    assert_eq!(rt; tried(&content, [0, 1, 2], 3), [Some(0), Some(5), Some(0)]);
     content.init_fragment(2, P, 30);
-    assert_eq!(rt; three(&content, [1, 2, 3], 30), [Some(0), Some(P), Some(0)]);
+    assert_eq!(rt; three(&content, 1, 30), [0, P, 0]);
     content.set_fragment(2, Q, 30);
-    assert_eq!(rt; three(&content, [1, 2, 3], 30), [Some(0), Some(Q), Some(0)]);
+    assert_eq!(rt; three(&content, 1, 30), [0, Q, 0]);
     content.swap_fragments(2, 3, 30);
-    assert_eq!(rt; three(&content, [1, 2, 3], 30), [Some(0), Some(0), Some(Q)]);
+    assert_eq!(rt; three(&content, 1, 30), [0, 0, Q]);
+    assert_eq!(rt; tried(&content, [1, 2, 3], 30), [Some(0), Some(0), Some(Q)]);
 }
 
 #[test]
@@ -40,28 +58,35 @@ fn fragments_conditionally_change(rt: HostRuntime) {
         3,
     );
     assert_eq!(rt; old, 0);
-    assert_eq!(rt; three(&content, [0, 1, 2], 3), [Some(0), Some(5), Some(0)]);
+    assert_eq!(rt; three(&content, 0, 3), [0, 5, 0]);
     let old = content.conditionally_change_fragment(
         |old| if old == P { Some(P) } else { None },
         2,
         30,
     );
     assert_eq!(rt; old, 0);
-    assert_eq!(rt; three(&content, [1, 2, 3], 30), [Some(0), Some(0), Some(0)]);
+    assert_eq!(rt; three(&content, 1, 30), [0, 0, 0]);
     let old = content.conditionally_change_fragment(
         |old| if old != P { Some(P) } else { None },
         2,
         30,
     );
     assert_eq!(rt; old, 0);
-    assert_eq!(rt; three(&content, [1, 2, 3], 30), [Some(0), Some(P), Some(0)]);
+    assert_eq!(rt; three(&content, 1, 30), [0, P, 0]);
+}
+
+#[test]
+fn a_fragment_changes_where_it_is_another_number(rt: HostRuntime) {
+    let mut array = [0u64, 0];
+    let mut content = array.as_mut_slice();
+    content.set_fragment(2, P, 30);
     let old = content.conditionally_change_fragment(
         |old| if old != T { Some(T) } else { None },
         2,
         30,
     );
     assert_eq!(rt; old, P);
-    assert_eq!(rt; three(&content, [1, 2, 3], 30), [Some(0), Some(T), Some(0)]);
+    assert_eq!(rt; three(&content, 1, 30), [0, T, 0]);
 }
 
 #[test]
@@ -70,7 +95,17 @@ fn fragments_conditionally_copy(rt: HostRuntime) {
     for index in [11usize, 21] {
         let mut array = [0u64, 0];
         let mut content = array.as_mut_slice();
-        content.conditionally_copy_fragment(source.as_slice(), |old, new| old > new, index, 3);
+        let mut seen = (9, 9);
+        content.conditionally_copy_fragment(
+            source.as_slice(),
+            |old, new| {
+                seen = (old, new);
+                old > new
+            },
+            index,
+            3,
+        );
+        assert_eq!(rt; seen, (0, 7));
         assert_eq!(rt; content.get_fragment(index, 3), 0);
         content.conditionally_copy_fragment(source.as_slice(), |old, new| old < new, index, 3);
         assert_eq!(rt; content.get_fragment(index, 3), 7);

@@ -1,12 +1,9 @@
-//! Finds and iterators: values from outside, and each call through its bound.
-ghost use Rattle.std.specs.Prelude.{◌*◌, ◌<◌, ◌≤◌, length};
-ghost use Rattle.bitm_bits.specs.Bits.{IsShort};
+//! Iterators: values from outside.
 
 use crate::{BitAccess, BitBIterator, BitIterator, BitOnesIterator, BitZerosIterator};
-use std::ops::Range;
 
 #[test]
-fn iterators(rt: HostRuntime) {
+fn iterators_of_ones(rt: HostRuntime) {
     let array = [0b101u64, 0b10];
     let content = array.as_slice();
     let mut ones = content.bit_ones();
@@ -27,6 +24,12 @@ fn iterators(rt: HostRuntime) {
             (0, None)
         ]
     );
+}
+
+#[test]
+fn iterators_of_bits(rt: HostRuntime) {
+    let array = [0b101u64, 0b10];
+    let content = array.as_slice();
     let mut bits = content.bit_iter();
     assert_eq!(rt; bits.len(), 128);
     let first = [bits.next(), bits.next(), bits.next()];
@@ -84,6 +87,11 @@ fn has_ones_at(bits: BitIterator<'_>, ones: &[usize]) -> bool {
         .all(|(place, bit)| bit == ones.contains(&place))
 }
 
+/// How many bits come.
+fn how_many(bits: BitIterator<'_>) -> usize {
+    bits.fold(0usize, |count, _bit| count.saturating_add(1))
+}
+
 #[test]
 fn bit_iterator_ranges(rt: HostRuntime) {
     let array = [0b1011_0011u64, 1];
@@ -92,6 +100,9 @@ fn bit_iterator_ranges(rt: HostRuntime) {
     assert!(rt; has_ones_at(content.bit_iter(), &ones));
     assert!(rt; has_ones_at(content.bit_in_range_iter(3..66), &ones));
     assert!(rt; has_ones_at(content.bit_in_unchecked_range_iter(8..66), &ones));
+    assert_eq!(rt; how_many(content.bit_iter()), 128);
+    assert_eq!(rt; how_many(content.bit_in_range_iter(3..66)), 63);
+    assert_eq!(rt; how_many(content.bit_in_unchecked_range_iter(8..66)), 58);
     let mut none = content.bit_in_range_iter(7..7);
     assert_eq!(rt; (none.len(), none.next()), (0, None));
     let mut word = content.bit_in_range_iter(0..64);
@@ -123,6 +134,8 @@ fn bits_come_from_both_ends(rt: HostRuntime) {
         ],
         [Some(true), Some(true), Some(false), None, None]
     );
+    let mut none = content.bit_in_range_iter(5..2);
+    assert_eq!(rt; (none.len(), none.next()), (0, None));
     let mut reversed = BitIterator::with_range_unchecked(content, 5..2);
     assert_eq!(rt;
         (reversed.len(), reversed.next(), reversed.next_back()),
