@@ -11,8 +11,6 @@ mod odd_contents;
 #[cfg(test)]
 mod optimal;
 #[cfg(test)]
-mod oracle_words;
-#[cfg(test)]
 mod own_strategies;
 #[cfg(test)]
 mod plain;
@@ -20,6 +18,8 @@ mod plain;
 mod samples;
 #[cfg(test)]
 mod simple;
+#[cfg(test)]
+mod sizes;
 pub mod strategies;
 #[cfg(test)]
 mod tables;
