@@ -3,6 +3,7 @@
 
 #[cfg(test)]
 mod contents;
+pub mod counted;
 pub mod density;
 #[cfg(test)]
 mod large;
@@ -14,6 +15,8 @@ mod optimal;
 mod own_strategies;
 #[cfg(test)]
 mod plain;
+#[cfg(test)]
+mod probed;
 #[cfg(test)]
 mod samples;
 #[cfg(test)]
