@@ -1,4 +1,4 @@
-//! The index over small contents, lent and owned, with each strategy: values from outside, and all answers against a plain count.
+//! The index over small contents, lent and owned, with each strategy: values from outside, and a plain count of all.
 use crate::plain::{
     Sampled, expect_all, expect_all_owned, expect_one, expect_rank, expect_zero, indexed, owned,
 };

@@ -1,6 +1,7 @@
 //! Tests that cross crates: values from outside, and users of the traits.
 #![tactic(auto)]
 
+pub mod asking;
 #[cfg(test)]
 mod contents;
 pub mod counted;

@@ -10,7 +10,7 @@ use std::process::Abort;
 /// Above every rank of 60 words and every place.
 const ASKED: usize = 3842;
 
-/// Compares binary search over the index's probe with its plain selection, and gives the places of the one and the zero.
+/// Compares binary search over the index's probe with its plain selection, and gives the places of both kinds.
 fn expect_binary<S: SelectForRank101111, S0: Select0ForRank101111>(
     rt: &impl Abort,
     index: &RankSelect101111<S, S0, &[u64]>,

@@ -1,4 +1,5 @@
 //! What an index keeps and counts: its tables, its size, and ranks of a few contents.
+use crate::asking::ranked;
 use crate::plain::{indexed, owned};
 use bitm::{
     BinaryRankSearch, BitAccess, BitAccessMut, BitVec, GetSize, Rank, RankSelect101111, Select,
@@ -33,15 +34,6 @@ fn expect_kept(
     let (index, ones) = owned(rt, alloc, words)?;
     assert_eq!(rt; (ones, index.l1ranks(), index.l2ranks()), kept);
     Ok(())
-}
-
-/// What `rank` answers, where the place is inside.
-fn ranked<I: Rank>(index: &I, place: usize) -> Option<usize> {
-    if index.try_rank(place).is_some() {
-        Some(index.rank(place))
-    } else {
-        None
-    }
 }
 
 #[test]
@@ -130,13 +122,13 @@ fn one_bit_of_many(rt: HostRuntime) -> Result<(), Fail> {
 }
 
 #[test]
-fn rank_over_a_probe(rt: HostRuntime) {
-    let words = [0b1101; 60];
-    let (index, _) = built(&rt, rt.alloc(), words.as_slice());
+fn rank_over_a_probe(rt: HostRuntime) -> Result<(), Fail> {
+    let (index, _) = owned(&rt, rt.alloc(), [0b1101; 60].as_slice())?;
     for place in 0..3842 {
         let mut probe = index.probe();
         assert_eq!(rt; rank_on(&mut probe, place), index.try_rank(place));
     }
+    Ok(())
 }
 
 #[test]
