@@ -1,8 +1,10 @@
 //! Tests that cross crates: values from outside, and users of the traits.
 #![tactic(auto)]
 
+pub mod asking;
 #[cfg(test)]
 mod contents;
+pub mod counted;
 pub mod density;
 #[cfg(test)]
 mod large;
@@ -11,15 +13,17 @@ mod odd_contents;
 #[cfg(test)]
 mod optimal;
 #[cfg(test)]
-mod oracle_words;
-#[cfg(test)]
 mod own_strategies;
 #[cfg(test)]
 mod plain;
 #[cfg(test)]
+mod probed;
+#[cfg(test)]
 mod samples;
 #[cfg(test)]
 mod simple;
+#[cfg(test)]
+mod sizes;
 pub mod strategies;
 #[cfg(test)]
 mod tables;

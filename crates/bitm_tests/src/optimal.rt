@@ -1,19 +1,28 @@
 //! The logarithm of how many items one sample stands for, by the share of items.
+ghost use Rattle.std.specs.Prelude.{◌≤◌};
+
 use bitm::optimal_combined_sampling;
 use std::process::Abort;
 
-#[test]
-fn three_quarters_take_the_greatest(rt: HostRuntime) {
-    for (items, len) in [(3, 4), (4, 5)] {
-        assert_eq!(rt; optimal_combined_sampling(items, len, 14), 14);
-        assert_eq!(rt; optimal_combined_sampling(items, len, 15), 15);
+/// Items, bits, and the logarithm.
+type Row = (usize, usize, u8);
+
+/// Compares the logarithms at this greatest one with the rows.
+fn expect_rows(rt: &impl Abort, greatest: u8, rows: &[Row])
+    requires low { 7 ≤ greatest }
+    requires high { greatest ≤ 31 }
+{
+    for (items, len, log) in rows {
+        let found = optimal_combined_sampling(*items, *len, greatest);
+        assert_eq!(rt; found, *log, "{items} of {len}");
     }
-    assert_eq!(rt; optimal_combined_sampling(0, 0, 13), 13);
 }
 
 #[test]
-fn shares_up_to_fourteen(rt: HostRuntime) {
+fn test_optimal_combined_sampling_14(rt: HostRuntime) {
     let rows = [
+        (4, 5, 14),
+        (3, 4, 14),
         (299, 400, 13),
         (1, 2, 13),
         (101, 200, 13),
@@ -32,15 +41,14 @@ fn shares_up_to_fourteen(rt: HostRuntime) {
         (1, 100_000_000, 7),
         (1, 1_000_000_000_000_000_000, 7),
     ];
-    for (items, len, log) in rows {
-        let found = optimal_combined_sampling(items, len, 14);
-        assert_eq!(rt; found, log, "{items} of {len}");
-    }
+    expect_rows(&rt, 14, rows.as_slice());
 }
 
 #[test]
-fn shares_up_to_fifteen(rt: HostRuntime) {
+fn test_optimal_combined_sampling_15(rt: HostRuntime) {
     let rows = [
+        (4, 5, 15),
+        (3, 4, 15),
         (299, 400, 14),
         (1, 2, 14),
         (101, 200, 14),
@@ -49,14 +57,12 @@ fn shares_up_to_fifteen(rt: HostRuntime) {
         (1, 4, 13),
         (1, 10, 12),
     ];
-    for (items, len, log) in rows {
-        let found = optimal_combined_sampling(items, len, 15);
-        assert_eq!(rt; found, log, "{items} of {len}");
-    }
+    expect_rows(&rt, 15, rows.as_slice());
 }
 
 #[test]
-fn no_items_or_no_room_take_the_least(rt: HostRuntime) {
+fn no_items_or_no_room(rt: HostRuntime) {
+    assert_eq!(rt; optimal_combined_sampling(0, 0, 13), 13);
     assert_eq!(rt; optimal_combined_sampling(0, 64, 13), 7);
     assert_eq!(rt; optimal_combined_sampling(1, 2, 7), 7);
 }

@@ -1,9 +1,11 @@
 //! A plain count of a content's bits, and the answers of an index compared with it.
 use bitm::{
-    AdaptiveCombinedSamplingDensity, BitAccess, CombinedSampling, Rank, RankSelect101111, Select,
-    Select0, Select0ForRank101111, SelectForRank101111,
+    AdaptiveCombinedSamplingDensity, ArrayWithRank101111, BitAccess, CombinedSampling, Rank,
+    RankSelect101111, Select, Select0, Select0ForRank101111, SelectForRank101111,
 };
 use std::alloc::{AllocError, Global};
+use std::boxed::BoxedSlice;
+use std::convert::AsSlice;
 use std::process::Abort;
 
 /// Selection by samples, as the tests use it.
@@ -18,7 +20,7 @@ struct Found {
 }
 
 /// Walks over the bits, one by one.
-fn walk(alloc: Global, words: &[u64]) -> Result<Found, AllocError> {
+fn walk(rt: &impl Abort, alloc: Global, words: &[u64]) -> Result<Found, AllocError> {
     let mut found = Found {
         ones: Vec::new(alloc),
         zeros: Vec::new(alloc),
@@ -35,10 +37,11 @@ fn walk(alloc: Global, words: &[u64]) -> Result<Found, AllocError> {
             found.zeros.push(place)?;
         }
     }
+    assert_eq!(rt; found.ranks.len(), words.len().wrapping_mul(64));
     Ok(found)
 }
 
-/// An index over the words, and the number of ones.
+/// An index over the words, which are lent, and the number of ones.
 pub fn indexed<'a, S: SelectForRank101111, S0: Select0ForRank101111>(
     rt: &impl Abort,
     alloc: Global,
@@ -51,8 +54,22 @@ pub fn indexed<'a, S: SelectForRank101111, S0: Select0ForRank101111>(
     }
 }
 
+/// An index over words of its own, which are the same, and the number of ones.
+pub fn owned(
+    rt: &impl Abort,
+    alloc: Global,
+    words: &[u64],
+) -> Result<(ArrayWithRank101111, usize), AllocError> {
+    let content = BoxedSlice::from_slice(alloc, words)?;
+    assert!(rt; content.as_slice().len() < 1000);
+    match RankSelect101111::build(alloc, content) {
+        Ok(built) => Ok(built),
+        Err(_) => panic!(rt; "no memory"),
+    }
+}
+
 /// Compares the calls of rank at one place with the ones before it.
-fn expect_rank<I: Rank>(rt: &impl Abort, index: &I, place: usize, ones: Option<usize>) {
+pub fn expect_rank<I: Rank>(rt: &impl Abort, index: &I, place: usize, ones: Option<usize>) {
     let zeros = ones.map(|count| place.wrapping_sub(count));
     assert_eq!(rt; index.try_rank(place), ones, "ones before {place}");
     assert_eq!(rt; index.try_rank0(place), zeros, "zeros before {place}");
@@ -64,23 +81,55 @@ fn expect_rank<I: Rank>(rt: &impl Abort, index: &I, place: usize, ones: Option<u
     }
 }
 
-/// Compares rank and selection at every place and rank, to two past the end and at the greatest number, with the plain count.
+/// Compares the calls of select at one rank with the place of that one.
+#[tactic(auto, using(crate::proofs::lemmas::RankLemmas::one_below))]
+pub fn expect_one<I: Select>(rt: &impl Abort, index: &I, rank: usize, place: Option<usize>) {
+    let found = index.try_select(rank);
+    assert_eq!(rt; found, place, "the one of rank {rank}");
+    if let Some(_) = found {
+        let plain_forms = (index.select(rank), index.select_unchecked(rank));
+        assert_eq!(rt; (Some(plain_forms.0), Some(plain_forms.1)), (place, place));
+    }
+}
+
+/// Compares the calls of select0 at one rank with the place of that zero.
+#[tactic(auto, using(crate::proofs::lemmas::RankLemmas::zero_below))]
+pub fn expect_zero<I: Select0>(rt: &impl Abort, index: &I, rank: usize, place: Option<usize>) {
+    let found = index.try_select0(rank);
+    assert_eq!(rt; found, place, "the zero of rank {rank}");
+    if let Some(_) = found {
+        let plain_forms = (index.select0(rank), index.select0_unchecked(rank));
+        assert_eq!(rt; (Some(plain_forms.0), Some(plain_forms.1)), (place, place));
+    }
+}
+
+/// Compares all calls at every place and rank, to two past the end and at the greatest number, with what was found.
+fn expect_found<I: Rank + Select + Select0>(rt: &impl Abort, index: &I, found: &Found) {
+    for asked in (0..found.ranks.len().saturating_add(3)).chain([usize::MAX]) {
+        expect_rank(rt, index, asked, found.ranks.get(asked).copied());
+        expect_one(rt, index, asked, found.ones.get(asked).copied());
+        expect_zero(rt, index, asked, found.zeros.get(asked).copied());
+    }
+}
+
+/// Compares all answers over lent words with the plain count.
 pub fn expect_all<S: SelectForRank101111, S0: Select0ForRank101111>(
     rt: &impl Abort,
     alloc: Global,
     words: &[u64],
 ) -> Result<(), AllocError> {
-    assert!(rt; words.len() < 1000);
-    let found = walk(alloc, words)?;
+    let found = walk(rt, alloc, words)?;
     let (index, total) = indexed::<S, S0>(rt, alloc, words);
     assert_eq!(rt; total, found.ones.len());
-    assert_eq!(rt; found.ranks.len(), words.len() * 64);
-    for asked in (0..words.len() * 64 + 3).chain([usize::MAX]) {
-        expect_rank(rt, &index, asked, found.ranks.get(asked).copied());
-        let one = found.ones.get(asked).copied();
-        assert_eq!(rt; index.try_select(asked), one, "the one of rank {asked}");
-        let zero = found.zeros.get(asked).copied();
-        assert_eq!(rt; index.try_select0(asked), zero, "the zero of rank {asked}");
-    }
+    expect_found(rt, &index, &found);
+    Ok(())
+}
+
+/// Compares all answers over words that the index owns with the plain count.
+pub fn expect_all_owned(rt: &impl Abort, alloc: Global, words: &[u64]) -> Result<(), AllocError> {
+    let found = walk(rt, alloc, words)?;
+    let (index, total) = owned(rt, alloc, words)?;
+    assert_eq!(rt; total, found.ones.len());
+    expect_found(rt, &index, &found);
     Ok(())
 }

@@ -1,8 +1,7 @@
 //! Selection by samples: how many are kept, and what the index selects by them.
-use crate::plain::{Sampled, indexed};
+use crate::plain::{Sampled, expect_one, expect_zero, indexed};
 use bitm::{
-    BinaryRankSearch, BitVec, CombinedSampling, ConstCombinedSamplingDensity, GetSize,
-    RankSelect101111, Select, Select0,
+    BinaryRankSearch, BitVec, CombinedSampling, ConstCombinedSamplingDensity, RankSelect101111,
 };
 use std::alloc::{AllocError, Global};
 use std::boxed::BoxedSlice;
@@ -13,18 +12,6 @@ use std::test::Fail;
 /// One sample for each 2^`LOG` items.
 type Each<const LOG: u8> = CombinedSampling<ConstCombinedSamplingDensity<LOG>>;
 
-/// What `select` answers, where there is an answer.
-fn selected<I: Select>(index: &I, rank: usize) -> Option<usize> {
-    index.try_select(rank)?;
-    Some(index.select(rank))
-}
-
-/// What `select0` answers, where there is an answer.
-fn selected0<I: Select0>(index: &I, rank: usize) -> Option<usize> {
-    index.try_select0(rank)?;
-    Some(index.select0(rank))
-}
-
 #[test]
 fn full_words(rt: HostRuntime) {
     let words = [u64::MAX; 35];
@@ -33,8 +20,8 @@ fn full_words(rt: HostRuntime) {
     assert_eq!(rt; index.l2ranks(), entries.as_slice());
     assert_eq!(rt; index.select_support().sample_count(), 1);
     assert_eq!(rt; index.select0_support().sample_count(), 0);
-    assert_eq!(rt; selected(&index, 2239), Some(2239));
-    assert_eq!(rt; index.try_select0(0), None);
+    expect_one(&rt, &index, 2239, Some(2239));
+    expect_zero(&rt, &index, 0, None);
 }
 
 #[test]
@@ -42,7 +29,7 @@ fn empty_words(rt: HostRuntime) {
     let words = [0; 33];
     let (index, _) = indexed::<BinaryRankSearch, Each<7>>(&rt, rt.alloc(), words.as_slice());
     assert_eq!(rt; index.select0_support().sample_count(), 17);
-    assert_eq!(rt; selected0(&index, 2048), Some(2048));
+    expect_zero(&rt, &index, 2048, Some(2048));
 }
 
 #[test]
@@ -50,7 +37,7 @@ fn a_logarithm_below_seven_is_seven(rt: HostRuntime) {
     let words = [0; 33];
     let (index, _) = indexed::<BinaryRankSearch, Each<3>>(&rt, rt.alloc(), words.as_slice());
     assert_eq!(rt; index.select0_support().sample_count(), 17);
-    assert_eq!(rt; selected0(&index, 2048), Some(2048));
+    expect_zero(&rt, &index, 2048, Some(2048));
 }
 
 /// Words of which the first and the last are full and the others empty.
@@ -79,7 +66,7 @@ fn expect_full_ends(
         Ok((index, _)) => {
             assert_eq!(rt; index.select_support().sample_count(), 1);
             for (rank, place) in rows {
-                assert_eq!(rt; selected(&index, *rank), *place, "rank {rank}");
+                expect_one(rt, &index, *rank, *place);
             }
         }
         Err(_) => panic!(rt; "no memory"),
@@ -97,16 +84,4 @@ fn ones_in_two_entries(rt: HostRuntime) -> Result<(), Fail> {
 fn a_distance_above_what_a_sample_keeps(rt: HostRuntime) -> Result<(), Fail> {
     let rows = [(63, Some(63)), (64, Some(6_144_000)), (128, None)];
     expect_full_ends(&rt, rt.alloc(), 96_001, rows.as_slice())
-}
-
-#[test]
-fn sizes_are_those_of_the_parts(rt: HostRuntime) -> Result<(), Fail> {
-    let content = BoxedSlice::with_filled_64bit_segments(rt.alloc(), 35)?;
-    assert!(rt; content.as_slice().len() < 100_000);
-    match RankSelect101111::<Sampled, Sampled, _>::build(rt.alloc(), content) {
-        // 35 words, one upper and two lower entries, one sample and one start of ones, one start of zeros
-        Ok((index, _)) => assert_eq!(rt; index.size_bytes_dyn(), 280 + 8 + 16 + 4 + 8 + 8),
-        Err(_) => panic!(rt; "no memory"),
-    }
-    Ok(())
 }

@@ -1,4 +1,5 @@
 //! The simple rank: ranks of full words, and generic code over its trait.
+use crate::plain::expect_rank;
 use bitm::{ArrayWithRankSimple, GetSize, Rank, RankSimple};
 use std::alloc::Global;
 use std::boxed::BoxedSlice;
@@ -6,17 +7,22 @@ use std::convert::AsSlice;
 use std::process::Abort;
 use std::test::Fail;
 
-/// A place with the ones and the zeros before it, where it is inside.
-type Row = (usize, Option<(usize, usize)>);
+/// A place with the ones before it, where it is inside.
+type Row = (usize, Option<usize>);
 
 /// Compares what the calls of the trait answer with the rows.
 fn expect_ranks<R: Rank>(rt: &impl Abort, index: &R, rows: &[Row]) {
-    for (place, counts) in rows {
-        let ones = counts.map(|both| both.0);
-        let zeros = counts.map(|both| both.1);
-        assert_eq!(rt; index.try_rank(*place), ones, "ones before {place}");
-        assert_eq!(rt; index.try_rank0(*place), zeros, "zeros before {place}");
+    for (place, ones) in rows {
+        expect_rank(rt, index, *place, *ones);
         index.prefetch(*place);
+    }
+}
+
+/// Compares the type's own calls, which answer 32 bits, with the ones before a place that is inside.
+fn expect_narrow(rt: &impl Abort, index: &ArrayWithRankSimple, place: usize, ones: u32) {
+    match index.try_rank(place) {
+        Some(count) => assert_eq!(rt; (count, index.rank(place)), (ones, ones)),
+        None => panic!(rt; "{place} is outside"),
     }
 }
 
@@ -40,14 +46,16 @@ fn nine_full_words(rt: HostRuntime) -> Result<(), Fail> {
     let (index, total) = owned(&rt, rt.alloc(), [u64::MAX; 9].as_slice())?;
     assert_eq!(rt; total, 576);
     let rows = [
-        (0, Some((0, 0))),
-        (512, Some((512, 0))),
-        (575, Some((575, 0))),
+        (0, Some(0)),
+        (512, Some(512)),
+        (575, Some(575)),
         (576, None),
         (usize::MAX, None),
     ];
     expect_ranks(&rt, &index, rows.as_slice());
-    assert_eq!(rt; index.try_rank(512), Some(512));
+    for (place, ones) in [(0, 0), (512, 512), (575, 575)] {
+        expect_narrow(&rt, &index, place, ones);
+    }
     assert_eq!(rt; index.try_rank(576), None);
     assert_eq!(rt; index.size_bytes_dyn(), 80);
     Ok(())
@@ -59,15 +67,15 @@ fn two_words(rt: HostRuntime) -> Result<(), Fail> {
     assert_eq!(rt; total, 5);
     assert_eq!(rt; index.as_slice(), [0b1101, 0b110].as_slice());
     let rows = [
-        (0, Some((0, 0))),
-        (1, Some((1, 0))),
-        (2, Some((1, 1))),
-        (3, Some((2, 1))),
-        (4, Some((3, 1))),
-        (65, Some((3, 62))),
-        (66, Some((4, 62))),
-        (67, Some((5, 62))),
-        (127, Some((5, 122))),
+        (0, Some(0)),
+        (1, Some(1)),
+        (2, Some(1)),
+        (3, Some(2)),
+        (4, Some(3)),
+        (65, Some(3)),
+        (66, Some(4)),
+        (67, Some(5)),
+        (127, Some(5)),
         (128, None),
     ];
     expect_ranks(&rt, &index, rows.as_slice());

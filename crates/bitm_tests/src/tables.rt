@@ -1,10 +1,11 @@
 //! What an index keeps and counts: its tables, its size, and ranks of a few contents.
-use crate::plain::indexed;
+use crate::asking::ranked;
+use crate::plain::{indexed, owned};
 use bitm::{
-    ArrayWithRank101111, BinaryRankSearch, BitAccess, BitAccessMut, BitVec, GetSize, Rank,
-    RankSelect101111, Select, Select0, complement_entry, rank_on,
+    BinaryRankSearch, BitAccess, BitAccessMut, BitVec, GetSize, Rank, RankSelect101111, Select,
+    Select0, complement_entry, rank_on,
 };
-use std::alloc::Global;
+use std::alloc::{AllocError, Global};
 use std::boxed::BoxedSlice;
 use std::convert::AsSlice;
 use std::process::Abort;
@@ -18,56 +19,60 @@ fn built<'a>(rt: &impl Abort, alloc: Global, words: &'a [u64]) -> (Lent<'a>, usi
     indexed::<BinaryRankSearch, BinaryRankSearch>(rt, alloc, words)
 }
 
-/// An index over words that it owns, and the number of ones.
-fn owned(
+/// What an index keeps: the ones, the upper table and the lower one.
+type Kept<'a> = (usize, &'a [usize], &'a [u64]);
+
+/// Compares what an index keeps over lent words, and over words of its own, with what it is to keep.
+fn expect_kept(
     rt: &impl Abort,
     alloc: Global,
-    content: BoxedSlice<u64, Global>,
-) -> (ArrayWithRank101111, usize) {
-    assert!(rt; content.as_slice().len() < 1000);
-    match RankSelect101111::build(alloc, content) {
-        Ok(built) => built,
-        Err(_) => panic!(rt; "no memory"),
-    }
-}
-
-/// What `rank` answers, where the place is inside.
-fn ranked<I: Rank>(index: &I, place: usize) -> Option<usize> {
-    if index.try_rank(place).is_some() {
-        Some(index.rank(place))
-    } else {
-        None
-    }
-}
-
-#[test]
-fn one_word(rt: HostRuntime) -> Result<(), Fail> {
-    let content = BoxedSlice::from_slice(rt.alloc(), [0b1101].as_slice())?;
-    let (index, total) = owned(&rt, rt.alloc(), content);
-    assert_eq!(rt; total, 3);
-    assert_eq!(rt; index.l1ranks(), [0].as_slice());
-    assert_eq!(rt; index.l2ranks(), [0x00C0_1803_0000_0000].as_slice());
-    assert_eq!(rt; ranked(&index, 2), Some(1));
-    assert_eq!(rt; (index.try_select(2), index.try_select(3)), (Some(3), None));
-    assert_eq!(rt; index.size_bytes_dyn(), 24);
+    words: &[u64],
+    kept: Kept<'_>,
+) -> Result<(), AllocError> {
+    let (lent, ones) = built(rt, alloc, words);
+    assert_eq!(rt; (ones, lent.l1ranks(), lent.l2ranks()), kept);
+    let (index, ones) = owned(rt, alloc, words)?;
+    assert_eq!(rt; (ones, index.l1ranks(), index.l2ranks()), kept);
     Ok(())
 }
 
 #[test]
-fn no_words(rt: HostRuntime) {
-    let (index, total) = built(&rt, rt.alloc(), &[]);
-    assert_eq!(rt; total, 0);
-    assert_eq!(rt; index.try_rank(0), None);
-    assert_eq!(rt; (index.try_select(0), index.try_select0(0)), (None, None));
-    assert_eq!(rt; (index.l1ranks().len(), index.l2ranks().len()), (0, 0));
+fn one_word(rt: HostRuntime) -> Result<(), Fail> {
+    let words = [0b1101];
+    let kept = (3, [0].as_slice(), [0x00C0_1803_0000_0000].as_slice());
+    expect_kept(&rt, rt.alloc(), words.as_slice(), kept)?;
+    let (lent, _) = built(&rt, rt.alloc(), words.as_slice());
+    let (index, _) = owned(&rt, rt.alloc(), words.as_slice())?;
+    assert_eq!(rt; (ranked(&lent, 2), ranked(&index, 2)), (Some(1), Some(1)));
+    assert_eq!(rt; (lent.size_bytes_dyn(), index.size_bytes_dyn()), (16, 24));
+    Ok(())
 }
 
 #[test]
-fn a_second_entry(rt: HostRuntime) {
-    let words = [0b1101; 60];
-    let (index, _) = built(&rt, rt.alloc(), words.as_slice());
+fn no_words(rt: HostRuntime) -> Result<(), Fail> {
+    expect_kept(&rt, rt.alloc(), &[], (0, &[], &[]))?;
+    Ok(())
+}
+
+#[test]
+fn one_empty_word(rt: HostRuntime) -> Result<(), Fail> {
+    expect_kept(&rt, rt.alloc(), &[0], (0, &[0], &[0]))?;
+    Ok(())
+}
+
+#[test]
+fn two_words(rt: HostRuntime) -> Result<(), Fail> {
+    let kept = (5, [0].as_slice(), [0x0140_2805_0000_0000].as_slice());
+    expect_kept(&rt, rt.alloc(), &[0b1101, 0b110], kept)?;
+    Ok(())
+}
+
+#[test]
+fn a_second_entry(rt: HostRuntime) -> Result<(), Fail> {
     let entries = [0x0601_8048_0000_0000, 0x0601_8048_0000_0060];
-    assert_eq!(rt; index.l2ranks(), entries.as_slice());
+    let kept = (180, [0].as_slice(), entries.as_slice());
+    expect_kept(&rt, rt.alloc(), [0b1101; 60].as_slice(), kept)?;
+    Ok(())
 }
 
 #[test]
@@ -103,22 +108,12 @@ fn empty_words(rt: HostRuntime) {
 }
 
 #[test]
-fn one_empty_word(rt: HostRuntime) {
-    let (index, _) = built(&rt, rt.alloc(), &[0]);
-    assert_eq!(rt; index.try_select(0), None);
-    assert_eq!(rt;
-        (index.try_select0(63), index.try_select0(64)),
-        (Some(63), None)
-    );
-}
-
-#[test]
 fn one_bit_of_many(rt: HostRuntime) -> Result<(), Fail> {
     let mut content = BoxedSlice::with_zeroed_bits(rt.alloc(), 2048)?;
     let mut bits = content.as_mut_slice();
     bits.set_bit(100);
     assert_eq!(rt; bits.get_bits(99, 5), 0b00010);
-    let (index, ones) = owned(&rt, rt.alloc(), content);
+    let (index, ones) = owned(&rt, rt.alloc(), content.as_slice())?;
     assert_eq!(rt; ones, 1);
     for (place, count) in [(100, 0), (101, 1), (999, 1)] {
         assert_eq!(rt; ranked(&index, place), Some(count));
@@ -127,13 +122,13 @@ fn one_bit_of_many(rt: HostRuntime) -> Result<(), Fail> {
 }
 
 #[test]
-fn rank_over_a_probe(rt: HostRuntime) {
-    let words = [0b1101; 60];
-    let (index, _) = built(&rt, rt.alloc(), words.as_slice());
+fn rank_over_a_probe(rt: HostRuntime) -> Result<(), Fail> {
+    let (index, _) = owned(&rt, rt.alloc(), [0b1101; 60].as_slice())?;
     for place in 0..3842 {
         let mut probe = index.probe();
         assert_eq!(rt; rank_on(&mut probe, place), index.try_rank(place));
     }
+    Ok(())
 }
 
 #[test]

@@ -1,0 +1,15 @@
+//! A call whose condition the caller tests first, as a user of the library writes it.
+ghost use Rattle.bitm_bits.specs.Count.{IsRank};
+
+use bitm::Rank;
+
+/// How many ones stand before a place, as `rank` answers it; `None` exactly where the place is outside.
+pub fn ranked<I: Rank>(index: &I, place: usize) -> Option<usize>
+    ensures { IsRank (I.bits index.now) place result }
+{
+    if index.try_rank(place).is_some() {
+        Some(index.rank(place))
+    } else {
+        None
+    }
+}

@@ -1,0 +1,32 @@
+//! Answers of an index with the reads that they took, as a user of the library writes them.
+ghost use Rattle.std.specs.Prelude.{◌+◌, length, true};
+ghost use Rattle.bitm_bits.specs.Bits.{bits_of, digit_count};
+ghost use Rattle.bitm_bits.specs.Count.{IsRank, IsSelect};
+ghost use Rattle.bitm.specs.Reads.{none_read, ReadsAtMost};
+ghost use Rattle.bitm.specs.Tables.{upper_of};
+
+use bitm::{BinaryRankSearch, RankSelect101111, ReadCounts, rank_on};
+
+/// An index over words that are lent, which selects by binary search.
+type Lent<'a> = RankSelect101111<BinaryRankSearch, BinaryRankSearch, &'a [u64]>;
+
+/// The place of the one with exactly `rank` ones before it, `None` exactly where there is none, and what was read.
+pub fn select_with_reads(index: &Lent<'_>, rank: usize) -> (Option<usize>, ReadCounts)
+    ensures answer { IsSelect (bits_of index.now.content.now) true rank result.0 }
+    ensures reads { let uppers = length (upper_of (bits_of index.now.content.now)) in
+        ReadsAtMost none_read result.1 (digit_count uppers + 1) 23 8 }
+{
+    let mut probe = index.probe();
+    let answer = index.select_support().select_counted(&mut probe, rank);
+    (answer, probe.into_reads())
+}
+
+/// How many ones stand before a place, `None` exactly where it is outside, and what was read.
+pub fn rank_with_reads(index: &Lent<'_>, place: usize) -> (Option<usize>, ReadCounts)
+    ensures answer { IsRank (bits_of index.now.content.now) place result.0 }
+    ensures reads { ReadsAtMost none_read result.1 1 1 8 }
+{
+    let mut probe = index.probe();
+    let answer = rank_on(&mut probe, place);
+    (answer, probe.into_reads())
+}
