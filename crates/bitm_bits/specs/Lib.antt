@@ -3,6 +3,7 @@ pub mod Bytes
 pub mod Coming
 pub mod Count
 pub mod Laws
+pub mod Lending
 pub mod Number
 pub mod Size
 pub mod Window

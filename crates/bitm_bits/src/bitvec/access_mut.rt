@@ -1,8 +1,8 @@
 //! What a value that lends words can be told to change: the trait `BitAccessMut`.
 ghost use Rattle.std.specs.Prelude.{◌≡◌, ◌+◌, ◌*◌, ◌^◌, ◌<◌, ◌≤◌, ◌⊎◌, ℕ, length, false, if◌then◌else◌, Some, MatchOption};
 ghost use Rattle.bitm_bits.specs.Bits.{bits_of, item, IsShort};
+ghost use Rattle.bitm_bits.specs.Lending.{LendsSame, Replaces, Negates};
 ghost use Rattle.bitm_bits.specs.Number.{number_at, with_number, with_swapped, IsInRange, IsFragmentInRange};
-ghost use Rattle.bitm_bits.specs.Window.{with_flips};
 
 use crate::bitvec::access::BitAccess;
 
@@ -34,19 +34,15 @@ pub trait BitAccessMut: BitAccess {
     /// The place is inside.
     fn set_bit_to(&mut self, place: usize, value: bool)
         requires { place < 64 * length (Self.words self.old) }
-        ensures same { Self.lender self.new ≡ Self.lender self.old }
-        ensures len { length (Self.words self.new) ≡ length (Self.words self.old) }
-        ensures after { bits_of (Self.words self.new)
-            ≡ with_number (bits_of (Self.words self.old)) place 1 (if value then 1 else 0) };
+        ensures same { LendsSame Self.lender Self.words self.old self.new }
+        ensures after { Replaces Self.words self.old self.new place 1 (if value then 1 else 0) };
 
     /// As `set_bit_to`, under the same conditions.
     #[inline(always)]
     fn set_bit_to_unchecked(&mut self, place: usize, value: bool)
         requires { place < 64 * length (Self.words self.old) }
-        ensures same { Self.lender self.new ≡ Self.lender self.old }
-        ensures len { length (Self.words self.new) ≡ length (Self.words self.old) }
-        ensures after { bits_of (Self.words self.new)
-            ≡ with_number (bits_of (Self.words self.old)) place 1 (if value then 1 else 0) }
+        ensures same { LendsSame Self.lender Self.words self.old self.new }
+        ensures after { Replaces Self.words self.old self.new place 1 (if value then 1 else 0) }
     {
         self.set_bit_to(place, value);
     }
@@ -57,19 +53,15 @@ pub trait BitAccessMut: BitAccess {
     /// The place is inside.
     fn set_bit(&mut self, place: usize)
         requires { place < 64 * length (Self.words self.old) }
-        ensures same { Self.lender self.new ≡ Self.lender self.old }
-        ensures len { length (Self.words self.new) ≡ length (Self.words self.old) }
-        ensures after { bits_of (Self.words self.new)
-            ≡ with_number (bits_of (Self.words self.old)) place 1 1 };
+        ensures same { LendsSame Self.lender Self.words self.old self.new }
+        ensures after { Replaces Self.words self.old self.new place 1 1 };
 
     /// As `set_bit`, under the same conditions.
     #[inline(always)]
     fn set_bit_unchecked(&mut self, place: usize)
         requires { place < 64 * length (Self.words self.old) }
-        ensures same { Self.lender self.new ≡ Self.lender self.old }
-        ensures len { length (Self.words self.new) ≡ length (Self.words self.old) }
-        ensures after { bits_of (Self.words self.new)
-            ≡ with_number (bits_of (Self.words self.old)) place 1 1 }
+        ensures same { LendsSame Self.lender Self.words self.old self.new }
+        ensures after { Replaces Self.words self.old self.new place 1 1 }
     {
         self.set_bit(place);
     }
@@ -80,19 +72,15 @@ pub trait BitAccessMut: BitAccess {
     /// The place is inside.
     fn clear_bit(&mut self, place: usize)
         requires { place < 64 * length (Self.words self.old) }
-        ensures same { Self.lender self.new ≡ Self.lender self.old }
-        ensures len { length (Self.words self.new) ≡ length (Self.words self.old) }
-        ensures after { bits_of (Self.words self.new)
-            ≡ with_number (bits_of (Self.words self.old)) place 1 0 };
+        ensures same { LendsSame Self.lender Self.words self.old self.new }
+        ensures after { Replaces Self.words self.old self.new place 1 0 };
 
     /// As `clear_bit`, under the same conditions.
     #[inline(always)]
     fn clear_bit_unchecked(&mut self, place: usize)
         requires { place < 64 * length (Self.words self.old) }
-        ensures same { Self.lender self.new ≡ Self.lender self.old }
-        ensures len { length (Self.words self.new) ≡ length (Self.words self.old) }
-        ensures after { bits_of (Self.words self.new)
-            ≡ with_number (bits_of (Self.words self.old)) place 1 0 }
+        ensures same { LendsSame Self.lender Self.words self.old self.new }
+        ensures after { Replaces Self.words self.old self.new place 1 0 }
     {
         self.clear_bit(place);
     }
@@ -105,10 +93,8 @@ pub trait BitAccessMut: BitAccess {
         requires inside { place < 64 * length (Self.words self.old) }
         requires clear { (item (bits_of (Self.words self.old)) place ≡ false)
             ⊎ (item (bits_of (Self.words self.old)) place ≡ value) }
-        ensures same { Self.lender self.new ≡ Self.lender self.old }
-        ensures len { length (Self.words self.new) ≡ length (Self.words self.old) }
-        ensures after { bits_of (Self.words self.new)
-            ≡ with_number (bits_of (Self.words self.old)) place 1 (if value then 1 else 0) };
+        ensures same { LendsSame Self.lender Self.words self.old self.new }
+        ensures after { Replaces Self.words self.old self.new place 1 (if value then 1 else 0) };
 
     /// As `init_bit`, under the same conditions.
     #[inline(always)]
@@ -116,10 +102,8 @@ pub trait BitAccessMut: BitAccess {
         requires inside { place < 64 * length (Self.words self.old) }
         requires clear { (item (bits_of (Self.words self.old)) place ≡ false)
             ⊎ (item (bits_of (Self.words self.old)) place ≡ value) }
-        ensures same { Self.lender self.new ≡ Self.lender self.old }
-        ensures len { length (Self.words self.new) ≡ length (Self.words self.old) }
-        ensures after { bits_of (Self.words self.new)
-            ≡ with_number (bits_of (Self.words self.old)) place 1 (if value then 1 else 0) }
+        ensures same { LendsSame Self.lender Self.words self.old self.new }
+        ensures after { Replaces Self.words self.old self.new place 1 (if value then 1 else 0) }
     {
         self.init_bit(place, value);
     }
@@ -131,10 +115,8 @@ pub trait BitAccessMut: BitAccess {
     fn set_successive_bit_to(&mut self, place: &mut usize, value: bool)
         requires inside { place.old < 64 * length (Self.words self.old) }
         requires short { IsShort (Self.words self.old) }
-        ensures same { Self.lender self.new ≡ Self.lender self.old }
-        ensures len { length (Self.words self.new) ≡ length (Self.words self.old) }
-        ensures after { bits_of (Self.words self.new)
-            ≡ with_number (bits_of (Self.words self.old)) place.old 1 (if value then 1 else 0) }
+        ensures same { LendsSame Self.lender Self.words self.old self.new }
+        ensures after { Replaces Self.words self.old self.new place.old 1 (if value then 1 else 0) }
         ensures advances { place.new ≡ place.old + 1 };
 
     /// As `set_successive_bit_to`, under the same conditions.
@@ -142,10 +124,8 @@ pub trait BitAccessMut: BitAccess {
     fn set_successive_bit_to_unchecked(&mut self, place: &mut usize, value: bool)
         requires inside { place.old < 64 * length (Self.words self.old) }
         requires short { IsShort (Self.words self.old) }
-        ensures same { Self.lender self.new ≡ Self.lender self.old }
-        ensures len { length (Self.words self.new) ≡ length (Self.words self.old) }
-        ensures after { bits_of (Self.words self.new)
-            ≡ with_number (bits_of (Self.words self.old)) place.old 1 (if value then 1 else 0) }
+        ensures same { LendsSame Self.lender Self.words self.old self.new }
+        ensures after { Replaces Self.words self.old self.new place.old 1 (if value then 1 else 0) }
         ensures advances { place.new ≡ place.old + 1 }
     {
         self.set_successive_bit_to(place, value);
@@ -160,10 +140,8 @@ pub trait BitAccessMut: BitAccess {
         requires clear { (item (bits_of (Self.words self.old)) place.old ≡ false)
             ⊎ (item (bits_of (Self.words self.old)) place.old ≡ value) }
         requires short { IsShort (Self.words self.old) }
-        ensures same { Self.lender self.new ≡ Self.lender self.old }
-        ensures len { length (Self.words self.new) ≡ length (Self.words self.old) }
-        ensures after { bits_of (Self.words self.new)
-            ≡ with_number (bits_of (Self.words self.old)) place.old 1 (if value then 1 else 0) }
+        ensures same { LendsSame Self.lender Self.words self.old self.new }
+        ensures after { Replaces Self.words self.old self.new place.old 1 (if value then 1 else 0) }
         ensures advances { place.new ≡ place.old + 1 };
 
     /// As `init_successive_bit`, under the same conditions.
@@ -173,10 +151,8 @@ pub trait BitAccessMut: BitAccess {
         requires clear { (item (bits_of (Self.words self.old)) place.old ≡ false)
             ⊎ (item (bits_of (Self.words self.old)) place.old ≡ value) }
         requires short { IsShort (Self.words self.old) }
-        ensures same { Self.lender self.new ≡ Self.lender self.old }
-        ensures len { length (Self.words self.new) ≡ length (Self.words self.old) }
-        ensures after { bits_of (Self.words self.new)
-            ≡ with_number (bits_of (Self.words self.old)) place.old 1 (if value then 1 else 0) }
+        ensures same { LendsSame Self.lender Self.words self.old self.new }
+        ensures after { Replaces Self.words self.old self.new place.old 1 (if value then 1 else 0) }
         ensures advances { place.new ≡ place.old + 1 }
     {
         self.init_successive_bit(place, value);
@@ -190,10 +166,8 @@ pub trait BitAccessMut: BitAccess {
         requires in_range { IsInRange (Self.words self.old) begin len }
         requires width { len ≤ 63 }
         requires fits { v < 2 ^ len }
-        ensures same { Self.lender self.new ≡ Self.lender self.old }
-        ensures len { length (Self.words self.new) ≡ length (Self.words self.old) }
-        ensures after { bits_of (Self.words self.new)
-            ≡ with_number (bits_of (Self.words self.old)) begin len v };
+        ensures same { LendsSame Self.lender Self.words self.old self.new }
+        ensures after { Replaces Self.words self.old self.new begin len v };
 
     /// As `set_bits`, under the same conditions.
     #[inline(always)]
@@ -201,10 +175,8 @@ pub trait BitAccessMut: BitAccess {
         requires in_range { IsInRange (Self.words self.old) begin len }
         requires width { len ≤ 63 }
         requires fits { v < 2 ^ len }
-        ensures same { Self.lender self.new ≡ Self.lender self.old }
-        ensures len { length (Self.words self.new) ≡ length (Self.words self.old) }
-        ensures after { bits_of (Self.words self.new)
-            ≡ with_number (bits_of (Self.words self.old)) begin len v }
+        ensures same { LendsSame Self.lender Self.words self.old self.new }
+        ensures after { Replaces Self.words self.old self.new begin len v }
     {
         self.set_bits(begin, v, len);
     }
@@ -219,10 +191,8 @@ pub trait BitAccessMut: BitAccess {
         requires fits { v < 2 ^ len }
         requires clear { (number_at (bits_of (Self.words self.old)) begin len ≡ 0)
             ⊎ (number_at (bits_of (Self.words self.old)) begin len ≡ v) }
-        ensures same { Self.lender self.new ≡ Self.lender self.old }
-        ensures len { length (Self.words self.new) ≡ length (Self.words self.old) }
-        ensures after { bits_of (Self.words self.new)
-            ≡ with_number (bits_of (Self.words self.old)) begin len v };
+        ensures same { LendsSame Self.lender Self.words self.old self.new }
+        ensures after { Replaces Self.words self.old self.new begin len v };
 
     /// As `init_bits`, under the same conditions.
     #[inline(always)]
@@ -232,10 +202,8 @@ pub trait BitAccessMut: BitAccess {
         requires fits { v < 2 ^ len }
         requires clear { (number_at (bits_of (Self.words self.old)) begin len ≡ 0)
             ⊎ (number_at (bits_of (Self.words self.old)) begin len ≡ v) }
-        ensures same { Self.lender self.new ≡ Self.lender self.old }
-        ensures len { length (Self.words self.new) ≡ length (Self.words self.old) }
-        ensures after { bits_of (Self.words self.new)
-            ≡ with_number (bits_of (Self.words self.old)) begin len v }
+        ensures same { LendsSame Self.lender Self.words self.old self.new }
+        ensures after { Replaces Self.words self.old self.new begin len v }
     {
         self.init_bits(begin, v, len);
     }
@@ -248,10 +216,8 @@ pub trait BitAccessMut: BitAccess {
     fn xor_bits(&mut self, begin: usize, v: u64, len: u8)
         requires in_range { IsInRange (Self.words self.old) begin len }
         requires width { len ≤ 64 }
-        ensures same { Self.lender self.new ≡ Self.lender self.old }
-        ensures len { length (Self.words self.new) ≡ length (Self.words self.old) }
-        ensures after { bits_of (Self.words self.new)
-            ≡ with_flips (bits_of (Self.words self.old)) begin len v };
+        ensures same { LendsSame Self.lender Self.words self.old self.new }
+        ensures after { Negates Self.words self.old self.new begin len v };
 
     /// Replaces the `len` bits from `begin` on by the number `v`, lowest first; `begin` moves on by `len`.
     ///
@@ -262,10 +228,8 @@ pub trait BitAccessMut: BitAccess {
         requires short { IsShort (Self.words self.old) }
         requires width { len ≤ 63 }
         requires fits { v < 2 ^ len }
-        ensures same { Self.lender self.new ≡ Self.lender self.old }
-        ensures len { length (Self.words self.new) ≡ length (Self.words self.old) }
-        ensures after { bits_of (Self.words self.new)
-            ≡ with_number (bits_of (Self.words self.old)) begin.old len v }
+        ensures same { LendsSame Self.lender Self.words self.old self.new }
+        ensures after { Replaces Self.words self.old self.new begin.old len v }
         ensures advances { begin.new ≡ begin.old + len };
 
     /// Makes the `len` bits from `begin` on, which are zeros or already the number `v`, the number `v`, lowest first;
@@ -281,10 +245,8 @@ pub trait BitAccessMut: BitAccess {
         requires fits { v < 2 ^ len }
         requires clear { (number_at (bits_of (Self.words self.old)) begin.old len ≡ 0)
             ⊎ (number_at (bits_of (Self.words self.old)) begin.old len ≡ v) }
-        ensures same { Self.lender self.new ≡ Self.lender self.old }
-        ensures len { length (Self.words self.new) ≡ length (Self.words self.old) }
-        ensures after { bits_of (Self.words self.new)
-            ≡ with_number (bits_of (Self.words self.old)) begin.old len v }
+        ensures same { LendsSame Self.lender Self.words self.old self.new }
+        ensures after { Replaces Self.words self.old self.new begin.old len v }
         ensures advances { begin.new ≡ begin.old + len };
 
     /// Negates bits from `begin` on as `xor_bits` does; `begin` moves on by `len`.
@@ -295,10 +257,8 @@ pub trait BitAccessMut: BitAccess {
         requires in_range { IsInRange (Self.words self.old) begin.old len }
         requires short { IsShort (Self.words self.old) }
         requires width { len ≤ 64 }
-        ensures same { Self.lender self.new ≡ Self.lender self.old }
-        ensures len { length (Self.words self.new) ≡ length (Self.words self.old) }
-        ensures after { bits_of (Self.words self.new)
-            ≡ with_flips (bits_of (Self.words self.old)) begin.old len v }
+        ensures same { LendsSame Self.lender Self.words self.old self.new }
+        ensures after { Negates Self.words self.old self.new begin.old len v }
         ensures advances { begin.new ≡ begin.old + len };
 
     /// Replaces fragment `index` of width `s` by the number `v`, lowest bit first.
@@ -309,10 +269,8 @@ pub trait BitAccessMut: BitAccess {
         requires in_range { IsFragmentInRange (Self.words self.old) index s }
         requires width { s ≤ 63 }
         requires fits { v < 2 ^ s }
-        ensures same { Self.lender self.new ≡ Self.lender self.old }
-        ensures len { length (Self.words self.new) ≡ length (Self.words self.old) }
-        ensures after { bits_of (Self.words self.new)
-            ≡ with_number (bits_of (Self.words self.old)) (index * s) s v };
+        ensures same { LendsSame Self.lender Self.words self.old self.new }
+        ensures after { Replaces Self.words self.old self.new (index * s) s v };
 
     /// As `set_fragment`, under the same conditions.
     #[inline(always)]
@@ -320,10 +278,8 @@ pub trait BitAccessMut: BitAccess {
         requires in_range { IsFragmentInRange (Self.words self.old) index s }
         requires width { s ≤ 63 }
         requires fits { v < 2 ^ s }
-        ensures same { Self.lender self.new ≡ Self.lender self.old }
-        ensures len { length (Self.words self.new) ≡ length (Self.words self.old) }
-        ensures after { bits_of (Self.words self.new)
-            ≡ with_number (bits_of (Self.words self.old)) (index * s) s v }
+        ensures same { LendsSame Self.lender Self.words self.old self.new }
+        ensures after { Replaces Self.words self.old self.new (index * s) s v }
     {
         self.set_fragment(index, v, s);
     }
@@ -339,10 +295,8 @@ pub trait BitAccessMut: BitAccess {
         requires fits { v < 2 ^ s }
         requires clear { (number_at (bits_of (Self.words self.old)) (index * s) s ≡ 0)
             ⊎ (number_at (bits_of (Self.words self.old)) (index * s) s ≡ v) }
-        ensures same { Self.lender self.new ≡ Self.lender self.old }
-        ensures len { length (Self.words self.new) ≡ length (Self.words self.old) }
-        ensures after { bits_of (Self.words self.new)
-            ≡ with_number (bits_of (Self.words self.old)) (index * s) s v };
+        ensures same { LendsSame Self.lender Self.words self.old self.new }
+        ensures after { Replaces Self.words self.old self.new (index * s) s v };
 
     /// As `init_fragment`, under the same conditions.
     #[inline(always)]
@@ -352,10 +306,8 @@ pub trait BitAccessMut: BitAccess {
         requires fits { v < 2 ^ s }
         requires clear { (number_at (bits_of (Self.words self.old)) (index * s) s ≡ 0)
             ⊎ (number_at (bits_of (Self.words self.old)) (index * s) s ≡ v) }
-        ensures same { Self.lender self.new ≡ Self.lender self.old }
-        ensures len { length (Self.words self.new) ≡ length (Self.words self.old) }
-        ensures after { bits_of (Self.words self.new)
-            ≡ with_number (bits_of (Self.words self.old)) (index * s) s v }
+        ensures same { LendsSame Self.lender Self.words self.old self.new }
+        ensures after { Replaces Self.words self.old self.new (index * s) s v }
     {
         self.init_fragment(index, v, s);
     }
@@ -368,10 +320,8 @@ pub trait BitAccessMut: BitAccess {
     fn xor_fragment(&mut self, index: usize, v: u64, s: u8)
         requires in_range { IsFragmentInRange (Self.words self.old) index s }
         requires width { s ≤ 64 }
-        ensures same { Self.lender self.new ≡ Self.lender self.old }
-        ensures len { length (Self.words self.new) ≡ length (Self.words self.old) }
-        ensures after { bits_of (Self.words self.new)
-            ≡ with_flips (bits_of (Self.words self.old)) (index * s) s v };
+        ensures same { LendsSame Self.lender Self.words self.old self.new }
+        ensures after { Negates Self.words self.old self.new (index * s) s v };
 
     /// Replaces fragment `index` of width `s` by the number `v`, lowest bit first; `index` moves on by one.
     ///
@@ -384,10 +334,8 @@ pub trait BitAccessMut: BitAccess {
         requires room { index.old < usize.MAX }
         requires width { s ≤ 63 }
         requires fits { v < 2 ^ s }
-        ensures same { Self.lender self.new ≡ Self.lender self.old }
-        ensures len { length (Self.words self.new) ≡ length (Self.words self.old) }
-        ensures after { bits_of (Self.words self.new)
-            ≡ with_number (bits_of (Self.words self.old)) (index.old * s) s v }
+        ensures same { LendsSame Self.lender Self.words self.old self.new }
+        ensures after { Replaces Self.words self.old self.new (index.old * s) s v }
         ensures advances { index.new ≡ index.old + 1 };
 
     /// Makes fragment `index` of width `s`, whose bits are zeros or already the number `v`, the number `v`, lowest bit
@@ -404,10 +352,8 @@ pub trait BitAccessMut: BitAccess {
         requires fits { v < 2 ^ s }
         requires clear { (number_at (bits_of (Self.words self.old)) (index.old * s) s ≡ 0)
             ⊎ (number_at (bits_of (Self.words self.old)) (index.old * s) s ≡ v) }
-        ensures same { Self.lender self.new ≡ Self.lender self.old }
-        ensures len { length (Self.words self.new) ≡ length (Self.words self.old) }
-        ensures after { bits_of (Self.words self.new)
-            ≡ with_number (bits_of (Self.words self.old)) (index.old * s) s v }
+        ensures same { LendsSame Self.lender Self.words self.old self.new }
+        ensures after { Replaces Self.words self.old self.new (index.old * s) s v }
         ensures advances { index.new ≡ index.old + 1 };
 
     /// Negates bits from the begin of fragment `index` on as `xor_fragment` does; `index` moves on by one.
@@ -419,10 +365,8 @@ pub trait BitAccessMut: BitAccess {
         requires short { IsShort (Self.words self.old) }
         requires room { index.old < usize.MAX }
         requires width { s ≤ 64 }
-        ensures same { Self.lender self.new ≡ Self.lender self.old }
-        ensures len { length (Self.words self.new) ≡ length (Self.words self.old) }
-        ensures after { bits_of (Self.words self.new)
-            ≡ with_flips (bits_of (Self.words self.old)) (index.old * s) s v }
+        ensures same { LendsSame Self.lender Self.words self.old self.new }
+        ensures after { Negates Self.words self.old self.new (index.old * s) s v }
         ensures advances { index.new ≡ index.old + 1 };
 
     /// Makes fragments `i` and `j` of width `s` change places; nothing changes where `i` is `j`.
@@ -433,9 +377,9 @@ pub trait BitAccessMut: BitAccess {
         requires first { IsFragmentInRange (Self.words self.old) i s }
         requires second { IsFragmentInRange (Self.words self.old) j s }
         requires width { s ≤ 63 }
-        ensures same { Self.lender self.new ≡ Self.lender self.old }
-        ensures len { length (Self.words self.new) ≡ length (Self.words self.old) }
-        ensures swapped { bits_of (Self.words self.new) ≡ with_swapped (bits_of (Self.words self.old)) i j s }
+        ensures same { LendsSame Self.lender Self.words self.old self.new }
+        ensures swapped { bits_of (Self.words self.new)
+            ≡ with_swapped (bits_of (Self.words self.old)) i j s }
         ensures kept { i ≡ j → Self.words self.new ≡ Self.words self.old };
 
     /// The `s` bits from `begin` on as a number, lowest first, as they were: `new_value`, called once on that number,
@@ -456,13 +400,11 @@ pub trait BitAccessMut: BitAccess {
             (number_at (bits_of (Self.words self.old)) begin s) }
         requires fits { let old = number_at (bits_of (Self.words self.old)) begin s in
             (v : ℕ) → F.post new_value old (Some v) → v < 2 ^ s }
-        ensures same { Self.lender self.new ≡ Self.lender self.old }
-        ensures len { length (Self.words self.new) ≡ length (Self.words self.old) }
+        ensures same { LendsSame Self.lender Self.words self.old self.new }
         ensures old { result ≡ number_at (bits_of (Self.words self.old)) begin s }
         ensures after { (answer : _) × F.post new_value result answer
             × MatchOption answer (Self.words self.new ≡ Self.words self.old)
-            (λ v. bits_of (Self.words self.new)
-            ≡ with_number (bits_of (Self.words self.old)) begin s v) };
+            (Replaces Self.words self.old self.new begin s) };
 
     /// Fragment `index` of width `s` as a number, lowest bit first, as it was: `new_value`, called once on that number,
     /// answers what replaces it, or `None` where it stays.
@@ -482,13 +424,11 @@ pub trait BitAccessMut: BitAccess {
             (number_at (bits_of (Self.words self.old)) (index * s) s) }
         requires fits { let old = number_at (bits_of (Self.words self.old)) (index * s) s in
             (v : ℕ) → F.post new_value old (Some v) → v < 2 ^ s }
-        ensures same { Self.lender self.new ≡ Self.lender self.old }
-        ensures len { length (Self.words self.new) ≡ length (Self.words self.old) }
+        ensures same { LendsSame Self.lender Self.words self.old self.new }
         ensures old { result ≡ number_at (bits_of (Self.words self.old)) (index * s) s }
         ensures after { (answer : _) × F.post new_value result answer
             × MatchOption answer (Self.words self.new ≡ Self.words self.old)
-            (λ v. bits_of (Self.words self.new)
-            ≡ with_number (bits_of (Self.words self.old)) (index * s) s v) };
+            (Replaces Self.words self.old self.new (index * s) s) };
 
     /// Replaces the `s` bits from `begin` on by those of `src` at the same place, where `predicate`, called once on the
     /// two numbers, the old one first, answers true.
@@ -508,8 +448,7 @@ pub trait BitAccessMut: BitAccess {
         requires callable { F.pre predicate
             (number_at (bits_of (Self.words self.old)) begin s)
             (number_at (bits_of src.now) begin s) }
-        ensures same { Self.lender self.new ≡ Self.lender self.old }
-        ensures len { length (Self.words self.new) ≡ length (Self.words self.old) }
+        ensures same { LendsSame Self.lender Self.words self.old self.new }
         ensures after { let old = number_at (bits_of (Self.words self.old)) begin s in
             let new = number_at (bits_of src.now) begin s in
             (taken : _) × F.post predicate old new taken
@@ -536,8 +475,7 @@ pub trait BitAccessMut: BitAccess {
         requires callable { F.pre predicate
             (number_at (bits_of (Self.words self.old)) (index * s) s)
             (number_at (bits_of src.now) (index * s) s) }
-        ensures same { Self.lender self.new ≡ Self.lender self.old }
-        ensures len { length (Self.words self.new) ≡ length (Self.words self.old) }
+        ensures same { LendsSame Self.lender Self.words self.old self.new }
         ensures after { let old = number_at (bits_of (Self.words self.old)) (index * s) s in
             let new = number_at (bits_of src.now) (index * s) s in
             (taken : _) × F.post predicate old new taken
