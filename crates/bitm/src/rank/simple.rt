@@ -5,7 +5,7 @@ ghost use Rattle.std.specs.Int.{div_ceil};
 ghost use Rattle.bitm_bits.specs.Size.{saturated};
 ghost use Rattle.bitm_bits.specs.Bits.{bits_of, IsShort};
 ghost use Rattle.bitm_bits.specs.Count.{ones_before, IsRank};
-ghost use Rattle.bitm.specs.Simple.{simple_table_of};
+ghost use Rattle.bitm.specs.Simple.{HasFewOnes, simple_table_of};
 
 use crate::rank::Rank;
 use bitm_bits::{CloneWords, GetSize, n_lowest_bits, words};
@@ -33,25 +33,24 @@ pub struct RankSimple<BV: AsSlice<u64>> {
 pub type ArrayWithRankSimple = RankSimple<BoxedSlice<u64, Global>>;
 
 impl<BV: AsSlice<u64>> Model for RankSimple<BV> {
-    ghost use Rattle.std.specs.Prelude.{◌≡◌, ◌<◌, ◌^◌, length};
+    ghost use Rattle.std.specs.Prelude.{◌≡◌};
     ghost use Rattle.std.specs.Box.{boxed_slice_items};
     ghost use Rattle.bitm_bits.specs.Bits.{bits_of, IsShort};
-    ghost use Rattle.bitm_bits.specs.Count.{ones_before};
-    ghost use Rattle.bitm.specs.Simple.{simple_table_of};
+    ghost use Rattle.bitm.specs.Simple.{HasFewOnes, simple_table_of};
 
     ghost Value = { BV };
 
     ghost view = { λ s. s.content };
 
     ghost invariant = { λ s. IsShort (BV.items s.content)
-        × (ones_before (bits_of (BV.items s.content)) (length (bits_of (BV.items s.content))) < 2 ^ 32)
+        × HasFewOnes (BV.items s.content)
         × (boxed_slice_items s.ranks ≡ simple_table_of (bits_of (BV.items s.content))) };
 }
 
 /// The table of the words, and the number of ones.
 fn make(alloc: Global, words: &[u64]) -> Result<(BoxedSlice<u32, Global>, u32), AllocError>
     requires short { IsShort words.now }
-    requires few { ones_before (bits_of words.now) (length (bits_of words.now)) < 2 ^ 32 }
+    requires few { HasFewOnes words.now }
     ensures table { IfOk result
         (λ made. boxed_slice_items made.0 ≡ simple_table_of (bits_of words.now)) }
     ensures total { IfOk result
@@ -71,7 +70,7 @@ fn make(alloc: Global, words: &[u64]) -> Result<(BoxedSlice<u32, Global>, u32), 
 #[inline(always)]
 fn ones_of_run(words: &[u64], run: usize) -> u32
     requires short { IsShort words.now }
-    requires few { ones_before (bits_of words.now) (length (bits_of words.now)) < 2 ^ 32 }
+    requires few { HasFewOnes words.now }
     requires begun { 8 * run < length words.now }
     ensures { ones_before (bits_of words.now) (512 * run) + result
         ≡ ones_before (bits_of words.now) (512 * (run + 1)) }
@@ -86,7 +85,7 @@ fn ones_of_run(words: &[u64], run: usize) -> u32
 fn rank_from(words: &[u64], before: u32, index: usize) -> u32
     requires inside { index < 64 * length words.now }
     requires short { IsShort words.now }
-    requires few { ones_before (bits_of words.now) (length (bits_of words.now)) < 2 ^ 32 }
+    requires few { HasFewOnes words.now }
     requires before { before ≡ ones_before (bits_of words.now) (512 * (index / 512)) }
     ensures { result ≡ ones_before (bits_of words.now) index }
 {
@@ -106,8 +105,7 @@ impl<BV: AsSlice<u64>> RankSimple<BV> {
     /// The content itself, where no memory was found for the table; nothing else is left.
     pub fn build(alloc: Global, content: BV) -> Result<(Self, u32), BV>
         requires short { IsShort (BV.items content) }
-        requires few { ones_before (bits_of (BV.items content))
-            (length (bits_of (BV.items content))) < 2 ^ 32 }
+        requires few { HasFewOnes (BV.items content) }
         ensures kept { IfOk result (λ made. made.0 ≡ content) }
         ensures total { IfOk result (λ made. made.1
             ≡ ones_before (bits_of (BV.items content)) (length (bits_of (BV.items content)))) }
