@@ -9,9 +9,11 @@
 #![tactic(auto)]
 
 mod calls;
+mod outcome;
 mod packed;
 
-use calls::{Outcome, all};
+use calls::all;
+use outcome::Outcome;
 use std::alloc::{AllocError, Global};
 use std::io;
 use std::io::Read;

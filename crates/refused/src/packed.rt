@@ -1,7 +1,7 @@
 //! The calls of the packed index and of its strategies that take memory.
 ghost use Rattle.bitm.specs.Tables.{IsIndexable};
 
-use crate::calls::{Outcome, WORDS, answered, refused};
+use crate::outcome::{Outcome, WORDS, answered, refused};
 use bitm::{
     AdaptiveCombinedSamplingDensity, BinaryRankSearch, CombinedSampling, Rank, RankSelect101111,
     Select, Select0, Select0ForRank101111, SelectForRank101111,
