@@ -19,11 +19,11 @@ impl From<io::Error> for WriteFailed {
     }
 }
 
-/// Writes the answers to the lines of `input`, in their order and each with a line feed, and answers whether no answer was
-/// `bad command`.
+/// Writes the answers to the lines of `input`, in their order and each with a line feed, and
+/// answers whether no answer was `bad command`.
 ///
-/// A session begins with an empty vector and nothing built. Lines end with a line feed, a last one may lack it, and empty
-/// lines have no answer.
+/// A session begins with an empty vector and nothing built. Lines end with a line feed, a last one
+/// may lack it, and empty lines have no answer.
 ///
 /// # Errors
 /// `WriteFailed` where a write to `out` failed; what was written before stays.

@@ -1,8 +1,11 @@
 //! The commands, and which line is which.
-ghost use Rattle.std.specs.Prelude.{◌≡◌, ◌≤◌, IfOk, OnErr, IfSome, IsSome, is_some, option_map, length};
+ghost use Rattle.std.specs.Prelude.{◌≡◌, ◌≤◌, length, option_map};
+ghost use Rattle.std.specs.Prelude.{IfOk, OnErr, IfSome, IsSome, is_some};
 ghost use Rattle.std.specs.List.{filter_map, list_all};
-ghost use Rattle.bitm_vectors.specs.Text.{parts_of, parts_left, only_part, words_of, hexadecimal_of};
-ghost use Rattle.bitm_vectors.specs.Request.{request, request_of, range_request, kind_of, AsksForWords, IsWithinLimits};
+ghost use Rattle.bitm_vectors.specs.Text.{parts_of, parts_left, only_part};
+ghost use Rattle.bitm_vectors.specs.Text.{words_of, hexadecimal_of};
+ghost use Rattle.bitm_vectors.specs.Request.{request, request_of, range_request, kind_of};
+ghost use Rattle.bitm_vectors.specs.Request.{AsksForWords, IsWithinLimits};
 
 use crate::text::{decimal, first_part, hexadecimal};
 use std::alloc::{AllocError, Global};
@@ -33,7 +36,8 @@ pub(crate) enum Command {
     Select0(u64),
 }
 
-/// The command of a line, or `None` where it is none. It finds no memory only for the words of a vector.
+/// The command of a line, or `None` where it is none. It finds no memory only for the words of
+/// a vector.
 pub(crate) fn parse(alloc: Global, line: &[u8]) -> Result<Option<Command>, AllocError>
     ensures parsed { IfOk result (λ command. option_map request command ≡ request_of line.now) }
     ensures few { IfOk result (λ command. IfSome command (λ c. IsWithinLimits (request c))) }
@@ -106,7 +110,8 @@ fn kind_named(name: &[u8]) -> Option<Kind>
 /// The words that the parts write, where each part is one and there are at most `MAX_WORDS`.
 #[tactic(auto, using(crate::proofs::lemmas::PartLemmas::length_filter_map))]
 fn words(alloc: Global, rest: Option<&[u8]>) -> Result<Option<Vec<u64>>, AllocError>
-    ensures read { IfOk result (λ words. option_map (λ v. v.items) words ≡ words_of (parts_left rest.entry)) }
+    ensures read { IfOk result (λ words. option_map (λ v. v.items) words
+        ≡ words_of (parts_left rest.entry)) }
     ensures few { IfOk result (λ words. IfSome words (λ v. length v.items ≤ 65536)) }
     ensures refused { OnErr result (IsSome (words_of (parts_left rest.entry))) }
 {
@@ -133,7 +138,8 @@ fn are_words(text: &[u8]) -> bool
     parts.all(|part| hexadecimal(part).is_some())
 }
 
-/// The words that the parts write, of which there are so many, in one allocation of just their size.
+/// The words that the parts write, of which there are so many, in one allocation of just their
+/// size.
 fn collect_words(alloc: Global, text: &[u8], count: usize) -> Result<Vec<u64>, AllocError>
     ensures { IfOk result (λ words. words.items ≡ filter_map hexadecimal_of (parts_of text.now)) }
 {

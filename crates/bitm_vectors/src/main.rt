@@ -1,4 +1,5 @@
-//! Answers the commands of the file that its one argument names, line by line, over a vector of bits.
+//! Answers the commands of the file that its one argument names, line by line, over a vector of
+//! bits.
 #![tactic(auto)]
 
 mod answer;
@@ -12,7 +13,8 @@ mod tests;
 mod text;
 
 pub use answering::{WriteFailed, run};
-pub use starting::{CANNOT_READ, start};
+use starting::CANNOT_READ;
+pub use starting::start;
 use std::env::Env;
 use std::io::BufWriter;
 use std::process::ExitCode;

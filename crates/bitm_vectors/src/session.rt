@@ -3,7 +3,8 @@ ghost use Rattle.std.specs.Prelude.{◌≡◌, ◌≤◌, vec_len, IfSome, optio
 ghost use Rattle.std.specs.Box.{boxed_slice_items, boxed_slice_len};
 ghost use Rattle.bitm_bits.specs.Bits.{bits_of};
 ghost use Rattle.bitm_vectors.specs.Index.{indexed, kind_of_index};
-ghost use Rattle.bitm_vectors.specs.Request.{Request, Words, Build, Rank, Rank0, Select, Select0, Bits, request, request_of, IsWithinLimits};
+ghost use Rattle.bitm_vectors.specs.Request.{Request, Words, Build, Rank, Rank0, Select, Select0, Bits};
+ghost use Rattle.bitm_vectors.specs.Request.{request, request_of, IsWithinLimits};
 ghost use Rattle.bitm_vectors.specs.Session.{State, start, Step, changed_answer, changed};
 
 use crate::answer::Answer;
@@ -34,6 +35,7 @@ impl Model for Session {
 }
 
 impl Session {
+    /// An empty vector, and nothing built.
     #[tactic(auto, using(crate::proofs::lemmas::SessionLemmas::starts_empty))]
     pub(crate) fn new(alloc: Global) -> Session
         ensures { result ≡ start }

@@ -9,7 +9,7 @@ use std::io::Write;
 use std::rt::Files;
 
 /// What is written where the file, or the arguments before it, can't be read.
-pub const CANNOT_READ: &str = "bitm_vectors: cannot read the file";
+pub(crate) const CANNOT_READ: &str = "bitm_vectors: cannot read the file";
 
 /// What is written where an answer can't be written.
 const CANNOT_WRITE: &str = "bitm_vectors: cannot write";
@@ -17,14 +17,16 @@ const CANNOT_WRITE: &str = "bitm_vectors: cannot write";
 /// What is written where there is not exactly one argument.
 const USAGE: &str = "usage: bitm_vectors FILE";
 
-/// Answers the lines of the file that the one argument names, and answers the status that the program ends with.
+/// Answers the lines of the file that the one argument names, and answers the status that the
+/// program ends with.
 ///
-/// `args` are the arguments without the program's name. The status is 0 where no line was a bad command and 1 where one was; then
-/// `out` got the answers, and nothing was written to `err`.
+/// `args` are the arguments without the program's name. The status is 0 where no line was a bad
+/// command and 1 where one was; then `out` got the answers, and nothing was written to `err`.
 ///
 /// # Errors
-/// The status is 2, and a text goes to `err`, where there is not exactly one argument, where the file can't be read whole or
-/// its bytes find no memory, and where a write to `out` or its flush failed. A failed write to `err` changes nothing.
+/// The status is 2, and a text goes to `err`, where there is not exactly one argument, where the
+/// file can't be read whole or its bytes find no memory, and where a write to `out` or its flush
+/// failed. A failed write to `err` changes nothing.
 pub fn start<R: Files + AllocGlobal, W: Write, E: Write>(
     rt: &R,
     args: &[String],

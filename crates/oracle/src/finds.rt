@@ -11,17 +11,7 @@ use bitm::BitAccess;
 /// Compares the first ones from places on.
 pub fn find<'a>(state: &State<'a>, line: &'a str, found: &mut Found<'a>) -> Result<(), Fault> {
     let (words, pairs) = state.content(line)?;
-    for pair in pairs.split_ascii_whitespace() {
-        let (argument, theirs) = text::pair(pair)?;
-        let ours = words.find_bit_one(text::place(argument)?);
-        found.compare(
-            argument,
-            Base::Decimal,
-            ours.map(|place| place as u64),
-            theirs,
-        )?;
-    }
-    Ok(())
+    found.compare_pairs(pairs, |start| words.find_bit_one(start))
 }
 
 /// The last one up to `start`, where there is one.

@@ -116,6 +116,27 @@ impl<'a> Found<'a> {
         Ok(())
     }
 
+    /// Compares what a call answers at the arguments of pairs with the answers there.
+    pub fn compare_pairs<F: Fn(usize) -> Option<usize>>(
+        &mut self,
+        pairs: &'a str,
+        call: F,
+    ) -> Result<(), Fault>
+        requires { F.IsAlwaysCallable call }
+    {
+        for pair in pairs.split_ascii_whitespace() {
+            let (argument, theirs) = text::pair(pair)?;
+            let ours = call(text::place(argument)?);
+            self.compare(
+                argument,
+                Base::Decimal,
+                ours.map(|number| number as u64),
+                theirs,
+            )?;
+        }
+        Ok(())
+    }
+
     /// Compares two numbers.
     pub fn compare_numbers(&mut self, argument: &'a str, ours: u64, theirs: u64) {
         self.compare_values(argument, None, Base::Decimal, Some(ours), Some(theirs));

@@ -1,12 +1,13 @@
 //! Replays a file of answers of the original crate against the calls of `bitm`.
 //!
-//! The file, `data/answers.txt`, was printed by a program over the Rust crate `bitm`, unchanged, and each answer was
-//! computed again from the definitions by a second program, which shares no code with that crate: none differed. A rank at
-//! the exact length is `-` there.
+//! The file, `data/answers.txt`, was printed by a program over the Rust crate `bitm`, unchanged, and each
+//! answer was computed again from the definitions by a second program, which shares no code with that
+//! crate: none differed. A rank at the exact length is `-` there.
 //!
-//! A line is a kind and then words that stand apart by one space, and `#` begins a comment. Numbers are decimal, words and
-//! bytes hexadecimal, and `-` is `None`. In a list X*COUNT is a run of COUNT items X, and X+STEP*COUNT the COUNT items X,
-//! X+STEP, X+2*STEP, .. ID names the content of the last line `content ID`. A pair A:V is an argument and its answer.
+//! A line is a kind and then words that stand apart by one space, and `#` begins a comment. Numbers are
+//! decimal, words and bytes hexadecimal, and `-` is `None`. In a list X*COUNT is a run of COUNT items X,
+//! and X+STEP*COUNT the COUNT items X, X+STEP, X+2*STEP, .. ID names the content of the last line
+//! `content ID`. A pair A:V is an argument and its answer.
 //!
 //! ```text
 //! content ID COUNT WORDS               the words of the content
@@ -35,12 +36,12 @@
 //! get25, init25, set25                 likewise
 //! ```
 //!
-//! `try_select` and `try_select0` are compared both by binary search and by samples. KIND is a density, cM one that is
-//! the same for each content and aM an adaptive one, and D its logarithm. Samples are private to `bitm`: their number and
-//! D are compared, and no sample.
+//! `try_select` and `try_select0` are compared both by binary search and by samples. KIND is a density, cM
+//! one that is the same for each content and aM an adaptive one, and D its logarithm. Samples are private
+//! to `bitm`: their number and D are compared, and no sample.
 //!
-//! The program prints each difference, up to ten, and a line for each kind, and ends with status 0 where nothing
-//! differs.
+//! The program prints each difference, up to ten, and a line for each kind, and ends with status 0 where
+//! nothing differs.
 #![tactic(auto)]
 
 mod bits;

@@ -62,36 +62,6 @@ pub fn simple<'a>(
     Ok(())
 }
 
-/// Compares the ones before places, as an index counts them.
-fn rank_by<'a, I: Rank>(index: &I, pairs: &'a str, found: &mut Found<'a>) -> Result<(), Fault> {
-    for pair in pairs.split_ascii_whitespace() {
-        let (argument, theirs) = text::pair(pair)?;
-        let ours = index.try_rank(text::place(argument)?);
-        found.compare(
-            argument,
-            Base::Decimal,
-            ours.map(|count| count as u64),
-            theirs,
-        )?;
-    }
-    Ok(())
-}
-
-/// Compares the zeros before places, as an index counts them.
-fn rank0_by<'a, I: Rank>(index: &I, pairs: &'a str, found: &mut Found<'a>) -> Result<(), Fault> {
-    for pair in pairs.split_ascii_whitespace() {
-        let (argument, theirs) = text::pair(pair)?;
-        let ours = index.try_rank0(text::place(argument)?);
-        found.compare(
-            argument,
-            Base::Decimal,
-            ours.map(|count| count as u64),
-            theirs,
-        )?;
-    }
-    Ok(())
-}
-
 /// Compares the ones before places, by the simple rank and by the tables of an index.
 pub fn rank<'a>(
     alloc: Global,
@@ -101,9 +71,9 @@ pub fn rank<'a>(
 ) -> Result<(), Fault> {
     let (words, pairs) = state.content(line)?;
     let (simple, _) = build(alloc, words)?;
-    rank_by(&simple, pairs, found)?;
+    found.compare_pairs(pairs, |place| Rank::try_rank(&simple, place))?;
     let (index, _) = index::build::<BinaryRankSearch>(alloc, words)?;
-    rank_by(&index, pairs, found)
+    found.compare_pairs(pairs, |place| index.try_rank(place))
 }
 
 /// Compares the zeros before places, by the simple rank and by the tables of an index.
@@ -115,7 +85,7 @@ pub fn rank0<'a>(
 ) -> Result<(), Fault> {
     let (words, pairs) = state.content(line)?;
     let (simple, _) = build(alloc, words)?;
-    rank0_by(&simple, pairs, found)?;
+    found.compare_pairs(pairs, |place| simple.try_rank0(place))?;
     let (index, _) = index::build::<BinaryRankSearch>(alloc, words)?;
-    rank0_by(&index, pairs, found)
+    found.compare_pairs(pairs, |place| index.try_rank0(place))
 }

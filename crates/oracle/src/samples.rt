@@ -92,7 +92,8 @@ fn compare<'a>(
     }
 }
 
-/// Compares the logarithm of a density, and the number of samples with the length of a list of them.
+/// Compares the logarithm of a density, and the number of samples with the length of a list of
+/// them.
 pub fn samples<'a>(
     alloc: Global,
     state: &State<'a>,
@@ -126,7 +127,8 @@ pub fn samplesat<'a>(
     )
 }
 
-/// The logarithms that are chosen for a share of items, one for each greatest result that the lines speak of.
+/// The logarithms that are chosen for a share of items, one for each greatest result that the lines
+/// speak of.
 fn chosen(n: usize, len: usize) -> [u64; 6] {
     [
         u64::from(optimal_combined_sampling(n, len, 7)),

@@ -1,16 +1,15 @@
 //! Each call that takes memory, with its right answer and the state that a refusal has to leave.
-use crate::packed::{packed, packed_clone, packed_owned, sampled_new, sampled_new0};
+use crate::outcome::{Outcome, WORDS, answered, refused};
+use crate::packed::{Samples, packed, packed_clone, packed_owned, sampled_new, sampled_new0};
 use bitm::{ArrayWithRankSimple, BinaryRankSearch, BitVec, CloneWords, RankSimple};
 use std::alloc::{AllocError, Global};
 use std::boxed::BoxedSlice;
 use std::convert::AsSlice;
 
-type Samples = crate::packed::Samples;
-
 type Words = BoxedSlice<u64, Global>;
 
-/// The content that is handed to the calls: five ones, at places 0, 2, 3, 65 and 66.
-pub const WORDS: [u64; 2] = [13, 6];
+/// A word of ones.
+const FULL: u64 = u64::MAX;
 
 /// The calls that take memory.
 #[derive(Clone, Copy)]
@@ -35,26 +34,7 @@ pub enum Call {
     SampledClone,
 }
 
-/// How a call ended.
-#[derive(Clone, Copy)]
-pub enum Outcome {
-    Answered,
-    Refused,
-    Unready,
-    Wrong,
-}
-
-impl Outcome {
-    pub fn name(self) -> &'static str {
-        match self {
-            Outcome::Answered => "ok",
-            Outcome::Refused => "refused",
-            Outcome::Unready => "unready",
-            Outcome::Wrong => "wrong",
-        }
-    }
-}
-
+/// Each call once, in the order in which they are made.
 pub fn all() -> [Call; 18] {
     [
         Call::Segments,
@@ -79,6 +59,7 @@ pub fn all() -> [Call; 18] {
 }
 
 impl Call {
+    /// The word that its line begins with.
     pub fn name(self) -> &'static str {
         match self {
             Call::Segments => "with-64bit-segments",
@@ -102,23 +83,18 @@ impl Call {
         }
     }
 
+    /// Makes the call, and answers how it ended.
     pub fn run(self, alloc: Global) -> Outcome {
         match self {
             Call::Segments => made(Words::with_64bit_segments(alloc, 7, 3), [7, 7, 7]),
             Call::ZeroedSegments => made(Words::with_zeroed_64bit_segments(alloc, 3), [0, 0, 0]),
             Call::FilledSegments => made(
                 Words::with_filled_64bit_segments(alloc, 3),
-                [u64::MAX, u64::MAX, u64::MAX],
+                [FULL, FULL, FULL],
             ),
             Call::ZeroedBits => made(Words::with_zeroed_bits(alloc, 129), [0, 0, 0]),
-            Call::FilledBits => made(
-                Words::with_filled_bits(alloc, 129),
-                [u64::MAX, u64::MAX, u64::MAX],
-            ),
-            Call::Bitwords => made(
-                Words::with_bitwords(alloc, 1, 1, 129),
-                [u64::MAX, u64::MAX, 1],
-            ),
+            Call::FilledBits => made(Words::with_filled_bits(alloc, 129), [FULL, FULL, FULL]),
+            Call::Bitwords => made(Words::with_bitwords(alloc, 1, 1, 129), [FULL, FULL, 1]),
             Call::TrySame => try_same(alloc),
             Call::SimpleLent => simple_lent(alloc),
             Call::SimpleOwned => simple_owned(alloc),
@@ -132,22 +108,6 @@ impl Call {
             Call::BinaryClone => packed_clone::<BinaryRankSearch>(alloc),
             Call::SampledClone => packed_clone::<Samples>(alloc),
         }
-    }
-}
-
-pub fn answered(right: bool) -> Outcome {
-    if right {
-        Outcome::Answered
-    } else {
-        Outcome::Wrong
-    }
-}
-
-pub fn refused(unharmed: bool) -> Outcome {
-    if unharmed {
-        Outcome::Refused
-    } else {
-        Outcome::Wrong
     }
 }
 

@@ -1,17 +1,20 @@
 //! Makes each call that takes memory, and prints how it ended.
 //!
-//! A line is `ok`, or `refused` where memory was refused to the call and what it was given is unharmed, or `unready` where
-//! memory was refused to what comes before the call; else it is `wrong`.
+//! A line is `ok`, or `refused` where memory was refused to the call and what it was given is
+//! unharmed, or `unready` where memory was refused to what comes before the call; else it is `wrong`.
 //!
-//! A run can have one request for memory refused. To choose it by the input, the program first makes one request, and gives
-//! the memory back, for each byte of the input. After the calls it makes more, and its last line says whether one of those
-//! was refused, so that a refusal that no line shows has been overlooked by a call.
+//! A run can have one request for memory refused. To choose it by the input, the program first makes
+//! one request, and gives the memory back, for each byte of the input. After the calls it makes more,
+//! and its last line says whether one of those was refused, so that a refusal that no line shows has
+//! been overlooked by a call.
 #![tactic(auto)]
 
 mod calls;
+mod outcome;
 mod packed;
 
-use calls::{Outcome, all};
+use calls::all;
+use outcome::Outcome;
 use std::alloc::{AllocError, Global};
 use std::io;
 use std::io::Read;

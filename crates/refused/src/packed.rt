@@ -1,7 +1,7 @@
 //! The calls of the packed index and of its strategies that take memory.
 ghost use Rattle.bitm.specs.Tables.{IsIndexable};
 
-use crate::calls::{Outcome, WORDS, answered, refused};
+use crate::outcome::{Outcome, WORDS, answered, refused};
 use bitm::{
     AdaptiveCombinedSamplingDensity, BinaryRankSearch, CombinedSampling, Rank, RankSelect101111,
     Select, Select0, Select0ForRank101111, SelectForRank101111,
@@ -28,7 +28,8 @@ fn answers<S: SelectForRank101111, S0: Select0ForRank101111, BV: AsSlice<u64>>(
         && index.try_select0(123) == None
 }
 
-/// An index over the content, which has the words of `WORDS`, with the strategy for both kinds of bit.
+/// An index over the content, which has the words of `WORDS`, with the strategy for both kinds of
+/// bit.
 pub fn packed<S: SelectForRank101111 + Select0ForRank101111, BV: AsSlice<u64> + Drop>(
     alloc: Global,
     content: BV,

@@ -1,6 +1,6 @@
 -- How a session goes on by one line.
 use Rattle.std.proofs.Common.{◌≡◌, ℕ, ◌*◌, ◌<◌, Bool, true, false, cond, ◌&&◌, nat_lt, List, [], ◌∷◌, ◌++◌, length, set, Option, None, refl, sym, ap, ◌∙◌, subst, append-nil, arith}
-use Rattle.std.proofs.KnownBytes.{Appends-nil, Appends-trans}
+use Rattle.std.proofs.KnownBytes.{Appends-trans}
 use Rattle.std.proofs.lemmas.Bool.Decides.{nat_tests}
 use Rattle.std.proofs.lemmas.Grind.{flat_map-append}
 use Rattle.std.proofs.lemmas.List.Folds.{list_all-append}
@@ -38,9 +38,6 @@ text_more answers answer =
 told_more : (answers : List Answer) (answer : Answer) (good : Bool) → good ≡ list_all is_good answers → (good && is_good answer) ≡ list_all is_good (answers ++ answer ∷ [])
 told_more answers answer good h =
     ap (λ b. b && is_good answer) h ∙ sym (list_all-append is_good answers (answer ∷ []) ∙ ap (λ b. list_all is_good answers && b) (and_true (is_good answer)))
-
-pub wrote_none : (a : Option (List ℕ)) → Wrote [] start a a true
-wrote_none a = record { answers = []; session = refl; written = Appends-nil a; told = refl }
 
 pub wrote_more : (lines : List (List ℕ)) (line : List ℕ) (s t : State) (a b c : Option (List ℕ)) (good : Bool) (answer : Answer) → Wrote lines s a b good
     → Step s (request_of line) answer t → Appends b c (answer_text answer ++ 10 ∷ []) → Wrote (lines ++ line ∷ []) t a c (good && is_good answer)
