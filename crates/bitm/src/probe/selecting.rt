@@ -67,27 +67,38 @@ pub(crate) fn entry_of<const ONE: u8, T: TableSource>(source: &mut T, at: usize)
     }
 }
 
-/// The last entry of a part with no more than `rank` of the kind before it in the part.
-fn last_entry<const ONE: u8, T: TableSource>(source: &mut T, part: usize, rank: usize) -> usize
+/// The last entry of a part with no more than `rank` of the kind before it in the part: its place in the part, and what it
+/// packs.
+fn last_entry<const ONE: u8, T: TableSource>(
+    source: &mut T,
+    part: usize,
+    rank: usize,
+) -> (usize, u64)
     requires tables { HasTables (T.lists source.old) }
     requires short { IsShort (T.lists source.old).words }
     requires inside { part < length (T.lists source.old).upper }
     ensures last { IsLastEntry (sought_in ONE (T.lists source.old).words)
-        (length (T.lists source.old).lower) part rank result }
-    ensures reads { ReadsAtMost (T.reads source.old) (T.reads source.new) 0 22 0 }
+        (length (T.lists source.old).lower) part rank result.0 }
+    ensures entry { result.1
+        ≡ lower_entry (sought_in ONE (T.lists source.old).words) (part * 2 ^ 21 + result.0) }
+    ensures reads { ReadsAtMost (T.reads source.old) (T.reads source.new) 0 23 0 }
     ensures same { T.lists source.new ≡ T.lists source.old }
 {
     let first = part * L2_ENTRIES_PER_L1_ENTRY;
     let mut low = 0;
     let mut left = entries_of_part(source.lower_len(), part);
+    let mut packed = entry_of::<ONE, T>(source, first);
     while left > 1 {
         let half = left / 2;
-        if ones_to_entry(entry_of::<ONE, T>(source, first + low + half)) <= rank {
+        let next = entry_of::<ONE, T>(source, first + low + half);
+        // The entry is kept with its place: then both are moved by the compare, and no branch is taken on it.
+        if ones_to_entry(next) <= rank {
             low += half;
+            packed = next;
         }
         left -= half;
     }
-    low
+    (low, packed)
 }
 
 /// 1 where no more than `rank` were counted, else 0.
@@ -171,7 +182,41 @@ fn in_record<const ONE: u8, T: TableSource>(
     None
 }
 
-/// Selection in entry `entry` of a part: the last one with no more than `rank` of the kind before it in the part.
+/// Selection in entry `entry` of a part, which packs `packed`: the last one with no more than `rank` of the kind before it
+/// in the part.
+#[inline(always)]
+fn in_packed<const ONE: u8, T: TableSource>(
+    source: &mut T,
+    part: usize,
+    entry: usize,
+    packed: u64,
+    rank: usize,
+) -> Option<usize>
+    requires tables { HasTables (T.lists source.old) }
+    requires short { IsShort (T.lists source.old).words }
+    requires part { let m = sought_in ONE (T.lists source.old).words in
+        IsLastPart m (length (T.lists source.old).upper)
+        (ones_before m (part * 2 ^ 32) + rank) part }
+    requires entry { IsLastEntry (sought_in ONE (T.lists source.old).words)
+        (length (T.lists source.old).lower) part rank entry }
+    requires packed { packed
+        ≡ lower_entry (sought_in ONE (T.lists source.old).words) (part * 2 ^ 21 + entry) }
+    ensures answer { let m = sought_in ONE (T.lists source.old).words in
+        IsSelect (bits_of (T.lists source.old).words) (kind ONE)
+        (ones_before m (part * 2 ^ 32) + rank) result }
+    ensures inside { IfSome result (λ p. p / 2048 ≡ part * 2 ^ 21 + entry) }
+    ensures reads { ReadsAtMost (T.reads source.old) (T.reads source.new) 0 0 8 }
+    ensures same { T.lists source.new ≡ T.lists source.old }
+{
+    let at = part * L2_ENTRIES_PER_L1_ENTRY + entry;
+    let in_entry = rank - ones_to_entry(packed);
+    let (place, before) = record_of(packed, in_entry);
+    let first = at * U64_PER_L2_ENTRY + place * U64_PER_L2_RECORDS;
+    in_record::<ONE, T>(source, first, in_entry - before)
+}
+
+/// Selection in entry `entry` of a part, which is read: the last one with no more than `rank` of the kind before it in the
+/// part.
 #[inline(always)]
 pub(crate) fn in_entry<const ONE: u8, T: TableSource>(
     source: &mut T,
@@ -193,12 +238,8 @@ pub(crate) fn in_entry<const ONE: u8, T: TableSource>(
     ensures reads { ReadsAtMost (T.reads source.old) (T.reads source.new) 0 1 8 }
     ensures same { T.lists source.new ≡ T.lists source.old }
 {
-    let at = part * L2_ENTRIES_PER_L1_ENTRY + entry;
-    let packed = entry_of::<ONE, T>(source, at);
-    let in_entry = rank - ones_to_entry(packed);
-    let (place, before) = record_of(packed, in_entry);
-    let first = at * U64_PER_L2_ENTRY + place * U64_PER_L2_RECORDS;
-    in_record::<ONE, T>(source, first, in_entry - before)
+    let packed = entry_of::<ONE, T>(source, part * L2_ENTRIES_PER_L1_ENTRY + entry);
+    in_packed::<ONE, T>(source, part, entry, packed, rank)
 }
 
 /// The place of the one of the source's words with exactly `rank` ones before it, and `None` exactly where there is
@@ -225,6 +266,6 @@ pub fn binary_select_on<const ONE: u8, T: TableSource>(source: &mut T, rank: usi
     }
     let part = last_part::<ONE, T>(source, rank);
     let in_part = rank - before_part::<ONE, T>(source, part);
-    let entry = last_entry::<ONE, T>(source, part, in_part);
-    in_entry::<ONE, T>(source, part, entry, in_part)
+    let (entry, packed) = last_entry::<ONE, T>(source, part, in_part);
+    in_packed::<ONE, T>(source, part, entry, packed, in_part)
 }

@@ -2,6 +2,7 @@
 use Rattle.std.proofs.Common.{◌≡◌, ℕ, ◌+◌, ◌-◌, ◌*◌, ◌^◌, ◌≤◌, length, ap, sym, ◌∙◌, subst, arith}
 use Rattle.bitm_bits.specs.Bits.{bits_of}
 use Rattle.bitm_bits.specs.Count.{ones_before, kind, IsSelect}
+use Rattle.bitm.specs.Entry.{lower_entry}
 use Rattle.bitm.specs.Search.{IsLastPart, IsLastEntry, sought_in}
 use Rattle.bitm.specs.Tables.{Lists}
 use Rattle.bitm.proofs.lemmas.MarkLemmas.{none_in_nothing}
@@ -28,9 +29,9 @@ module _ (g : _) (c : After-last_entry-entry g) where
       let le : ones_before m here ≤ c.args.rank = c.last_part-part.ensures.last.at_most in
       omega (arith, u, le)
 
-pub in_entry-requires-clause-part : goal.in_entry-requires-clause-part
-in_entry-requires-clause-part g c =
-    let d = (goal.at.in_entry-requires-clause-part g c).After-last_entry-entry in
+pub in_packed-requires-clause-part : goal.in_packed-requires-clause-part
+in_packed-requires-clause-part g c =
+    let d = (goal.at.in_packed-requires-clause-part g c).After-last_entry-entry in
     let lists = g.T.TableSource.lists c.args.source.now in
     let part = c.last_part-part.result in
     subst
@@ -40,12 +41,17 @@ in_entry-requires-clause-part g c =
     (sym (same g d))
     (subst (λ (n : ℕ). IsLastPart (sought_in g.row.ONE lists.words) (length lists.upper) n part) (total g d) c.last_part-part.ensures.last)
 
-pub in_entry-requires-clause-entry : goal.in_entry-requires-clause-entry
-in_entry-requires-clause-entry g c =
+pub in_packed-requires-clause-entry : goal.in_packed-requires-clause-entry
+in_packed-requires-clause-entry g c =
     let left = c.args.rank - c.before_part.result in
     subst
-    (λ (l : Lists). IsLastEntry (sought_in g.row.ONE l.words) (length l.lower) c.last_part-part.result left c.last_entry-entry.result)
+    (λ (l : Lists). IsLastEntry (sought_in g.row.ONE l.words) (length l.lower) c.last_part-part.result left c.last_entry-entry.result.0)
     (sym c.last_entry-entry.ensures.same) c.last_entry-entry.ensures.last
+
+pub in_packed-requires-clause-packed : goal.in_packed-requires-clause-packed
+in_packed-requires-clause-packed g c =
+    let at = c.last_part-part.result * 2 ^ 21 + c.last_entry-entry.result.0 in
+    c.last_entry-entry.ensures.entry ∙ ap (λ (l : Lists). lower_entry (sought_in g.row.ONE l.words) at) (sym c.last_entry-entry.ensures.same)
 
 pub returns-clause-answer : goal.returns-clause-answer
 returns-clause-answer g c =
@@ -53,8 +59,8 @@ returns-clause-answer g c =
     let b = bits_of (g.T.TableSource.lists c.args.source.now).words in
     let here = c.last_part-part.result * 2 ^ 32 in
     let left = c.args.rank - c.before_part.result in
-    subst (λ (n : ℕ). IsSelect b (kind g.row.ONE) n c.in_entry.result) (sym (total g d))
+    subst (λ (n : ℕ). IsSelect b (kind g.row.ONE) n c.in_packed.result) (sym (total g d))
     (subst
     (λ (l : Lists).
-    IsSelect (bits_of l.words) (kind g.row.ONE) (ones_before (sought_in g.row.ONE l.words) here + left) c.in_entry.result)
-    (same g d) c.in_entry.ensures.answer)
+    IsSelect (bits_of l.words) (kind g.row.ONE) (ones_before (sought_in g.row.ONE l.words) here + left) c.in_packed.result)
+    (same g d) c.in_packed.ensures.answer)

@@ -1,5 +1,5 @@
 -- Each test halves what is left, and tells on which side the last entry of the part is.
-use Rattle.std.proofs.Common.{◌≡◌, ℕ, ◌+◌, ◌*◌, ◌-◌, ◌/◌, ◌^◌, ◌<◌, ◌≤◌, length, refl, ap, sym, ◌∙◌, subst, arith}
+use Rattle.std.proofs.Common.{◌≡◌, ℕ, ◌+◌, ◌*◌, ◌-◌, ◌/◌, ◌^◌, ◌<◌, ◌≤◌, length, ap, sym, ◌∙◌, subst, arith}
 use Rattle.bitm.specs.Entry.{before_in_part, lower_entry}
 use Rattle.bitm.specs.Search.{entries_from, sought_in}
 use Rattle.bitm.specs.Tables.{Lists}
@@ -25,41 +25,59 @@ pub entries_of_part-left-requires : goal.entries_of_part-left-requires
 entries_of_part-left-requires g c =
     omega (arith, first_entry _ _ _ c.requires.tables c.requires.short c.args.part c.requires.inside, c.lower_len.ensures)
 
+pub entry_of-packed-requires-clause-inside : goal.entry_of-packed-requires-clause-inside
+entry_of-packed-requires-clause-inside g c =
+    omega (arith, first_entry _ _ _ c.requires.tables c.requires.short c.args.part c.requires.inside)
+
 pub loop-left-init : goal.loop-left-init
 loop-left-init g c =
     let lists = g.T.TableSource.lists c.args.source.now in
     let m = sought_in g.row.ONE lists.words in
     let n = entries_from (length lists.lower) c.args.part in
+    let e = c.entry_of-packed.ensures in
     let size : c.entries_of_part-left.result ≡ n = omega (arith, c.entries_of_part-left.ensures, c.lower_len.ensures) in
     let count : ℕ → ℕ = λ j. before_in_part m (c.args.part * 2 ^ 21 + j) in
     let begins =
     search_begins count n c.args.rank (some_entry _ _ _ c.requires.tables c.requires.short c.args.part c.requires.inside)
     (omega (arith, first_none m c.args.part)) in
+    let first : c.args.part * 2 ^ 21 ≡ c.args.part * 2 ^ 21 + 0 = omega arith in
     record {
       search = subst (Between count n c.args.rank 0) (sym size) begins;
-      lower = omega (arith, digit_count_most 22 (c.entries_of_part-left.result - 1) (omega (arith, size)));
-      upper = refl {A = ℕ};
-      words = refl {A = ℕ};
-      same = refl {A = Lists};
+      packed = e.entry ∙ ap (lower_entry m) first;
+      lower =
+          omega (
+            arith,
+            digit_count_most 22 (c.entries_of_part-left.result - 1) (omega (arith, size)),
+            ap (λ (r : ReadCounts). r.lower) e.counted,
+          );
+      upper = ap (λ (r : ReadCounts). r.upper) e.counted;
+      words = ap (λ (r : ReadCounts). r.words) e.counted;
+      same = e.same;
     }
 
-count : (g : _) (c : After-ones_to_entry g)
-    → c.ones_to_entry.result
-    ≡ before_in_part (sought_in g.row.ONE (g.T.TableSource.lists c.args.source.now).words)
-    (c.args.part * 2 ^ 21 + (c.loop-left.low + c.loop-left.left / 2))
-count g c =
-    let m = sought_in g.row.ONE (g.T.TableSource.lists c.args.source.now).words in
-    let at = c.args.part * 2 ^ 21 + c.loop-left.low + c.loop-left.left / 2 in
-    let there : at ≡ c.args.part * 2 ^ 21 + (c.loop-left.low + c.loop-left.left / 2) = omega arith in
-    c.ones_to_entry.ensures
-    ∙ low_is m c.entry_of.result at
-    (c.entry_of.ensures.entry ∙ ap (λ (l : Lists). lower_entry (sought_in g.row.ONE l.words) at) c.loop-left.invariant.same)
-    ∙ ap (before_in_part m) there
+module _ (g : _) (c : After-ones_to_entry g) where
+  next_is : c.entry_of-next.result
+      ≡ lower_entry (sought_in g.row.ONE (g.T.TableSource.lists c.args.source.now).words)
+      (c.args.part * 2 ^ 21 + (c.loop-left.low + c.loop-left.left / 2))
+  next_is =
+      let m = sought_in g.row.ONE (g.T.TableSource.lists c.args.source.now).words in
+      let at = c.args.part * 2 ^ 21 + c.loop-left.low + c.loop-left.left / 2 in
+      let there : at ≡ c.args.part * 2 ^ 21 + (c.loop-left.low + c.loop-left.left / 2) = omega arith in
+      c.entry_of-next.ensures.entry
+      ∙ ap (λ (l : Lists). lower_entry (sought_in g.row.ONE l.words) at) c.loop-left.invariant.same
+      ∙ ap (lower_entry m) there
+
+  count : c.ones_to_entry.result
+      ≡ before_in_part (sought_in g.row.ONE (g.T.TableSource.lists c.args.source.now).words)
+      (c.args.part * 2 ^ 21 + (c.loop-left.low + c.loop-left.left / 2))
+  count =
+      let m = sought_in g.row.ONE (g.T.TableSource.lists c.args.source.now).words in
+      c.ones_to_entry.ensures ∙ low_is m c.entry_of-next.result (c.args.part * 2 ^ 21 + (c.loop-left.low + c.loop-left.left / 2)) next_is
 
 pub loop-left-preserved : goal.loop-left-preserved
 loop-left-preserved g c =
     let i = c.loop-left.invariant in
-    let e = c.entry_of.ensures in
+    let e = c.entry_of-next.ensures in
     let lists = g.T.TableSource.lists c.args.source.now in
     let m = sought_in g.row.ONE lists.words in
     let n = entries_from (length lists.lower) c.args.part in
@@ -67,6 +85,7 @@ loop-left-preserved g c =
     let left = c.loop-left.left in
     let d = (goal.at.loop-left-preserved g c).After-ones_to_entry in
     let counts : ℕ → ℕ = λ j. before_in_part m (c.args.part * 2 ^ 21 + j) in
+    let at : ℕ → ℕ = λ j. lower_entry m (c.args.part * 2 ^ 21 + j) in
     let search : Between counts n c.args.rank c.if-ones_to_entry-rank.low (left - left / 2) =
     elim c.if-ones_to_entry-rank.branch [
       | then-ones_to_entry-rank w ↦
@@ -76,11 +95,16 @@ loop-left-preserved g c =
       | else-ones_to_entry-rank w ↦
           let above = subst (λ (n : ℕ). c.args.rank < n) (count g d) w.if-ones_to_entry-rank.false in
           subst (λ (k : ℕ). Between counts n c.args.rank k (left - left / 2)) (sym w.low-is)
-          (goes_down counts n c.args.rank low left i.search c.loop-left-test.true above
-          (λ j k h l. entries_rise m c.args.part j k h (omega arith)))
+          (goes_down counts n c.args.rank low left i.search c.loop-left-test.true above (λ j k h l. entries_rise m c.args.part j k h (omega arith)))
+    ] in
+    let packed : c.if-ones_to_entry-rank.packed ≡ at c.if-ones_to_entry-rank.low =
+    elim c.if-ones_to_entry-rank.branch [
+      | then-ones_to_entry-rank w ↦ w.packed-is ∙ next_is g d ∙ ap at (sym w.low-is)
+      | else-ones_to_entry-rank w ↦ w.packed-is ∙ i.packed ∙ ap at (sym w.low-is)
     ] in
     record {
       search = search;
+      packed = packed;
       lower = omega (arith, i.lower, ap (λ (r : ReadCounts). r.lower) e.counted, halves_left left c.loop-left-test.true);
       upper = ap (λ (r : ReadCounts). r.upper) e.counted ∙ i.upper;
       words = ap (λ (r : ReadCounts). r.words) e.counted ∙ i.words;
