@@ -3,8 +3,8 @@
 //! Contracts see a content as the list of its bits, and rank as plain counting in that list.
 //!
 //! ```
-//! let (index, ones) = RankSimple::build(alloc, [0b1101u64].as_slice())?;
-//! prove!(index.try_rank(2) == Some(1));
+//! let Ok((index, ones)) = RankSimple::build(alloc, [0b1101u64].as_slice()) else { .. };
+//! index.try_rank(2);    // Some(1)
 //! ```
 #![tactic(auto)]
 

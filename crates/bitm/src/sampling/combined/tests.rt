@@ -115,9 +115,9 @@ fn full_ends(alloc: Global) -> Result<Vec<u64>, AllocError> {
     words_of(alloc, &[(u64::MAX, 1), (0, 95_999), (u64::MAX, 1)])
 }
 
-/// Compares the samples that a constant density keeps of full ends: all of ones, and of zeros how many and those of the
-/// rows.
-fn expect_far<const LOG: u8>(
+/// Compares the samples and starts that a density keeps of full ends: all of ones, and of zeros how many and those of
+/// the rows.
+fn expect_far<D: CombinedSamplingDensity>(
     rt: &impl Abort,
     alloc: Global,
     ones: u32,
@@ -125,12 +125,12 @@ fn expect_far<const LOG: u8>(
     rows: &[Row],
 ) -> Result<(), AllocError> {
     let words = full_ends(alloc)?;
-    let index = indexed::<ConstCombinedSamplingDensity<LOG>>(rt, alloc, words.as_slice());
-    assert_eq!(rt;
-        index.select_support().samples.as_slice(),
-        [ones].as_slice()
-    );
-    let zeros = index.select0_support().samples.as_slice();
+    let index = indexed::<D>(rt, alloc, words.as_slice());
+    let (of_ones, of_zeros) = (index.select_support(), index.select0_support());
+    assert_eq!(rt; of_ones.samples.as_slice(), [ones].as_slice());
+    assert_eq!(rt; of_ones.begins.as_slice(), [0].as_slice());
+    assert_eq!(rt; of_zeros.begins.as_slice(), [0].as_slice());
+    let zeros = of_zeros.samples.as_slice();
     assert_eq!(rt; zeros.len(), count);
     for (place, sample) in rows {
         assert_eq!(rt; zeros.get(*place).copied(), Some(*sample), "sample {place}");
@@ -140,10 +140,12 @@ fn expect_far<const LOG: u8>(
 
 #[test]
 fn distance_is_capped(rt: HostRuntime) -> Result<(), AllocError> {
-    expect_far::<7>(&rt, rt.alloc(), 0xFFE0_0000, 48_000, BY_SEVEN)?;
-    expect_far::<8>(&rt, rt.alloc(), 0, 24_000, BY_EIGHT)?;
-    expect_far::<10>(&rt, rt.alloc(), 0, 6000, BY_TEN)?;
-    expect_far::<31>(&rt, rt.alloc(), 0, 1, &[(0, 0)])
+    let alloc = rt.alloc();
+    expect_far::<AdaptiveCombinedSamplingDensity<7>>(&rt, alloc, 0xFFE0_0000, 48_000, BY_SEVEN)?;
+    expect_far::<ConstCombinedSamplingDensity<7>>(&rt, alloc, 0xFFE0_0000, 48_000, BY_SEVEN)?;
+    expect_far::<ConstCombinedSamplingDensity<8>>(&rt, alloc, 0, 24_000, BY_EIGHT)?;
+    expect_far::<ConstCombinedSamplingDensity<10>>(&rt, alloc, 0, 6000, BY_TEN)?;
+    expect_far::<ConstCombinedSamplingDensity<31>>(&rt, alloc, 0, 1, &[(0, 0)])
 }
 
 #[test]
@@ -152,6 +154,8 @@ fn an_adaptive_density_is_sparse_where_items_are_many(rt: HostRuntime) -> Result
     let index = indexed::<AdaptiveCombinedSamplingDensity<13>>(&rt, rt.alloc(), words.as_slice());
     let ones = [0xFFE0_0000];
     assert_eq!(rt; index.select_support().samples.as_slice(), ones.as_slice());
+    assert_eq!(rt; index.select_support().begins.as_slice(), [0].as_slice());
+    assert_eq!(rt; index.select0_support().begins.as_slice(), [0].as_slice());
     let zeros = index.select0_support().samples.as_slice();
     assert_eq!(rt; zeros.len(), 750);
     for number in 0..750u32 {
