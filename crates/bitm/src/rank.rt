@@ -1,25 +1,26 @@
 //! How many bits of a kind stand before a place.
-ghost use Rattle.std.specs.Prelude.{◌≡◌, ◌<◌, List, Bool, length};
+ghost use Rattle.std.specs.Prelude.{◌≡◌, ◌≤◌, List, Bool, length};
 ghost use Rattle.bitm_bits.specs.Count.{ones_before, zeros_before, IsRank, IsRank0};
 
 pub mod simple;
+pub(crate) mod word;
 
-/// Answers how many ones, and how many zeros, stand before a place of a value's bits.
+/// Answers how many ones, and how many zeros, stand before a place of a value's bits, or before their end.
 pub trait Rank {
     /// The bits of the value.
     ghost bits: { Self → List Bool };
 
-    /// How many ones stand before place `index`; `None` exactly where that place is outside.
+    /// How many of the first `index` bits are ones; `None` exactly where there are fewer bits.
     fn try_rank(&self, index: usize) -> Option<usize>
         ensures { IsRank (bits self.now) index result };
 
-    /// How many ones stand before place `index`.
+    /// How many of the first `index` bits are ones.
     ///
     /// # Conditions
-    /// The place is inside.
+    /// There are no fewer than `index` bits.
     #[inline(always)]
     fn rank(&self, index: usize) -> usize
-        requires { index < length (bits self.now) }
+        requires { index ≤ length (bits self.now) }
         ensures { result ≡ ones_before (bits self.now) index }
     {
         match self.try_rank(index) {
@@ -28,19 +29,19 @@ pub trait Rank {
         }
     }
 
-    /// How many ones stand before place `index`, as `rank`.
+    /// How many of the first `index` bits are ones, as `rank`.
     ///
     /// # Conditions
-    /// The place is inside.
+    /// There are no fewer than `index` bits.
     #[inline(always)]
     fn rank_unchecked(&self, index: usize) -> usize
-        requires { index < length (bits self.now) }
+        requires { index ≤ length (bits self.now) }
         ensures { result ≡ ones_before (bits self.now) index }
     {
         self.rank(index)
     }
 
-    /// How many zeros stand before place `index`; `None` exactly where that place is outside.
+    /// How many of the first `index` bits are zeros; `None` exactly where there are fewer bits.
     #[inline(always)]
     fn try_rank0(&self, index: usize) -> Option<usize>
         ensures { IsRank0 (bits self.now) index result }
@@ -51,25 +52,25 @@ pub trait Rank {
         }
     }
 
-    /// How many zeros stand before place `index`.
+    /// How many of the first `index` bits are zeros.
     ///
     /// # Conditions
-    /// The place is inside.
+    /// There are no fewer than `index` bits.
     #[inline(always)]
     fn rank0(&self, index: usize) -> usize
-        requires { index < length (bits self.now) }
+        requires { index ≤ length (bits self.now) }
         ensures { result ≡ zeros_before (bits self.now) index }
     {
         index - self.rank(index)
     }
 
-    /// How many zeros stand before place `index`, as `rank0`.
+    /// How many of the first `index` bits are zeros, as `rank0`.
     ///
     /// # Conditions
-    /// The place is inside.
+    /// There are no fewer than `index` bits.
     #[inline(always)]
     fn rank0_unchecked(&self, index: usize) -> usize
-        requires { index < length (bits self.now) }
+        requires { index ≤ length (bits self.now) }
         ensures { result ≡ zeros_before (bits self.now) index }
     {
         self.rank0(index)

@@ -25,13 +25,13 @@ pub record Picks (b : List Bool) (v : Bool) (r p : ℕ) : Type 0 where
 abbrev pub IsSelect : List Bool → Bool → ℕ → Option ℕ → Type 0
 IsSelect b v r o = MatchOption o (count_before b v (length b) ≤ r) (Picks b v r)
 
--- the ones before place i, and None exactly where there is no such place
+-- how many of the first i items are ones, and None exactly where there are not so many items
 abbrev pub IsRank : List Bool → ℕ → Option ℕ → Type 0
-IsRank b i o = MatchOption o (length b ≤ i) (λ n. (i < length b) × (n ≡ ones_before b i))
+IsRank b i o = MatchOption o (length b < i) (λ n. (i ≤ length b) × (n ≡ ones_before b i))
 
--- the zeros before place i, and None exactly where there is no such place
+-- how many of the first i items are zeros, and None exactly where there are not so many items
 abbrev pub IsRank0 : List Bool → ℕ → Option ℕ → Type 0
-IsRank0 b i o = MatchOption o (length b ≤ i) (λ n. (i < length b) × (n ≡ zeros_before b i))
+IsRank0 b i o = MatchOption o (length b < i) (λ n. (i ≤ length b) × (n ≡ zeros_before b i))
 
 -- whether x is v
 abbrev pub is_same : Bool → Bool → Bool

@@ -3,7 +3,7 @@ ghost use Rattle.bitm_bits.specs.Count.{IsRank};
 
 use bitm::Rank;
 
-/// How many ones stand before a place, as `rank` answers it; `None` exactly where the place is outside.
+/// How many of so many bits from the front are ones, as `rank` answers it; `None` exactly where there are fewer bits.
 pub fn ranked<I: Rank>(index: &I, place: usize) -> Option<usize>
     ensures { IsRank (I.bits index.now) place result }
 {

@@ -22,7 +22,7 @@ struct Case<'a> {
 /// No words.
 const NO_WORDS: Case<'static> = Case {
     words: &[],
-    ranks: &[(0, None)],
+    ranks: &[(0, Some(0)), (1, None)],
     ones: &[(0, None)],
     zeros: &[(0, None)],
 };
@@ -30,7 +30,7 @@ const NO_WORDS: Case<'static> = Case {
 /// One word without a one.
 const ONE_EMPTY_WORD: Case<'static> = Case {
     words: &[0],
-    ranks: &[(0, Some(0)), (63, Some(0)), (64, None)],
+    ranks: &[(0, Some(0)), (63, Some(0)), (64, Some(0)), (65, None)],
     ones: &[(0, None)],
     zeros: &[(0, Some(0)), (63, Some(63)), (64, None)],
 };
@@ -67,7 +67,8 @@ const TWO_WORDS: Case<'static> = Case {
         (67, Some(5)),
         (70, Some(5)),
         (127, Some(5)),
-        (128, None),
+        (128, Some(5)),
+        (129, None),
         (0x1_0000_0001, None),
     ],
     ones: &[
@@ -110,7 +111,8 @@ const SIXTY_WORDS: Case<'static> = Case {
         (2049, Some(97)),
         (2050, Some(97)),
         (2051, Some(98)),
-        (3840, None),
+        (3840, Some(180)),
+        (3841, None),
     ],
     ones: &[
         (0, Some(0)),

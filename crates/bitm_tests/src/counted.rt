@@ -21,7 +21,7 @@ pub fn select_with_reads(index: &Lent<'_>, rank: usize) -> (Option<usize>, ReadC
     (answer, probe.into_reads())
 }
 
-/// How many ones stand before a place, `None` exactly where it is outside, and what was read.
+/// How many of so many bits from the front are ones, `None` exactly where there are fewer bits, and what was read.
 pub fn rank_with_reads(index: &Lent<'_>, place: usize) -> (Option<usize>, ReadCounts)
     ensures answer { IsRank (bits_of index.now.content.now) place result.0 }
     ensures reads { ReadsAtMost none_read result.1 1 1 8 }

@@ -11,7 +11,7 @@ use std::process::Abort;
 /// Selection by samples, as the tests use it.
 pub type Sampled = CombinedSampling<AdaptiveCombinedSamplingDensity<13>>;
 
-/// What one walk over the bits finds: the places of each kind, and the ones before each place.
+/// What one walk over the bits finds: the places of each kind, and the ones before each place and before the end.
 #[derive(Drop)]
 struct Found {
     ones: Vec<usize>,
@@ -27,17 +27,17 @@ fn walk(rt: &impl Abort, alloc: Global, words: &[u64]) -> Result<Found, AllocErr
         ranks: Vec::new(alloc),
     };
     for place in 0..usize::MAX {
+        found.ranks.push(found.ones.len())?;
         let Some(bit) = words.try_get_bit(place) else {
             break;
         };
-        found.ranks.push(found.ones.len())?;
         if bit {
             found.ones.push(place)?;
         } else {
             found.zeros.push(place)?;
         }
     }
-    assert_eq!(rt; found.ranks.len(), words.len().wrapping_mul(64));
+    assert_eq!(rt; found.ranks.len(), words.len().wrapping_mul(64).wrapping_add(1));
     Ok(found)
 }
 
@@ -105,7 +105,7 @@ pub fn expect_zero<I: Select0>(rt: &impl Abort, index: &I, rank: usize, place: O
 
 /// Compares all calls at every place and rank, to two past the end and at the greatest number, with what was found.
 fn expect_found<I: Rank + Select + Select0>(rt: &impl Abort, index: &I, found: &Found) {
-    for asked in (0..found.ranks.len().saturating_add(3)).chain([usize::MAX]) {
+    for asked in (0..found.ranks.len().saturating_add(2)).chain([usize::MAX]) {
         expect_rank(rt, index, asked, found.ranks.get(asked).copied());
         expect_one(rt, index, asked, found.ones.get(asked).copied());
         expect_zero(rt, index, asked, found.zeros.get(asked).copied());

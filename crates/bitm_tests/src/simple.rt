@@ -49,14 +49,15 @@ fn nine_full_words(rt: HostRuntime) -> Result<(), Fail> {
         (0, Some(0)),
         (512, Some(512)),
         (575, Some(575)),
-        (576, None),
+        (576, Some(576)),
+        (577, None),
         (usize::MAX, None),
     ];
     expect_ranks(&rt, &index, rows.as_slice());
-    for (place, ones) in [(0, 0), (512, 512), (575, 575)] {
+    for (place, ones) in [(0, 0), (512, 512), (575, 575), (576, 576)] {
         expect_narrow(&rt, &index, place, ones);
     }
-    assert_eq!(rt; index.try_rank(576), None);
+    assert_eq!(rt; index.try_rank(577), None);
     assert_eq!(rt; index.size_bytes_dyn(), 80);
     Ok(())
 }
@@ -76,7 +77,8 @@ fn two_words(rt: HostRuntime) -> Result<(), Fail> {
         (66, Some(4)),
         (67, Some(5)),
         (127, Some(5)),
-        (128, None),
+        (128, Some(5)),
+        (129, None),
     ];
     expect_ranks(&rt, &index, rows.as_slice());
     Ok(())
@@ -86,6 +88,6 @@ fn two_words(rt: HostRuntime) -> Result<(), Fail> {
 fn no_words(rt: HostRuntime) -> Result<(), Fail> {
     let (index, total) = owned(&rt, rt.alloc(), &[])?;
     assert_eq!(rt; total, 0);
-    expect_ranks(&rt, &index, [(0, None)].as_slice());
+    expect_ranks(&rt, &index, [(0, Some(0)), (1, None)].as_slice());
     Ok(())
 }

@@ -72,6 +72,9 @@ fn a_second_entry(rt: HostRuntime) -> Result<(), Fail> {
     let entries = [0x0601_8048_0000_0000, 0x0601_8048_0000_0060];
     let kept = (180, [0].as_slice(), entries.as_slice());
     expect_kept(&rt, rt.alloc(), [0b1101; 60].as_slice(), kept)?;
+    let words = [0b1101; 60];
+    let (index, _) = built(&rt, rt.alloc(), words.as_slice());
+    assert_eq!(rt; (index.try_rank0(3840), index.try_rank(3841)), (Some(3660), None));
     Ok(())
 }
 
@@ -84,12 +87,22 @@ fn full_words(rt: HostRuntime) {
     assert_eq!(rt; total, 2112);
     assert_eq!(rt; ranked(&index, 2048), Some(2048));
     assert_eq!(rt; ranked(&index, 2111), Some(2111));
-    assert_eq!(rt; index.try_rank(2112), None);
+    assert_eq!(rt; ranked(&index, 2112), Some(2112));
+    assert_eq!(rt; index.try_rank(2113), None);
     assert_eq!(rt;
         (index.try_select(2111), index.try_select(2112)),
         (Some(2111), None)
     );
     assert_eq!(rt; index.try_select0(0), None);
+}
+
+#[test]
+fn a_full_entry(rt: HostRuntime) {
+    let words = [u64::MAX; 32];
+    let (index, _) = built(&rt, rt.alloc(), words.as_slice());
+    assert_eq!(rt; index.l2ranks(), [0x8020_0600_0000_0000].as_slice());
+    assert_eq!(rt; ranked(&index, 2048), Some(2048));
+    assert_eq!(rt; index.try_rank(2049), None);
 }
 
 #[test]

@@ -62,9 +62,9 @@ IsAnswer state (Set place) answer = answer ≡ changed_answer state place
 IsAnswer state (Clear place) answer = answer ≡ changed_answer state place
 IsAnswer state (Build kind) answer = answer ≡ Ones (ones_before state.bits (length state.bits))
 IsAnswer state (Rank index) answer =
-    answer ≡ indexed_answer state.built (if nat_lt index (length state.bits) then Number (ones_before state.bits index) else Absent)
+    answer ≡ indexed_answer state.built (if nat_le index (length state.bits) then Number (ones_before state.bits index) else Absent)
 IsAnswer state (Rank0 index) answer =
-    answer ≡ indexed_answer state.built (if nat_lt index (length state.bits) then Number (zeros_before state.bits index) else Absent)
+    answer ≡ indexed_answer state.built (if nat_le index (length state.bits) then Number (zeros_before state.bits index) else Absent)
 IsAnswer state (Select rank) answer = IsPlaceAnswer state.built state.bits true rank answer
 IsAnswer state (Select0 rank) answer = IsPlaceAnswer state.built state.bits false rank answer
 IsAnswer state (Bits begin len) answer = answer ≡ range_answer state.bits begin len

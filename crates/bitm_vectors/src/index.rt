@@ -60,7 +60,7 @@ impl Index {
         }
     }
 
-    /// How many ones stand before a place; `None` exactly where it is outside.
+    /// How many of so many bits from the front are ones; `None` exactly where there are fewer bits.
     pub(crate) fn try_rank(&self, index: usize) -> Option<usize>
         ensures { IsRank (bits_of (indexed self.now)) index result }
     {
@@ -71,7 +71,7 @@ impl Index {
         }
     }
 
-    /// How many zeros stand before a place; `None` exactly where it is outside.
+    /// How many of so many bits from the front are zeros; `None` exactly where there are fewer bits.
     pub(crate) fn try_rank0(&self, index: usize) -> Option<usize>
         ensures { IsRank0 (bits_of (indexed self.now)) index result }
     {

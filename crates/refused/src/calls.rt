@@ -123,7 +123,8 @@ fn made(words: Result<Words, AllocError>, right: [u64; 3]) -> Outcome {
 fn ranks<BV: AsSlice<u64>>(index: &RankSimple<BV>) -> bool {
     index.as_slice() == WORDS.as_slice()
         && index.try_rank(66) == Some(4)
-        && index.try_rank(128) == None
+        && index.try_rank(128) == Some(5)
+        && index.try_rank(129) == None
 }
 
 /// A simple rank over the content, which has the words of `WORDS`.

@@ -21,7 +21,8 @@ fn answers<S: SelectForRank101111, S0: Select0ForRank101111, BV: AsSlice<u64>>(
 ) -> bool {
     index.as_slice() == WORDS.as_slice()
         && index.try_rank(66) == Some(4)
-        && index.try_rank(128) == None
+        && index.try_rank(128) == Some(5)
+        && index.try_rank(129) == None
         && index.try_select(4) == Some(66)
         && index.try_select(5) == None
         && index.try_select0(0) == Some(1)

@@ -1,7 +1,8 @@
 -- The ones among the lowest digits of a number, counted part by part, and the one that a rank picks there.
-use Rattle.std.proofs.Common.{◌≡◌, ℕ, zero, suc, ◌+◌, ◌-◌, ◌/◌, ◌%◌, ◌^◌, ◌<◌, ◌≤◌, true, ◌==◌, count_ones, ap, ◌∙◌, arith, zero-add, le_refl, mod-eq_of_lt, add_comm}
-use Rattle.std.proofs.lemmas.Nat.{mod_below, mod-pow-add, ones_cat, pow_pos, ones-le, ones_le_self}
+use Rattle.std.proofs.Common.{◌≡◌, ℕ, zero, suc, ◌+◌, ◌-◌, ◌*◌, ◌/◌, ◌%◌, ◌^◌, ◌<◌, ◌≤◌, true, ◌==◌, count_ones, ap, ap₂, ◌∙◌, arith, zero-add, le_refl, mod-eq_of_lt, add_comm}
+use Rattle.std.proofs.lemmas.Nat.{mod_below, mod-pow-add, ones_cat, pow_pos, ones-le, ones_le_self, shl-shr}
 use Rattle.std.proofs.lemmas.Nat.Bits.{bit_at-lt}
+use Rattle.std.proofs.Math.Nat.{mul-mod_left}
 use Rattle.std.proofs.Math.Pow.{mod-mod-pow}
 use Rattle.std.specs.Int.{bit_at}
 use Rattle.bitm_bits.proofs.lemmas.BitsLemmas.{length-low_digits, item-low_digits}
@@ -11,6 +12,18 @@ use Rattle.bitm_bits.specs.Bits.{low_digits}
 use Rattle.bitm_bits.specs.Count.{ones_before, Picks}
 
 -- ---- counts
+
+-- where the digits above place k are shifted out of 64, the ones of the others are left
+pub ones_shifted : (w k : ℕ) → k < 64 → count_ones (w * 2 ^ (63 - k) % 2 ^ 64) ≡ count_ones (w % 2 ^ (k + 1))
+ones_shifted w k inside =
+    let s = 63 - k in
+    let both : 64 ≡ k + 1 + s = omega arith in
+    let kept : w * 2 ^ s % 2 ^ (k + 1 + s) ≡ (w % 2 ^ (k + 1)) * 2 ^ s + 0 =
+    mod-pow-add (w * 2 ^ s) (k + 1) s ∙ ap₂ (λ a z. (a % 2 ^ (k + 1)) * 2 ^ s + z) (shl-shr w s) (mul-mod_left w (2 ^ s)) in
+    ap (λ e. count_ones (w * 2 ^ s % 2 ^ e)) both
+    ∙ ap count_ones kept
+    ∙ ones_cat s (w % 2 ^ (k + 1)) 0 (pow_pos s)
+    ∙ omega (arith, ones_le_self 0)
 
 -- one digit counts as itself
 pub ones_before-low_digits_more : (k n p : ℕ) → p < k → ones_before (low_digits k n) (p + 1) ≡ ones_before (low_digits k n) p + bit_at n p

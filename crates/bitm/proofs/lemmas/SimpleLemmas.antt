@@ -1,11 +1,10 @@
 -- The table of a simple rank, run by run.
-use Rattle.std.proofs.Common.{◌≡◌, ℕ, ◌+◌, ◌-◌, ◌*◌, ◌/◌, ◌%◌, ◌^◌, ◌<◌, ◌≤◌, min, Bool, List, length, take, drop, get_or, bit_and, count_ones, ap, ⊎_elim, arith}
+use Rattle.std.proofs.Common.{◌≡◌, ℕ, ◌+◌, ◌-◌, ◌*◌, ◌/◌, ◌%◌, ◌^◌, ◌<◌, ◌≤◌, min, Bool, List, length, take, drop, get_or, count_ones, ap, ⊎_elim, arith}
 use Rattle.std.specs.Int.{div_ceil}
 use Rattle.std.proofs.lemmas.List.FromFn.{length-map-range_with_len, get_or-map-range_with_len}
 use Rattle.std.proofs.lemmas.Bool.{cases_lt}
-use Rattle.std.proofs.lemmas.Nat.{and_mask}
 use Rattle.bitm_bits.proofs.lemmas.BitsLemmas.{length-bits_of}
-use Rattle.bitm_bits.proofs.lemmas.CountLemmas.{ones_before-bits_of_stretch, ones_before-bits_of_in_word, ones_before_past, ones_before-le}
+use Rattle.bitm_bits.proofs.lemmas.CountLemmas.{ones_before-bits_of_stretch, ones_before-bits_of_in_word, ones_before_past, ones_before-at_most_all}
 use Rattle.bitm_bits.specs.Bits.{bits_of}
 use Rattle.bitm_bits.specs.Count.{ones_before}
 use Rattle.bitm.specs.Simple.{simple_table_of}
@@ -53,28 +52,27 @@ run_counts words part k begun fit is =
     ))
     (cases_lt (8 * k + 8) (length words))
 
--- what is counted on the way to place i, from its run and from its word on
-pub record CountsTo (b : List Bool) (i run whole part : ℕ) : Type 0 where
+-- what is counted up to place i, that one included, from its run and from its word on
+pub record CountsThrough (b : List Bool) (i run whole part : ℕ) : Type 0 where
   pub word : run + whole ≡ ones_before b (64 * (i / 64))
-  pub place : run + whole + part ≡ ones_before b i
-  pub most : ones_before b i ≤ ones_before b (length b)
+  pub place : run + whole + part ≡ ones_before b (i + 1)
+  pub most : ones_before b (i + 1) ≤ ones_before b (length b)
 
-pub counts_to : (words part : List ℕ) (i : ℕ) → i < 64 * length words → ((j : ℕ) → get_or words j 0 < 2 ^ 64)
+pub counts_through : (words part : List ℕ) (i : ℕ) → i < 64 * length words → ((j : ℕ) → get_or words j 0 < 2 ^ 64)
     → part ≡ take (i / 64 - i / 512 * 8) (drop (i / 512 * 8) words)
-    → CountsTo (bits_of words) i (ones_before (bits_of words) (512 * (i / 512))) (ones_before (bits_of part) (64 * length part))
-    (count_ones (bit_and (get_or words (i / 64) 0) (2 ^ (i % 64) - 1)))
-counts_to words part i inside fit is =
+    → CountsThrough (bits_of words) i (ones_before (bits_of words) (512 * (i / 512))) (ones_before (bits_of part) (64 * length part))
+    (count_ones (get_or words (i / 64) 0 % 2 ^ (i % 64 + 1)))
+counts_through words part i inside fit is =
     let b = bits_of words in
     let stretch = ones_before-bits_of_stretch words (i / 512 * 8) (i / 64 - i / 512 * 8) (omega arith) fit in
     let there = ap (λ p. ones_before (bits_of p) (64 * length p)) is in
     let from : 64 * (i / 512 * 8) ≡ 512 * (i / 512) = omega arith in
     let to : 64 * (i / 512 * 8 + (i / 64 - i / 512 * 8)) ≡ 64 * (i / 64) = omega arith in
-    let at : 64 * (i / 64) + i % 64 ≡ i = omega arith in
-    let in_word = ones_before-bits_of_in_word words (i / 64) (omega arith) (i % 64) (omega arith) in
-    let masked = ap count_ones (and_mask (get_or words (i / 64) 0) (i % 64)) in
+    let at : 64 * (i / 64) + (i % 64 + 1) ≡ i + 1 = omega arith in
+    let in_word = ones_before-bits_of_in_word words (i / 64) (omega arith) (i % 64 + 1) (omega arith) in
     let word_is : ones_before b (512 * (i / 512)) + ones_before (bits_of part) (64 * length part) ≡ ones_before b (64 * (i / 64)) = omega (arith, stretch, there, ap (ones_before b) from, ap (ones_before b) to) in
     record {
       word = word_is;
-      place = omega (arith, word_is, in_word, masked, ap (ones_before b) at);
-      most = ones_before-le b i (length b) (omega (arith, length-bits_of words)) (omega arith);
+      place = omega (arith, word_is, in_word, ap (ones_before b) at);
+      most = ones_before-at_most_all b (i + 1);
     }

@@ -1,7 +1,6 @@
 -- The ones of a stretch of bits: no more than its length, and those of the words in it.
-use Rattle.std.proofs.Common.{◌≡◌, ℕ, ◌+◌, ◌-◌, ◌*◌, ◌/◌, ◌%◌, ◌^◌, ◌<◌, ◌≤◌, Bool, List, length, take, drop, slice_index, bit_and, count_by, count_ones, arith, ap, ◌∙◌, take-add, length-take}
+use Rattle.std.proofs.Common.{◌≡◌, ℕ, ◌+◌, ◌-◌, ◌*◌, ◌/◌, ◌%◌, ◌^◌, ◌<◌, ◌≤◌, Bool, List, length, take, drop, slice_index, count_by, count_ones, arith, ap, ◌∙◌, take-add, length-take}
 use Rattle.std.proofs.lemmas.List.Sums.{sum_by-append, count_by-le-length}
-use Rattle.std.proofs.lemmas.Nat.{and_mask, one_shl}
 use Rattle.bitm_bits.proofs.lemmas.CountLemmas.{ones_before_none, ones_before-bits_of_in_word}
 use Rattle.bitm_bits.specs.Bits.{bits_of}
 use Rattle.bitm_bits.specs.Count.{ones_before}
@@ -41,16 +40,14 @@ word_more words k w h fits is =
     let e : 64 * k + 64 ≡ 64 * (k + 1) = omega arith in
     omega (arith, ap (ones_before (bits_of words)) e, ones_before-bits_of_in_word words k h 64 (omega arith), ap count_ones same)
 
--- the low part of a word
-pub word_part : (words : List ℕ) (i w : ℕ) → i / 64 < length words → w ≡ slice_index words (i / 64)
-    → ones_before (bits_of words) (64 * (i / 64)) + count_ones (bit_and w (1 * 2 ^ (i % 64) % 2 ^ 64 - 1)) ≡ ones_before (bits_of words) i
-word_part words i w h is =
-    let e : 64 * (i / 64) + i % 64 ≡ i = omega arith in
-    let mask : bit_and w (1 * 2 ^ (i % 64) % 2 ^ 64 - 1) ≡ slice_index words (i / 64) % 2 ^ (i % 64) =
-    ap (λ (n : ℕ). bit_and w (n - 1)) (one_shl (i % 64) 64 (omega arith)) ∙ and_mask w (i % 64) ∙ ap (λ (n : ℕ). n % 2 ^ (i % 64)) is in
+-- the bits of a word up to a place, that one included
+pub word_through : (words : List ℕ) (last w : ℕ) → last / 64 < length words → w ≡ slice_index words (last / 64)
+    → ones_before (bits_of words) (64 * (last / 64)) + count_ones (w % 2 ^ (last % 64 + 1)) ≡ ones_before (bits_of words) (last + 1)
+word_through words last w h is =
+    let e : 64 * (last / 64) + (last % 64 + 1) ≡ last + 1 = omega arith in
     omega (
       arith,
-      ap count_ones mask,
-      ones_before-bits_of_in_word words (i / 64) h (i % 64) (omega arith),
+      ap (λ (n : ℕ). count_ones (n % 2 ^ (last % 64 + 1))) is,
+      ones_before-bits_of_in_word words (last / 64) h (last % 64 + 1) (omega arith),
       ap (ones_before (bits_of words)) e,
     )

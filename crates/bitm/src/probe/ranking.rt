@@ -7,13 +7,14 @@ ghost use Rattle.bitm.specs.Tables.{HasTables, IsIndexable};
 
 use crate::probe::entry::{ones_to_entry, ones_to_record};
 use crate::probe::source::TableSource;
+use crate::rank::word::ones_through;
 
-/// How many ones of the source's words stand before place `index`; `None` exactly where that place is outside.
+/// How many of the first `index` bits of the source's words are ones; `None` exactly where there are fewer bits.
 ///
 /// # Conditions
 /// The source's tables are those of its words, of fewer than 2^56 words.
 /// # Cost
-/// At most one upper entry, one lower entry and eight words are read.
+/// At most one upper entry, one lower entry and eight words are read: those of the last bit that counts.
 /// # Source
 /// The three levels are those of Zhou, Andersen and Kaminsky, 'Space-efficient, high-performance rank and select
 /// structures on uncompressed bit sequences' (SEA 2013), with the fields of an entry turned round so that rank needs no
@@ -26,16 +27,17 @@ pub fn rank_on<T: TableSource>(source: &mut T, index: usize) -> Option<usize>
     ensures reads { ReadsAtMost (T.reads source.old) (T.reads source.new) 1 1 8 }
     ensures same { T.lists source.new ≡ T.lists source.old }
 {
-    if index / 64 >= source.words_len() {
-        return None;
+    // The last bit that counts. Where none does this is above every place, so one test tells both.
+    let last = index.wrapping_sub(1);
+    if last / 64 >= source.words_len() {
+        return if index == 0 { Some(0) } else { None };
     }
-    let mut rank = source.upper(index >> 32);
-    let entry = source.lower(index / 2048);
+    let mut rank = source.upper(last >> 32);
+    let entry = source.lower(last / 2048);
     rank += ones_to_entry(entry);
-    rank += ones_to_record(entry, index / 512 % 4);
-    for at in index / 512 * 8..index / 64 {
+    rank += ones_to_record(entry, last / 512 % 4);
+    for at in last / 512 * 8..last / 64 {
         rank += source.word(at).count_ones() as usize;
     }
-    let low = source.word(index / 64) & ((1 << (index % 64)) - 1);
-    Some(rank + low.count_ones() as usize)
+    Some(rank + ones_through(source.word(last / 64), last % 64) as usize)
 }

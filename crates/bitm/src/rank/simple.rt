@@ -8,7 +8,8 @@ ghost use Rattle.bitm_bits.specs.Count.{ones_before, IsRank};
 ghost use Rattle.bitm.specs.Simple.{HasFewOnes, simple_table_of};
 
 use crate::rank::Rank;
-use bitm_bits::{CloneWords, GetSize, n_lowest_bits, words};
+use crate::rank::word::ones_through;
+use bitm_bits::{CloneWords, GetSize, words};
 use std::alloc::{AllocError, Global};
 use std::boxed::BoxedSlice;
 use std::convert::AsSlice;
@@ -80,20 +81,19 @@ fn ones_of_run(words: &[u64], run: usize) -> u32
     words::count_bit_ones(&words[first..end]) as u32
 }
 
-/// How many ones stand before place `index`, where `before` stand before its run.
+/// How many ones there are up to place `last`, that one included, where `before` stand before its run.
 #[inline(always)]
-fn rank_from(words: &[u64], before: u32, index: usize) -> u32
-    requires inside { index < 64 * length words.now }
+fn rank_from(words: &[u64], before: u32, last: usize) -> u32
+    requires inside { last < 64 * length words.now }
     requires short { IsShort words.now }
     requires few { HasFewOnes words.now }
-    requires before { before ≡ ones_before (bits_of words.now) (512 * (index / 512)) }
-    ensures { result ≡ ones_before (bits_of words.now) index }
+    requires before { before ≡ ones_before (bits_of words.now) (512 * (last / 512)) }
+    ensures { result ≡ ones_before (bits_of words.now) (last + 1) }
 {
-    let first = index / BITS_PER_RUN * WORDS_PER_RUN;
-    let word = index / 64;
+    let first = last / BITS_PER_RUN * WORDS_PER_RUN;
+    let word = last / 64;
     let whole = words::count_bit_ones(&words[first..word]) as u32;
-    let part = (words[word] & n_lowest_bits((index % 64) as u8)).count_ones();
-    before + whole + part
+    before + whole + ones_through(words[word], last % 64)
 }
 
 impl<BV: AsSlice<u64>> RankSimple<BV> {
@@ -117,29 +117,45 @@ impl<BV: AsSlice<u64>> RankSimple<BV> {
         }
     }
 
-    /// How many ones stand before place `index`; `None` exactly where that place is outside.
+    /// How many ones there are up to place `last`, that one included.
+    #[inline(always)]
+    fn ones_through(&self, last: usize) -> u32
+        requires { last < length (bits_of (BV.items self.now)) }
+        ensures { result ≡ ones_before (bits_of (BV.items self.now)) (last + 1) }
+    {
+        let before = self.ranks.as_slice()[last / BITS_PER_RUN];
+        rank_from(self.content.as_slice(), before, last)
+    }
+
+    /// How many of the first `index` bits are ones; `None` exactly where there are fewer bits.
     #[inline(always)]
     pub fn try_rank(&self, index: usize) -> Option<u32>
         ensures { IsRank (bits_of (BV.items self.now)) index result }
     {
-        if index / 64 < self.content.as_slice().len() {
-            Some(self.rank(index))
+        // The last bit that counts. Where none does this is above every place, so one test tells both.
+        let last = index.wrapping_sub(1);
+        if last / 64 < self.content.as_slice().len() {
+            Some(self.ones_through(last))
+        } else if index == 0 {
+            Some(0)
         } else {
             None
         }
     }
 
-    /// How many ones stand before place `index`.
+    /// How many of the first `index` bits are ones.
     ///
     /// # Conditions
-    /// The place is inside.
+    /// There are no fewer than `index` bits.
     #[inline(always)]
     pub fn rank(&self, index: usize) -> u32
-        requires { index < length (bits_of (BV.items self.now)) }
+        requires { index ≤ length (bits_of (BV.items self.now)) }
         ensures { result ≡ ones_before (bits_of (BV.items self.now)) index }
     {
-        let before = self.ranks.as_slice()[index / BITS_PER_RUN];
-        rank_from(self.content.as_slice(), before, index)
+        match self.try_rank(index) {
+            Some(count) => count,
+            None => unreachable!(),
+        }
     }
 }
 

@@ -1,34 +1,37 @@
 -- The two entries count up to the record, each whole word adds its ones, and so does the low part of the last one.
-use Rattle.std.proofs.Common.{◌≡◌, ℕ, ◌+◌, ◌-◌, ◌*◌, ◌/◌, ◌%◌, ◌^◌, ◌<◌, slice_index, ap, refl, ◌∙◌, arith, count_ones, bit_and}
+use Rattle.std.proofs.Common.{◌≡◌, ℕ, ◌+◌, ◌-◌, ◌*◌, ◌/◌, ◌%◌, ◌^◌, ◌<◌, ◌≤◌, length, slice_index, ap, refl, ◌∙◌, arith, count_ones}
 use Rattle.bitm_bits.specs.Bits.{bits_of}
 use Rattle.bitm_bits.specs.Count.{ones_before}
 use Rattle.bitm.specs.Entry.{field_0}
 use Rattle.bitm.specs.Tables.{Lists}
 use Rattle.bitm.specs.declared.probe.counts.ReadCounts.{ReadCounts}
-use Rattle.bitm.proofs.lemmas.StretchLemmas.{ones_before-self, word_more, word_part}
-use Rattle.bitm.proofs.lemmas.TableLemmas.{upper_inside, lower_inside, tables_sum, rank_outside, rank_inside}
+use Rattle.bitm.proofs.lemmas.StretchLemmas.{ones_before-self, word_more, word_through}
+use Rattle.bitm.proofs.lemmas.TableLemmas.{upper_inside, lower_inside, tables_sum, last_of, rank_outside, rank_inside, rank_of_none}
 use Rattle.bitm.proofs.probe.ranking.rank_on.Goals as goal
-use Rattle.bitm.proofs.probe.ranking.rank_on.Goals.{After-lower-entry, After-word, After-word-2}
+use Rattle.bitm.proofs.probe.ranking.rank_on.Goals.{After-lower-entry, After-word, After-ones_through}
 
-pub returns-then-index-words_len-clause-answer : goal.returns-then-index-words_len-clause-answer
-returns-then-index-words_len-clause-answer g c = rank_outside _ c.args.index (omega arith)
+pub returns-then-index-eq0-clause-answer : goal.returns-then-index-eq0-clause-answer
+returns-then-index-eq0-clause-answer g c = rank_of_none _ c.args.index (omega arith)
+
+pub returns-else-index-eq0-clause-answer : goal.returns-else-index-eq0-clause-answer
+returns-else-index-eq0-clause-answer g c = rank_outside _ c.args.index (omega (arith, c.ranges.index)) (omega arith) (omega arith)
 
 pub upper-rank-requires : goal.upper-rank-requires
-upper-rank-requires g c = upper_inside _ _ _ c.requires.tables c.args.index (omega arith)
+upper-rank-requires g c = upper_inside _ _ _ c.requires.tables (last_of c.args.index) (omega arith)
 
 pub lower-entry-requires : goal.lower-entry-requires
-lower-entry-requires g c = rw c.upper-rank.ensures.same (lower_inside _ _ _ c.requires.tables c.args.index (omega arith))
+lower-entry-requires g c = rw c.upper-rank.ensures.same (lower_inside _ _ _ c.requires.tables (last_of c.args.index) (omega arith))
 
 sum : (g : _) (c : After-lower-entry g)
-    → c.upper-rank.result + field_0 c.lower-entry.result + c.lower-entry.result / 2 ^ (11 * (3 - c.args.index / 512 % 4)) / 2 ^ 32 % 2 ^ 11
-    ≡ ones_before (bits_of (g.T.TableSource.lists c.args.source.now).words) (64 * (c.args.index / 512 * 8))
+    → c.upper-rank.result + field_0 c.lower-entry.result + c.lower-entry.result / 2 ^ (11 * (3 - last_of c.args.index / 512 % 4)) / 2 ^ 32 % 2 ^ 11
+    ≡ ones_before (bits_of (g.T.TableSource.lists c.args.source.now).words) (64 * (last_of c.args.index / 512 * 8))
 sum g c =
-    tables_sum _ _ _ c.requires.tables c.args.index (omega arith) c.upper-rank.result c.lower-entry.result c.upper-rank.ensures.item
-    (c.lower-entry.ensures.item ∙ ap (λ (l : Lists). slice_index l.lower (c.args.index / 2048)) c.upper-rank.ensures.same)
+    tables_sum _ _ _ c.requires.tables (last_of c.args.index) (omega arith) c.upper-rank.result c.lower-entry.result c.upper-rank.ensures.item
+    (c.lower-entry.ensures.item ∙ ap (λ (l : Lists). slice_index l.lower (last_of c.args.index / 2048)) c.upper-rank.ensures.same)
 
 at_most : (g : _) (c : After-lower-entry g)
-    → ones_before (bits_of (g.T.TableSource.lists c.args.source.now).words) (64 * (c.args.index / 512 * 8)) < 2 ^ 64
-at_most g c = omega (arith, ones_before-self (bits_of (g.T.TableSource.lists c.args.source.now).words) (64 * (c.args.index / 512 * 8)))
+    → ones_before (bits_of (g.T.TableSource.lists c.args.source.now).words) (64 * (last_of c.args.index / 512 * 8)) < 2 ^ 64
+at_most g c = omega (arith, ones_before-self (bits_of (g.T.TableSource.lists c.args.source.now).words) (64 * (last_of c.args.index / 512 * 8)))
 
 pub overflow_add-rank : goal.overflow_add-rank
 overflow_add-rank g c =
@@ -75,20 +78,25 @@ loop-at-preserved g c =
       same = e.same ∙ i.same;
     }
 
-total : (g : _) (c : After-word-2 g)
-    → c.loop-at.rank + count_ones (bit_and c.word-2.result (1 * 2 ^ (c.args.index % 64) % 18446744073709551616 - 1))
-    ≡ ones_before (bits_of (g.T.TableSource.lists c.args.source.now).words) c.args.index
+inside : (g : _) (c : After-ones_through g)
+    → (last_of c.args.index + 1 ≡ c.args.index) × (c.args.index ≤ length (bits_of (g.T.TableSource.lists c.args.source.now).words))
+inside g c = rank_inside _ c.args.index (omega (arith, c.ranges.index)) (omega (arith, c.requires.indexable)) (omega arith)
+
+total : (g : _) (c : After-ones_through g)
+    → c.loop-at.rank + c.ones_through.result ≡ ones_before (bits_of (g.T.TableSource.lists c.args.source.now).words) c.args.index
 total g c =
-    let at : c.loop-at.at ≡ c.args.index / 64 = omega arith in
-    let part = word_part _ c.args.index c.word-2.result (omega arith)
-    (c.word-2.ensures.item ∙ ap (λ (l : Lists). slice_index l.words (c.args.index / 64)) c.loop-at.invariant.same) in
+    let at : c.loop-at.at ≡ last_of c.args.index / 64 = omega arith in
+    let part = word_through _ (last_of c.args.index) c.word-2.result (omega arith)
+    (c.word-2.ensures.item ∙ ap (λ (l : Lists). slice_index l.words (last_of c.args.index / 64)) c.loop-at.invariant.same) in
     let rank = rw at at c.loop-at.invariant.rank in
-    omega (arith, rank, part)
+    omega (arith, rank, part, c.ones_through.ensures, ap (ones_before (bits_of (g.T.TableSource.lists c.args.source.now).words)) (inside g c).0)
 
 pub overflow_add-result : goal.overflow_add-result
 overflow_add-result g c =
-    let self = ones_before-self (bits_of (g.T.TableSource.lists c.args.source.now).words) c.args.index in
-    omega (arith, total g c, self)
+    let d = (goal.at.overflow_add-result g c).After-ones_through in
+    omega (arith, total g d, ones_before-self (bits_of (g.T.TableSource.lists c.args.source.now).words) c.args.index)
 
 pub returns-clause-answer : goal.returns-clause-answer
-returns-clause-answer g c = (rank_inside _ c.args.index (omega arith), total g c)
+returns-clause-answer g c =
+    let d = (goal.at.returns-clause-answer g c).After-ones_through in
+    ((inside g d).1, total g d)

@@ -5,14 +5,14 @@ use Rattle.bitm_bits.specs.Bits.{bits_of}
 use Rattle.bitm_bits.specs.Count.{ones_before}
 use Rattle.bitm.specs.Simple.{simple_table_of}
 use Rattle.bitm.proofs.lemmas.SimpleLemmas.{length-simple_table_of, get_or-simple_table_of, run_begun}
-use Rattle.bitm.proofs.rank.simple.RankSimple.rank.Goals as goal
+use Rattle.bitm.proofs.rank.simple.RankSimple.ones_through.Goals as goal
 
-pub bounds-as_slice-index : goal.bounds-as_slice-index
-bounds-as_slice-index g c =
+pub bounds-as_slice-last : goal.bounds-as_slice-last
+bounds-as_slice-last g c =
     let b = bits_of (g.BV.AsSlice.items c.args.self.now) in
     let table : c.as_slice.result.now ≡ simple_table_of b =
     c.as_slice.ensures.value ∙ c.self.invariant.2 ∙ ap (λ v. simple_table_of (bits_of (g.BV.AsSlice.items v))) c.self.view_is in
-    omega (arith, ap length table, length-simple_table_of b, run_begun (length b) c.args.index c.requires)
+    omega (arith, ap length table, length-simple_table_of b, run_begun (length b) c.args.last c.requires)
 
 pub rank_from-requires-clause-inside : goal.rank_from-requires-clause-inside
 rank_from-requires-clause-inside g c =
@@ -25,6 +25,6 @@ rank_from-requires-clause-before g c =
     let b = bits_of (g.BV.AsSlice.items c.self.inside.content) in
     let place = ap (λ v. length (bits_of (g.BV.AsSlice.items v))) c.self.view_is in
     let table : c.as_slice.result.now ≡ simple_table_of b = c.as_slice.ensures.value ∙ c.self.invariant.2 in
-    ap (λ t. get_or t (c.args.index / 512) 0) table
-    ∙ get_or-simple_table_of b (c.args.index / 512) 0 (run_begun (length b) c.args.index (omega (arith, place, c.requires)))
-    ∙ ap (λ ws. ones_before (bits_of ws) (512 * (c.args.index / 512))) (sym c.as_slice-2.ensures)
+    ap (λ t. get_or t (c.args.last / 512) 0) table
+    ∙ get_or-simple_table_of b (c.args.last / 512) 0 (run_begun (length b) c.args.last (omega (arith, place, c.requires)))
+    ∙ ap (λ ws. ones_before (bits_of ws) (512 * (c.args.last / 512))) (sym c.as_slice-2.ensures)
