@@ -21,7 +21,7 @@ pub record AreTablesOf (b : List Bool) (upper lower : List ℕ) : Type 0 where
 
 -- few enough words for an index
 abbrev pub IsIndexable : List ℕ → Type 0
-IsIndexable words = length words < 2 ^ 56
+IsIndexable words = length words < 2 ^ 58
 
 -- the words of a content and two tables
 pub record Lists : Type 0 where

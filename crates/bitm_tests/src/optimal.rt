@@ -61,6 +61,18 @@ fn test_optimal_combined_sampling_15(rt: HostRuntime) {
 }
 
 #[test]
+fn numbers_whose_products_do_not_fit(rt: HostRuntime) {
+    let rows = [
+        (1 << 62, 1 << 63, 13),
+        (1 << 63, usize::MAX, 13),
+        (usize::MAX, usize::MAX, 14),
+        (0, usize::MAX, 7),
+        (1, usize::MAX, 7),
+    ];
+    expect_rows(&rt, 14, rows.as_slice());
+}
+
+#[test]
 fn no_items_or_no_room(rt: HostRuntime) {
     assert_eq!(rt; optimal_combined_sampling(0, 0, 13), 13);
     assert_eq!(rt; optimal_combined_sampling(0, 64, 13), 7);

@@ -61,7 +61,7 @@ impl<'a> State<'a> {
         let (name, rest) = text::first_word(line);
         match &self.content {
             Some(content) if content.name == name => {
-                if content.words.len() < 1 << 56 {
+                if content.words.len() < 1 << 58 {
                     Ok((content.words.as_slice(), rest))
                 } else {
                     Err(Fault::Condition)

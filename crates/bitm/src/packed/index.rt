@@ -116,7 +116,7 @@ impl<S: SelectForRank101111, S0: Select0ForRank101111, BV: AsSlice<u64>> RankSel
     /// An index over the content, and the number of ones.
     ///
     /// # Conditions
-    /// The content has fewer than 2^56 words.
+    /// The content has fewer than 2^58 words.
     /// # Errors
     /// The content itself, where no memory was found for a table or a strategy; nothing else is left.
     /// # Cost
@@ -151,7 +151,7 @@ impl<S: SelectForRank101111, S0: Select0ForRank101111, BV: AsSlice<u64>> RankSel
         }
     }
 
-    /// The content; it has fewer than 2^56 words.
+    /// The content; it has fewer than 2^58 words.
     #[inline(always)]
     pub fn content(&self) -> &BV
         ensures value { result.now ≡ self.now.content }

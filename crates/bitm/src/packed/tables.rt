@@ -49,7 +49,7 @@ fn pack(before: usize, one: usize, two: usize, three: usize) -> u64
 #[inline(always)]
 fn ones_of_record(words: &[u64], first: usize) -> usize
     requires indexable { IsIndexable words.now }
-    requires near { first < 2 ^ 57 }
+    requires near { first < 2 ^ 59 }
     ensures ones { ones_before (bits_of words.now) (64 * first) + result
         ≡ ones_before (bits_of words.now) (64 * (first + 8)) }
     ensures most { result ≤ 512 }

@@ -12,7 +12,7 @@ use crate::rank::word::ones_through;
 /// How many of the first `index` bits of the source's words are ones; `None` exactly where there are fewer bits.
 ///
 /// # Conditions
-/// The source's tables are those of its words, of fewer than 2^56 words.
+/// The source's tables are those of its words, of fewer than 2^58 words.
 /// # Cost
 /// At most one upper entry, one lower entry and eight words are read: those of the last bit that counts.
 /// # Source

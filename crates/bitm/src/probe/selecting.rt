@@ -246,7 +246,7 @@ pub(crate) fn in_entry<const ONE: u8, T: TableSource>(
 /// none; zeros in place of ones where `ONE` is 0.
 ///
 /// # Conditions
-/// The source's tables are those of its words, of fewer than 2^56 words.
+/// The source's tables are those of its words, of fewer than 2^58 words.
 /// # Cost
 /// At most as many upper entries as their number has binary digits and one more, 23 lower entries and eight words are
 /// read, also where the answer is `None`.

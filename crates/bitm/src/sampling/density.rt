@@ -1,5 +1,5 @@
 //! How many items one sample stands for.
-ghost use Rattle.std.specs.Prelude.{◌≡◌, ℕ, ◌-◌, ◌*◌, ◌/◌, ◌%◌, ◌^◌, ◌<◌, ◌≤◌, nat_eq};
+ghost use Rattle.std.specs.Prelude.{◌≡◌, ℕ, ◌-◌, ◌/◌, ◌%◌, ◌^◌, ◌≤◌, nat_eq};
 ghost use Rattle.bitm.specs.Density.{optimal, within};
 ghost use Rattle.std.proofs.Common.{rules};
 
@@ -17,12 +17,7 @@ pub trait CombinedSamplingDensity: Copy {
     ghost chosen: { ℕ → ℕ → Self.SamplingDensity };
 
     /// The density for `items` items among `len` bits.
-    ///
-    /// # Conditions
-    /// Four times `items` and three times `len` are below 2^64.
     fn density_for(items: usize, len: usize) -> Self::SamplingDensity
-        requires items_fit { 4 * items < 2 ^ 64 }
-        requires len_fits { 3 * len < 2 ^ 64 }
         ensures { result ≡ chosen items len };
 
     /// The logarithm of how many items one sample stands for: 7 to 31.

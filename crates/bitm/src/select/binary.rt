@@ -12,7 +12,7 @@ use bitm_bits::GetSize;
 use std::alloc::{AllocError, Global};
 
 /// Selects by binary search: the part by the upper table, the entry by the lower one, then its record and at most eight
-/// words. It keeps nothing and supports every content with fewer than 2^56 words.
+/// words. It keeps nothing and supports every content with fewer than 2^58 words.
 #[derive(Clone, Copy, Debug, PartialEq, Eq)]
 pub struct BinaryRankSearch;
 
@@ -21,7 +21,7 @@ impl BinaryRankSearch {
     /// none.
     ///
     /// # Conditions
-    /// The source's tables are those of its words, of fewer than 2^56 words.
+    /// The source's tables are those of its words, of fewer than 2^58 words.
     /// # Cost
     /// At most `digits + 1` upper entries, 23 lower entries and eight words are read, where `digits` is the number of
     /// binary digits of the number of upper entries.
@@ -41,7 +41,7 @@ impl BinaryRankSearch {
     /// none.
     ///
     /// # Conditions
-    /// The source's tables are those of its words, of fewer than 2^56 words.
+    /// The source's tables are those of its words, of fewer than 2^58 words.
     /// # Cost
     /// At most `digits + 1` upper entries, 23 lower entries and eight words are read, where `digits` is the number of
     /// binary digits of the number of upper entries.

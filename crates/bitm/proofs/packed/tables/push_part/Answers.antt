@@ -1,12 +1,12 @@
 -- Each entry begins where the one before it ends, and the last one ends with the part or with the words.
-use Rattle.std.proofs.Common.{◌≡◌, ◌+◌, ◌*◌, ◌^◌, ◌<◌, [], ◌∷◌, ◌++◌, length, map, min, sym, ap, ap₂, ◌∙◌, arith}
+use Rattle.std.proofs.Common.{◌≡◌, ◌+◌, ◌*◌, ◌^◌, [], ◌∷◌, ◌++◌, length, map, min, sym, ap, ap₂, ◌∙◌, arith}
 use Rattle.std.specs.Int.{div_ceil}
 use Rattle.std.specs.List.{range_with_len}
 use Rattle.std.proofs.lemmas.List.FromFn.{map-range_with_len_more}
+use Rattle.bitm_bits.proofs.lemmas.CountLemmas.{few_ones, ones_before-at_most_all}
 use Rattle.bitm_bits.specs.Bits.{bits_of}
 use Rattle.bitm_bits.specs.Count.{ones_before}
 use Rattle.bitm.specs.Entry.{lower_entry}
-use Rattle.bitm.proofs.lemmas.StretchLemmas.{ones_before-self}
 use Rattle.bitm.proofs.lemmas.TableMakingLemmas.{counted_in_part, entry_begun, part_ended, part_begun}
 use Rattle.bitm.proofs.packed.tables.push_part.Goals as goal
 
@@ -25,9 +25,8 @@ entry_of-entry-requires-clause-before c =
 
 pub overflow_add-in_part : goal.overflow_add-in_part
 overflow_add-in_part c =
-    let last : c.loop-at.at < 2 ^ 52 = omega (arith, entry_begun (length c.args.words.now) c.loop-at.at (omega arith)) in
-    let most = ones_before-self (bits_of c.args.words.now) (2048 * (c.loop-at.at + 1)) in
-    omega (arith, c.loop-at.invariant.ones, c.entry_of-entry.ensures.ones, most)
+    let most = ones_before-at_most_all (bits_of c.args.words.now) (2048 * (c.loop-at.at + 1)) in
+    omega (arith, c.loop-at.invariant.ones, c.entry_of-entry.ensures.ones, most, few_ones c.args.words.now, c.requires.indexable)
 
 pub loop-at-preserved : goal.loop-at-preserved
 loop-at-preserved c =
