@@ -8,6 +8,7 @@ pub mod InWordLemmas
 pub mod MadeLemmas
 pub mod MarkLemmas
 pub mod PartLemmas
+pub mod RankLemmas
 pub mod SampleLemmas
 pub mod SearchLemmas
 pub mod SelectLemmas

@@ -2,10 +2,10 @@
 use Rattle.std.specs.Prelude.{◌≡◌, ℕ, ◌+◌, ◌-◌, ◌*◌, ◌/◌, ◌%◌, ◌^◌, ◌<◌, ◌≤◌, Bool, List, map, flat_map, sum_by, length, take, drop, min, slice_index_or, Option, MatchOption, if◌then◌else◌, nat_lt, nat_eq}
 use Rattle.std.specs.Int.{div_ceil}
 use Rattle.std.specs.List.{range_with_len}
-use Rattle.bitm_bits.specs.Bits.{bits_of, digit_count}
+use Rattle.bitm_bits.specs.Bits.{bits_of, digit_count, IsShort}
 use Rattle.bitm_bits.specs.Count.{ones_before, count_before, places}
 use Rattle.bitm.specs.Reads.{ReadsAtMost}
-use Rattle.bitm.specs.Tables.{AreTablesOf, IsIndexable}
+use Rattle.bitm.specs.Tables.{AreTablesOf}
 use Rattle.bitm.specs.declared.probe.counts.ReadCounts.{ReadCounts}
 use Rattle.bitm.specs.declared.sampling.samples.TableCounts.{TableCounts}
 
@@ -110,7 +110,7 @@ AreCounts counts = (b : List Bool) × CountsOf b counts
 -- of a content, a density and what was made at it: the chosen density for items v, and the content's samples and starts
 pub record Supported {S : Type 0} (log : S → ℕ) (chosen : ℕ → ℕ → S) (v : Bool) (words : List ℕ) (density : S) (kept begins : List ℕ)
     : Type 0 where
-  pub indexable : IsIndexable words
+  pub short : IsShort words
   pub density_is : density ≡ chosen (items_of (bits_of words) v) (length (bits_of words))
   pub samples_are : kept ≡ samples_of (bits_of words) v (log density)
   pub starts_are : begins ≡ sample_starts_of (bits_of words) v (log density)

@@ -1,5 +1,5 @@
 -- The two tables of a content, as counts of its bits.
-use Rattle.std.specs.Prelude.{◌≡◌, ℕ, ◌*◌, ◌^◌, ◌<◌, Bool, List, map, length}
+use Rattle.std.specs.Prelude.{◌≡◌, ℕ, ◌*◌, ◌^◌, Bool, List, map, length}
 use Rattle.std.specs.Int.{div_ceil}
 use Rattle.std.specs.List.{range_with_len}
 use Rattle.bitm_bits.specs.Bits.{bits_of}
@@ -18,10 +18,6 @@ lower_of b = map (lower_entry b) (range_with_len 0 (div_ceil (length b) 2048))
 pub record AreTablesOf (b : List Bool) (upper lower : List ℕ) : Type 0 where
   pub upper_is : upper ≡ upper_of b
   pub lower_is : lower ≡ lower_of b
-
--- few enough words for an index
-abbrev pub IsIndexable : List ℕ → Type 0
-IsIndexable words = length words < 2 ^ 58
 
 -- the words of a content and two tables
 pub record Lists : Type 0 where

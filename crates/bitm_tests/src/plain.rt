@@ -37,7 +37,10 @@ fn walk(rt: &impl Abort, alloc: Global, words: &[u64]) -> Result<Found, AllocErr
             found.zeros.push(place)?;
         }
     }
-    assert_eq!(rt; found.ranks.len(), words.len().wrapping_mul(64).wrapping_add(1));
+    assert_eq!(rt;
+        found.ranks.len(),
+        words.len().wrapping_mul(64).wrapping_add(1)
+    );
     Ok(found)
 }
 

@@ -74,7 +74,10 @@ fn a_second_entry(rt: HostRuntime) -> Result<(), Fail> {
     expect_kept(&rt, rt.alloc(), [0b1101; 60].as_slice(), kept)?;
     let words = [0b1101; 60];
     let (index, _) = built(&rt, rt.alloc(), words.as_slice());
-    assert_eq!(rt; (index.try_rank0(3840), index.try_rank(3841)), (Some(3660), None));
+    assert_eq!(rt;
+        (index.try_rank0(3840), index.try_rank(3841)),
+        (Some(3660), None)
+    );
     Ok(())
 }
 

@@ -1,6 +1,6 @@
 //! The content and the bytes that the lines speak of.
 ghost use Rattle.std.specs.Prelude.{IfOk};
-ghost use Rattle.bitm.specs.Tables.{IsIndexable};
+ghost use Rattle.bitm_bits.specs.Bits.{IsShort};
 
 use crate::fault::Fault;
 use crate::found::Found;
@@ -56,7 +56,7 @@ impl<'a> State<'a> {
 
     /// The words of the content that the first word of a line names, and what follows it.
     pub fn content(&self, line: &'a str) -> Result<(&[u64], &'a str), Fault>
-        ensures { IfOk result (λ found. IsIndexable found.0.now) }
+        ensures { IfOk result (λ found. IsShort found.0.now) }
     {
         let (name, rest) = text::first_word(line);
         match &self.content {

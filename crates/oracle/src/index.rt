@@ -1,8 +1,7 @@
 //! The index over a content, by which tables, selection and samples are replayed.
 ghost use Rattle.std.specs.Prelude.{◌≡◌, length, IfOk};
-ghost use Rattle.bitm_bits.specs.Bits.{bits_of};
+ghost use Rattle.bitm_bits.specs.Bits.{bits_of, IsShort};
 ghost use Rattle.bitm_bits.specs.Count.{ones_before};
-ghost use Rattle.bitm.specs.Tables.{IsIndexable};
 
 use crate::fault::Fault;
 use bitm::{RankSelect101111, Select0ForRank101111, SelectForRank101111};
@@ -16,7 +15,7 @@ pub fn build<'a, S: SelectForRank101111 + Select0ForRank101111>(
     alloc: Global,
     words: &'a [u64],
 ) -> Result<(Index<'a, S>, usize), Fault>
-    requires { IsIndexable words.now }
+    requires { IsShort words.now }
     ensures { IfOk result (λ made. made.1
         ≡ ones_before (bits_of words.now) (length (bits_of words.now))) }
 {

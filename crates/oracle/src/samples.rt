@@ -1,6 +1,6 @@
 //! How many samples there are, and how dense they are: the kinds `samples`, `samplesat` and `ocs`.
 ghost use Rattle.std.specs.Prelude.{◌≤◌};
-ghost use Rattle.bitm.specs.Tables.{IsIndexable};
+ghost use Rattle.bitm_bits.specs.Bits.{IsShort};
 
 use crate::content::State;
 use crate::fault::Fault;
@@ -55,7 +55,7 @@ fn compare_at<'a, D: CombinedSamplingDensity>(
     count: u64,
     found: &mut Found<'a>,
 ) -> Result<(), Fault>
-    requires { IsIndexable words.now }
+    requires { IsShort words.now }
 {
     let (index, ones) = index::build::<CombinedSampling<D>>(alloc, words)?;
     let len = 64 * words.len();
@@ -79,7 +79,7 @@ fn compare<'a>(
     count: u64,
     found: &mut Found<'a>,
 ) -> Result<(), Fault>
-    requires { IsIndexable words.now }
+    requires { IsShort words.now }
 {
     match claim.density {
         "a7" => compare_at::<Adaptive<7>>(alloc, words, claim, count, found),

@@ -1,9 +1,8 @@
 -- The tables entry by entry, and the counts on the way from them to a place.
-use Rattle.std.proofs.Common.{◌≡◌, ℕ, ◌+◌, ◌-◌, ◌*◌, ◌/◌, ◌%◌, ◌^◌, ◌<◌, ◌≤◌, ◌≢◌, Bool, List, length, get_or, slice_index, arith, ap, ◌∙◌}
+use Rattle.std.proofs.Common.{◌≡◌, ℕ, ◌+◌, ◌-◌, ◌*◌, ◌/◌, ◌%◌, ◌^◌, ◌<◌, Bool, List, length, get_or, slice_index, arith, ap, ◌∙◌}
 use Rattle.std.proofs.lemmas.List.FromFn.{length-map-range_with_len, get_or-map-range_with_len}
 use Rattle.std.specs.Int.{div_ceil}
 use Rattle.bitm_bits.proofs.lemmas.BitsLemmas.{length-bits_of}
-use Rattle.bitm_bits.proofs.lemmas.CountLemmas.{ones_before_none}
 use Rattle.bitm_bits.specs.Bits.{bits_of}
 use Rattle.bitm_bits.specs.Count.{ones_before}
 use Rattle.bitm.specs.Entry.{before_in_part, in_records, lower_entry, field_0}
@@ -80,20 +79,3 @@ module _ (words upper lower : List ℕ) (t : AreTablesOf (bits_of words) upper l
       let field : e / 2 ^ (11 * (3 - i / 512 % 4)) / 2 ^ 32 % 2 ^ 11 ≡ in_records b (i / 2048) (i / 512 % 4) =
       ap (λ (n : ℕ). n / 2 ^ (11 * (3 - i / 512 % 4)) / 2 ^ 32 % 2 ^ 11) entry ∙ entry-shifted b (i / 2048) (i / 512 % 4) (omega arith) in
       rw (first, low, field) (to_record b i)
-
--- ---- the answers of rank
-
--- the last of the first i bits, as the code has it: above every place where i is 0
-abbrev pub last_of : ℕ → ℕ
-last_of i = (i + (2 ^ 64 - 1)) % 2 ^ 64
-
-pub rank_inside : (words : List ℕ) (i : ℕ) → i < 2 ^ 64 → length words < 2 ^ 58 → last_of i / 64 < length words
-    → (last_of i + 1 ≡ i) × (i ≤ length (bits_of words))
-rank_inside words i fits few h = (omega arith, omega (arith, length-bits_of words))
-
-pub rank_outside : (words : List ℕ) (i : ℕ) → i < 2 ^ 64 → length words ≤ last_of i / 64 → i ≢ 0 → length (bits_of words) < i
-rank_outside words i fits h some = omega (arith, length-bits_of words)
-
--- no bits have no ones
-pub rank_of_none : (b : List Bool) (i : ℕ) → i ≡ 0 → (i ≤ length b) × (0 ≡ ones_before b i)
-rank_of_none b i e = (omega arith, omega (arith, ap (ones_before b) e, ones_before_none b))

@@ -2,11 +2,11 @@
 ghost use Rattle.std.specs.Prelude.{◌≡◌, ◌+◌, ◌*◌, ◌^◌, length, IfOk, IfErr};
 ghost use Rattle.std.specs.Box.{boxed_slice_items};
 ghost use Rattle.std.specs.Int.{div_ceil};
-ghost use Rattle.bitm_bits.specs.Bits.{bits_of};
+ghost use Rattle.bitm_bits.specs.Bits.{bits_of, IsShort};
 ghost use Rattle.bitm_bits.specs.Count.{ones_before};
 ghost use Rattle.bitm_bits.specs.Size.{saturated};
 ghost use Rattle.bitm.specs.Reads.{none_read};
-ghost use Rattle.bitm.specs.Tables.{AreTablesOf, HasTables, IsIndexable, upper_of, lower_of};
+ghost use Rattle.bitm.specs.Tables.{AreTablesOf, HasTables, upper_of, lower_of};
 
 use crate::packed::tables::{self, Tables};
 use crate::probe::ranking::rank_on;
@@ -55,15 +55,15 @@ pub struct RankSelect101111<S: SelectForRank101111, S0: Select0ForRank101111, BV
 impl<S: SelectForRank101111, S0: Select0ForRank101111, BV: AsSlice<u64>> Model
     for RankSelect101111<S, S0, BV> {
     ghost use Rattle.std.specs.Box.{boxed_slice_items};
-    ghost use Rattle.bitm_bits.specs.Bits.{bits_of};
+    ghost use Rattle.bitm_bits.specs.Bits.{bits_of, IsShort};
     ghost use Rattle.bitm.specs.Parts.{Parts};
-    ghost use Rattle.bitm.specs.Tables.{AreTablesOf, IsIndexable};
+    ghost use Rattle.bitm.specs.Tables.{AreTablesOf};
 
     ghost Value = { Parts BV S S0 };
 
     ghost view = { λ i. record { content = i.content; select = i.select; select0 = i.select0 } };
 
-    ghost invariant = { λ i. IsIndexable (BV.items i.content)
+    ghost invariant = { λ i. IsShort (BV.items i.content)
         × AreTablesOf (bits_of (BV.items i.content))
         (boxed_slice_items i.l1ranks) (boxed_slice_items i.l2ranks)
         × S.supports i.select (BV.items i.content)
@@ -84,7 +84,7 @@ fn make<S: SelectForRank101111, S0: Select0ForRank101111>(
     alloc: Global,
     words: &[u64],
 ) -> Result<Made<S, S0>, AllocError>
-    requires { IsIndexable words.now }
+    requires { IsShort words.now }
     ensures tables { IfOk result (λ made. AreTablesOf (bits_of words.now)
         (boxed_slice_items made.l1ranks) (boxed_slice_items made.l2ranks)) }
     ensures supports { IfOk result (λ made. S.supports made.select words.now) }
@@ -122,7 +122,7 @@ impl<S: SelectForRank101111, S0: Select0ForRank101111, BV: AsSlice<u64>> RankSel
     /// # Cost
     /// The tables are made in one pass over the words; then each strategy makes what it keeps.
     pub fn build(alloc: Global, content: BV) -> Result<(Self, usize), BV>
-        requires { IsIndexable (BV.items content) }
+        requires { IsShort (BV.items content) }
         ensures kept { IfOk result (λ made. made.0.content ≡ content) }
         ensures total { IfOk result (λ made. made.1
             ≡ ones_before (bits_of (BV.items content)) (length (bits_of (BV.items content)))) }
@@ -155,7 +155,7 @@ impl<S: SelectForRank101111, S0: Select0ForRank101111, BV: AsSlice<u64>> RankSel
     #[inline(always)]
     pub fn content(&self) -> &BV
         ensures value { result.now ≡ self.now.content }
-        ensures indexable { IsIndexable (BV.items result.now) }
+        ensures short { IsShort (BV.items result.now) }
     {
         &self.content
     }
@@ -199,7 +199,7 @@ impl<S: SelectForRank101111, S0: Select0ForRank101111, BV: AsSlice<u64>> RankSel
     pub fn probe(&self) -> Probe<'_>
         ensures words { result.lists.words ≡ BV.items self.now.content }
         ensures tables { HasTables result.lists }
-        ensures indexable { IsIndexable result.lists.words }
+        ensures short { IsShort result.lists.words }
         ensures reads { result.reads ≡ none_read }
     {
         Probe::new(self.content().as_slice(), self.l1ranks(), self.l2ranks())

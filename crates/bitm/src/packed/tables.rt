@@ -3,10 +3,10 @@ ghost use Rattle.std.specs.Prelude.{◌≡◌, ◌+◌, ◌*◌, ◌^◌, ◌<�
 ghost use Rattle.std.specs.Box.{boxed_slice_items};
 ghost use Rattle.std.specs.Int.{div_ceil};
 ghost use Rattle.std.specs.List.{range_with_len};
-ghost use Rattle.bitm_bits.specs.Bits.{bits_of};
+ghost use Rattle.bitm_bits.specs.Bits.{bits_of, IsShort};
 ghost use Rattle.bitm_bits.specs.Count.{ones_before};
 ghost use Rattle.bitm.specs.Entry.{packed, before_in_part, lower_entry};
-ghost use Rattle.bitm.specs.Tables.{AreTablesOf, IsIndexable};
+ghost use Rattle.bitm.specs.Tables.{AreTablesOf};
 
 use crate::select::levels::{
     L2_ENTRIES_PER_L1_ENTRY, U64_PER_L1_ENTRY, U64_PER_L2_ENTRY, U64_PER_L2_RECORDS,
@@ -48,7 +48,7 @@ fn pack(before: usize, one: usize, two: usize, three: usize) -> u64
 /// How many ones stand in the record of eight words from word `first` on, or in what is left of it.
 #[inline(always)]
 fn ones_of_record(words: &[u64], first: usize) -> usize
-    requires indexable { IsIndexable words.now }
+    requires short { IsShort words.now }
     requires near { first < 2 ^ 59 }
     ensures ones { ones_before (bits_of words.now) (64 * first) + result
         ≡ ones_before (bits_of words.now) (64 * (first + 8)) }
@@ -65,7 +65,7 @@ fn ones_of_record(words: &[u64], first: usize) -> usize
 /// Lower entry `at`, where `before` ones stand before it in its part, and the number of ones in it.
 #[inline(always)]
 fn entry_of(words: &[u64], at: usize, before: usize) -> (u64, usize)
-    requires indexable { IsIndexable words.now }
+    requires short { IsShort words.now }
     requires begun { 32 * at < length words.now }
     requires before { before ≡ before_in_part (bits_of words.now) at }
     ensures entry { result.0 ≡ lower_entry (bits_of words.now) at }
@@ -82,7 +82,7 @@ fn entry_of(words: &[u64], at: usize, before: usize) -> (u64, usize)
 
 /// Pushes the lower entries of a part, in order, and answers the number of ones in it.
 fn push_part(words: &[u64], part: usize, l2ranks: &mut Vec<u64>) -> Result<usize, AllocError>
-    requires indexable { IsIndexable words.now }
+    requires short { IsShort words.now }
     requires begun { part * 2 ^ 26 < length words.now }
     requires so_far { l2ranks.old.items
         ≡ map (lower_entry (bits_of words.now)) (range_with_len 0 (part * 2 ^ 21)) }
@@ -110,7 +110,7 @@ fn push_part(words: &[u64], part: usize, l2ranks: &mut Vec<u64>) -> Result<usize
 /// # Errors
 /// `AllocError` where no memory was found for a table; nothing is left.
 pub(crate) fn make(alloc: Global, words: &[u64]) -> Result<Tables, AllocError>
-    requires { IsIndexable words.now }
+    requires { IsShort words.now }
     ensures tables { IfOk result (λ made. AreTablesOf (bits_of words.now)
         (boxed_slice_items made.l1ranks) (boxed_slice_items made.l2ranks)) }
     ensures ones { IfOk result (λ made. made.ones

@@ -1,9 +1,9 @@
 //! Rank over a source, with a bound on its reads.
 ghost use Rattle.std.specs.Prelude.{◌≡◌};
-ghost use Rattle.bitm_bits.specs.Bits.{bits_of};
+ghost use Rattle.bitm_bits.specs.Bits.{bits_of, IsShort};
 ghost use Rattle.bitm_bits.specs.Count.{IsRank};
 ghost use Rattle.bitm.specs.Reads.{ReadsAtMost};
-ghost use Rattle.bitm.specs.Tables.{HasTables, IsIndexable};
+ghost use Rattle.bitm.specs.Tables.{HasTables};
 
 use crate::probe::entry::{ones_to_entry, ones_to_record};
 use crate::probe::source::TableSource;
@@ -22,7 +22,7 @@ use crate::rank::word::ones_through;
 #[inline]
 pub fn rank_on<T: TableSource>(source: &mut T, index: usize) -> Option<usize>
     requires tables { HasTables (T.lists source.old) }
-    requires indexable { IsIndexable (T.lists source.old).words }
+    requires short { IsShort (T.lists source.old).words }
     ensures answer { IsRank (bits_of (T.lists source.old).words) index result }
     ensures reads { ReadsAtMost (T.reads source.old) (T.reads source.new) 1 1 8 }
     ensures same { T.lists source.new ≡ T.lists source.old }

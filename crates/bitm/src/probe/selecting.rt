@@ -5,7 +5,7 @@ ghost use Rattle.bitm_bits.specs.Count.{ones_before, kind, IsSelect};
 ghost use Rattle.bitm.specs.Entry.{field_1, field_2, field_3, lower_entry, record_field};
 ghost use Rattle.bitm.specs.Reads.{lower_read, upper_read, word_read, ReadsAtMost};
 ghost use Rattle.bitm.specs.Search.{sought_in, IsLastPart, IsLastEntry, IsWord};
-ghost use Rattle.bitm.specs.Tables.{HasTables, IsIndexable};
+ghost use Rattle.bitm.specs.Tables.{HasTables};
 
 use crate::probe::entry::{complement_entry, entries_of_part, ones_to_entry, ones_to_record};
 use crate::probe::source::TableSource;
@@ -255,7 +255,7 @@ pub(crate) fn in_entry<const ONE: u8, T: TableSource>(
 /// on uncompressed bit sequences' (SEA 2013).
 pub fn binary_select_on<const ONE: u8, T: TableSource>(source: &mut T, rank: usize) -> Option<usize>
     requires tables { HasTables (T.lists source.old) }
-    requires indexable { IsIndexable (T.lists source.old).words }
+    requires short { IsShort (T.lists source.old).words }
     ensures answer { IsSelect (bits_of (T.lists source.old).words) (kind ONE) rank result }
     ensures reads { ReadsAtMost (T.reads source.old) (T.reads source.new)
         (digit_count (length (T.lists source.old).upper) + 1) 23 8 }

@@ -1,11 +1,11 @@
 //! Selection by samples: what is kept, how it is made, and the strategy of both kinds.
 ghost use Rattle.std.specs.Prelude.{◌≡◌, ◌+◌, ◌*◌, ℕ, List, length, true, false, IfOk};
 ghost use Rattle.std.specs.Box.{boxed_slice_items, boxed_slice_len};
-ghost use Rattle.bitm_bits.specs.Bits.{bits_of};
+ghost use Rattle.bitm_bits.specs.Bits.{bits_of, IsShort};
 ghost use Rattle.bitm_bits.specs.Count.{ones_before, kind, IsSelect};
 ghost use Rattle.bitm_bits.specs.Size.{saturated};
 ghost use Rattle.bitm.specs.Samples.{items_of, SampledReads, Supported, CountIs};
-ghost use Rattle.bitm.specs.Tables.{AreTablesOf, HasTables, IsIndexable};
+ghost use Rattle.bitm.specs.Tables.{AreTablesOf, HasTables};
 
 use crate::probe::source::{Probe, TableSource};
 use crate::sampling::density::CombinedSamplingDensity;
@@ -57,7 +57,7 @@ impl<D: CombinedSamplingDensity> CombinedSampling<D> {
         l2ranks: &[u64],
         total_rank: usize,
     ) -> Result<Self, AllocError>
-        requires indexable { IsIndexable content.now }
+        requires short { IsShort content.now }
         requires tables { AreTablesOf (bits_of content.now) l1ranks.now l2ranks.now }
         requires total { total_rank
             ≡ ones_before (bits_of content.now) (length (bits_of content.now)) }

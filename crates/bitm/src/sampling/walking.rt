@@ -5,7 +5,7 @@ ghost use Rattle.bitm_bits.specs.Count.{kind, IsSelect};
 ghost use Rattle.bitm.specs.Reads.{ReadsAtMost};
 ghost use Rattle.bitm.specs.Samples.{samples_of, sample_starts_of, SampledReads};
 ghost use Rattle.bitm.specs.Search.{IsLastEntry, entries_from, items_to, sought_in};
-ghost use Rattle.bitm.specs.Tables.{HasTables, IsIndexable};
+ghost use Rattle.bitm.specs.Tables.{HasTables};
 
 use crate::probe::entry::{entries_of_part, ones_to_entry};
 use crate::probe::selecting::{before_part, entry_of, in_entry, last_part};
@@ -70,7 +70,7 @@ pub(crate) fn sampled_select_on<const ONE: u8, D: CombinedSamplingDensity, T: Ta
     rank: usize,
 ) -> Option<usize>
     requires tables { HasTables (T.lists source.old) }
-    requires indexable { IsIndexable (T.lists source.old).words }
+    requires short { IsShort (T.lists source.old).words }
     requires samples { sampled.now
         ≡ samples_of (bits_of (T.lists source.old).words) (kind ONE) (D.log density) }
     requires starts { begins.now

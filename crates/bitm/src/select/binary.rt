@@ -1,9 +1,9 @@
 //! Selection by binary search in the two tables, with nothing kept beside them.
 ghost use Rattle.std.specs.Prelude.{◌≡◌, ◌+◌, length, true, false, IsOk, IfOk};
-ghost use Rattle.bitm_bits.specs.Bits.{bits_of, digit_count};
+ghost use Rattle.bitm_bits.specs.Bits.{bits_of, digit_count, IsShort};
 ghost use Rattle.bitm_bits.specs.Count.{ones_before, IsSelect};
 ghost use Rattle.bitm.specs.Reads.{ReadsAtMost};
-ghost use Rattle.bitm.specs.Tables.{AreTablesOf, HasTables, IsIndexable};
+ghost use Rattle.bitm.specs.Tables.{AreTablesOf, HasTables};
 
 use crate::probe::selecting::binary_select_on;
 use crate::probe::source::{Probe, TableSource};
@@ -28,7 +28,7 @@ impl BinaryRankSearch {
     #[inline]
     pub fn select_counted<T: TableSource>(&self, source: &mut T, rank: usize) -> Option<usize>
         requires tables { HasTables (T.lists source.old) }
-        requires indexable { IsIndexable (T.lists source.old).words }
+        requires short { IsShort (T.lists source.old).words }
         ensures answer { IsSelect (bits_of (T.lists source.old).words) true rank result }
         ensures reads { ReadsAtMost (T.reads source.old) (T.reads source.new)
             (digit_count (length (T.lists source.old).upper) + 1) 23 8 }
@@ -48,7 +48,7 @@ impl BinaryRankSearch {
     #[inline]
     pub fn select0_counted<T: TableSource>(&self, source: &mut T, rank: usize) -> Option<usize>
         requires tables { HasTables (T.lists source.old) }
-        requires indexable { IsIndexable (T.lists source.old).words }
+        requires short { IsShort (T.lists source.old).words }
         ensures answer { IsSelect (bits_of (T.lists source.old).words) false rank result }
         ensures reads { ReadsAtMost (T.reads source.old) (T.reads source.new)
             (digit_count (length (T.lists source.old).upper) + 1) 23 8 }
@@ -59,7 +59,7 @@ impl BinaryRankSearch {
 }
 
 impl SelectForRank101111 for BinaryRankSearch {
-    ghost supports = { λ _ words. IsIndexable words };
+    ghost supports = { λ _ words. IsShort words };
 
     /// A value that keeps nothing: this takes no memory and always succeeds.
     #[inline(always)]
@@ -70,12 +70,12 @@ impl SelectForRank101111 for BinaryRankSearch {
         _l2ranks: &[u64],
         _total_rank: usize,
     ) -> Result<Self, AllocError>
-        requires indexable { IsIndexable _content.now }
+        requires short { IsShort _content.now }
         requires tables { AreTablesOf (bits_of _content.now) _l1ranks.now _l2ranks.now }
         requires total { _total_rank
             ≡ ones_before (bits_of _content.now) (length (bits_of _content.now)) }
         ensures succeeds { IsOk result }
-        ensures supports { IfOk result (λ _. IsIndexable _content.now) }
+        ensures supports { IfOk result (λ _. IsShort _content.now) }
     {
         Ok(BinaryRankSearch)
     }
@@ -93,7 +93,7 @@ impl SelectForRank101111 for BinaryRankSearch {
 }
 
 impl Select0ForRank101111 for BinaryRankSearch {
-    ghost supports0 = { λ _ words. IsIndexable words };
+    ghost supports0 = { λ _ words. IsShort words };
 
     /// A value that keeps nothing: this takes no memory and always succeeds.
     #[inline(always)]
@@ -104,12 +104,12 @@ impl Select0ForRank101111 for BinaryRankSearch {
         _l2ranks: &[u64],
         _total_rank: usize,
     ) -> Result<Self, AllocError>
-        requires indexable { IsIndexable _content.now }
+        requires short { IsShort _content.now }
         requires tables { AreTablesOf (bits_of _content.now) _l1ranks.now _l2ranks.now }
         requires total { _total_rank
             ≡ ones_before (bits_of _content.now) (length (bits_of _content.now)) }
         ensures succeeds { IsOk result }
-        ensures supports { IfOk result (λ _. IsIndexable _content.now) }
+        ensures supports { IfOk result (λ _. IsShort _content.now) }
     {
         Ok(BinaryRankSearch)
     }

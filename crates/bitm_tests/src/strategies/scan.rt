@@ -2,7 +2,6 @@
 ghost use Rattle.std.specs.Prelude.{true, false};
 ghost use Rattle.bitm_bits.specs.Bits.{bits_of, IsShort};
 ghost use Rattle.bitm_bits.specs.Count.{kind, IsSelect};
-ghost use Rattle.bitm.specs.Tables.{IsIndexable};
 
 use bitm::{BitBIterator, Select0ForRank101111, SelectForRank101111};
 use std::alloc::{AllocError, Global};
@@ -21,7 +20,7 @@ fn walk_to<const B: u8>(content: &[u64], rank: usize) -> Option<usize>
 }
 
 impl SelectForRank101111 for Scan {
-    ghost supports = { λ _ words. IsIndexable words };
+    ghost supports = { λ _ words. IsShort words };
 
     fn new(
         _alloc: Global,
@@ -45,7 +44,7 @@ impl SelectForRank101111 for Scan {
 }
 
 impl Select0ForRank101111 for Scan {
-    ghost supports0 = { λ _ words. IsIndexable words };
+    ghost supports0 = { λ _ words. IsShort words };
 
     fn new0(
         _alloc: Global,

@@ -26,7 +26,7 @@ entry_of-entry-requires-clause-before c =
 pub overflow_add-in_part : goal.overflow_add-in_part
 overflow_add-in_part c =
     let most = ones_before-at_most_all (bits_of c.args.words.now) (2048 * (c.loop-at.at + 1)) in
-    omega (arith, c.loop-at.invariant.ones, c.entry_of-entry.ensures.ones, most, few_ones c.args.words.now, c.requires.indexable)
+    omega (arith, c.loop-at.invariant.ones, c.entry_of-entry.ensures.ones, most, few_ones c.args.words.now, c.requires.short)
 
 pub loop-at-preserved : goal.loop-at-preserved
 loop-at-preserved c =

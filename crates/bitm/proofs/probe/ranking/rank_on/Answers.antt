@@ -5,8 +5,9 @@ use Rattle.bitm_bits.specs.Count.{ones_before}
 use Rattle.bitm.specs.Entry.{field_0}
 use Rattle.bitm.specs.Tables.{Lists}
 use Rattle.bitm.specs.declared.probe.counts.ReadCounts.{ReadCounts}
+use Rattle.bitm.proofs.lemmas.RankLemmas.{last_of, rank_inside, rank_outside, rank_of_none}
 use Rattle.bitm.proofs.lemmas.StretchLemmas.{ones_before-self, word_more, word_through}
-use Rattle.bitm.proofs.lemmas.TableLemmas.{upper_inside, lower_inside, tables_sum, last_of, rank_outside, rank_inside, rank_of_none}
+use Rattle.bitm.proofs.lemmas.TableLemmas.{upper_inside, lower_inside, tables_sum}
 use Rattle.bitm.proofs.probe.ranking.rank_on.Goals as goal
 use Rattle.bitm.proofs.probe.ranking.rank_on.Goals.{After-lower-entry, After-word, After-ones_through}
 
@@ -80,7 +81,7 @@ loop-at-preserved g c =
 
 inside : (g : _) (c : After-ones_through g)
     → (last_of c.args.index + 1 ≡ c.args.index) × (c.args.index ≤ length (bits_of (g.T.TableSource.lists c.args.source.now).words))
-inside g c = rank_inside _ c.args.index (omega (arith, c.ranges.index)) (omega (arith, c.requires.indexable)) (omega arith)
+inside g c = rank_inside _ c.args.index (omega (arith, c.ranges.index)) c.requires.short (omega arith)
 
 total : (g : _) (c : After-ones_through g)
     → c.loop-at.rank + c.ones_through.result ≡ ones_before (bits_of (g.T.TableSource.lists c.args.source.now).words) c.args.index

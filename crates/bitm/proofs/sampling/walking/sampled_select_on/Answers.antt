@@ -40,7 +40,7 @@ pub offset_bounds-begins-part : goal.offset_bounds-begins-part
 offset_bounds-begins-part g c =
     let l = g.T.TableSource.lists c.args.source.now in
     let t = at l c.requires.tables in
-    record { fits = omega (arith, c.last_part-part.ensures.last.inside, t.upper_length, length-bits_of l.words, c.requires.indexable) }
+    record { fits = omega (arith, c.last_part-part.ensures.last.inside, t.upper_length, length-bits_of l.words, c.requires.short) }
 
 pub bounds-begins-part : goal.bounds-begins-part
 bounds-begins-part g c =
@@ -83,7 +83,7 @@ overflow_add-at g c =
     let r = rank_of g.row.ONE l c.args.rank c.last_part-part.result in
     let fits : r < 2 ^ 64 = omega arith in
     let low = (g.met.D.CombinedSamplingDensity.in_range c.args.density).0 in
-    let short : length (bits_of l.words) < 2 ^ 64 = omega (arith, length-bits_of l.words, c.requires.indexable) in
+    let short : length (bits_of l.words) < 2 ^ 64 = omega (arith, length-bits_of l.words, c.requires.short) in
     let sum = place_fits (bits_of l.words) (kind g.row.ONE) d r (r / 2 ^ d) c.last_part-part.result low short (inside g c) fits refl in
     record { fits = omega (arith, number_is g c, sum) }
 

@@ -3,7 +3,7 @@ use Rattle.std.proofs.Common.{length, ap, ◌∙◌, arith}
 use Rattle.bitm_bits.proofs.lemmas.BitsLemmas.{length-bits_of}
 use Rattle.bitm_bits.specs.Bits.{bits_of}
 use Rattle.bitm_bits.specs.Count.{ones_before}
-use Rattle.bitm.proofs.lemmas.TableLemmas.{rank_inside, rank_outside, rank_of_none}
+use Rattle.bitm.proofs.lemmas.RankLemmas.{rank_inside, rank_outside, rank_of_none}
 use Rattle.bitm.proofs.rank.simple.RankSimple.try_rank.Goals as goal
 
 pub ones_through-requires : goal.ones_through-requires

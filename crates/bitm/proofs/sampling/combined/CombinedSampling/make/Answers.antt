@@ -36,7 +36,7 @@ returns g c =
     let kept = ap (samples_of b v) c.items_per_sample_log2.ensures.value in
     let begins = ap (sample_starts_of b v) c.items_per_sample_log2.ensures.value in
     record {
-      indexable = c.requires.indexable;
+      short = c.requires.short;
       density_is = c.density_for-density.ensures ∙ chosen;
       samples_are = c.in_ok-samples.ensures.samples b t ∙ kept;
       starts_are = c.in_ok-samples.ensures.starts b t ∙ begins;
