@@ -107,13 +107,18 @@ CountsOf b counts = Tabled b counts.upper.now counts.lower.now counts.total coun
 abbrev pub AreCounts : TableCounts → Type 0
 AreCounts counts = (b : List Bool) × CountsOf b counts
 
--- of a content, a density and what was made at it: the chosen density for items v, and the content's samples and starts
-pub record Supported {S : Type 0} (log : S → ℕ) (chosen : ℕ → ℕ → S) (v : Bool) (words : List ℕ) (density : S) (kept begins : List ℕ)
-    : Type 0 where
+-- what a value that selects by samples shows: its density, the samples, and how many there are before each part
+pub record Sampled (S : Type 0) : Type 0 where
+  pub density : S
+  pub samples : List ℕ
+  pub starts : List ℕ
+
+-- the density is the one chosen for the items v of the words, and the samples and starts are the words' own at it
+pub record Supported {S : Type 0} (log : S → ℕ) (chosen : ℕ → ℕ → S) (v : Bool) (words : List ℕ) (kept : Sampled S) : Type 0 where
   pub short : IsShort words
-  pub density_is : density ≡ chosen (items_of (bits_of words) v) (length (bits_of words))
-  pub samples_are : kept ≡ samples_of (bits_of words) v (log density)
-  pub starts_are : begins ≡ sample_starts_of (bits_of words) v (log density)
+  pub density_is : kept.density ≡ chosen (items_of (bits_of words) v) (length (bits_of words))
+  pub samples_are : kept.samples ≡ samples_of (bits_of words) v (log kept.density)
+  pub starts_are : kept.starts ≡ sample_starts_of (bits_of words) v (log kept.density)
 
 -- ---- reads of selection by samples
 

@@ -1,6 +1,5 @@
 //! Selection by samples: what is kept, how it is made, and the strategy of both kinds.
 ghost use Rattle.std.specs.Prelude.{◌≡◌, ◌+◌, ◌*◌, ℕ, List, length, true, false, IfOk};
-ghost use Rattle.std.specs.Box.{boxed_slice_items, boxed_slice_len};
 ghost use Rattle.bitm_bits.specs.Bits.{bits_of, IsShort};
 ghost use Rattle.bitm_bits.specs.Count.{ones_before, kind, IsSelect};
 ghost use Rattle.bitm_bits.specs.Size.{saturated};
@@ -15,6 +14,7 @@ use crate::select::traits::{Select0ForRank101111, SelectForRank101111};
 use bitm_bits::GetSize;
 use std::alloc::{AllocError, Global};
 use std::boxed::BoxedSlice;
+use std::marker::Model;
 
 #[cfg(test)]
 mod far;
@@ -49,6 +49,19 @@ impl<D: CombinedSamplingDensity> Drop for CombinedSampling<D> {
     }
 }
 
+impl<D: CombinedSamplingDensity> Model for CombinedSampling<D> {
+    ghost use Rattle.std.specs.Box.{boxed_slice_items};
+    ghost use Rattle.bitm.specs.Samples.{Sampled};
+
+    ghost Value = { Sampled D.SamplingDensity };
+
+    ghost view = { λ s. record {
+      density = s.density;
+      samples = boxed_slice_items s.samples;
+      starts = boxed_slice_items s.begins;
+    } };
+}
+
 impl<D: CombinedSamplingDensity> CombinedSampling<D> {
     fn make<const ONE: u8>(
         alloc: Global,
@@ -61,8 +74,7 @@ impl<D: CombinedSamplingDensity> CombinedSampling<D> {
         requires tables { AreTablesOf (bits_of content.now) l1ranks.now l2ranks.now }
         requires total { total_rank
             ≡ ones_before (bits_of content.now) (length (bits_of content.now)) }
-        ensures { IfOk result (λ s. Supported D.log D.chosen (kind ONE) content.now s.density
-            (boxed_slice_items s.samples) (boxed_slice_items s.begins)) }
+        ensures { IfOk result (Supported D.log D.chosen (kind ONE) content.now) }
     {
         let len = content.len() * 64;
         let density = D::density_for(items_among::<ONE>(total_rank, len), len);
@@ -88,11 +100,11 @@ impl<D: CombinedSamplingDensity> CombinedSampling<D> {
     #[inline(always)]
     pub fn sample_count(&self) -> usize
         ensures ones { (words : List ℕ)
-            → ⟦<CombinedSampling<D> as SelectForRank101111>⟧.supports self.now words
+            → Supported D.log D.chosen true words self.now
             → let b = bits_of words in
             CountIs b true (D.log (D.chosen (items_of b true) (length b))) result }
         ensures zeros { (words : List ℕ)
-            → ⟦<CombinedSampling<D> as Select0ForRank101111>⟧.supports0 self.now words
+            → Supported D.log D.chosen false words self.now
             → let b = bits_of words in
             CountIs b false (D.log (D.chosen (items_of b false) (length b))) result }
     {
@@ -111,8 +123,7 @@ impl<D: CombinedSamplingDensity> CombinedSampling<D> {
     /// else neither a lower entry nor a word is read.
     pub fn select_counted<T: TableSource>(&self, source: &mut T, rank: usize) -> Option<usize>
         requires tables { HasTables (T.lists source.old) }
-        requires supported { ⟦<CombinedSampling<D> as SelectForRank101111>⟧.supports self.now
-            (T.lists source.old).words }
+        requires supported { Supported D.log D.chosen true (T.lists source.old).words self.now }
         ensures answer { IsSelect (bits_of (T.lists source.old).words) true rank result }
         ensures reads { let b = bits_of (T.lists source.old).words in
             SampledReads b true (D.log (D.chosen (items_of b true) (length b)))
@@ -137,8 +148,7 @@ impl<D: CombinedSamplingDensity> CombinedSampling<D> {
     /// The reads of `select_counted`.
     pub fn select0_counted<T: TableSource>(&self, source: &mut T, rank: usize) -> Option<usize>
         requires tables { HasTables (T.lists source.old) }
-        requires supported { ⟦<CombinedSampling<D> as Select0ForRank101111>⟧.supports0 self.now
-            (T.lists source.old).words }
+        requires supported { Supported D.log D.chosen false (T.lists source.old).words self.now }
         ensures answer { IsSelect (bits_of (T.lists source.old).words) false rank result }
         ensures reads { let b = bits_of (T.lists source.old).words in
             SampledReads b false (D.log (D.chosen (items_of b false) (length b)))
@@ -156,8 +166,7 @@ impl<D: CombinedSamplingDensity> CombinedSampling<D> {
 }
 
 impl<D: CombinedSamplingDensity> SelectForRank101111 for CombinedSampling<D> {
-    ghost supports = { λ it words. Supported D.log D.chosen true words it.density
-        (boxed_slice_items it.samples) (boxed_slice_items it.begins) };
+    ghost supports = { λ kept words. Supported D.log D.chosen true words kept };
 
     fn new(
         alloc: Global,
@@ -182,8 +191,7 @@ impl<D: CombinedSamplingDensity> SelectForRank101111 for CombinedSampling<D> {
 }
 
 impl<D: CombinedSamplingDensity> Select0ForRank101111 for CombinedSampling<D> {
-    ghost supports0 = { λ it words. Supported D.log D.chosen false words it.density
-        (boxed_slice_items it.samples) (boxed_slice_items it.begins) };
+    ghost supports0 = { λ kept words. Supported D.log D.chosen false words kept };
 
     fn new0(
         alloc: Global,
@@ -212,8 +220,8 @@ where
     D::SamplingDensity: GetSize,
 {
     // four bytes a sample, eight for each part, and what the density keeps
-    ghost dyn_bytes = { λ it. saturated (4 * boxed_slice_len it.samples
-        + 8 * boxed_slice_len it.begins + D.SamplingDensity.dyn_bytes it.density) };
+    ghost dyn_bytes = { λ kept. saturated (4 * length kept.samples + 8 * length kept.starts
+        + D.SamplingDensity.dyn_bytes kept.density) };
 
     const USES_DYN_MEM: bool = true;
 

@@ -6,6 +6,7 @@ ghost use Rattle.bitm_bits.specs.Count.{ones_before, zeros_before};
 use bitm::{Select0ForRank101111, SelectForRank101111};
 use std::alloc::{AllocError, Global};
 use std::cell::Cell;
+use std::marker::Model;
 
 /// Selects by the strategy inside, which it asks only for a rank below the number of items, and counts its own calls.
 #[derive(Drop)]
@@ -13,6 +14,15 @@ pub struct Guarded<S> {
     inner: S,
     items: usize,
     calls: Cell<usize>,
+}
+
+// The calls are left out: a clause can't say what a `Cell` holds.
+impl<S> Model for Guarded<S> {
+    ghost use Rattle.bitm_tests.specs.Guard.{Guard};
+
+    ghost Value = { Guard S };
+
+    ghost view = { λ g. record { inner = g.inner; items = g.items } };
 }
 
 impl<S> Guarded<S> {

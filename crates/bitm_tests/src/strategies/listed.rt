@@ -6,6 +6,7 @@ ghost use Rattle.bitm_bits.specs.Count.{kind, places, IsSelect};
 use bitm::{BitBIterator, Select0ForRank101111, SelectForRank101111};
 use std::alloc::{AllocError, Global};
 use std::iter::Iterator;
+use std::marker::Model;
 
 /// Selects by a look into the list of the places, which it keeps.
 #[derive(Drop)]
@@ -21,10 +22,18 @@ fn places_of<const B: u8>(alloc: Global, content: &[u64]) -> Result<Vec<usize>, 
     BitBIterator::<B>::new(content).collect(alloc)
 }
 
+impl Model for Listed {
+    ghost use Rattle.std.specs.Prelude.{ℕ, List};
+
+    ghost Value = { List ℕ };
+
+    ghost view = { λ s. s.places.items };
+}
+
 impl Listed {
     /// Item `rank` of the list: where it has the places of a kind of bit, what that rank picks.
     fn look_up(&self, rank: usize) -> Option<usize>
-        ensures { (b : List Bool) (v : Bool) → self.now.places.items ≡ places v 0 b
+        ensures { (b : List Bool) (v : Bool) → self.now ≡ places v 0 b
             → IsSelect b v rank result }
     {
         self.places.get(rank).copied()
@@ -32,7 +41,7 @@ impl Listed {
 }
 
 impl SelectForRank101111 for Listed {
-    ghost supports = { λ it words. it.places.items ≡ places true 0 (bits_of words) };
+    ghost supports = { λ listed words. listed ≡ places true 0 (bits_of words) };
 
     fn new(
         alloc: Global,
@@ -57,7 +66,7 @@ impl SelectForRank101111 for Listed {
 }
 
 impl Select0ForRank101111 for Listed {
-    ghost supports0 = { λ it words. it.places.items ≡ places false 0 (bits_of words) };
+    ghost supports0 = { λ listed words. listed ≡ places false 0 (bits_of words) };
 
     fn new0(
         alloc: Global,
