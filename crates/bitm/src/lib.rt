@@ -26,7 +26,7 @@ pub use probe::entry::complement_entry;
 pub use probe::ranking::rank_on;
 pub use probe::selecting::binary_select_on;
 pub use probe::source::{Probe, TableSource};
-pub use rank::Rank;
+pub use rank::{HasBits, Rank};
 pub use rank::simple::{ArrayWithRankSimple, RankSimple};
 pub use sampling::combined::CombinedSampling;
 pub use sampling::density::{

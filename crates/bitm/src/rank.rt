@@ -5,14 +5,17 @@ ghost use Rattle.bitm_bits.specs.Count.{ones_before, zeros_before, IsRank, IsRan
 pub mod simple;
 pub(crate) mod word;
 
-/// Answers how many ones, and how many zeros, stand before a place of a value's bits, or before their end.
-pub trait Rank {
+/// A value that rank and selection see as a list of bits.
+pub trait HasBits {
     /// The bits of the value.
     ghost bits: { Self → List Bool };
+}
 
+/// Answers how many ones, and how many zeros, stand before a place of a value's bits, or before their end.
+pub trait Rank: HasBits {
     /// How many of the first `index` bits are ones; `None` exactly where there are fewer bits.
     fn try_rank(&self, index: usize) -> Option<usize>
-        ensures { IsRank (bits self.now) index result };
+        ensures { IsRank (Self.bits self.now) index result };
 
     /// How many of the first `index` bits are ones.
     ///
@@ -20,8 +23,8 @@ pub trait Rank {
     /// There are no fewer than `index` bits.
     #[inline(always)]
     fn rank(&self, index: usize) -> usize
-        requires { index ≤ length (bits self.now) }
-        ensures { result ≡ ones_before (bits self.now) index }
+        requires { index ≤ length (Self.bits self.now) }
+        ensures { result ≡ ones_before (Self.bits self.now) index }
     {
         match self.try_rank(index) {
             Some(count) => count,
@@ -35,8 +38,8 @@ pub trait Rank {
     /// There are no fewer than `index` bits.
     #[inline(always)]
     fn rank_unchecked(&self, index: usize) -> usize
-        requires { index ≤ length (bits self.now) }
-        ensures { result ≡ ones_before (bits self.now) index }
+        requires { index ≤ length (Self.bits self.now) }
+        ensures { result ≡ ones_before (Self.bits self.now) index }
     {
         self.rank(index)
     }
@@ -44,7 +47,7 @@ pub trait Rank {
     /// How many of the first `index` bits are zeros; `None` exactly where there are fewer bits.
     #[inline(always)]
     fn try_rank0(&self, index: usize) -> Option<usize>
-        ensures { IsRank0 (bits self.now) index result }
+        ensures { IsRank0 (Self.bits self.now) index result }
     {
         match self.try_rank(index) {
             Some(count) => Some(index - count),
@@ -58,8 +61,8 @@ pub trait Rank {
     /// There are no fewer than `index` bits.
     #[inline(always)]
     fn rank0(&self, index: usize) -> usize
-        requires { index ≤ length (bits self.now) }
-        ensures { result ≡ zeros_before (bits self.now) index }
+        requires { index ≤ length (Self.bits self.now) }
+        ensures { result ≡ zeros_before (Self.bits self.now) index }
     {
         index - self.rank(index)
     }
@@ -70,8 +73,8 @@ pub trait Rank {
     /// There are no fewer than `index` bits.
     #[inline(always)]
     fn rank0_unchecked(&self, index: usize) -> usize
-        requires { index ≤ length (bits self.now) }
-        ensures { result ≡ zeros_before (bits self.now) index }
+        requires { index ≤ length (Self.bits self.now) }
+        ensures { result ≡ zeros_before (Self.bits self.now) index }
     {
         self.rank0(index)
     }

@@ -11,7 +11,7 @@ ghost use Rattle.bitm.specs.Tables.{AreTablesOf, HasTables, upper_of, lower_of};
 use crate::packed::tables::{self, Tables};
 use crate::probe::ranking::rank_on;
 use crate::probe::source::Probe;
-use crate::rank::Rank;
+use crate::rank::{HasBits, Rank};
 use crate::select::binary::BinaryRankSearch;
 use crate::select::traits::{Select, Select0, Select0ForRank101111, SelectForRank101111};
 use bitm_bits::{CloneWords, GetSize};
@@ -206,10 +206,13 @@ impl<S: SelectForRank101111, S0: Select0ForRank101111, BV: AsSlice<u64>> RankSel
     }
 }
 
-impl<S: SelectForRank101111, S0: Select0ForRank101111, BV: AsSlice<u64>> Rank
+impl<S: SelectForRank101111, S0: Select0ForRank101111, BV: AsSlice<u64>> HasBits
     for RankSelect101111<S, S0, BV> {
     ghost bits = { λ i. bits_of (BV.items i.content) };
+}
 
+impl<S: SelectForRank101111, S0: Select0ForRank101111, BV: AsSlice<u64>> Rank
+    for RankSelect101111<S, S0, BV> {
     #[inline(always)]
     fn try_rank(&self, index: usize) -> Option<usize> {
         rank_on(&mut self.probe(), index)
@@ -218,8 +221,6 @@ impl<S: SelectForRank101111, S0: Select0ForRank101111, BV: AsSlice<u64>> Rank
 
 impl<S: SelectForRank101111, S0: Select0ForRank101111, BV: AsSlice<u64>> Select
     for RankSelect101111<S, S0, BV> {
-    ghost select_bits = { λ i. bits_of (BV.items i.content) };
-
     #[inline(always)]
     fn try_select(&self, rank: usize) -> Option<usize> {
         let words = self.as_slice();
@@ -230,8 +231,6 @@ impl<S: SelectForRank101111, S0: Select0ForRank101111, BV: AsSlice<u64>> Select
 
 impl<S: SelectForRank101111, S0: Select0ForRank101111, BV: AsSlice<u64>> Select0
     for RankSelect101111<S, S0, BV> {
-    ghost select0_bits = { λ i. bits_of (BV.items i.content) };
-
     #[inline(always)]
     fn try_select0(&self, rank: usize) -> Option<usize> {
         let words = self.as_slice();

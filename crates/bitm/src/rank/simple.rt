@@ -7,7 +7,7 @@ ghost use Rattle.bitm_bits.specs.Bits.{bits_of, IsShort};
 ghost use Rattle.bitm_bits.specs.Count.{ones_before, IsRank};
 ghost use Rattle.bitm.specs.Simple.{HasFewOnes, simple_table_of};
 
-use crate::rank::Rank;
+use crate::rank::{HasBits, Rank};
 use crate::rank::word::ones_through;
 use bitm_bits::{CloneWords, GetSize, words};
 use std::alloc::{AllocError, Global};
@@ -159,9 +159,11 @@ impl<BV: AsSlice<u64>> RankSimple<BV> {
     }
 }
 
-impl<BV: AsSlice<u64>> Rank for RankSimple<BV> {
+impl<BV: AsSlice<u64>> HasBits for RankSimple<BV> {
     ghost bits = { λ s. bits_of (BV.items s) };
+}
 
+impl<BV: AsSlice<u64>> Rank for RankSimple<BV> {
     #[inline(always)]
     fn try_rank(&self, index: usize) -> Option<usize> {
         match RankSimple::<BV>::try_rank(self, index) {

@@ -5,8 +5,8 @@ use Rattle.bitm.proofs.rank.Rank.rank0.Goals as goal
 
 pub overflow_sub-result : goal.overflow_sub-result
 overflow_sub-result g c =
-    omega (arith, c.rank.ensures, ones_before-add-zeros_before (g.Self.Rank.bits c.args.self.now) c.args.index (omega (arith, c.requires)))
+    omega (arith, c.rank.ensures, ones_before-add-zeros_before (g.Self.HasBits.bits c.args.self.now) c.args.index (omega (arith, c.requires)))
 
 pub returns : goal.returns
 returns g c =
-    omega (arith, c.rank.ensures, ones_before-add-zeros_before (g.Self.Rank.bits c.args.self.now) c.args.index (omega (arith, c.requires)))
+    omega (arith, c.rank.ensures, ones_before-add-zeros_before (g.Self.HasBits.bits c.args.self.now) c.args.index (omega (arith, c.requires)))
