@@ -87,13 +87,13 @@ impl<'bv> BitIterator<'bv> {
 impl<'bv> Iterator for BitIterator<'bv> {
     type Item = bool;
 
-    ghost next_gives = { YieldsFirst bits_left };
+    ghost next_gives = { λ s r t. YieldsFirst bits_left s r t × (t ≡ without_first s) };
 
     ghost remaining = { item_count bits_left };
 
     #[inline]
     fn next(&mut self) -> Option<bool>
-        ensures steps { YieldsFirst bits_left self.old result self.new }
+        ensures steps { YieldsFirst bits_left self.old result self.new × (self.new ≡ without_first self.old) }
         ensures goes { MakesProgress (λ _. ⊤) (item_count bits_left) self.old result self.new }
         ensures left { self.new ≡ without_first self.old }
     {
@@ -114,11 +114,11 @@ impl<'bv> Iterator for BitIterator<'bv> {
 }
 
 impl<'bv> DoubleEndedIterator for BitIterator<'bv> {
-    ghost next_back_gives = { YieldsLast bits_left };
+    ghost next_back_gives = { λ s r t. YieldsLast bits_left s r t × (t ≡ without_last s) };
 
     #[inline]
     fn next_back(&mut self) -> Option<bool>
-        ensures steps { YieldsLast bits_left self.old result self.new }
+        ensures steps { YieldsLast bits_left self.old result self.new × (self.new ≡ without_last self.old) }
         ensures goes { MakesProgress (λ _. ⊤) (item_count bits_left) self.old result self.new }
         ensures left { self.new ≡ without_last self.old }
     {

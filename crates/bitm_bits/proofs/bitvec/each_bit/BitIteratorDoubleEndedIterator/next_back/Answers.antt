@@ -1,5 +1,5 @@
 -- The last bit of the range comes, and the range ends before it.
-use Rattle.std.proofs.Common.{◌≡◌, ◌≤◌, ◌∷◌, [], length, sym, ap, ◌∙◌, arith, length-append}
+use Rattle.std.proofs.Common.{◌≡◌, ◌≤◌, ◌∷◌, [], length, sym, ap, ◌∙◌, arith, length-append, rules}
 use Rattle.bitm_bits.proofs.lemmas.ComingLemmas.{bits_coming_none, bits_coming_step_back}
 use Rattle.bitm_bits.specs.Coming.{bits_left, bits_coming}
 use Rattle.bitm_bits.proofs.bitvec.each_bit.BitIteratorDoubleEndedIterator.next_back.Goals as goal
@@ -13,19 +13,19 @@ returns-in_err-place-clause-steps c =
     sym (ap bits_left c.self.view_is) ∙ bits_coming_none it.words.now it.range.start it.range.end (omega (arith, ended.1.0)) in
     let reversed : to.end ≤ to.start = omega (arith, ended.0, ended.1.0, ended.1.1) in
     let is : bits_coming it.words.now to.start to.end ≡ [] = bits_coming_none it.words.now to.start to.end reversed in
-    rw c.from_residual.ensures (was, is)
+    (rw c.from_residual.ensures (was, is), search rules)
 
 pub returns-clause-steps : goal.returns-clause-steps
 returns-clause-steps c =
     let it = c.self.inside in
     let to = c.next_back.new.self in
     let step = c.in_ok-place.ensures.steps in
-    sym (ap bits_left c.self.view_is)
+    (sym (ap bits_left c.self.view_is)
     ∙ bits_coming_step_back it.words.now it.range.start it.range.end to.end to.start c.in_ok-place.place c.get_bit.result c.self.invariant.0
-    step.1.0 step.0 step.1.1 step.1.2 c.get_bit.ensures
+    step.1.0 step.0 step.1.1 step.1.2 c.get_bit.ensures, search rules)
 
 pub returns-clause-goes : goal.returns-clause-goes
 returns-clause-goes c =
     let left = bits_left record { bit_vec = c.self.inside.words.now; bit_range = c.next_back.new.self } in
-    let step = ap length (returns-clause-steps c) in
+    let step = ap length (returns-clause-steps c).0 in
     record { on = λ f. (tt, tt, omega (arith, step, length-append left (c.get_bit.result ∷ []))); keeps = tt; rests = λ f. tt }

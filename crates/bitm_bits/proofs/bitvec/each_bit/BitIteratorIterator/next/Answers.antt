@@ -1,5 +1,5 @@
 -- The bit at the start of the range comes, and the range goes on after it.
-use Rattle.std.proofs.Common.{◌≡◌, ◌≤◌, [], length, sym, ap, ◌∙◌, arith}
+use Rattle.std.proofs.Common.{◌≡◌, ◌≤◌, [], length, sym, ap, ◌∙◌, arith, rules}
 use Rattle.bitm_bits.proofs.lemmas.ComingLemmas.{bits_coming_none, bits_coming_step}
 use Rattle.bitm_bits.specs.Coming.{bits_left, bits_coming}
 use Rattle.bitm_bits.proofs.bitvec.each_bit.BitIteratorIterator.next.Goals as goal
@@ -13,18 +13,18 @@ returns-in_err-place-clause-steps c =
     sym (ap bits_left c.self.view_is) ∙ bits_coming_none it.words.now it.range.start it.range.end (omega (arith, ended.1.0)) in
     let reversed : to.end ≤ to.start = omega (arith, ended.0, ended.1.0, ended.1.1) in
     let is : bits_coming it.words.now to.start to.end ≡ [] = bits_coming_none it.words.now to.start to.end reversed in
-    rw c.from_residual.ensures (was, is)
+    (rw c.from_residual.ensures (was, is), search rules)
 
 pub returns-clause-steps : goal.returns-clause-steps
 returns-clause-steps c =
     let it = c.self.inside in
     let to = c.next.new.self in
     let step = c.in_ok-place.ensures.steps in
-    sym (ap bits_left c.self.view_is)
+    (sym (ap bits_left c.self.view_is)
     ∙ bits_coming_step it.words.now it.range.start it.range.end to.start to.end c.in_ok-place.place c.get_bit.result c.self.invariant.0
-    step.1.0 step.0 step.1.1 step.1.2 c.get_bit.ensures
+    step.1.0 step.0 step.1.1 step.1.2 c.get_bit.ensures, search rules)
 
 pub returns-clause-goes : goal.returns-clause-goes
 returns-clause-goes c =
-    let step = ap length (returns-clause-steps c) in
+    let step = ap length (returns-clause-steps c).0 in
     record { on = λ f. (tt, tt, omega (arith, step)); keeps = tt; rests = λ f. tt }
