@@ -1,6 +1,6 @@
 -- The definitions compute: values that were worked out by hand.
 use Rattle.std.proofs.Common.{◌≡◌, true, false, [], ◌∷◌, refl, take}
-use Rattle.bitm_bits.specs.Bits.{low_digits, bits_of, item, digit_count_in, digit_count}
+use Rattle.bitm_bits.specs.Bits.{low_digits, bits_of, item, digit_count}
 use Rattle.bitm_bits.specs.Bytes.{byte_bits_of, byte_window, with_window}
 use Rattle.bitm_bits.specs.Count.{ones_before, zeros_before, places}
 use Rattle.bitm_bits.specs.Number.{number_of_bits, number_at, with_number}
@@ -69,5 +69,5 @@ unfolding with_window byte_bits_of
 bytes_are_replaced = refl
 
 digits_of_numbers : digit_count 0 ∷ digit_count 1 ∷ digit_count 7 ∷ digit_count 8 ∷ digit_count 15 ∷ digit_count 16 ∷ [] ≡ 0 ∷ 1 ∷ 3 ∷ 4 ∷ 4 ∷ 5 ∷ []
-unfolding digit_count digit_count_in
+unfolding digit_count
 digits_of_numbers = refl

@@ -1,6 +1,7 @@
 -- A content as the list of its bits.
-use Rattle.std.specs.Prelude.{ℕ, ◌*◌, ◌/◌, ◌%◌, ◌^◌, ◌<◌, Bool, false, ◌==◌, List, map, length, slice_index, slice_index_or, zero, suc}
+use Rattle.std.specs.Prelude.{ℕ, ◌*◌, ◌/◌, ◌%◌, ◌^◌, ◌<◌, Bool, false, ◌==◌, List, map, length, slice_index, slice_index_or}
 use Rattle.std.specs.Int.{bit_at}
+use Rattle.std.specs.Int.Digits.{digits_of}
 use Rattle.std.specs.List.{range_with_len}
 
 -- binary digit j of v, lowest first
@@ -27,12 +28,6 @@ item b i = slice_index_or b i false
 abbrev pub IsShort : List ℕ → Type 0
 IsShort words = length words < 2 ^ 58
 
--- the binary digits of n, of which so many are looked at
-unfoldable pub digit_count_in : ℕ → ℕ → ℕ
-digit_count_in zero n = 0
-digit_count_in (suc f) zero = 0
-digit_count_in (suc f) (suc n) = suc (digit_count_in f (suc n / 2))
-
--- how many binary digits n has, none for 0; there are never more than n
+-- how many binary digits n has, none for 0
 unfoldable pub digit_count : ℕ → ℕ
-digit_count n = digit_count_in n n
+digit_count n = length (digits_of 2 n)
