@@ -1,6 +1,5 @@
 //! Vectors of words, made from a length: the trait `BitVec`.
-ghost use Rattle.std.specs.Prelude.{◌≡◌, ◌*◌, ◌^◌, ◌<◌, ◌≤◌, ◌-◌, ℕ, List, false, length, replicate, IfOk};
-ghost use Rattle.std.specs.Box.{boxed_slice_items};
+ghost use Rattle.std.specs.Prelude.{◌≡◌, ◌*◌, ◌^◌, ◌<◌, ◌≤◌, ◌-◌, ℕ, false, length, replicate, IfOk};
 ghost use Rattle.std.specs.Int.{div_ceil};
 ghost use Rattle.bitm_bits.specs.Bits.{bits_of, item};
 ghost use Rattle.bitm_bits.specs.Number.{number_at};
@@ -8,15 +7,13 @@ ghost use Rattle.bitm_bits.specs.Number.{number_at};
 use crate::words;
 use std::alloc::{AllocError, Allocator};
 use std::boxed::BoxedSlice;
+use std::convert::AsSlice;
 
-/// Makes vectors of words, each by one allocation of just the words that it has.
+/// Makes vectors of words: what is made is what its `AsSlice` lends.
 ///
 /// Every call takes the allocator first. A length too great for any allocation is refused like any other request for
 /// memory, and nothing was made then.
-pub trait BitVec {
-    /// The words of a vector.
-    ghost words: { Self → List ℕ };
-
+pub trait BitVec: AsSlice<u64> {
     /// Where the memory comes from.
     type Alloc;
 
@@ -25,7 +22,7 @@ pub trait BitVec {
     /// # Errors
     /// `AllocError` where memory was refused.
     fn with_64bit_segments(alloc: Self::Alloc, value: u64, n: usize) -> Result<Self, AllocError>
-        ensures { IfOk result (λ v. words v ≡ replicate n value) };
+        ensures { IfOk result (λ v. Self.items v ≡ replicate n value) };
 
     /// A vector of `n` words that are 0.
     ///
@@ -33,7 +30,7 @@ pub trait BitVec {
     /// `AllocError` where memory was refused.
     #[inline]
     fn with_zeroed_64bit_segments(alloc: Self::Alloc, n: usize) -> Result<Self, AllocError>
-        ensures { IfOk result (λ v. words v ≡ replicate n 0) }
+        ensures { IfOk result (λ v. Self.items v ≡ replicate n 0) }
     {
         Self::with_64bit_segments(alloc, 0, n)
     }
@@ -44,7 +41,7 @@ pub trait BitVec {
     /// `AllocError` where memory was refused.
     #[inline]
     fn with_filled_64bit_segments(alloc: Self::Alloc, n: usize) -> Result<Self, AllocError>
-        ensures { IfOk result (λ v. words v ≡ replicate n (2 ^ 64 - 1)) }
+        ensures { IfOk result (λ v. Self.items v ≡ replicate n (2 ^ 64 - 1)) }
     {
         Self::with_64bit_segments(alloc, u64::MAX, n)
     }
@@ -55,7 +52,7 @@ pub trait BitVec {
     /// `AllocError` where memory was refused.
     #[inline]
     fn with_zeroed_bits(alloc: Self::Alloc, n: usize) -> Result<Self, AllocError>
-        ensures { IfOk result (λ v. words v ≡ replicate (div_ceil n 64) 0) }
+        ensures { IfOk result (λ v. Self.items v ≡ replicate (div_ceil n 64) 0) }
     {
         Self::with_zeroed_64bit_segments(alloc, n.div_ceil(64))
     }
@@ -66,7 +63,7 @@ pub trait BitVec {
     /// `AllocError` where memory was refused.
     #[inline]
     fn with_filled_bits(alloc: Self::Alloc, n: usize) -> Result<Self, AllocError>
-        ensures { IfOk result (λ v. words v ≡ replicate (div_ceil n 64) (2 ^ 64 - 1)) }
+        ensures { IfOk result (λ v. Self.items v ≡ replicate (div_ceil n 64) (2 ^ 64 - 1)) }
     {
         Self::with_filled_64bit_segments(alloc, n.div_ceil(64))
     }
@@ -83,16 +80,14 @@ pub trait BitVec {
         requires width { s ≤ 64 }
         requires fits { word < 2 ^ s }
         requires room { n * s < 2 ^ 64 }
-        ensures len { IfOk result (λ v. length (words v) ≡ div_ceil (n * s) 64) }
+        ensures len { IfOk result (λ v. length (Self.items v) ≡ div_ceil (n * s) 64) }
         ensures fragments { IfOk result (λ v. (i : ℕ) → i < n
-            → number_at (bits_of (words v)) (i * s) s ≡ word) }
+            → number_at (bits_of (Self.items v)) (i * s) s ≡ word) }
         ensures after { IfOk result (λ v. (p : ℕ) → n * s ≤ p
-            → item (bits_of (words v)) p ≡ false) };
+            → item (bits_of (Self.items v)) p ≡ false) };
 }
 
 impl<A: Allocator> BitVec for BoxedSlice<u64, A> {
-    ghost words = { boxed_slice_items };
-
     type Alloc = A;
 
     #[inline]
