@@ -1,5 +1,6 @@
 -- What an iterator over the bits of words still gives.
-use Rattle.std.specs.Prelude.{ℕ, ◌+◌, ◌-◌, ◌*◌, Bool, true, if◌then◌else◌, nat_lt, List, ◌++◌, length, take, drop, zero, suc}
+use Rattle.std.specs.Prelude.{◌≡◌, ℕ, ◌+◌, ◌-◌, ◌*◌, Bool, true, if◌then◌else◌, nat_lt, List, ◌++◌, length, take, drop, zero, suc, Option}
+use Rattle.std.specs.Iterator.{YieldsFirst, YieldsLast}
 use Rattle.std.specs.Int.{bit_not, w64}
 use Rattle.std.specs.declared.ops.Range.{Range}
 use Rattle.bitm_bits.specs.Bits.{low_digits, bits_of}
@@ -39,9 +40,17 @@ without_first it =
     let end = it.bit_range.end in
     record it { bit_range = record { start = if nat_lt start end then start + 1 else start; end = end } }
 
+-- what a step from the front gives, and what it leaves: also a range without places
+abbrev pub GivesFirst : BitsLeft → Option Bool → BitsLeft → Type 0
+GivesFirst old given new = YieldsFirst bits_left old given new × (new ≡ without_first old)
+
 -- the range without its last place, and the range itself where it has no place
 abbrev pub without_last : BitsLeft → BitsLeft
 without_last it =
     let start = it.bit_range.start in
     let end = it.bit_range.end in
     record it { bit_range = record { start = start; end = if nat_lt start end then end - 1 else end } }
+
+-- what a step from the back gives, and what it leaves: also a range without places
+abbrev pub GivesLast : BitsLeft → Option Bool → BitsLeft → Type 0
+GivesLast old given new = YieldsLast bits_left old given new × (new ≡ without_last old)

@@ -15,6 +15,18 @@ abbrev pub count_before : List Bool → Bool → ℕ → ℕ
 count_before b true i = ones_before b i
 count_before b false i = zeros_before b i
 
+-- how many items of b are true
+abbrev pub ones_of : List Bool → ℕ
+ones_of b = ones_before b (length b)
+
+-- how many items of b are false
+abbrev pub zeros_of : List Bool → ℕ
+zeros_of b = zeros_before b (length b)
+
+-- how many items of b are v
+abbrev pub count_of : List Bool → Bool → ℕ
+count_of b v = count_before b v (length b)
+
 -- p is a place of b, item p is v, and exactly r of the items before p are v
 pub record Picks (b : List Bool) (v : Bool) (r p : ℕ) : Type 0 where
   pub inside : p < length b
@@ -23,7 +35,7 @@ pub record Picks (b : List Bool) (v : Bool) (r p : ℕ) : Type 0 where
 
 -- the place with bit v and r such bits before it, and None exactly where there are no more than r of them
 abbrev pub IsSelect : List Bool → Bool → ℕ → Option ℕ → Type 0
-IsSelect b v r o = MatchOption o (count_before b v (length b) ≤ r) (Picks b v r)
+IsSelect b v r o = MatchOption o (count_of b v ≤ r) (Picks b v r)
 
 -- how many of the first i items are ones, and None exactly where there are not so many items
 abbrev pub IsRank : List Bool → ℕ → Option ℕ → Type 0
@@ -54,6 +66,18 @@ pub record IsFirstOneFrom (b : List Bool) (s p : ℕ) : Type 0 where
   pub inside : p < length b
   pub one : item b p ≡ true
   pub least : (i : ℕ) → s ≤ i → i < p → item b i ≡ false
+
+-- some item from place s on is true
+abbrev pub HasOneFrom : List Bool → ℕ → Type 0
+HasOneFrom b s = (p : ℕ) × (s ≤ p) × (item b p ≡ true)
+
+-- some item up to place s is true
+abbrev pub HasOneTo : List Bool → ℕ → Type 0
+HasOneTo b s = (p : ℕ) × (p ≤ s) × (item b p ≡ true)
+
+-- the least place from s on whose item is true, and None exactly where all items from there on are false
+abbrev pub MatchesFirstOne : List Bool → ℕ → Option ℕ → Type 0
+MatchesFirstOne b s o = MatchOption o ((p : ℕ) → s ≤ p → item b p ≡ false) (IsFirstOneFrom b s)
 
 -- p is the greatest place up to s whose item is true
 pub record IsLastOneTo (b : List Bool) (s p : ℕ) : Type 0 where

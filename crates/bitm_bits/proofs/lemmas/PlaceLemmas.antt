@@ -1,5 +1,5 @@
 -- The rising list of places of a kind of bit, one item after the other and word by word.
-use Rattle.std.proofs.Common.{◌≡◌, ℕ, zero, suc, ◌+◌, ◌-◌, ◌*◌, ◌^◌, ◌<◌, Bool, true, false, not, List, [], ◌∷◌, ◌++◌, length, get_or, eqb, sym, refl, ap, ◌∙◌, arith, length-append, count_ones, w64, ap₂, ◌≢◌, bit_and, append-nil}
+use Rattle.std.proofs.Common.{◌≡◌, ℕ, zero, suc, ◌+◌, ◌-◌, ◌^◌, ◌<◌, Bool, true, false, not, List, [], ◌∷◌, ◌++◌, length, get_or, eqb, sym, refl, ap, ◌∙◌, arith, length-append, count_ones, w64, ap₂, ◌≢◌, bit_and, append-nil}
 use Rattle.std.proofs.lemmas.Bool.{false≢true}
 use Rattle.std.proofs.lemmas.List.Sums.{sum_by-cons}
 use Rattle.std.proofs.lemmas.Nat.Bits.{bit_at-lt, bit_at-zero, bit_at_not, bit_at-trailing_zeros}
@@ -10,7 +10,7 @@ use Rattle.bitm_bits.proofs.lemmas.PickLemmas.{length-places}
 use Rattle.bitm_bits.proofs.lemmas.WordLemmas.{bit_at-lowest_cleared_same, bit_at-lowest_cleared_other}
 use Rattle.bitm_bits.specs.Bits.{low_digits, bits_of, item}
 use Rattle.bitm_bits.specs.Coming.{word_of, coming}
-use Rattle.bitm_bits.specs.Count.{count_before, places, kind}
+use Rattle.bitm_bits.specs.Count.{count_of, ones_before, places, kind}
 
 -- ---- lists
 
@@ -146,10 +146,6 @@ coming_next v first current rest some fits =
 
 -- ---- how many places there are
 
-length-places-bits_of : (v : Bool) (k : ℕ) (words : List ℕ)
-    → length (places v k (bits_of words)) ≡ count_before (bits_of words) v (64 * length words)
-length-places-bits_of v k words = length-places v k (bits_of words) ∙ ap (count_before (bits_of words) v) (length-bits_of words)
-
 -- the ones left in a word
 length-places_word : (k w : ℕ) → w < 2 ^ 64 → length (places true k (low_digits 64 w)) ≡ count_ones w
 length-places_word k w fits =
@@ -157,7 +153,11 @@ length-places_word k w fits =
     bits_of-cons w [] ∙ ap (λ b. low_digits 64 w ++ b) bits_of-nil ∙ append-nil (low_digits 64 w) in
     let none : count_ones w + 0 ≡ count_ones w = omega arith in
     let one : length (places true k (bits_of (w ∷ []))) ≡ count_ones w =
-    length-places-bits_of true k (w ∷ []) ∙ ones_before-bits_of_all (w ∷ []) only ∙ sum_by-cons count_ones w [] ∙ none in
+    length-places true k (bits_of (w ∷ []))
+    ∙ ap (ones_before (bits_of (w ∷ []))) (length-bits_of (w ∷ []))
+    ∙ ones_before-bits_of_all (w ∷ []) only
+    ∙ sum_by-cons count_ones w []
+    ∙ none in
     ap (λ b. length (places true k b)) (sym alone) ∙ one
   where
     only : (j : ℕ) → get_or (w ∷ []) j 0 < 2 ^ 64
@@ -165,11 +165,11 @@ length-places_word k w fits =
     only (suc j) = omega arith
 
 pub length-coming : (v first current : ℕ) (rest : List ℕ) → current < 2 ^ 64
-    → length (coming v first current rest) ≡ count_ones current + count_before (bits_of rest) (kind v) (64 * length rest)
+    → length (coming v first current rest) ≡ count_ones current + count_of (bits_of rest) (kind v)
 length-coming v first current rest fits =
     omega (
       arith,
       length-append (places true first (low_digits 64 current)) (places (kind v) (first + 64) (bits_of rest)),
       length-places_word first current fits,
-      length-places-bits_of (kind v) (first + 64) rest,
+      length-places (kind v) (first + 64) (bits_of rest),
     )

@@ -1,8 +1,8 @@
 //! What a value that lends words can be asked: the trait `BitAccess`.
-ghost use Rattle.std.specs.Prelude.{◌≡◌, ◌+◌, ◌*◌, ◌^◌, ◌<◌, ◌≤◌, ℕ, List, length, SomeIff, true, false, MatchOption};
+ghost use Rattle.std.specs.Prelude.{◌≡◌, ◌+◌, ◌*◌, ◌^◌, ◌<◌, ◌≤◌, ℕ, List, length, SomeIff, true, false};
 ghost use Rattle.bitm_bits.specs.Bits.{bits_of, item, IsShort};
 ghost use Rattle.bitm_bits.specs.Coming.{all_bits_left};
-ghost use Rattle.bitm_bits.specs.Count.{ones_before, zeros_before, places, IsFirstOneFrom, IsLastOneTo};
+ghost use Rattle.bitm_bits.specs.Count.{ones_of, zeros_of, places, HasOneFrom, HasOneTo, IsFirstOneFrom, IsLastOneTo, MatchesFirstOne};
 ghost use Rattle.bitm_bits.specs.Number.{number_at, IsInRange, IsFragmentInRange};
 ghost use Rattle.bitm_bits.specs.Window.{reach_of};
 
@@ -13,7 +13,12 @@ use std::ops::Range;
 /// Reads the bits of the words that a value lends: of a slice of `u64`, shared or mutable.
 ///
 /// Places, widths and counts are in bits. A call ending in `_unchecked` is the plain one: both have the same condition,
-/// which the checker proves at each call, and neither tests it when it runs.
+/// which the checker proves at each call, and neither tests it when it runs. The two finds are apart:
+/// `find_bit_one_unchecked` has the condition that there is a one, and then answers what `find_bit_one` does.
+///
+/// # Cost
+/// A bit, or a range that lies in one word, is read by one word; a range over a border by two. Counts, and `len` of the
+/// iterators over places, read each word that is left; a find reads the words up to its answer. All others read none.
 ///
 /// A range is in range where there is a bit at its begin and none of its bits is past the end: a range of width 0 at
 /// the exact end is not. Fragment `index` of width `s` is the range of `s` bits from bit `index * s` on, a product of
@@ -230,7 +235,7 @@ pub trait BitAccess {
     /// There are fewer than 2^58 words.
     fn count_bit_ones(&self) -> usize
         requires { IsShort (words self.now) }
-        ensures { result ≡ ones_before (bits_of (words self.now)) (64 * length (words self.now)) };
+        ensures { result ≡ ones_of (bits_of (words self.now)) };
 
     /// How many bits are zeros.
     ///
@@ -238,7 +243,7 @@ pub trait BitAccess {
     /// There are fewer than 2^58 words.
     fn count_bit_zeros(&self) -> usize
         requires { IsShort (words self.now) }
-        ensures { result ≡ zeros_before (bits_of (words self.now)) (64 * length (words self.now)) };
+        ensures { result ≡ zeros_of (bits_of (words self.now)) };
 
     /// The places of the ones, rising.
     ///
@@ -303,16 +308,14 @@ pub trait BitAccess {
     /// There are fewer than 2^58 words.
     fn find_bit_one(&self, start: usize) -> Option<usize>
         requires { IsShort (words self.now) }
-        ensures { MatchOption result
-            ((p : ℕ) → start ≤ p → item (bits_of (words self.now)) p ≡ false)
-            (IsFirstOneFrom (bits_of (words self.now)) start) };
+        ensures { MatchesFirstOne (bits_of (words self.now)) start result };
 
     /// The place of the first one from `start` on.
     ///
     /// # Conditions
     /// There is a one at `start` or after it, and there are fewer than 2^58 words.
     fn find_bit_one_unchecked(&self, start: usize) -> usize
-        requires exists { (p : ℕ) × (start ≤ p) × (item (bits_of (words self.now)) p ≡ true) }
+        requires exists { HasOneFrom (bits_of (words self.now)) start }
         requires short { IsShort (words self.now) }
         ensures { IsFirstOneFrom (bits_of (words self.now)) start result };
 
@@ -322,7 +325,7 @@ pub trait BitAccess {
     /// The place `start` is inside, there is a one at `start` or before it, and there are fewer than 2^58 words.
     fn rfind_bit_one_unchecked(&self, start: usize) -> usize
         requires inside { start < 64 * length (words self.now) }
-        requires exists { (p : ℕ) × (p ≤ start) × (item (bits_of (words self.now)) p ≡ true) }
+        requires exists { HasOneTo (bits_of (words self.now)) start }
         requires short { IsShort (words self.now) }
         ensures { IsLastOneTo (bits_of (words self.now)) start result };
 }

@@ -1,8 +1,8 @@
 //! What a value that lends words can be told to change: the trait `BitAccessMut`.
-ghost use Rattle.std.specs.Prelude.{◌≡◌, ◌+◌, ◌*◌, ◌^◌, ◌<◌, ◌≤◌, ◌⊎◌, ℕ, length, false, if◌then◌else◌, Some, MatchOption};
-ghost use Rattle.bitm_bits.specs.Bits.{bits_of, item, IsShort};
-ghost use Rattle.bitm_bits.specs.Lending.{LendsSame, Replaces, Negates};
-ghost use Rattle.bitm_bits.specs.Number.{number_at, with_number, with_swapped, IsInRange, IsFragmentInRange};
+ghost use Rattle.std.specs.Prelude.{◌≡◌, ◌+◌, ◌*◌, ◌^◌, ◌<◌, ◌≤◌, ℕ, length, if◌then◌else◌, Some, MatchOption};
+ghost use Rattle.bitm_bits.specs.Bits.{bits_of, IsShort};
+ghost use Rattle.bitm_bits.specs.Lending.{LendsSame, Replaces, ReplacesIf, Negates};
+ghost use Rattle.bitm_bits.specs.Number.{number_at, with_swapped, IsClearOrAlready, IsFalseOrAlready, IsInRange, IsFragmentInRange};
 
 use crate::bitvec::access::BitAccess;
 
@@ -91,8 +91,7 @@ pub trait BitAccessMut: BitAccess {
     /// The place is inside; its bit is zero or already `value`.
     fn init_bit(&mut self, place: usize, value: bool)
         requires inside { place < 64 * length (Self.words self.old) }
-        requires clear { (item (bits_of (Self.words self.old)) place ≡ false)
-            ⊎ (item (bits_of (Self.words self.old)) place ≡ value) }
+        requires clear { IsFalseOrAlready (bits_of (Self.words self.old)) place value }
         ensures same { LendsSame Self.lender Self.words self.old self.new }
         ensures after { Replaces Self.words self.old self.new place 1 (if value then 1 else 0) };
 
@@ -100,8 +99,7 @@ pub trait BitAccessMut: BitAccess {
     #[inline(always)]
     fn init_bit_unchecked(&mut self, place: usize, value: bool)
         requires inside { place < 64 * length (Self.words self.old) }
-        requires clear { (item (bits_of (Self.words self.old)) place ≡ false)
-            ⊎ (item (bits_of (Self.words self.old)) place ≡ value) }
+        requires clear { IsFalseOrAlready (bits_of (Self.words self.old)) place value }
         ensures same { LendsSame Self.lender Self.words self.old self.new }
         ensures after { Replaces Self.words self.old self.new place 1 (if value then 1 else 0) }
     {
@@ -137,8 +135,7 @@ pub trait BitAccessMut: BitAccess {
     /// The place is inside; its bit is zero or already `value`; there are fewer than 2^58 words.
     fn init_successive_bit(&mut self, place: &mut usize, value: bool)
         requires inside { place.old < 64 * length (Self.words self.old) }
-        requires clear { (item (bits_of (Self.words self.old)) place.old ≡ false)
-            ⊎ (item (bits_of (Self.words self.old)) place.old ≡ value) }
+        requires clear { IsFalseOrAlready (bits_of (Self.words self.old)) place.old value }
         requires short { IsShort (Self.words self.old) }
         ensures same { LendsSame Self.lender Self.words self.old self.new }
         ensures after { Replaces Self.words self.old self.new place.old 1 (if value then 1 else 0) }
@@ -148,8 +145,7 @@ pub trait BitAccessMut: BitAccess {
     #[inline(always)]
     fn init_successive_bit_unchecked(&mut self, place: &mut usize, value: bool)
         requires inside { place.old < 64 * length (Self.words self.old) }
-        requires clear { (item (bits_of (Self.words self.old)) place.old ≡ false)
-            ⊎ (item (bits_of (Self.words self.old)) place.old ≡ value) }
+        requires clear { IsFalseOrAlready (bits_of (Self.words self.old)) place.old value }
         requires short { IsShort (Self.words self.old) }
         ensures same { LendsSame Self.lender Self.words self.old self.new }
         ensures after { Replaces Self.words self.old self.new place.old 1 (if value then 1 else 0) }
@@ -189,8 +185,7 @@ pub trait BitAccessMut: BitAccess {
         requires in_range { IsInRange (Self.words self.old) begin len }
         requires width { len ≤ 64 }
         requires fits { v < 2 ^ len }
-        requires clear { (number_at (bits_of (Self.words self.old)) begin len ≡ 0)
-            ⊎ (number_at (bits_of (Self.words self.old)) begin len ≡ v) }
+        requires clear { IsClearOrAlready (bits_of (Self.words self.old)) begin len v }
         ensures same { LendsSame Self.lender Self.words self.old self.new }
         ensures after { Replaces Self.words self.old self.new begin len v };
 
@@ -200,8 +195,7 @@ pub trait BitAccessMut: BitAccess {
         requires in_range { IsInRange (Self.words self.old) begin len }
         requires width { len ≤ 64 }
         requires fits { v < 2 ^ len }
-        requires clear { (number_at (bits_of (Self.words self.old)) begin len ≡ 0)
-            ⊎ (number_at (bits_of (Self.words self.old)) begin len ≡ v) }
+        requires clear { IsClearOrAlready (bits_of (Self.words self.old)) begin len v }
         ensures same { LendsSame Self.lender Self.words self.old self.new }
         ensures after { Replaces Self.words self.old self.new begin len v }
     {
@@ -243,8 +237,7 @@ pub trait BitAccessMut: BitAccess {
         requires short { IsShort (Self.words self.old) }
         requires width { len ≤ 64 }
         requires fits { v < 2 ^ len }
-        requires clear { (number_at (bits_of (Self.words self.old)) begin.old len ≡ 0)
-            ⊎ (number_at (bits_of (Self.words self.old)) begin.old len ≡ v) }
+        requires clear { IsClearOrAlready (bits_of (Self.words self.old)) begin.old len v }
         ensures same { LendsSame Self.lender Self.words self.old self.new }
         ensures after { Replaces Self.words self.old self.new begin.old len v }
         ensures advances { begin.new ≡ begin.old + len };
@@ -293,8 +286,7 @@ pub trait BitAccessMut: BitAccess {
         requires in_range { IsFragmentInRange (Self.words self.old) index s }
         requires width { s ≤ 64 }
         requires fits { v < 2 ^ s }
-        requires clear { (number_at (bits_of (Self.words self.old)) (index * s) s ≡ 0)
-            ⊎ (number_at (bits_of (Self.words self.old)) (index * s) s ≡ v) }
+        requires clear { IsClearOrAlready (bits_of (Self.words self.old)) (index * s) s v }
         ensures same { LendsSame Self.lender Self.words self.old self.new }
         ensures after { Replaces Self.words self.old self.new (index * s) s v };
 
@@ -304,8 +296,7 @@ pub trait BitAccessMut: BitAccess {
         requires in_range { IsFragmentInRange (Self.words self.old) index s }
         requires width { s ≤ 64 }
         requires fits { v < 2 ^ s }
-        requires clear { (number_at (bits_of (Self.words self.old)) (index * s) s ≡ 0)
-            ⊎ (number_at (bits_of (Self.words self.old)) (index * s) s ≡ v) }
+        requires clear { IsClearOrAlready (bits_of (Self.words self.old)) (index * s) s v }
         ensures same { LendsSame Self.lender Self.words self.old self.new }
         ensures after { Replaces Self.words self.old self.new (index * s) s v }
     {
@@ -350,8 +341,7 @@ pub trait BitAccessMut: BitAccess {
         requires room { index.old < usize.MAX }
         requires width { s ≤ 64 }
         requires fits { v < 2 ^ s }
-        requires clear { (number_at (bits_of (Self.words self.old)) (index.old * s) s ≡ 0)
-            ⊎ (number_at (bits_of (Self.words self.old)) (index.old * s) s ≡ v) }
+        requires clear { IsClearOrAlready (bits_of (Self.words self.old)) (index.old * s) s v }
         ensures same { LendsSame Self.lender Self.words self.old self.new }
         ensures after { Replaces Self.words self.old self.new (index.old * s) s v }
         ensures advances { index.new ≡ index.old + 1 };
@@ -452,10 +442,7 @@ pub trait BitAccessMut: BitAccess {
         ensures after { let old = number_at (bits_of (Self.words self.old)) begin s in
             let new = number_at (bits_of src.now) begin s in
             (taken : _) × F.post predicate old new taken
-            × (bits_of (Self.words self.new)
-            ≡ (if taken
-            then with_number (bits_of (Self.words self.old)) begin s new
-            else bits_of (Self.words self.old))) };
+            × ReplacesIf taken Self.words self.old self.new begin s new };
 
     /// Replaces fragment `index` of width `s` by that of `src`, where `predicate`, called once on the two numbers, the
     /// old one first, answers true.
@@ -479,8 +466,5 @@ pub trait BitAccessMut: BitAccess {
         ensures after { let old = number_at (bits_of (Self.words self.old)) (index * s) s in
             let new = number_at (bits_of src.now) (index * s) s in
             (taken : _) × F.post predicate old new taken
-            × (bits_of (Self.words self.new)
-            ≡ (if taken
-            then with_number (bits_of (Self.words self.old)) (index * s) s new
-            else bits_of (Self.words self.old))) };
+            × ReplacesIf taken Self.words self.old self.new (index * s) s new };
 }

@@ -1,7 +1,7 @@
 //! Writes for which a closure decides, that is called exactly once.
-ghost use Rattle.std.specs.Prelude.{◌≡◌, ℕ, ◌*◌, ◌^◌, ◌<◌, ◌≤◌, Some, MatchOption, if◌then◌else◌};
+ghost use Rattle.std.specs.Prelude.{◌≡◌, ℕ, ◌*◌, ◌^◌, ◌<◌, ◌≤◌, Some, MatchOption};
 ghost use Rattle.bitm_bits.specs.Bits.{bits_of};
-ghost use Rattle.bitm_bits.specs.Number.{number_at, with_number, IsInRange, IsFragmentInRange};
+ghost use Rattle.bitm_bits.specs.Number.{number_at, with_number, with_number_if, IsInRange, IsFragmentInRange};
 
 use crate::bitvec::reading::get_bits;
 use crate::bitvec::writing::set_bits;
@@ -83,10 +83,7 @@ pub fn conditionally_copy_bits<F: FnOnce(u64, u64) -> bool>(
     ensures { let old = number_at (bits_of words.old) begin s in
         let new = number_at (bits_of src.now) begin s in
         (taken : _) × F.post predicate old new taken
-        × (bits_of words.new
-        ≡ (if taken
-        then with_number (bits_of words.old) begin s new
-        else bits_of words.old)) }
+        × (bits_of words.new ≡ with_number_if taken (bits_of words.old) begin s new) }
 {
     let old = get_bits(words, begin, s);
     let new = get_bits(src, begin, s);
@@ -117,9 +114,7 @@ pub fn conditionally_copy_fragment<F: FnOnce(u64, u64) -> bool>(
         let new = number_at (bits_of src.now) (index * s) s in
         (taken : _) × F.post predicate old new taken
         × (bits_of words.new
-        ≡ (if taken
-        then with_number (bits_of words.old) (index * s) s new
-        else bits_of words.old)) }
+        ≡ with_number_if taken (bits_of words.old) (index * s) s new) }
 {
     conditionally_copy_bits(words, src, predicate, index * s as usize, s);
 }

@@ -1,8 +1,8 @@
 //! How many bits of words are ones, and how many are zeros.
-ghost use Rattle.std.specs.Prelude.{◌≡◌, ◌*◌, ◌≤◌, length, count_ones};
+ghost use Rattle.std.specs.Prelude.{◌≡◌, ◌≤◌, count_ones};
 ghost use Rattle.std.specs.Int.{count_zeros, w64};
 ghost use Rattle.bitm_bits.specs.Bits.{bits_of, IsShort};
-ghost use Rattle.bitm_bits.specs.Count.{ones_before, zeros_before};
+ghost use Rattle.bitm_bits.specs.Count.{ones_of, zeros_of};
 
 #[inline(always)]
 fn ones_in(word: &u64) -> usize
@@ -27,7 +27,7 @@ fn zeros_in(word: &u64) -> usize
 #[inline]
 pub fn count_bit_ones(words: &[u64]) -> usize
     requires { IsShort words.now }
-    ensures { result ≡ ones_before (bits_of words.now) (64 * length words.now) }
+    ensures { result ≡ ones_of (bits_of words.now) }
 {
     words.iter().map(ones_in).sum()
 }
@@ -39,7 +39,7 @@ pub fn count_bit_ones(words: &[u64]) -> usize
 #[inline]
 pub fn count_bit_zeros(words: &[u64]) -> usize
     requires { IsShort words.now }
-    ensures { result ≡ zeros_before (bits_of words.now) (64 * length words.now) }
+    ensures { result ≡ zeros_of (bits_of words.now) }
 {
     words.iter().map(zeros_in).sum()
 }

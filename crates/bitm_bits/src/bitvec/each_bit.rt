@@ -1,9 +1,9 @@
 //! The bits of a range, as an iterator from either end.
 ghost use Rattle.std.specs.Prelude.{◌≡◌, ℕ, ◌*◌, ◌≤◌, length, Some, IfSome, ⊤};
-ghost use Rattle.std.specs.Iterator.{YieldsFirst, YieldsLast, MakesProgress, item_count, UpTo, at_most};
+ghost use Rattle.std.specs.Iterator.{MakesProgress, item_count, UpTo, at_most};
 ghost use Rattle.std.specs.Iterator.SizeHint.{IsWithinCount};
 ghost use Rattle.bitm_bits.specs.Bits.{bits_of, IsShort};
-ghost use Rattle.bitm_bits.specs.Coming.{BitsLeft, all_bits_left, bits_left, without_first, without_last};
+ghost use Rattle.bitm_bits.specs.Coming.{BitsLeft, GivesFirst, GivesLast, all_bits_left, bits_left};
 
 use crate::bitvec::reading::get_bit;
 use std::iter::{DoubleEndedIterator, ExactSizeIterator, FusedIterator, Iterator};
@@ -87,15 +87,15 @@ impl<'bv> BitIterator<'bv> {
 impl<'bv> Iterator for BitIterator<'bv> {
     type Item = bool;
 
-    ghost next_gives = { λ s r t. YieldsFirst bits_left s r t × (t ≡ without_first s) };
+    // Which range is left is known in generic code too, also where it was reversed.
+    ghost next_gives = { GivesFirst };
 
     ghost remaining = { item_count bits_left };
 
     #[inline]
     fn next(&mut self) -> Option<bool>
-        ensures steps { YieldsFirst bits_left self.old result self.new × (self.new ≡ without_first self.old) }
+        ensures steps { GivesFirst self.old result self.new }
         ensures goes { MakesProgress (λ _. ⊤) (item_count bits_left) self.old result self.new }
-        ensures left { self.new ≡ without_first self.old }
     {
         let place = self.range.next()?;
         Some(get_bit(self.words, place))
@@ -114,13 +114,12 @@ impl<'bv> Iterator for BitIterator<'bv> {
 }
 
 impl<'bv> DoubleEndedIterator for BitIterator<'bv> {
-    ghost next_back_gives = { λ s r t. YieldsLast bits_left s r t × (t ≡ without_last s) };
+    ghost next_back_gives = { GivesLast };
 
     #[inline]
     fn next_back(&mut self) -> Option<bool>
-        ensures steps { YieldsLast bits_left self.old result self.new × (self.new ≡ without_last self.old) }
+        ensures steps { GivesLast self.old result self.new }
         ensures goes { MakesProgress (λ _. ⊤) (item_count bits_left) self.old result self.new }
-        ensures left { self.new ≡ without_last self.old }
     {
         let place = self.range.next_back()?;
         Some(get_bit(self.words, place))

@@ -1,7 +1,7 @@
 //! The nearest one of words, found word by word.
-ghost use Rattle.std.specs.Prelude.{◌≡◌, ℕ, ◌*◌, ◌<◌, ◌≤◌, length, true, false, MatchOption};
+ghost use Rattle.std.specs.Prelude.{◌≡◌, ℕ, ◌*◌, ◌<◌, ◌≤◌, length, true, false};
 ghost use Rattle.bitm_bits.specs.Bits.{bits_of, item, IsShort};
-ghost use Rattle.bitm_bits.specs.Count.{IsFirstOneFrom, IsLastOneTo};
+ghost use Rattle.bitm_bits.specs.Count.{HasOneFrom, HasOneTo, IsFirstOneFrom, IsLastOneTo, MatchesFirstOne};
 
 use crate::masks::{n_lowest_bits, n_lowest_bits_1_64};
 
@@ -31,8 +31,7 @@ pub fn trailing_zero_bits(words: &[u64]) -> usize
 #[inline]
 pub fn find_bit_one(words: &[u64], start: usize) -> Option<usize>
     requires { IsShort words.now }
-    ensures { MatchOption result ((p : ℕ) → start ≤ p → item (bits_of words.now) p ≡ false)
-        (IsFirstOneFrom (bits_of words.now) start) }
+    ensures { MatchesFirstOne (bits_of words.now) start result }
 {
     let mut word_index = start / 64;
     let mut rest = *words.get(word_index)? & !n_lowest_bits((start % 64) as u8);
@@ -49,7 +48,7 @@ pub fn find_bit_one(words: &[u64], start: usize) -> Option<usize>
 /// There is a one at `start` or after it, and there are fewer than 2^58 words.
 #[inline]
 pub fn find_bit_one_unchecked(words: &[u64], start: usize) -> usize
-    requires exists { (p : ℕ) × (start ≤ p) × (item (bits_of words.now) p ≡ true) }
+    requires exists { HasOneFrom (bits_of words.now) start }
     requires short { IsShort words.now }
     ensures { IsFirstOneFrom (bits_of words.now) start result }
 {
@@ -69,7 +68,7 @@ pub fn find_bit_one_unchecked(words: &[u64], start: usize) -> usize
 #[inline]
 pub fn rfind_bit_one_unchecked(words: &[u64], start: usize) -> usize
     requires inside { start < 64 * length words.now }
-    requires exists { (p : ℕ) × (p ≤ start) × (item (bits_of words.now) p ≡ true) }
+    requires exists { HasOneTo (bits_of words.now) start }
     requires short { IsShort words.now }
     ensures { IsLastOneTo (bits_of words.now) start result }
 {

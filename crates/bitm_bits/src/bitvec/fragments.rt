@@ -1,8 +1,8 @@
 //! Fragments of words: fragment `index` of width `s` is the `s` bits from bit `index * s` on, a product of whole
 //! numbers.
-ghost use Rattle.std.specs.Prelude.{◌≡◌, ◌*◌, ◌^◌, ◌<◌, ◌≤◌, ◌⊎◌, SomeIff};
+ghost use Rattle.std.specs.Prelude.{◌≡◌, ◌*◌, ◌^◌, ◌<◌, ◌≤◌, SomeIff};
 ghost use Rattle.bitm_bits.specs.Bits.{bits_of};
-ghost use Rattle.bitm_bits.specs.Number.{number_at, with_number, with_swapped, IsFragmentInRange};
+ghost use Rattle.bitm_bits.specs.Number.{number_at, with_number, with_swapped, IsClearOrAlready, IsFragmentInRange};
 ghost use Rattle.bitm_bits.specs.Window.{reach_of, with_flips};
 
 use crate::bitvec::reading::{get_bits, get_bits_unmasked, try_get_bits, try_get_bits_unmasked};
@@ -87,8 +87,7 @@ pub fn init_fragment(words: &mut [u64], index: usize, v: u64, s: u8)
     requires in_range { IsFragmentInRange words.old index s }
     requires width { s ≤ 64 }
     requires fits { v < 2 ^ s }
-    requires clear { (number_at (bits_of words.old) (index * s) s ≡ 0)
-        ⊎ (number_at (bits_of words.old) (index * s) s ≡ v) }
+    requires clear { IsClearOrAlready (bits_of words.old) (index * s) s v }
     ensures { bits_of words.new ≡ with_number (bits_of words.old) (index * s) s v }
 {
     init_bits(words, index * s as usize, v, s);

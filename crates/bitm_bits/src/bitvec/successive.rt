@@ -1,7 +1,7 @@
 //! Calls that take a place, a begin or an index by reference, and leave there the next one.
-ghost use Rattle.std.specs.Prelude.{◌≡◌, ◌+◌, ◌*◌, ◌^◌, ◌<◌, ◌≤◌, ◌⊎◌, length, false, if◌then◌else◌};
+ghost use Rattle.std.specs.Prelude.{◌≡◌, ◌+◌, ◌*◌, ◌^◌, ◌<◌, ◌≤◌, length, if◌then◌else◌};
 ghost use Rattle.bitm_bits.specs.Bits.{bits_of, item, IsShort};
-ghost use Rattle.bitm_bits.specs.Number.{number_at, with_number, IsInRange, IsFragmentInRange};
+ghost use Rattle.bitm_bits.specs.Number.{number_at, with_number, IsClearOrAlready, IsFalseOrAlready, IsInRange, IsFragmentInRange};
 ghost use Rattle.bitm_bits.specs.Window.{with_flips};
 
 use crate::bitvec::fragments::{get_fragment, init_fragment, set_fragment, xor_fragment};
@@ -84,8 +84,7 @@ pub fn set_successive_bit_to(words: &mut [u64], place: &mut usize, value: bool)
 #[inline(always)]
 pub fn init_successive_bit(words: &mut [u64], place: &mut usize, value: bool)
     requires inside { place.old < 64 * length words.old }
-    requires clear { (item (bits_of words.old) place.old ≡ false)
-        ⊎ (item (bits_of words.old) place.old ≡ value) }
+    requires clear { IsFalseOrAlready (bits_of words.old) place.old value }
     requires short { IsShort words.old }
     ensures after { bits_of words.new
         ≡ with_number (bits_of words.old) place.old 1 (if value then 1 else 0) }
@@ -124,8 +123,7 @@ pub fn init_successive_bits(words: &mut [u64], begin: &mut usize, v: u64, len: u
     requires short { IsShort words.old }
     requires width { len ≤ 64 }
     requires fits { v < 2 ^ len }
-    requires clear { (number_at (bits_of words.old) begin.old len ≡ 0)
-        ⊎ (number_at (bits_of words.old) begin.old len ≡ v) }
+    requires clear { IsClearOrAlready (bits_of words.old) begin.old len v }
     ensures after { bits_of words.new ≡ with_number (bits_of words.old) begin.old len v }
     ensures advances { begin.new ≡ begin.old + len }
 {
@@ -181,8 +179,7 @@ pub fn init_successive_fragment(words: &mut [u64], index: &mut usize, v: u64, s:
     requires room { index.old < usize.MAX }
     requires width { s ≤ 64 }
     requires fits { v < 2 ^ s }
-    requires clear { (number_at (bits_of words.old) (index.old * s) s ≡ 0)
-        ⊎ (number_at (bits_of words.old) (index.old * s) s ≡ v) }
+    requires clear { IsClearOrAlready (bits_of words.old) (index.old * s) s v }
     ensures after { bits_of words.new ≡ with_number (bits_of words.old) (index.old * s) s v }
     ensures advances { index.new ≡ index.old + 1 }
 {

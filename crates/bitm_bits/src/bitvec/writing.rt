@@ -1,8 +1,8 @@
 //! Writes of bits of words: all bits that a call does not name stay.
-ghost use Rattle.std.specs.Prelude.{◌≡◌, ◌*◌, ◌^◌, ◌<◌, ◌≤◌, ◌⊎◌, length, bit_and, bit_or, false, if◌then◌else◌};
+ghost use Rattle.std.specs.Prelude.{◌≡◌, ◌*◌, ◌^◌, ◌<◌, ◌≤◌, length, bit_and, bit_or, if◌then◌else◌};
 ghost use Rattle.std.specs.Int.{bit_not, w64};
-ghost use Rattle.bitm_bits.specs.Bits.{bits_of, item};
-ghost use Rattle.bitm_bits.specs.Number.{number_at, with_number, IsInRange};
+ghost use Rattle.bitm_bits.specs.Bits.{bits_of};
+ghost use Rattle.bitm_bits.specs.Number.{with_number, IsClearOrAlready, IsFalseOrAlready, IsInRange};
 ghost use Rattle.bitm_bits.specs.Window.{with_flips};
 
 use crate::masks::n_lowest_bits;
@@ -64,8 +64,7 @@ pub fn clear_bit(words: &mut [u64], place: usize)
 #[inline(always)]
 pub fn init_bit(words: &mut [u64], place: usize, value: bool)
     requires inside { place < 64 * length words.old }
-    requires clear { (item (bits_of words.old) place ≡ false)
-        ⊎ (item (bits_of words.old) place ≡ value) }
+    requires clear { IsFalseOrAlready (bits_of words.old) place value }
     ensures { bits_of words.new ≡ with_number (bits_of words.old) place 1 (if value then 1 else 0) }
 {
     words[place / 64] |= (value as u64) << (place % 64);
@@ -100,8 +99,7 @@ pub fn init_bits(words: &mut [u64], begin: usize, v: u64, len: u8)
     requires in_range { IsInRange words.old begin len }
     requires width { len ≤ 64 }
     requires fits { v < 2 ^ len }
-    requires clear { (number_at (bits_of words.old) begin len ≡ 0)
-        ⊎ (number_at (bits_of words.old) begin len ≡ v) }
+    requires clear { IsClearOrAlready (bits_of words.old) begin len v }
     ensures { bits_of words.new ≡ with_number (bits_of words.old) begin len v }
 {
     let (segment, offset) = (begin / 64, (begin % 64) as u8);

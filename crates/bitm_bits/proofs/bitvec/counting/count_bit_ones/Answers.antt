@@ -1,6 +1,9 @@
-use Rattle.std.proofs.Common.{◌≡◌, ◌^◌, ◌-◌, count_ones, sum_by, sym, ◌∙◌, arith, rules, tests}
+use Rattle.std.proofs.Common.{◌≡◌, ◌^◌, ◌-◌, count_ones, sum_by, sym, ap, ◌∙◌, arith, rules, tests}
 use Rattle.std.proofs.lemmas.Iterator.{YieldsList-from_slice}
 use Rattle.std.proofs.lemmas.Iterator.Adapters.{fits_from_length, at_most_from_yields_List}
+use Rattle.bitm_bits.proofs.lemmas.BitsLemmas.{length-bits_of}
+use Rattle.bitm_bits.specs.Bits.{bits_of}
+use Rattle.bitm_bits.specs.Count.{ones_before}
 use Rattle.bitm_bits.proofs.lemmas.CountLemmas.{ones_before-bits_of_all}
 use Rattle.bitm_bits.proofs.bitvec.counting.count_bit_ones.Goals as goal
 
@@ -12,4 +15,4 @@ sum-requires-clause-fits c =
 pub returns : goal.returns
 returns c =
     let e : c.sum.result ≡ sum_by count_ones c.args.words.now = search rules in
-    e ∙ sym (ones_before-bits_of_all c.args.words.now (λ k. search rules))
+    e ∙ sym (ones_before-bits_of_all c.args.words.now (λ k. search rules)) ∙ sym (ap (ones_before (bits_of c.args.words.now)) (length-bits_of c.args.words.now))

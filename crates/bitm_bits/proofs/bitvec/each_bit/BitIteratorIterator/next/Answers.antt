@@ -19,10 +19,12 @@ pub returns-clause-steps : goal.returns-clause-steps
 returns-clause-steps c =
     let it = c.self.inside in
     let to = c.next.new.self in
-    let step = c.in_ok-place.ensures.steps in
-    (sym (ap bits_left c.self.view_is)
-    ∙ bits_coming_step it.words.now it.range.start it.range.end to.start to.end c.in_ok-place.place c.get_bit.result c.self.invariant.0
-    step.1.0 step.0 step.1.1 step.1.2 c.get_bit.ensures, search rules)
+    let step = c.in_ok-place.ensures.steps in (
+      sym (ap bits_left c.self.view_is)
+          ∙ bits_coming_step it.words.now it.range.start it.range.end to.start to.end c.in_ok-place.place c.get_bit.result c.self.invariant.0
+          step.1.0 step.0 step.1.1 step.1.2 c.get_bit.ensures,
+      search rules,
+    )
 
 pub returns-clause-goes : goal.returns-clause-goes
 returns-clause-goes c =

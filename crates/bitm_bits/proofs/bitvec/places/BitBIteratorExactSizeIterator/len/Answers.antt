@@ -5,7 +5,7 @@ use Rattle.bitm_bits.proofs.lemmas.BitsLemmas.{length-bits_of}
 use Rattle.bitm_bits.proofs.lemmas.CountLemmas.{ones_before-add-zeros_before}
 use Rattle.bitm_bits.proofs.lemmas.PlaceLemmas.{length-coming}
 use Rattle.bitm_bits.specs.Bits.{bits_of}
-use Rattle.bitm_bits.specs.Count.{ones_before, zeros_before, count_before, kind}
+use Rattle.bitm_bits.specs.Count.{ones_of, zeros_of, count_of, kind}
 use Rattle.bitm_bits.proofs.bitvec.places.BitBIteratorExactSizeIterator.len.Goals as goal
 use Rattle.bitm_bits.proofs.bitvec.places.BitBIteratorExactSizeIterator.len.Goals.{then-this-eq0, else-this-eq0}
 
@@ -13,9 +13,8 @@ kind_one : (v : ℕ) → v ≢ 0 → kind v ≡ true
 kind_one zero apart = absurd (apart refl)
 kind_one (suc v) apart = refl
 
-both_within : (words : List ℕ)
-    → ones_before (bits_of words) (64 * length words) + zeros_before (bits_of words) (64 * length words) ≡ 64 * length words
-both_within words = ones_before-add-zeros_before (bits_of words) (64 * length words) (omega (arith, length-bits_of words))
+both_within : (words : List ℕ) → ones_of (bits_of words) + zeros_of (bits_of words) ≡ 64 * length words
+both_within words = ones_before-add-zeros_before (bits_of words) (length (bits_of words)) (omega arith) ∙ length-bits_of words
 
 pub overflow_add-result : goal.overflow_add-result
 overflow_add-result g c =
@@ -30,7 +29,7 @@ overflow_add-result g c =
 pub returns-clause-value : goal.returns-clause-value
 returns-clause-value g c =
     let it = c.self.inside in
-    let counted = λ (v : Bool). count_ones it.current + count_before (bits_of it.rest.now) v (64 * length it.rest.now) in
+    let counted = λ (v : Bool). count_ones it.current + count_of (bits_of it.rest.now) v in
     let fits : it.current < 2 ^ 64 = search rules in
     let coming = sym (length-coming g.row.B it.first it.current it.rest.now fits) ∙ ap length c.self.view_is in
     elim c.if-this-eq0.branch [
