@@ -1,3 +1,4 @@
+pub mod BesideLemmas
 pub mod BitsLemmas
 pub mod ByteLemmas
 pub mod ByteWindowLemmas

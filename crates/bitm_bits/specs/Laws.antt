@@ -1,9 +1,9 @@
 -- What the definitions say of one another. Each law is the contract of a function of `laws`.
-use Rattle.std.specs.Prelude.{◌≡◌, ℕ, ◌+◌, ◌-◌, ◌*◌, ◌^◌, ◌<◌, ◌≤◌, ◌↔◌, Bool, List, [], ◌∷◌, ◌++◌, length, slice_index}
+use Rattle.std.specs.Prelude.{◌≡◌, ℕ, ◌+◌, ◌-◌, ◌*◌, ◌^◌, ◌<◌, ◌≤◌, ◌↔◌, Bool, if◌then◌else◌, List, [], ◌∷◌, ◌++◌, length, slice_index}
 use Rattle.std.specs.List.Sorted.{IsStrictlyIncreasing}
-use Rattle.bitm_bits.specs.Bits.{bits_of, item}
+use Rattle.bitm_bits.specs.Bits.{bits_of, item, digit_count}
 use Rattle.bitm_bits.specs.Coming.{bits_coming}
-use Rattle.bitm_bits.specs.Count.{ones_before, zeros_before, count_before, Picks, places}
+use Rattle.bitm_bits.specs.Count.{ones_before, zeros_before, count_before, Picks, is_same, places}
 use Rattle.bitm_bits.specs.Number.{number_at, with_number, with_swapped}
 use Rattle.bitm_bits.specs.Window.{with_flips}
 
@@ -28,6 +28,10 @@ SwappedTwice =
 abbrev pub SwappedWithItself : Type 0
 SwappedWithItself = (b : List Bool) (i width : ℕ) → i * width + width ≤ length b → with_swapped b i i width ≡ b
 
+-- n has at most k digits exactly where it is below 2 ^ k
+abbrev pub DigitsBoundPowers : Type 0
+DigitsBoundPowers = (n k : ℕ) → (digit_count n ≤ k) ↔ (n < 2 ^ k)
+
 -- ---- counts
 
 -- each item before a place is a one or a zero
@@ -39,6 +43,20 @@ abbrev pub OnesAndZerosOfContent : Type 0
 OnesAndZerosOfContent =
     (words : List ℕ)
     → ones_before (bits_of words) (64 * length words) + zeros_before (bits_of words) (64 * length words) ≡ 64 * length words
+
+-- no fewer items of a kind stand before a later place
+abbrev pub CountsGrow : Type 0
+CountsGrow = (b : List Bool) (v : Bool) (i j : ℕ) → i ≤ j → count_before b v i ≤ count_before b v j
+
+-- there is one more after an item of the kind, and none more after one of the other
+abbrev pub CountAfterItem : Type 0
+CountAfterItem =
+    (b : List Bool) (v : Bool) (i : ℕ) → i < length b
+    → count_before b v (i + 1) ≡ count_before b v i + (if is_same v (item b i) then 1 else 0)
+
+-- no items stand before the first place
+abbrev pub NoneBeforeTheFirst : Type 0
+NoneBeforeTheFirst = (b : List Bool) (v : Bool) → count_before b v 0 ≡ 0
 
 -- ---- what a rank picks
 

@@ -7,3 +7,4 @@ pub mod Lending
 pub mod Number
 pub mod Size
 pub mod Window
+pub mod WriteLaws

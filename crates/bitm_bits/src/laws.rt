@@ -1,10 +1,19 @@
 //! Laws of the definitions that contracts cite, over lists of bits alone. A function here does nothing: its contract is
 //! the law, and a caller that wants the law calls it.
 ghost use Rattle.bitm_bits.specs.Laws.{ReadAfterWrite, NegatedTwice, SwappedTwice, SwappedWithItself};
-ghost use Rattle.bitm_bits.specs.Laws.{OnesAndZeros, OnesAndZerosOfContent};
+ghost use Rattle.bitm_bits.specs.Laws.{DigitsBoundPowers};
+ghost use Rattle.bitm_bits.specs.Laws.{OnesAndZeros, OnesAndZerosOfContent, CountsGrow, CountAfterItem, NoneBeforeTheFirst};
 ghost use Rattle.bitm_bits.specs.Laws.{AtMostOnePicked, OnePickedForEachRank, NonePickedFromTheCountOn, RankOfPicked, PickedByRank};
 ghost use Rattle.bitm_bits.specs.Laws.{PlacesRise, PlacesArePicked, PlacesAreCounted};
 ghost use Rattle.bitm_bits.specs.Laws.{AllBitsCome, NoBitsCome, BitsComeFromTheFront, BitsComeFromTheBack, EachBitOnce};
+
+mod writes;
+
+pub use writes::{
+    bits_are_counted, count_before_is_kept, item_beside_is_kept, item_is_written, last_one_is_set,
+    length_is_kept, no_items_are_zero, number_beside_is_kept, one_more_is_cleared, one_more_is_set,
+    place_is_inside, word_is_its_bits, zeros_are_counted, zeros_are_zero, zeros_have_no_ones,
+};
 
 /// A number that was written, and fits its width, is the number that is read there.
 pub fn read_after_write()
@@ -26,6 +35,11 @@ pub fn swapped_with_itself()
     ensures { SwappedWithItself }
 {}
 
+/// A number has at most `k` binary digits exactly where it is below two to the power of `k`.
+pub fn digits_bound_powers()
+    ensures { DigitsBoundPowers }
+{}
+
 /// The ones and the zeros before a place are together as many as the places before it.
 pub fn ones_and_zeros()
     ensures { OnesAndZeros }
@@ -34,6 +48,21 @@ pub fn ones_and_zeros()
 /// The ones and the zeros of words are together as many as their bits.
 pub fn ones_and_zeros_of_content()
     ensures { OnesAndZerosOfContent }
+{}
+
+/// No fewer items of a kind stand before a later place.
+pub fn counts_grow()
+    ensures { CountsGrow }
+{}
+
+/// After an item there is one more of its kind, and no more of the other.
+pub fn count_after_item()
+    ensures { CountAfterItem }
+{}
+
+/// No items stand before the first place.
+pub fn none_before_the_first()
+    ensures { NoneBeforeTheFirst }
 {}
 
 /// At most one place has a given bit and a given rank.

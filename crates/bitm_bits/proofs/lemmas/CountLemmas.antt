@@ -150,6 +150,28 @@ count_before_grows v b i (suc d) l =
     let e : i + suc d ≡ i + d + 1 = omega arith in
     omega (arith, count_before_grows v b i d (omega arith), count_before_more v b (i + d) (omega arith), ap (count_before b v) e)
 
+count_before_past : (v : Bool) (b : List Bool) (i : ℕ) → length b ≤ i → count_before b v i ≡ count_before b v (length b)
+unfolding zeros_before
+count_before_past true b i l = ones_before_past b i l
+count_before_past false b i l = ap (count_by not) (take_all i b l ∙ sym (take_all (length b) b (omega arith)))
+
+-- no fewer items of a kind stand before a later place
+pub count_before-le : (b : List Bool) (v : Bool) (i j : ℕ) → i ≤ j → count_before b v i ≤ count_before b v j
+count_before-le b v i j l =
+    ⊎_elim
+    (λ inside. let e : i + (j - i) ≡ j = omega arith in
+    omega (arith, count_before_grows v b i (j - i) (omega arith), ap (count_before b v) e))
+    (λ past. ⊎_elim
+    (λ inside. let e : i + (length b - i) ≡ length b = omega arith in
+    omega (arith, count_before_grows v b i (length b - i) (omega arith), ap (count_before b v) e, count_before_past v b j (omega arith)))
+    (λ both. omega (arith, count_before_past v b i both, count_before_past v b j (omega arith)))
+    (cases_lt i (length b)))
+    (cases_lt j (length b))
+
+pub count_before-none : (b : List Bool) (v : Bool) → count_before b v 0 ≡ 0
+count_before-none b true = ones_before_none b
+count_before-none b false = zeros_before_none b
+
 -- no more ones stand before an earlier place
 pub ones_before-le : (b : List Bool) (i j : ℕ) → i ≤ j → j ≤ length b → ones_before b i ≤ ones_before b j
 ones_before-le b i j l within =

@@ -1,5 +1,5 @@
 -- How many binary digits a number has: one more than half of it, and between which powers of two it lies.
-use Rattle.std.proofs.Common.{◌≡◌, ℕ, zero, suc, ◌+◌, ◌-◌, ◌*◌, ◌/◌, ◌^◌, ◌<◌, ◌≤◌, pow-suc, arith, inl, inr, ◌∙◌}
+use Rattle.std.proofs.Common.{◌≡◌, ℕ, zero, suc, ◌+◌, ◌-◌, ◌*◌, ◌/◌, ◌^◌, ◌<◌, ◌≤◌, ◌↔◌, pow-suc, arith, inl, inr, ⊎_elim, ◌∙◌}
 use Rattle.std.proofs.lemmas.Bool.{cases_lt}
 use Rattle.std.proofs.lemmas.Int.Digits.{length-digits_of_step, length-digits_of-le}
 use Rattle.std.proofs.lemmas.Nat.{leading_length, pow_pos}
@@ -30,6 +30,13 @@ digit_count-mono a b h =
       | inl below ↦ digit_count_most (digit_count b) a below
       | inr from ↦ absurd (omega (arith, digit_count_least (digit_count b) b (omega arith)))
     ]
+
+-- so a number has at most k digits exactly where it is below 2 ^ k
+pub digit_count-power : (n k : ℕ) → (digit_count n ≤ k) ↔ (n < 2 ^ k)
+digit_count-power n k = (
+  λ few. ⊎_elim (λ below. below) (λ from. absurd (omega (arith, few, digit_count_least k n from))) (cases_lt n (2 ^ k)),
+  digit_count_most k n,
+)
 
 digit_count_between : (k n : ℕ) → n < 2 ^ k → 2 ^ k ≤ 2 * n + 1 → digit_count n ≡ k
 digit_count_between zero n below from = omega (arith, digit_count_most 0 n below)
