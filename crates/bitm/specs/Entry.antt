@@ -1,6 +1,7 @@
 -- One entry of the lower table: four counts in one number, and what their fields are.
-use Rattle.std.specs.Prelude.{◌≡◌, ℕ, zero, suc, ◌+◌, ◌-◌, ◌*◌, ◌/◌, ◌^◌, ◌%◌, ◌≤◌, Bool, List}
-use Rattle.bitm_bits.specs.Count.{ones_before}
+use Rattle.std.specs.Prelude.{◌≡◌, ℕ, zero, suc, ◌+◌, ◌-◌, ◌*◌, ◌/◌, ◌^◌, ◌%◌, ◌<◌, ◌≤◌, Bool, List, length}
+use Rattle.std.specs.Int.{div_ceil}
+use Rattle.bitm_bits.specs.Count.{ones_before, zeros_before}
 
 -- the ones from the start of entry j's part of 2^32 bits to entry j
 abbrev pub before_in_part : List Bool → ℕ → ℕ
@@ -17,6 +18,15 @@ packed r0 r1 r2 r3 = r0 + r3 * 2 ^ 32 + r2 * 2 ^ 43 + r1 * 2 ^ 54
 -- entry j of the lower table over the bits b
 abbrev pub lower_entry : List Bool → ℕ → ℕ
 lower_entry b j = packed (before_in_part b j) (in_records b j 1) (in_records b j 2) (in_records b j 3)
+
+-- the number e is entry j of the lower table over the bits b, which has such an entry
+pub record IsEntryOf (b : List Bool) (j e : ℕ) : Type 0 where
+  pub inside : j < div_ceil (length b) 2048
+  pub value : e ≡ lower_entry b j
+
+-- the zeros from the start of entry j's part of 2^32 bits to entry j
+abbrev pub zeros_before_in_part : List Bool → ℕ → ℕ
+zeros_before_in_part b j = zeros_before b (2048 * j) - zeros_before b ((j / 2 ^ 21) * 2 ^ 32)
 
 -- ---- the fields of an entry
 

@@ -1,5 +1,6 @@
 pub mod Density
 pub mod Entry
+pub mod IndexLaws
 pub mod Parts
 pub mod Reads
 pub mod Samples

@@ -1,9 +1,9 @@
 -- The samples of a content, where selection by them begins, and what it reads.
-use Rattle.std.specs.Prelude.{◌≡◌, ℕ, ◌+◌, ◌-◌, ◌*◌, ◌/◌, ◌%◌, ◌^◌, ◌<◌, ◌≤◌, Bool, List, map, flat_map, sum_by, length, take, drop, min, slice_index_or, Option, MatchOption, if◌then◌else◌, nat_lt, nat_eq}
+use Rattle.std.specs.Prelude.{◌≡◌, ℕ, ◌+◌, ◌-◌, ◌*◌, ◌/◌, ◌%◌, ◌^◌, ◌<◌, ◌≤◌, Bool, List, map, flat_map, sum_by, length, take, drop, min, slice_index_or, Option, MatchOption, if◌then◌else◌, nat_lt}
 use Rattle.std.specs.Int.{div_ceil}
 use Rattle.std.specs.List.{range_with_len}
-use Rattle.bitm_bits.specs.Bits.{bits_of, digit_count, IsShort}
-use Rattle.bitm_bits.specs.Count.{ones_before, count_before, places}
+use Rattle.bitm_bits.specs.Bits.{bits_of, digit, digit_count, IsShort}
+use Rattle.bitm_bits.specs.Count.{ones_of, count_before, count_of, places}
 use Rattle.bitm.specs.Reads.{ReadsAtMost}
 use Rattle.bitm.specs.Tables.{AreTablesOf}
 use Rattle.bitm.specs.declared.probe.counts.ReadCounts.{ReadCounts}
@@ -18,10 +18,6 @@ parts b = div_ceil (length b) (2 ^ 32)
 -- the bits of part k
 unfoldable pub part_of : List Bool → ℕ → List Bool
 part_of b k = take (2 ^ 32) (drop (k * 2 ^ 32) b)
-
--- how many items are v
-abbrev pub items_of : List Bool → Bool → ℕ
-items_of c v = count_before c v (length c)
 
 -- the rank inside part k
 abbrev pub rank_in : List Bool → Bool → ℕ → ℕ → ℕ
@@ -39,7 +35,7 @@ entry_of c v t = place c v t / 2048
 
 -- the distance in entries from item number t to item number q, kept as at most 2047, and 0 where there is no item q
 abbrev pub distance : List Bool → Bool → ℕ → ℕ → ℕ
-distance c v t q = if nat_lt q (items_of c v) then min 2047 (entry_of c v q - entry_of c v t) else 0
+distance c v t q = if nat_lt q (count_of c v) then min 2047 (entry_of c v q - entry_of c v t) else 0
 
 -- the sample of the interval that begins at item t: the entry, and above it the distance to the item half an interval later
 abbrev pub sample : List Bool → Bool → ℕ → ℕ → ℕ
@@ -47,7 +43,7 @@ sample c v d t = entry_of c v t + distance c v t (t + 2 ^ (d - 1)) * 2 ^ 21
 
 -- how many intervals of 2^d items are begun
 abbrev pub intervals : List Bool → Bool → ℕ → ℕ
-intervals c v d = div_ceil (items_of c v) (2 ^ d)
+intervals c v d = div_ceil (count_of c v) (2 ^ d)
 
 -- one sample for each begun interval
 abbrev pub part_samples : List Bool → Bool → ℕ → List ℕ
@@ -62,7 +58,7 @@ first_item d r = r - r % 2 ^ d
 abbrev pub walk_start : List Bool → Bool → ℕ → ℕ → ℕ
 walk_start c v d r =
     entry_of c v (first_item d r)
-    + (if nat_eq (r / 2 ^ (d - 1) % 2) 1 then distance c v (first_item d r) (first_item (d - 1) r) else 0)
+    + (if digit r (d - 1) then distance c v (first_item d r) (first_item (d - 1) r) else 0)
 
 -- ---- samples of all parts
 
@@ -87,16 +83,16 @@ abbrev pub sample_starts_of : List Bool → Bool → ℕ → List ℕ
 sample_starts_of b v d = map (sample_count_before b v d) (range_with_len 0 (parts b))
 
 -- how many samples of items v a content has at logarithm d, exactly and at most
-pub record CountIs (b : List Bool) (v : Bool) (d count : ℕ) : Type 0 where
+pub record IsSampleCount (b : List Bool) (v : Bool) (d count : ℕ) : Type 0 where
   pub total : count ≡ sample_count_of b v d
-  pub bound : (m : ℕ) → items_of b v * 2 ^ (m + 1) ≤ 3 * length b * 2 ^ d → count * 2 ^ (m + 1) ≤ 3 * length b + parts b * 2 ^ (m + 1)
+  pub bound : (m : ℕ) → count_of b v * 2 ^ (m + 1) ≤ 3 * length b * 2 ^ d → count * 2 ^ (m + 1) ≤ 3 * length b + parts b * 2 ^ (m + 1)
 
 -- ---- what samples are made of
 
 -- the tables of the bits b, and how many ones and bits there are
 pub record Tabled (b : List Bool) (upper lower : List ℕ) (total len : ℕ) : Type 0 where
   pub tables : AreTablesOf b upper lower
-  pub ones_are : total ≡ ones_before b (length b)
+  pub ones_are : total ≡ ones_of b
   pub bits_are : len ≡ length b
 
 -- the tables and numbers are those of the bits b
@@ -116,7 +112,7 @@ pub record Sampled (S : Type 0) : Type 0 where
 -- the density is the one chosen for the items v of the words, and the samples and starts are the words' own at it
 pub record Supported {S : Type 0} (log : S → ℕ) (chosen : ℕ → ℕ → S) (v : Bool) (words : List ℕ) (kept : Sampled S) : Type 0 where
   pub short : IsShort words
-  pub density_is : kept.density ≡ chosen (items_of (bits_of words) v) (length (bits_of words))
+  pub density_is : kept.density ≡ chosen (count_of (bits_of words) v) (length (bits_of words))
   pub samples_are : kept.samples ≡ samples_of (bits_of words) v (log kept.density)
   pub starts_are : kept.starts ≡ sample_starts_of (bits_of words) v (log kept.density)
 
@@ -130,8 +126,8 @@ pub record WalkedTo (c : List Bool) (v : Bool) (d r e uppers : ℕ) (early late 
 -- nothing was found from rank r of the last part: a walk to the last entry where the interval of r has items, otherwise
 -- only upper entries were read
 pub record WalkedOut (c : List Bool) (v : Bool) (d r uppers : ℕ) (early late : ReadCounts) : Type 0 where
-  pub walked : first_item d r < items_of c v → WalkedTo c v d r (div_ceil (length c) 2048 - 1) uppers early late
-  pub nothing : items_of c v ≤ first_item d r → ReadsAtMost early late uppers 0 0
+  pub walked : first_item d r < count_of c v → WalkedTo c v d r (div_ceil (length c) 2048 - 1) uppers early late
+  pub nothing : count_of c v ≤ first_item d r → ReadsAtMost early late uppers 0 0
 
 -- the reads of a selection by rank that found a place, or none
 abbrev pub SampledReads : List Bool → Bool → ℕ → ℕ → Option ℕ → ReadCounts → ReadCounts → Type 0

@@ -3,11 +3,11 @@ use Rattle.std.specs.Prelude.{ℕ, ◌*◌, ◌^◌, ◌<◌, Bool, List, length
 use Rattle.std.specs.Int.{div_ceil}
 use Rattle.std.specs.List.{range_with_len}
 use Rattle.bitm_bits.specs.Bits.{bits_of}
-use Rattle.bitm_bits.specs.Count.{ones_before}
+use Rattle.bitm_bits.specs.Count.{ones_before, ones_of}
 
 -- the ones of the words are counted in 32 bits
 abbrev pub HasFewOnes : List ℕ → Type 0
-HasFewOnes words = ones_before (bits_of words) (length (bits_of words)) < 2 ^ 32
+HasFewOnes words = ones_of (bits_of words) < 2 ^ 32
 
 -- how many ones stand before each begun run of 512 bits
 unfoldable pub simple_table_of : List Bool → List ℕ

@@ -8,6 +8,7 @@
 //! ```
 #![tactic(auto)]
 
+pub mod index_laws;
 mod packed;
 mod probe;
 mod rank;
@@ -26,8 +27,8 @@ pub use probe::entry::complement_entry;
 pub use probe::ranking::rank_on;
 pub use probe::selecting::binary_select_on;
 pub use probe::source::{Probe, TableSource};
-pub use rank::{HasBits, Rank};
 pub use rank::simple::{ArrayWithRankSimple, RankSimple};
+pub use rank::{HasBits, Rank};
 pub use sampling::combined::CombinedSampling;
 pub use sampling::density::{
     AdaptiveCombinedSamplingDensity, CombinedSamplingDensity, ConstCombinedSamplingDensity,

@@ -16,8 +16,7 @@ pub fn build<'a, S: SelectForRank101111 + Select0ForRank101111>(
     words: &'a [u64],
 ) -> Result<(Index<'a, S>, usize), Fault>
     requires { IsShort words.now }
-    ensures { IfOk result (λ made. made.1
-        ≡ ones_before (bits_of words.now) (length (bits_of words.now))) }
+    ensures { IfOk result (λ made. made.1 ≡ ones_of (bits_of words.now)) }
 {
     RankSelect101111::build(alloc, words).map_err(|_| Fault::NoMemory)
 }

@@ -7,13 +7,13 @@ use Rattle.std.proofs.lemmas.List.FromFn.{map-range_with_len_more}
 use Rattle.std.specs.List.{range_with_len}
 use Rattle.std.specs.Int.{div_ceil}
 use Rattle.bitm_bits.proofs.lemmas.CountLemmas.{ones_before-add-zeros_before}
-use Rattle.bitm_bits.specs.Count.{ones_before, count_before, kind}
+use Rattle.bitm_bits.specs.Count.{count_of, ones_before, count_before, kind}
 use Rattle.bitm.specs.Entry.{before_in_part, lower_entry, FieldsFit}
-use Rattle.bitm.specs.Samples.{Tabled, items_of, part_of, entry_of, sample}
+use Rattle.bitm.specs.Samples.{Tabled, part_of, entry_of, sample}
 use Rattle.bitm.specs.Search.{IsLast, IsLastEntry, entries_from, marked, negated, padded}
 use Rattle.bitm.proofs.lemmas.EntryLemmas.{entry-fits}
 use Rattle.bitm.proofs.lemmas.MarkLemmas.{kind_other}
-use Rattle.bitm.proofs.lemmas.PartLemmas.{length-part_of, items_of-part_of, last_same, last_alike, entry_last, count_before-between, count_in_part}
+use Rattle.bitm.proofs.lemmas.PartLemmas.{length-part_of, count_of-part_of, last_same, last_alike, entry_last, count_before-between, count_in_part}
 use Rattle.bitm.proofs.lemmas.SampleLemmas.{ceil_less}
 use Rattle.bitm.proofs.lemmas.SoughtLemmas.{entry_ones, entry_zeros}
 use Rattle.bitm.proofs.lemmas.StretchLemmas.{ones_before-between}
@@ -21,11 +21,11 @@ use Rattle.bitm.proofs.lemmas.TableLemmas.{HasEntries, entries}
 
 -- ---- zeros and ones
 
-pub items_zero : (c : List Bool) (one : ℕ) → one ≡ 0 → items_of c (kind one) ≡ items_of c false
-items_zero c one h = ap (λ (n : ℕ). items_of c (kind n)) h
+pub items_zero : (c : List Bool) (one : ℕ) → one ≡ 0 → count_of c (kind one) ≡ count_of c false
+items_zero c one h = ap (λ (n : ℕ). count_of c (kind n)) h
 
-pub items_other : (c : List Bool) (one : ℕ) → one ≢ 0 → items_of c (kind one) ≡ items_of c true
-items_other c one h = ap (items_of c) (kind_other one h)
+pub items_other : (c : List Bool) (one : ℕ) → one ≢ 0 → count_of c (kind one) ≡ count_of c true
+items_other c one h = ap (count_of c) (kind_other one h)
 
 -- ---- a part and its entries
 
@@ -73,22 +73,22 @@ module _ (b : List Bool) (upper lower : List ℕ) (total len : ℕ) (t : Tabled 
       pub before_end : slice_index upper k ≤ end
       before_end = omega (arith, is, t'.upper_is k inside, between.0)
 
-      pub ones_in : end - slice_index upper k ≡ items_of (part_of b k) true
+      pub ones_in : end - slice_index upper k ≡ count_of (part_of b k) true
       ones_in =
-          let all = items_of-part_of true b k (min (length b) ((k + 1) * 2 ^ 32)) (omega (arith, begins)) (omega arith) in
+          let all = count_of-part_of true b k (min (length b) ((k + 1) * 2 ^ 32)) (omega (arith, begins)) (omega arith) in
           omega (arith, is, t'.upper_is k inside, all)
 
       pub few_ones_in : end - slice_index upper k ≤ min (len - k * 2 ^ 32) (2 ^ 32)
       few_ones_in = omega (arith, is, t.bits_are, t'.upper_is k inside, between.1)
 
-      pub zeros_in : min (len - k * 2 ^ 32) (2 ^ 32) - (end - slice_index upper k) ≡ items_of (part_of b k) false
+      pub zeros_in : min (len - k * 2 ^ 32) (2 ^ 32) - (end - slice_index upper k) ≡ count_of (part_of b k) false
       zeros_in =
           let both = ones_before-add-zeros_before (part_of b k) (length (part_of b k)) (omega arith) in
           omega (arith, ones_in, t.bits_are, length-part_of b k, both)
 
 -- what an advance to an item finds is the item's entry
 pub advanced : (b : List Bool) (upper lower : List ℕ) (total len : ℕ) → Tabled b upper lower total len
-    → (v : Bool) (k : ℕ) → k < length upper → (item e : ℕ) → item < items_of (part_of b k) v
+    → (v : Bool) (k : ℕ) → k < length upper → (item e : ℕ) → item < count_of (part_of b k) v
     → IsLastEntry (marked v b) (length lower) k item e → e ≡ entry_of (part_of b k) v item
 advanced b upper lower total len t v k inside item e some last =
     let c = part_of b k in
@@ -101,15 +101,15 @@ advanced b upper lower total len t v k inside item e some last =
 
 -- ---- the sample of an interval with an item in its middle, and of one without
 
-pub sample_middle : (c : List Bool) (v : Bool) (d item e later : ℕ) → item + 2 ^ (d - 1) < items_of c v → e ≡ entry_of c v item
+pub sample_middle : (c : List Bool) (v : Bool) (d item e later : ℕ) → item + 2 ^ (d - 1) < count_of c v → e ≡ entry_of c v item
     → later ≡ entry_of c v (item + 2 ^ (d - 1)) → e + min (later - e) 2047 * 2 ^ 21 ≡ sample c v d item
 sample_middle c v d item e later h i j =
-    let t : nat_lt (item + 2 ^ (d - 1)) (items_of c v) ≡ true = lt-ltb (item + 2 ^ (d - 1)) (items_of c v) h in rw t (omega (arith, i, j))
+    let t : nat_lt (item + 2 ^ (d - 1)) (count_of c v) ≡ true = lt-ltb (item + 2 ^ (d - 1)) (count_of c v) h in rw t (omega (arith, i, j))
 
-pub sample_alone : (c : List Bool) (v : Bool) (d item e : ℕ) → items_of c v ≤ item + 2 ^ (d - 1) → e ≡ entry_of c v item
+pub sample_alone : (c : List Bool) (v : Bool) (d item e : ℕ) → count_of c v ≤ item + 2 ^ (d - 1) → e ≡ entry_of c v item
     → e ≡ sample c v d item
 sample_alone c v d item e h i =
-    let t : nat_lt (item + 2 ^ (d - 1)) (items_of c v) ≡ false = le-ltb (item + 2 ^ (d - 1)) (items_of c v) h in rw t (omega (arith, i))
+    let t : nat_lt (item + 2 ^ (d - 1)) (count_of c v) ≡ false = le-ltb (item + 2 ^ (d - 1)) (count_of c v) h in rw t (omega (arith, i))
 
 -- the first item of an interval, as a shift
 pub interval_item : (i n d e : ℕ) → d ≤ 31 → n ≤ 2 ^ 32 → e ≡ div_ceil n (1 * 2 ^ d % 2 ^ 64) → i < e

@@ -8,9 +8,9 @@ use Rattle.bitm_bits.proofs.lemmas.CountLemmas.{ones_before_more, zeros_before_m
 use Rattle.bitm_bits.proofs.lemmas.PickLemmas.{Picks-places, length-places}
 use Rattle.bitm_bits.proofs.lemmas.WordLemmas.{truth}
 use Rattle.bitm_bits.specs.Bits.{item}
-use Rattle.bitm_bits.specs.Count.{ones_before, zeros_before, count_before, Picks}
+use Rattle.bitm_bits.specs.Count.{count_of, ones_before, zeros_before, count_before, Picks}
 use Rattle.bitm.specs.Entry.{before_in_part}
-use Rattle.bitm.specs.Samples.{part_of, items_of, place, entry_of}
+use Rattle.bitm.specs.Samples.{part_of, place, entry_of}
 use Rattle.bitm.specs.Search.{IsLast, marked, negated}
 use Rattle.bitm.proofs.lemmas.EntryLemmas.{ones_before-negated}
 use Rattle.bitm.proofs.lemmas.MarkLemmas.{count_before-marked}
@@ -34,12 +34,12 @@ count_before-next b false p h e = omega (arith, zeros_before_more b p h, ap (λ 
 
 -- ---- the place of an item
 
-pub found : (c : List Bool) (v : Bool) (t : ℕ) → t < items_of c v → Picks c v t (place c v t)
+pub found : (c : List Bool) (v : Bool) (t : ℕ) → t < count_of c v → Picks c v t (place c v t)
 unfolding place
 found c v t h = Picks-places c v t (length c) (omega (arith, length-places v 0 c))
 
 -- the entry of an item is the last one with no more items before it
-pub entry_last : (c : List Bool) (v : Bool) (t : ℕ) → t < items_of c v
+pub entry_last : (c : List Bool) (v : Bool) (t : ℕ) → t < count_of c v
     → IsLast (λ j. count_before c v (2048 * j)) (div_ceil (length c) 2048) t (entry_of c v t)
 entry_last c v t h =
     let p = place c v t in
@@ -95,13 +95,13 @@ unfolding ones_before zeros_before part_of
 count_before-part_of true b k i h = count_cut (λ x. x) b (2 ^ 32) (k * 2 ^ 32) i h
 count_before-part_of false b k i h = count_cut not b (2 ^ 32) (k * 2 ^ 32) i h
 
-pub entry-small : (b : List Bool) (v : Bool) (k t : ℕ) → t < items_of (part_of b k) v → entry_of (part_of b k) v t < 2 ^ 21
+pub entry-small : (b : List Bool) (v : Bool) (k t : ℕ) → t < count_of (part_of b k) v → entry_of (part_of b k) v t < 2 ^ 21
 entry-small b v k t h = let f = found (part_of b k) v t h in omega (arith, f.inside, length-part_of b k)
 
 -- the items up to the end of a part
-pub items_of-part_of : (v : Bool) (b : List Bool) (k e : ℕ) → k * 2 ^ 32 ≤ length b → e ≡ min (length b) ((k + 1) * 2 ^ 32)
-    → count_before b v (k * 2 ^ 32) + items_of (part_of b k) v ≡ count_before b v e
-items_of-part_of v b k e h is =
+pub count_of-part_of : (v : Bool) (b : List Bool) (k e : ℕ) → k * 2 ^ 32 ≤ length b → e ≡ min (length b) ((k + 1) * 2 ^ 32)
+    → count_before b v (k * 2 ^ 32) + count_of (part_of b k) v ≡ count_before b v e
+count_of-part_of v b k e h is =
     let l = length-part_of b k in
     let same : k * 2 ^ 32 + length (part_of b k) ≡ e = omega arith in
     count_before-part_of v b k (length (part_of b k)) (omega arith) ∙ ap (count_before b v) same

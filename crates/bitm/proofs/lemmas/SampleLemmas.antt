@@ -10,8 +10,8 @@ use Rattle.std.proofs.lemmas.Bool.{cases_lt, eqb-true}
 use borrow.Author.Tests.{ltb-true}
 use Rattle.std.specs.Int.{div_ceil}
 use Rattle.std.specs.List.{range_with_len}
-use Rattle.bitm_bits.specs.Count.{count_before}
-use Rattle.bitm.specs.Samples.{part_of, parts, items_of, entry_of, distance, sample, intervals, part_samples, first_item, walk_start, samples_of_parts, sample_count_before, samples_of, sample_starts_of}
+use Rattle.bitm_bits.specs.Count.{count_of, count_before}
+use Rattle.bitm.specs.Samples.{part_of, parts, entry_of, distance, sample, intervals, part_samples, first_item, walk_start, samples_of_parts, sample_count_before, samples_of, sample_starts_of}
 use Rattle.bitm.proofs.lemmas.PartLemmas.{entry_last, last_least, count_before-between}
 
 -- ---- numbers in a row
@@ -132,10 +132,10 @@ by_test false f g = g refl
 -- the start s stands no later than the entry of an item x of rank at most r
 record Reaches (c : List Bool) (v : Bool) (r s x : ℕ) : Type 0 where
   pub at_most : x ≤ r
-  pub some : x < items_of c v
+  pub some : x < count_of c v
   pub order : s ≤ entry_of c v x
 
-entry_rises : (c : List Bool) (v : Bool) (t q : ℕ) → t ≤ q → q < items_of c v → entry_of c v t ≤ entry_of c v q
+entry_rises : (c : List Bool) (v : Bool) (t q : ℕ) → t ≤ q → q < count_of c v → entry_of c v t ≤ entry_of c v q
 entry_rises c v t q h l =
     let e = entry_last c v t (omega arith) in
     last_least (λ j. count_before c v (2048 * j)) (λ i j h. count_before-between v c (2048 * i) (2048 * j) (omega arith))
@@ -148,19 +148,19 @@ module _ (c : List Bool) (v : Bool) (d r : ℕ) (pos : 1 ≤ d) where
       subst (λ (n : ℕ). first_item (d - 1) r ≡ first_item n r + 2 ^ (d - 1)) e
       (middle_is (d - 1) r (eqb-true (r / 2 ^ (d - 1) % 2) 1 h))
 
-  half_start : first_item d r < items_of c v → nat_eq (r / 2 ^ (d - 1) % 2) 1 ≡ true
+  half_start : first_item d r < count_of c v → nat_eq (r / 2 ^ (d - 1) % 2) 1 ≡ true
       → (x : ℕ) × Reaches c v r (entry_of c v (first_item d r) + distance c v (first_item d r) (first_item (d - 1) r)) x
   half_start some h =
       let t = first_item d r in
       let q = first_item (d - 1) r in
       let up : t ≤ q = omega (arith, middle_at h) in
-      by_test (nat_lt q (items_of c v))
+      by_test (nat_lt q (count_of c v))
       (λ is.
-      let l : q < items_of c v = ltb-true q (items_of c v) is in
+      let l : q < count_of c v = ltb-true q (count_of c v) is in
       (q, record { at_most = omega arith; some = l; order = rw is (omega (arith, entry_rises c v t q up l)) }))
       (λ is. (t, record { at_most = omega arith; some = some; order = rw is (omega arith) }))
 
-  start_reaches : first_item d r < items_of c v → (x : ℕ) × Reaches c v r (walk_start c v d r) x
+  start_reaches : first_item d r < count_of c v → (x : ℕ) × Reaches c v r (walk_start c v d r) x
   start_reaches some =
       let t = first_item d r in
       by_test (nat_eq (r / 2 ^ (d - 1) % 2) 1)
@@ -172,10 +172,10 @@ module _ (c : List Bool) (v : Bool) (d r : ℕ) (pos : 1 ≤ d) where
       subst (λ (s : ℕ). (x : ℕ) × Reaches c v r s x) (sym e) (t, record { at_most = omega arith; some = some; order = omega arith }))
 
   -- so it is an entry of the part, with no more than r items before it
-  pub start_inside : first_item d r < items_of c v → walk_start c v d r < div_ceil (length c) 2048
+  pub start_inside : first_item d r < count_of c v → walk_start c v d r < div_ceil (length c) 2048
   start_inside some = let x = start_reaches some in omega (arith, x.1.order, (entry_last c v x.0 x.1.some).inside)
 
-  pub start_at_most : first_item d r < items_of c v → count_before c v (2048 * walk_start c v d r) ≤ r
+  pub start_at_most : first_item d r < count_of c v → count_before c v (2048 * walk_start c v d r) ≤ r
   start_at_most some =
       let x = start_reaches some in
       let rises = count_before-between v c (2048 * walk_start c v d r) (2048 * entry_of c v x.0) (omega (arith, x.1.order)) in

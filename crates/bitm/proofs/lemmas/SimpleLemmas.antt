@@ -6,7 +6,7 @@ use Rattle.std.proofs.lemmas.Bool.{cases_lt}
 use Rattle.bitm_bits.proofs.lemmas.BitsLemmas.{length-bits_of}
 use Rattle.bitm_bits.proofs.lemmas.CountLemmas.{ones_before-bits_of_stretch, ones_before-bits_of_in_word, ones_before_past, ones_before-at_most_all}
 use Rattle.bitm_bits.specs.Bits.{bits_of}
-use Rattle.bitm_bits.specs.Count.{ones_before}
+use Rattle.bitm_bits.specs.Count.{ones_before, ones_of}
 use Rattle.bitm.specs.Simple.{simple_table_of}
 
 -- entry k of the table
@@ -29,13 +29,13 @@ runs_of_words n = grind arith
 -- the ones of run k, of eight words or of what is left of them
 pub run_counts : (words part : List ℕ) (k : ℕ) → 8 * k < length words → ((j : ℕ) → get_or words j 0 < 2 ^ 64)
     → part ≡ take (min (length words) (k * 8 + 8) - k * 8) (drop (k * 8) words)
-    → ones_before (bits_of words) (512 * k) + ones_before (bits_of part) (64 * length part) ≡ ones_before (bits_of words) (512 * (k + 1))
+    → ones_before (bits_of words) (512 * k) + ones_of (bits_of part) ≡ ones_before (bits_of words) (512 * (k + 1))
 run_counts words part k begun fit is =
     let b = bits_of words in
     let n = min (length words) (k * 8 + 8) - k * 8 in
     let stretch = ones_before-bits_of_stretch words (k * 8) n (omega arith) fit in
     let from : 64 * (k * 8) ≡ 512 * k = omega arith in
-    let there = ap (λ p. ones_before (bits_of p) (64 * length p)) is in
+    let there = ap (λ p. ones_of (bits_of p)) is in
     ⊎_elim
     (λ whole.
     let to : 64 * (k * 8 + n) ≡ 512 * (k + 1) = omega arith in
@@ -60,17 +60,17 @@ pub record CountsThrough (b : List Bool) (i run whole part : ℕ) : Type 0 where
 
 pub counts_through : (words part : List ℕ) (i : ℕ) → i < 64 * length words → ((j : ℕ) → get_or words j 0 < 2 ^ 64)
     → part ≡ take (i / 64 - i / 512 * 8) (drop (i / 512 * 8) words)
-    → CountsThrough (bits_of words) i (ones_before (bits_of words) (512 * (i / 512))) (ones_before (bits_of part) (64 * length part))
+    → CountsThrough (bits_of words) i (ones_before (bits_of words) (512 * (i / 512))) (ones_of (bits_of part))
     (count_ones (get_or words (i / 64) 0 % 2 ^ (i % 64 + 1)))
 counts_through words part i inside fit is =
     let b = bits_of words in
     let stretch = ones_before-bits_of_stretch words (i / 512 * 8) (i / 64 - i / 512 * 8) (omega arith) fit in
-    let there = ap (λ p. ones_before (bits_of p) (64 * length p)) is in
+    let there = ap (λ p. ones_of (bits_of p)) is in
     let from : 64 * (i / 512 * 8) ≡ 512 * (i / 512) = omega arith in
     let to : 64 * (i / 512 * 8 + (i / 64 - i / 512 * 8)) ≡ 64 * (i / 64) = omega arith in
     let at : 64 * (i / 64) + (i % 64 + 1) ≡ i + 1 = omega arith in
     let in_word = ones_before-bits_of_in_word words (i / 64) (omega arith) (i % 64 + 1) (omega arith) in
-    let word_is : ones_before b (512 * (i / 512)) + ones_before (bits_of part) (64 * length part) ≡ ones_before b (64 * (i / 64)) = omega (arith, stretch, there, ap (ones_before b) from, ap (ones_before b) to) in
+    let word_is : ones_before b (512 * (i / 512)) + ones_of (bits_of part) ≡ ones_before b (64 * (i / 64)) = omega (arith, stretch, there, ap (ones_before b) from, ap (ones_before b) to) in
     record {
       word = word_is;
       place = omega (arith, word_is, in_word, ap (ones_before b) at);

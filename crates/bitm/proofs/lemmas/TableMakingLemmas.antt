@@ -5,7 +5,7 @@ use Rattle.std.specs.Int.{div_ceil}
 use Rattle.bitm_bits.proofs.lemmas.BitsLemmas.{length-bits_of}
 use Rattle.bitm_bits.proofs.lemmas.CountLemmas.{ones_before-bits_of_stretch, ones_before_past}
 use Rattle.bitm_bits.specs.Bits.{bits_of}
-use Rattle.bitm_bits.specs.Count.{ones_before}
+use Rattle.bitm_bits.specs.Count.{ones_before, ones_of}
 use Rattle.bitm.proofs.lemmas.StretchLemmas.{ones_before-between}
 use Rattle.bitm.specs.Entry.{packed, before_in_part, in_records, lower_entry}
 
@@ -23,13 +23,13 @@ ones_before_capped words k =
 -- the ones of the words from a place to a later one, or of what is left of them
 pub ones_between_words : (words part : List ℕ) (a z : ℕ) → a ≤ z → ((j : ℕ) → get_or words j 0 < 2 ^ 64)
     → part ≡ take (min (length words) z - min (length words) a) (drop (min (length words) a) words)
-    → ones_before (bits_of words) (64 * a) + ones_before (bits_of part) (64 * length part) ≡ ones_before (bits_of words) (64 * z)
+    → ones_before (bits_of words) (64 * a) + ones_of (bits_of part) ≡ ones_before (bits_of words) (64 * z)
 ones_between_words words part a z order fit is =
     let b = bits_of words in
     let from = min (length words) a in
     let to = min (length words) z in
     let stretch = ones_before-bits_of_stretch words from (to - from) (omega arith) fit in
-    let there = ap (λ p. ones_before (bits_of p) (64 * length p)) is in
+    let there = ap (λ p. ones_of (bits_of p)) is in
     let e : 64 * (from + (to - from)) ≡ 64 * to = omega arith in
     omega (arith, stretch, there, ap (ones_before b) e, ones_before_capped words a, ones_before_capped words z)
 

@@ -7,14 +7,14 @@ use Rattle.std.proofs.lemmas.Bool.{cases_lt}
 use Rattle.std.proofs.lemmas.Grind.{div_ceil_times}
 use Rattle.std.specs.Int.{div_ceil}
 use Rattle.bitm_bits.specs.Bits.{digit_count}
-use Rattle.bitm_bits.specs.Count.{ones_before, count_before, IsSelect}
+use Rattle.bitm_bits.specs.Count.{count_of, ones_before, count_before, IsSelect}
 use Rattle.bitm.specs.Entry.{before_in_part}
 use Rattle.bitm.specs.Reads.{ReadsAtMost}
-use Rattle.bitm.specs.Samples.{part_of, parts, items_of, sample, intervals, first_item, walk_start, sample_count_before, samples_of, sample_count_of, rank_in, WalkedTo, WalkedOut, SampledReads, CountIs}
+use Rattle.bitm.specs.Samples.{part_of, parts, sample, intervals, first_item, walk_start, sample_count_before, samples_of, sample_count_of, rank_in, WalkedTo, WalkedOut, SampledReads, IsSampleCount}
 use Rattle.bitm.specs.Search.{IsLastPart, IsLastEntry, entries_from, marked}
 use Rattle.bitm.specs.declared.probe.counts.ReadCounts.{ReadCounts}
 use Rattle.bitm.proofs.lemmas.MarkLemmas.{count_before-marked}
-use Rattle.bitm.proofs.lemmas.PartLemmas.{count_before-between, length-part_of, items_of-part_of, count_in_part, count_before-none, entry-small}
+use Rattle.bitm.proofs.lemmas.PartLemmas.{count_before-between, length-part_of, count_of-part_of, count_in_part, count_before-none, entry-small}
 use Rattle.bitm.proofs.lemmas.SampleLemmas.{sample_at, decoded, start_inside, start_at_most, ceil_more, ceil_less, before_more, before_le, length-samples, first_item_is}
 use Rattle.bitm.proofs.lemmas.StretchLemmas.{ones_before-self}
 use Rattle.bitm.proofs.lemmas.TableLemmas.{HasEntries}
@@ -33,12 +33,12 @@ module _ (b : List Bool) (upper lower : List ℕ) (t : HasEntries b upper lower)
   count_is = count_before-marked b v (k * 2 ^ 32) part_begins
 
   -- the items up to the part's end
-  part_items : k + 1 ≡ parts b → count_before b v (k * 2 ^ 32) + items_of (part_of b k) v ≡ items_of b v
-  part_items h = items_of-part_of v b k (length b) part_begins (omega arith)
+  part_items : k + 1 ≡ parts b → count_before b v (k * 2 ^ 32) + count_of (part_of b k) v ≡ count_of b v
+  part_items h = count_of-part_of v b k (length b) part_begins (omega arith)
 
-  rank_inside : k + 1 < parts b → rank_in b v rank k < items_of (part_of b k) v
+  rank_inside : k + 1 < parts b → rank_in b v rank k < count_of (part_of b k) v
   rank_inside h =
-      let e = items_of-part_of v b k ((k + 1) * 2 ^ 32) part_begins (omega arith) in
+      let e = count_of-part_of v b k ((k + 1) * 2 ^ 32) part_begins (omega arith) in
       let next = last.next (omega (arith, t.upper_length)) in
       omega (arith, next, count_before-marked b v ((k + 1) * 2 ^ 32) (omega arith), e, count_is, last.at_most)
 
@@ -60,16 +60,16 @@ module _ (b : List Bool) (upper lower : List ℕ) (t : HasEntries b upper lower)
     interval_inside h =
         by_lt (k + 1) (parts b)
         (λ more.
-        ceil_more (rank_in b v rank k / 2 ^ d) (items_of (part_of b k) v) (2 ^ d) (pow_pos d)
+        ceil_more (rank_in b v rank k / 2 ^ d) (count_of (part_of b k) v) (2 ^ d) (pow_pos d)
         (omega (arith, interval_is, rank_inside more)))
         (λ end.
         let e : k + 1 ≡ parts b = omega (arith, last.inside, t.upper_length) in
         omega (arith, before_more b v d k, ap (sample_count_before b v d) e, length-samples b v d (parts b)))
 
     pub first_inside : rank_in b v rank k / 2 ^ d < intervals (part_of b k) v d
-        → first_item d (rank_in b v rank k) < items_of (part_of b k) v
+        → first_item d (rank_in b v rank k) < count_of (part_of b k) v
     first_inside h =
-        omega (arith, interval_is, ceil_less (rank_in b v rank k / 2 ^ d) (items_of (part_of b k) v) (2 ^ d) (pow_pos d) h)
+        omega (arith, interval_is, ceil_less (rank_in b v rank k / 2 ^ d) (count_of (part_of b k) v) (2 ^ d) (pow_pos d) h)
 
     -- what the sample of this rank lets begin
     pub start_from : 1 ≤ d → (s : ℕ) → sample_count_before b v d k + rank_in b v rank k / 2 ^ d < length (samples_of b v d)
@@ -98,12 +98,12 @@ module _ (b : List Bool) (upper lower : List ℕ) (t : HasEntries b upper lower)
     -- ---- where there is no such sample
 
     module _ (h : length (samples_of b v d) ≤ sample_count_before b v d k + rank_in b v rank k / 2 ^ d) where
-      outside : (k + 1 ≡ parts b) × (items_of (part_of b k) v ≤ first_item d (rank_in b v rank k))
+      outside : (k + 1 ≡ parts b) × (count_of (part_of b k) v ≤ first_item d (rank_in b v rank k))
       outside =
-          let over : items_of (part_of b k) v ≤ first_item d (rank_in b v rank k) =
-          by_lt (first_item d (rank_in b v rank k)) (items_of (part_of b k) v)
+          let over : count_of (part_of b k) v ≤ first_item d (rank_in b v rank k) =
+          by_lt (first_item d (rank_in b v rank k)) (count_of (part_of b k) v)
           (λ l.
-          let more = ceil_more (rank_in b v rank k / 2 ^ d) (items_of (part_of b k) v) (2 ^ d) (pow_pos d) (omega (arith, interval_is)) in
+          let more = ceil_more (rank_in b v rank k / 2 ^ d) (count_of (part_of b k) v) (2 ^ d) (pow_pos d) (omega (arith, interval_is)) in
           absurd (omega (arith, samples_end, more)))
           (λ g. g) in
           let end : k + 1 ≡ parts b =
@@ -125,7 +125,7 @@ module _ (b : List Bool) (upper lower : List ℕ) (t : HasEntries b upper lower)
     -- ---- after the walk, to entry e
 
     module _ (e uppers : ℕ) (low : IsLastEntry (marked v b) (length lower) k (rank_in b v rank k) e)
-        (some : first_item d (rank_in b v rank k) < items_of (part_of b k) v) (early late : ReadCounts)
+        (some : first_item d (rank_in b v rank k) < count_of (part_of b k) v) (early late : ReadCounts)
         (walked : WalkedTo (part_of b k) v d (rank_in b v rank k) e uppers early late) where
       found_reads : (p : ℕ) → p / 2048 ≡ k * 2 ^ 21 + e
           → WalkedTo (part_of b (p / 2 ^ 32)) v d (rank_in b v rank (p / 2 ^ 32)) (p % 2 ^ 32 / 2048) uppers early late
@@ -134,7 +134,7 @@ module _ (b : List Bool) (upper lower : List ℕ) (t : HasEntries b upper lower)
           let to : p % 2 ^ 32 / 2048 ≡ e = omega (arith, low.inside) in
           rw (at, to) walked
 
-      none_reads : items_of b v ≤ rank → WalkedOut (part_of b (parts b - 1)) v d (rank_in b v rank (parts b - 1)) uppers early late
+      none_reads : count_of b v ≤ rank → WalkedOut (part_of b (parts b - 1)) v d (rank_in b v rank (parts b - 1)) uppers early late
       none_reads h =
           let c = part_of b k in
           let n = div_ceil (length c) 2048 in
@@ -158,7 +158,7 @@ module _ (b : List Bool) (upper lower : List ℕ) (t : HasEntries b upper lower)
           (record { walked = λ _. there; nothing = λ l. absurd (omega (arith, some)) })
 
     pub sampled_reads : (e : ℕ) → IsLastEntry (marked v b) (length lower) k (rank_in b v rank k) e
-        → first_item d (rank_in b v rank k) < items_of (part_of b k) v → (early late : ReadCounts)
+        → first_item d (rank_in b v rank k) < count_of (part_of b k) v → (early late : ReadCounts)
         → WalkedTo (part_of b k) v d (rank_in b v rank k) e (digit_count (parts b) + 1) early late
         → (o : Option ℕ) → IsSelect b v rank o → IfSome o (λ p. p / 2048 ≡ k * 2 ^ 21 + e) → SampledReads b v d rank o early late
     sampled_reads e low some early late walked None is inside = none_reads e (digit_count (parts b) + 1) low some early late walked is
@@ -170,7 +170,7 @@ pub empty_reads : (b : List Bool) (v : Bool) (d rank : ℕ) (reads : ReadCounts)
 empty_reads b v d rank reads h =
     let c = part_of b (parts b - 1) in
     let short : length c ≡ 0 = omega (arith, length-part_of b (parts b - 1)) in
-    let none : items_of c v ≡ 0 = ap (count_before c v) short ∙ count_before-none v c in
+    let none : count_of c v ≡ 0 = ap (count_before c v) short ∙ count_before-none v c in
     record {
       walked = λ l. absurd (omega (arith, none));
       nothing = λ _. record { upper = omega arith; lower = omega arith; words = omega arith };
@@ -180,12 +180,12 @@ empty_reads b v d rank reads h =
 
 module _ (b : List Bool) (v : Bool) (d : ℕ) where
   ends_at : (k : ℕ) → k < parts b
-      → count_before b v (min (length b) (k * 2 ^ 32)) + items_of (part_of b k) v ≡ count_before b v (min (length b) ((k + 1) * 2 ^ 32))
+      → count_before b v (min (length b) (k * 2 ^ 32)) + count_of (part_of b k) v ≡ count_before b v (min (length b) ((k + 1) * 2 ^ 32))
   ends_at k h =
       let e : min (length b) (k * 2 ^ 32) ≡ k * 2 ^ 32 = omega arith in
       let to : min (length b) ((k + 1) * 2 ^ 32) ≡ min (length b) ((k + 1) * 2 ^ 32) = omega arith in
-      ap (λ (n : ℕ). count_before b v n + items_of (part_of b k) v) e
-      ∙ items_of-part_of v b k (min (length b) ((k + 1) * 2 ^ 32)) (omega arith) to
+      ap (λ (n : ℕ). count_before b v n + count_of (part_of b k) v) e
+      ∙ count_of-part_of v b k (min (length b) ((k + 1) * 2 ^ 32)) (omega arith) to
 
   -- each part adds less than one sample to its share of the items
   pub before_bound : (k : ℕ) → k ≤ parts b
@@ -193,17 +193,17 @@ module _ (b : List Bool) (v : Bool) (d : ℕ) where
   before_bound zero h = omega arith
   before_bound (suc k) h =
       let e : suc k ≡ k + 1 = omega arith in
-      let c = (div_ceil_times (items_of (part_of b k) v) (2 ^ d) (pow_pos d)).1 in
+      let c = (div_ceil_times (count_of (part_of b k) v) (2 ^ d) (pow_pos d)).1 in
       let more = ap (λ (n : ℕ). n * 2 ^ d) (before_more b v d k) in
       subst (λ (n : ℕ). sample_count_before b v d n * 2 ^ d ≤ count_before b v (min (length b) (n * 2 ^ 32)) + n * 2 ^ d) (sym e)
       (omega (arith, before_bound k (omega arith), ends_at k (omega arith), more, c))
 
-  total_bound : sample_count_of b v d * 2 ^ d ≤ items_of b v + parts b * 2 ^ d
+  total_bound : sample_count_of b v d * 2 ^ d ≤ count_of b v + parts b * 2 ^ d
   total_bound =
       let e : min (length b) (parts b * 2 ^ 32) ≡ length b = omega arith in
       omega (arith, before_bound (parts b) (omega arith), ap (count_before b v) e)
 
-  samples_bound : (m : ℕ) → items_of b v * 2 ^ (m + 1) ≤ 3 * length b * 2 ^ d
+  samples_bound : (m : ℕ) → count_of b v * 2 ^ (m + 1) ≤ 3 * length b * 2 ^ d
       → sample_count_of b v d * 2 ^ (m + 1) ≤ 3 * length b + parts b * 2 ^ (m + 1)
   samples_bound m h =
       le_of_mul-le-mul_right {k = 2 ^ d} (omega (arith, mul-le-mul_right (2 ^ (m + 1)) total_bound)) (pow_pos d)
@@ -242,7 +242,7 @@ place_fits b v d n q k low short inside fits is =
 
 -- a list of all samples is as long as they are many
 pub count_is_total : (b : List Bool) (v : Bool) (d e count : ℕ) (kept : List ℕ) → kept ≡ samples_of b v e → e ≡ d → count ≡ length kept
-    → CountIs b v d count
+    → IsSampleCount b v d count
 count_is_total b v d e count kept is same n =
     let total : count ≡ sample_count_of b v d =
     n ∙ ap length is ∙ length-samples b v e (parts b) ∙ ap (sample_count_of b v) same in

@@ -3,7 +3,7 @@ ghost use Rattle.std.specs.Prelude.{◌≡◌, ◌+◌, ◌*◌, ◌^◌, length
 ghost use Rattle.std.specs.Box.{boxed_slice_items};
 ghost use Rattle.std.specs.Int.{div_ceil};
 ghost use Rattle.bitm_bits.specs.Bits.{bits_of, IsShort};
-ghost use Rattle.bitm_bits.specs.Count.{ones_before};
+ghost use Rattle.bitm_bits.specs.Count.{ones_of};
 ghost use Rattle.bitm_bits.specs.Size.{saturated};
 ghost use Rattle.bitm.specs.Reads.{none_read};
 ghost use Rattle.bitm.specs.Tables.{AreTablesOf, HasTables, upper_of, lower_of};
@@ -89,8 +89,7 @@ fn make<S: SelectForRank101111, S0: Select0ForRank101111>(
         (boxed_slice_items made.l1ranks) (boxed_slice_items made.l2ranks)) }
     ensures supports { IfOk result (λ made. S.supports made.select words.now) }
     ensures supports0 { IfOk result (λ made. S0.supports0 made.select0 words.now) }
-    ensures ones { IfOk result (λ made. made.ones
-        ≡ ones_before (bits_of words.now) (length (bits_of words.now))) }
+    ensures ones { IfOk result (λ made. made.ones ≡ ones_of (bits_of words.now)) }
 {
     let Tables {
         l1ranks,
@@ -124,8 +123,7 @@ impl<S: SelectForRank101111, S0: Select0ForRank101111, BV: AsSlice<u64>> RankSel
     pub fn build(alloc: Global, content: BV) -> Result<(Self, usize), BV>
         requires { IsShort (BV.items content) }
         ensures kept { IfOk result (λ made. made.0.content ≡ content) }
-        ensures total { IfOk result (λ made. made.1
-            ≡ ones_before (bits_of (BV.items content)) (length (bits_of (BV.items content)))) }
+        ensures total { IfOk result (λ made. made.1 ≡ ones_of (bits_of (BV.items content))) }
         ensures content_back { IfErr result (λ back. back ≡ content) }
     {
         match make::<S, S0>(alloc, content.as_slice()) {

@@ -4,7 +4,7 @@ ghost use Rattle.std.specs.Box.{boxed_slice_items};
 ghost use Rattle.std.specs.Int.{div_ceil};
 ghost use Rattle.std.specs.List.{range_with_len};
 ghost use Rattle.bitm_bits.specs.Bits.{bits_of, IsShort};
-ghost use Rattle.bitm_bits.specs.Count.{ones_before};
+ghost use Rattle.bitm_bits.specs.Count.{ones_before, ones_of};
 ghost use Rattle.bitm.specs.Entry.{packed, before_in_part, lower_entry};
 ghost use Rattle.bitm.specs.Tables.{AreTablesOf};
 
@@ -113,8 +113,7 @@ pub(crate) fn make(alloc: Global, words: &[u64]) -> Result<Tables, AllocError>
     requires { IsShort words.now }
     ensures tables { IfOk result (λ made. AreTablesOf (bits_of words.now)
         (boxed_slice_items made.l1ranks) (boxed_slice_items made.l2ranks)) }
-    ensures ones { IfOk result (λ made. made.ones
-        ≡ ones_before (bits_of words.now) (length (bits_of words.now))) }
+    ensures ones { IfOk result (λ made. made.ones ≡ ones_of (bits_of words.now)) }
 {
     let parts = words.len().div_ceil(U64_PER_L1_ENTRY);
     let mut l1ranks = Vec::with_capacity(alloc, parts)?;

@@ -27,9 +27,9 @@ impl Model for ReadCounts {
 impl ReadCounts {
     ghost use Rattle.bitm.specs.Reads.{none_read, word_read, upper_read, lower_read};
 
-    /// No reads yet.
+    /// No reads yet: what a source of one's own begins with.
     #[inline(always)]
-    pub(crate) fn new() -> ReadCounts
+    pub fn new() -> ReadCounts
         ensures { result ≡ none_read }
     {
         ReadCounts {}
@@ -45,25 +45,25 @@ impl ReadCounts {
         } }
     {}
 
-    /// Counts a word.
+    /// Counts one more word.
     #[inline(always)]
-    pub(crate) fn read_word(&mut self)
+    pub fn read_word(&mut self)
         ensures { self.new ≡ word_read self.old }
     {
         self.add(1, 0, 0)
     }
 
-    /// Counts an upper entry.
+    /// Counts one more upper entry.
     #[inline(always)]
-    pub(crate) fn read_upper(&mut self)
+    pub fn read_upper(&mut self)
         ensures { self.new ≡ upper_read self.old }
     {
         self.add(0, 1, 0)
     }
 
-    /// Counts a lower entry.
+    /// Counts one more lower entry.
     #[inline(always)]
-    pub(crate) fn read_lower(&mut self)
+    pub fn read_lower(&mut self)
         ensures { self.new ≡ lower_read self.old }
     {
         self.add(0, 0, 1)

@@ -1,8 +1,7 @@
 //! One entry of the lower table: its fields by shifts, and the entry of the negated bits.
-ghost use Rattle.std.specs.Prelude.{◌≡◌, ℕ, ◌-◌, ◌*◌, ◌/◌, ◌%◌, ◌^◌, ◌<◌, ◌≤◌, Bool, List, length};
-ghost use Rattle.std.specs.Int.{div_ceil};
-ghost use Rattle.bitm_bits.specs.Count.{zeros_before};
-ghost use Rattle.bitm.specs.Entry.{FieldsFit, FieldsAddUp, field_0, greatest, lower_entry};
+ghost use Rattle.std.specs.Prelude.{◌≡◌, ◌-◌, ◌*◌, ◌/◌, ◌%◌, ◌^◌, ◌<◌, ◌≤◌, Bool, List};
+ghost use Rattle.bitm.specs.Entry.{FieldsFit, FieldsAddUp, IsEntryOf, field_0, greatest, lower_entry};
+ghost use Rattle.bitm.specs.Entry.{zeros_before_in_part};
 ghost use Rattle.bitm.specs.Search.{entries_from, negated, padded};
 
 use crate::select::levels::L2_ENTRIES_PER_L1_ENTRY;
@@ -40,16 +39,17 @@ pub(crate) fn ones_to_record(entry: u64, place: usize) -> usize
 /// count as zeros.
 ///
 /// # Conditions
-/// No field of `entry` exceeds its greatest number at entry `at`.
+/// No field of `entry` exceeds its greatest number at entry `at`: so it is for each entry of a lower table
+/// (`index_laws::entries_fit`).
 #[inline(always)]
 pub fn complement_entry(entry: u64, at: usize) -> u64
     requires { FieldsFit entry at }
     ensures value { result ≡ greatest at - entry }
     ensures fields { FieldsAddUp entry result at }
-    ensures negated { (b : List Bool) → at < div_ceil (length b) 2048
-        → entry ≡ lower_entry b at → result ≡ lower_entry (negated (padded b)) at }
-    ensures zeros { (b : List Bool) → at < div_ceil (length b) 2048 → entry ≡ lower_entry b at
-        → field_0 result ≡ zeros_before b (2048 * at) - zeros_before b (at / 2 ^ 21 * 2 ^ 32) }
+    ensures negated { (b : List Bool) → IsEntryOf b at entry
+        → result ≡ lower_entry (negated (padded b)) at }
+    ensures zeros { (b : List Bool) → IsEntryOf b at entry
+        → field_0 result ≡ zeros_before_in_part b at }
 {
     (at % (1 << 21)) as u64 * 2048 + 0x8020_0600_0000_0000 - entry
 }

@@ -4,11 +4,11 @@ ghost use Rattle.std.specs.Box.{boxed_slice_items};
 ghost use Rattle.std.specs.Int.{div_ceil};
 ghost use Rattle.bitm_bits.specs.Size.{saturated};
 ghost use Rattle.bitm_bits.specs.Bits.{bits_of, IsShort};
-ghost use Rattle.bitm_bits.specs.Count.{ones_before, IsRank};
+ghost use Rattle.bitm_bits.specs.Count.{ones_before, ones_of, IsRank};
 ghost use Rattle.bitm.specs.Simple.{HasFewOnes, simple_table_of};
 
-use crate::rank::{HasBits, Rank};
 use crate::rank::word::ones_through;
+use crate::rank::{HasBits, Rank};
 use bitm_bits::{CloneWords, GetSize, words};
 use std::alloc::{AllocError, Global};
 use std::boxed::BoxedSlice;
@@ -55,7 +55,7 @@ fn make(alloc: Global, words: &[u64]) -> Result<(BoxedSlice<u32, Global>, u32), 
     ensures table { IfOk result
         (λ made. boxed_slice_items made.0 ≡ simple_table_of (bits_of words.now)) }
     ensures total { IfOk result
-        (λ made. made.1 ≡ ones_before (bits_of words.now) (length (bits_of words.now))) }
+        (λ made. made.1 ≡ ones_of (bits_of words.now)) }
 {
     let runs = words.len().div_ceil(WORDS_PER_RUN);
     let mut ranks = Vec::with_capacity(alloc, runs)?;
@@ -107,8 +107,7 @@ impl<BV: AsSlice<u64>> RankSimple<BV> {
         requires short { IsShort (BV.items content) }
         requires few { HasFewOnes (BV.items content) }
         ensures kept { IfOk result (λ made. made.0 ≡ content) }
-        ensures total { IfOk result (λ made. made.1
-            ≡ ones_before (bits_of (BV.items content)) (length (bits_of (BV.items content)))) }
+        ensures total { IfOk result (λ made. made.1 ≡ ones_of (bits_of (BV.items content))) }
         ensures content_back { IfErr result (λ back. back ≡ content) }
     {
         match make(alloc, content.as_slice()) {

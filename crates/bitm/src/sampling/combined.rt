@@ -1,9 +1,9 @@
 //! Selection by samples: what is kept, how it is made, and the strategy of both kinds.
-ghost use Rattle.std.specs.Prelude.{◌≡◌, ◌+◌, ◌*◌, ℕ, List, length, true, false, IfOk};
+ghost use Rattle.std.specs.Prelude.{◌≡◌, ◌+◌, ◌*◌, ℕ, Bool, List, length, true, false, IfOk};
 ghost use Rattle.bitm_bits.specs.Bits.{bits_of, IsShort};
-ghost use Rattle.bitm_bits.specs.Count.{ones_before, kind, IsSelect};
+ghost use Rattle.bitm_bits.specs.Count.{ones_of, kind, IsSelect};
 ghost use Rattle.bitm_bits.specs.Size.{saturated};
-ghost use Rattle.bitm.specs.Samples.{items_of, SampledReads, Supported, CountIs};
+ghost use Rattle.bitm.specs.Samples.{SampledReads, Supported, IsSampleCount};
 ghost use Rattle.bitm.specs.Tables.{AreTablesOf, HasTables};
 
 use crate::probe::source::{Probe, TableSource};
@@ -72,8 +72,7 @@ impl<D: CombinedSamplingDensity> CombinedSampling<D> {
     ) -> Result<Self, AllocError>
         requires short { IsShort content.now }
         requires tables { AreTablesOf (bits_of content.now) l1ranks.now l2ranks.now }
-        requires total { total_rank
-            ≡ ones_before (bits_of content.now) (length (bits_of content.now)) }
+        requires total { total_rank ≡ ones_of (bits_of content.now) }
         ensures { IfOk result (Supported D.log D.chosen (kind ONE) content.now) }
     {
         let len = content.len() * 64;
@@ -99,14 +98,9 @@ impl<D: CombinedSamplingDensity> CombinedSampling<D> {
     /// How many samples are kept: for each part its items divided by how many one sample stands for, rounded up.
     #[inline(always)]
     pub fn sample_count(&self) -> usize
-        ensures ones { (words : List ℕ)
-            → Supported D.log D.chosen true words self.now
-            → let b = bits_of words in
-            CountIs b true (D.log (D.chosen (items_of b true) (length b))) result }
-        ensures zeros { (words : List ℕ)
-            → Supported D.log D.chosen false words self.now
-            → let b = bits_of words in
-            CountIs b false (D.log (D.chosen (items_of b false) (length b))) result }
+        ensures len { result ≡ length self.now.samples }
+        ensures count { (v : Bool) (words : List ℕ) → Supported D.log D.chosen v words self.now
+            → IsSampleCount (bits_of words) v (D.log self.now.density) result }
     {
         self.samples.len()
     }
@@ -125,9 +119,8 @@ impl<D: CombinedSamplingDensity> CombinedSampling<D> {
         requires tables { HasTables (T.lists source.old) }
         requires supported { Supported D.log D.chosen true (T.lists source.old).words self.now }
         ensures answer { IsSelect (bits_of (T.lists source.old).words) true rank result }
-        ensures reads { let b = bits_of (T.lists source.old).words in
-            SampledReads b true (D.log (D.chosen (items_of b true) (length b)))
-            rank result (T.reads source.old) (T.reads source.new) }
+        ensures reads { SampledReads (bits_of (T.lists source.old).words) true
+            (D.log self.now.density) rank result (T.reads source.old) (T.reads source.new) }
         ensures same { T.lists source.new ≡ T.lists source.old }
     {
         sampled_select_on::<1, D, T>(
@@ -150,9 +143,8 @@ impl<D: CombinedSamplingDensity> CombinedSampling<D> {
         requires tables { HasTables (T.lists source.old) }
         requires supported { Supported D.log D.chosen false (T.lists source.old).words self.now }
         ensures answer { IsSelect (bits_of (T.lists source.old).words) false rank result }
-        ensures reads { let b = bits_of (T.lists source.old).words in
-            SampledReads b false (D.log (D.chosen (items_of b false) (length b)))
-            rank result (T.reads source.old) (T.reads source.new) }
+        ensures reads { SampledReads (bits_of (T.lists source.old).words) false
+            (D.log self.now.density) rank result (T.reads source.old) (T.reads source.new) }
         ensures same { T.lists source.new ≡ T.lists source.old }
     {
         sampled_select_on::<0, D, T>(

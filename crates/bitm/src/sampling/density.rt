@@ -1,5 +1,6 @@
 //! How many items one sample stands for.
-ghost use Rattle.std.specs.Prelude.{◌≡◌, ℕ, ◌-◌, ◌/◌, ◌%◌, ◌^◌, ◌≤◌, nat_eq};
+ghost use Rattle.std.specs.Prelude.{◌≡◌, ℕ, ◌-◌, ◌/◌, ◌%◌, ◌^◌, ◌≤◌};
+ghost use Rattle.bitm_bits.specs.Bits.{digit};
 ghost use Rattle.bitm.specs.Density.{optimal, within};
 ghost use Rattle.std.proofs.Common.{rules};
 
@@ -45,7 +46,7 @@ pub trait CombinedSamplingDensity: Copy {
     /// Whether item `index` is in the second half of its interval.
     #[inline(always)]
     fn is_in_second_half(index: usize, density: Self::SamplingDensity) -> bool
-        ensures { result ≡ nat_eq (index / 2 ^ (log density - 1) % 2) 1 }
+        ensures { result ≡ digit index (log density - 1) }
     {
         index >> (Self::items_per_sample_log2(density) - 1) & 1 == 1
     }

@@ -1,9 +1,9 @@
 //! Samples made from the tables alone: no word is read.
 ghost use Rattle.std.specs.Prelude.{◌≡◌, ◌+◌, ◌-◌, ◌*◌, ◌^◌, ◌<◌, ◌≤◌, ◌++◌, Bool, List, length, min, IfOk};
 ghost use Rattle.std.specs.Box.{boxed_slice_items};
-ghost use Rattle.bitm_bits.specs.Count.{ones_before, kind};
+ghost use Rattle.bitm_bits.specs.Count.{count_of, ones_before, ones_of, kind};
 ghost use Rattle.bitm.specs.Entry.{lower_entry};
-ghost use Rattle.bitm.specs.Samples.{AreCounts, CountsOf, items_of, part_of, sample};
+ghost use Rattle.bitm.specs.Samples.{AreCounts, CountsOf, part_of, sample};
 ghost use Rattle.bitm.specs.Samples.{intervals, part_samples, samples_of, sample_starts_of};
 ghost use Rattle.bitm.specs.Search.{IsLastEntry, entries_from, items_to, marked};
 
@@ -30,8 +30,8 @@ pub(crate) struct TableCounts<'a> {
 pub(crate) fn items_among<const ONE: u8>(total: usize, len: usize) -> usize
     requires { total ≤ len }
     ensures most { result ≤ len }
-    ensures items { (b : List Bool) → total ≡ ones_before b (length b) → len ≡ length b
-        → result ≡ items_of b (kind ONE) }
+    ensures items { (b : List Bool) → total ≡ ones_of b → len ≡ length b
+        → result ≡ count_of b (kind ONE) }
 {
     if ONE == 0 { len - total } else { total }
 }
@@ -56,7 +56,7 @@ fn items_in<const ONE: u8>(counts: &TableCounts<'_>, part: usize) -> usize
     requires inside { part < length counts.now.upper.now }
     ensures few { result ≤ 2 ^ 32 }
     ensures items { (b : List Bool) → CountsOf b counts.now
-        → result ≡ items_of (part_of b part) (kind ONE) }
+        → result ≡ count_of (part_of b part) (kind ONE) }
 {
     let ones = ones_to_end(counts, part) - counts.upper[part];
     if ONE == 0 {
@@ -131,7 +131,7 @@ fn sample_from<const ONE: u8>(
     requires few { items ≤ 2 ^ 32 }
     ensures inside { result.1 < entries_from (length counts.now.lower.now) part }
     ensures sample { (b : List Bool) → CountsOf b counts.now
-        → items ≡ items_of (part_of b part) (kind ONE) → items_to ONE b part from ≤ item
+        → items ≡ count_of (part_of b part) (kind ONE) → items_to ONE b part from ≤ item
         → result.0 ≡ sample (part_of b part) (kind ONE) log2 item }
     ensures at_most { (b : List Bool) → CountsOf b counts.now → items_to ONE b part from ≤ item
         → items_to ONE b part result.1 ≤ item + 2 ^ (log2 - 1) }

@@ -1,6 +1,6 @@
 //! Selection that begins at a sample, over a source, with a bound on its reads.
-ghost use Rattle.std.specs.Prelude.{◌≡◌, ◌+◌, ◌-◌, ◌/◌, ◌%◌, ◌^◌, ◌<◌, ◌≤◌, length, nat_eq, if◌then◌else◌};
-ghost use Rattle.bitm_bits.specs.Bits.{bits_of, IsShort};
+ghost use Rattle.std.specs.Prelude.{◌≡◌, ◌+◌, ◌-◌, ◌/◌, ◌%◌, ◌^◌, ◌<◌, ◌≤◌, length, if◌then◌else◌};
+ghost use Rattle.bitm_bits.specs.Bits.{bits_of, digit, IsShort};
 ghost use Rattle.bitm_bits.specs.Count.{kind, IsSelect};
 ghost use Rattle.bitm.specs.Reads.{ReadsAtMost};
 ghost use Rattle.bitm.specs.Samples.{samples_of, sample_starts_of, SampledReads};
@@ -50,7 +50,7 @@ fn first_entry<D: CombinedSamplingDensity>(
     density: D::SamplingDensity,
 ) -> usize
     ensures { result ≡ sample % 2 ^ 21
-        + (if nat_eq (rank / 2 ^ (D.log density - 1) % 2) 1 then sample / 2 ^ 21 else 0) }
+        + (if digit rank (D.log density - 1) then sample / 2 ^ 21 else 0) }
 {
     let first = (sample & 0x1F_FFFF) as usize;
     if D::is_in_second_half(rank, density) {

@@ -1,7 +1,7 @@
 //! Selection by binary search in the two tables, with nothing kept beside them.
 ghost use Rattle.std.specs.Prelude.{◌≡◌, ◌+◌, length, true, false, IsOk, IfOk};
 ghost use Rattle.bitm_bits.specs.Bits.{bits_of, digit_count, IsShort};
-ghost use Rattle.bitm_bits.specs.Count.{ones_before, IsSelect};
+ghost use Rattle.bitm_bits.specs.Count.{ones_of, IsSelect};
 ghost use Rattle.bitm.specs.Reads.{ReadsAtMost};
 ghost use Rattle.bitm.specs.Tables.{AreTablesOf, HasTables};
 
@@ -72,8 +72,7 @@ impl SelectForRank101111 for BinaryRankSearch {
     ) -> Result<Self, AllocError>
         requires short { IsShort _content.now }
         requires tables { AreTablesOf (bits_of _content.now) _l1ranks.now _l2ranks.now }
-        requires total { _total_rank
-            ≡ ones_before (bits_of _content.now) (length (bits_of _content.now)) }
+        requires total { _total_rank ≡ ones_of (bits_of _content.now) }
         ensures succeeds { IsOk result }
         ensures supports { IfOk result (λ _. IsShort _content.now) }
     {
@@ -106,8 +105,7 @@ impl Select0ForRank101111 for BinaryRankSearch {
     ) -> Result<Self, AllocError>
         requires short { IsShort _content.now }
         requires tables { AreTablesOf (bits_of _content.now) _l1ranks.now _l2ranks.now }
-        requires total { _total_rank
-            ≡ ones_before (bits_of _content.now) (length (bits_of _content.now)) }
+        requires total { _total_rank ≡ ones_of (bits_of _content.now) }
         ensures succeeds { IsOk result }
         ensures supports { IfOk result (λ _. IsShort _content.now) }
     {

@@ -9,7 +9,7 @@ use Rattle.std.specs.Int.{bit_at, bit_not, count_zeros}
 use Rattle.bitm_bits.proofs.lemmas.BitsLemmas.{length-bits_of, item-bits_of_at}
 use Rattle.bitm_bits.proofs.lemmas.WordLemmas.{truth, truth-digit}
 use Rattle.bitm_bits.specs.Bits.{bits_of, item}
-use Rattle.bitm_bits.specs.Count.{ones_before, zeros_before, count_before, is_same}
+use Rattle.bitm_bits.specs.Count.{ones_before, ones_of, zeros_before, zeros_of, count_before, is_same}
 
 -- ---- one item more
 
@@ -100,8 +100,11 @@ module _ (words : List ℕ) (fit : (k : ℕ) → get_or words k 0 < 2 ^ 64) wher
   ones_before-bits_of q j within l =
       ones_before-bits_of_in_word words q within j l ∙ ap (λ a. a + count_ones (get_or words q 0 % 2 ^ j)) (ones_before-bits_of_front q (omega arith))
 
-  pub ones_before-bits_of_all : ones_before (bits_of words) (64 * length words) ≡ sum_by count_ones words
-  ones_before-bits_of_all = ones_before-bits_of_front (length words) (omega arith) ∙ ap (sum_by count_ones) (take_all (length words) words (omega arith))
+  pub ones_of-bits_of : ones_of (bits_of words) ≡ sum_by count_ones words
+  ones_of-bits_of =
+      ap (ones_before (bits_of words)) (length-bits_of words)
+      ∙ ones_before-bits_of_front (length words) (omega arith)
+      ∙ ap (sum_by count_ones) (take_all (length words) words (omega arith))
 
 -- a word has 64 digits
 digits_of_both : (v k : ℕ) → v < 2 ^ 64 → k ≤ 64 → count_ones (bit_not w64 v % 2 ^ k) + count_ones (v % 2 ^ k) ≡ k
@@ -133,9 +136,16 @@ sum_of_both [] fit = refl
 sum_of_both (w ∷ words) fit =
     omega (arith, sum_by-cons (count_zeros w64) w words, sum_by-cons count_ones w words, count_zeros-add-count_ones w (fit 0), sum_of_both words (λ k. fit (suc k)))
 
-pub zeros_before-bits_of_all : (words : List ℕ) → ((k : ℕ) → get_or words k 0 < 2 ^ 64) → zeros_before (bits_of words) (64 * length words) ≡ sum_by (count_zeros w64) words
-zeros_before-bits_of_all words fit =
-    omega (arith, ones_before-add-zeros_before (bits_of words) (64 * length words) (omega (arith, length-bits_of words)), ones_before-bits_of_all words fit, sum_of_both words fit)
+pub zeros_of-bits_of : (words : List ℕ) → ((k : ℕ) → get_or words k 0 < 2 ^ 64) → zeros_of (bits_of words) ≡ sum_by (count_zeros w64) words
+zeros_of-bits_of words fit =
+    let b = bits_of words in
+    omega (
+      arith,
+      ones_before-add-zeros_before b (length b) (omega arith),
+      length-bits_of words,
+      ones_of-bits_of words fit,
+      sum_of_both words fit,
+    )
 
 -- ---- longer stretches
 
@@ -196,7 +206,7 @@ fits_in_stretch words a n fit k =
 
 -- the ones of the n words from word a on
 pub ones_before-bits_of_stretch : (words : List ℕ) (a n : ℕ) → a + n ≤ length words → ((k : ℕ) → get_or words k 0 < 2 ^ 64)
-    → ones_before (bits_of words) (64 * a) + ones_before (bits_of (take n (drop a words))) (64 * length (take n (drop a words)))
+    → ones_before (bits_of words) (64 * a) + ones_of (bits_of (take n (drop a words)))
     ≡ ones_before (bits_of words) (64 * (a + n))
 ones_before-bits_of_stretch words a n within fit =
     let both = sum_by-take-drop count_ones (take (a + n) words) a in
@@ -209,10 +219,10 @@ ones_before-bits_of_stretch words a n within fit =
       back,
       ones_before-bits_of_front words fit a (omega arith),
       ones_before-bits_of_front words fit (a + n) within,
-      ones_before-bits_of_all (take n (drop a words)) (fits_in_stretch words a n fit),
+      ones_of-bits_of (take n (drop a words)) (fits_in_stretch words a n fit),
     )
 
 -- there are no more ones than bits (a name that an attribute can write)
-pub few_ones : (words : List ℕ) → ones_before (bits_of words) (length (bits_of words)) ≤ 64 * length words
+pub few_ones : (words : List ℕ) → ones_of (bits_of words) ≤ 64 * length words
 few_ones words =
     omega (arith, ones_before-add-zeros_before (bits_of words) (length (bits_of words)) (omega arith), length-bits_of words)

@@ -5,7 +5,7 @@ use Rattle.std.proofs.lemmas.List.Sums.{sum_by-cons}
 use Rattle.std.proofs.lemmas.Nat.Bits.{bit_at-lt, bit_at-zero, bit_at_not, bit_at-trailing_zeros}
 use Rattle.std.specs.Int.{bit_at, bit_not, trailing_zeros}
 use Rattle.bitm_bits.proofs.lemmas.BitsLemmas.{length-low_digits, item-low_digits, length-bits_of, same_bits, bits_of-cons, bits_of-nil}
-use Rattle.bitm_bits.proofs.lemmas.CountLemmas.{ones_before-bits_of_all}
+use Rattle.bitm_bits.proofs.lemmas.CountLemmas.{ones_of-bits_of}
 use Rattle.bitm_bits.proofs.lemmas.PickLemmas.{length-places}
 use Rattle.bitm_bits.proofs.lemmas.WordLemmas.{bit_at-lowest_cleared_same, bit_at-lowest_cleared_other}
 use Rattle.bitm_bits.specs.Bits.{low_digits, bits_of, item}
@@ -154,8 +154,7 @@ length-places_word k w fits =
     let none : count_ones w + 0 ≡ count_ones w = omega arith in
     let one : length (places true k (bits_of (w ∷ []))) ≡ count_ones w =
     length-places true k (bits_of (w ∷ []))
-    ∙ ap (ones_before (bits_of (w ∷ []))) (length-bits_of (w ∷ []))
-    ∙ ones_before-bits_of_all (w ∷ []) only
+    ∙ ones_of-bits_of (w ∷ []) only
     ∙ sum_by-cons count_ones w []
     ∙ none in
     ap (λ b. length (places true k b)) (sym alone) ∙ one

@@ -8,8 +8,8 @@ code_is : (at e f : ℕ) → e ≡ f → at % 2097152 * 2048 + 92323858331792834
 code_is at e f h = omega arith
 
 pub returns-clause-negated : goal.returns-clause-negated
-returns-clause-negated c b inside is = code_is c.args.at c.args.entry _ is ∙ entry-complement b c.args.at inside
+returns-clause-negated c b e = code_is c.args.at c.args.entry _ e.value ∙ entry-complement b c.args.at e.inside
 
 pub returns-clause-zeros : goal.returns-clause-zeros
-returns-clause-zeros c b inside is =
-    ap field_0 (code_is c.args.at c.args.entry _ is ∙ entry-complement b c.args.at inside) ∙ zeros-complement b c.args.at inside
+returns-clause-zeros c b e =
+    ap field_0 (code_is c.args.at c.args.entry _ e.value ∙ entry-complement b c.args.at e.inside) ∙ zeros-complement b c.args.at e.inside

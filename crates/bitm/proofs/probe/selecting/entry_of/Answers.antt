@@ -22,7 +22,7 @@ returns-then-this-eq0-clause-entry g c =
     let d = (goal.at.returns-then-this-eq0-clause-entry g c).After-lower-entry in
     let b = bits_of (g.T.TableSource.lists c.args.source.now).words in
     let t = entries _ _ _ c.requires.tables in
-    c.complement_entry.ensures.negated b (omega (arith, t.lower_length, c.requires.inside)) (entry g d)
+    c.complement_entry.ensures.negated b record { inside = omega (arith, t.lower_length, c.requires.inside); value = entry g d }
     ∙ entry_zeros b c.args.at g.row.ONE c.if-this-eq0.true
 
 pub returns-else-this-eq0-clause-entry : goal.returns-else-this-eq0-clause-entry

@@ -8,7 +8,7 @@ complement_entry-requires g c = fits_at c.requires.tabled.0 _ _ _ _ c.requires.t
 pub returns-then-this-eq0 : goal.returns-then-this-eq0
 returns-then-this-eq0 g c b t =
     zeros_at b _ _ _ _ t c.args.at g.row.ONE c.complement_entry.result c.requires.inside c.if-this-eq0.true
-    (c.complement_entry.ensures.negated b)
+    (λ inside value. c.complement_entry.ensures.negated b record { inside = inside; value = value })
 
 pub returns-else-this-eq0 : goal.returns-else-this-eq0
 returns-else-this-eq0 g c b t = ones_at b _ _ _ _ t c.args.at g.row.ONE c.requires.inside c.if-this-eq0.false

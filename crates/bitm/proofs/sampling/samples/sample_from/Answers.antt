@@ -1,8 +1,8 @@
 -- The distance is that from the entry of the interval's first item to the entry of the one half an interval later.
 use Rattle.std.proofs.Common.{◌≡◌, ℕ, ◌+◌, ◌*◌, ◌-◌, ◌%◌, ◌^◌, ◌<◌, ◌≤◌, List, Bool, min, length, ◌∙◌, subst, arith}
 use Rattle.std.proofs.lemmas.Nat.{one_shl}
-use Rattle.bitm_bits.specs.Count.{kind}
-use Rattle.bitm.specs.Samples.{CountsOf, items_of, part_of}
+use Rattle.bitm_bits.specs.Count.{count_of, kind}
+use Rattle.bitm.specs.Samples.{CountsOf, part_of}
 use Rattle.bitm.specs.Search.{IsLastEntry, items_to, marked}
 use Rattle.bitm.proofs.lemmas.MadeLemmas.{advanced, sample_middle, sample_alone}
 use Rattle.bitm.proofs.sampling.samples.sample_from.Goals as goal
@@ -28,7 +28,7 @@ returns-then-middle-items-clause-sample g c b t is below =
     let k = c.args.part in
     let entry = c.advance-entry.result in
     let later = c.advance-later.result in
-    let more : c.args.item + 2 ^ (c.args.log2 - 1) < items_of (part_of b k) v =
+    let more : c.args.item + 2 ^ (c.args.log2 - 1) < count_of (part_of b k) v =
     omega (arith, is, half g c, c.if-middle-items.true) in
     let cast : entry + c.min-distance.result * 2097152 % 18446744073709551616 ≡ entry + min (later - entry) 2047 * 2 ^ 21 =
     omega (arith, c.min-distance.ensures) in

@@ -4,7 +4,7 @@ use Rattle.std.proofs.lemmas.Iterator.Adapters.{fits_from_length, at_most_from_y
 use Rattle.bitm_bits.proofs.lemmas.BitsLemmas.{length-bits_of}
 use Rattle.bitm_bits.specs.Bits.{bits_of}
 use Rattle.bitm_bits.specs.Count.{ones_before}
-use Rattle.bitm_bits.proofs.lemmas.CountLemmas.{ones_before-bits_of_all}
+use Rattle.bitm_bits.proofs.lemmas.CountLemmas.{ones_of-bits_of}
 use Rattle.bitm_bits.proofs.bitvec.counting.count_bit_ones.Goals as goal
 
 pub sum-requires-clause-fits : goal.sum-requires-clause-fits
@@ -15,4 +15,4 @@ sum-requires-clause-fits c =
 pub returns : goal.returns
 returns c =
     let e : c.sum.result ≡ sum_by count_ones c.args.words.now = search rules in
-    e ∙ sym (ones_before-bits_of_all c.args.words.now (λ k. search rules)) ∙ sym (ap (ones_before (bits_of c.args.words.now)) (length-bits_of c.args.words.now))
+    e ∙ sym (ones_of-bits_of c.args.words.now (λ k. search rules))

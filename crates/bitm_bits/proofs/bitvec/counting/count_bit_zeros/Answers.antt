@@ -5,7 +5,7 @@ use Rattle.std.specs.Int.{count_zeros}
 use Rattle.bitm_bits.proofs.lemmas.BitsLemmas.{length-bits_of}
 use Rattle.bitm_bits.specs.Bits.{bits_of}
 use Rattle.bitm_bits.specs.Count.{zeros_before}
-use Rattle.bitm_bits.proofs.lemmas.CountLemmas.{zeros_before-bits_of_all}
+use Rattle.bitm_bits.proofs.lemmas.CountLemmas.{zeros_of-bits_of}
 use Rattle.bitm_bits.proofs.bitvec.counting.count_bit_zeros.Goals as goal
 
 pub sum-requires-clause-fits : goal.sum-requires-clause-fits
@@ -16,4 +16,4 @@ sum-requires-clause-fits c =
 pub returns : goal.returns
 returns c =
     let e : c.sum.result ≡ sum_by (count_zeros w64) c.args.words.now = search rules in
-    e ∙ sym (zeros_before-bits_of_all c.args.words.now (λ k. search rules)) ∙ sym (ap (zeros_before (bits_of c.args.words.now)) (length-bits_of c.args.words.now))
+    e ∙ sym (zeros_of-bits_of c.args.words.now (λ k. search rules))

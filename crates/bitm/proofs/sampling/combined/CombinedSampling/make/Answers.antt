@@ -2,8 +2,8 @@
 use Rattle.std.proofs.Common.{◌≡◌, ◌*◌, length, ap, ap₂, ◌∙◌, arith}
 use Rattle.bitm_bits.proofs.lemmas.BitsLemmas.{length-bits_of}
 use Rattle.bitm_bits.specs.Bits.{bits_of}
-use Rattle.bitm_bits.specs.Count.{kind}
-use Rattle.bitm.specs.Samples.{items_of, samples_of, sample_starts_of, Tabled}
+use Rattle.bitm_bits.specs.Count.{count_of, kind}
+use Rattle.bitm.specs.Samples.{samples_of, sample_starts_of, Tabled}
 use Rattle.bitm.proofs.lemmas.StretchLemmas.{ones_before-self}
 use Rattle.bitm.proofs.sampling.combined.CombinedSampling.make.Goals as goal
 use Rattle.bitm.proofs.sampling.combined.CombinedSampling.make.Goals.{Start}
@@ -31,7 +31,7 @@ returns g c =
     let t = tabled g (goal.at.returns g c).Start in
     let items = c.items_among.ensures.items b c.requires.total (omega (arith, long)) in
     let bits : length c.args.content.now * 64 ≡ length b = omega (arith, long) in
-    let chosen : D.chosen c.items_among.result (length c.args.content.now * 64) ≡ D.chosen (items_of b v) (length b) =
+    let chosen : D.chosen c.items_among.result (length c.args.content.now * 64) ≡ D.chosen (count_of b v) (length b) =
     ap₂ D.chosen items bits in
     let kept = ap (samples_of b v) c.items_per_sample_log2.ensures.value in
     let begins = ap (sample_starts_of b v) c.items_per_sample_log2.ensures.value in

@@ -1,0 +1,13 @@
+-- What the definitions of tables and words say of one another. Each law is the contract of a function of `index_laws`.
+use Rattle.std.specs.Prelude.{◌≡◌, ℕ, ◌^◌, ◌<◌, Bool, List, count_ones}
+use Rattle.bitm_bits.specs.Bits.{low_digits}
+use Rattle.bitm_bits.specs.Count.{ones_before}
+use Rattle.bitm.specs.Entry.{FieldsFit, lower_entry}
+
+-- an entry of a lower table fits the fields' greatest numbers
+abbrev pub EntriesFit : Type 0
+EntriesFit = (b : List Bool) (j : ℕ) → FieldsFit (lower_entry b j) j
+
+-- the ones that a processor counts in a word are those among its 64 bits
+abbrev pub OnesOfWord : Type 0
+OnesOfWord = (w : ℕ) → w < 2 ^ 64 → ones_before (low_digits 64 w) 64 ≡ count_ones w
