@@ -8,11 +8,19 @@ use crate::text;
 use crate::text::Base;
 use std::alloc::Global;
 
-/// A content under its name.
+/// A content under its name, and the number of its ones, once a line says it.
 #[derive(Drop)]
 struct Content<'a> {
     name: &'a str,
     words: Vec<u64>,
+    ones: Option<u64>,
+}
+
+/// How many bits a content has, and how many of them are ones, or zeros.
+#[derive(Clone, Copy)]
+pub struct Totals {
+    pub len: usize,
+    pub items: u64,
 }
 
 /// What the lines read so far leave to the next ones.
@@ -43,8 +51,40 @@ impl<'a> State<'a> {
         let (count, items) = text::first_word(items);
         let words = text::list(alloc, items, Base::Hexadecimal)?;
         found.compare(name, Base::Decimal, Some(words.len() as u64), count)?;
-        self.content = Some(Content { name, words });
+        self.content = Some(Content {
+            name,
+            words,
+            ones: None,
+        });
         Ok(())
+    }
+
+    /// Takes the number of ones of a line, which has to name the content.
+    pub fn set_ones(&mut self, line: &'a str) -> Result<(), Fault> {
+        let (_, total) = self.content(line)?;
+        let ones = text::number(total, Base::Decimal)?;
+        if let Some(content) = &mut self.content {
+            content.ones = Some(ones);
+        }
+        Ok(())
+    }
+
+    /// How many bits the content has, and how many of them are ones, as a line says it.
+    pub fn ones(&self) -> Result<Totals, Fault> {
+        match &self.content {
+            Some(content) => Ok(Totals {
+                len: content.words.len().checked_mul(64).ok_or(Fault::Condition)?,
+                items: content.ones.ok_or(Fault::NoTotal)?,
+            }),
+            None => Err(Fault::OtherContent),
+        }
+    }
+
+    /// How many bits the content has, and how many of them are zeros.
+    pub fn zeros(&self) -> Result<Totals, Fault> {
+        let Totals { len, items } = self.ones()?;
+        let items = (len as u64).checked_sub(items).ok_or(Fault::Malformed)?;
+        Ok(Totals { len, items })
     }
 
     /// Takes the bytes of a line; none are left where that fails.

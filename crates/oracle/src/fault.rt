@@ -9,6 +9,8 @@ pub enum Fault {
     Malformed,
     /// It names a content that is not the last one.
     OtherContent,
+    /// No line says how many ones the content has.
+    NoTotal,
     /// The condition of a call does not hold.
     Condition,
     /// No such kind is known.
@@ -22,6 +24,7 @@ impl fmt::Display for Fault {
         match self {
             Fault::Malformed => write!(f, "malformed"),
             Fault::OtherContent => write!(f, "not the last content"),
+            Fault::NoTotal => write!(f, "no line `ones` before it"),
             Fault::Condition => write!(f, "a call's condition does not hold"),
             Fault::UnknownKind => write!(f, "unknown kind"),
             Fault::NoMemory => write!(f, "no memory"),

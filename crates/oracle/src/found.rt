@@ -1,4 +1,5 @@
 //! What a line shows: how many answers were compared, and which of them differ.
+use crate::content::Totals;
 use crate::fault::Fault;
 use crate::text;
 use crate::text::Base;
@@ -15,6 +16,12 @@ pub enum Difference<'a> {
         base: Base,
         ours: Option<u64>,
         theirs: Option<u64>,
+    },
+    /// A rank at the exact length, where theirs is nothing and the total is expected.
+    AtLength {
+        argument: &'a str,
+        ours: Option<u64>,
+        total: u64,
     },
     /// Why the line could not be replayed to its end.
     Fault(Fault),
@@ -53,16 +60,55 @@ impl fmt::Display for Difference<'_> {
                 let theirs = Written(*theirs, *base);
                 write!(f, ": ours {ours}, theirs {theirs}")
             }
+            Difference::AtLength {
+                argument,
+                ours,
+                total,
+            } => {
+                let ours = Written(*ours, Base::Decimal);
+                write!(f, " {argument}: ours {ours}, the total {total}")
+            }
             Difference::Fault(fault) => write!(f, ": {fault}"),
         }
+    }
+}
+
+/// How many answers were compared, and how many of them differ.
+#[derive(Clone, Copy)]
+pub struct Count {
+    pub answers: u64,
+    pub differ: u64,
+}
+
+impl Count {
+    /// No answer yet.
+    pub const NONE: Count = Count {
+        answers: 0,
+        differ: 0,
+    };
+
+    /// Adds so many more.
+    pub fn add(&mut self, more: Count) {
+        self.answers = self.answers.saturating_add(more.answers);
+        self.differ = self.differ.saturating_add(more.differ);
+    }
+
+    /// Adds an answer.
+    fn add_answer(&mut self, differs: bool) {
+        self.add(Count {
+            answers: 1,
+            differ: u64::from(differs),
+        });
     }
 }
 
 /// What a line has shown so far.
 #[derive(Drop)]
 pub struct Found<'a> {
-    pub answers: u64,
-    pub differ: u64,
+    /// The answers that have to be theirs, and faults.
+    pub count: Count,
+    /// The ranks at the exact length, which have to be totals.
+    pub at_length: Count,
     pub differences: Vec<Difference<'a>>,
 }
 
@@ -70,15 +116,23 @@ impl<'a> Found<'a> {
     /// Nothing yet.
     pub fn new(alloc: Global) -> Found<'a> {
         Found {
-            answers: 0,
-            differ: 0,
+            count: Count::NONE,
+            at_length: Count::NONE,
             differences: Vec::new(alloc),
         }
     }
 
-    /// Counts a difference, and keeps it where there is memory for it.
-    pub fn differs(&mut self, difference: Difference<'a>) {
-        self.differ = self.differ.saturating_add(1);
+    /// Counts a fault, and keeps it where there is memory for it.
+    pub fn fails(&mut self, fault: Fault) {
+        self.count.add(Count {
+            answers: 0,
+            differ: 1,
+        });
+        self.keep(Difference::Fault(fault));
+    }
+
+    /// Keeps a difference where there is memory for it.
+    fn keep(&mut self, difference: Difference<'a>) {
         let _ = self.differences.push(difference);
     }
 
@@ -91,9 +145,9 @@ impl<'a> Found<'a> {
         ours: Option<u64>,
         theirs: Option<u64>,
     ) {
-        self.answers = self.answers.saturating_add(1);
+        self.count.add_answer(ours != theirs);
         if ours != theirs {
-            self.differs(Difference::Answer {
+            self.keep(Difference::Answer {
                 argument,
                 item,
                 base,
@@ -135,6 +189,42 @@ impl<'a> Found<'a> {
             )?;
         }
         Ok(())
+    }
+
+    /// Compares ranks with the answers of pairs, and with the total of their kind of bit where the pair is that of the
+    /// exact length and has no answer.
+    pub fn compare_ranks<F: Fn(usize) -> Option<usize>>(
+        &mut self,
+        pairs: &'a str,
+        totals: Totals,
+        call: F,
+    ) -> Result<(), Fault>
+        requires { F.IsAlwaysCallable call }
+    {
+        for pair in pairs.split_ascii_whitespace() {
+            let (argument, theirs) = text::pair(pair)?;
+            let place = text::place(argument)?;
+            let ours = call(place).map(|number| number as u64);
+            if place == totals.len && theirs == "-" {
+                self.compare_at_length(argument, ours, totals.items);
+            } else {
+                self.compare(argument, Base::Decimal, ours, theirs)?;
+            }
+        }
+        Ok(())
+    }
+
+    /// Compares a rank at the exact length with the total.
+    fn compare_at_length(&mut self, argument: &'a str, ours: Option<u64>, total: u64) {
+        let differs = ours != Some(total);
+        self.at_length.add_answer(differs);
+        if differs {
+            self.keep(Difference::AtLength {
+                argument,
+                ours,
+                total,
+            });
+        }
     }
 
     /// Compares two numbers.

@@ -2,7 +2,11 @@
 //!
 //! The file, `data/answers.txt`, was printed by a program over the Rust crate `bitm`, unchanged, and each
 //! answer was computed again from the definitions by a second program, which shares no code with that
-//! crate: none differed. A rank at the exact length is `-` there.
+//! crate: none differed. The answers stay as they were printed.
+//!
+//! At the exact length that crate answers no rank, and `bitm` the total. So where a pair of `rank` or
+//! `rank0` has the exact length and `-`, the total is expected, which the line `ones` before it says
+//! (zeros are the other bits). These pairs are counted by themselves.
 //!
 //! A line is a kind and then words that stand apart by one space, and `#` begins a comment. Numbers are
 //! decimal, words and bytes hexadecimal, and `-` is `None`. In a list X*COUNT is a run of COUNT items X,
@@ -40,8 +44,8 @@
 //! one that is the same for each content and aM an adaptive one, and D its logarithm. Samples are private
 //! to `bitm`: their number and D are compared, and no sample.
 //!
-//! The program prints each difference, up to ten, and a line for each kind, and ends with status 0 where
-//! nothing differs.
+//! The program prints each difference, up to ten, a line for each kind, and one for the ranks at the exact
+//! length, and ends with status 0 where nothing differs.
 #![tactic(auto)]
 
 mod bits;

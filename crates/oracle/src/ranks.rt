@@ -25,10 +25,11 @@ fn build(alloc: Global, words: &[u64]) -> Result<(RankSimple<&[u64]>, u32), Faul
 /// Compares the number of ones, as `build` gives it and as it is counted.
 pub fn ones<'a>(
     alloc: Global,
-    state: &State<'a>,
+    state: &mut State<'a>,
     line: &'a str,
     found: &mut Found<'a>,
 ) -> Result<(), Fault> {
+    state.set_ones(line)?;
     let (words, theirs) = state.content(line)?;
     let (_, total) = build(alloc, words)?;
     found.compare("build", Base::Decimal, Some(u64::from(total)), theirs)?;
@@ -62,7 +63,7 @@ pub fn simple<'a>(
     Ok(())
 }
 
-/// Compares the ones before places, by the simple rank and by the tables of an index.
+/// Compares the ones before places and before the end, by the simple rank and by the tables of an index.
 pub fn rank<'a>(
     alloc: Global,
     state: &State<'a>,
@@ -71,12 +72,13 @@ pub fn rank<'a>(
 ) -> Result<(), Fault> {
     let (words, pairs) = state.content(line)?;
     let (simple, _) = build(alloc, words)?;
-    found.compare_pairs(pairs, |place| Rank::try_rank(&simple, place))?;
+    let ones = state.ones()?;
+    found.compare_ranks(pairs, ones, |place| Rank::try_rank(&simple, place))?;
     let (index, _) = index::build::<BinaryRankSearch>(alloc, words)?;
-    found.compare_pairs(pairs, |place| index.try_rank(place))
+    found.compare_ranks(pairs, ones, |place| index.try_rank(place))
 }
 
-/// Compares the zeros before places, by the simple rank and by the tables of an index.
+/// Compares the zeros before places and before the end, by the simple rank and by the tables of an index.
 pub fn rank0<'a>(
     alloc: Global,
     state: &State<'a>,
@@ -85,7 +87,8 @@ pub fn rank0<'a>(
 ) -> Result<(), Fault> {
     let (words, pairs) = state.content(line)?;
     let (simple, _) = build(alloc, words)?;
-    found.compare_pairs(pairs, |place| simple.try_rank0(place))?;
+    let zeros = state.zeros()?;
+    found.compare_ranks(pairs, zeros, |place| simple.try_rank0(place))?;
     let (index, _) = index::build::<BinaryRankSearch>(alloc, words)?;
-    found.compare_pairs(pairs, |place| index.try_rank0(place))
+    found.compare_ranks(pairs, zeros, |place| index.try_rank0(place))
 }

@@ -1,7 +1,7 @@
 //! Replays the lines in order, each by its kind.
 use crate::content::State;
 use crate::fault::Fault;
-use crate::found::{Difference, Found};
+use crate::found::Found;
 use crate::report::Report;
 use crate::{bits, bytes, finds, ranks, samples, selection, tables, text, word, writes};
 use std::alloc::{AllocError, Global};
@@ -17,7 +17,7 @@ pub fn replay<'a>(alloc: Global, text: &'a str) -> Result<Report<'a>, AllocError
         let (kind, rest) = text::first_word(line);
         let mut found = Found::new(alloc);
         if let Err(fault) = replay_line(alloc, &mut state, kind, rest, &mut found) {
-            found.differs(Difference::Fault(fault));
+            found.fails(fault);
         }
         report.add(kind, index, found)?;
     }

@@ -1,5 +1,5 @@
 //! What all lines show, a tally for each kind.
-use crate::found::{Difference, Found};
+use crate::found::{Count, Difference, Found};
 use std::alloc::{AllocError, Global};
 use std::io;
 
@@ -11,8 +11,7 @@ const MOST_PRINTED: usize = 10;
 struct Tally<'a> {
     kind: &'a str,
     lines: u64,
-    answers: u64,
-    differ: u64,
+    count: Count,
 }
 
 impl<'a> Tally<'a> {
@@ -21,16 +20,14 @@ impl<'a> Tally<'a> {
         Tally {
             kind,
             lines: 1,
-            answers: found.answers,
-            differ: found.differ,
+            count: found.count,
         }
     }
 
     /// Adds what one more line shows.
     fn add(&mut self, found: &Found<'a>) {
         self.lines = self.lines.saturating_add(1);
-        self.answers = self.answers.saturating_add(found.answers);
-        self.differ = self.differ.saturating_add(found.differ);
+        self.count.add(found.count);
     }
 }
 
@@ -46,6 +43,7 @@ struct Located<'a> {
 #[derive(Drop)]
 pub struct Report<'a> {
     tallies: Vec<Tally<'a>>,
+    at_length: Count,
     differences: Vec<Located<'a>>,
 }
 
@@ -54,6 +52,7 @@ impl<'a> Report<'a> {
     pub fn new(alloc: Global) -> Report<'a> {
         Report {
             tallies: Vec::new(alloc),
+            at_length: Count::NONE,
             differences: Vec::new(alloc),
         }
     }
@@ -65,6 +64,7 @@ impl<'a> Report<'a> {
             Some(place) => self.tallies[place].add(&found),
             None => self.tallies.push(Tally::of(kind, &found))?,
         }
+        self.at_length.add(found.at_length);
         for difference in found.differences.iter() {
             if self.differences.len() < MOST_PRINTED {
                 self.differences.push(Located {
@@ -79,10 +79,10 @@ impl<'a> Report<'a> {
 
     /// Whether nothing differs.
     pub fn is_clean(&self) -> bool {
-        self.tallies.iter().all(|tally| tally.differ == 0)
+        self.at_length.differ == 0 && self.tallies.iter().all(|tally| tally.count.differ == 0)
     }
 
-    /// Prints the differences, as far as they are kept, and a line for each kind.
+    /// Prints the differences, as far as they are kept, a line for each kind, and one for the ranks at the exact length.
     pub fn print(&self, rt: &impl Print) -> io::Result<()> {
         for located in self.differences.iter() {
             let Located {
@@ -93,14 +93,13 @@ impl<'a> Report<'a> {
             println!(rt; "line {line}: {kind}{difference}")?;
         }
         for tally in self.tallies.iter() {
-            let Tally {
-                kind,
-                lines,
-                answers,
-                differ,
-            } = tally;
+            let Tally { kind, lines, count } = tally;
+            let Count { answers, differ } = count;
             println!(rt; "{kind} {lines} lines, {answers} answers, {differ} differ")?;
         }
-        Ok(())
+        let Count { answers, differ } = self.at_length;
+        println!(rt;
+            "at the exact length, where theirs is -: {answers} ranks, {differ} differ from the total"
+        )
     }
 }
