@@ -1,9 +1,9 @@
 -- What the definitions say of one another. Each law is the contract of a function of `laws`.
-use Rattle.std.specs.Prelude.{◌≡◌, ℕ, ◌+◌, ◌-◌, ◌*◌, ◌^◌, ◌<◌, ◌≤◌, ◌↔◌, Bool, if◌then◌else◌, List, [], ◌∷◌, ◌++◌, length, slice_index}
+use Rattle.std.specs.Prelude.{◌≡◌, ℕ, ◌+◌, ◌-◌, ◌*◌, ◌^◌, ◌<◌, ◌≤◌, ◌↔◌, Bool, true, if◌then◌else◌, List, [], ◌∷◌, ◌++◌, length, slice_index, Option}
 use Rattle.std.specs.List.Sorted.{IsStrictlyIncreasing}
 use Rattle.bitm_bits.specs.Bits.{bits_of, item, digit_count}
 use Rattle.bitm_bits.specs.Coming.{bits_coming}
-use Rattle.bitm_bits.specs.Count.{ones_before, zeros_before, count_before, Picks, is_same, places}
+use Rattle.bitm_bits.specs.Count.{ones_before, ones_of, zeros_before, zeros_of, count_before, IsSelect, MatchesFirstOne, Picks, is_same, places}
 use Rattle.bitm_bits.specs.Number.{number_at, with_number, with_swapped}
 use Rattle.bitm_bits.specs.Window.{with_flips}
 
@@ -42,7 +42,7 @@ OnesAndZeros = (b : List Bool) (i : ℕ) → i ≤ length b → ones_before b i 
 abbrev pub OnesAndZerosOfContent : Type 0
 OnesAndZerosOfContent =
     (words : List ℕ)
-    → ones_before (bits_of words) (64 * length words) + zeros_before (bits_of words) (64 * length words) ≡ 64 * length words
+    → ones_of (bits_of words) + zeros_of (bits_of words) ≡ 64 * length words
 
 -- no fewer items of a kind stand before a later place
 abbrev pub CountsGrow : Type 0
@@ -82,6 +82,10 @@ abbrev pub PickedByRank : Type 0
 PickedByRank =
     (b : List Bool) (v : Bool) (p : ℕ) → p < length b → item b p ≡ v
     → Picks b v (count_before b v p) p × ((q : ℕ) → Picks b v (count_before b v p) q → q ≡ p)
+
+-- the rank of a place selects the first one from there on
+abbrev pub NextOneIsSelected : Type 0
+NextOneIsSelected = (b : List Bool) (s : ℕ) (o : Option ℕ) → s ≤ length b → IsSelect b true (ones_before b s) o → MatchesFirstOne b s o
 
 -- ---- the places of a kind
 

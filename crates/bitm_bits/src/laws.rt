@@ -3,7 +3,7 @@
 ghost use Rattle.bitm_bits.specs.Laws.{ReadAfterWrite, NegatedTwice, SwappedTwice, SwappedWithItself};
 ghost use Rattle.bitm_bits.specs.Laws.{DigitsBoundPowers};
 ghost use Rattle.bitm_bits.specs.Laws.{OnesAndZeros, OnesAndZerosOfContent, CountsGrow, CountAfterItem, NoneBeforeTheFirst};
-ghost use Rattle.bitm_bits.specs.Laws.{AtMostOnePicked, OnePickedForEachRank, NonePickedFromTheCountOn, RankOfPicked, PickedByRank};
+ghost use Rattle.bitm_bits.specs.Laws.{AtMostOnePicked, OnePickedForEachRank, NonePickedFromTheCountOn, RankOfPicked, PickedByRank, NextOneIsSelected};
 ghost use Rattle.bitm_bits.specs.Laws.{PlacesRise, PlacesArePicked, PlacesAreCounted};
 ghost use Rattle.bitm_bits.specs.Laws.{AllBitsCome, NoBitsCome, BitsComeFromTheFront, BitsComeFromTheBack, EachBitOnce};
 
@@ -88,6 +88,11 @@ pub fn rank_of_picked()
 /// The place selected by the rank of a place, for its own bit, is that place.
 pub fn picked_by_rank()
     ensures { PickedByRank }
+{}
+
+/// The rank of a place selects the first one from that place on.
+pub fn next_one_is_selected()
+    ensures { NextOneIsSelected }
 {}
 
 /// The places of a bit rise strictly.

@@ -44,7 +44,7 @@ fn expect_places<S: SelectForRank101111, S0: Select0ForRank101111>(
 }
 
 #[test]
-#[tactic(auto, using(bitm_bits::proofs::lemmas::CountLemmas::few_ones))]
+#[tactic(auto, using(bitm_bits::proofs::Callers::few_ones))]
 fn simple_rank(rt: HostRuntime) -> Result<(), Fail> {
     let content = even_ones(rt.alloc())?;
     assert!(rt; content.as_slice().len() < 2_000_000);

@@ -1,11 +1,8 @@
 //! Tests that cross crates: values from outside, and users of the traits.
 #![tactic(auto)]
 
-pub mod asking;
 #[cfg(test)]
 mod contents;
-pub mod counted;
-pub mod density;
 #[cfg(test)]
 mod large;
 #[cfg(test)]
@@ -24,6 +21,5 @@ mod samples;
 mod simple;
 #[cfg(test)]
 mod sizes;
-pub mod strategies;
 #[cfg(test)]
 mod tables;

@@ -1,16 +1,16 @@
 //! The index with strategies and a density that a user wrote: all answers against a plain count, and who is asked.
-use crate::density::ByLength;
 use crate::odd_contents::expect_forms;
 use crate::plain::{Sampled, expect_all, indexed};
-use crate::strategies::guarded::Guarded;
-use crate::strategies::listed::Listed;
-use crate::strategies::scan::Scan;
 use bitm::{
     BinaryRankSearch, CombinedSampling, Select, Select0, Select0ForRank101111, SelectForRank101111,
 };
 use std::alloc::Global;
 use std::process::Abort;
 use std::test::Fail;
+use uses::density::ByLength;
+use uses::strategies::guarded::Guarded;
+use uses::strategies::listed::Listed;
+use uses::strategies::scan::Scan;
 
 /// Compares all answers over the odd contents.
 fn expect_odd_contents<S: SelectForRank101111, S0: Select0ForRank101111>(

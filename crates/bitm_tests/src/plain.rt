@@ -85,7 +85,7 @@ pub fn expect_rank<I: Rank>(rt: &impl Abort, index: &I, place: usize, ones: Opti
 }
 
 /// Compares the calls of select at one rank with the place of that one.
-#[tactic(auto, using(crate::proofs::lemmas::RankLemmas::one_below))]
+#[tactic(auto, using(bitm_bits::proofs::Callers::one_below))]
 pub fn expect_one<I: Select>(rt: &impl Abort, index: &I, rank: usize, place: Option<usize>) {
     let found = index.try_select(rank);
     assert_eq!(rt; found, place, "the one of rank {rank}");
@@ -96,7 +96,7 @@ pub fn expect_one<I: Select>(rt: &impl Abort, index: &I, rank: usize, place: Opt
 }
 
 /// Compares the calls of select0 at one rank with the place of that zero.
-#[tactic(auto, using(crate::proofs::lemmas::RankLemmas::zero_below))]
+#[tactic(auto, using(bitm_bits::proofs::Callers::zero_below))]
 pub fn expect_zero<I: Select0>(rt: &impl Abort, index: &I, rank: usize, place: Option<usize>) {
     let found = index.try_select0(rank);
     assert_eq!(rt; found, place, "the zero of rank {rank}");

@@ -1,11 +1,11 @@
 //! The counted calls over an index's probe: the answers of the plain calls.
-use crate::counted::{rank_with_reads, select_with_reads};
 use crate::plain::{Sampled, indexed};
 use bitm::{
     BinaryRankSearch, Rank, RankSelect101111, Select, Select0, Select0ForRank101111,
     SelectForRank101111, binary_select_on,
 };
 use std::process::Abort;
+use uses::counted::{rank_with_reads, select_with_reads};
 
 /// Above every rank of 60 words and every place.
 const ASKED: usize = 3842;

@@ -128,7 +128,7 @@ fn ranks<BV: AsSlice<u64>>(index: &RankSimple<BV>) -> bool {
 }
 
 /// A simple rank over the content, which has the words of `WORDS`.
-#[tactic(auto, using(bitm_bits::proofs::lemmas::CountLemmas::few_ones))]
+#[tactic(auto, using(bitm_bits::proofs::Callers::few_ones))]
 fn simple<BV: AsSlice<u64> + Drop>(alloc: Global, content: BV) -> Outcome {
     if content.as_slice().len() != WORDS.len() {
         return Outcome::Wrong;
@@ -160,7 +160,7 @@ fn try_same(alloc: Global) -> Outcome {
     }
 }
 
-#[tactic(auto, using(bitm_bits::proofs::lemmas::CountLemmas::few_ones))]
+#[tactic(auto, using(bitm_bits::proofs::Callers::few_ones))]
 fn simple_clone(alloc: Global) -> Outcome {
     let Ok(content) = BoxedSlice::from_slice(alloc, WORDS.as_slice()) else {
         return Outcome::Unready;

@@ -1,12 +1,13 @@
 -- One place is picked for each rank, and item k of the rising places is the one for k.
-use Rattle.std.proofs.Common.{◌≡◌, ℕ, zero, suc, ◌+◌, ◌-◌, ◌<◌, ◌≤◌, Bool, true, false, not, List, [], ◌∷◌, length, get_or, take, refl, ap, ◌∙◌, ⊎_elim, arith, sym, subst, ◌↔◌}
+use Rattle.std.proofs.Common.{◌≡◌, ℕ, zero, suc, ◌+◌, ◌-◌, ◌<◌, ◌≤◌, Bool, true, false, not, List, [], ◌∷◌, length, get_or, take, refl, ap, ◌∙◌, ⊎_elim, arith, sym, subst, ◌↔◌, Option, Some, None}
 use Rattle.std.proofs.lemmas.Bool.{cases_order, cases_lt}
+use Rattle.std.proofs.lemmas.List.{get_or_past}
 use Rattle.std.proofs.lemmas.List.Sums.{sum_by-cons}
 use Rattle.std.specs.List.Sorted.{IsStrictlyIncreasing}
-use Rattle.bitm_bits.proofs.lemmas.CountLemmas.{count_before_more, count_before_grows}
+use Rattle.bitm_bits.proofs.lemmas.CountLemmas.{count_before_more, count_before_grows, count_before-le}
 use Rattle.bitm_bits.proofs.lemmas.WordLemmas.{truth}
 use Rattle.bitm_bits.specs.Bits.{item}
-use Rattle.bitm_bits.specs.Count.{ones_before, zeros_before, count_before, Picks, is_same, places}
+use Rattle.bitm_bits.specs.Count.{ones_before, zeros_before, count_before, Picks, IsSelect, MatchesFirstOne, is_same, places}
 
 -- ---- one place for each rank
 
@@ -36,7 +37,7 @@ same_from_Picks b v r p q here there =
 
 -- ---- item k of the places is the one with k before it
 
-count_before_after : (v x : Bool) (b : List Bool) (i : ℕ) → count_before (x ∷ b) v (suc i) ≡ truth (is_same v x) + count_before b v i
+pub count_before_after : (v x : Bool) (b : List Bool) (i : ℕ) → count_before (x ∷ b) v (suc i) ≡ truth (is_same v x) + count_before b v i
 unfolding ones_before zeros_before
 count_before_after true x b i = sum_by-cons truth x (take i b)
 count_before_after false x b i = sum_by-cons (λ y. truth (not y)) x (take i b)
@@ -148,3 +149,43 @@ places-rise b v k l =
     let more = count_before_grows v b q (p - q) (omega (arith, here.inside)) in
     absurd (omega (arith, here.before, there.before, more, ap (count_before b v) at)))
     (cases_lt p q)
+
+-- ---- the first one from a place on
+
+not_one : (x : Bool) → truth x ≡ 0 → x ≡ false
+not_one true h = absurd (omega arith)
+not_one false h = refl
+
+-- where no more ones are counted there are none
+none_between : (b : List Bool) (s e i : ℕ) → ones_before b e ≡ ones_before b s → s ≤ i → i < e → i < length b → item b i ≡ false
+none_between b s e i same from to inside =
+    not_one (item b i)
+    (omega (arith, same, count_before_more true b i inside, count_before-le b true (i + 1) e (omega arith), count_before-le b true s i from))
+
+-- the rank of a place selects the first one from there on
+pub MatchesFirstOne-selected : (b : List Bool) (s : ℕ) (o : Option ℕ) → s ≤ length b → IsSelect b true (ones_before b s) o → MatchesFirstOne b s o
+MatchesFirstOne-selected b s None l none =
+    λ p from.
+    ⊎_elim
+    (λ inside. none_between b s (length b) p (omega (arith, none, count_before-le b true s (length b) l)) from inside inside)
+    (λ past. get_or_past b p false past)
+    (cases_lt p (length b))
+MatchesFirstOne-selected b s (Some p) l picked =
+    record {
+      from =
+          ⊎_elim
+          (λ before.
+          absurd
+          (omega (
+            arith,
+            picked.before,
+            count_before_more true b p picked.inside,
+            ap truth picked.item,
+            count_before-le b true (p + 1) s (omega arith),
+          )))
+          (λ from. from)
+          (cases_lt p s);
+      inside = picked.inside;
+      one = picked.item;
+      least = λ i from to. none_between b s p i picked.before from to (omega (arith, picked.inside));
+    }

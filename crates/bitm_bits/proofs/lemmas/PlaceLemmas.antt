@@ -4,13 +4,13 @@ use Rattle.std.proofs.lemmas.Bool.{false≢true}
 use Rattle.std.proofs.lemmas.List.Sums.{sum_by-cons}
 use Rattle.std.proofs.lemmas.Nat.Bits.{bit_at-lt, bit_at-zero, bit_at_not, bit_at-trailing_zeros}
 use Rattle.std.specs.Int.{bit_at, bit_not, trailing_zeros}
-use Rattle.bitm_bits.proofs.lemmas.BitsLemmas.{length-low_digits, item-low_digits, length-bits_of, same_bits, bits_of-cons, bits_of-nil}
+use Rattle.bitm_bits.proofs.lemmas.BitsLemmas.{length-low_digits, item-low_digits, same_bits, bits_of-cons, bits_of-nil}
 use Rattle.bitm_bits.proofs.lemmas.CountLemmas.{ones_of-bits_of}
 use Rattle.bitm_bits.proofs.lemmas.PickLemmas.{length-places}
 use Rattle.bitm_bits.proofs.lemmas.WordLemmas.{bit_at-lowest_cleared_same, bit_at-lowest_cleared_other}
 use Rattle.bitm_bits.specs.Bits.{low_digits, bits_of, item}
 use Rattle.bitm_bits.specs.Coming.{word_of, coming}
-use Rattle.bitm_bits.specs.Count.{count_of, ones_before, places, kind}
+use Rattle.bitm_bits.specs.Count.{count_of, places, kind}
 
 -- ---- lists
 

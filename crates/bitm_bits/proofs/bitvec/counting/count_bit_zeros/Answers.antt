@@ -1,10 +1,7 @@
-use Rattle.std.proofs.Common.{◌≡◌, ◌^◌, ◌-◌, w64, sum_by, sym, ap, ◌∙◌, arith, rules, tests}
+use Rattle.std.proofs.Common.{◌≡◌, ◌^◌, ◌-◌, w64, sum_by, sym, ◌∙◌, arith, rules, tests}
 use Rattle.std.proofs.lemmas.Iterator.{YieldsList-from_slice}
 use Rattle.std.proofs.lemmas.Iterator.Adapters.{fits_from_length, at_most_from_yields_List}
 use Rattle.std.specs.Int.{count_zeros}
-use Rattle.bitm_bits.proofs.lemmas.BitsLemmas.{length-bits_of}
-use Rattle.bitm_bits.specs.Bits.{bits_of}
-use Rattle.bitm_bits.specs.Count.{zeros_before}
 use Rattle.bitm_bits.proofs.lemmas.CountLemmas.{zeros_of-bits_of}
 use Rattle.bitm_bits.proofs.bitvec.counting.count_bit_zeros.Goals as goal
 

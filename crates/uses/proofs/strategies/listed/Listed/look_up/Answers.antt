@@ -4,8 +4,8 @@ use Rattle.std.proofs.lemmas.Grind.{common_steps}
 use Rattle.std.proofs.lemmas.Option.{gets}
 use Rattle.std.specs.List.{slice_get}
 use Rattle.std.specs.Option.{option_map}
-use Rattle.bitm_tests.proofs.lemmas.ListLemmas.{IsSelect-item}
-use Rattle.bitm_tests.proofs.strategies.listed.Listed.look_up.Goals as goal
+use Rattle.uses.proofs.lemmas.ListLemmas.{IsSelect-item}
+use Rattle.uses.proofs.strategies.listed.Listed.look_up.Goals as goal
 
 pub returns : goal.returns
 returns c b v is =

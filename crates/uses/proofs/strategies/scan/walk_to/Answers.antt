@@ -2,8 +2,8 @@
 use Rattle.std.proofs.lemmas.Iterator.Consumers.{nth_from_yields_List, YieldsList-from_first}
 use Rattle.bitm_bits.specs.Bits.{bits_of}
 use Rattle.bitm_bits.specs.Count.{kind}
-use Rattle.bitm_tests.proofs.lemmas.ListLemmas.{IsSelect-item}
-use Rattle.bitm_tests.proofs.strategies.scan.walk_to.Goals as goal
+use Rattle.uses.proofs.lemmas.ListLemmas.{IsSelect-item}
+use Rattle.uses.proofs.strategies.scan.walk_to.Goals as goal
 
 pub returns : goal.returns
 returns g c =

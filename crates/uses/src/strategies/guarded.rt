@@ -18,7 +18,7 @@ pub struct Guarded<S> {
 
 // The calls are left out: a clause can't say what a `Cell` holds.
 impl<S> Model for Guarded<S> {
-    ghost use Rattle.bitm_tests.specs.Guard.{Guard};
+    ghost use Rattle.uses.specs.Guard.{Guard};
 
     ghost Value = { Guard S };
 

@@ -3,7 +3,7 @@ use Rattle.std.proofs.Common.{length, arith}
 use Rattle.bitm_bits.proofs.lemmas.BitsLemmas.{length-bits_of}
 use Rattle.bitm_bits.proofs.lemmas.CountLemmas.{ones_before-add-zeros_before}
 use Rattle.bitm_bits.specs.Bits.{bits_of}
-use Rattle.bitm_tests.proofs.strategies.guarded.GuardedSelect0ForRank101111.new0.Goals as goal
+use Rattle.uses.proofs.strategies.guarded.GuardedSelect0ForRank101111.new0.Goals as goal
 
 pub overflow_sub-result : goal.overflow_sub-result
 overflow_sub-result g c =

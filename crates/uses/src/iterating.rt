@@ -1,0 +1,58 @@
+//! Iterators over places and over bits, in a `for`.
+//!
+//! `BitOnesIterator::new(words)` borrows the slice, and so outlives a reference to it; `slice.bit_ones()` borrows the
+//! reference `slice`.
+ghost use Rattle.std.specs.Prelude.{◌≡◌, true, IfOk};
+ghost use Rattle.bitm_bits.specs.Bits.{bits_of, IsShort};
+ghost use Rattle.bitm_bits.specs.Count.{ones_of, places};
+
+use bitm::{BitIterator, BitOnesIterator};
+use std::alloc::{AllocError, Global};
+use std::iter::Iterator;
+
+/// How many ones the words have, counted one by one.
+///
+/// # Conditions
+/// There are fewer than 2^58 words.
+#[tactic(auto, using(bitm_bits::proofs::Callers::counts))]
+pub fn ones_by_their_places(words: &[u64]) -> usize
+    requires { IsShort words.now }
+    ensures { result ≡ ones_of (bits_of words.now) }
+{
+    let mut count = 0;
+    for _place in BitOnesIterator::new(words) {
+        count += 1;
+    }
+    count
+}
+
+/// The places of the ones, in a vector.
+///
+/// # Conditions
+/// There are fewer than 2^58 words.
+/// # Errors
+/// `AllocError` where no memory was found.
+pub fn places_of_ones(alloc: Global, words: &[u64]) -> Result<Vec<usize>, AllocError>
+    requires { IsShort words.now }
+    ensures { IfOk result (λ list. list.items ≡ places true 0 (bits_of words.now)) }
+{
+    BitOnesIterator::new(words).collect(alloc)
+}
+
+/// How many ones the words have, counted bit by bit.
+///
+/// # Conditions
+/// There are fewer than 2^58 words.
+#[tactic(auto, using(bitm_bits::proofs::Callers::bit_by_bit))]
+pub fn ones_by_their_bits(words: &[u64]) -> usize
+    requires { IsShort words.now }
+    ensures { result ≡ ones_of (bits_of words.now) }
+{
+    let mut count = 0;
+    for bit in BitIterator::new(words) {
+        if bit {
+            count += 1;
+        }
+    }
+    count
+}

@@ -1,0 +1,28 @@
+//! Code of a user of the library, proved: short files to copy from, each with a head that says what it shows.
+//!
+//! | To do | File |
+//! |---|---|
+//! | build an index over words of one's own and ask it | `readme` |
+//! | write bits of an array, a boxed slice, a vector, and read them | `writing` |
+//! | make words in code that is generic over the vector | `owned` |
+//! | go over the places of ones, or over bits, in a `for` | `iterating` |
+//! | relate rank and selection in code that is generic over the index | `inverse` |
+//! | number the members of a set densely, and find a member by its number | `dense` |
+//! | test a condition and then call | `asking` |
+//! | know what a call reads | `counted` |
+//! | rank and select over tables of one's own | `source` |
+//! | select by a strategy of one's own | `strategies` |
+//! | sample by a density of one's own | `density` |
+#![tactic(auto)]
+
+pub mod asking;
+pub mod counted;
+pub mod dense;
+pub mod density;
+pub mod inverse;
+pub mod iterating;
+pub mod owned;
+pub mod readme;
+pub mod source;
+pub mod strategies;
+pub mod writing;

@@ -1,0 +1,107 @@
+//! Words and tables that a user keeps, as a source whose reads are counted: rank and selection over it, with their reads.
+ghost use Rattle.std.specs.Prelude.{◌≡◌, ◌+◌, false, length};
+ghost use Rattle.bitm_bits.specs.Bits.{bits_of, digit_count, IsShort};
+ghost use Rattle.bitm_bits.specs.Count.{IsRank, IsSelect};
+ghost use Rattle.bitm.specs.Reads.{ReadsAtMost};
+ghost use Rattle.bitm.specs.Tables.{HasTables};
+
+use bitm::{ReadCounts, TableSource, binary_select_on, rank_on};
+use std::marker::Model;
+
+/// Words and two tables in vectors, and what was read of them.
+#[derive(Drop)]
+pub struct Kept {
+    words: Vec<u64>,
+    upper: Vec<usize>,
+    lower: Vec<u64>,
+    reads: ReadCounts,
+}
+
+impl Model for Kept {
+    ghost use Rattle.bitm.specs.Reads.{Probed};
+
+    ghost Value = { Probed };
+
+    ghost view = { λ k. record {
+      lists = record { words = k.words.items; upper = k.upper.items; lower = k.lower.items };
+      reads = k.reads;
+    } };
+}
+
+impl Kept {
+    ghost use Rattle.bitm.specs.Reads.{none_read};
+
+    /// A source over these, of which nothing was read.
+    pub fn new(words: Vec<u64>, upper: Vec<usize>, lower: Vec<u64>) -> Kept
+        ensures lists { result.lists
+            ≡ record { words = words.items; upper = upper.items; lower = lower.items } }
+        ensures reads { result.reads ≡ none_read }
+    {
+        Kept {
+            words,
+            upper,
+            lower,
+            reads: ReadCounts::new(),
+        }
+    }
+}
+
+impl TableSource for Kept {
+    ghost lists = { λ k. k.lists };
+
+    ghost reads = { λ k. k.reads };
+
+    fn word(&mut self, at: usize) -> u64 {
+        self.reads.read_word();
+        self.words[at]
+    }
+
+    fn upper(&mut self, at: usize) -> usize {
+        self.reads.read_upper();
+        self.upper[at]
+    }
+
+    fn lower(&mut self, at: usize) -> u64 {
+        self.reads.read_lower();
+        self.lower[at]
+    }
+
+    fn words_len(&self) -> usize {
+        self.words.len()
+    }
+
+    fn upper_len(&self) -> usize {
+        self.upper.len()
+    }
+
+    fn lower_len(&self) -> usize {
+        self.lower.len()
+    }
+}
+
+/// How many of the first `index` bits are ones; `None` exactly where there are fewer bits.
+///
+/// # Conditions
+/// The tables are those of the words, of which there are fewer than 2^58.
+pub fn rank_in(kept: &mut Kept, index: usize) -> Option<usize>
+    requires tables { HasTables kept.old.lists }
+    requires short { IsShort kept.old.lists.words }
+    ensures answer { IsRank (bits_of kept.old.lists.words) index result }
+    ensures reads { ReadsAtMost kept.old.reads kept.new.reads 1 1 8 }
+{
+    rank_on(kept, index)
+}
+
+/// The place of the zero with exactly `rank` zeros before it; `None` exactly where there is none.
+///
+/// # Conditions
+/// The tables are those of the words, of which there are fewer than 2^58.
+pub fn select0_in(kept: &mut Kept, rank: usize) -> Option<usize>
+    requires tables { HasTables kept.old.lists }
+    requires short { IsShort kept.old.lists.words }
+    ensures answer { IsSelect (bits_of kept.old.lists.words) false rank result }
+    ensures reads { ReadsAtMost kept.old.reads kept.new.reads
+        (digit_count (length kept.old.lists.upper) + 1) 23 8 }
+{
+    binary_select_on::<0, Kept>(kept, rank)
+}

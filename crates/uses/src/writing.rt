@@ -1,0 +1,55 @@
+//! Bits that are written and then read: in an array, a boxed slice and a vector.
+//!
+//! The functions of `words` take a slice, so a caller knows what its owner holds afterwards.
+ghost use Rattle.std.specs.Prelude.{◌≡◌, ◌+◌, ◌*◌, ◌^◌, ◌<◌, ◌≤◌, length, true, false, vec_len};
+ghost use Rattle.std.specs.Box.{boxed_slice_items};
+ghost use Rattle.bitm_bits.specs.Bits.{bits_of, item};
+ghost use Rattle.bitm_bits.specs.Number.{with_number};
+
+use bitm::words;
+use std::alloc::Global;
+use std::boxed::BoxedSlice;
+
+/// In an array: the bit that was set is one.
+#[tactic(auto, using(bitm_bits::proofs::Callers::after_writes))]
+pub fn in_an_array() -> bool
+    ensures { result ≡ true }
+{
+    let mut array = [0u64; 32];
+    words::set_bit(array.as_mut_slice(), 100);
+    words::get_bit(array.as_slice(), 100)
+}
+
+/// In a boxed slice: the number that was written is read, and the owner holds it.
+///
+/// # Conditions
+/// There are two words, and the number is below 2^10.
+#[tactic(auto, using(bitm_bits::proofs::Callers::after_writes))]
+pub fn in_a_boxed_slice(boxed: &mut BoxedSlice<u64, Global>, number: u64) -> u64
+    requires words { 2 ≤ length (boxed_slice_items boxed.old) }
+    requires fits { number < 2 ^ 10 }
+    ensures value { result ≡ number }
+    ensures owner { bits_of (boxed_slice_items boxed.new)
+        ≡ with_number (bits_of (boxed_slice_items boxed.old)) 60 10 number }
+{
+    let slice = boxed.as_mut_slice();
+    words::set_bits(slice, 60, number, 10);
+    words::get_bits(slice, 60, 10)
+}
+
+/// In a vector: a bit before the one that was cleared is as it was.
+///
+/// # Conditions
+/// The bit that is cleared is inside, and the other stands before it.
+#[tactic(auto, using(bitm_bits::proofs::Callers::after_writes))]
+pub fn in_a_vector(vector: &mut Vec<u64>, cleared: usize, other: usize) -> bool
+    requires cleared { cleared < 64 * vec_len vector.old }
+    requires other { other < cleared }
+    ensures value { result ≡ item (bits_of vector.old.items) other }
+    ensures owner { bits_of vector.new.items
+        ≡ with_number (bits_of vector.old.items) cleared 1 0 }
+{
+    let slice = vector.as_mut_slice();
+    words::clear_bit(slice, cleared);
+    words::get_bit(slice, other)
+}
