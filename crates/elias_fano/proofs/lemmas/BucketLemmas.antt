@@ -1,0 +1,239 @@
+-- Items with the same number above their low digits: how many have at most a number there, and the first that reaches a value.
+use Rattle.std.proofs.Common.{◌≡◌, ℕ, ◌+◌, ◌-◌, ◌*◌, ◌/◌, ◌%◌, ◌^◌, ◌<◌, ◌≤◌, true, false, cond, Bool, List, length, get_or, sym, ap, ◌∙◌, ⊎_elim, arith, ◌⊎◌, inl, inr}
+use Rattle.std.proofs.lemmas.Bool.{cases_lt, cases_order}
+use Rattle.std.proofs.lemmas.List.{get_or_default}
+use Rattle.std.proofs.lemmas.Nat.{div-add-mod', pow_pos}
+use Rattle.std.proofs.Math.Nat.{mul-le-mul_right, mod-lt}
+use Rattle.std.specs.List.{All}
+use Rattle.std.specs.List.Sorted.{IsNonDecreasing}
+use Rattle.bitm_bits.specs.Bits.{bits_of, item}
+use Rattle.bitm_bits.specs.Count.{ones_before, zeros_before, is_same, Picks}
+use Rattle.bitm_bits.specs.Laws.{OnesAndZeros}
+use Rattle.bitm_bits.specs.Number.{number_at}
+use Rattle.elias_fano.proofs.lemmas.SplitLemmas.{Splits-same}
+use Rattle.elias_fano.proofs.lemmas.UpperLemmas.{one_is, ones_are}
+use Rattle.elias_fano.specs.Buckets.{CountsTo, CountsBelow, Splits}
+use Rattle.elias_fano.specs.Laws.{BitLaws}
+use Rattle.elias_fano.specs.Parts.{upper_place, IsUpper, ArePartsOf}
+use Rattle.elias_fano.specs.Sequence.{Reaches}
+
+-- a zero has at least as many places before it as zeros
+pub zeros-at_most : OnesAndZeros → (b : List Bool) (z p : ℕ) → Picks b false z p → z ≤ p
+zeros-at_most sums b z p h = omega (arith, sums b p (omega (arith, h.inside)), h.before)
+
+-- ---- how many items have at most z above their low digits: the ones before the zero of that number
+
+module _ (laws : BitLaws) (xs : List ℕ) (l : ℕ) (upper : List ℕ) (h : IsUpper xs l upper) where
+  one_at : (j : ℕ) → j < length xs → Picks (bits_of upper) true j (upper_place xs l j)
+  one_at j inside = one_is laws.places_are_picked xs l upper j h inside
+
+  zeros_at : (j : ℕ) → j < length xs → zeros_before (bits_of upper) (upper_place xs l j) ≡ get_or xs j 0 / 2 ^ l
+  zeros_at j inside =
+      let one = one_at j inside in
+      omega (arith, laws.ones_and_zeros (bits_of upper) (upper_place xs l j) (omega (arith, one.inside)), one.before)
+
+  all_ones : ones_before (bits_of upper) (length (bits_of upper)) ≡ length xs
+  all_ones = ones_are laws.places_are_counted xs l upper h
+
+  one_more : (p : ℕ) → p < length (bits_of upper) → item (bits_of upper) p ≡ true
+      → ones_before (bits_of upper) (p + 1) ≡ ones_before (bits_of upper) p + 1
+  one_more p inside is =
+      laws.count_after_item (bits_of upper) true p inside ∙ ap (λ x. ones_before (bits_of upper) p + cond (is_same true x) 1 0) is
+
+  zero_more : (p : ℕ) → p < length (bits_of upper) → item (bits_of upper) p ≡ false
+      → zeros_before (bits_of upper) (p + 1) ≡ zeros_before (bits_of upper) p + 1
+  zero_more p inside is =
+      laws.count_after_item (bits_of upper) false p inside ∙ ap (λ x. zeros_before (bits_of upper) p + cond (is_same false x) 1 0) is
+
+  module _ (z p : ℕ) (zero_at : Picks (bits_of upper) false z p) where
+    count : ones_before (bits_of upper) p + z ≡ p
+    count = omega (arith, laws.ones_and_zeros (bits_of upper) p (omega (arith, zero_at.inside)), zero_at.before)
+
+    ones_within : p - z ≤ length xs
+    ones_within =
+        let within : p ≤ length (bits_of upper) = omega (arith, zero_at.inside) in
+        omega (arith, count, all_ones, laws.counts_grow (bits_of upper) true p (length (bits_of upper)) within)
+
+    not_here : (j : ℕ) → j < length xs → upper_place xs l j ≡ p → ⊥
+    not_here j inside e =
+        let both : true ≡ false = sym (one_at j inside).item ∙ ap (item (bits_of upper)) e ∙ zero_at.item in
+        cc
+
+    before : (j : ℕ) → j < length xs → upper_place xs l j < p → (j < p - z) × (get_or xs j 0 / 2 ^ l ≤ z)
+    before j inside less =
+        let one = one_at j inside in
+        let place = upper_place xs l j in
+        let next : place + 1 ≤ p = omega arith in
+        let order : place ≤ p = omega arith in (
+          omega (
+            arith,
+            count,
+            one.before,
+            one_more place one.inside one.item,
+            laws.counts_grow (bits_of upper) true (place + 1) p next,
+          ),
+          omega (arith, zeros_at j inside, zero_at.before, laws.counts_grow (bits_of upper) false place p order),
+        )
+
+    after : (j : ℕ) → j < length xs → p < upper_place xs l j → (p - z ≤ j) × (z < get_or xs j 0 / 2 ^ l)
+    after j inside more =
+        let one = one_at j inside in
+        let place = upper_place xs l j in
+        let next : p + 1 ≤ place = omega arith in
+        let order : p ≤ place = omega arith in (
+          omega (arith, count, one.before, laws.counts_grow (bits_of upper) true p place order),
+          omega (
+            arith,
+            zeros_at j inside,
+            zero_at.before,
+            zero_more p zero_at.inside zero_at.item,
+            laws.counts_grow (bits_of upper) false (p + 1) place next,
+          ),
+        )
+
+    sides : (j : ℕ) → j < length xs → ((j < p - z) × (get_or xs j 0 / 2 ^ l ≤ z)) ⊎ ((p - z ≤ j) × (z < get_or xs j 0 / 2 ^ l))
+    sides j inside =
+        ⊎_elim (λ e. absurd (not_here j inside e))
+        (λ apart. ⊎_elim (λ less. inl (before j inside less)) (λ more. inr (after j inside more)) apart)
+        (cases_order (upper_place xs l j) p)
+
+    pub CountsTo-zero : CountsTo xs l z (p - z)
+    CountsTo-zero = record {
+      bound = ones_within;
+      below = λ j less. ⊎_elim (λ s. s.1) (λ s. absurd (omega (arith, s.0))) (sides j (omega (arith, ones_within)));
+      above = λ j from inside. ⊎_elim (λ s. absurd (omega (arith, s.0))) (λ s. s.1) (sides j inside);
+    }
+
+  -- where there is no such zero
+  pub CountsTo-all : (z : ℕ) → zeros_before (bits_of upper) (length (bits_of upper)) ≤ z → CountsTo xs l z (length xs)
+  CountsTo-all z few = record {
+    bound = omega arith;
+    below = λ j inside.
+        let within : upper_place xs l j ≤ length (bits_of upper) = omega (arith, (one_at j inside).inside) in
+        omega (arith, few, zeros_at j inside, laws.counts_grow (bits_of upper) false (upper_place xs l j) (length (bits_of upper)) within);
+    above = λ j from inside. absurd (omega arith);
+  }
+
+-- ---- the first item that reaches a value is among those with the value's upper digits, or the next one
+
+pub CountsBelow-zero : (xs : List ℕ) (l h : ℕ) → h ≡ 0 → CountsBelow xs l h 0
+CountsBelow-zero xs l h none = record { bound = omega arith; below = λ j l. absurd (omega arith); above = λ j _ _. omega arith }
+
+pub CountsBelow-next : (xs : List ℕ) (l h c : ℕ) → 0 < h → CountsTo xs l (h - 1) c → CountsBelow xs l h c
+CountsBelow-next xs l h c some t = record {
+  bound = t.bound;
+  below = λ j less. omega (arith, t.below j less);
+  above = λ j from inside. omega (arith, t.above j from inside);
+}
+
+-- more above the low digits is more
+less_above : (x v p : ℕ) → 0 < p → x / p < v / p → x < v
+less_above x v p some less =
+    let next : x / p + 1 ≤ v / p = omega arith in
+    let times : (x / p + 1) * p ≤ v / p * p = mul-le-mul_right p next in
+    omega (arith, div-add-mod' x p, div-add-mod' v p, mod-lt x some)
+
+module _ (xs : List ℕ) (l v first end : ℕ) (before : CountsBelow xs l (v / 2 ^ l) first) (to : CountsTo xs l (v / 2 ^ l) end) where
+  same_above : (j : ℕ) → first ≤ j → j < end → get_or xs j 0 / 2 ^ l * 2 ^ l ≡ v / 2 ^ l * 2 ^ l
+  same_above j from less =
+      let same : get_or xs j 0 / 2 ^ l ≡ v / 2 ^ l = omega (arith, before.above j from (omega (arith, to.bound)), to.below j less) in
+      ap (λ k. k * 2 ^ l) same
+
+  module _ (k : ℕ) (s : Splits (λ j. get_or xs j 0 % 2 ^ l) first end (v % 2 ^ l) k) where
+    less_before : (j : ℕ) → j < k → get_or xs j 0 < v
+    less_before j less =
+        ⊎_elim (λ early. less_above (get_or xs j 0) v (2 ^ l) (pow_pos l) (before.below j early))
+        (λ from. omega (
+          arith,
+          s.less j from less,
+          same_above j from (omega (arith, s.to)),
+          div-add-mod' (get_or xs j 0) (2 ^ l),
+          div-add-mod' v (2 ^ l),
+        ))
+        (cases_lt j first)
+
+    pub Reaches-bucket : k < length xs → Reaches xs v k
+    Reaches-bucket inside = record {
+      inside = inside;
+      at_least = ⊎_elim
+          (λ less. omega (
+            arith,
+            s.at_least k (omega arith) less,
+            same_above k s.from less,
+            div-add-mod' (get_or xs k 0) (2 ^ l),
+            div-add-mod' v (2 ^ l),
+          ))
+          (λ past. omega (arith, less_above v (get_or xs k 0) (2 ^ l) (pow_pos l) (to.above k past inside)))
+          (cases_lt k end);
+      before = less_before;
+    }
+
+    pub none-bucket : length xs ≤ k → (j : ℕ) → j < length xs → get_or xs j 0 < v
+    none-bucket past j inside = less_before j (omega arith)
+
+-- the bucket does not end before it begins
+pub bucket-order : (xs : List ℕ) (l h first end : ℕ) → CountsBelow xs l h first → CountsTo xs l h end → first ≤ end
+bucket-order xs l h first end before to =
+    ⊎_elim
+    (λ back.
+    let here : end ≤ end = omega arith in
+    absurd (omega (arith, before.below end back, to.above end here (omega (arith, before.bound)))))
+    (λ order. order)
+    (cases_lt end first)
+
+-- low digits do not fall in a bucket
+lows-rise : (xs : List ℕ) (l h first end i j : ℕ) → IsNonDecreasing xs → CountsBelow xs l h first → CountsTo xs l h end
+    → first ≤ i → i ≤ j → j < end → get_or xs i 0 % 2 ^ l ≤ get_or xs j 0 % 2 ^ l
+lows-rise xs l h first end i j rising before to from order less =
+    let upper_i : h ≤ get_or xs i 0 / 2 ^ l = before.above i from (omega (arith, to.bound)) in
+    let upper_j : h ≤ get_or xs j 0 / 2 ^ l = before.above j (omega arith) (omega (arith, to.bound)) in
+    let same : get_or xs i 0 / 2 ^ l ≡ get_or xs j 0 / 2 ^ l = omega (arith, to.below i (omega arith), to.below j less) in
+    let times : get_or xs i 0 / 2 ^ l * 2 ^ l ≡ get_or xs j 0 / 2 ^ l * 2 ^ l = ap (λ k. k * 2 ^ l) same in
+    omega (
+      arith,
+      rising i j 0 order (omega (arith, to.bound)),
+      div-add-mod' (get_or xs i 0) (2 ^ l),
+      div-add-mod' (get_or xs j 0) (2 ^ l),
+    )
+
+-- ---- the same of parts
+
+-- the two ends of the bucket of the value v, in a sequence with these parts, and where its low digits part
+pub record IsBucket (xs low : List ℕ) (l v first end k : ℕ) : Type 0 where
+  pub begins : CountsBelow xs l (v / 2 ^ l) first
+  pub ends : CountsTo xs l (v / 2 ^ l) end
+  pub splits : Splits (λ j. number_at (bits_of low) (j * l) l) first end (v % 2 ^ l) k
+
+module _ (xs : List ℕ) (n l : ℕ) (low upper : List ℕ) (h : ArePartsOf xs n l low upper) where
+  splits-items : (v first end k : ℕ) → IsBucket xs low l v first end k → Splits (λ j. get_or xs j 0 % 2 ^ l) first end (v % 2 ^ l) k
+  splits-items v first end k b =
+      Splits-same (λ j. number_at (bits_of low) (j * l) l) (λ j. get_or xs j 0 % 2 ^ l) first end (v % 2 ^ l) k
+      (λ j less. h.low_is.fragments j (omega (arith, b.ends.bound))) b.splits
+
+  pub bucket-reaches : (v first end k : ℕ) → IsBucket xs low l v first end k → k < n → Reaches xs v k
+  bucket-reaches v first end k b inside =
+      Reaches-bucket xs l v first end b.begins b.ends k (splits-items v first end k b) (omega (arith, h.count))
+
+  pub bucket-none : (v first end k : ℕ) → IsBucket xs low l v first end k → n ≤ k → All (λ x. x < v) xs
+  bucket-none v first end k b past j d inside =
+      omega (
+        arith,
+        get_or_default xs j d 0 inside,
+        none-bucket xs l v first end b.begins b.ends k (splits-items v first end k b) (omega (arith, h.count)) j inside,
+      )
+
+  -- fragments do not fall in a bucket
+  pub fragments-rise : (above first end i j : ℕ) → CountsBelow xs l above first → CountsTo xs l above end
+      → first ≤ i → i ≤ j → j < end → number_at (bits_of low) (i * l) l ≤ number_at (bits_of low) (j * l) l
+  fragments-rise above first end i j before to from order less =
+      omega (
+        arith,
+        lows-rise xs l above first end i j h.sequence.rising before to from order less,
+        h.low_is.fragments i (omega (arith, to.bound)),
+        h.low_is.fragments j (omega (arith, to.bound)),
+      )
+
+  pub fragments-inside : (above end : ℕ) → CountsTo xs l above end → end * l ≤ 64 * length low
+  fragments-inside above end to =
+      let room : end * l ≤ length xs * l = mul-le-mul_right l to.bound in
+      omega (arith, h.low_is.words)

@@ -1,0 +1,80 @@
+-- The items that the two vectors hold are those of the sequence.
+use Rattle.std.proofs.Common.{◌≡◌, ℕ, ◌+◌, ◌-◌, ◌*◌, ◌/◌, ◌^◌, ◌<◌, ◌≤◌, true, List, length, get_or, sym, refl, ap, ◌∙◌, arith, subst}
+use Rattle.std.proofs.lemmas.Grind.{same_number_lists}
+use Rattle.std.proofs.lemmas.List.FromFn.{length-map-range_with_len, get_or-map-range_with_len}
+use Rattle.std.proofs.lemmas.Nat.{div-add-mod'}
+use Rattle.bitm_bits.specs.Bits.{bits_of, IsShort}
+use Rattle.bitm_bits.specs.Count.{places, Picks}
+use Rattle.bitm_bits.specs.Laws.{DigitsBoundPowers}
+use Rattle.bitm_bits.specs.Number.{number_at}
+use Rattle.bitm_bits.specs.WriteLaws.{NoItemsAreZero}
+use Rattle.elias_fano.specs.Laws.{BitLaws}
+use Rattle.elias_fano.specs.Parts.{upper_place, IsLow, ArePartsOf, items_of}
+use Rattle.elias_fano.specs.Sequence.{largest}
+use Rattle.elias_fano.proofs.lemmas.SizeLemmas.{upper_few_at, width-small}
+use Rattle.elias_fano.proofs.lemmas.UpperLemmas.{place_of, place_is}
+
+-- what stands above the low digits, and these, are the item
+item_is : (xs : List ℕ) (l i p : ℕ) (low : List ℕ) → IsLow xs l low → i < length xs → p ≡ upper_place xs l i
+    → (p - i) * 2 ^ l + number_at (bits_of low) (i * l) l ≡ get_or xs i 0
+item_is xs l i p low h inside at =
+    let x = get_or xs i 0 in
+    let above : p - i ≡ x / 2 ^ l = omega arith in
+    ap (λ k. k * 2 ^ l + number_at (bits_of low) (i * l) l) above
+    ∙ ap (λ k. x / 2 ^ l * 2 ^ l + k) (h.fragments i inside)
+    ∙ div-add-mod' x (2 ^ l)
+
+-- the two vectors hold the sequence
+pub items_of-is : (xs : List ℕ) (n l : ℕ) (low upper : List ℕ) → ArePartsOf xs n l low upper → items_of n l low upper ≡ xs
+items_of-is xs n l low upper h =
+    same_number_lists (items_of n l low upper) xs len
+    (λ i less.
+    let inside : i < length xs = omega (arith, len) in
+    get_or-map-range_with_len item 0 n i i 0 (omega (arith, h.count)) (omega arith)
+    ∙ item_is xs l i (get_or (places true 0 (bits_of upper)) i 0) low h.low_is inside (place_of xs l upper i h.upper_is inside))
+  where
+    item : ℕ → ℕ
+    item i = (get_or (places true 0 (bits_of upper)) i 0 - i) * 2 ^ l + number_at (bits_of low) (i * l) l
+
+    len : length (items_of n l low upper) ≡ length xs
+    len = length-map-range_with_len item 0 n ∙ h.count
+
+-- so they are the vectors of what they hold
+pub parts_of_items : (xs : List ℕ) (n l : ℕ) (low upper : List ℕ) → ArePartsOf xs n l low upper
+    → ArePartsOf (items_of n l low upper) n l low upper
+parts_of_items xs n l low upper h =
+    let P : List ℕ → Type 0 = λ ys. ArePartsOf ys n l low upper in
+    subst P (sym (items_of-is xs n l low upper h)) h
+
+-- no low digits, and above them the whole
+pub joined-none : NoItemsAreZero → (above at w : ℕ) (low : List ℕ) → w ≡ 0
+    → above ≡ above * 2 ^ w + number_at (bits_of low) (at * w) w
+joined-none zero above at w low none =
+    let rest : number_at (bits_of low) (at * w) w ≡ 0 =
+    ap (λ k. number_at (bits_of low) (at * k) k) none ∙ zero (bits_of low) (at * 0) in
+    let whole : above * 2 ^ w ≡ above * 1 = ap (λ k. above * 2 ^ k) none in
+    omega arith
+
+-- the width and the upper vector of parts are small
+module _ (digits : DigitsBoundPowers) (xs : List ℕ) (n l : ℕ) (low upper : List ℕ) (h : ArePartsOf xs n l low upper) where
+  pub parts-width : l ≤ 63
+  parts-width = omega (arith, h.width, width-small digits xs h.sequence.small)
+
+  pub upper-short : IsShort upper
+  upper-short = omega (arith, h.upper_is.words, upper_few_at digits xs l (largest xs) h.width refl, h.sequence.short)
+
+-- one item, from the place that its rank picks
+module _ (laws : BitLaws) (xs : List ℕ) (n l : ℕ) (low upper : List ℕ) (i p : ℕ) (h : ArePartsOf xs n l low upper) (inside : i < n)
+    (here : Picks (bits_of upper) true i p) where
+  at : p ≡ upper_place xs l i
+  at = place_is laws.at_most_one_picked laws.places_are_picked xs l upper i p h.upper_is (omega (arith, h.count)) here
+
+  -- no place comes before as many ones
+  pub place-after : i ≤ p
+  place-after = omega (arith, at)
+
+  pub held-is : (p - i) * 2 ^ l + number_at (bits_of low) (i * l) l ≡ get_or xs i 0
+  held-is = item_is xs l i p low h.low_is (omega (arith, h.count)) at
+
+  pub held-fits : (p - i) * 2 ^ l + number_at (bits_of low) (i * l) l < 2 ^ 64
+  held-fits = omega (arith, held-is, h.sequence.small i 0 (omega (arith, h.count)))

@@ -1,0 +1,109 @@
+-- The ones of the upper vector: one more after all others, and which item each stands for.
+use Rattle.std.proofs.Common.{◌≡◌, ℕ, ◌+◌, ◌-◌, ◌*◌, ◌/◌, ◌^◌, ◌<◌, ◌≤◌, true, false, List, [], ◌∷◌, ◌++◌, length, get_or, replicate, sym, refl, ap, ◌∙◌, arith, subst, inr}
+use Rattle.std.proofs.Math.Nat.{div-mul-le_self}
+use Rattle.std.proofs.lemmas.List.FromFn.{map-range_with_len_more, length-map-range_with_len, get_or-map-range_with_len}
+use Rattle.std.proofs.lemmas.List.{length-replicate}
+use Rattle.std.proofs.lemmas.Nat.{pow_pos, le-div}
+use Rattle.std.specs.List.Sorted.{IsNonDecreasing}
+use Rattle.bitm_bits.specs.Bits.{bits_of, item}
+use Rattle.bitm_bits.specs.Count.{ones_before, Picks, places}
+use Rattle.bitm_bits.specs.Laws.{AtMostOnePicked, PlacesArePicked, PlacesAreCounted}
+use Rattle.bitm_bits.specs.Number.{with_number}
+use Rattle.elias_fano.specs.Laws.{BitLaws}
+use Rattle.elias_fano.specs.Parts.{upper_place, upper_places, upper_words_of, IsUpper}
+
+-- ---- where the one of an item stands
+
+-- items without their low digits do not fall
+upper-rises : (xs : List ℕ) (l j i : ℕ) → IsNonDecreasing xs → j ≤ i → i < length xs → get_or xs j 0 / 2 ^ l ≤ get_or xs i 0 / 2 ^ l
+upper-rises xs l j i rising order inside =
+    let no_less : get_or xs j 0 ≤ get_or xs i 0 = rising j i 0 order inside in
+    let whole : get_or xs j 0 / 2 ^ l * 2 ^ l ≤ get_or xs j 0 = div-mul-le_self (get_or xs j 0) (2 ^ l) in
+    le-div (get_or xs j 0 / 2 ^ l) (get_or xs i 0) (2 ^ l) (pow_pos l) (omega arith)
+
+-- a later item has its one at a later place
+pub upper_place-rises : (xs : List ℕ) (l j i : ℕ) → IsNonDecreasing xs → j < i → i < length xs → upper_place xs l j < upper_place xs l i
+upper_place-rises xs l j i rising less inside = omega (arith, upper-rises xs l j i rising (omega arith) inside)
+
+-- the one of an item is inside
+pub upper_place-inside : (xs : List ℕ) (l i : ℕ) → IsNonDecreasing xs → i < length xs → upper_place xs l i < 64 * upper_words_of xs l
+upper_place-inside xs l i rising inside =
+    let last = length xs - 1 in
+    let above : get_or xs i 0 / 2 ^ l ≤ get_or xs last 0 / 2 ^ l = upper-rises xs l i last rising (omega arith) (omega arith) in
+    omega arith
+
+-- item i of the places is that of item i
+pub place_of : (xs : List ℕ) (l : ℕ) (upper : List ℕ) (i : ℕ) → IsUpper xs l upper → i < length xs
+    → get_or (places true 0 (bits_of upper)) i 0 ≡ upper_place xs l i
+place_of xs l upper i h inside =
+    ap (λ ps. get_or ps i 0) h.ones ∙ get_or-map-range_with_len (upper_place xs l) 0 (length xs) i i 0 inside (omega arith)
+
+-- and there are as many places as items
+pub places_are : (xs : List ℕ) (l : ℕ) (upper : List ℕ) → IsUpper xs l upper → length (places true 0 (bits_of upper)) ≡ length xs
+places_are xs l upper h = ap length h.ones ∙ length-map-range_with_len (upper_place xs l) 0 (length xs)
+
+-- ---- which item a one stands for
+
+-- the place of an item is picked by its number
+pub one_is : PlacesArePicked → (xs : List ℕ) (l : ℕ) (upper : List ℕ) (i : ℕ) → IsUpper xs l upper → i < length xs
+    → Picks (bits_of upper) true i (upper_place xs l i)
+one_is picked xs l upper i h inside =
+    let P : ℕ → Type 0 = λ p. Picks (bits_of upper) true i p in
+    subst P (place_of xs l upper i h inside) (picked (bits_of upper) true i (omega (arith, places_are xs l upper h)))
+
+-- and no other place is
+pub place_is : AtMostOnePicked → PlacesArePicked → (xs : List ℕ) (l : ℕ) (upper : List ℕ) (i p : ℕ) → IsUpper xs l upper → i < length xs
+    → Picks (bits_of upper) true i p → p ≡ upper_place xs l i
+place_is one picked xs l upper i p h inside here =
+    one (bits_of upper) true i p (upper_place xs l i) here (one_is picked xs l upper i h inside)
+
+-- there are as many ones as items
+pub ones_are : PlacesAreCounted → (xs : List ℕ) (l : ℕ) (upper : List ℕ) → IsUpper xs l upper
+    → ones_before (bits_of upper) (length (bits_of upper)) ≡ length xs
+ones_are counted xs l upper h = sym (counted (bits_of upper) true) ∙ places_are xs l upper h
+
+-- ---- the ones of the first items
+
+-- the ones of the bits are those of the first k items, and each place after them is a zero
+pub record HasOnes (xs : List ℕ) (l k : ℕ) (upper : List ℕ) : Type 0 where
+  pub ones : places true 0 (bits_of upper) ≡ upper_places xs l k
+  pub zeros : (q : ℕ) → ((j : ℕ) → j < k → upper_place xs l j < q) → item (bits_of upper) q ≡ false
+
+module _ (laws : BitLaws) where
+  pub HasOnes-none : (xs : List ℕ) (l count : ℕ) (upper : List ℕ) → upper ≡ replicate count 0 → HasOnes xs l 0 upper
+  HasOnes-none xs l count upper is = record {
+    ones = no_places (places true 0 (bits_of upper)) (omega (arith, laws.places_are_counted (bits_of upper) true, none));
+    zeros = λ q _. zeros q;
+  }
+    where
+      zeros : (q : ℕ) → item (bits_of upper) q ≡ false
+      zeros q = ap (λ w. item (bits_of w) q) is ∙ laws.zeros_have_no_ones count q
+
+      no_places : (ps : List ℕ) → length ps ≡ 0 → ps ≡ []
+      no_places [] few = refl
+      no_places (p ∷ ps) few = absurd (omega arith)
+
+      none : ones_before (bits_of upper) (length (bits_of upper)) ≡ 0
+      none =
+          ap (λ w. ones_before (bits_of w) (length (bits_of upper))) is
+          ∙ (laws.zeros_are_counted count (length (bits_of upper))
+          (omega (arith, laws.bits_are_counted upper, ap length is, length-replicate {A = ℕ} count 0))).0
+
+  -- the one of the next item
+  pub HasOnes-more : (xs : List ℕ) (l i : ℕ) (old new : List ℕ) → IsNonDecreasing xs → i < length xs → upper_place xs l i < 64 * length old
+      → HasOnes xs l i old → bits_of new ≡ with_number (bits_of old) (upper_place xs l i) 1 1 → HasOnes xs l (i + 1) new
+  HasOnes-more xs l i old new rising here room h after = record {
+    ones = ap (places true 0) after
+        ∙ laws.last_one_is_set (bits_of old) p inside (λ q le. h.zeros q (λ j less. omega (arith, upper_place-rises xs l j i rising less here)))
+        ∙ ap (λ ps. ps ++ p ∷ []) h.ones
+        ∙ sym (map-range_with_len_more (upper_place xs l) 0 i i (omega arith));
+    zeros = λ q all. ap (λ b. item b q) after
+        ∙ laws.item_beside_is_kept (bits_of old) p 1 1 q (omega (arith, inside)) (inr (omega (arith, all i (omega arith))))
+        ∙ h.zeros q (λ j less. all j (omega arith));
+  }
+    where
+      p : ℕ
+      p = upper_place xs l i
+
+      inside : p < length (bits_of old)
+      inside = omega (arith, laws.bits_are_counted old)

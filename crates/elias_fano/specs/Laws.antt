@@ -1,0 +1,67 @@
+-- What the definitions say of one another. Each law is the contract of a function of `laws`.
+use Rattle.std.specs.Prelude.{◌≡◌, ℕ, ◌+◌, ◌*◌, ◌<◌, ◌≤◌, ◌↔◌, true, List, length, slice_index}
+use Rattle.std.specs.List.Sorted.{IsNonDecreasing}
+use Rattle.bitm_bits.specs.Bits.{bits_of}
+use Rattle.bitm_bits.specs.Count.{ones_before, Picks}
+use Rattle.bitm_bits.specs.Laws.{ReadAfterWrite, DigitsBoundPowers, OnesAndZeros, CountsGrow, CountAfterItem}
+use Rattle.bitm_bits.specs.Laws.{AtMostOnePicked, PlacesArePicked, PlacesAreCounted}
+use Rattle.bitm_bits.specs.WriteLaws.{BitsAreCounted, ZerosHaveNoOnes, ZerosAreCounted, ZerosAreZero, NoItemsAreZero}
+use Rattle.bitm_bits.specs.WriteLaws.{ItemBesideIsKept, NumberBesideIsKept, LastOneIsSet}
+use Rattle.elias_fano.specs.Parts.{upper_place, width_of, low_words_of, upper_words_of, IsUpper, ArePartsOf, items_of}
+use Rattle.elias_fano.specs.Sequence.{Reaches}
+
+-- ---- sequences
+
+-- an item is at least v exactly from the first such place on
+abbrev pub ReachedFromThere : Type 0
+ReachedFromThere =
+    (xs : List ℕ) (v i j : ℕ) → IsNonDecreasing xs → Reaches xs v i → j < length xs → (v ≤ slice_index xs j) ↔ (i ≤ j)
+
+-- the first place that reaches an item is the least place of an item equal to it
+abbrev pub FirstOfEqual : Type 0
+FirstOfEqual =
+    (xs : List ℕ) (i k : ℕ) → IsNonDecreasing xs → i < length xs → Reaches xs (slice_index xs i) k
+    → (slice_index xs k ≡ slice_index xs i) × ((j : ℕ) → slice_index xs j ≡ slice_index xs i → j < length xs → k ≤ j)
+
+-- ---- the two vectors
+
+-- the upper vector has as many ones as there are items
+abbrev pub OneForEachItem : Type 0
+OneForEachItem =
+    (xs : List ℕ) (l : ℕ) (upper : List ℕ) → IsUpper xs l upper → ones_before (bits_of upper) (length (bits_of upper)) ≡ length xs
+
+-- rank i picks the place of item i there
+abbrev pub ItemsArePicked : Type 0
+ItemsArePicked =
+    (xs : List ℕ) (l : ℕ) (upper : List ℕ) (i p : ℕ) → IsUpper xs l upper → i < length xs
+    → Picks (bits_of upper) true i p → p ≡ upper_place xs l i
+
+-- the parts of a sequence hold its items and no others
+abbrev pub PartsHoldItems : Type 0
+PartsHoldItems = (xs : List ℕ) (n l : ℕ) (low upper : List ℕ) → ArePartsOf xs n l low upper → items_of n l low upper ≡ xs
+
+-- the two vectors of n items with l low digits have n * (l + 3) + 126 bits at most
+abbrev pub PartsAreSmall : Type 0
+PartsAreSmall =
+    (xs : List ℕ) → 64 * (low_words_of xs (width_of xs) + upper_words_of xs (width_of xs)) ≤ length xs * (width_of xs + 3) + 126
+
+-- ---- what the proofs of this crate know of bits
+
+-- the laws of bits that they cite: of words and zeros, of writes, of counts and picks, of digits
+pub record BitLaws : Type 0 where
+  pub bits_are_counted : BitsAreCounted
+  pub zeros_have_no_ones : ZerosHaveNoOnes
+  pub zeros_are_counted : ZerosAreCounted
+  pub zeros_are_zero : ZerosAreZero
+  pub no_items_are_zero : NoItemsAreZero
+  pub read_after_write : ReadAfterWrite
+  pub item_beside_is_kept : ItemBesideIsKept
+  pub number_beside_is_kept : NumberBesideIsKept
+  pub last_one_is_set : LastOneIsSet
+  pub ones_and_zeros : OnesAndZeros
+  pub counts_grow : CountsGrow
+  pub count_after_item : CountAfterItem
+  pub at_most_one_picked : AtMostOnePicked
+  pub places_are_picked : PlacesArePicked
+  pub places_are_counted : PlacesAreCounted
+  pub digits_bound_powers : DigitsBoundPowers

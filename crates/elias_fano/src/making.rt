@@ -1,0 +1,103 @@
+//! The two vectors of a sequence, each made in one pass over the numbers.
+ghost use Rattle.std.specs.Prelude.{◌≡◌, ◌+◌, ◌*◌, ◌/◌, ◌^◌, ◌<◌, ◌≤◌, length, replicate, IfOk};
+ghost use Rattle.std.specs.Box.{boxed_slice_items};
+ghost use Rattle.std.specs.List.Sorted.{IsNonDecreasing};
+ghost use Rattle.elias_fano.specs.Parts.{width_of, low_words_of, upper_words_of, IsLow, IsUpper};
+ghost use Rattle.elias_fano.specs.Sequence.{largest, IsSequence};
+
+use crate::laws;
+use bitm::{BitVec, bits_to_store, n_lowest_bits, words};
+use std::alloc::{AllocError, Global};
+use std::boxed::BoxedSlice;
+
+/// The last number, which is the largest; 0 where there is none.
+pub(crate) fn largest_of(items: &[u64]) -> u64
+    ensures { result ≡ largest items.now }
+{
+    match items.last() {
+        Some(last) => *last,
+        None => 0,
+    }
+}
+
+/// How many digits of each number are low ones.
+pub(crate) fn width_for(items: &[u64]) -> u8
+    ensures { result ≡ width_of items.now }
+{
+    bitm::laws::digits_bound_powers();
+    if items.is_empty() {
+        return 0;
+    }
+    bits_to_store(largest_of(items) / items.len() as u64).saturating_sub(1)
+}
+
+/// The low digits of each number, one number after another.
+///
+/// # Errors
+/// `AllocError` where memory was refused.
+pub(crate) fn make_low(
+    alloc: Global,
+    items: &[u64],
+    width: u8,
+) -> Result<BoxedSlice<u64, Global>, AllocError>
+    requires sequence { IsSequence items.now }
+    requires width { width ≤ 63 }
+    ensures { IfOk result (λ low. IsLow items.now width (boxed_slice_items low)) }
+{
+    let mut low = BoxedSlice::with_zeroed_bits(alloc, items.len() * width as usize)?;
+    write_low(low.as_mut_slice(), items, width);
+    Ok(low)
+}
+
+/// Writes the low digits of each number, where all bits are zeros.
+#[inline]
+fn write_low(low: &mut [u64], items: &[u64], width: u8)
+    requires width { width ≤ 63 }
+    requires short { length items.now < 2 ^ 56 }
+    requires clear { low.old ≡ replicate (low_words_of items.now width) 0 }
+    ensures { IsLow items.now width low.new }
+{
+    laws::bit_laws();
+    if width == 0 {
+        return;
+    }
+    let mask = n_lowest_bits(width);
+    for i in 0..items.len() {
+        words::init_fragment(low, i, items[i] & mask, width);
+    }
+}
+
+/// A one for each number, after as many zeros as it says without its low digits.
+///
+/// # Errors
+/// `AllocError` where memory was refused.
+pub(crate) fn make_upper(
+    alloc: Global,
+    items: &[u64],
+    width: u8,
+) -> Result<BoxedSlice<u64, Global>, AllocError>
+    requires sequence { IsSequence items.now }
+    requires width { width ≡ width_of items.now }
+    ensures { IfOk result (λ upper. IsUpper items.now width (boxed_slice_items upper)) }
+{
+    laws::bit_laws();
+    let len = items.len() + (largest_of(items) >> width) as usize + 1;
+    let mut upper = BoxedSlice::with_zeroed_bits(alloc, len)?;
+    write_upper(upper.as_mut_slice(), items, width);
+    Ok(upper)
+}
+
+/// Writes a one for each number, where all bits are zeros.
+#[inline]
+fn write_upper(upper: &mut [u64], items: &[u64], width: u8)
+    requires width { width ≤ 63 }
+    requires rising { IsNonDecreasing items.now }
+    requires short { upper_words_of items.now width < 2 ^ 58 }
+    requires clear { upper.old ≡ replicate (upper_words_of items.now width) 0 }
+    ensures { IsUpper items.now width upper.new }
+{
+    laws::bit_laws();
+    for i in 0..items.len() {
+        words::set_bit(upper, (items[i] >> width) as usize + i);
+    }
+}
