@@ -1,13 +1,50 @@
 //! Rank over a source, with a bound on its reads.
-ghost use Rattle.std.specs.Prelude.{◌≡◌};
+ghost use Rattle.std.specs.Prelude.{◌≡◌, ◌+◌, ◌*◌, ◌<◌, ◌≤◌, length};
 ghost use Rattle.bitm_bits.specs.Bits.{bits_of, IsShort};
-ghost use Rattle.bitm_bits.specs.Count.{IsRank};
+ghost use Rattle.bitm_bits.specs.Count.{ones_before, IsRank};
 ghost use Rattle.bitm.specs.Reads.{ReadsAtMost};
 ghost use Rattle.bitm.specs.Tables.{HasTables};
 
 use crate::probe::entry::{ones_to_entry, ones_to_record};
 use crate::probe::source::TableSource;
 use crate::rank::word::ones_through;
+use crate::select::levels::U64_PER_L2_RECORDS;
+
+/// So many words, 1 MiB, stay in a processor's own cache. Past that a rank waits for its words, and more ranks wait side
+/// by side if each takes no more instructions than it needs.
+const WORDS_IN_CACHE: usize = 1 << 17;
+
+/// How many ones stand in the record that begins at word `first`, before word `end` of it.
+///
+/// Seven words are counted in a straight line, and those from `end` on are left out by a move: a loop up to `end` would
+/// be left at another turn each time. Only a record that the content cuts off has such a loop, and a large content.
+#[inline(always)]
+fn ones_in_record<T: TableSource>(source: &mut T, first: usize, end: usize) -> usize
+    requires short { IsShort (T.lists source.old).words }
+    requires order { first ≤ end }
+    requires near { end < first + 8 }
+    requires inside { end < length (T.lists source.old).words }
+    ensures ones { let b = bits_of (T.lists source.old).words in
+        ones_before b (64 * first) + result ≡ ones_before b (64 * end) }
+    ensures reads { ReadsAtMost (T.reads source.old) (T.reads source.new) 0 0 7 }
+    ensures same { T.lists source.new ≡ T.lists source.old }
+{
+    let mut ones = 0;
+    let len = source.words_len();
+    if len <= WORDS_IN_CACHE && first + U64_PER_L2_RECORDS <= len {
+        for k in 0..7 {
+            let count = source.word(first + k).count_ones() as usize;
+            if first + k < end {
+                ones += count;
+            }
+        }
+    } else {
+        for at in first..end {
+            ones += source.word(at).count_ones() as usize;
+        }
+    }
+    ones
+}
 
 /// How many of the first `index` bits of the source's words are ones; `None` exactly where there are fewer bits.
 ///
@@ -36,8 +73,6 @@ pub fn rank_on<T: TableSource>(source: &mut T, index: usize) -> Option<usize>
     let entry = source.lower(last / 2048);
     rank += ones_to_entry(entry);
     rank += ones_to_record(entry, last / 512 % 4);
-    for at in last / 512 * 8..last / 64 {
-        rank += source.word(at).count_ones() as usize;
-    }
+    rank += ones_in_record(source, last / 512 * 8, last / 64);
     Some(rank + ones_through(source.word(last / 64), last % 64) as usize)
 }

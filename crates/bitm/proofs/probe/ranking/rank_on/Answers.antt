@@ -1,15 +1,14 @@
--- The two entries count up to the record, each whole word adds its ones, and so does the low part of the last one.
-use Rattle.std.proofs.Common.{◌≡◌, ℕ, ◌+◌, ◌-◌, ◌*◌, ◌/◌, ◌%◌, ◌^◌, ◌<◌, ◌≤◌, length, slice_index, ap, refl, ◌∙◌, arith, count_ones}
+-- The two entries count up to the record, its words add their ones, and so does the low part of the last one.
+use Rattle.std.proofs.Common.{◌≡◌, ◌+◌, ◌-◌, ◌*◌, ◌/◌, ◌%◌, ◌^◌, ◌<◌, ◌≤◌, length, slice_index, ap, ◌∙◌, arith, subst}
 use Rattle.bitm_bits.specs.Bits.{bits_of}
 use Rattle.bitm_bits.specs.Count.{ones_before}
 use Rattle.bitm.specs.Entry.{field_0}
 use Rattle.bitm.specs.Tables.{Lists}
-use Rattle.bitm.specs.declared.probe.counts.ReadCounts.{ReadCounts}
 use Rattle.bitm.proofs.lemmas.RankLemmas.{last_of, rank_inside, rank_outside, rank_of_none}
-use Rattle.bitm.proofs.lemmas.StretchLemmas.{ones_before-self, word_more, word_through}
+use Rattle.bitm.proofs.lemmas.StretchLemmas.{ones_before-self, word_through}
 use Rattle.bitm.proofs.lemmas.TableLemmas.{upper_inside, lower_inside, tables_sum}
 use Rattle.bitm.proofs.probe.ranking.rank_on.Goals as goal
-use Rattle.bitm.proofs.probe.ranking.rank_on.Goals.{After-lower-entry, After-word, After-ones_through}
+use Rattle.bitm.proofs.probe.ranking.rank_on.Goals.{After-lower-entry, After-ones_in_record-rank, After-ones_through}
 
 pub returns-then-index-eq0-clause-answer : goal.returns-then-index-eq0-clause-answer
 returns-then-index-eq0-clause-answer g c = rank_of_none _ c.args.index (omega arith)
@@ -44,53 +43,52 @@ overflow_add-rank-2 g c =
     let d = (goal.at.overflow_add-rank-2 g c).After-lower-entry in
     omega (arith, sum g d, at_most g d, c.ones_to_entry-rank.ensures, c.ones_to_record-rank.ensures)
 
-pub loop-at-init : goal.loop-at-init
-loop-at-init g c =
-    let d = (goal.at.loop-at-init g c).After-lower-entry in
-    record {
-      rank = omega (arith, sum g d, c.ones_to_entry-rank.ensures, c.ones_to_record-rank.ensures);
-      words = refl {A = ℕ};
-      upper = refl {A = ℕ};
-      lower = refl {A = ℕ};
-      same = c.lower-entry.ensures.same ∙ c.upper-rank.ensures.same;
-    }
+ones_to : (g : _) (c : After-ones_in_record-rank g)
+    → ones_before (bits_of (g.T.TableSource.lists c.args.source.now).words) (64 * (last_of c.args.index / 512 * 8)) + c.ones_in_record-rank.result
+    ≡ ones_before (bits_of (g.T.TableSource.lists c.args.source.now).words) (64 * (last_of c.args.index / 64))
+ones_to g c =
+    subst
+    (λ (l : Lists).
+    ones_before (bits_of l.words) (64 * (last_of c.args.index / 512 * 8)) + c.ones_in_record-rank.result
+    ≡ ones_before (bits_of l.words) (64 * (last_of c.args.index / 64)))
+    (c.lower-entry.ensures.same ∙ c.upper-rank.ensures.same) c.ones_in_record-rank.ensures.ones
 
-more : (g : _) (c : After-word g)
-    → ones_before (bits_of (g.T.TableSource.lists c.args.source.now).words) (64 * c.loop-at.at) + count_ones c.word.result
-    ≡ ones_before (bits_of (g.T.TableSource.lists c.args.source.now).words) (64 * (c.loop-at.at + 1))
-more g c =
-    word_more _ c.loop-at.at c.word.result (omega arith) c.word.type_inv
-    (c.word.ensures.item ∙ ap (λ (l : Lists). slice_index l.words c.loop-at.at) c.loop-at.invariant.same)
-
-pub overflow_add-rank-in-loop-at : goal.overflow_add-rank-in-loop-at
-overflow_add-rank-in-loop-at g c =
-    let self = ones_before-self (bits_of (g.T.TableSource.lists c.args.source.now).words) (64 * (c.loop-at.at + 1)) in
-    omega (arith, c.loop-at.invariant.rank, more g c, self)
-
-pub loop-at-preserved : goal.loop-at-preserved
-loop-at-preserved g c =
-    let e = c.word.ensures in
-    let i = c.loop-at.invariant in
-    record {
-      rank = omega (arith, i.rank, more g c);
-      words = omega (arith, ap (λ (r : ReadCounts). r.words) e.counted, i.words);
-      upper = ap (λ (r : ReadCounts). r.upper) e.counted ∙ i.upper;
-      lower = ap (λ (r : ReadCounts). r.lower) e.counted ∙ i.lower;
-      same = e.same ∙ i.same;
-    }
+pub overflow_add-rank-3 : goal.overflow_add-rank-3
+overflow_add-rank-3 g c =
+    let d = (goal.at.overflow_add-rank-3 g c).After-ones_in_record-rank in
+    let e = (goal.at.overflow_add-rank-3 g c).After-lower-entry in
+    omega (
+      arith,
+      sum g e,
+      ones_to g d,
+      c.ones_to_entry-rank.ensures,
+      c.ones_to_record-rank.ensures,
+      ones_before-self (bits_of (g.T.TableSource.lists c.args.source.now).words) (64 * (last_of c.args.index / 64)),
+    )
 
 inside : (g : _) (c : After-ones_through g)
     → (last_of c.args.index + 1 ≡ c.args.index) × (c.args.index ≤ length (bits_of (g.T.TableSource.lists c.args.source.now).words))
 inside g c = rank_inside _ c.args.index (omega (arith, c.ranges.index)) c.requires.short (omega arith)
 
 total : (g : _) (c : After-ones_through g)
-    → c.loop-at.rank + c.ones_through.result ≡ ones_before (bits_of (g.T.TableSource.lists c.args.source.now).words) c.args.index
+    → c.upper-rank.result + c.ones_to_entry-rank.result + c.ones_to_record-rank.result + c.ones_in_record-rank.result + c.ones_through.result
+    ≡ ones_before (bits_of (g.T.TableSource.lists c.args.source.now).words) c.args.index
 total g c =
-    let at : c.loop-at.at ≡ last_of c.args.index / 64 = omega arith in
-    let part = word_through _ (last_of c.args.index) c.word-2.result (omega arith)
-    (c.word-2.ensures.item ∙ ap (λ (l : Lists). slice_index l.words (last_of c.args.index / 64)) c.loop-at.invariant.same) in
-    let rank = rw at at c.loop-at.invariant.rank in
-    omega (arith, rank, part, c.ones_through.ensures, ap (ones_before (bits_of (g.T.TableSource.lists c.args.source.now).words)) (inside g c).0)
+    let d = (goal.at.returns-clause-answer g c).After-ones_in_record-rank in
+    let e = (goal.at.returns-clause-answer g c).After-lower-entry in
+    let same = c.ones_in_record-rank.ensures.same ∙ c.lower-entry.ensures.same ∙ c.upper-rank.ensures.same in
+    let part = word_through _ (last_of c.args.index) c.word.result (omega arith)
+    (c.word.ensures.item ∙ ap (λ (l : Lists). slice_index l.words (last_of c.args.index / 64)) same) in
+    omega (
+      arith,
+      sum g e,
+      ones_to g d,
+      c.ones_to_entry-rank.ensures,
+      c.ones_to_record-rank.ensures,
+      part,
+      c.ones_through.ensures,
+      ap (ones_before (bits_of (g.T.TableSource.lists c.args.source.now).words)) (inside g c).0,
+    )
 
 pub overflow_add-result : goal.overflow_add-result
 overflow_add-result g c =
