@@ -1,5 +1,5 @@
 //! What an index keeps and counts: its tables, its size, and ranks of a few contents.
-use crate::asking::ranked;
+use uses::asking::ranked;
 use crate::plain::{indexed, owned};
 use bitm::{
     BinaryRankSearch, BitAccess, BitAccessMut, BitVec, GetSize, Rank, RankSelect101111, Select,
