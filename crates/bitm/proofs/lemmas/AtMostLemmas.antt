@@ -29,12 +29,17 @@ highest_left r s below =
           ap count_ones (and_pow (left r s) 7 ∙ e) ∙ highest_alone.0 ∙ ap (λ b. cond b 1 0) (sym (le-leb s r less))
     ]
 
+-- 128 + r in each byte, as the code makes it
+pub bound_is : (r : ℕ) → r ≤ 63 → bit_or (r * 0x0101010101010101) 0x8080808080808080 ≡ (128 + r) * 0x0101010101010101
+bound_is r below =
+    ap₂ bit_or (sym (in_each_byte r 0)) (sym (in_each_byte 0x80 0))
+    ∙ map_fields-or 8 8 (λ s. r) (λ s. 0x80) 0 (record { below = λ v b. omega arith }) (record { below = λ v b. omega arith })
+    ∙ map_fields-same 8 8 (λ s. bit_or r 0x80) (λ s. 128 + r) 0 (λ v b. or_shifted_r 1 7 r (omega arith))
+    ∙ in_each_byte (128 + r) 0
+
 module _ (x r : ℕ) (fits : x < 2 ^ 64) (small : All (λ s. s ≤ 64) (low_bytes 8 x)) (below : r ≤ 63) where
   from : bit_or (r * 0x0101010101010101) 0x8080808080808080 ≡ map_fields 8 8 (λ s. 128 + r) x
-  from =
-      ap₂ bit_or (sym (in_each_byte r x)) (sym (in_each_byte 0x80 x))
-      ∙ map_fields-or 8 8 (λ s. r) (λ s. 0x80) x (record { below = λ v b. omega arith }) (record { below = λ v b. omega arith })
-      ∙ map_fields-same 8 8 (λ s. bit_or r 0x80) (λ s. 128 + r) x (λ v b. or_shifted_r 1 7 r (omega arith))
+  from = bound_is r below ∙ sym (in_each_byte (128 + r) x)
 
   capped : x ≡ map_fields 8 8 (λ s. min s 64) x
   capped = sym (self x fits) ∙ map_fields-same_bytes 8 (λ s. s) (λ s. min s 64) x (λ k d inside. omega (arith, small k d inside))

@@ -1,11 +1,14 @@
 -- The byte of a word in which the one of a rank stands, from the sums of its bytes, and the bit of that byte, likewise.
-use Rattle.std.proofs.Common.{◌≡◌, ℕ, zero, suc, ◌+◌, ◌-◌, ◌*◌, ◌/◌, ◌%◌, ◌^◌, ◌<◌, ◌≤◌, nat_le, count_by, count_ones, All, get_or, bit_and, refl, sym, ap, subst₂, true, ◌==◌, ◌∙◌, arith, add-one, zero-add, eqb-true}
+use Rattle.std.proofs.Common.{Bool, cond, nat_lt, ◌&&◌, bit_or, ◌≡◌, ℕ, zero, suc, ◌+◌, ◌-◌, ◌*◌, ◌/◌, ◌%◌, ◌^◌, ◌<◌, ◌≤◌, nat_le, count_by, count_ones, All, get_or, bit_and, refl, sym, ap, subst, subst₂, true, ◌==◌, ◌∙◌, arith, add-one, eqb-true}
+use Rattle.std.proofs.lemmas.Bool.{le-leb, leb-true, ltb-true, and_parts}
 use Rattle.std.proofs.lemmas.List.Elements.{All-from_get_or}
-use Rattle.std.proofs.lemmas.Nat.{field_of, shr-shr, and_mask, shl-shr}
+use Rattle.std.proofs.lemmas.Nat.{and_le_r, field_of, shr-shr, and_mask, shl-shr}
 use Rattle.std.proofs.Math.Pow.{mod-mod-pow}
 use Rattle.std.specs.Int.Count.{ones, ones_in}
+use Rattle.bitm.proofs.lemmas.AtMostLemmas.{bound_is}
 use Rattle.bitm.proofs.lemmas.ByteLemmas.{length-low_bytes, get_or-low_bytes, AreValuesOf, located}
 use Rattle.bitm.proofs.lemmas.ByteSumLemmas.{all_below, all_below-at}
+use Rattle.bitm.proofs.lemmas.FieldLemmas.{sum_fields, sum_fields-count_ones}
 use Rattle.bitm.proofs.lemmas.InWordLemmas.{ones_before-low_digits, ones_before-low_digits_rises, ones_before-low_digits_none, ones_before-low_digits_few, ones_before-low_digits_above, picked_in_digits, picked_above}
 use Rattle.bitm.specs.Word.{low_bytes}
 use Rattle.bitm_bits.specs.Bits.{low_digits}
@@ -101,46 +104,67 @@ module _ (n sums : ℕ) (sums-are : AreSumsOf n sums) where
 
 -- ---- the bit of a byte
 
--- byte k is the number of ones in bits 0 to k of v
+-- byte k is the number of ones in bits 0 to k of v, for the first seven bits
 abbrev pub bit_sums : ℕ → ℕ
-bit_sums v =
-    let spread = bit_and (v * 0x0101010101010101) 0x8040201008040201 in
-    let flags = bit_and ((spread + 0x7F7F7F7F7F7F7F7F) / 128) 0x0101010101010101 in
-    flags * 0x0101010101010101 % 2 ^ 64
+bit_sums v = bit_and (bit_and v 0x7F * 0x0002040810204081) 0x0101010101010101 * 0x0101010101010101 % 2 ^ 64
 
-bit_sums_in_table : (v k : ℕ) → v < 256 → k < 8 → get_or (low_bytes 8 (bit_sums v)) k 0 ≡ count_ones (v % 2 ^ (k + 1))
-unfolding all_below low_bytes ones ones_in
-bit_sums_in_table v k fits inside =
-    let passes = λ (u i : ℕ). get_or (low_bytes 8 (bit_sums u)) i 0 == count_ones (u % 2 ^ (i + 1)) in
-    let row = all_below-at (λ u. all_below (passes u) 8) 256 v refl fits in
-    eqb-true _ _ (all_below-at (passes v) 8 k row inside)
+-- how many of these are at most r
+abbrev pub bits_at_most : ℕ → ℕ → ℕ
+bits_at_most v r = count_ones (bit_and ((128 + r) * 0x0101010101010101 - bit_sums v) 0x0080808080808080)
 
-bit_sums_are : (v k : ℕ) → v < 256 → k < 8 → get_or (low_bytes 8 (bit_sums v)) k 0 ≡ ones_before (low_digits 8 v) (k + 1)
-bit_sums_are v k fits inside = bit_sums_in_table v k fits inside ∙ sym (ones_before-low_digits 8 (k + 1) v (omega arith))
+-- p bits stand before the one of rank r, where v has more than r ones
+is_placed_at : ℕ → ℕ → ℕ → Bool
+is_placed_at v r p = cond (nat_lt r (count_ones v)) (nat_lt p 8 && ((count_ones (v % 2 ^ p) == r) && (count_ones (v % 2 ^ (p + 1)) == r + 1))) true
 
--- the ones before bit k
-ones_before_bit : ℕ → ℕ → ℕ
-ones_before_bit v k = ones_before (low_digits 8 v) k
+highest_bits : ℕ → ℕ → ℕ
+highest_bits v r = bit_and ((128 + r) * 0x0101010101010101 - bit_sums v) 0x0080808080808080
 
-module _ (v : ℕ) (fits : v < 256) where
-  pub bit_sums_small : All (λ s. s ≤ 64) (low_bytes 8 (bit_sums v))
-  bit_sums_small = All-from_get_or (λ s. s ≤ 64) (low_bytes 8 (bit_sums v)) 0 (λ k inside.
-      let bit : k < 8 = omega (arith, length-low_bytes 8 (bit_sums v)) in
-      let rise = ones_before-low_digits_rises 8 v 0 (k + 1) (omega arith) in
-      omega (arith, bit_sums_are v k fits bit, ones_before-low_digits_none 8 v, ap (ones_before (low_digits 8 v)) (zero-add (k + 1))))
+is_placed : ℕ → ℕ → Bool
+is_placed v r = is_placed_at v r (sum_fields 8 7 count_ones (highest_bits v r))
 
-  pub picked_in_byte : (r c : ℕ) → r < ones_before (low_digits 8 v) 8 → c ≡ count_by (λ s. nat_le s r) (low_bytes 8 (bit_sums v))
-      → Picks (low_digits 8 v) true r c
-  unfolding ones_before_bit
-  picked_in_byte r c below counted =
-      let one_more : (k : ℕ) → ones_before (low_digits 8 v) (k + 1) ≡ ones_before (low_digits 8 v) (suc k) =
-      λ k. ap (ones_before (low_digits 8 v)) (add-one k) in
-      let values : AreValuesOf (ones_before_bit v) 7 (low_bytes 8 (bit_sums v)) =
-      record {
-        size = length-low_bytes 8 (bit_sums v);
-        items = λ k h. bit_sums_are v k fits (omega arith) ∙ one_more k;
-        rises = λ k h. omega (arith, ones_before-low_digits_rises 8 v k 1 (omega arith), one_more k);
-      } in
-      let low : ones_before (low_digits 8 v) 0 ≤ r = omega (arith, ones_before-low_digits_none 8 v) in
-      let at = located (ones_before_bit v) 7 (low_bytes 8 (bit_sums v)) values r c low below counted in
-      picked_in_digits 8 v r c (omega arith) at.1 (omega (arith, at.2, one_more c))
+is_placed_in_table : (v r : ℕ) → v < 256 → r < 8 → is_placed v r ≡ true
+unfolding all_below ones ones_in is_placed is_placed_at highest_bits sum_fields
+is_placed_in_table v r fits inside =
+    let row = λ (a : ℕ). all_below (λ b. all_below (is_placed (16 * a + b)) 8) 16 in
+    let high = all_below-at row 16 (v / 16) refl (omega arith) in
+    let low = all_below-at (λ b. all_below (is_placed (16 * (v / 16) + b)) 8) 16 (v % 16) high (omega arith) in
+    let split : 16 * (v / 16) + v % 16 ≡ v = omega arith in
+    subst (λ u. is_placed u r ≡ true) split (all_below-at (is_placed (16 * (v / 16) + v % 16)) 8 r low inside)
+
+bit_sums_few : (v : ℕ) → v < 256 → bit_sums v ≤ 7 * 0x0101010101010101
+unfolding all_below
+bit_sums_few v fits = leb-true _ _ (all_below-at (λ u. nat_le (bit_sums u) (7 * 0x0101010101010101)) 256 v refl fits)
+
+pub picked_in_byte : (v r : ℕ) → v < 256 → r < ones_before (low_digits 8 v) 8 → Picks (low_digits 8 v) true r (bits_at_most v r)
+unfolding is_placed is_placed_at highest_bits
+picked_in_byte v r fits below =
+    let p = bits_at_most v r in
+    let kept = highest_bits v r in
+    let few : kept % 2 ^ (7 * 8) ≡ kept = omega (arith, and_le_r ((128 + r) * 0x0101010101010101 - bit_sums v) 0x0080808080808080) in
+    let counted : sum_fields 8 7 count_ones kept ≡ p = sum_fields-count_ones 8 7 kept ∙ ap count_ones few in
+    let whole : v % 2 ^ 8 ≡ v = omega arith in
+    let ones = ones_before-low_digits 8 8 v (omega arith) ∙ ap count_ones whole in
+    let some : r < count_ones v = omega arith in
+    let row = subst (λ q. is_placed_at v r q ≡ true) counted (is_placed_in_table v r fits (omega (arith, ones_before-low_digits_few 8 v))) in
+    let low = count_ones (v % 2 ^ p) == r in
+    let high = count_ones (v % 2 ^ (p + 1)) == r + 1 in
+    let placed = nat_lt p 8 && (low && high) in
+    let all : placed ≡ true = subst (λ b. cond b placed true ≡ true) (le-leb (suc r) (count_ones v) some) row in
+    let parts = and_parts (nat_lt p 8) (low && high) all in
+    let counts = and_parts low high parts.1 in
+    let inside : p < 8 = ltb-true p 8 parts.0 in
+    picked_in_digits 8 v r p inside
+    (omega (arith, ones_before-low_digits 8 p v (omega arith), eqb-true (count_ones (v % 2 ^ p)) r counts.0))
+    (omega (arith, ones_before-low_digits 8 (p + 1) v (omega arith), eqb-true (count_ones (v % 2 ^ (p + 1))) (r + 1) counts.1))
+
+-- on top of the ones before the byte, and compared with the whole rank, it is the same
+pub bits_compared : (v before rank : ℕ) → v < 256 → before ≤ rank → rank ≤ 63 →
+    let sums = (bit_and (bit_and v 0x7F * 0x0002040810204081) 0x0101010101010101 + before) * 0x0101010101010101 % 2 ^ 64 in
+    (sums ≤ bit_or (rank * 0x0101010101010101) 0x8080808080808080)
+    × (bit_or (rank * 0x0101010101010101) 0x8080808080808080 - sums ≡ (128 + (rank - before)) * 0x0101010101010101 - bit_sums v)
+bits_compared v before rank fits order below =
+    let flags = bit_and (bit_and v 0x7F * 0x0002040810204081) 0x0101010101010101 in
+    let bound = bound_is rank below in
+    let few = bit_sums_few v fits in
+    let split : (flags + before) * 0x0101010101010101 % 2 ^ 64 ≡ bit_sums v + before * 0x0101010101010101 = omega arith in
+    (omega arith, omega arith)

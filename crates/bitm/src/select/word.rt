@@ -1,5 +1,5 @@
 //! Selection in a word, by arithmetic on all its bytes at once: no table, no loop and no branch.
-ghost use Rattle.std.specs.Prelude.{◌≡◌, ℕ, ◌<◌, ◌≤◌, ◌+◌, ◌*◌, slice_index, count_by, nat_le, All, true};
+ghost use Rattle.std.specs.Prelude.{◌≡◌, ℕ, ◌<◌, ◌≤◌, ◌+◌, ◌-◌, ◌*◌, slice_index, count_by, nat_le, All, true};
 ghost use Rattle.bitm_bits.specs.Bits.{low_digits};
 ghost use Rattle.bitm_bits.specs.Count.{ones_before, Picks};
 ghost use Rattle.bitm.specs.Word.{low_bytes};
@@ -10,11 +10,11 @@ const LOWEST_OF_EACH_BYTE: u64 = 0x0101_0101_0101_0101;
 /// The highest bit of each byte.
 const HIGHEST_OF_EACH_BYTE: u64 = 0x8080_8080_8080_8080;
 
-/// All bits of each byte but the highest: added to a byte, they reach the highest bit exactly where the byte is not 0.
-const BELOW_HIGHEST_OF_EACH_BYTE: u64 = 0x7F7F_7F7F_7F7F_7F7F;
+/// The highest bit of each of the first seven bytes.
+const HIGHEST_OF_SEVEN_BYTES: u64 = 0x0080_8080_8080_8080;
 
-/// Bit k of byte k.
-const OWN_BIT_OF_EACH_BYTE: u64 = 0x8040_2010_0804_0201;
+/// Seven copies of a number of seven bits, side by side: bit k of copy k is then the lowest bit of byte k.
+const SEVEN_COPIES: u64 = 0x0002_0408_1020_4081;
 
 /// A word whose byte k, lowest first, is the number of ones in bytes 0 to k of `n`.
 #[inline(always)]
@@ -43,16 +43,20 @@ pub fn bytes_at_most(sums: u64, r: u8) -> u8
     (kept & HIGHEST_OF_EACH_BYTE).count_ones() as u8
 }
 
-/// The place of the one of `byte` with `rank` ones before it.
+/// The place of the one of `byte` with `rank` ones before it, of which `before` stand before the byte.
 #[inline(always)]
-fn select_in_byte(byte: u8, rank: u8) -> u8
-    requires { rank < ones_before (low_digits 8 byte) 8 }
-    ensures { Picks (low_digits 8 byte) true rank result }
+fn select_in_byte(byte: u8, before: u8, rank: u8) -> u8
+    requires order { before ≤ rank }
+    requires below { rank ≤ 63 }
+    requires some { rank - before < ones_before (low_digits 8 byte) 8 }
+    ensures { Picks (low_digits 8 byte) true (rank - before) result }
 {
-    // Each bit goes to a byte of its own, so that the sums of these bytes count the ones up to it.
-    let spread = (byte as u64 * LOWEST_OF_EACH_BYTE) & OWN_BIT_OF_EACH_BYTE;
-    let flags = ((spread + BELOW_HIGHEST_OF_EACH_BYTE) >> 7) & LOWEST_OF_EACH_BYTE;
-    bytes_at_most(flags.wrapping_mul(LOWEST_OF_EACH_BYTE), rank)
+    // Each of the first seven bits goes to a byte of its own, so that the sums of these bytes count the ones up to it.
+    let flags = ((byte & 0x7F) as u64 * SEVEN_COPIES) & LOWEST_OF_EACH_BYTE;
+    let sums = (flags + before as u64).wrapping_mul(LOWEST_OF_EACH_BYTE);
+    // As in `bytes_at_most`; where all seven are at most the rank it is the eighth bit.
+    let kept = ((rank as u64 * LOWEST_OF_EACH_BYTE) | HIGHEST_OF_EACH_BYTE) - sums;
+    (kept & HIGHEST_OF_SEVEN_BYTES).count_ones() as u8
 }
 
 /// The place of the one of `n` with `rank` ones before it. For the place of a zero, pass `!n`.
@@ -61,7 +65,7 @@ fn select_in_byte(byte: u8, rank: u8) -> u8
 /// `n` has more than `rank` ones.
 /// # Source
 /// Vigna, "Broadword Implementation of Rank/Select Queries" (WEA 2008), here with one comparison of all bytes for the
-/// byte and the same one again for the bit in it.
+/// byte and one more, of the first seven bits, for the bit in it.
 #[inline(always)]
 pub fn select64(n: u64, rank: u8) -> u8
     requires { rank < ones_before (low_digits 64 n) 64 }
@@ -71,7 +75,7 @@ pub fn select64(n: u64, rank: u8) -> u8
     let sums = byte_sums(n);
     let place = 8 * bytes_at_most(sums, rank);
     let before = ((sums << 8 >> place) & 0xFF) as u8;
-    place + select_in_byte(((n >> place) & 0xFF) as u8, rank - before)
+    place + select_in_byte(((n >> place) & 0xFF) as u8, before, rank)
 }
 
 #[cfg(test)]

@@ -20,11 +20,14 @@ overflow_shr-before c = omega (arith, (byte_of_rank _ _ c.byte_sums-sums.ensures
 pub overflow_shr-n : goal.overflow_shr-n
 overflow_shr-n c = omega (arith, (byte_of_rank _ _ c.byte_sums-sums.ensures _ _ c.requires c.bytes_at_most-place.ensures).inside)
 
-pub overflow_sub-rank : goal.overflow_sub-rank
-overflow_sub-rank c = (byte_of_rank _ _ c.byte_sums-sums.ensures _ _ c.requires c.bytes_at_most-place.ensures).from
+pub select_in_byte-requires-clause-order : goal.select_in_byte-requires-clause-order
+select_in_byte-requires-clause-order c = (byte_of_rank _ _ c.byte_sums-sums.ensures _ _ c.requires c.bytes_at_most-place.ensures).from
 
-pub select_in_byte-requires : goal.select_in_byte-requires
-select_in_byte-requires c = (byte_of_rank _ _ c.byte_sums-sums.ensures _ _ c.requires c.bytes_at_most-place.ensures).left
+pub select_in_byte-requires-clause-below : goal.select_in_byte-requires-clause-below
+select_in_byte-requires-clause-below c = omega (arith, ones_before-low_digits_few 64 c.args.n)
+
+pub select_in_byte-requires-clause-some : goal.select_in_byte-requires-clause-some
+select_in_byte-requires-clause-some c = (byte_of_rank _ _ c.byte_sums-sums.ensures _ _ c.requires c.bytes_at_most-place.ensures).left
 
 pub overflow_add-result : goal.overflow_add-result
 overflow_add-result c =
