@@ -1,15 +1,9 @@
-//! Each call that takes memory, with its right answer and the state that a refusal has to leave.
-use crate::outcome::{Outcome, WORDS, answered, refused};
-use crate::packed::{Samples, packed, packed_clone, packed_owned, sampled_new, sampled_new0};
-use bitm::{ArrayWithRankSimple, BinaryRankSearch, BitVec, CloneWords, RankSimple};
-use std::alloc::{AllocError, Global};
-use std::boxed::BoxedSlice;
-use std::convert::AsSlice;
-
-type Words = BoxedSlice<u64, Global>;
-
-/// A word of ones.
-const FULL: u64 = u64::MAX;
+//! Each call that takes memory, under the name of its line.
+use crate::outcome::Outcome;
+use crate::packed::{Listed, Samples};
+use crate::{packed, simple, words};
+use bitm::BinaryRankSearch;
+use std::alloc::Global;
 
 /// The calls that take memory.
 #[derive(Clone, Copy)]
@@ -20,22 +14,29 @@ pub enum Call {
     ZeroedBits,
     FilledBits,
     Bitwords,
+    ManyBitwords,
     TrySame,
+    ManySame,
     SimpleLent,
     SimpleOwned,
     SimpleClone,
+    SimpleUncopied,
     BinaryLent,
     BinaryOwned,
     SampledLent,
     SampledOwned,
+    ListedLent,
+    ListedOwned,
     SampledNew,
     SampledNew0,
     BinaryClone,
     SampledClone,
+    ListedClone,
+    PackedUncopied,
 }
 
 /// Each call once, in the order in which they are made.
-pub fn all() -> [Call; 18] {
+pub fn all() -> [Call; 25] {
     [
         Call::Segments,
         Call::ZeroedSegments,
@@ -43,18 +44,25 @@ pub fn all() -> [Call; 18] {
         Call::ZeroedBits,
         Call::FilledBits,
         Call::Bitwords,
+        Call::ManyBitwords,
         Call::TrySame,
+        Call::ManySame,
         Call::SimpleLent,
         Call::SimpleOwned,
         Call::SimpleClone,
+        Call::SimpleUncopied,
         Call::BinaryLent,
         Call::BinaryOwned,
         Call::SampledLent,
         Call::SampledOwned,
+        Call::ListedLent,
+        Call::ListedOwned,
         Call::SampledNew,
         Call::SampledNew0,
         Call::BinaryClone,
         Call::SampledClone,
+        Call::ListedClone,
+        Call::PackedUncopied,
     ]
 }
 
@@ -68,108 +76,63 @@ impl Call {
             Call::ZeroedBits => "with-zeroed-bits",
             Call::FilledBits => "with-filled-bits",
             Call::Bitwords => "with-bitwords",
+            Call::ManyBitwords => "with-bitwords-of-thousands",
             Call::TrySame => "try-same",
+            Call::ManySame => "try-same-of-thousands",
             Call::SimpleLent => "simple-build-lent",
             Call::SimpleOwned => "simple-build-owned",
             Call::SimpleClone => "simple-try-clone",
+            Call::SimpleUncopied => "simple-try-clone-uncopied",
             Call::BinaryLent => "packed-build-lent-binary",
             Call::BinaryOwned => "packed-build-owned-binary",
             Call::SampledLent => "packed-build-lent-sampled",
             Call::SampledOwned => "packed-build-owned-sampled",
+            Call::ListedLent => "packed-build-lent-listed",
+            Call::ListedOwned => "packed-build-owned-listed",
             Call::SampledNew => "sampled-new",
             Call::SampledNew0 => "sampled-new0",
             Call::BinaryClone => "packed-try-clone-binary",
             Call::SampledClone => "packed-try-clone-sampled",
+            Call::ListedClone => "packed-try-clone-listed",
+            Call::PackedUncopied => "packed-try-clone-uncopied",
         }
     }
 
     /// Makes the call, and answers how it ended.
     pub fn run(self, alloc: Global) -> Outcome {
         match self {
-            Call::Segments => made(Words::with_64bit_segments(alloc, 7, 3), [7, 7, 7]),
-            Call::ZeroedSegments => made(Words::with_zeroed_64bit_segments(alloc, 3), [0, 0, 0]),
-            Call::FilledSegments => made(
-                Words::with_filled_64bit_segments(alloc, 3),
-                [FULL, FULL, FULL],
-            ),
-            Call::ZeroedBits => made(Words::with_zeroed_bits(alloc, 129), [0, 0, 0]),
-            Call::FilledBits => made(Words::with_filled_bits(alloc, 129), [FULL, FULL, FULL]),
-            Call::Bitwords => made(Words::with_bitwords(alloc, 1, 1, 129), [FULL, FULL, 1]),
-            Call::TrySame => try_same(alloc),
-            Call::SimpleLent => simple_lent(alloc),
-            Call::SimpleOwned => simple_owned(alloc),
-            Call::SimpleClone => simple_clone(alloc),
-            Call::BinaryLent => packed::<BinaryRankSearch, &[u64]>(alloc, WORDS.as_slice()),
-            Call::BinaryOwned => packed_owned::<BinaryRankSearch>(alloc),
-            Call::SampledLent => packed::<Samples, &[u64]>(alloc, WORDS.as_slice()),
-            Call::SampledOwned => packed_owned::<Samples>(alloc),
-            Call::SampledNew => sampled_new(alloc),
-            Call::SampledNew0 => sampled_new0(alloc),
-            Call::BinaryClone => packed_clone::<BinaryRankSearch>(alloc),
-            Call::SampledClone => packed_clone::<Samples>(alloc),
+            Call::Segments => words::segments(alloc),
+            Call::ZeroedSegments => words::zeroed_segments(alloc),
+            Call::FilledSegments => words::filled_segments(alloc),
+            Call::ZeroedBits => words::zeroed_bits(alloc),
+            Call::FilledBits => words::filled_bits(alloc),
+            Call::Bitwords => words::bitwords(alloc),
+            Call::ManyBitwords => words::many_bitwords(alloc),
+            Call::TrySame => words::try_same(alloc, 2),
+            Call::ManySame => words::try_same(alloc, 5000),
+            Call::SimpleLent => simple::lent(alloc),
+            Call::SimpleOwned => simple::owned(alloc),
+            Call::SimpleClone => simple::cloned(alloc),
+            Call::SimpleUncopied => simple::uncopied(alloc),
+            _ => self.run_packed(alloc),
         }
     }
-}
 
-/// How a constructor of these words ended.
-fn made(words: Result<Words, AllocError>, right: [u64; 3]) -> Outcome {
-    match words {
-        Ok(words) => answered(words.as_slice() == right.as_slice()),
-        Err(AllocError) => Outcome::Refused,
-    }
-}
-
-/// Whether a simple rank over `WORDS` answers as it has to.
-fn ranks<BV: AsSlice<u64>>(index: &RankSimple<BV>) -> bool {
-    index.as_slice() == WORDS.as_slice()
-        && index.try_rank(66) == Some(4)
-        && index.try_rank(128) == Some(5)
-        && index.try_rank(129) == None
-}
-
-/// A simple rank over the content, which has the words of `WORDS`.
-#[tactic(auto, using(bitm_bits::proofs::Callers::few_ones))]
-fn simple<BV: AsSlice<u64> + Drop>(alloc: Global, content: BV) -> Outcome {
-    if content.as_slice().len() != WORDS.len() {
-        return Outcome::Wrong;
-    }
-    match RankSimple::build(alloc, content) {
-        Ok((index, total)) => answered(total == 5 && ranks(&index)),
-        Err(back) => refused(back.as_slice() == WORDS.as_slice()),
-    }
-}
-
-fn simple_lent(alloc: Global) -> Outcome {
-    simple(alloc, WORDS.as_slice())
-}
-
-fn simple_owned(alloc: Global) -> Outcome {
-    match BoxedSlice::from_slice(alloc, WORDS.as_slice()) {
-        Ok(content) => simple(alloc, content),
-        Err(_) => Outcome::Unready,
-    }
-}
-
-fn try_same(alloc: Global) -> Outcome {
-    match BoxedSlice::from_slice(alloc, WORDS.as_slice()) {
-        Ok(content) => match content.try_same(alloc) {
-            Ok(copy) => answered(copy.as_slice() == WORDS.as_slice()),
-            Err(AllocError) => refused(content.as_slice() == WORDS.as_slice()),
-        },
-        Err(AllocError) => Outcome::Unready,
-    }
-}
-
-#[tactic(auto, using(bitm_bits::proofs::Callers::few_ones))]
-fn simple_clone(alloc: Global) -> Outcome {
-    let Ok(content) = BoxedSlice::from_slice(alloc, WORDS.as_slice()) else {
-        return Outcome::Unready;
-    };
-    match ArrayWithRankSimple::build(alloc, content) {
-        Ok((index, _)) => match index.try_clone(alloc) {
-            Ok(copy) => answered(ranks(&copy) && ranks(&index)),
-            Err(AllocError) => refused(ranks(&index)),
-        },
-        Err(_) => Outcome::Unready,
+    /// Makes the call of a packed index, or of its strategies.
+    fn run_packed(self, alloc: Global) -> Outcome {
+        match self {
+            Call::BinaryLent => packed::lent::<BinaryRankSearch>(alloc),
+            Call::BinaryOwned => packed::owned::<BinaryRankSearch>(alloc),
+            Call::SampledLent => packed::lent::<Samples>(alloc),
+            Call::SampledOwned => packed::owned::<Samples>(alloc),
+            Call::ListedLent => packed::lent::<Listed>(alloc),
+            Call::ListedOwned => packed::owned::<Listed>(alloc),
+            Call::SampledNew => packed::sampled_new(alloc),
+            Call::SampledNew0 => packed::sampled_new0(alloc),
+            Call::BinaryClone => packed::cloned::<BinaryRankSearch>(alloc),
+            Call::SampledClone => packed::cloned::<Samples>(alloc),
+            Call::ListedClone => packed::cloned::<Listed>(alloc),
+            _ => packed::uncopied(alloc),
+        }
     }
 }

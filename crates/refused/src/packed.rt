@@ -2,6 +2,7 @@
 ghost use Rattle.bitm_bits.specs.Bits.{IsShort};
 
 use crate::outcome::{Outcome, WORDS, answered, refused};
+use crate::uncopied::Uncopied;
 use bitm::{
     AdaptiveCombinedSamplingDensity, BinaryRankSearch, CombinedSampling, Rank, RankSelect101111,
     Select, Select0, Select0ForRank101111, SelectForRank101111,
@@ -10,28 +11,38 @@ use std::alloc::{AllocError, Global};
 use std::boxed::BoxedSlice;
 use std::convert::AsSlice;
 
-/// Samples at a density that adapts to how many bits of the kind there are.
-pub type Samples = CombinedSampling<AdaptiveCombinedSamplingDensity<13>>;
+/// The strategy that keeps a list of all places, as a user writes it.
+pub use uses::strategies::listed::Listed;
 
-type Lent<'a> = RankSelect101111<BinaryRankSearch, BinaryRankSearch, &'a [u64]>;
+/// Samples that each stand for 128 bits of the kind.
+pub type Samples = CombinedSampling<AdaptiveCombinedSamplingDensity<7>>;
+
+/// An index over words that are lent.
+type LentIndex<'a> = RankSelect101111<BinaryRankSearch, BinaryRankSearch, &'a [u64]>;
+
+/// An index over words that it owns.
+type OwnedIndex<S> = RankSelect101111<S, S, BoxedSlice<u64, Global>>;
 
 /// Whether an index over `WORDS` answers as it has to.
-fn answers<S: SelectForRank101111, S0: Select0ForRank101111, BV: AsSlice<u64>>(
+fn is_right<S: SelectForRank101111, S0: Select0ForRank101111, BV: AsSlice<u64>>(
     index: &RankSelect101111<S, S0, BV>,
 ) -> bool {
     index.as_slice() == WORDS.as_slice()
         && index.try_rank(66) == Some(4)
-        && index.try_rank(128) == Some(5)
-        && index.try_rank(129) == None
+        && index.try_rank(8256) == Some(387)
+        && index.try_rank(8320) == Some(390)
+        && index.try_rank(8321) == None
         && index.try_select(4) == Some(66)
-        && index.try_select(5) == None
+        && index.try_select(389) == Some(8259)
+        && index.try_select(390) == None
         && index.try_select0(0) == Some(1)
-        && index.try_select0(123) == None
+        && index.try_select0(7929) == Some(8319)
+        && index.try_select0(7930) == None
 }
 
 /// An index over the content, which has the words of `WORDS`, with the strategy for both kinds of
 /// bit.
-pub fn packed<S: SelectForRank101111 + Select0ForRank101111, BV: AsSlice<u64> + Drop>(
+fn over<S: SelectForRank101111 + Select0ForRank101111, BV: AsSlice<u64> + Drop>(
     alloc: Global,
     content: BV,
 ) -> Outcome {
@@ -39,28 +50,46 @@ pub fn packed<S: SelectForRank101111 + Select0ForRank101111, BV: AsSlice<u64> + 
         return Outcome::Wrong;
     }
     match RankSelect101111::<S, S, BV>::build(alloc, content) {
-        Ok((index, total)) => answered(total == 5 && answers(&index)),
+        Ok((index, total)) => answered(total == 390 && is_right(&index)),
         Err(back) => refused(back.as_slice() == WORDS.as_slice()),
     }
 }
 
-/// The same over words that the index owns.
-pub fn packed_owned<S: SelectForRank101111 + Select0ForRank101111>(alloc: Global) -> Outcome {
+/// Over words that are lent.
+pub fn lent<S: SelectForRank101111 + Select0ForRank101111>(alloc: Global) -> Outcome {
+    over::<S, &[u64]>(alloc, WORDS.as_slice())
+}
+
+/// Over words that it owns.
+pub fn owned<S: SelectForRank101111 + Select0ForRank101111>(alloc: Global) -> Outcome {
     match BoxedSlice::from_slice(alloc, WORDS.as_slice()) {
-        Ok(content) => packed::<S, BoxedSlice<u64, Global>>(alloc, content),
+        Ok(content) => over::<S, BoxedSlice<u64, Global>>(alloc, content),
         Err(AllocError) => Outcome::Unready,
     }
 }
 
-/// A clone of an index over words that it owns.
-pub fn packed_clone<S: SelectForRank101111 + Select0ForRank101111>(alloc: Global) -> Outcome {
+/// A clone of one over words that it owns.
+pub fn cloned<S: SelectForRank101111 + Select0ForRank101111>(alloc: Global) -> Outcome {
     let Ok(content) = BoxedSlice::from_slice(alloc, WORDS.as_slice()) else {
         return Outcome::Unready;
     };
-    match RankSelect101111::<S, S, BoxedSlice<u64, Global>>::build(alloc, content) {
+    match OwnedIndex::<S>::build(alloc, content) {
         Ok((index, _)) => match index.try_clone(alloc) {
-            Ok(copy) => answered(answers(&copy) && answers(&index)),
-            Err(AllocError) => refused(answers(&index)),
+            Ok(copy) => answered(is_right(&copy) && is_right(&index)),
+            Err(AllocError) => refused(is_right(&index)),
+        },
+        Err(_) => Outcome::Unready,
+    }
+}
+
+/// A clone of one over a content of which there are no copies.
+pub fn uncopied(alloc: Global) -> Outcome {
+    type Index<'a> = RankSelect101111<BinaryRankSearch, BinaryRankSearch, Uncopied<'a>>;
+    let words = WORDS.as_slice();
+    match Index::build(alloc, Uncopied { words }) {
+        Ok((index, _)) => match index.try_clone(alloc) {
+            Ok(_) => Outcome::Wrong,
+            Err(AllocError) => refused(is_right(&index)),
         },
         Err(_) => Outcome::Unready,
     }
@@ -68,7 +97,7 @@ pub fn packed_clone<S: SelectForRank101111 + Select0ForRank101111>(alloc: Global
 
 /// Samples of the ones of an index's content.
 pub fn sampled_new(alloc: Global) -> Outcome {
-    let Ok((index, total)) = Lent::build(alloc, WORDS.as_slice()) else {
+    let Ok((index, total)) = LentIndex::build(alloc, WORDS.as_slice()) else {
         return Outcome::Unready;
     };
     let content = index.as_slice();
@@ -79,14 +108,17 @@ pub fn sampled_new(alloc: Global) -> Outcome {
         index.l2ranks(),
         total,
     ) {
-        Ok(made) => answered(made.select(content, index.l1ranks(), index.l2ranks(), 4) == Some(66)),
-        Err(AllocError) => refused(answers(&index)),
+        Ok(made) => {
+            let found = made.select(content, index.l1ranks(), index.l2ranks(), 389);
+            answered(found == Some(8259) && made.sample_count() == 4)
+        }
+        Err(AllocError) => refused(is_right(&index)),
     }
 }
 
 /// Samples of the zeros of an index's content.
 pub fn sampled_new0(alloc: Global) -> Outcome {
-    let Ok((index, total)) = Lent::build(alloc, WORDS.as_slice()) else {
+    let Ok((index, total)) = LentIndex::build(alloc, WORDS.as_slice()) else {
         return Outcome::Unready;
     };
     let content = index.as_slice();
@@ -97,7 +129,10 @@ pub fn sampled_new0(alloc: Global) -> Outcome {
         index.l2ranks(),
         total,
     ) {
-        Ok(made) => answered(made.select0(content, index.l1ranks(), index.l2ranks(), 0) == Some(1)),
-        Err(AllocError) => refused(answers(&index)),
+        Ok(made) => {
+            let found = made.select0(content, index.l1ranks(), index.l2ranks(), 7929);
+            answered(found == Some(8319) && made.sample_count() == 62)
+        }
+        Err(AllocError) => refused(is_right(&index)),
     }
 }

@@ -14,12 +14,15 @@ pub struct Listed {
     places: Vec<usize>,
 }
 
-/// The places of the bits of the kind.
+/// The places of the bits of the kind, in one allocation of just their size.
 fn places_of<const B: u8>(alloc: Global, content: &[u64]) -> Result<Vec<usize>, AllocError>
     requires { IsShort content.now }
     ensures { IfOk result (λ list. list.items ≡ places (kind B) 0 (bits_of content.now)) }
 {
-    BitBIterator::<B>::new(content).collect(alloc)
+    let bits = BitBIterator::<B>::new(content);
+    let mut places = Vec::with_capacity(alloc, bits.len())?;
+    places.extend(bits)?;
+    Ok(places)
 }
 
 impl Model for Listed {
