@@ -19,6 +19,7 @@
 //! rank ID I:V..  rank0 ID I:V..        `try_rank`, `try_rank0`
 //! simple ID N..                        the ones before each begun run of 512 bits
 //! l1 ID N..  l2 ID WORDS               the upper and the lower table of an index
+//! l2at ID J:WORD..                     entries of the lower table at places J
 //! select ID R:P..  select0 ID R:P..    `try_select`, `try_select0`
 //! samples ID KIND B D BEGINS / WORDS   the samples of ones (B 1) or zeros (B 0), after where those of each part begin
 //! samplesat ID KIND B D COUNT BEGINS / J:WORD..   the same where there are many: COUNT of them, some by their place J

@@ -1,5 +1,5 @@
 //! Ranks: the kinds `ones`, `simple`, `rank` and `rank0`.
-ghost use Rattle.std.specs.Prelude.{◌≡◌, IfOk};
+ghost use Rattle.std.specs.Prelude.{◌≡◌, IfOk, IfSome};
 ghost use Rattle.bitm_bits.specs.Bits.{IsShort};
 
 use crate::content::State;
@@ -11,18 +11,19 @@ use bitm::{BinaryRankSearch, Rank, RankSimple, words};
 use std::alloc::{AllocError, Global};
 use std::convert::AsSlice;
 
-/// A simple rank over the words, and the number of ones.
-fn build(alloc: Global, words: &[u64]) -> Result<(RankSimple<&[u64]>, u32), Fault>
+/// A simple rank over the words, and the number of ones; `None` where its numbers are too narrow for them.
+fn build(alloc: Global, words: &[u64]) -> Result<Option<(RankSimple<&[u64]>, u32)>, Fault>
     requires { IsShort words.now }
-    ensures { IfOk result (λ built. built.0.now ≡ words.now) }
+    ensures { IfOk result (λ made. IfSome made (λ built. built.0.now ≡ words.now)) }
 {
     if words::count_bit_ones(words) >= 1 << 32 {
-        return Err(Fault::Condition);
+        return Ok(None);
     }
-    RankSimple::build(alloc, words).map_err(|_| Fault::NoMemory)
+    let built = RankSimple::build(alloc, words).map_err(|_| Fault::NoMemory)?;
+    Ok(Some(built))
 }
 
-/// Compares the number of ones, as `build` gives it and as it is counted.
+/// Compares the number of ones, as both `build` give it and as it is counted.
 pub fn ones<'a>(
     alloc: Global,
     state: &mut State<'a>,
@@ -31,8 +32,11 @@ pub fn ones<'a>(
 ) -> Result<(), Fault> {
     state.set_ones(line)?;
     let (words, theirs) = state.content(line)?;
-    let (_, total) = build(alloc, words)?;
-    found.compare("build", Base::Decimal, Some(u64::from(total)), theirs)?;
+    if let Some((_, total)) = build(alloc, words)? {
+        found.compare("simple", Base::Decimal, Some(u64::from(total)), theirs)?;
+    }
+    let (_, total) = index::build::<BinaryRankSearch>(alloc, words)?;
+    found.compare("build", Base::Decimal, Some(total as u64), theirs)?;
     let counted = words::count_bit_ones(words) as u64;
     found.compare("count_bit_ones", Base::Decimal, Some(counted), theirs)
 }
@@ -56,7 +60,7 @@ pub fn simple<'a>(
     found: &mut Found<'a>,
 ) -> Result<(), Fault> {
     let (words, theirs) = state.content(line)?;
-    let (index, _) = build(alloc, words)?;
+    let (index, _) = build(alloc, words)?.ok_or(Fault::Condition)?;
     let ours = table(alloc, &index)?;
     let theirs = text::list(alloc, theirs, Base::Decimal)?;
     found.compare_lists(line, Base::Decimal, ours.as_slice(), theirs.as_slice());
@@ -71,9 +75,10 @@ pub fn rank<'a>(
     found: &mut Found<'a>,
 ) -> Result<(), Fault> {
     let (words, pairs) = state.content(line)?;
-    let (simple, _) = build(alloc, words)?;
     let ones = state.ones()?;
-    found.compare_ranks(pairs, ones, |place| Rank::try_rank(&simple, place))?;
+    if let Some((simple, _)) = build(alloc, words)? {
+        found.compare_ranks(pairs, ones, |place| Rank::try_rank(&simple, place))?;
+    }
     let (index, _) = index::build::<BinaryRankSearch>(alloc, words)?;
     found.compare_ranks(pairs, ones, |place| index.try_rank(place))
 }
@@ -86,9 +91,10 @@ pub fn rank0<'a>(
     found: &mut Found<'a>,
 ) -> Result<(), Fault> {
     let (words, pairs) = state.content(line)?;
-    let (simple, _) = build(alloc, words)?;
     let zeros = state.zeros()?;
-    found.compare_ranks(pairs, zeros, |place| simple.try_rank0(place))?;
+    if let Some((simple, _)) = build(alloc, words)? {
+        found.compare_ranks(pairs, zeros, |place| simple.try_rank0(place))?;
+    }
     let (index, _) = index::build::<BinaryRankSearch>(alloc, words)?;
     found.compare_ranks(pairs, zeros, |place| index.try_rank0(place))
 }

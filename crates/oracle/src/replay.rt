@@ -39,6 +39,7 @@ fn replay_line<'a>(
         "rank0" => ranks::rank0(alloc, state, line, found),
         "l1" => tables::l1(alloc, state, line, found),
         "l2" => tables::l2(alloc, state, line, found),
+        "l2at" => tables::l2at(alloc, state, line, found),
         "select" => selection::select(alloc, state, line, found),
         "select0" => selection::select0(alloc, state, line, found),
         "samples" => samples::samples(alloc, state, line, found),

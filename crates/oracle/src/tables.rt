@@ -1,4 +1,4 @@
-//! The two tables of an index: the kinds `l1` and `l2`.
+//! The two tables of an index: the kinds `l1`, `l2` and `l2at`.
 use crate::content::State;
 use crate::fault::Fault;
 use crate::found::Found;
@@ -37,5 +37,22 @@ pub fn l2<'a>(
     let (index, _) = index::build::<BinaryRankSearch>(alloc, words)?;
     let theirs = text::list(alloc, theirs, Base::Hexadecimal)?;
     found.compare_lists(line, Base::Hexadecimal, index.l2ranks(), theirs.as_slice());
+    Ok(())
+}
+
+/// Compares entries of the lower table at their places.
+pub fn l2at<'a>(
+    alloc: Global,
+    state: &State<'a>,
+    line: &'a str,
+    found: &mut Found<'a>,
+) -> Result<(), Fault> {
+    let (words, pairs) = state.content(line)?;
+    let (index, _) = index::build::<BinaryRankSearch>(alloc, words)?;
+    for pair in pairs.split_ascii_whitespace() {
+        let (argument, theirs) = text::pair(pair)?;
+        let ours = index.l2ranks().get(text::place(argument)?).copied();
+        found.compare(argument, Base::Hexadecimal, ours, theirs)?;
+    }
     Ok(())
 }

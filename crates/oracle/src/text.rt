@@ -12,7 +12,7 @@ pub enum Base {
 }
 
 /// How many items of a run are believed.
-const MOST_ITEMS: u64 = 1 << 24;
+const MOST_ITEMS: u64 = 1 << 27;
 
 /// The first word of a text, and what follows the space after it.
 pub fn first_word(text: &str) -> (&str, &str) {
