@@ -33,20 +33,11 @@ mod tests;
 /// # Source
 /// Samples beside the counts of rank are from Navarro and Providel, 'Fast, small, simple rank/select on bitmaps'
 /// (SEA 2012).
+#[derive(Drop)]
 pub struct CombinedSampling<D: CombinedSamplingDensity> {
     samples: BoxedSlice<u32, Global>,
     begins: BoxedSlice<usize, Global>,
     density: D::SamplingDensity,
-}
-
-impl<D: CombinedSamplingDensity> Drop for CombinedSampling<D> {
-    fn drop(self) {
-        let Self {
-            samples: _,
-            begins: _,
-            density: _,
-        } = self;
-    }
 }
 
 impl<D: CombinedSamplingDensity> Model for CombinedSampling<D> {
