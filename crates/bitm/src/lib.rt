@@ -3,9 +3,14 @@
 //! Contracts see a content as the list of its bits, and rank as plain counting in that list.
 //!
 //! ```
-//! let Ok((index, ones)) = RankSimple::build(alloc, [0b1101u64].as_slice()) else { .. };
-//! index.try_rank(2);    // Some(1)
+//! let mut content = BoxedSlice::with_zeroed_bits(alloc, 2048)?;
+//! words::set_bit(content.as_mut_slice(), 100);
+//! let Ok((bits, ones)) = ArrayWithRank101111::build(alloc, content) else { return Err(AllocError) };
+//! bits.try_rank(101);     // Some(1)
+//! bits.try_select(0);     // Some(100)
 //! ```
+//!
+//! The crate `uses` proves this and more of a caller's code; `CALLING.md` says which call tells what.
 #![tactic(auto)]
 
 pub mod index_laws;

@@ -6,10 +6,11 @@
 //!
 //! ```
 //! let mut array = [0u64; 32];
-//! let mut content = array.as_mut_slice();
-//! content.set_bit(100);
-//! prove!(content.get_bit(100));
+//! words::set_bit(array.as_mut_slice(), 100);
+//! words::get_bit(array.as_slice(), 100)    // true
 //! ```
+//!
+//! The crate `uses` proves this and more of a caller's code; `CALLING.md` says which form of call tells what.
 #![tactic(auto)]
 
 mod bitvec;

@@ -155,3 +155,27 @@ fn places_rise_and_end(rt: HostRuntime) {
     assert!(rt; BitOnesIterator::new(content).eq(expected));
     assert!(rt; BitBIterator::<2>::new(content).eq(expected));
 }
+
+/// The start and the end of the range that is left.
+fn left(bits: &BitIterator<'_>) -> (usize, usize) {
+    (bits.bit_range().start, bits.bit_range().end)
+}
+
+#[test]
+fn nth_and_nth_back_pass_over_bits(rt: HostRuntime) {
+    let array = [0b1011u64];
+    let content = array.as_slice();
+    let mut bits = content.bit_in_range_iter(0..8);
+    assert_eq!(rt; (bits.nth(2), left(&bits)), (Some(false), (3, 8)));
+    assert_eq!(rt; (bits.nth_back(4), left(&bits)), (Some(true), (3, 3)));
+    assert_eq!(rt; (bits.nth(0), left(&bits)), (None, (3, 3)));
+}
+
+#[test]
+fn nth_leaves_a_reversed_range(rt: HostRuntime) {
+    let array = [0b1011u64];
+    let content = array.as_slice();
+    let mut bits = content.bit_in_range_iter(5..2);
+    assert_eq!(rt; (bits.nth(0), left(&bits)), (None, (5, 2)));
+    assert_eq!(rt; (bits.nth_back(3), left(&bits)), (None, (5, 2)));
+}
