@@ -151,6 +151,42 @@ fn word_of<const ONE: u8, T: TableSource>(source: &mut T, at: usize) -> u64
     if ONE == 0 { !word } else { word }
 }
 
+/// The word that has the one with this rank, among the eight words from `first` on, which have it: its place, what it is
+/// and the rank that is left in it.
+///
+/// Each of the first seven words has a test of its own, since their number is fixed, and the eighth needs none.
+#[inline(always)]
+fn word_of_rank<const ONE: u8, T: TableSource>(
+    source: &mut T,
+    first: usize,
+    rank: usize,
+) -> (usize, u64, usize)
+    requires whole { first + 8 ≤ length (T.lists source.old).words }
+    requires fits { first < 2 ^ 60 }
+    requires next { let m = sought_in ONE (T.lists source.old).words in
+        ones_before m (64 * first) + rank < ones_before m (64 * (first + 8)) }
+    ensures from { first ≤ result.0 }
+    ensures to { result.0 < first + 8 }
+    ensures word { IsWord (sought_in ONE (T.lists source.old).words) result.0 result.1 }
+    ensures rest { let m = sought_in ONE (T.lists source.old).words in
+        ones_before m (64 * first) + rank ≡ ones_before m (64 * result.0) + result.2 }
+    ensures has { result.2 < count_ones result.1 }
+    ensures reads { ReadsAtMost (T.reads source.old) (T.reads source.new) 0 0 8 }
+    ensures same { T.lists source.new ≡ T.lists source.old }
+{
+    let mut rest = rank;
+    for k in 0..7 {
+        let word = word_of::<ONE, T>(source, first + k);
+        let count = word.count_ones() as usize;
+        if rest < count {
+            return (first + k, word, rest);
+        }
+        rest -= count;
+    }
+    let last = word_of::<ONE, T>(source, first + 7);
+    (first + 7, last, rest)
+}
+
 /// Selection among the eight words from `first` on, of which some may miss; the rank counts from there.
 #[inline(always)]
 fn in_record<const ONE: u8, T: TableSource>(
@@ -170,6 +206,10 @@ fn in_record<const ONE: u8, T: TableSource>(
     ensures reads { ReadsAtMost (T.reads source.old) (T.reads source.new) 0 0 8 }
     ensures same { T.lists source.new ≡ T.lists source.old }
 {
+    if first + U64_PER_L2_RECORDS < source.words_len() {
+        let (at, word, rest) = word_of_rank::<ONE, T>(source, first, rank);
+        return Some(at * 64 + select_in_word(word, rest));
+    }
     let mut rest = rank;
     for at in first..source.words_len().min(first + U64_PER_L2_RECORDS) {
         let word = word_of::<ONE, T>(source, at);
@@ -185,7 +225,7 @@ fn in_record<const ONE: u8, T: TableSource>(
 /// Selection in entry `entry` of a part, which packs `packed`: the last one with no more than `rank` of the kind before it
 /// in the part.
 #[inline(always)]
-fn in_packed<const ONE: u8, T: TableSource>(
+pub(crate) fn in_packed<const ONE: u8, T: TableSource>(
     source: &mut T,
     part: usize,
     entry: usize,
@@ -213,33 +253,6 @@ fn in_packed<const ONE: u8, T: TableSource>(
     let (place, before) = record_of(packed, in_entry);
     let first = at * U64_PER_L2_ENTRY + place * U64_PER_L2_RECORDS;
     in_record::<ONE, T>(source, first, in_entry - before)
-}
-
-/// Selection in entry `entry` of a part, which is read: the last one with no more than `rank` of the kind before it in the
-/// part.
-#[inline(always)]
-pub(crate) fn in_entry<const ONE: u8, T: TableSource>(
-    source: &mut T,
-    part: usize,
-    entry: usize,
-    rank: usize,
-) -> Option<usize>
-    requires tables { HasTables (T.lists source.old) }
-    requires short { IsShort (T.lists source.old).words }
-    requires part { let m = sought_in ONE (T.lists source.old).words in
-        IsLastPart m (length (T.lists source.old).upper)
-        (ones_before m (part * 2 ^ 32) + rank) part }
-    requires entry { IsLastEntry (sought_in ONE (T.lists source.old).words)
-        (length (T.lists source.old).lower) part rank entry }
-    ensures answer { let m = sought_in ONE (T.lists source.old).words in
-        IsSelect (bits_of (T.lists source.old).words) (kind ONE)
-        (ones_before m (part * 2 ^ 32) + rank) result }
-    ensures inside { IfSome result (λ p. p / 2048 ≡ part * 2 ^ 21 + entry) }
-    ensures reads { ReadsAtMost (T.reads source.old) (T.reads source.new) 0 1 8 }
-    ensures same { T.lists source.new ≡ T.lists source.old }
-{
-    let packed = entry_of::<ONE, T>(source, part * L2_ENTRIES_PER_L1_ENTRY + entry);
-    in_packed::<ONE, T>(source, part, entry, packed, rank)
 }
 
 /// The place of the one of the source's words with exactly `rank` ones before it, and `None` exactly where there is

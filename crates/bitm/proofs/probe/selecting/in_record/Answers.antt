@@ -16,12 +16,12 @@ word g c =
 
 pub returns-then-rest-count-clause-answer : goal.returns-then-rest-count-clause-answer
 returns-then-rest-count-clause-answer g c =
-    let e = c.select_in_word.ensures in
+    let e = c.select_in_word-then-rest-count.ensures in
     let words = (g.T.TableSource.lists c.args.source.now).words in
     let R = ones_before (sought_in g.row.ONE words) (64 * c.args.first) + c.args.rank in
     picked_in_word words (kind g.row.ONE) c.loop-at.at c.word_of-word.result R c.loop-at.rest
     (word g (goal.at.returns-then-rest-count-clause-answer g c).After-word_of-word) c.loop-at.invariant.rest
-    c.select_in_word.result (omega arith) e.inside e.before e.after
+    c.select_in_word-then-rest-count.result (omega arith) e.inside e.before e.after
 
 pub loop-at-preserved : goal.loop-at-preserved
 loop-at-preserved g c =
@@ -46,3 +46,12 @@ returns-clause-answer g c =
     let R = ones_before (sought_in g.row.ONE words) (64 * c.args.first) + c.args.rank in
     none_found words (kind g.row.ONE) R c.loop-at.rest c.args.first c.min-at-end.result c.loop-at.at c.loop-at.invariant.rest
     (omega (arith, c.min-at-end.ensures)) c.loop-at-test.false c.loop-at.invariant.bound c.requires.next
+
+pub returns-then-first-words_len-clause-answer : goal.returns-then-first-words_len-clause-answer
+returns-then-first-words_len-clause-answer g c =
+    let f = c.word_of_rank-at.ensures in
+    let e = c.select_in_word.ensures in
+    let words = (g.T.TableSource.lists c.args.source.now).words in
+    let R = ones_before (sought_in g.row.ONE words) (64 * c.args.first) + c.args.rank in
+    picked_in_word words (kind g.row.ONE) c.word_of_rank-at.result.0 c.word_of_rank-at.result.1 R c.word_of_rank-at.result.2
+    f.word f.rest c.select_in_word.result (omega arith) e.inside e.before e.after

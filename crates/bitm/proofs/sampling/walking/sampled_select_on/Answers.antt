@@ -196,29 +196,29 @@ returns-clause-reads g c =
     let b = bits_of l.words in
     let r = rank_of g.row.ONE l c.args.rank k in
     let w = c.walk-entry.ensures in
-    let e = c.in_entry.ensures in
+    let e = c.in_packed.ensures in
     let u = c.before_part.ensures in
     let p = c.last_part-part.ensures in
     let from = from_is g f (in_part g a) (number_is g a) in
     let at_entry = same g f (in_part g a) (number_is g a) in
     let left = c.args.rank - c.before_part.result in
-    let low : IsLastEntry (sought_in g.row.ONE l.words) (length l.lower) k r c.walk-entry.result =
-    subst (λ (x : ℕ). IsLastEntry (sought_in g.row.ONE l.words) (length l.lower) k x c.walk-entry.result) (in_part g a)
-    (subst (λ (x : Lists). IsLastEntry (sought_in g.row.ONE x.words) (length x.lower) k left c.walk-entry.result) at_entry w.last) in
-    let order : walk_start (part_of b k) v d r ≤ c.walk-entry.result = subst (λ (x : ℕ). x ≤ c.walk-entry.result) from w.order in
+    let low : IsLastEntry (sought_in g.row.ONE l.words) (length l.lower) k r c.walk-entry.result.0 =
+    subst (λ (x : ℕ). IsLastEntry (sought_in g.row.ONE l.words) (length l.lower) k x c.walk-entry.result.0) (in_part g a)
+    (subst (λ (x : Lists). IsLastEntry (sought_in g.row.ONE x.words) (length x.lower) k left c.walk-entry.result.0) at_entry w.last) in
+    let order : walk_start (part_of b k) v d r ≤ c.walk-entry.result.0 = subst (λ (x : ℕ). x ≤ c.walk-entry.result.0) from w.order in
     let before : c.before_part.result ≡ ones_before (sought_in g.row.ONE l.words) (k * 2 ^ 32) =
     u.count ∙ ap (λ (x : Lists). ones_before (sought_in g.row.ONE x.words) (k * 2 ^ 32)) p.same in
     let total : ones_before (sought_in g.row.ONE l.words) (k * 2 ^ 32) + left ≡ c.args.rank = omega (arith, before, p.last.at_most) in
-    let selected : IsSelect b v c.args.rank c.in_entry.result =
-    subst (λ (n : ℕ). IsSelect b v n c.in_entry.result) total
+    let selected : IsSelect b v c.args.rank c.in_packed.result =
+    subst (λ (n : ℕ). IsSelect b v n c.in_packed.result) total
     (subst
-    (λ (x : Lists). IsSelect (bits_of x.words) v (ones_before (sought_in g.row.ONE x.words) (k * 2 ^ 32) + left) c.in_entry.result)
+    (λ (x : Lists). IsSelect (bits_of x.words) v (ones_before (sought_in g.row.ONE x.words) (k * 2 ^ 32) + left) c.in_packed.result)
     (w.same ∙ at_entry) e.answer) in
     let some =
     first_inside b l.upper l.lower t v c.args.rank k p.last d
     (interval_inside b l.upper l.lower t v c.args.rank k p.last d (there g f (in_part g a) (number_is g a))) in
-    sampled_reads b l.upper l.lower t v c.args.rank k p.last d c.walk-entry.result low some
-    (T.reads c.args.source.now) (T.reads c.in_entry.new.source)
+    sampled_reads b l.upper l.lower t v c.args.rank k p.last d c.walk-entry.result.0 low some
+    (T.reads c.args.source.now) (T.reads c.in_packed.new.source)
     (record {
       order = order;
       reads =
@@ -228,4 +228,4 @@ returns-clause-reads g c =
             words = omega (arith, e.reads, w.reads, p.reads, ap (λ (x : ReadCounts). x.words) u.counted);
           };
     })
-    c.in_entry.result selected e.inside
+    c.in_packed.result selected e.inside

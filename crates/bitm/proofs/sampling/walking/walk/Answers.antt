@@ -25,13 +25,16 @@ entries_of_part-end-requires g c =
     omega (arith, first_entry _ _ _ c.requires.tables c.requires.short c.args.part c.requires.inside, c.lower_len.ensures)
 
 module _ (g : _) (c : After-ones_to_entry g) where
+  entry_is : c.entry_of-entry.result
+      ≡ lower_entry (sought_in g.row.ONE (g.T.TableSource.lists c.args.source.now).words) (c.args.part * 2 ^ 21 + c.loop-next.next)
+  entry_is =
+      let at = c.args.part * 2 ^ 21 + c.loop-next.next in
+      c.entry_of-entry.ensures.entry ∙ ap (λ (l : Lists). lower_entry (sought_in g.row.ONE l.words) at) c.loop-next.invariant.same
+
   count : c.ones_to_entry.result ≡ items_to g.row.ONE (bits_of (g.T.TableSource.lists c.args.source.now).words) c.args.part c.loop-next.next
   count =
       let m = sought_in g.row.ONE (g.T.TableSource.lists c.args.source.now).words in
-      let at = c.args.part * 2 ^ 21 + c.loop-next.next in
-      c.ones_to_entry.ensures
-      ∙ low_is m c.entry_of.result at
-      (c.entry_of.ensures.entry ∙ ap (λ (l : Lists). lower_entry (sought_in g.row.ONE l.words) at) c.loop-next.invariant.same)
+      c.ones_to_entry.ensures ∙ low_is m c.entry_of-entry.result (c.args.part * 2 ^ 21 + c.loop-next.next) entry_is
 
   end_is : c.entries_of_part-end.result ≡ entries_from (length (g.T.TableSource.lists c.args.source.now).lower) c.args.part
   end_is = omega (arith, c.entries_of_part-end.ensures, c.lower_len.ensures)
@@ -55,13 +58,15 @@ loop-next-preserved g c =
     let d = (goal.at.loop-next-preserved g c).After-ones_to_entry in
     let b = bits_of (g.T.TableSource.lists c.args.source.now).words in
     let i = c.loop-next.invariant in
-    let e = c.entry_of.ensures in
+    let e = c.entry_of-entry.ensures in
+    let m = sought_in g.row.ONE (g.T.TableSource.lists c.args.source.now).words in
     let back : c.loop-next.next + 1 - 1 ≡ c.loop-next.next = omega arith in
     let below = subst (λ (n : ℕ). n ≤ c.args.rank) (count g d) c.if-rank-ones_to_entry.false in
     record {
       order = omega (arith, i.order);
       bound = omega (arith, c.loop-next-test.true);
       at_most = subst (λ (k : ℕ). items_to g.row.ONE b c.args.part k ≤ c.args.rank) (sym back) below;
+      packed = entry_is g d ∙ ap (λ (k : ℕ). lower_entry m (c.args.part * 2 ^ 21 + k)) (sym back);
       lower = omega (arith, ap (λ (r : ReadCounts). r.lower) e.counted, i.lower);
       upper = ap (λ (r : ReadCounts). r.upper) e.counted ∙ i.upper;
       words = ap (λ (r : ReadCounts). r.words) e.counted ∙ i.words;
