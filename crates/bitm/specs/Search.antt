@@ -27,6 +27,13 @@ pub record IsLast (count : ℕ → ℕ) (n r k : ℕ) : Type 0 where
   pub at_most : count k ≤ r
   pub next : k + 1 < n → r < count (k + 1)
 
+-- a search, among n counts that rise, for the last one that is at most r: it is among those from low on, of which so many are left
+pub record Between (count : ℕ → ℕ) (n r low left : ℕ) : Type 0 where
+  pub some : 0 < left
+  pub bound : low + left ≤ n
+  pub at_most : count low ≤ r
+  pub above : low + left < n → r < count (low + left)
+
 -- the last part with no more than r ones before it
 abbrev pub IsLastPart : List Bool → ℕ → ℕ → ℕ → Type 0
 IsLastPart m parts r part = IsLast (λ k. ones_before m (k * 2 ^ 32)) parts r part
@@ -38,6 +45,10 @@ entries_from entries part = min (entries - part * 2 ^ 21) (2 ^ 21)
 -- the last entry of a part with no more than r ones before it in the part
 abbrev pub IsLastEntry : List Bool → ℕ → ℕ → ℕ → ℕ → Type 0
 IsLastEntry m entries part r e = IsLast (λ j. before_in_part m (part * 2 ^ 21 + j)) (entries_from entries part) r e
+
+-- the last entry of a part with no more than r ones before it in the part is among those from low on, of which so many are left
+abbrev pub IsAmong : List Bool → ℕ → ℕ → ℕ → ℕ → ℕ → Type 0
+IsAmong m entries part r low left = Between (λ j. before_in_part m (part * 2 ^ 21 + j)) (entries_from entries part) r low left
 
 -- how many ones stand before entry j of a part in the part, or zeros where they are sought
 abbrev pub items_to : ℕ → List Bool → ℕ → ℕ → ℕ

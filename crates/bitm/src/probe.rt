@@ -3,5 +3,6 @@
 pub(crate) mod counts;
 pub(crate) mod entry;
 pub(crate) mod ranking;
+pub(crate) mod searching;
 pub(crate) mod selecting;
 pub(crate) mod source;

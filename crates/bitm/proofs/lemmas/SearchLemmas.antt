@@ -2,14 +2,7 @@
 use Rattle.std.proofs.Common.{◌≡◌, ℕ, ◌+◌, ◌-◌, ◌/◌, ◌<◌, ◌≤◌, arith, sym, subst}
 use Rattle.bitm_bits.proofs.lemmas.DigitLemmas.{digit_count-mono, digit_count_half}
 use Rattle.bitm_bits.specs.Bits.{digit_count}
-use Rattle.bitm.specs.Search.{IsLast}
-
--- a search, among n counts that rise, for the last one that is at most r: it is among those from low on, of which so many are left
-pub record Between (count : ℕ → ℕ) (n r low left : ℕ) : Type 0 where
-  pub some : 0 < left
-  pub bound : low + left ≤ n
-  pub at_most : count low ≤ r
-  pub above : low + left < n → r < count (low + left)
+use Rattle.bitm.specs.Search.{Between, IsLast}
 
 module _ (count : ℕ → ℕ) (n r : ℕ) where
   pub search_begins : 0 < n → count 0 ≤ r → Between count n r 0 n
@@ -35,6 +28,23 @@ module _ (count : ℕ → ℕ) (n r : ℕ) where
         at_most = b.at_most;
         above = λ m. omega (arith, lt, rise (low + left / 2) (low + (left - left / 2)) (omega arith) m);
       }
+
+  -- the two sides of any cut of the range
+  pub goes_over : (low left cut : ℕ) → Between count n r low left → 0 < cut → cut < left → count (low + cut) ≤ r
+      → Between count n r (low + cut) (left - cut)
+  goes_over low left cut b some inside le =
+      let e : low + cut + (left - cut) ≡ low + left = omega arith in
+      record {
+        some = omega arith;
+        bound = omega (arith, b.bound);
+        at_most = le;
+        above = λ m. subst (λ k. r < count k) (sym e) (b.above (omega arith));
+      }
+
+  pub goes_under : (low left cut : ℕ) → Between count n r low left → 0 < cut → cut < left → r < count (low + cut)
+      → Between count n r low cut
+  goes_under low left cut b some inside lt =
+      record { some = some; bound = omega (arith, b.bound); at_most = b.at_most; above = λ m. lt }
 
   pub search_ends : (low left : ℕ) → Between count n r low left → left ≤ 1 → IsLast count n r low
   search_ends low left b h =

@@ -7,7 +7,8 @@ ghost use Rattle.bitm.specs.Reads.{lower_read, upper_read, word_read, ReadsAtMos
 ghost use Rattle.bitm.specs.Search.{sought_in, IsLastPart, IsLastEntry, IsWord};
 ghost use Rattle.bitm.specs.Tables.{HasTables};
 
-use crate::probe::entry::{complement_entry, entries_of_part, ones_to_entry, ones_to_record};
+use crate::probe::entry::{complement_entry, ones_to_entry, ones_to_record};
+use crate::probe::searching::last_entry;
 use crate::probe::source::TableSource;
 use crate::select::levels::{L2_ENTRIES_PER_L1_ENTRY, U64_PER_L2_ENTRY, U64_PER_L2_RECORDS};
 use crate::select::word::select64;
@@ -65,40 +66,6 @@ pub(crate) fn entry_of<const ONE: u8, T: TableSource>(source: &mut T, at: usize)
     } else {
         entry
     }
-}
-
-/// The last entry of a part with no more than `rank` of the kind before it in the part: its place in the part, and what it
-/// packs.
-fn last_entry<const ONE: u8, T: TableSource>(
-    source: &mut T,
-    part: usize,
-    rank: usize,
-) -> (usize, u64)
-    requires tables { HasTables (T.lists source.old) }
-    requires short { IsShort (T.lists source.old).words }
-    requires inside { part < length (T.lists source.old).upper }
-    ensures last { IsLastEntry (sought_in ONE (T.lists source.old).words)
-        (length (T.lists source.old).lower) part rank result.0 }
-    ensures entry { result.1
-        ≡ lower_entry (sought_in ONE (T.lists source.old).words) (part * 2 ^ 21 + result.0) }
-    ensures reads { ReadsAtMost (T.reads source.old) (T.reads source.new) 0 23 0 }
-    ensures same { T.lists source.new ≡ T.lists source.old }
-{
-    let first = part * L2_ENTRIES_PER_L1_ENTRY;
-    let mut low = 0;
-    let mut left = entries_of_part(source.lower_len(), part);
-    let mut packed = entry_of::<ONE, T>(source, first);
-    while left > 1 {
-        let half = left / 2;
-        let next = entry_of::<ONE, T>(source, first + low + half);
-        // The entry is kept with its place: then both are moved by the compare, and no branch is taken on it.
-        if ones_to_entry(next) <= rank {
-            low += half;
-            packed = next;
-        }
-        left -= half;
-    }
-    (low, packed)
 }
 
 /// 1 where no more than `rank` were counted, else 0.

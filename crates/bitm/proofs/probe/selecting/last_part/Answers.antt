@@ -2,11 +2,11 @@
 use Rattle.std.proofs.Common.{◌≡◌, ℕ, ◌+◌, ◌*◌, ◌-◌, ◌/◌, ◌^◌, ◌<◌, ◌≤◌, length, refl, ap, sym, ◌∙◌, subst, arith}
 use Rattle.bitm_bits.proofs.lemmas.CountLemmas.{ones_before_none}
 use Rattle.bitm_bits.specs.Count.{ones_before}
-use Rattle.bitm.specs.Search.{sought_in}
+use Rattle.bitm.specs.Search.{Between, sought_in}
 use Rattle.bitm.specs.Tables.{Lists}
 use Rattle.bitm.specs.declared.probe.counts.ReadCounts.{ReadCounts}
 use Rattle.bitm_bits.proofs.lemmas.DigitLemmas.{digit_count-mono}
-use Rattle.bitm.proofs.lemmas.SearchLemmas.{Between, search_begins, goes_up, goes_down, search_ends, halves_left}
+use Rattle.bitm.proofs.lemmas.SearchLemmas.{search_begins, goes_up, goes_down, search_ends, halves_left}
 use Rattle.bitm.proofs.lemmas.SoughtLemmas.{parts_rise}
 use Rattle.bitm.proofs.probe.selecting.last_part.Goals as goal
 use Rattle.bitm.proofs.probe.selecting.last_part.Goals.{After-before_part, then-before_part-rank, else-before_part-rank}

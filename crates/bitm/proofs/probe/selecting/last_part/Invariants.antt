@@ -1,8 +1,7 @@
 use Rattle.std.proofs.Common.{◌≡◌, ◌+◌, ◌-◌, ◌*◌, ◌^◌, ◌≤◌, length}
 use Rattle.bitm_bits.specs.Bits.{digit_count}
 use Rattle.bitm_bits.specs.Count.{ones_before}
-use Rattle.bitm.specs.Search.{sought_in}
-use Rattle.bitm.proofs.lemmas.SearchLemmas.{Between}
+use Rattle.bitm.specs.Search.{Between, sought_in}
 use Rattle.bitm.proofs.probe.selecting.last_part.Given as goal
 
 -- where the last part is, and no more reads than halvings

@@ -1,14 +1,14 @@
 -- Each test halves what is left, and tells on which side the last entry of the part is.
 use Rattle.std.proofs.Common.{◌≡◌, ℕ, ◌+◌, ◌*◌, ◌-◌, ◌/◌, ◌^◌, ◌<◌, ◌≤◌, length, ap, sym, ◌∙◌, subst, arith}
 use Rattle.bitm.specs.Entry.{before_in_part, lower_entry}
-use Rattle.bitm.specs.Search.{entries_from, sought_in}
+use Rattle.bitm.specs.Search.{Between, entries_from, sought_in}
 use Rattle.bitm.specs.Tables.{Lists}
 use Rattle.bitm.specs.declared.probe.counts.ReadCounts.{ReadCounts}
-use Rattle.bitm_bits.proofs.lemmas.DigitLemmas.{digit_count_most}
-use Rattle.bitm.proofs.lemmas.SearchLemmas.{Between, search_begins, goes_up, goes_down, search_ends, halves_left}
-use Rattle.bitm.proofs.lemmas.SoughtLemmas.{first_entry, first_none, few_entries, low_is, some_entry, entries_rise}
-use Rattle.bitm.proofs.probe.selecting.last_entry.Goals as goal
-use Rattle.bitm.proofs.probe.selecting.last_entry.Goals.{After-ones_to_entry, then-ones_to_entry-rank, else-ones_to_entry-rank}
+use Rattle.bitm_bits.specs.Bits.{digit_count}
+use Rattle.bitm.proofs.lemmas.SearchLemmas.{goes_up, goes_down, halves_left}
+use Rattle.bitm.proofs.lemmas.SoughtLemmas.{first_entry, few_entries, low_is, entries_rise}
+use Rattle.bitm.proofs.probe.searching.last_entry.Goals as goal
+use Rattle.bitm.proofs.probe.searching.last_entry.Goals.{After-ones_to_entry, then-ones_to_entry-rank, else-ones_to_entry-rank}
 
 pub overflow_mul-first : goal.overflow_mul-first
 overflow_mul-first g c =
@@ -19,40 +19,6 @@ overflow_mul-first g c =
             first_entry _ _ _ c.requires.tables c.requires.short c.args.part c.requires.inside,
             few_entries _ _ _ c.requires.tables c.requires.short,
           );
-    }
-
-pub entries_of_part-left-requires : goal.entries_of_part-left-requires
-entries_of_part-left-requires g c =
-    omega (arith, first_entry _ _ _ c.requires.tables c.requires.short c.args.part c.requires.inside, c.lower_len.ensures)
-
-pub entry_of-packed-requires-clause-inside : goal.entry_of-packed-requires-clause-inside
-entry_of-packed-requires-clause-inside g c =
-    omega (arith, first_entry _ _ _ c.requires.tables c.requires.short c.args.part c.requires.inside)
-
-pub loop-left-init : goal.loop-left-init
-loop-left-init g c =
-    let lists = g.T.TableSource.lists c.args.source.now in
-    let m = sought_in g.row.ONE lists.words in
-    let n = entries_from (length lists.lower) c.args.part in
-    let e = c.entry_of-packed.ensures in
-    let size : c.entries_of_part-left.result ≡ n = omega (arith, c.entries_of_part-left.ensures, c.lower_len.ensures) in
-    let count : ℕ → ℕ = λ j. before_in_part m (c.args.part * 2 ^ 21 + j) in
-    let begins =
-    search_begins count n c.args.rank (some_entry _ _ _ c.requires.tables c.requires.short c.args.part c.requires.inside)
-    (omega (arith, first_none m c.args.part)) in
-    let first : c.args.part * 2 ^ 21 ≡ c.args.part * 2 ^ 21 + 0 = omega arith in
-    record {
-      search = subst (Between count n c.args.rank 0) (sym size) begins;
-      packed = e.entry ∙ ap (lower_entry m) first;
-      lower =
-          omega (
-            arith,
-            digit_count_most 22 (c.entries_of_part-left.result - 1) (omega (arith, size)),
-            ap (λ (r : ReadCounts). r.lower) e.counted,
-          );
-      upper = ap (λ (r : ReadCounts). r.upper) e.counted;
-      words = ap (λ (r : ReadCounts). r.words) e.counted;
-      same = e.same;
     }
 
 module _ (g : _) (c : After-ones_to_entry g) where
@@ -97,23 +63,38 @@ loop-left-preserved g c =
           subst (λ (k : ℕ). Between counts n c.args.rank k (left - left / 2)) (sym w.low-is)
           (goes_down counts n c.args.rank low left i.search c.loop-left-test.true above (λ j k h l. entries_rise m c.args.part j k h (omega arith)))
     ] in
-    let packed : c.if-ones_to_entry-rank.packed ≡ at c.if-ones_to_entry-rank.low =
+    let packed : 0 < c.if-ones_to_entry-rank.low → c.if-ones_to_entry-rank.packed ≡ at c.if-ones_to_entry-rank.low =
     elim c.if-ones_to_entry-rank.branch [
-      | then-ones_to_entry-rank w ↦ w.packed-is ∙ next_is g d ∙ ap at (sym w.low-is)
-      | else-ones_to_entry-rank w ↦ w.packed-is ∙ i.packed ∙ ap at (sym w.low-is)
+      | then-ones_to_entry-rank w ↦ λ h. w.packed-is ∙ next_is g d ∙ ap at (sym w.low-is)
+      | else-ones_to_entry-rank w ↦ λ h. w.packed-is ∙ i.packed (omega (arith, h, w.low-is)) ∙ ap at (sym w.low-is)
+    ] in
+    let first : c.if-ones_to_entry-rank.low ≡ 0
+    → (g.T.TableSource.reads c.entry_of-next.new.source).lower + digit_count (left - left / 2 - 1)
+    ≤ (g.T.TableSource.reads c.args.source.now).lower + 22 =
+    elim c.if-ones_to_entry-rank.branch [
+      | then-ones_to_entry-rank w ↦ λ h. absurd (omega (arith, h, w.low-is, c.loop-left-test.true))
+      | else-ones_to_entry-rank w ↦ λ h.
+          omega (
+            arith,
+            i.lower_first (omega (arith, h, w.low-is)),
+            ap (λ (r : ReadCounts). r.lower) e.counted,
+            halves_left left c.loop-left-test.true,
+          )
     ] in
     record {
       search = search;
       packed = packed;
       lower = omega (arith, i.lower, ap (λ (r : ReadCounts). r.lower) e.counted, halves_left left c.loop-left-test.true);
+      lower_first = first;
       upper = ap (λ (r : ReadCounts). r.upper) e.counted ∙ i.upper;
       words = ap (λ (r : ReadCounts). r.words) e.counted ∙ i.words;
       same = e.same ∙ i.same;
     }
 
-pub returns-clause-last : goal.returns-clause-last
-returns-clause-last g c =
-    let lists = g.T.TableSource.lists c.args.source.now in
-    let m = sought_in g.row.ONE lists.words in
-    search_ends (λ j. before_in_part m (c.args.part * 2 ^ 21 + j)) (entries_from (length lists.lower) c.args.part) c.args.rank
-    c.loop-left.low c.loop-left.left c.loop-left.invariant.search c.loop-left-test.false
+pub overflow_add-first : goal.overflow_add-first
+overflow_add-first g c =
+    record { fits = omega (arith, c.loop-left.invariant.search.bound, few_entries _ _ _ c.requires.tables c.requires.short) }
+
+pub overflow_add-first-in-loop-left : goal.overflow_add-first-in-loop-left
+overflow_add-first-in-loop-left g c =
+    record { fits = omega (arith, c.loop-left.invariant.search.bound, few_entries _ _ _ c.requires.tables c.requires.short) }
