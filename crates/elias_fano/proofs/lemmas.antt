@@ -1,4 +1,5 @@
 pub mod BucketLemmas
+pub mod CursorLemmas
 pub mod LowLemmas
 pub mod PartLemmas
 pub mod ReadLemmas

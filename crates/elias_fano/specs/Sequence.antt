@@ -27,6 +27,12 @@ pub record Reaches (xs : List ℕ) (v i : ℕ) : Type 0 where
 abbrev pub IsFirstAtLeast : List ℕ → ℕ → Option ℕ → Type 0
 IsFirstAtLeast xs v o = MatchOption o (All (λ x. x < v) xs) (Reaches xs v)
 
+-- the first c items are at most v, and the others are more
+pub record ReachesTo (xs : List ℕ) (v c : ℕ) : Type 0 where
+  pub bound : c ≤ length xs
+  pub below : (j : ℕ) → j < c → slice_index xs j ≤ v
+  pub above : (j : ℕ) → c ≤ j → j < length xs → v < slice_index xs j
+
 -- i is the greatest place whose item is at most v
 pub record StaysWithin (xs : List ℕ) (v i : ℕ) : Type 0 where
   pub inside : i < length xs

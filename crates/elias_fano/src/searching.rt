@@ -66,6 +66,7 @@ fn count_to<T: TableSource>(source: &mut T, above: usize, n: usize) -> usize
 
 /// How many items have a number below `above` above their low digits.
 #[inline(always)]
+#[tactic(auto, using(crate::proofs::lemmas::BucketLemmas::counts_below_zero))]
 fn count_below<T: TableSource>(source: &mut T, above: usize, n: usize) -> usize
     requires tables { HasTables (T.lists source.old) }
     requires short { IsShort (T.lists source.old).words }

@@ -1,22 +1,25 @@
 //! The type of a sequence.
-ghost use Rattle.std.specs.Prelude.{◌≡◌, ◌+◌, ◌*◌, ◌^◌, ◌<◌, ◌≤◌, ◌↔◌, IsErrOf, SomeIff, length, slice_index, IfOk};
+ghost use Rattle.std.specs.Prelude.{◌≡◌, ◌+◌, ◌*◌, ◌^◌, ◌<◌, ◌≤◌, ◌↔◌, IsErrOf, SomeIff, length, slice_index, drop, IfOk};
+ghost use Rattle.std.specs.Int.{div_ceil};
+ghost use Rattle.bitm_bits.specs.Bits.{IsShort};
+ghost use Rattle.bitm_bits.specs.Size.{saturated};
 ghost use Rattle.bitm.specs.Reads.{none_read};
 ghost use Rattle.bitm.specs.Tables.{HasTables};
+ghost use Rattle.elias_fano.specs.Numbers.{StandFrom};
 ghost use Rattle.elias_fano.specs.Parts.{width_of, low_words_of, upper_words_of, IsLow, IsUpper};
-ghost use Rattle.elias_fano.specs.Sequence.{IsSequence, HasFall, IsFirstAtLeast};
+ghost use Rattle.elias_fano.specs.Sequence.{IsSequence, HasFall};
 
+use crate::checking::check;
 use crate::error::EfError;
+use crate::iterating::Numbers;
 use crate::laws;
 use crate::making::{make_low, make_upper, width_for};
-use crate::searching::{first_at_least_counted, joined};
-use bitm::{ArrayWithRank101111, Probe, Select};
-use std::alloc::Global;
+use crate::searching::joined;
+use bitm::{ArrayWithRank101111, CloneWords, GetSize, Probe, Select};
+use std::alloc::{AllocError, Global};
 use std::boxed::BoxedSlice;
 use std::convert::AsSlice;
 use std::marker::Model;
-
-/// As many numbers as a sequence cannot have.
-const TOO_MANY: usize = 1 << 56;
 
 /// A sequence of numbers, each at least the one before it.
 ///
@@ -68,12 +71,7 @@ impl EliasFano {
             64 * (low_words_of made l + upper_words_of made l) ≤ length made * (l + 3) + 126) }
     {
         laws::bit_laws();
-        if items.len() >= TOO_MANY {
-            return Err(EfError::TooLong);
-        }
-        if !items.is_sorted() {
-            return Err(EfError::NotSorted);
-        }
+        check(items)?;
         let width = width_for(items);
         let low = make_low(alloc, items, width)?;
         let upper = make_upper(alloc, items, width)?;
@@ -130,17 +128,6 @@ impl EliasFano {
         }
     }
 
-    /// The least place whose number is at least `v`; `None` exactly where there is none.
-    ///
-    /// # Cost
-    /// That of `first_at_least_counted`.
-    #[inline]
-    pub fn first_at_least(&self, v: u64) -> Option<usize>
-        ensures { IsFirstAtLeast self.now v result }
-    {
-        first_at_least_counted(&mut self.probe(), self.low_words(), self.width, self.len, v)
-    }
-
     /// The low digits of each number, one number after another, and zeros after them.
     #[inline(always)]
     pub fn low_words(&self) -> &[u64]
@@ -162,6 +149,7 @@ impl EliasFano {
     pub fn probe(&self) -> Probe<'_>
         ensures words { IsUpper self.now (width_of self.now) result.lists.words }
         ensures tables { HasTables result.lists }
+        ensures short { IsShort result.lists.words }
         ensures reads { result.reads ≡ none_read }
     {
         self.upper.probe()
@@ -173,5 +161,87 @@ impl EliasFano {
         ensures { result ≡ width_of self.now }
     {
         self.width
+    }
+
+    /// The numbers, from the first on and from the last back.
+    ///
+    /// # Cost
+    /// Nothing is read before the first call of `next` or `next_back`. All numbers together are one pass over the upper
+    /// words and one over the low ones, and no selection.
+    #[inline]
+    pub fn iter(&self) -> Numbers<'_>
+        ensures { result ≡ self.now }
+    {
+        self.numbers(0, 0)
+    }
+
+    /// The numbers from number `place` on.
+    ///
+    /// # Conditions
+    /// The place is that of a number, or the one after all.
+    /// # Cost
+    /// One selection, and none where no number is left; then as `iter`.
+    #[inline]
+    pub fn iter_from(&self, place: usize) -> Numbers<'_>
+        requires { place ≤ length self.now }
+        ensures { result ≡ drop place self.now }
+    {
+        self.numbers(place, self.first_bit(place))
+    }
+
+    /// The numbers from number `place` on, whose ones begin at bit `first` of the upper words.
+    #[inline(always)]
+    fn numbers(&self, place: usize, first: usize) -> Numbers<'_>
+        requires order { place ≤ length self.now }
+        requires stand { StandFrom self.now (width_of self.now) place (length self.now) first }
+        ensures { result ≡ drop place self.now }
+    {
+        let (low, upper) = (self.low_words(), self.upper_words());
+        Numbers::new(low, upper, self.width, self.len, place, first)
+    }
+
+    /// A bit of the upper words after the ones of the numbers before `place`, and not after that of number `place`.
+    #[inline(always)]
+    fn first_bit(&self, place: usize) -> usize
+        requires { place ≤ length self.now }
+        ensures { StandFrom self.now (width_of self.now) place (length self.now) result }
+    {
+        laws::bit_laws();
+        if place < self.len {
+            self.upper.select(place)
+        } else {
+            self.upper_words().len() * 64
+        }
+    }
+
+    /// A sequence of the same numbers.
+    ///
+    /// # Errors
+    /// `AllocError` where memory was refused; this value is as it was.
+    pub fn try_clone(&self, alloc: Global) -> Result<EliasFano, AllocError>
+        ensures { IfOk result (λ copy. copy ≡ self.now) }
+    {
+        let low = self.low.try_same(alloc)?;
+        let upper = self.upper.try_clone(alloc)?;
+        Ok(EliasFano {
+            len: self.len,
+            width: self.width,
+            low,
+            upper,
+        })
+    }
+}
+
+impl GetSize for EliasFano {
+    // both vectors, and eight bytes for each begun 2^32 bits and each begun 2048 bits of the upper one
+    ghost dyn_bytes = { λ xs. let l = width_of xs in let words = upper_words_of xs l in saturated
+        (8 * low_words_of xs l + 8 * words + 8 * div_ceil words (2 ^ 26) + 8 * div_ceil words 32) };
+
+    const USES_DYN_MEM: bool = true;
+
+    fn size_bytes_dyn(&self) -> usize {
+        self.low
+            .size_bytes_dyn()
+            .saturating_add(self.upper.size_bytes_dyn())
     }
 }

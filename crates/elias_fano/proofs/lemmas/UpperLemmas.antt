@@ -25,6 +25,10 @@ upper-rises xs l j i rising order inside =
 pub upper_place-rises : (xs : List ℕ) (l j i : ℕ) → IsNonDecreasing xs → j < i → i < length xs → upper_place xs l j < upper_place xs l i
 upper_place-rises xs l j i rising less inside = omega (arith, upper-rises xs l j i rising (omega arith) inside)
 
+-- and no item at a place before
+pub upper_place-le : (xs : List ℕ) (l j i : ℕ) → IsNonDecreasing xs → j ≤ i → i < length xs → upper_place xs l j ≤ upper_place xs l i
+upper_place-le xs l j i rising order inside = omega (arith, upper-rises xs l j i rising order inside)
+
 -- the one of an item is inside
 pub upper_place-inside : (xs : List ℕ) (l i : ℕ) → IsNonDecreasing xs → i < length xs → upper_place xs l i < 64 * upper_words_of xs l
 upper_place-inside xs l i rising inside =

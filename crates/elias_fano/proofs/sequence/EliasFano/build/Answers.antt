@@ -1,6 +1,5 @@
 -- Sorted numbers are a sequence, and what was made are its parts.
-use Rattle.std.proofs.Common.{ℕ, ◌<◌, ◌^◌, List, length, get_or, refl, ap, sym, subst, arith, true}
-use Rattle.std.proofs.lemmas.List.Sorted.{non_decreasing_from_is_sorted}
+use Rattle.std.proofs.Common.{ℕ, ◌<◌, ◌^◌, List, length, get_or, refl, ap, sym, subst, arith}
 use Rattle.std.specs.Box.{boxed_slice_items}
 use Rattle.elias_fano.proofs.lemmas.PartLemmas.{items_of-is, parts_of_items, upper-short}
 use Rattle.elias_fano.proofs.lemmas.SequenceLemmas.{is_sequence}
@@ -13,8 +12,7 @@ use Rattle.elias_fano.proofs.sequence.EliasFano.build.Goals.{After-width_for-wid
 sequence : (c : After-width_for-width) → IsSequence c.args.items.now
 sequence c =
     let fits : (k : ℕ) → get_or c.args.items.now k 0 < 2 ^ 64 = λ k. omega (arith, c.type_inv.items k) in
-    is_sequence c.args.items.now c.if-items-ge-TOO_MANY.false
-    (non_decreasing_from_is_sorted c.args.items.now true c.if-not-is_sorted.ensures.cases) fits
+    is_sequence c.args.items.now c.in_ok-check.ensures.short c.in_ok-check.ensures.rising fits
 
 pub make_low-requires-clause-sequence : goal.make_low-requires-clause-sequence
 make_low-requires-clause-sequence c = sequence c

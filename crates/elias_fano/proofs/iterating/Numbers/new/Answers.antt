@@ -1,0 +1,18 @@
+-- What is left are the numbers from the place on.
+use Rattle.std.proofs.Common.{◌∙◌, ap, arith}
+use Rattle.elias_fano.proofs.lemmas.CursorLemmas.{IsCursor-whole, items_left-all}
+use Rattle.elias_fano.proofs.lemmas.PartLemmas.{items_of-is, upper-short}
+use Rattle.elias_fano.specs.Numbers.{items_left}
+use Rattle.elias_fano.proofs.iterating.Numbers.new.Goals as goal
+
+pub overflow_mul-result : goal.overflow_mul-result
+overflow_mul-result c = omega (arith, upper-short c.bit_laws.ensures.digits_bound_powers _ _ _ _ _ c.requires.parts.1)
+
+pub invariant_of-result : goal.invariant_of-result
+invariant_of-result c =
+    IsCursor-whole c.bit_laws.ensures c.requires.parts.0 _ _ _ _ _ _ _ c.requires.parts.1 c.requires.order (omega arith) c.requires.parts.2
+
+pub returns : goal.returns
+returns c = λ xs h.
+    ap (λ ys. items_left ys c.args.start c.args.len) (items_of-is xs c.args.len c.args.width c.args.low.now c.args.upper.now h)
+    ∙ items_left-all xs c.args.start c.args.len h.count

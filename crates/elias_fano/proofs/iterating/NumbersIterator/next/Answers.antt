@@ -1,0 +1,55 @@
+-- The first one from bit first on is that of the number at the start.
+use Rattle.std.proofs.Common.{◌+◌, ◌∷◌, sym, ap, ◌∙◌, arith}
+use Rattle.elias_fano.proofs.lemmas.CursorLemmas.{some-first, first-picked, IsCursor-first, items_left-none, items_left-first}
+use Rattle.elias_fano.proofs.lemmas.PartLemmas.{parts-width, upper-short, place-after, held-is, held-fits}
+use Rattle.elias_fano.specs.Numbers.{items_left}
+use Rattle.elias_fano.specs.Parts.{items_of}
+use Rattle.elias_fano.proofs.iterating.NumbersIterator.next.Goals as goal
+
+pub returns-then-self-clause-steps : goal.returns-then-self-clause-steps
+returns-then-self-clause-steps c =
+    let none = sym c.self.view_is ∙ items_left-none _ c.self.inside.start c.self.inside.end c.if-self.true in
+    (none, none)
+
+pub find_bit_one_unchecked-place-requires-clause-exists : goal.find_bit_one_unchecked-place-requires-clause-exists
+find_bit_one_unchecked-place-requires-clause-exists c =
+    some-first c.bit_laws.ensures _ _ _ _ _ _ _ _ _ c.self.invariant c.if-self.false
+
+pub find_bit_one_unchecked-place-requires-clause-short : goal.find_bit_one_unchecked-place-requires-clause-short
+find_bit_one_unchecked-place-requires-clause-short c =
+    upper-short c.bit_laws.ensures.digits_bound_powers _ _ _ _ _ c.self.invariant.parts
+
+pub overflow_sub-place : goal.overflow_sub-place
+overflow_sub-place c =
+    let h = c.self.invariant in
+    let at = first-picked c.bit_laws.ensures _ _ _ _ _ _ _ _ _ h c.if-self.false _ c.find_bit_one_unchecked-place.ensures in
+    place-after c.bit_laws.ensures _ _ _ _ _ _ _ h.parts (omega (arith, h.within, c.if-self.false)) at
+
+pub joined-number-requires-clause-width : goal.joined-number-requires-clause-width
+joined-number-requires-clause-width c = parts-width c.bit_laws.ensures.digits_bound_powers _ _ _ _ _ c.self.invariant.parts
+
+pub joined-number-requires-clause-fits : goal.joined-number-requires-clause-fits
+joined-number-requires-clause-fits c =
+    let h = c.self.invariant in
+    let at = first-picked c.bit_laws.ensures _ _ _ _ _ _ _ _ _ h c.if-self.false _ c.find_bit_one_unchecked-place.ensures in
+    held-fits c.bit_laws.ensures _ _ _ _ _ _ _ h.parts (omega (arith, h.within, c.if-self.false)) at
+
+pub overflow_add-self-2 : goal.overflow_add-self-2
+overflow_add-self-2 c =
+    let short = upper-short c.bit_laws.ensures.digits_bound_powers _ _ _ _ _ c.self.invariant.parts in
+    omega (arith, short, c.find_bit_one_unchecked-place.ensures.inside, c.bit_laws.ensures.bits_are_counted c.self.inside.upper.now)
+
+pub invariant_of-self : goal.invariant_of-self
+invariant_of-self c =
+    IsCursor-first c.bit_laws.ensures _ _ _ _ _ _ _ _ _ c.self.invariant c.if-self.false _ c.find_bit_one_unchecked-place.ensures
+
+pub returns-clause-steps : goal.returns-clause-steps
+returns-clause-steps c =
+    let it = c.self.inside in
+    let xs = items_of it.len it.width it.low.now it.upper.now in
+    let h = c.self.invariant in
+    let at = first-picked c.bit_laws.ensures _ _ _ _ _ _ _ _ _ h c.if-self.false _ c.find_bit_one_unchecked-place.ensures in
+    let number = c.joined-number.ensures ∙ held-is c.bit_laws.ensures _ _ _ _ _ _ _ h.parts (omega (arith, h.within, c.if-self.false)) at in
+    sym c.self.view_is
+    ∙ items_left-first xs it.start it.end c.if-self.false (omega (arith, h.within, h.parts.count))
+    ∙ ap (λ x. x ∷ items_left xs (it.start + 1) it.end) (sym number)

@@ -1,0 +1,204 @@
+-- The ones of the numbers that an iterator has left: the first and the last of them, and what a step leaves.
+use Rattle.std.proofs.Common.{◌≡◌, ℕ, suc, ◌+◌, ◌-◌, ◌*◌, ◌<◌, ◌≤◌, true, cond, List, [], ◌∷◌, ◌++◌, length, get_or, take, drop, sym, refl, ap, ◌∙◌, ⊎_elim, arith, subst, length-take, length-drop, take_all}
+use Rattle.std.proofs.Math.Seq.{drop-cons, take-add}
+use Rattle.std.proofs.lemmas.Bool.{cases_lt, false≢true}
+use Rattle.std.proofs.lemmas.List.{get_or-drop}
+use Rattle.std.specs.List.Sorted.{IsNonDecreasing}
+use Rattle.bitm_bits.specs.Bits.{bits_of, item}
+use Rattle.bitm_bits.specs.Count.{ones_before, is_same, Picks, IsFirstOneFrom, IsLastOneTo}
+use Rattle.elias_fano.proofs.lemmas.PartLemmas.{items_of-is}
+use Rattle.elias_fano.proofs.lemmas.UpperLemmas.{one_is, place_is, ones_are, upper_place-le, upper_place-rises, upper_place-inside}
+use Rattle.elias_fano.specs.Laws.{BitLaws}
+use Rattle.elias_fano.specs.Numbers.{items_left, StandFrom, IsCursor}
+use Rattle.elias_fano.specs.Parts.{upper_place, upper_words_of, IsUpper, ArePartsOf, items_of}
+
+-- ---- items of a range
+
+pub items_left-none : (xs : List ℕ) (start end : ℕ) → end ≤ start → items_left xs start end ≡ []
+items_left-none xs start end none = let e : end - start ≡ 0 = omega arith in ap (λ m. take m (drop start xs)) e
+
+pub items_left-all : (xs : List ℕ) (start n : ℕ) → n ≡ length xs → items_left xs start n ≡ drop start xs
+items_left-all xs start n all = take_all (n - start) (drop start xs) (omega (arith, length-drop start xs))
+
+pub items_left-first : (xs : List ℕ) (start end : ℕ) → start < end → end ≤ length xs
+    → items_left xs start end ≡ get_or xs start 0 ∷ items_left xs (start + 1) end
+items_left-first xs start end some within =
+    let many : end - start ≡ suc (end - (start + 1)) = omega arith in
+    let next : suc start ≡ start + 1 = omega arith in
+    ap (take (end - start)) (drop-cons xs start 0 (omega arith))
+    ∙ ap (λ m. take m (get_or xs start 0 ∷ drop (suc start) xs)) many
+    ∙ ap (λ k. get_or xs start 0 ∷ take (end - (start + 1)) (drop k xs)) next
+
+pub items_left-last : (xs : List ℕ) (start end : ℕ) → start < end → end ≤ length xs
+    → items_left xs start end ≡ items_left xs start (end - 1) ++ get_or xs (end - 1) 0 ∷ []
+items_left-last xs start end some within =
+    let m = end - 1 - start in
+    let many : end - start ≡ m + 1 = omega arith in
+    let rest = drop start xs in
+    let inside : m < length rest = omega (arith, length-drop start xs) in
+    let at : start + m ≡ end - 1 = omega arith in
+    ap (λ k. take k rest) many
+    ∙ take-add m 1 rest
+    ∙ ap (λ ys. take m rest ++ take 1 ys) (drop-cons rest m 0 inside)
+    ∙ ap (λ x. take m rest ++ x ∷ []) (get_or-drop start xs m 0 ∙ ap (λ k. get_or xs k 0) at)
+
+pub length-items_left : (xs : List ℕ) (start end : ℕ) → start ≤ end → end ≤ length xs → length (items_left xs start end) ≡ end - start
+length-items_left xs start end order within =
+    omega (arith, length-take (end - start) (drop start xs), length-drop start xs)
+
+-- ---- ones
+
+module _ (laws : BitLaws) (xs : List ℕ) (l : ℕ) (upper : List ℕ) (h : IsUpper xs l upper) where
+  one_at : (j : ℕ) → j < length xs → Picks (bits_of upper) true j (upper_place xs l j)
+  one_at j inside = one_is laws.places_are_picked xs l upper j h inside
+
+  -- each one is that of an item
+  item_of : (p : ℕ) → p < length (bits_of upper) → item (bits_of upper) p ≡ true → (j : ℕ) × (j < length xs) × (p ≡ upper_place xs l j)
+  item_of p inside one =
+      let b = bits_of upper in
+      let j = ones_before b p in
+      let next : p + 1 ≤ length b = omega arith in
+      let more : ones_before b (p + 1) ≡ j + 1 = laws.count_after_item b true p inside ∙ ap (λ x. j + cond (is_same true x) 1 0) one in
+      let few : j < length xs =
+      omega (arith, more, laws.counts_grow b true (p + 1) (length b) next, ones_are laws.places_are_counted xs l upper h) in
+      let here : Picks b true j p = record { inside = inside; item = one; before = refl } in
+      (j, few, place_is laws.at_most_one_picked laws.places_are_picked xs l upper j p h few here)
+
+module _ (laws : BitLaws) (xs : List ℕ) (n l : ℕ) (low upper : List ℕ) (start end first limit : ℕ)
+    (h : IsCursor xs n l low upper start end first limit) (some : start < end) where
+  here : Picks (bits_of upper) true start (upper_place xs l start)
+  here = one_at laws xs l upper h.parts.upper_is start (omega (arith, h.within, h.parts.count))
+
+  there : Picks (bits_of upper) true (end - 1) (upper_place xs l (end - 1))
+  there = one_at laws xs l upper h.parts.upper_is (end - 1) (omega (arith, h.within, h.parts.count))
+
+  -- the first one from bit first on is that of the first item left
+  pub first-is : (p : ℕ) → IsFirstOneFrom (bits_of upper) first p → p ≡ upper_place xs l start
+  first-is p found =
+      let j = item_of laws xs l upper h.parts.upper_is p found.inside found.one in
+      let not_before : start ≤ j.0 =
+      ⊎_elim (λ early. absurd (omega (arith, h.before j.0 early, j.2, found.from))) (λ from. from) (cases_lt j.0 start) in
+      let from : upper_place xs l start ≤ p =
+      omega (arith, j.2, upper_place-le xs l start j.0 h.parts.sequence.rising not_before j.1) in
+      let to : p ≤ upper_place xs l start =
+      ⊎_elim
+      (λ less. absurd (false≢true (sym (found.least (upper_place xs l start) (omega (arith, h.left start)) less) ∙ here.item)))
+      (λ order. order)
+      (cases_lt (upper_place xs l start) p) in
+      omega arith
+
+  -- the last one before bit limit is that of the last item left
+  pub last-is : (p : ℕ) → IsLastOneTo (bits_of upper) (limit - 1) p → p ≡ upper_place xs l (end - 1)
+  last-is p found =
+      let j = item_of laws xs l upper h.parts.upper_is p found.inside found.one in
+      let bound : 0 < limit = omega (arith, h.left start) in
+      let not_after : j.0 ≤ end - 1 =
+      ⊎_elim (λ before. omega arith) (λ late. absurd (omega (arith, h.after j.0 late, j.1, j.2, found.to, h.parts.count))) (cases_lt j.0 end) in
+      let to : p ≤ upper_place xs l (end - 1) =
+      omega (arith, j.2, upper_place-le xs l j.0 (end - 1) h.parts.sequence.rising not_after (omega (arith, h.within, h.parts.count))) in
+      let within : upper_place xs l (end - 1) ≤ limit - 1 = omega (arith, h.left (end - 1)) in
+      let from : upper_place xs l (end - 1) ≤ p =
+      ⊎_elim
+      (λ more. absurd (false≢true (sym (found.greatest (upper_place xs l (end - 1)) more within) ∙ there.item)))
+      (λ order. order)
+      (cases_lt p (upper_place xs l (end - 1))) in
+      omega arith
+
+  -- so both are there to be found
+  pub some-first : (p : ℕ) × (first ≤ p) × (item (bits_of upper) p ≡ true)
+  some-first = (upper_place xs l start, omega (arith, h.left start), here.item)
+
+  pub some-last : (p : ℕ) × (p ≤ limit - 1) × (item (bits_of upper) p ≡ true)
+  some-last = (upper_place xs l (end - 1), omega (arith, h.left (end - 1)), there.item)
+
+  pub limit-some : 0 < limit
+  limit-some = omega (arith, h.left start)
+
+  pub first-picked : (p : ℕ) → IsFirstOneFrom (bits_of upper) first p → Picks (bits_of upper) true start p
+  first-picked p found = let P : ℕ → Type 0 = λ q. Picks (bits_of upper) true start q in subst P (sym (first-is p found)) here
+
+  pub last-picked : (p : ℕ) → IsLastOneTo (bits_of upper) (limit - 1) p → Picks (bits_of upper) true (end - 1) p
+  last-picked p found = let P : ℕ → Type 0 = λ q. Picks (bits_of upper) true (end - 1) q in subst P (sym (last-is p found)) there
+
+  -- what is left after a step from the front
+  pub IsCursor-first : (p : ℕ) → IsFirstOneFrom (bits_of upper) first p → IsCursor xs n l low upper (start + 1) end (p + 1) limit
+  IsCursor-first p found = record {
+    parts = h.parts;
+    order = omega arith;
+    within = h.within;
+    room = h.room;
+    before = λ j less. omega (
+      arith,
+      first-is p found,
+      upper_place-le xs l j start h.parts.sequence.rising (omega arith) (omega (arith, h.within, h.parts.count)),
+    );
+    left = λ j from to. (
+      omega (
+        arith,
+        first-is p found,
+        upper_place-rises xs l start j h.parts.sequence.rising (omega arith) (omega (arith, h.within, h.parts.count)),
+      ),
+      (h.left j (omega arith) to).1,
+    );
+    after = h.after;
+  }
+
+  -- and from the back
+  pub IsCursor-last : (p : ℕ) → IsLastOneTo (bits_of upper) (limit - 1) p → IsCursor xs n l low upper start (end - 1) first p
+  IsCursor-last p found = record {
+    parts = h.parts;
+    order = omega arith;
+    within = omega (arith, h.within);
+    room = omega (arith, last-is p found, h.left (end - 1), h.room);
+    before = h.before;
+    left = λ j from to. (
+      (h.left j from (omega arith)).0,
+      omega (
+        arith,
+        last-is p found,
+        upper_place-rises xs l j (end - 1) h.parts.sequence.rising to (omega (arith, h.within, h.parts.count)),
+      ),
+    );
+    after = λ j from less. omega (
+      arith,
+      last-is p found,
+      upper_place-le xs l (end - 1) j h.parts.sequence.rising from (omega (arith, h.parts.count)),
+    );
+  }
+
+-- all items from a place on, whose ones begin at bit first
+pub IsCursor-whole : BitLaws → (xs : List ℕ) (n l : ℕ) (low upper : List ℕ) (start first limit : ℕ)
+    → ArePartsOf xs n l low upper → start ≤ n → limit ≡ 64 * length upper
+    → StandFrom xs l start n first → IsCursor (items_of n l low upper) n l low upper start n first limit
+IsCursor-whole laws xs n l low upper start first limit h order all stand =
+    let P : List ℕ → Type 0 = λ ys. IsCursor ys n l low upper start n first limit in
+    subst P (sym (items_of-is xs n l low upper h)) record {
+      parts = h;
+      order = order;
+      within = omega arith;
+      room = omega arith;
+      before = stand.before;
+      left = λ j at less. (
+        stand.from j at less,
+        omega (arith, (one_at laws xs l upper h.upper_is j (omega (arith, h.count))).inside, laws.bits_are_counted upper),
+      );
+      after = λ j past less. absurd (omega arith);
+    }
+
+-- the one that a place picks, from which the ones of its number and of those after it stand
+pub StandFrom-picked : BitLaws → (xs : List ℕ) (n l : ℕ) (low upper : List ℕ) (start p : ℕ) → ArePartsOf xs n l low upper
+    → start < length xs → Picks (bits_of upper) true start p → StandFrom xs l start (length xs) p
+StandFrom-picked laws xs n l low upper start p h some here =
+    let at = place_is laws.at_most_one_picked laws.places_are_picked xs l upper start p h.upper_is some here in
+    record {
+      before = λ j less. omega (arith, at, upper_place-rises xs l j start h.sequence.rising less some);
+      from = λ j from less. omega (arith, at, upper_place-le xs l start j h.sequence.rising from less);
+    }
+
+-- the end, where no number is left
+pub StandFrom-end : (xs : List ℕ) (l start first : ℕ) → IsNonDecreasing xs → start ≡ length xs → first ≡ 64 * upper_words_of xs l
+    → StandFrom xs l start (length xs) first
+StandFrom-end xs l start first rising all end = record {
+  before = λ j less. omega (arith, upper_place-inside xs l j rising (omega arith));
+  from = λ j from less. absurd (omega arith);
+}

@@ -1,0 +1,131 @@
+//! The numbers of a sequence, as an iterator from either end.
+ghost use Rattle.std.specs.Prelude.{◌≡◌, ◌≤◌, ℕ, List, length, drop, Some, IfSome};
+ghost use Rattle.std.specs.Iterator.{YieldsFirst, YieldsLast, item_count, UpTo, at_most};
+ghost use Rattle.std.specs.Iterator.SizeHint.{IsWithinCount};
+ghost use Rattle.elias_fano.specs.Numbers.{StandFrom};
+ghost use Rattle.elias_fano.specs.Parts.{ArePartsOf};
+
+use crate::laws;
+use crate::searching::joined;
+use bitm::words;
+use std::iter::{DoubleEndedIterator, ExactSizeIterator, FusedIterator, Iterator};
+use std::marker::Model;
+
+/// The numbers of a sequence that are left, from either end, seen as their list.
+#[derive(Drop)]
+pub struct Numbers<'a> {
+    low: &'a [u64],
+    upper: &'a [u64],
+    width: u8,
+    // How many numbers the sequence has.
+    len: usize,
+    // The places of the numbers that are left.
+    start: usize,
+    end: usize,
+    // The bits of the upper words among which their ones stand.
+    first: usize,
+    limit: usize,
+}
+
+impl<'a> Model for Numbers<'a> {
+    ghost use Rattle.std.specs.Prelude.{List, ℕ};
+    ghost use Rattle.elias_fano.specs.Numbers.{IsCursor, items_left};
+    ghost use Rattle.elias_fano.specs.Parts.{items_of};
+
+    ghost Value = { List ℕ };
+
+    ghost view = { λ it. items_left (items_of it.len it.width it.low.now it.upper.now) it.start it.end };
+
+    ghost invariant = { λ it. let low = it.low.now in let upper = it.upper.now in
+        IsCursor (items_of it.len it.width low upper) it.len it.width low upper
+        it.start it.end it.first it.limit };
+}
+
+impl<'a> Numbers<'a> {
+    /// The numbers from place `start` on, of a sequence of `len` numbers with these parts; bit `first` of the upper words
+    /// is after the ones of the numbers before, and not after the one of number `start`.
+    #[inline(always)]
+    pub(crate) fn new(
+        low: &'a [u64],
+        upper: &'a [u64],
+        width: u8,
+        len: usize,
+        start: usize,
+        first: usize,
+    ) -> Self
+        requires parts { (xs : List ℕ) × ArePartsOf xs len width low.now upper.now
+            × StandFrom xs width start len first }
+        requires order { start ≤ len }
+        ensures { (xs : List ℕ) → ArePartsOf xs len width low.now upper.now → result ≡ drop start xs }
+    {
+        laws::bit_laws();
+        Numbers {
+            low,
+            upper,
+            width,
+            len,
+            start,
+            end: len,
+            first,
+            limit: upper.len() * 64,
+        }
+    }
+}
+
+impl<'a> Iterator for Numbers<'a> {
+    type Item = u64;
+
+    ghost next_gives = { YieldsFirst (λ left. left) };
+
+    ghost remaining = { item_count (λ left. left) };
+
+    #[inline]
+    fn next(&mut self) -> Option<u64> {
+        laws::bit_laws();
+        if self.start >= self.end {
+            return None;
+        }
+        let place = words::find_bit_one_unchecked(self.upper, self.first);
+        let number = joined(place - self.start, self.low, self.start, self.width);
+        self.start += 1;
+        self.first = place + 1;
+        Some(number)
+    }
+
+    #[inline]
+    fn size_hint(&self) -> (usize, Option<usize>)
+        ensures lower { IsWithinCount result.0 (at_most (length self.now)) }
+        ensures upper { IfSome result.1 (UpTo (at_most (length self.now))) }
+        ensures exact { (result.0 ≡ length self.now) × (result.1 ≡ Some (length self.now)) }
+    {
+        let len = self.len();
+        (len, Some(len))
+    }
+}
+
+impl<'a> DoubleEndedIterator for Numbers<'a> {
+    ghost next_back_gives = { YieldsLast (λ left. left) };
+
+    #[inline]
+    fn next_back(&mut self) -> Option<u64> {
+        laws::bit_laws();
+        if self.start >= self.end {
+            return None;
+        }
+        let at = self.end - 1;
+        let place = words::rfind_bit_one_unchecked(self.upper, self.limit - 1);
+        let number = joined(place - at, self.low, at, self.width);
+        self.end = at;
+        self.limit = place;
+        Some(number)
+    }
+}
+
+impl<'a> ExactSizeIterator for Numbers<'a> {
+    #[inline]
+    fn len(&self) -> usize {
+        self.end - self.start
+    }
+}
+
+impl<'a> FusedIterator for Numbers<'a> {}
