@@ -1,5 +1,5 @@
 -- What was read of a source: one for each call that reads, by kind.
-use Rattle.std.specs.Prelude.{ℕ, ◌+◌, ◌≤◌}
+use Rattle.std.specs.Prelude.{◌≡◌, ℕ, ◌+◌, ◌≤◌}
 use Rattle.bitm.specs.Tables.{Lists}
 use Rattle.bitm.specs.declared.probe.counts.ReadCounts.{ReadCounts}
 
@@ -24,6 +24,12 @@ pub record ReadsAtMost (early late : ReadCounts) (uppers lowers words_read : ℕ
   pub upper : late.upper ≤ early.upper + uppers
   pub lower : late.lower ≤ early.lower + lowers
   pub words : late.words ≤ early.words + words_read
+
+-- a call only read: at most so many upper entries, lower entries and words, and the source has the same lists
+pub record OnlyReads {S : Type 0} (lists_of : S → Lists) (reads_of : S → ReadCounts) (old new : S) (uppers lowers words_read : ℕ)
+    : Type 0 where
+  pub at_most : ReadsAtMost (reads_of old) (reads_of new) uppers lowers words_read
+  pub same : lists_of new ≡ lists_of old
 
 -- what a source over slices is seen as
 pub record Probed : Type 0 where

@@ -23,6 +23,14 @@ part_of b k = take (2 ^ 32) (drop (k * 2 ^ 32) b)
 abbrev pub rank_in : List Bool → Bool → ℕ → ℕ → ℕ
 rank_in b v rank k = rank - count_before b v (k * 2 ^ 32)
 
+-- the part of place p
+abbrev pub part_at : ℕ → ℕ
+part_at p = p / 2 ^ 32
+
+-- the entry of place p, counted from the start of its part
+abbrev pub entry_at : ℕ → ℕ
+entry_at p = p % 2 ^ 32 / 2048
+
 -- ---- samples of one part c
 
 -- the place of item v number t, or the length where there are no so many
@@ -133,6 +141,7 @@ pub record WalkedOut (c : List Bool) (v : Bool) (d r uppers : ℕ) (early late :
 abbrev pub SampledReads : List Bool → Bool → ℕ → ℕ → Option ℕ → ReadCounts → ReadCounts → Type 0
 SampledReads b v d rank result early late =
     let uppers = digit_count (parts b) + 1 in
+    let last = parts b - 1 in
     MatchOption result
-    (WalkedOut (part_of b (parts b - 1)) v d (rank_in b v rank (parts b - 1)) uppers early late)
-    (λ p. WalkedTo (part_of b (p / 2 ^ 32)) v d (rank_in b v rank (p / 2 ^ 32)) (p % 2 ^ 32 / 2048) uppers early late)
+    (WalkedOut (part_of b last) v d (rank_in b v rank last) uppers early late)
+    (λ p. WalkedTo (part_of b (part_at p)) v d (rank_in b v rank (part_at p)) (entry_at p) uppers early late)

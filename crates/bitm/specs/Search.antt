@@ -13,13 +13,14 @@ padded b = b ++ replicate (div_ceil (length b) 2048 * 2048 - length b) false
 abbrev pub negated : List Bool → List Bool
 negated b = map not b
 
--- the padded bits, all negated where zeros are sought: a missing bit of the last entry then counts as a zero
-abbrev pub marked : Bool → List Bool → List Bool
-marked v b = if v then padded b else negated (padded b)
+-- the bits in which ones are sought: the padded bits, all negated where v is false, so that a missing bit of the last entry
+-- counts as a zero
+abbrev pub sought : Bool → List Bool → List Bool
+sought v b = if v then padded b else negated (padded b)
 
--- the same of words, where 0 stands for zeros and each other number for ones
+-- the bits of words in which ones are sought, where 0 stands for zeros and each other number for ones
 abbrev pub sought_in : ℕ → List ℕ → List Bool
-sought_in one words = marked (kind one) (bits_of words)
+sought_in one words = sought (kind one) (bits_of words)
 
 -- k is the last of n places whose count is at most r, as far as the next one tells
 pub record IsLast (count : ℕ → ℕ) (n r k : ℕ) : Type 0 where
@@ -42,17 +43,21 @@ IsLastPart m parts r part = IsLast (λ k. ones_before m (k * 2 ^ 32)) parts r pa
 abbrev pub entries_from : ℕ → ℕ → ℕ
 entries_from entries part = min (entries - part * 2 ^ 21) (2 ^ 21)
 
+-- entry j of a part, counted from the first entry of all
+abbrev pub entry_in : ℕ → ℕ → ℕ
+entry_in part j = part * 2 ^ 21 + j
+
 -- the last entry of a part with no more than r ones before it in the part
 abbrev pub IsLastEntry : List Bool → ℕ → ℕ → ℕ → ℕ → Type 0
-IsLastEntry m entries part r e = IsLast (λ j. before_in_part m (part * 2 ^ 21 + j)) (entries_from entries part) r e
+IsLastEntry m entries part r e = IsLast (λ j. before_in_part m (entry_in part j)) (entries_from entries part) r e
 
 -- the last entry of a part with no more than r ones before it in the part is among those from low on, of which so many are left
 abbrev pub IsAmong : List Bool → ℕ → ℕ → ℕ → ℕ → ℕ → Type 0
 IsAmong m entries part r low left = Between (λ j. before_in_part m (part * 2 ^ 21 + j)) (entries_from entries part) r low left
 
--- how many ones stand before entry j of a part in the part, or zeros where they are sought
+-- how many of the bits that are sought stand in a part before its entry j
 abbrev pub items_to : ℕ → List Bool → ℕ → ℕ → ℕ
-items_to one b part j = before_in_part (marked (kind one) b) (part * 2 ^ 21 + j)
+items_to one b part j = before_in_part (sought (kind one) b) (entry_in part j)
 
 -- w is word k of the bits in which ones are sought
 abbrev pub IsWord : List Bool → ℕ → ℕ → Type 0

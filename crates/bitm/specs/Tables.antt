@@ -2,7 +2,7 @@
 use Rattle.std.specs.Prelude.{◌≡◌, ℕ, ◌*◌, ◌^◌, Bool, List, map, length}
 use Rattle.std.specs.Int.{div_ceil}
 use Rattle.std.specs.List.{range_with_len}
-use Rattle.bitm_bits.specs.Bits.{bits_of}
+use Rattle.bitm_bits.specs.Bits.{bits_of, IsShort}
 use Rattle.bitm_bits.specs.Count.{ones_before}
 use Rattle.bitm.specs.Entry.{lower_entry}
 
@@ -28,3 +28,12 @@ pub record Lists : Type 0 where
 -- the tables are those of the words
 abbrev pub HasTables : Lists → Type 0
 HasTables lists = AreTablesOf (bits_of lists.words) lists.upper lists.lower
+
+-- the bits of the words
+abbrev pub bits_in : Lists → List Bool
+bits_in lists = bits_of lists.words
+
+-- the tables are those of the words, of which there are few enough for an index
+pub record IsIndexed (lists : Lists) : Type 0 where
+  pub tables : HasTables lists
+  pub short : IsShort lists.words

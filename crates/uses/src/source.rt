@@ -1,9 +1,9 @@
 //! Words and tables that a user keeps, as a source whose reads are counted: rank and selection over it, with their reads.
 ghost use Rattle.std.specs.Prelude.{◌≡◌, ◌+◌, false, length};
-ghost use Rattle.bitm_bits.specs.Bits.{bits_of, digit_count, IsShort};
+ghost use Rattle.bitm_bits.specs.Bits.{digit_count};
 ghost use Rattle.bitm_bits.specs.Count.{IsRank, IsSelect};
 ghost use Rattle.bitm.specs.Reads.{ReadsAtMost};
-ghost use Rattle.bitm.specs.Tables.{HasTables};
+ghost use Rattle.bitm.specs.Tables.{IsIndexed, bits_in};
 
 use bitm::{ReadCounts, TableSource, binary_select_on, rank_on};
 use std::marker::Model;
@@ -84,9 +84,8 @@ impl TableSource for Kept {
 /// # Conditions
 /// The tables are those of the words, of which there are fewer than 2^58.
 pub fn rank_in(kept: &mut Kept, index: usize) -> Option<usize>
-    requires tables { HasTables kept.old.lists }
-    requires short { IsShort kept.old.lists.words }
-    ensures answer { IsRank (bits_of kept.old.lists.words) index result }
+    requires { IsIndexed kept.old.lists }
+    ensures answer { IsRank (bits_in kept.old.lists) index result }
     ensures reads { ReadsAtMost kept.old.reads kept.new.reads 1 1 8 }
 {
     rank_on(kept, index)
@@ -97,9 +96,8 @@ pub fn rank_in(kept: &mut Kept, index: usize) -> Option<usize>
 /// # Conditions
 /// The tables are those of the words, of which there are fewer than 2^58.
 pub fn select0_in(kept: &mut Kept, rank: usize) -> Option<usize>
-    requires tables { HasTables kept.old.lists }
-    requires short { IsShort kept.old.lists.words }
-    ensures answer { IsSelect (bits_of kept.old.lists.words) false rank result }
+    requires { IsIndexed kept.old.lists }
+    ensures answer { IsSelect (bits_in kept.old.lists) false rank result }
     ensures reads { ReadsAtMost kept.old.reads kept.new.reads
         (digit_count (length kept.old.lists.upper) + 1) 23 8 }
 {

@@ -10,7 +10,7 @@ use Rattle.bitm_bits.proofs.lemmas.CountLemmas.{ones_before-add-zeros_before}
 use Rattle.bitm_bits.specs.Count.{count_of, ones_before, count_before, kind}
 use Rattle.bitm.specs.Entry.{before_in_part, lower_entry, FieldsFit}
 use Rattle.bitm.specs.Samples.{Tabled, part_of, entry_of, sample}
-use Rattle.bitm.specs.Search.{IsLast, IsLastEntry, entries_from, marked, negated, padded}
+use Rattle.bitm.specs.Search.{IsLast, IsLastEntry, entries_from, sought, negated, padded}
 use Rattle.bitm.proofs.lemmas.EntryLemmas.{entry-fits}
 use Rattle.bitm.proofs.lemmas.MarkLemmas.{kind_other}
 use Rattle.bitm.proofs.lemmas.PartLemmas.{length-part_of, count_of-part_of, last_same, last_alike, entry_last, count_before-between, count_in_part}
@@ -36,12 +36,12 @@ module _ (b : List Bool) (upper lower : List ℕ) (total len : ℕ) (t : Tabled 
   pub fits_at : (j : ℕ) → j < length lower → FieldsFit (slice_index lower j) j
   fits_at j h = subst (λ (e : ℕ). FieldsFit e j) (sym (t'.lower_is j h)) (entry-fits b j)
 
-  pub ones_at : (j one : ℕ) → j < length lower → one ≢ 0 → slice_index lower j ≡ lower_entry (marked (kind one) b) j
+  pub ones_at : (j one : ℕ) → j < length lower → one ≢ 0 → slice_index lower j ≡ lower_entry (sought (kind one) b) j
   ones_at j one h other = t'.lower_is j h ∙ entry_ones b j one other
 
   pub zeros_at : (j one r : ℕ) → j < length lower → one ≡ 0
       → (j < div_ceil (length b) 2048 → slice_index lower j ≡ lower_entry b j → r ≡ lower_entry (negated (padded b)) j)
-      → r ≡ lower_entry (marked (kind one) b) j
+      → r ≡ lower_entry (sought (kind one) b) j
   zeros_at j one r h none f = f (omega (arith, t'.lower_length)) (t'.lower_is j h) ∙ entry_zeros b j one none
 
   module _ (k : ℕ) (inside : k < length upper) where
@@ -89,11 +89,11 @@ module _ (b : List Bool) (upper lower : List ℕ) (total len : ℕ) (t : Tabled 
 -- what an advance to an item finds is the item's entry
 pub advanced : (b : List Bool) (upper lower : List ℕ) (total len : ℕ) → Tabled b upper lower total len
     → (v : Bool) (k : ℕ) → k < length upper → (item e : ℕ) → item < count_of (part_of b k) v
-    → IsLastEntry (marked v b) (length lower) k item e → e ≡ entry_of (part_of b k) v item
+    → IsLastEntry (sought v b) (length lower) k item e → e ≡ entry_of (part_of b k) v item
 advanced b upper lower total len t v k inside item e some last =
     let c = part_of b k in
     let n = div_ceil (length c) 2048 in
-    let f : ℕ → ℕ = λ j. before_in_part (marked v b) (k * 2 ^ 21 + j) in
+    let f : ℕ → ℕ = λ j. before_in_part (sought v b) (k * 2 ^ 21 + j) in
     let g : ℕ → ℕ = λ j. count_before c v (2048 * j) in
     let here : IsLast f n item e = subst (λ (m : ℕ). IsLast f m item e) (entries_of_part b upper lower total len t k inside) last in
     last_same g (λ i j h. count_before-between v c (2048 * i) (2048 * j) (omega arith)) n item e (entry_of c v item)

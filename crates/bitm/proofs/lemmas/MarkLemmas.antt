@@ -1,4 +1,4 @@
--- Ones of the marked bits are bits of the kind that is sought; what a word of them tells of a place.
+-- Ones of the sought bits are bits of the kind that is sought; what a word of them tells of a place.
 use Rattle.std.proofs.Common.{◌≡◌, ◌≢◌, ℕ, zero, suc, ◌+◌, ◌-◌, ◌*◌, ◌%◌, ◌^◌, ◌<◌, ◌≤◌, Bool, true, false, not, List, length, min, slice_index, count_ones, arith, refl, sym, ap, ◌∙◌, w64, inl, inr}
 use Rattle.std.proofs.lemmas.Bool.{cases_lt}
 use Rattle.std.proofs.lemmas.Nat.{ones_le_self}
@@ -9,32 +9,32 @@ use Rattle.bitm_bits.proofs.lemmas.CountLemmas.{ones_before_more, zeros_before_m
 use Rattle.bitm_bits.proofs.lemmas.WordLemmas.{truth}
 use Rattle.bitm_bits.specs.Bits.{bits_of, item}
 use Rattle.bitm_bits.specs.Count.{ones_before, count_before, kind, Picks}
-use Rattle.bitm.specs.Search.{marked, sought_in, IsWord}
+use Rattle.bitm.specs.Search.{sought, sought_in, IsWord}
 use Rattle.bitm.proofs.lemmas.EntryLemmas.{ones_before-padded, ones_before-complement}
 use Rattle.bitm.proofs.lemmas.StretchLemmas.{ones_before-self, ones_before-between}
 
 -- ---- counts
 
-pub ones_before-marked : (b : List Bool) (i : ℕ) → ones_before (marked true b) i ≡ ones_before b i
-ones_before-marked b i = ones_before-padded b (div_ceil (length b) 2048 * 2048 - length b) i
+pub ones_before-sought : (b : List Bool) (i : ℕ) → ones_before (sought true b) i ≡ ones_before b i
+ones_before-sought b i = ones_before-padded b (div_ceil (length b) 2048 * 2048 - length b) i
 
-pub zeros_before-marked : (b : List Bool) (i : ℕ) → i ≤ length b → ones_before (marked false b) i ≡ i - ones_before b i
-zeros_before-marked b i h = omega (arith, ones_before-complement b i (omega arith))
+pub zeros_before-sought : (b : List Bool) (i : ℕ) → i ≤ length b → ones_before (sought false b) i ≡ i - ones_before b i
+zeros_before-sought b i h = omega (arith, ones_before-complement b i (omega arith))
 
-pub marked_zero : (b : List Bool) (one : ℕ) → one ≡ 0 → marked (kind one) b ≡ marked false b
-marked_zero b one h = ap (λ (n : ℕ). marked (kind n) b) h
+pub marked_zero : (b : List Bool) (one : ℕ) → one ≡ 0 → sought (kind one) b ≡ sought false b
+marked_zero b one h = ap (λ (n : ℕ). sought (kind n) b) h
 
 pub kind_other : (one : ℕ) → one ≢ 0 → kind one ≡ true
 kind_other zero h = absurd (h refl)
 kind_other (suc n) h = refl
 
-pub marked_other : (b : List Bool) (one : ℕ) → one ≢ 0 → marked (kind one) b ≡ marked true b
-marked_other b one h = ap (λ (v : Bool). marked v b) (kind_other one h)
+pub marked_other : (b : List Bool) (one : ℕ) → one ≢ 0 → sought (kind one) b ≡ sought true b
+marked_other b one h = ap (λ (v : Bool). sought v b) (kind_other one h)
 
--- the ones of the marked bits are the bits of the kind
-pub count_before-marked : (b : List Bool) (v : Bool) (i : ℕ) → i ≤ length b → ones_before (marked v b) i ≡ count_before b v i
-count_before-marked b true i h = ones_before-marked b i
-count_before-marked b false i h = omega (arith, zeros_before-marked b i h, ones_before-add-zeros_before b i h)
+-- the ones of the sought bits are the bits of the kind
+pub count_before-sought : (b : List Bool) (v : Bool) (i : ℕ) → i ≤ length b → ones_before (sought v b) i ≡ count_before b v i
+count_before-sought b true i h = ones_before-sought b i
+count_before-sought b false i h = omega (arith, zeros_before-sought b i h, ones_before-add-zeros_before b i h)
 
 -- ---- a place is picked where the count rises
 
@@ -46,31 +46,31 @@ truth_other : (x : Bool) → truth (not x) ≡ 1 → x ≡ false
 truth_other true e = absurd (omega arith)
 truth_other false e = refl
 
-pub picked : (b : List Bool) (v : Bool) (r p : ℕ) → p < length b → ones_before (marked v b) p ≡ r → ones_before (marked v b) (p + 1) ≡ r + 1
+pub picked : (b : List Bool) (v : Bool) (r p : ℕ) → p < length b → ones_before (sought v b) p ≡ r → ones_before (sought v b) (p + 1) ≡ r + 1
     → Picks b v r p
 picked b true r p h e f =
-    let here = ones_before-marked b p in
-    let next = ones_before-marked b (p + 1) in
+    let here = ones_before-sought b p in
+    let next = ones_before-sought b (p + 1) in
     record {
       inside = h;
       item = truth_one (item b p) (omega (arith, here, next, e, f, ones_before_more b p h));
       before = sym here ∙ e;
     }
 picked b false r p h e f =
-    let here = count_before-marked b false p (omega arith) in
-    let next = count_before-marked b false (p + 1) (omega arith) in
+    let here = count_before-sought b false p (omega arith) in
+    let next = count_before-sought b false (p + 1) (omega arith) in
     record {
       inside = h;
       item = truth_other (item b p) (omega (arith, here, next, e, f, zeros_before_more b p h));
       before = sym here ∙ e;
     }
 
--- ---- a word of the marked bits
+-- ---- a word of the sought bits
 
 pub word_ones : (words : List ℕ) (k w one : ℕ) → k < length words → w ≡ slice_index words k → one ≢ 0 → IsWord (sought_in one words) k w
 word_ones words k w one h is other j le =
     let m = marked_other (bits_of words) one other in
-    rw (m, ones_before-marked (bits_of words) (64 * k + j), ones_before-marked (bits_of words) (64 * k), is)
+    rw (m, ones_before-sought (bits_of words) (64 * k + j), ones_before-sought (bits_of words) (64 * k), is)
     (ones_before-bits_of_in_word words k h j le)
 
 -- the ones of a word and of its negation
@@ -95,20 +95,20 @@ pub word_zeros : (words : List ℕ) (k w one : ℕ) → k < length words → w <
     → IsWord (sought_in one words) k (2 ^ 64 - 1 - w)
 word_zeros words k w one h lt is none j le =
     let b = bits_of words in
-    let there = zeros_before-marked b (64 * k + j) (omega (arith, length-bits_of words)) in
-    let here = zeros_before-marked b (64 * k) (omega (arith, length-bits_of words)) in
+    let there = zeros_before-sought b (64 * k + j) (omega (arith, length-bits_of words)) in
+    let here = zeros_before-sought b (64 * k) (omega (arith, length-bits_of words)) in
     let ones = ones_before-bits_of_in_word words k h j le in
     let same = ap (λ (x : ℕ). count_ones (x % 2 ^ j)) is in
     rw (marked_zero b one none) (omega (arith, there, here, ones, same, ones_before-self b (64 * k), count_not j w lt le))
 
 -- ---- selection in a word, at the rank R
 
-module _ (words : List ℕ) (v : Bool) (k w R rest : ℕ) (word : IsWord (marked v (bits_of words)) k w)
-    (count : R ≡ ones_before (marked v (bits_of words)) (64 * k) + rest) where
+module _ (words : List ℕ) (v : Bool) (k w R rest : ℕ) (word : IsWord (sought v (bits_of words)) k w)
+    (count : R ≡ ones_before (sought v (bits_of words)) (64 * k) + rest) where
   pub picked_in_word : (q : ℕ) → k < length words → q < 64 → count_ones (w % 2 ^ q) ≡ rest → count_ones (w % 2 ^ (q + 1)) ≡ rest + 1
       → Picks (bits_of words) v R (k * 64 + q)
   picked_in_word q h lt before after =
-      let m = marked v (bits_of words) in
+      let m = sought v (bits_of words) in
       let e : k * 64 + q ≡ 64 * k + q = omega arith in
       let f : 64 * k + (q + 1) ≡ 64 * k + q + 1 = omega arith in
       let up = ap (ones_before m) f in
@@ -116,33 +116,33 @@ module _ (words : List ℕ) (v : Bool) (k w R rest : ℕ) (word : IsWord (marked
       (picked (bits_of words) v R (64 * k + q) (omega (arith, length-bits_of words)) (omega (arith, word q (omega arith), before, count))
       (omega (arith, up, word (q + 1) (omega arith), after, count)))
 
-  pub word_passed : w < 2 ^ 64 → count_ones w ≤ rest → R ≡ ones_before (marked v (bits_of words)) (64 * (k + 1)) + (rest - count_ones w)
+  pub word_passed : w < 2 ^ 64 → count_ones w ≤ rest → R ≡ ones_before (sought v (bits_of words)) (64 * (k + 1)) + (rest - count_ones w)
   word_passed lt le =
       let e : 64 * k + 64 ≡ 64 * (k + 1) = omega arith in
       let whole : w % 2 ^ 64 ≡ w = omega arith in
-      omega (arith, ap (ones_before (marked v (bits_of words))) e, word 64 (omega arith), ap count_ones whole, count)
+      omega (arith, ap (ones_before (sought v (bits_of words))) e, word 64 (omega arith), ap count_ones whole, count)
 
 -- ---- nothing is picked
 
--- there are no more of the kind than the marked bits have ones before a place past the end
-pub none_counted : (b : List Bool) (v : Bool) (r i : ℕ) → length b ≤ i → ones_before (marked v b) i ≤ r → count_before b v (length b) ≤ r
+-- there are no more of the kind than the sought bits have ones before a place past the end
+pub none_counted : (b : List Bool) (v : Bool) (r i : ℕ) → length b ≤ i → ones_before (sought v b) i ≤ r → count_before b v (length b) ≤ r
 none_counted b v r i past le =
-    omega (arith, count_before-marked b v (length b) (omega arith), (ones_before-between (marked v b) (length b) i past).0)
+    omega (arith, count_before-sought b v (length b) (omega arith), (ones_before-between (sought v b) (length b) i past).0)
 
-pub none_found : (words : List ℕ) (v : Bool) (R left first end at : ℕ) → R ≡ ones_before (marked v (bits_of words)) (64 * at) + left
+pub none_found : (words : List ℕ) (v : Bool) (R left first end at : ℕ) → R ≡ ones_before (sought v (bits_of words)) (64 * at) + left
     → end ≡ min (length words) (first + 8) → end ≤ at → at ≤ first + 8
-    → (first + 8 < length words → R < ones_before (marked v (bits_of words)) (64 * (first + 8)))
+    → (first + 8 < length words → R < ones_before (sought v (bits_of words)) (64 * (first + 8)))
     → count_before (bits_of words) v (length (bits_of words)) ≤ R
 none_found words v R left first end at count is over le next =
     elim (cases_lt at (length words)) [
       | inl h ↦
           let last : at ≡ first + 8 = omega arith in
-          absurd (omega (arith, next (omega arith), ap (λ (n : ℕ). ones_before (marked v (bits_of words)) (64 * n)) last, count))
+          absurd (omega (arith, next (omega arith), ap (λ (n : ℕ). ones_before (sought v (bits_of words)) (64 * n)) last, count))
       | inr h ↦ none_counted (bits_of words) v R (64 * at) (omega (arith, length-bits_of words)) (omega (arith, count))
     ]
 
 -- nothing is picked in no bits
 pub none_in_nothing : (b : List Bool) (v : Bool) (r : ℕ) → length b ≡ 0 → count_before b v (length b) ≤ r
 none_in_nothing b v r none =
-    let m = count_before-marked b v (length b) (omega arith) in
-    omega (arith, m, ones_before-self (marked v b) (length b))
+    let m = count_before-sought b v (length b) (omega arith) in
+    omega (arith, m, ones_before-self (sought v b) (length b))

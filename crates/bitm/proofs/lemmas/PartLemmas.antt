@@ -11,9 +11,9 @@ use Rattle.bitm_bits.specs.Bits.{item}
 use Rattle.bitm_bits.specs.Count.{count_of, ones_before, zeros_before, count_before, Picks}
 use Rattle.bitm.specs.Entry.{before_in_part}
 use Rattle.bitm.specs.Samples.{part_of, place, entry_of}
-use Rattle.bitm.specs.Search.{IsLast, marked, negated}
+use Rattle.bitm.specs.Search.{IsLast, sought, negated}
 use Rattle.bitm.proofs.lemmas.EntryLemmas.{ones_before-negated}
-use Rattle.bitm.proofs.lemmas.MarkLemmas.{count_before-marked}
+use Rattle.bitm.proofs.lemmas.MarkLemmas.{count_before-sought}
 use Rattle.bitm.proofs.lemmas.StretchLemmas.{ones_before-between}
 
 -- ---- counting
@@ -108,11 +108,11 @@ count_of-part_of v b k e h is =
 
 -- the counts before the entries of a part
 pub count_in_part : (v : Bool) (b : List Bool) (k j : ℕ) → j < div_ceil (length (part_of b k)) 2048
-    → before_in_part (marked v b) (k * 2 ^ 21 + j) ≡ count_before (part_of b k) v (2048 * j)
+    → before_in_part (sought v b) (k * 2 ^ 21 + j) ≡ count_before (part_of b k) v (2048 * j)
 count_in_part v b k j h =
     let l = length-part_of b k in
     let at : 2048 * (k * 2 ^ 21 + j) ≡ k * 2 ^ 32 + 2048 * j = omega arith in
     let from : (k * 2 ^ 21 + j) / 2 ^ 21 * 2 ^ 32 ≡ k * 2 ^ 32 = omega arith in
-    let there = count_before-marked b v (k * 2 ^ 32 + 2048 * j) (omega arith) in
-    let here = count_before-marked b v (k * 2 ^ 32) (omega arith) in
+    let there = count_before-sought b v (k * 2 ^ 32 + 2048 * j) (omega arith) in
+    let here = count_before-sought b v (k * 2 ^ 32) (omega arith) in
     rw (at, from, there, here) (omega (arith, count_before-part_of v b k (2048 * j) (omega arith)))

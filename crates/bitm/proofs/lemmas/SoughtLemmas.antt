@@ -5,10 +5,10 @@ use Rattle.bitm_bits.proofs.lemmas.BitsLemmas.{length-bits_of}
 use Rattle.bitm_bits.specs.Bits.{bits_of, IsShort}
 use Rattle.bitm_bits.specs.Count.{ones_before, kind}
 use Rattle.bitm.specs.Entry.{before_in_part, in_records, lower_entry, record_field, field_0}
-use Rattle.bitm.specs.Search.{padded, negated, marked, sought_in, IsLastPart, IsLastEntry, entries_from}
+use Rattle.bitm.specs.Search.{padded, negated, sought, sought_in, IsLastPart, IsLastEntry, entries_from}
 use Rattle.bitm.specs.Tables.{AreTablesOf}
 use Rattle.bitm.proofs.lemmas.EntryLemmas.{entry-low, record_field_is}
-use Rattle.bitm.proofs.lemmas.MarkLemmas.{ones_before-marked, zeros_before-marked, marked_zero, marked_other}
+use Rattle.bitm.proofs.lemmas.MarkLemmas.{ones_before-sought, zeros_before-sought, marked_zero, marked_other}
 use Rattle.bitm.proofs.lemmas.StretchLemmas.{ones_before-self, ones_before-between}
 use Rattle.bitm.proofs.lemmas.TableLemmas.{HasEntries, entries}
 
@@ -31,11 +31,11 @@ module _ (words upper lower : List ℕ) (t : AreTablesOf (bits_of words) upper l
 
     pub part_zeros : (one : ℕ) → one ≡ 0 → k * 4294967296 % 18446744073709551616 - u ≡ ones_before (sought_in one words) (k * 2 ^ 32)
     part_zeros one h =
-        let zeros = zeros_before-marked (bits_of words) (k * 2 ^ 32) (omega (arith, t'.upper_length, length-bits_of words)) in
+        let zeros = zeros_before-sought (bits_of words) (k * 2 ^ 32) (omega (arith, t'.upper_length, length-bits_of words)) in
         rw (marked_zero (bits_of words) one h) (omega (arith, part_whole, u_ones, zeros))
 
     pub part_ones : (one : ℕ) → one ≢ 0 → u ≡ ones_before (sought_in one words) (k * 2 ^ 32)
-    part_ones one h = rw (marked_other (bits_of words) one h) (u_ones ∙ sym (ones_before-marked (bits_of words) (k * 2 ^ 32)))
+    part_ones one h = rw (marked_other (bits_of words) one h) (u_ones ∙ sym (ones_before-sought (bits_of words) (k * 2 ^ 32)))
 
   -- the part's first entry
   pub first_entry : k * 2 ^ 21 < length lower
@@ -51,13 +51,13 @@ few_entries words upper lower t short =
 
 -- ---- before an entry
 
-pub entry_ones : (b : List Bool) (j one : ℕ) → one ≢ 0 → lower_entry b j ≡ lower_entry (marked (kind one) b) j
+pub entry_ones : (b : List Bool) (j one : ℕ) → one ≢ 0 → lower_entry b j ≡ lower_entry (sought (kind one) b) j
 entry_ones b j one h =
-    let e = ones_before-marked b in
+    let e = ones_before-sought b in
     rw
     (marked_other b one h, e (2048 * j), e ((j / 2 ^ 21) * 2 ^ 32), e (2048 * j + 512 * 1), e (2048 * j + 512 * 2), e (2048 * j + 512 * 3))
 
-pub entry_zeros : (b : List Bool) (j one : ℕ) → one ≡ 0 → lower_entry (negated (padded b)) j ≡ lower_entry (marked (kind one) b) j
+pub entry_zeros : (b : List Bool) (j one : ℕ) → one ≡ 0 → lower_entry (negated (padded b)) j ≡ lower_entry (sought (kind one) b) j
 entry_zeros b j one h = rw (marked_zero b one h)
 
 -- the count before an entry is what the code reads of it

@@ -6,7 +6,7 @@ ghost use Rattle.bitm_bits.specs.Bits.{bits_of, IsShort};
 ghost use Rattle.bitm_bits.specs.Count.{ones_of};
 ghost use Rattle.bitm_bits.specs.Size.{saturated};
 ghost use Rattle.bitm.specs.Reads.{none_read};
-ghost use Rattle.bitm.specs.Tables.{AreTablesOf, HasTables, upper_of, lower_of};
+ghost use Rattle.bitm.specs.Tables.{AreTablesOf, IsIndexed, upper_of, lower_of};
 
 use crate::packed::tables::{self, Tables};
 use crate::probe::ranking::rank_on;
@@ -196,8 +196,7 @@ impl<S: SelectForRank101111, S0: Select0ForRank101111, BV: AsSlice<u64>> RankSel
     #[inline(always)]
     pub fn probe(&self) -> Probe<'_>
         ensures words { result.lists.words ≡ BV.items self.now.content }
-        ensures tables { HasTables result.lists }
-        ensures short { IsShort result.lists.words }
+        ensures indexed { IsIndexed result.lists }
         ensures reads { result.reads ≡ none_read }
     {
         Probe::new(self.content().as_slice(), self.l1ranks(), self.l2ranks())

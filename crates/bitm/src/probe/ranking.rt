@@ -2,8 +2,8 @@
 ghost use Rattle.std.specs.Prelude.{◌≡◌, ◌+◌, ◌*◌, ◌<◌, ◌≤◌, length};
 ghost use Rattle.bitm_bits.specs.Bits.{bits_of, IsShort};
 ghost use Rattle.bitm_bits.specs.Count.{ones_before, IsRank};
-ghost use Rattle.bitm.specs.Reads.{ReadsAtMost};
-ghost use Rattle.bitm.specs.Tables.{HasTables};
+ghost use Rattle.bitm.specs.Reads.{OnlyReads, ReadsAtMost};
+ghost use Rattle.bitm.specs.Tables.{IsIndexed, bits_in};
 
 use crate::probe::entry::{ones_to_entry, ones_to_record};
 use crate::probe::source::TableSource;
@@ -58,11 +58,9 @@ fn ones_in_record<T: TableSource>(source: &mut T, first: usize, end: usize) -> u
 /// branch.
 #[inline]
 pub fn rank_on<T: TableSource>(source: &mut T, index: usize) -> Option<usize>
-    requires tables { HasTables (T.lists source.old) }
-    requires short { IsShort (T.lists source.old).words }
-    ensures answer { IsRank (bits_of (T.lists source.old).words) index result }
-    ensures reads { ReadsAtMost (T.reads source.old) (T.reads source.new) 1 1 8 }
-    ensures same { T.lists source.new ≡ T.lists source.old }
+    requires { IsIndexed (T.lists source.old) }
+    ensures answer { IsRank (bits_in (T.lists source.old)) index result }
+    ensures reads { OnlyReads T.lists T.reads source.old source.new 1 1 8 }
 {
     // The last bit that counts. Where none does this is above every place, so one test tells both.
     let last = index.wrapping_sub(1);

@@ -3,7 +3,7 @@ ghost use Rattle.std.specs.Prelude.{◌≡◌, ◌+◌, ◌-◌, ◌*◌, ◌/�
 ghost use Rattle.bitm_bits.specs.Bits.{digit_count, IsShort};
 ghost use Rattle.bitm.specs.Entry.{lower_entry};
 ghost use Rattle.bitm.specs.Reads.{lower_read, ReadsAtMost};
-ghost use Rattle.bitm.specs.Search.{sought_in, IsAmong, IsLastEntry};
+ghost use Rattle.bitm.specs.Search.{entry_in, sought_in, IsAmong, IsLastEntry};
 ghost use Rattle.bitm.specs.Tables.{HasTables};
 
 use crate::probe::entry::{entries_of_part, ones_to_entry};
@@ -44,11 +44,11 @@ fn side_of<const ONE: u8, T: TableSource>(
     requires among { IsAmong (sought_in ONE (T.lists source.old).words)
         (length (T.lists source.old).lower) part rank range.low range.left }
     requires packed { 0 < range.low → range.packed
-        ≡ lower_entry (sought_in ONE (T.lists source.old).words) (part * 2 ^ 21 + range.low) }
+        ≡ lower_entry (sought_in ONE (T.lists source.old).words) (entry_in part range.low) }
     ensures among { IsAmong (sought_in ONE (T.lists source.old).words)
         (length (T.lists source.old).lower) part rank result.low result.left }
     ensures packed { 0 < result.low → result.packed
-        ≡ lower_entry (sought_in ONE (T.lists source.old).words) (part * 2 ^ 21 + result.low) }
+        ≡ lower_entry (sought_in ONE (T.lists source.old).words) (entry_in part result.low) }
     ensures side { ((result.low ≡ range.low) × (result.left ≡ cut))
         ⊎ ((result.low ≡ range.low + cut) × (result.left ≡ range.left - cut)) }
     ensures counted { T.reads source.new ≡ lower_read (T.reads source.old) }
@@ -118,7 +118,7 @@ fn guessed<const ONE: u8, T: TableSource>(
     ensures among { IsAmong (sought_in ONE (T.lists source.old).words)
         (length (T.lists source.old).lower) part rank result.low result.left }
     ensures packed { 0 < result.low → result.packed
-        ≡ lower_entry (sought_in ONE (T.lists source.old).words) (part * 2 ^ 21 + result.low) }
+        ≡ lower_entry (sought_in ONE (T.lists source.old).words) (entry_in part result.low) }
     ensures reads { (T.reads source.new).lower + digit_count (result.left - 1)
         ≤ (T.reads source.old).lower + 23 }
     ensures reads_first { result.low ≡ 0
@@ -147,7 +147,7 @@ fn search_range<const ONE: u8, T: TableSource>(source: &mut T, part: usize, rank
     ensures among { IsAmong (sought_in ONE (T.lists source.old).words)
         (length (T.lists source.old).lower) part rank result.low result.left }
     ensures packed { 0 < result.low → result.packed
-        ≡ lower_entry (sought_in ONE (T.lists source.old).words) (part * 2 ^ 21 + result.low) }
+        ≡ lower_entry (sought_in ONE (T.lists source.old).words) (entry_in part result.low) }
     ensures reads { (T.reads source.new).lower + digit_count (result.left - 1)
         ≤ (T.reads source.old).lower + 23 }
     ensures reads_first { result.low ≡ 0
@@ -182,7 +182,7 @@ pub(crate) fn last_entry<const ONE: u8, T: TableSource>(
     ensures last { IsLastEntry (sought_in ONE (T.lists source.old).words)
         (length (T.lists source.old).lower) part rank result.0 }
     ensures entry { result.1
-        ≡ lower_entry (sought_in ONE (T.lists source.old).words) (part * 2 ^ 21 + result.0) }
+        ≡ lower_entry (sought_in ONE (T.lists source.old).words) (entry_in part result.0) }
     ensures reads { ReadsAtMost (T.reads source.old) (T.reads source.new) 0 23 0 }
     ensures same { T.lists source.new ≡ T.lists source.old }
 {

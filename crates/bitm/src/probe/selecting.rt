@@ -3,9 +3,9 @@ ghost use Rattle.std.specs.Prelude.{◌≡◌, ◌+◌, ◌-◌, ◌*◌, ◌/�
 ghost use Rattle.bitm_bits.specs.Bits.{bits_of, digit_count, IsShort};
 ghost use Rattle.bitm_bits.specs.Count.{ones_before, kind, IsSelect};
 ghost use Rattle.bitm.specs.Entry.{field_1, field_2, field_3, lower_entry, record_field};
-ghost use Rattle.bitm.specs.Reads.{lower_read, upper_read, word_read, ReadsAtMost};
-ghost use Rattle.bitm.specs.Search.{sought_in, IsLastPart, IsLastEntry, IsWord};
-ghost use Rattle.bitm.specs.Tables.{HasTables};
+ghost use Rattle.bitm.specs.Reads.{OnlyReads, lower_read, upper_read, word_read, ReadsAtMost};
+ghost use Rattle.bitm.specs.Search.{entry_in, sought_in, IsLastPart, IsLastEntry, IsWord};
+ghost use Rattle.bitm.specs.Tables.{HasTables, IsIndexed, bits_in};
 
 use crate::probe::entry::{complement_entry, ones_to_entry, ones_to_record};
 use crate::probe::searching::last_entry;
@@ -207,11 +207,11 @@ pub(crate) fn in_packed<const ONE: u8, T: TableSource>(
     requires entry { IsLastEntry (sought_in ONE (T.lists source.old).words)
         (length (T.lists source.old).lower) part rank entry }
     requires packed { packed
-        ≡ lower_entry (sought_in ONE (T.lists source.old).words) (part * 2 ^ 21 + entry) }
+        ≡ lower_entry (sought_in ONE (T.lists source.old).words) (entry_in part entry) }
     ensures answer { let m = sought_in ONE (T.lists source.old).words in
         IsSelect (bits_of (T.lists source.old).words) (kind ONE)
         (ones_before m (part * 2 ^ 32) + rank) result }
-    ensures inside { IfSome result (λ p. p / 2048 ≡ part * 2 ^ 21 + entry) }
+    ensures inside { IfSome result (λ p. p / 2048 ≡ entry_in part entry) }
     ensures reads { ReadsAtMost (T.reads source.old) (T.reads source.new) 0 0 8 }
     ensures same { T.lists source.new ≡ T.lists source.old }
 {
@@ -234,12 +234,10 @@ pub(crate) fn in_packed<const ONE: u8, T: TableSource>(
 /// The levels are those of Zhou, Andersen and Kaminsky, 'Space-efficient, high-performance rank and select structures
 /// on uncompressed bit sequences' (SEA 2013).
 pub fn binary_select_on<const ONE: u8, T: TableSource>(source: &mut T, rank: usize) -> Option<usize>
-    requires tables { HasTables (T.lists source.old) }
-    requires short { IsShort (T.lists source.old).words }
-    ensures answer { IsSelect (bits_of (T.lists source.old).words) (kind ONE) rank result }
-    ensures reads { ReadsAtMost (T.reads source.old) (T.reads source.new)
+    requires { IsIndexed (T.lists source.old) }
+    ensures answer { IsSelect (bits_in (T.lists source.old)) (kind ONE) rank result }
+    ensures reads { OnlyReads T.lists T.reads source.old source.new
         (digit_count (length (T.lists source.old).upper) + 1) 23 8 }
-    ensures same { T.lists source.new ≡ T.lists source.old }
 {
     if source.upper_len() == 0 {
         return None;

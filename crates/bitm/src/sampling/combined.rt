@@ -4,7 +4,7 @@ ghost use Rattle.bitm_bits.specs.Bits.{bits_of, IsShort};
 ghost use Rattle.bitm_bits.specs.Count.{ones_of, kind, IsSelect};
 ghost use Rattle.bitm_bits.specs.Size.{saturated};
 ghost use Rattle.bitm.specs.Samples.{SampledReads, Supported, IsSampleCount};
-ghost use Rattle.bitm.specs.Tables.{AreTablesOf, HasTables};
+ghost use Rattle.bitm.specs.Tables.{AreTablesOf, HasTables, bits_in};
 
 use crate::probe::source::{Probe, TableSource};
 use crate::sampling::density::CombinedSamplingDensity;
@@ -110,8 +110,8 @@ impl<D: CombinedSamplingDensity> CombinedSampling<D> {
     pub fn select_counted<T: TableSource>(&self, source: &mut T, rank: usize) -> Option<usize>
         requires tables { HasTables (T.lists source.old) }
         requires supported { Supported D.log D.chosen true (T.lists source.old).words self.now }
-        ensures answer { IsSelect (bits_of (T.lists source.old).words) true rank result }
-        ensures reads { SampledReads (bits_of (T.lists source.old).words) true
+        ensures answer { IsSelect (bits_in (T.lists source.old)) true rank result }
+        ensures reads { SampledReads (bits_in (T.lists source.old)) true
             (D.log self.now.density) rank result (T.reads source.old) (T.reads source.new) }
         ensures same { T.lists source.new ≡ T.lists source.old }
     {
@@ -135,8 +135,8 @@ impl<D: CombinedSamplingDensity> CombinedSampling<D> {
     pub fn select0_counted<T: TableSource>(&self, source: &mut T, rank: usize) -> Option<usize>
         requires tables { HasTables (T.lists source.old) }
         requires supported { Supported D.log D.chosen false (T.lists source.old).words self.now }
-        ensures answer { IsSelect (bits_of (T.lists source.old).words) false rank result }
-        ensures reads { SampledReads (bits_of (T.lists source.old).words) false
+        ensures answer { IsSelect (bits_in (T.lists source.old)) false rank result }
+        ensures reads { SampledReads (bits_in (T.lists source.old)) false
             (D.log self.now.density) rank result (T.reads source.old) (T.reads source.new) }
         ensures same { T.lists source.new ≡ T.lists source.old }
     {

@@ -5,7 +5,7 @@ ghost use Rattle.bitm_bits.specs.Count.{count_of, ones_before, ones_of, kind};
 ghost use Rattle.bitm.specs.Entry.{lower_entry};
 ghost use Rattle.bitm.specs.Samples.{AreCounts, CountsOf, part_of, sample};
 ghost use Rattle.bitm.specs.Samples.{intervals, part_samples, samples_of, sample_starts_of};
-ghost use Rattle.bitm.specs.Search.{IsLastEntry, entries_from, items_to, marked};
+ghost use Rattle.bitm.specs.Search.{IsLastEntry, entries_from, items_to, sought};
 
 use crate::probe::entry::{complement_entry, entries_of_part, ones_to_entry};
 use crate::select::levels::L2_ENTRIES_PER_L1_ENTRY;
@@ -72,7 +72,7 @@ fn entry_at<const ONE: u8>(counts: &TableCounts<'_>, at: usize) -> u64
     requires tabled { AreCounts counts.now }
     requires inside { at < length counts.now.lower.now }
     ensures { (b : List Bool) → CountsOf b counts.now
-        → result ≡ lower_entry (marked (kind ONE) b) at }
+        → result ≡ lower_entry (sought (kind ONE) b) at }
 {
     let entry = counts.lower[at];
     if ONE == 0 {
@@ -100,7 +100,7 @@ fn advance<const ONE: u8>(counts: &TableCounts<'_>, part: usize, from: usize, it
     ensures order { from ≤ result }
     ensures inside { result < entries_from (length counts.now.lower.now) part }
     ensures last { (b : List Bool) → CountsOf b counts.now → items_to ONE b part from ≤ item
-        → IsLastEntry (marked (kind ONE) b) (length counts.now.lower.now) part item result }
+        → IsLastEntry (sought (kind ONE) b) (length counts.now.lower.now) part item result }
 {
     let first = part * L2_ENTRIES_PER_L1_ENTRY;
     let end = entries_in(counts, part);

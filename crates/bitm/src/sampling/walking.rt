@@ -5,7 +5,7 @@ ghost use Rattle.bitm_bits.specs.Count.{kind, IsSelect};
 ghost use Rattle.bitm.specs.Entry.{lower_entry};
 ghost use Rattle.bitm.specs.Reads.{ReadsAtMost};
 ghost use Rattle.bitm.specs.Samples.{samples_of, sample_starts_of, SampledReads};
-ghost use Rattle.bitm.specs.Search.{IsLastEntry, entries_from, items_to, sought_in};
+ghost use Rattle.bitm.specs.Search.{entry_in, IsLastEntry, entries_from, items_to, sought_in};
 ghost use Rattle.bitm.specs.Tables.{HasTables};
 
 use crate::probe::entry::{entries_of_part, ones_to_entry};
@@ -31,7 +31,7 @@ fn walk<const ONE: u8, T: TableSource>(
     ensures last { IsLastEntry (sought_in ONE (T.lists source.old).words)
         (length (T.lists source.old).lower) part rank result.0 }
     ensures entry { result.1
-        ≡ lower_entry (sought_in ONE (T.lists source.old).words) (part * 2 ^ 21 + result.0) }
+        ≡ lower_entry (sought_in ONE (T.lists source.old).words) (entry_in part result.0) }
     ensures order { from ≤ result.0 }
     ensures reads { ReadsAtMost (T.reads source.old) (T.reads source.new)
         0 (result.0 - from + 2) 0 }

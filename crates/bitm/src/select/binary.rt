@@ -2,8 +2,8 @@
 ghost use Rattle.std.specs.Prelude.{◌≡◌, ◌+◌, length, true, false, IsOk, IfOk};
 ghost use Rattle.bitm_bits.specs.Bits.{bits_of, digit_count, IsShort};
 ghost use Rattle.bitm_bits.specs.Count.{ones_of, IsSelect};
-ghost use Rattle.bitm.specs.Reads.{ReadsAtMost};
-ghost use Rattle.bitm.specs.Tables.{AreTablesOf, HasTables};
+ghost use Rattle.bitm.specs.Reads.{OnlyReads};
+ghost use Rattle.bitm.specs.Tables.{AreTablesOf, IsIndexed, bits_in};
 
 use crate::probe::selecting::binary_select_on;
 use crate::probe::source::{Probe, TableSource};
@@ -27,12 +27,10 @@ impl BinaryRankSearch {
     /// binary digits of the number of upper entries.
     #[inline]
     pub fn select_counted<T: TableSource>(&self, source: &mut T, rank: usize) -> Option<usize>
-        requires tables { HasTables (T.lists source.old) }
-        requires short { IsShort (T.lists source.old).words }
-        ensures answer { IsSelect (bits_of (T.lists source.old).words) true rank result }
-        ensures reads { ReadsAtMost (T.reads source.old) (T.reads source.new)
+        requires { IsIndexed (T.lists source.old) }
+        ensures answer { IsSelect (bits_in (T.lists source.old)) true rank result }
+        ensures reads { OnlyReads T.lists T.reads source.old source.new
             (digit_count (length (T.lists source.old).upper) + 1) 23 8 }
-        ensures same { T.lists source.new ≡ T.lists source.old }
     {
         binary_select_on::<1, T>(source, rank)
     }
@@ -47,12 +45,10 @@ impl BinaryRankSearch {
     /// binary digits of the number of upper entries.
     #[inline]
     pub fn select0_counted<T: TableSource>(&self, source: &mut T, rank: usize) -> Option<usize>
-        requires tables { HasTables (T.lists source.old) }
-        requires short { IsShort (T.lists source.old).words }
-        ensures answer { IsSelect (bits_of (T.lists source.old).words) false rank result }
-        ensures reads { ReadsAtMost (T.reads source.old) (T.reads source.new)
+        requires { IsIndexed (T.lists source.old) }
+        ensures answer { IsSelect (bits_in (T.lists source.old)) false rank result }
+        ensures reads { OnlyReads T.lists T.reads source.old source.new
             (digit_count (length (T.lists source.old).upper) + 1) 23 8 }
-        ensures same { T.lists source.new ≡ T.lists source.old }
     {
         binary_select_on::<0, T>(source, rank)
     }

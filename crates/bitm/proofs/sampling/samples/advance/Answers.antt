@@ -2,7 +2,7 @@
 use Rattle.std.proofs.Common.{◌≡◌, ℕ, ◌+◌, ◌*◌, ◌-◌, ◌^◌, ◌<◌, ◌≤◌, List, Bool, sym, ◌∙◌, subst, arith}
 use Rattle.bitm_bits.specs.Count.{kind}
 use Rattle.bitm.specs.Samples.{CountsOf}
-use Rattle.bitm.specs.Search.{items_to, marked}
+use Rattle.bitm.specs.Search.{items_to, sought}
 use Rattle.bitm.proofs.lemmas.SoughtLemmas.{low_is}
 use Rattle.bitm.proofs.sampling.samples.advance.Goals as goal
 use Rattle.bitm.proofs.sampling.samples.advance.Goals.{After-ones_to_entry}
@@ -11,7 +11,7 @@ count : (g : _) (c : After-ones_to_entry g) (b : List Bool) → CountsOf b c.arg
     → c.ones_to_entry.result ≡ items_to g.row.ONE b c.args.part c.loop-next.next
 count g c b t =
     c.ones_to_entry.ensures
-    ∙ low_is (marked (kind g.row.ONE) b) c.entry_at.result (c.args.part * 2 ^ 21 + c.loop-next.next) (c.entry_at.ensures b t)
+    ∙ low_is (sought (kind g.row.ONE) b) c.entry_at.result (c.args.part * 2 ^ 21 + c.loop-next.next) (c.entry_at.ensures b t)
 
 pub returns-then-item-ones_to_entry-clause-last : goal.returns-then-item-ones_to_entry-clause-last
 returns-then-item-ones_to_entry-clause-last g c b t h =

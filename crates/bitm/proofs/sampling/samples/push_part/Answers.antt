@@ -5,7 +5,7 @@ use Rattle.std.specs.Int.{div_ceil}
 use Rattle.std.specs.List.{range_with_len}
 use Rattle.bitm_bits.specs.Count.{kind}
 use Rattle.bitm.specs.Samples.{intervals, part_of, sample}
-use Rattle.bitm.specs.Search.{items_to, marked}
+use Rattle.bitm.specs.Search.{items_to, sought}
 use Rattle.bitm.proofs.lemmas.MadeLemmas.{first_begins, interval_item, half_within, one_more}
 use Rattle.bitm.proofs.lemmas.SoughtLemmas.{first_none}
 use Rattle.bitm.proofs.sampling.samples.push_part.Goals as goal
@@ -21,7 +21,7 @@ pub loop-interval-init : goal.loop-interval-init
 loop-interval-init g c =
     record {
       inside = omega (arith, first_begins _ _ _ _ _ c.requires.tabled.1 c.args.part c.requires.inside);
-      at_most = λ b t. omega (arith, first_none (marked (kind g.row.ONE) b) c.args.part);
+      at_most = λ b t. omega (arith, first_none (sought (kind g.row.ONE) b) c.args.part);
       samples = λ b t. sym (append-nil c.args.samples.now.items);
     }
 

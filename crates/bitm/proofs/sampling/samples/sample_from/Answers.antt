@@ -3,7 +3,7 @@ use Rattle.std.proofs.Common.{◌≡◌, ℕ, ◌+◌, ◌*◌, ◌-◌, ◌%◌
 use Rattle.std.proofs.lemmas.Nat.{one_shl}
 use Rattle.bitm_bits.specs.Count.{count_of, kind}
 use Rattle.bitm.specs.Samples.{CountsOf, part_of}
-use Rattle.bitm.specs.Search.{IsLastEntry, items_to, marked}
+use Rattle.bitm.specs.Search.{IsLastEntry, items_to, sought}
 use Rattle.bitm.proofs.lemmas.MadeLemmas.{advanced, sample_middle, sample_alone}
 use Rattle.bitm.proofs.sampling.samples.sample_from.Goals as goal
 use Rattle.bitm.proofs.sampling.samples.sample_from.Goals.{After-min-distance}
@@ -13,13 +13,13 @@ module _ (g : _) (c : After-min-distance g) where
   half = one_shl (c.args.log2 - 1) 64 (omega arith)
 
   last : (b : List Bool) → CountsOf b c.args.counts.now → items_to g.row.ONE b c.args.part c.args.from ≤ c.args.item
-      → IsLastEntry (marked (kind g.row.ONE) b) (length c.args.counts.now.lower.now) c.args.part
+      → IsLastEntry (sought (kind g.row.ONE) b) (length c.args.counts.now.lower.now) c.args.part
       (c.args.item + 2 ^ (c.args.log2 - 1)) c.advance-later.result
   last b t below =
       let le : items_to g.row.ONE b c.args.part c.advance-entry.result ≤ c.args.item = (c.advance-entry.ensures.last b t below).at_most in
       subst
       (λ (n : ℕ).
-      IsLastEntry (marked (kind g.row.ONE) b) (length c.args.counts.now.lower.now) c.args.part (c.args.item + n) c.advance-later.result)
+      IsLastEntry (sought (kind g.row.ONE) b) (length c.args.counts.now.lower.now) c.args.part (c.args.item + n) c.advance-later.result)
       half (c.advance-later.ensures.last b t (omega (arith, le)))
 
 pub returns-then-middle-items-clause-sample : goal.returns-then-middle-items-clause-sample
