@@ -107,6 +107,8 @@ impl EliasFano {
     ///
     /// # Conditions
     /// There is such a number.
+    /// # Cost
+    /// One selection in the upper vector, and one fragment of the low one.
     #[inline(always)]
     pub fn get(&self, i: usize) -> u64
         requires { i < length self.now }
