@@ -4,8 +4,12 @@ use Rattle.elias_fano.proofs.lemmas.PartLemmas.{place-after, held-is, held-fits,
 use Rattle.elias_fano.proofs.lemmas.UpperLemmas.{ones_are}
 use Rattle.elias_fano.proofs.searching.item_on.Goals as goal
 
-pub binary_select_on-requires-clause-short : goal.binary_select_on-requires-clause-short
-binary_select_on-requires-clause-short g c = upper-short c.bit_laws.ensures.digits_bound_powers _ _ _ _ _ c.requires.parts.2
+pub binary_select_on-requires : goal.binary_select_on-requires
+binary_select_on-requires g c =
+    record {
+      tables = c.requires.tables;
+      short = upper-short c.bit_laws.ensures.digits_bound_powers _ _ _ _ _ c.requires.parts.2;
+    }
 
 -- there are as many ones as items, and so one for this rank
 pub unreachable-requires : goal.unreachable-requires
