@@ -48,11 +48,11 @@ loop-left-preserved g c =
     let search : Between counts n c.args.rank c.if-before_part-rank.low (left - left / 2) =
     elim c.if-before_part-rank.branch [
       | then-before_part-rank w ↦
-          let at_most = subst (λ (n : ℕ). n ≤ c.args.rank) (count g d) w.if-before_part-rank.true in
+          let at_most : ones_before m ((low + left / 2) * 2 ^ 32) ≤ c.args.rank = omega (arith, count g d, w.if-before_part-rank.true) in
           subst (λ (k : ℕ). Between counts n c.args.rank k (left - left / 2)) (sym w.low-is)
           (goes_up counts n c.args.rank low left i.search c.loop-left-test.true at_most)
       | else-before_part-rank w ↦
-          let above = subst (λ (n : ℕ). c.args.rank < n) (count g d) w.if-before_part-rank.false in
+          let above : c.args.rank < ones_before m ((low + left / 2) * 2 ^ 32) = omega (arith, count g d, w.if-before_part-rank.false) in
           subst (λ (k : ℕ). Between counts n c.args.rank k (left - left / 2)) (sym w.low-is)
           (goes_down counts n c.args.rank low left i.search c.loop-left-test.true above (λ j k h _. parts_rise m j k h))
     ] in
