@@ -75,13 +75,16 @@ pub fn try_get_bits_unmasked(words: &[u64], begin: usize, len: u8) -> Option<u64
         (number_at (bits_of words.now) begin (reach_of begin len)) }
 {
     let (segment, offset) = (begin / 64, (begin % 64) as u8);
-    let last = if offset + len > 64 {
-        segment + 1
-    } else {
-        segment
-    };
-    if last < words.len() {
-        Some(get_bits_unmasked(words, begin, len))
+    if segment >= words.len() {
+        return None;
+    }
+    let low = words[segment] >> offset;
+    if offset + len <= 64 {
+        return Some(low);
+    }
+    // Only a range that crosses the word's end asks for the next word.
+    if segment + 1 < words.len() {
+        Some(low | (words[segment + 1] << (64 - offset)))
     } else {
         None
     }
