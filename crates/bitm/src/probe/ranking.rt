@@ -10,9 +10,9 @@ use crate::probe::source::TableSource;
 use crate::rank::word::ones_through;
 use crate::select::levels::U64_PER_L2_RECORDS;
 
-/// So many words, 1 MiB, stay in a processor's own cache. Past that a rank waits for its words, and more ranks wait side
-/// by side if each takes no more instructions than it needs.
-const WORDS_IN_CACHE: usize = 1 << 17;
+/// So many words, 4 MiB, stay in a processor's caches. Past that a rank waits for its words, and more ranks wait side by
+/// side if each takes no more instructions than it needs.
+const WORDS_IN_CACHE: usize = 1 << 19;
 
 /// How many ones stand in the record that begins at word `first`, before word `end` of it.
 ///
