@@ -1,1 +1,2 @@
+pub mod InvertedLemmas
 pub mod ListLemmas

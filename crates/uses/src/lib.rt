@@ -7,6 +7,7 @@
 //! | make words in code that is generic over the vector | `owned` |
 //! | go over the places of ones, or over bits, in a `for` | `iterating` |
 //! | relate rank and selection in code that is generic over the index | `inverse` |
+//! | intersect two lists of rising numbers | `inverted` |
 //! | number the members of a set densely, and find a member by its number | `dense` |
 //! | test a condition and then call | `asking` |
 //! | know what a call reads | `counted` |
@@ -20,6 +21,7 @@ pub mod counted;
 pub mod dense;
 pub mod density;
 pub mod inverse;
+pub mod inverted;
 pub mod iterating;
 pub mod owned;
 pub mod readme;
