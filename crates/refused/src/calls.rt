@@ -1,7 +1,7 @@
 //! Each call that takes memory, under the name of its line.
 use crate::outcome::Outcome;
 use crate::packed::{Listed, Samples};
-use crate::{packed, simple, words};
+use crate::{packed, sequences, simple, words};
 use bitm::BinaryRankSearch;
 use std::alloc::Global;
 
@@ -32,11 +32,14 @@ pub enum Call {
     BinaryClone,
     SampledClone,
     ListedClone,
+    SequenceBuilt,
+    SequenceClone,
+    SequencesShared,
     PackedUncopied,
 }
 
 /// Each call once, in the order in which they are made.
-pub fn all() -> [Call; 25] {
+pub fn all() -> [Call; 28] {
     [
         Call::Segments,
         Call::ZeroedSegments,
@@ -62,6 +65,9 @@ pub fn all() -> [Call; 25] {
         Call::BinaryClone,
         Call::SampledClone,
         Call::ListedClone,
+        Call::SequenceBuilt,
+        Call::SequenceClone,
+        Call::SequencesShared,
         Call::PackedUncopied,
     ]
 }
@@ -94,6 +100,9 @@ impl Call {
             Call::BinaryClone => "packed-try-clone-binary",
             Call::SampledClone => "packed-try-clone-sampled",
             Call::ListedClone => "packed-try-clone-listed",
+            Call::SequenceBuilt => "sequence-build",
+            Call::SequenceClone => "sequence-try-clone",
+            Call::SequencesShared => "sequences-common",
             Call::PackedUncopied => "packed-try-clone-uncopied",
         }
     }
@@ -114,6 +123,9 @@ impl Call {
             Call::SimpleOwned => simple::owned(alloc),
             Call::SimpleClone => simple::cloned(alloc),
             Call::SimpleUncopied => simple::uncopied(alloc),
+            Call::SequenceBuilt => sequences::built(alloc),
+            Call::SequenceClone => sequences::cloned(alloc),
+            Call::SequencesShared => sequences::shared(alloc),
             _ => self.run_packed(alloc),
         }
     }

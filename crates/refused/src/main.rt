@@ -9,6 +9,7 @@
 mod calls;
 mod outcome;
 mod packed;
+mod sequences;
 mod simple;
 mod uncopied;
 mod words;

@@ -1,0 +1,51 @@
+//! The calls of a sequence that take memory, and those of its users.
+use crate::outcome::{Outcome, answered, refused};
+use elias_fano::{EfError, EliasFano};
+use std::alloc::Global;
+use uses::inverted::common;
+
+const NUMBERS: [u64; 7] = [2, 3, 5, 7, 11, 13, 24];
+
+/// Whether a sequence of `NUMBERS` answers as it has to.
+fn is_right(made: &EliasFano) -> bool {
+    made.try_get(4) == Some(11)
+        && made.try_get(7) == None
+        && made.first_at_least(8) == Some(4)
+        && made.first_at_least(25) == None
+}
+
+/// A sequence. Numbers that fall are told before memory is asked for.
+pub fn built(alloc: Global) -> Outcome {
+    let falls = EliasFano::build(alloc, [3u64, 2].as_slice()).err() == Some(EfError::NotSorted);
+    let numbers = NUMBERS;
+    match EliasFano::build(alloc, numbers.as_slice()) {
+        Ok(made) => answered(falls && is_right(&made)),
+        Err(EfError::OutOfMemory) => refused(falls && numbers.as_slice() == NUMBERS.as_slice()),
+        Err(_) => Outcome::Wrong,
+    }
+}
+
+/// A clone of one.
+pub fn cloned(alloc: Global) -> Outcome {
+    let Ok(made) = EliasFano::build(alloc, NUMBERS.as_slice()) else {
+        return Outcome::Unready;
+    };
+    match made.try_clone(alloc) {
+        Ok(copy) => answered(is_right(&copy) && is_right(&made)),
+        Err(_) => refused(is_right(&made)),
+    }
+}
+
+/// The numbers that two of them share.
+pub fn shared(alloc: Global) -> Outcome {
+    let Ok(one) = EliasFano::build(alloc, NUMBERS.as_slice()) else {
+        return Outcome::Unready;
+    };
+    let Ok(other) = EliasFano::build(alloc, [1u64, 3, 6, 11, 12, 24, 30].as_slice()) else {
+        return Outcome::Unready;
+    };
+    match common(alloc, &one, &other) {
+        Ok(found) => answered(found.as_slice() == [3u64, 11, 24].as_slice()),
+        Err(_) => refused(is_right(&one) && other.try_get(6) == Some(30)),
+    }
+}
