@@ -1,7 +1,7 @@
 pub mod Density
 pub mod Entry
 pub mod IndexLaws
-pub mod Parts
+pub mod IndexParts
 pub mod Reads
 pub mod Samples
 pub mod Search

@@ -1,8 +1,9 @@
 -- The bits in which ones are sought, and where the tables tell that one of a rank is.
-use Rattle.std.specs.Prelude.{◌≡◌, ℕ, ◌+◌, ◌-◌, ◌*◌, ◌%◌, ◌^◌, ◌<◌, ◌≤◌, Bool, false, not, if◌then◌else◌, List, ◌++◌, length, map, min, replicate, count_ones}
+use Rattle.std.specs.Prelude.{◌≡◌, ℕ, ◌+◌, ◌-◌, ◌*◌, ◌^◌, ◌<◌, ◌≤◌, Bool, false, not, if◌then◌else◌, List, ◌++◌, length, map, min, replicate}
 use Rattle.std.specs.Int.{div_ceil}
 use Rattle.bitm_bits.specs.Bits.{bits_of}
 use Rattle.bitm_bits.specs.Count.{ones_before, kind}
+use Rattle.bitm_bits.specs.Number.{number_at}
 use Rattle.bitm.specs.Entry.{before_in_part}
 
 -- the bits, and falses up to a multiple of 2048
@@ -59,6 +60,6 @@ IsAmong m entries part r low left = Between (λ j. before_in_part m (part * 2 ^ 
 abbrev pub items_to : ℕ → List Bool → ℕ → ℕ → ℕ
 items_to one b part j = before_in_part (sought (kind one) b) (entry_in part j)
 
--- w is word k of the bits in which ones are sought
+-- w is word k of the bits: the number that 64 of them are, lowest first
 abbrev pub IsWord : List Bool → ℕ → ℕ → Type 0
-IsWord m k w = (j : ℕ) → j ≤ 64 → ones_before m (64 * k + j) ≡ ones_before m (64 * k) + count_ones (w % 2 ^ j)
+IsWord m k w = w ≡ number_at m (64 * k) 64

@@ -1,15 +1,18 @@
 -- Ones of the sought bits are bits of the kind that is sought; what a word of them tells of a place.
-use Rattle.std.proofs.Common.{◌≡◌, ◌≢◌, ℕ, zero, suc, ◌+◌, ◌-◌, ◌*◌, ◌%◌, ◌^◌, ◌<◌, ◌≤◌, Bool, true, false, not, List, length, min, slice_index, count_ones, arith, refl, sym, ap, ◌∙◌, w64, inl, inr}
+use Rattle.std.proofs.Common.{◌≡◌, ◌≢◌, ℕ, zero, suc, ◌+◌, ◌-◌, ◌*◌, ◌%◌, ◌^◌, ◌<◌, ◌≤◌, Bool, true, false, not, List, length, replicate, min, length-append, slice_index, count_ones, arith, refl, sym, ap, ◌∙◌, w64, inl, inr}
 use Rattle.std.proofs.lemmas.Bool.{cases_lt}
+use Rattle.std.proofs.lemmas.List.{length-map}
 use Rattle.std.proofs.lemmas.Nat.{ones_le_self}
-use Rattle.std.proofs.lemmas.Nat.Bits.{bit_at_not}
-use Rattle.std.specs.Int.{bit_not, div_ceil}
+use Rattle.std.proofs.lemmas.Nat.Bits.{bit_at_not, same_from_bits_below}
+use Rattle.std.specs.Int.{bit_at, bit_not, div_ceil}
 use Rattle.bitm_bits.proofs.lemmas.BitsLemmas.{length-bits_of}
 use Rattle.bitm_bits.proofs.lemmas.CountLemmas.{ones_before_more, zeros_before_more, ones_before-add-zeros_before, ones_before-bits_of_in_word, count_ones_more}
+use Rattle.bitm_bits.proofs.lemmas.NumberLemmas.{bit_at-number_at, number_at-lt}
 use Rattle.bitm_bits.proofs.lemmas.WordLemmas.{truth}
 use Rattle.bitm_bits.specs.Bits.{bits_of, item}
 use Rattle.bitm_bits.specs.Count.{ones_before, count_before, kind, Picks}
-use Rattle.bitm.specs.Search.{sought, sought_in, IsWord}
+use Rattle.bitm_bits.specs.Number.{number_at}
+use Rattle.bitm.specs.Search.{padded, sought, sought_in, IsWord}
 use Rattle.bitm.proofs.lemmas.EntryLemmas.{ones_before-padded, ones_before-complement}
 use Rattle.bitm.proofs.lemmas.StretchLemmas.{ones_before-self, ones_before-between}
 
@@ -67,8 +70,57 @@ picked b false r p h e f =
 
 -- ---- a word of the sought bits
 
-pub word_ones : (words : List ℕ) (k w one : ℕ) → k < length words → w ≡ slice_index words k → one ≢ 0 → IsWord (sought_in one words) k w
-word_ones words k w one h is other j le =
+-- what the number of a word tells of counts
+abbrev pub CountsWord : List Bool → ℕ → ℕ → Type 0
+CountsWord m k w = (j : ℕ) → j ≤ 64 → ones_before m (64 * k + j) ≡ ones_before m (64 * k) + count_ones (w % 2 ^ j)
+
+padded-long : (words : List ℕ) (k : ℕ) → k < length words → 64 * k + 64 ≤ length (padded (bits_of words))
+padded-long words k h =
+    let b = bits_of words in
+    let n = div_ceil (length b) 2048 * 2048 - length b in
+    omega (arith, length-bits_of words, length-append b (replicate n false))
+
+pub sought-long : (words : List ℕ) (v : Bool) (k : ℕ) → k < length words → 64 * k + 64 ≤ length (sought v (bits_of words))
+sought-long words true k h = padded-long words k h
+sought-long words false k h = omega (arith, padded-long words k h, length-map (padded (bits_of words)) not)
+
+pub word_counts : (m : List Bool) (k w : ℕ) → 64 * k + 64 ≤ length m → IsWord m k w → CountsWord m k w
+word_counts m k w long is zero le =
+    let none : w % 1 ≡ 0 = omega arith in
+    let at : 64 * k + 0 ≡ 64 * k = omega arith in
+    omega (arith, ap (ones_before m) at, ap count_ones none, ones_le_self 0)
+word_counts m k w long is (suc j) le =
+    let at : 64 * k + suc j ≡ 64 * k + j + 1 = omega arith in
+    let step : suc j ≡ j + 1 = omega arith in
+    omega (
+      arith,
+      ap (ones_before m) at,
+      ones_before_more m (64 * k + j) (omega arith),
+      bit_at-number_at m (64 * k) 64 j (omega arith),
+      ap (λ x. bit_at x j) is,
+      ap (λ e. count_ones (w % 2 ^ e)) step,
+      count_ones_more w j,
+      word_counts m k w long is j (omega arith),
+    )
+
+is_word : (m : List Bool) (k w : ℕ) → 64 * k + 64 ≤ length m → w < 2 ^ 64 → CountsWord m k w → IsWord m k w
+is_word m k w long fits counts =
+    same_from_bits_below 64 w (number_at m (64 * k) 64) fits (number_at-lt m (64 * k) 64 long)
+    (λ j low.
+    let at : 64 * k + (j + 1) ≡ 64 * k + j + 1 = omega arith in
+    let here : bit_at w j ≡ truth (item m (64 * k + j)) =
+    omega (
+      arith,
+      counts j (omega arith),
+      counts (j + 1) (omega arith),
+      ap (ones_before m) at,
+      ones_before_more m (64 * k + j) (omega arith),
+      count_ones_more w j,
+    ) in
+    here ∙ sym (bit_at-number_at m (64 * k) 64 j low))
+
+ones_counts : (words : List ℕ) (k w one : ℕ) → k < length words → w ≡ slice_index words k → one ≢ 0 → CountsWord (sought_in one words) k w
+ones_counts words k w one h is other j le =
     let m = marked_other (bits_of words) one other in
     rw (m, ones_before-sought (bits_of words) (64 * k + j), ones_before-sought (bits_of words) (64 * k), is)
     (ones_before-bits_of_in_word words k h j le)
@@ -91,9 +143,14 @@ count_not (suc k) v fits l =
       count_not k v fits (omega arith),
     )
 
-pub word_zeros : (words : List ℕ) (k w one : ℕ) → k < length words → w < 2 ^ 64 → w ≡ slice_index words k → one ≡ 0
-    → IsWord (sought_in one words) k (2 ^ 64 - 1 - w)
-word_zeros words k w one h lt is none j le =
+pub word_ones : (words : List ℕ) (k w one : ℕ) → k < length words → w < 2 ^ 64 → w ≡ slice_index words k → one ≢ 0
+    → IsWord (sought_in one words) k w
+word_ones words k w one h lt is other =
+    is_word (sought_in one words) k w (sought-long words (kind one) k h) lt (ones_counts words k w one h is other)
+
+zeros_counts : (words : List ℕ) (k w one : ℕ) → k < length words → w < 2 ^ 64 → w ≡ slice_index words k → one ≡ 0
+    → CountsWord (sought_in one words) k (2 ^ 64 - 1 - w)
+zeros_counts words k w one h lt is none j le =
     let b = bits_of words in
     let there = zeros_before-sought b (64 * k + j) (omega (arith, length-bits_of words)) in
     let here = zeros_before-sought b (64 * k) (omega (arith, length-bits_of words)) in
@@ -101,9 +158,15 @@ word_zeros words k w one h lt is none j le =
     let same = ap (λ (x : ℕ). count_ones (x % 2 ^ j)) is in
     rw (marked_zero b one none) (omega (arith, there, here, ones, same, ones_before-self b (64 * k), count_not j w lt le))
 
+pub word_zeros : (words : List ℕ) (k w one : ℕ) → k < length words → w < 2 ^ 64 → w ≡ slice_index words k → one ≡ 0
+    → IsWord (sought_in one words) k (2 ^ 64 - 1 - w)
+word_zeros words k w one h lt is none =
+    is_word (sought_in one words) k (2 ^ 64 - 1 - w) (sought-long words (kind one) k h) (omega arith)
+    (zeros_counts words k w one h lt is none)
+
 -- ---- selection in a word, at the rank R
 
-module _ (words : List ℕ) (v : Bool) (k w R rest : ℕ) (word : IsWord (sought v (bits_of words)) k w)
+module _ (words : List ℕ) (v : Bool) (k w R rest : ℕ) (word : CountsWord (sought v (bits_of words)) k w)
     (count : R ≡ ones_before (sought v (bits_of words)) (64 * k) + rest) where
   pub picked_in_word : (q : ℕ) → k < length words → q < 64 → count_ones (w % 2 ^ q) ≡ rest → count_ones (w % 2 ^ (q + 1)) ≡ rest + 1
       → Picks (bits_of words) v R (k * 64 + q)

@@ -56,10 +56,10 @@ impl<S: SelectForRank101111, S0: Select0ForRank101111, BV: AsSlice<u64>> Model
     for RankSelect101111<S, S0, BV> {
     ghost use Rattle.std.specs.Box.{boxed_slice_items};
     ghost use Rattle.bitm_bits.specs.Bits.{bits_of, IsShort};
-    ghost use Rattle.bitm.specs.Parts.{Parts};
+    ghost use Rattle.bitm.specs.IndexParts.{IndexParts};
     ghost use Rattle.bitm.specs.Tables.{AreTablesOf};
 
-    ghost Value = { Parts BV S S0 };
+    ghost Value = { IndexParts BV S S0 };
 
     ghost view = { λ i. record { content = i.content; select = i.select; select0 = i.select0 } };
 

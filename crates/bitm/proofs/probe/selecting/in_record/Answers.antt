@@ -4,15 +4,18 @@ use Rattle.bitm_bits.specs.Count.{ones_before, kind}
 use Rattle.bitm.specs.Search.{IsWord, sought_in}
 use Rattle.bitm.specs.Tables.{Lists}
 use Rattle.bitm.specs.declared.probe.counts.ReadCounts.{ReadCounts}
-use Rattle.bitm.proofs.lemmas.MarkLemmas.{picked_in_word, word_passed, none_found}
+use Rattle.bitm.proofs.lemmas.MarkLemmas.{CountsWord, sought-long, word_counts, picked_in_word, word_passed, none_found}
 use Rattle.bitm.proofs.probe.selecting.in_record.Goals as goal
 use Rattle.bitm.proofs.probe.selecting.in_record.Goals.{After-word_of-word}
 
 word : (g : _) (c : After-word_of-word g)
-    → IsWord (sought_in g.row.ONE (g.T.TableSource.lists c.args.source.now).words) c.loop-at.at c.word_of-word.result
+    → CountsWord (sought_in g.row.ONE (g.T.TableSource.lists c.args.source.now).words) c.loop-at.at c.word_of-word.result
 word g c =
-    subst (λ (l : Lists). IsWord (sought_in g.row.ONE l.words) c.loop-at.at c.word_of-word.result)
-    c.loop-at.invariant.same c.word_of-word.ensures.word
+    let words = (g.T.TableSource.lists c.args.source.now).words in
+    word_counts (sought_in g.row.ONE words) c.loop-at.at c.word_of-word.result
+    (sought-long words (kind g.row.ONE) c.loop-at.at (omega arith))
+    (subst (λ (l : Lists). IsWord (sought_in g.row.ONE l.words) c.loop-at.at c.word_of-word.result)
+    c.loop-at.invariant.same c.word_of-word.ensures.word)
 
 pub returns-then-rest-count-clause-answer : goal.returns-then-rest-count-clause-answer
 returns-then-rest-count-clause-answer g c =
@@ -53,5 +56,7 @@ returns-then-first-words_len-clause-answer g c =
     let e = c.select_in_word.ensures in
     let words = (g.T.TableSource.lists c.args.source.now).words in
     let R = ones_before (sought_in g.row.ONE words) (64 * c.args.first) + c.args.rank in
-    picked_in_word words (kind g.row.ONE) c.word_of_rank-at.result.0 c.word_of_rank-at.result.1 R c.word_of_rank-at.result.2
-    f.word f.rest c.select_in_word.result (omega arith) e.inside e.before e.after
+    let at = c.word_of_rank-at.result.0 in
+    let word = word_counts (sought_in g.row.ONE words) at c.word_of_rank-at.result.1 (sought-long words (kind g.row.ONE) at (omega arith)) f.word in
+    picked_in_word words (kind g.row.ONE) at c.word_of_rank-at.result.1 R c.word_of_rank-at.result.2
+    word f.rest c.select_in_word.result (omega arith) e.inside e.before e.after

@@ -4,7 +4,7 @@ use Rattle.bitm_bits.specs.Count.{ones_before, kind}
 use Rattle.bitm.specs.Search.{IsWord, sought_in}
 use Rattle.bitm.specs.Tables.{Lists}
 use Rattle.bitm.specs.declared.probe.counts.ReadCounts.{ReadCounts}
-use Rattle.bitm.proofs.lemmas.MarkLemmas.{word_passed}
+use Rattle.bitm.proofs.lemmas.MarkLemmas.{sought-long, word_counts, word_passed}
 use Rattle.bitm.proofs.probe.selecting.word_of_rank.Goals as goal
 
 pub loop-k-preserved : goal.loop-k-preserved
@@ -15,8 +15,9 @@ loop-k-preserved g c =
     let m = sought_in g.row.ONE words in
     let at = c.args.first + c.loop-k.k in
     let R = ones_before m (64 * c.args.first) + c.args.rank in
-    let word : IsWord m at c.word_of-word.result =
-    subst (λ (l : Lists). IsWord (sought_in g.row.ONE l.words) at c.word_of-word.result) i.same e.word in
+    let word =
+    word_counts m at c.word_of-word.result (sought-long words (kind g.row.ONE) at (omega arith))
+    (subst (λ (l : Lists). IsWord (sought_in g.row.ONE l.words) at c.word_of-word.result) i.same e.word) in
     let next : at + 1 ≡ c.args.first + (c.loop-k.k + 1) = omega arith in
     let passed : R ≡ ones_before m (64 * (at + 1)) + (c.loop-k.rest - count_ones c.word_of-word.result) =
     word_passed words (kind g.row.ONE) at c.word_of-word.result R c.loop-k.rest word i.rest c.word_of-word.type_inv c.if-rest-count.false in
@@ -34,8 +35,9 @@ returns-clause-has g c =
     let words = (g.T.TableSource.lists c.args.source.now).words in
     let m = sought_in g.row.ONE words in
     let at = c.args.first + 7 in
-    let word : IsWord m at c.word_of-last.result =
-    subst (λ (l : Lists). IsWord (sought_in g.row.ONE l.words) at c.word_of-last.result) i.same c.word_of-last.ensures.word in
+    let word =
+    word_counts m at c.word_of-last.result (sought-long words (kind g.row.ONE) at (omega arith))
+    (subst (λ (l : Lists). IsWord (sought_in g.row.ONE l.words) at c.word_of-last.result) i.same c.word_of-last.ensures.word) in
     let seven : c.loop-k.k ≡ 7 = omega (arith, c.loop-k-test.false, c.loop-k.auto.k-end) in
     let end : 64 * at + 64 ≡ 64 * (c.args.first + 8) = omega arith in
     let whole : c.word_of-last.result % 2 ^ 64 ≡ c.word_of-last.result = omega (arith, c.word_of-last.type_inv) in
