@@ -1,2 +1,3 @@
 pub mod InvertedLemmas
 pub mod ListLemmas
+pub mod SieveLemmas

@@ -6,6 +6,7 @@
 //! | write bits of an array, a boxed slice, a vector, and read them | `writing` |
 //! | make words in code that is generic over the vector | `owned` |
 //! | go over the places of ones, or over bits, in a `for` | `iterating` |
+//! | clear bits in a loop | `sieve` |
 //! | relate rank and selection in code that is generic over the index | `inverse` |
 //! | intersect two lists of rising numbers | `inverted` |
 //! | number the members of a set densely, and find a member by its number | `dense` |
@@ -25,6 +26,7 @@ pub mod inverted;
 pub mod iterating;
 pub mod owned;
 pub mod readme;
+pub mod sieve;
 pub mod source;
 pub mod strategies;
 pub mod writing;
