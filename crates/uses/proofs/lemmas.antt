@@ -1,3 +1,4 @@
 pub mod InvertedLemmas
 pub mod ListLemmas
+pub mod PrimeLemmas
 pub mod SieveLemmas

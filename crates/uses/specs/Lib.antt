@@ -1,2 +1,3 @@
 pub mod Guard
 pub mod Inverted
+pub mod Primes

@@ -6,7 +6,7 @@
 //! | write bits of an array, a boxed slice, a vector, and read them | `writing` |
 //! | make words in code that is generic over the vector | `owned` |
 //! | go over the places of ones, or over bits, in a `for` | `iterating` |
-//! | clear bits in a loop | `sieve` |
+//! | clear bits in a loop, and keep a set of numbers | `sieve` |
 //! | relate rank and selection in code that is generic over the index | `inverse` |
 //! | intersect two lists of rising numbers | `inverted` |
 //! | number the members of a set densely, and find a member by its number | `dense` |
