@@ -1,7 +1,9 @@
 //! A call whose condition the caller tests first, as a user of the library writes it.
-ghost use Rattle.bitm_bits.specs.Count.{IsRank};
+ghost use Rattle.std.specs.Prelude.{◌<◌, true, count_ones, IfSome, IsSome};
+ghost use Rattle.bitm_bits.specs.Bits.{low_digits};
+ghost use Rattle.bitm_bits.specs.Count.{IsRank, Picks};
 
-use bitm::Rank;
+use bitm::{Rank, select64};
 
 /// How many of so many bits from the front are ones, as `rank` answers it; `None` exactly where there are fewer bits.
 pub fn ranked<I: Rank>(index: &I, place: usize) -> Option<usize>
@@ -9,6 +11,19 @@ pub fn ranked<I: Rank>(index: &I, place: usize) -> Option<usize>
 {
     if index.try_rank(place).is_some() {
         Some(index.rank(place))
+    } else {
+        None
+    }
+}
+
+/// The place of the one of a word with exactly `rank` ones before it; `None` where the word has no more ones than that.
+#[tactic(auto, using(bitm::proofs::Callers::ones_of_word))]
+pub fn selected_in_word(word: u64, rank: u8) -> Option<u8>
+    ensures picked { IfSome result (Picks (low_digits 64 word) true rank) }
+    ensures some { rank < count_ones word → IsSome result }
+{
+    if (rank as u32) < word.count_ones() {
+        Some(select64(word, rank))
     } else {
         None
     }
