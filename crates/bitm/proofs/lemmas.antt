@@ -5,6 +5,8 @@ pub mod DensityLemmas
 pub mod EntryLemmas
 pub mod FieldLemmas
 pub mod InWordLemmas
+pub mod LeBytesLemmas
+pub mod LowBytes
 pub mod MadeLemmas
 pub mod MarkLemmas
 pub mod PartLemmas

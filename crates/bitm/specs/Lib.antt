@@ -7,4 +7,3 @@ pub mod Samples
 pub mod Search
 pub mod Simple
 pub mod Tables
-pub mod Word

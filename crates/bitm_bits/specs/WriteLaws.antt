@@ -1,6 +1,6 @@
 -- What the words, their zeros and a write mean for items, numbers and counts. Each law is the contract of a function of
 -- `laws`.
-use Rattle.std.specs.Prelude.{◌≡◌, ℕ, ◌+◌, ◌*◌, ◌/◌, ◌^◌, ◌<◌, ◌≤◌, ◌↔◌, ◌⊎◌, Bool, true, false, List, [], ◌∷◌, ◌++◌, length, slice_index, replicate}
+use Rattle.std.specs.Prelude.{◌≡◌, ℕ, ◌+◌, ◌*◌, ◌/◌, ◌^◌, ◌<◌, ◌≤◌, ◌↔◌, ◌⊎◌, Bool, true, false, List, [], ◌∷◌, ◌++◌, length, slice_index, replicate, slice_set, if◌then◌else◌}
 use Rattle.bitm_bits.specs.Bits.{digit, bits_of, item}
 use Rattle.bitm_bits.specs.Count.{ones_before, zeros_before, count_before, places}
 use Rattle.bitm_bits.specs.Number.{number_at, with_number}
@@ -47,6 +47,10 @@ NoItemsAreZero = (b : List Bool) (begin : ℕ) → number_at b begin 0 ≡ 0
 -- a write leaves as many items
 abbrev pub LengthIsKept : Type 0
 LengthIsKept = (b : List Bool) (begin len v : ℕ) → begin + len ≤ length b → length (with_number b begin len v) ≡ length b
+
+-- one bit written is that item set
+abbrev pub OneBitIsSet : Type 0
+OneBitIsSet = (b : List Bool) (i : ℕ) (bit : Bool) → i < length b → with_number b i 1 (if bit then 1 else 0) ≡ slice_set b i bit
 
 -- item k of those that were written is digit k of the number
 abbrev pub ItemIsWritten : Type 0

@@ -7,7 +7,7 @@ use Rattle.std.specs.Int.Bits.{or_shifted_r}
 use Rattle.std.specs.Int.Count.{ones, ones_in}
 use Rattle.bitm.proofs.lemmas.ByteSumLemmas.{self, in_each_byte, kept}
 use Rattle.bitm.proofs.lemmas.FieldLemmas.{map_fields, map_fields-same, map_fields-same_bytes, map_fields-sub, map_fields-or, count_ones-map_fields, sum_fields-same, sum_fields-count_by}
-use Rattle.bitm.specs.Word.{low_bytes}
+use Rattle.bitm.proofs.lemmas.LowBytes.{low_bytes}
 
 -- what is left of a byte of 128 + r from which one of at most 64 is taken
 abbrev left : ℕ → ℕ → ℕ

@@ -3,7 +3,7 @@ use Rattle.std.proofs.Common.{◌≡◌, ℕ, zero, suc, ◌+◌, ◌*◌, ◌/�
 use Rattle.std.proofs.lemmas.Bool.{cases_lt, lt-leb}
 use Rattle.std.proofs.lemmas.List.Sums.{sum_by-cons}
 use Rattle.std.proofs.lemmas.Nat.{shr-shr, shr_high, mod_low}
-use Rattle.bitm.specs.Word.{low_bytes}
+use Rattle.bitm.proofs.lemmas.LowBytes.{low_bytes}
 
 -- ---- bytes
 

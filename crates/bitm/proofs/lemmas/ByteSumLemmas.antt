@@ -6,7 +6,7 @@ use Rattle.std.specs.Int.Count.{ones, ones_in}
 use Rattle.bitm.proofs.lemmas.ByteLemmas.{number_of_bytes, low_bytes-number_of_bytes}
 use Rattle.bitm.proofs.lemmas.FieldLemmas.{map_fields, sum_fields, running_sums, get_or-running_sums, Stays, map_fields-same, map_fields-self, map_fields-add, map_fields-sub, map_fields-and, map_fields-shr-and, sum_fields-count_ones}
 use Rattle.bitm.proofs.lemmas.InWordLemmas.{ones_before-low_digits}
-use Rattle.bitm.specs.Word.{low_bytes}
+use Rattle.bitm.proofs.lemmas.LowBytes.{low_bytes}
 use Rattle.bitm_bits.specs.Bits.{low_digits}
 use Rattle.bitm_bits.specs.Count.{ones_before}
 

@@ -5,7 +5,7 @@ use Rattle.std.proofs.lemmas.List.Sums.{sum_by-cons}
 use Rattle.std.proofs.lemmas.Nat.{and_block, or_block, pow_pos, mod_below, ones_cat, pow-add, shr_split, shr_below, mod-pow-add}
 use Rattle.std.specs.Int.Bits.{and_zero_r}
 use Rattle.std.specs.Int.Count.{ones, ones_in}
-use Rattle.bitm.specs.Word.{low_bytes}
+use Rattle.bitm.proofs.lemmas.LowBytes.{low_bytes}
 
 -- the number whose field i is f at field i of x
 unfoldable pub map_fields : ℕ → ℕ → (ℕ → ℕ) → ℕ → ℕ

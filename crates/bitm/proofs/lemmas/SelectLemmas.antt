@@ -10,7 +10,7 @@ use Rattle.bitm.proofs.lemmas.ByteLemmas.{length-low_bytes, get_or-low_bytes, Ar
 use Rattle.bitm.proofs.lemmas.ByteSumLemmas.{all_below, all_below-at}
 use Rattle.bitm.proofs.lemmas.FieldLemmas.{sum_fields, sum_fields-count_ones}
 use Rattle.bitm.proofs.lemmas.InWordLemmas.{ones_before-low_digits, ones_before-low_digits_rises, ones_before-low_digits_none, ones_before-low_digits_few, ones_before-low_digits_above, picked_in_digits, picked_above}
-use Rattle.bitm.specs.Word.{low_bytes}
+use Rattle.bitm.proofs.lemmas.LowBytes.{low_bytes}
 use Rattle.bitm_bits.specs.Bits.{low_digits}
 use Rattle.bitm_bits.specs.Count.{ones_before, Picks}
 

@@ -1,8 +1,9 @@
 //! Selection in a word, by arithmetic on all its bytes at once: no table, no loop and no branch.
-ghost use Rattle.std.specs.Prelude.{◌≡◌, ℕ, ◌<◌, ◌≤◌, ◌+◌, ◌-◌, ◌*◌, slice_index, count_by, nat_le, All, true};
+ghost use Rattle.std.specs.Prelude.{◌≡◌, ◌<◌, ◌≤◌, ◌+◌, ◌-◌, ◌*◌, map, count_by, nat_le, All, true};
+ghost use Rattle.std.specs.Int.{to_le_bytes, w64};
+ghost use Rattle.std.specs.List.{range_with_len};
 ghost use Rattle.bitm_bits.specs.Bits.{low_digits};
 ghost use Rattle.bitm_bits.specs.Count.{ones_before, Picks};
-ghost use Rattle.bitm.specs.Word.{low_bytes};
 
 /// The lowest bit of each byte.
 const LOWEST_OF_EACH_BYTE: u64 = 0x0101_0101_0101_0101;
@@ -19,8 +20,8 @@ const SEVEN_COPIES: u64 = 0x0002_0408_1020_4081;
 /// A word whose byte k, lowest first, is the number of ones in bytes 0 to k of `n`.
 #[inline(always)]
 pub fn byte_sums(n: u64) -> u64
-    ensures { (k : ℕ) → k < 8
-        → slice_index (low_bytes 8 result) k ≡ ones_before (low_digits 64 n) (8 * (k + 1)) }
+    ensures { to_le_bytes w64 result
+        ≡ map (λ k. ones_before (low_digits 64 n) (8 * (k + 1))) (range_with_len 0 8) }
 {
     let pairs = n - ((n >> 1) & 0x5555_5555_5555_5555);
     let nibbles = (pairs & 0x3333_3333_3333_3333) + ((pairs >> 2) & 0x3333_3333_3333_3333);
@@ -34,9 +35,9 @@ pub fn byte_sums(n: u64) -> u64
 /// Each of the bytes is at most 64, and `r` is at most 63.
 #[inline(always)]
 pub fn bytes_at_most(sums: u64, r: u8) -> u8
-    requires small { All (λ s. s ≤ 64) (low_bytes 8 sums) }
+    requires small { All (λ s. s ≤ 64) (to_le_bytes w64 sums) }
     requires below { r ≤ 63 }
-    ensures { result ≡ count_by (λ s. nat_le s r) (low_bytes 8 sums) }
+    ensures { result ≡ count_by (λ s. nat_le s r) (to_le_bytes w64 sums) }
 {
     // No byte borrows from the next, since each is at least 128 and loses at most 64.
     let kept = ((r as u64 * LOWEST_OF_EACH_BYTE) | HIGHEST_OF_EACH_BYTE) - sums;

@@ -1,7 +1,7 @@
 //! Laws of words, of zeros and of what a write leaves, for items, numbers and counts.
 ghost use Rattle.bitm_bits.specs.WriteLaws.{BitsAreCounted, PlaceIsInside, WordIsItsBits};
 ghost use Rattle.bitm_bits.specs.WriteLaws.{ZerosHaveNoOnes, ZerosAreCounted, ZerosAreZero, NoItemsAreZero};
-ghost use Rattle.bitm_bits.specs.WriteLaws.{LengthIsKept, ItemIsWritten, ItemBesideIsKept, NumberBesideIsKept, CountBeforeIsKept};
+ghost use Rattle.bitm_bits.specs.WriteLaws.{LengthIsKept, OneBitIsSet, ItemIsWritten, ItemBesideIsKept, NumberBesideIsKept, CountBeforeIsKept};
 ghost use Rattle.bitm_bits.specs.WriteLaws.{OneMoreIsSet, OneMoreIsCleared, LastOneIsSet};
 
 /// Words have 64 bits each.
@@ -42,6 +42,11 @@ pub fn no_items_are_zero()
 /// A write leaves as many items as there were.
 pub fn length_is_kept()
     ensures { LengthIsKept }
+{}
+
+/// One bit that is written is that item set, and nothing else.
+pub fn one_bit_is_set()
+    ensures { OneBitIsSet }
 {}
 
 /// An item that was written is the digit of the number at its place there.
