@@ -1,5 +1,4 @@
 //! What an index keeps and counts: its tables, its size, and ranks of a few contents.
-use uses::asking::ranked;
 use crate::plain::{indexed, owned};
 use bitm::{
     BinaryRankSearch, BitAccess, BitAccessMut, BitVec, GetSize, Rank, RankSelect101111, Select,
@@ -10,6 +9,7 @@ use std::boxed::BoxedSlice;
 use std::convert::AsSlice;
 use std::process::Abort;
 use std::test::Fail;
+use uses::asking::ranked;
 
 /// An index over words that are lent.
 type Lent<'a> = RankSelect101111<BinaryRankSearch, BinaryRankSearch, &'a [u64]>;
