@@ -73,3 +73,23 @@ none-between xs ys at there k xs_rise ys_rise from inside less next c =
     let within : there < length ys = omega (arith, c.1) in
     omega (arith, next within, is, ys_rise there c.0 0 past c.1))
     (cases_lt c.0 there)
+
+-- ---- a turn of the loop, at the number v of xs, of which ys has the first that is no less at there
+
+-- nothing is shared up to the place from which on numbers are at least the one there
+pub passed-to : (xs ys found : List ℕ) (at there to v : ℕ) → IsNonDecreasing xs → IsNonDecreasing ys → AreCommonTo xs ys at found
+    → v ≡ get_or xs at 0 → ((j : ℕ) → j < there → get_or ys j 0 < v) → to ≤ length xs
+    → ((k : ℕ) → k < to → there < length ys → get_or xs k 0 < get_or ys there 0) → AreCommonTo xs ys to found
+passed-to xs ys found at there to v xs_rise ys_rise was is less bound next =
+    AreCommonTo-past xs ys at to found was bound
+    (λ k from before. none-between xs ys at there k xs_rise ys_rise from (omega arith)
+    (λ j l. let below : get_or ys j 0 < v = less j l in omega arith) (next k before))
+
+-- the number stands in both
+pub shared-at : (xs ys found more : List ℕ) (at there v : ℕ) → AreCommonTo xs ys at found → v ≡ get_or xs at 0 → at < length xs
+    → there < length ys → get_or ys there 0 ≡ v → more ≡ found ++ v ∷ [] → AreCommonTo xs ys (at + 1) more
+shared-at xs ys found more at there v was is inside within same pushed =
+    let P : ℕ → Type 0 = Contains ys in
+    let Q : List ℕ → Type 0 = λ l. AreCommonTo xs ys (at + 1) l in
+    subst Q (sym (pushed ∙ ap (λ n. found ++ n ∷ []) is))
+    (AreCommonTo-more xs ys at found was inside (subst P (same ∙ is) (stands ys there within)))
