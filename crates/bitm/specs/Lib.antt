@@ -1,7 +1,7 @@
 pub mod Density
 pub mod Entry
 pub mod IndexLaws
-pub mod IndexParts
+pub mod IndexValue
 pub mod Reads
 pub mod Samples
 pub mod Search

@@ -1,7 +1,7 @@
 -- What was read of a source: one for each call that reads, by kind.
 use Rattle.std.specs.Prelude.{◌≡◌, ℕ, ◌+◌, ◌≤◌}
 use Rattle.bitm.specs.Tables.{Lists}
-use Rattle.bitm.specs.declared.probe.counts.ReadCounts.{ReadCounts}
+use Rattle.bitm.specs.declared.source.counts.ReadCounts.{ReadCounts}
 
 -- nothing was read
 abbrev pub none_read : ReadCounts

@@ -6,8 +6,8 @@ use Rattle.bitm_bits.specs.Bits.{bits_of, digit, digit_count, IsShort}
 use Rattle.bitm_bits.specs.Count.{ones_of, count_before, count_of, places}
 use Rattle.bitm.specs.Reads.{ReadsAtMost}
 use Rattle.bitm.specs.Tables.{AreTablesOf}
-use Rattle.bitm.specs.declared.probe.counts.ReadCounts.{ReadCounts}
-use Rattle.bitm.specs.declared.sampling.samples.TableCounts.{TableCounts}
+use Rattle.bitm.specs.declared.source.counts.ReadCounts.{ReadCounts}
+use Rattle.bitm.specs.declared.strategies.samples.Summary.{Summary}
 
 -- ---- parts
 
@@ -98,18 +98,18 @@ pub record IsSampleCount (b : List Bool) (v : Bool) (d count : ℕ) : Type 0 whe
 -- ---- what samples are made of
 
 -- the tables of the bits b, and how many ones and bits there are
-pub record Tabled (b : List Bool) (upper lower : List ℕ) (total len : ℕ) : Type 0 where
+pub record Summarizes (b : List Bool) (upper lower : List ℕ) (total len : ℕ) : Type 0 where
   pub tables : AreTablesOf b upper lower
   pub ones_are : total ≡ ones_of b
   pub bits_are : len ≡ length b
 
 -- the tables and numbers are those of the bits b
-abbrev pub CountsOf : List Bool → TableCounts → Type 0
-CountsOf b counts = Tabled b counts.upper.now counts.lower.now counts.total counts.len
+abbrev pub IsSummaryOf : List Bool → Summary → Type 0
+IsSummaryOf b summary = Summarizes b summary.upper.now summary.lower.now summary.total summary.len
 
 -- they are those of some bits
-abbrev pub AreCounts : TableCounts → Type 0
-AreCounts counts = (b : List Bool) × CountsOf b counts
+abbrev pub IsSummary : Summary → Type 0
+IsSummary summary = (b : List Bool) × IsSummaryOf b summary
 
 -- what a value that selects by samples shows: its density, the samples, and how many there are before each part
 pub record Sampled (S : Type 0) : Type 0 where

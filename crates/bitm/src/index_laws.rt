@@ -7,8 +7,7 @@ ghost use Rattle.bitm_bits.specs.Bits.{item};
 ghost use Rattle.bitm_bits.specs.Count.{ones_of, zeros_of};
 ghost use Rattle.bitm.specs.IndexLaws.{EntriesFit, OnesOfWord};
 
-use crate::rank::Rank;
-use crate::select::traits::{Select, Select0};
+use crate::queries::{Rank, Select, Select0};
 
 /// The ones before the one of this rank: as many as the rank says.
 ///

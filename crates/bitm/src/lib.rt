@@ -13,12 +13,17 @@
 //! The crate `uses` proves this and more of a caller's code; `CALLING.md` says which call tells what.
 #![tactic(auto)]
 
+mod entry;
+mod index;
 pub mod index_laws;
-mod packed;
-mod probe;
-mod rank;
-mod sampling;
-mod select;
+mod levels;
+mod queries;
+mod search;
+mod simple;
+mod source;
+mod strategies;
+mod tables;
+mod word;
 
 pub use bitm_bits::{
     BitAccess, BitAccessMut, BitBIterator, BitIterator, BitOnesIterator, BitVec, BitZerosIterator,
@@ -26,23 +31,23 @@ pub use bitm_bits::{
     init_bits57, laws, n_lowest_bits, n_lowest_bits_0_64, n_lowest_bits_1_64, set_bits25,
     set_bits57, words,
 };
-pub use packed::index::{ArrayWithRank101111, RankSelect101111};
-pub use probe::counts::ReadCounts;
-pub use probe::entry::complement_entry;
-pub use probe::ranking::rank_on;
-pub use probe::selecting::binary_select_on;
-pub use probe::source::{Probe, TableSource};
-pub use rank::simple::{ArrayWithRankSimple, RankSimple};
-pub use rank::{HasBits, Rank};
-pub use sampling::combined::CombinedSampling;
-pub use sampling::density::{
-    AdaptiveCombinedSamplingDensity, CombinedSamplingDensity, ConstCombinedSamplingDensity,
-};
-pub use select::binary::BinaryRankSearch;
-pub use select::levels::{
+pub use entry::complement_entry;
+pub use index::{ArrayWithRank101111, RankSelect101111};
+pub use levels::{
     BITS_PER_L1_ENTRY, BITS_PER_L2_ENTRY, BITS_PER_L2_RECORDS, L2_ENTRIES_PER_L1_ENTRY,
     U64_PER_L1_ENTRY, U64_PER_L2_ENTRY, U64_PER_L2_RECORDS,
 };
-pub use select::optimal::optimal_combined_sampling;
-pub use select::traits::{Select, Select0, Select0ForRank101111, SelectForRank101111};
-pub use select::word::{byte_sums, bytes_at_most, select64};
+pub use queries::{HasBits, Rank, Select, Select0};
+pub use search::ranking::rank_on;
+pub use search::selecting::binary_select_on;
+pub use simple::{ArrayWithRankSimple, RankSimple};
+pub use source::counts::ReadCounts;
+pub use source::{Probe, TableSource};
+pub use strategies::binary::BinaryRankSearch;
+pub use strategies::combined::CombinedSampling;
+pub use strategies::density::{
+    AdaptiveCombinedSamplingDensity, CombinedSamplingDensity, ConstCombinedSamplingDensity,
+};
+pub use strategies::optimal::optimal_combined_sampling;
+pub use strategies::traits::{Select0ForRank101111, SelectForRank101111};
+pub use word::{byte_sums, bytes_at_most, select64};

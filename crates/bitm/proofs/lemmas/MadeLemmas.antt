@@ -9,7 +9,7 @@ use Rattle.std.specs.Int.{div_ceil}
 use Rattle.bitm_bits.proofs.lemmas.CountLemmas.{ones_before-add-zeros_before}
 use Rattle.bitm_bits.specs.Count.{count_of, ones_before, count_before, kind}
 use Rattle.bitm.specs.Entry.{before_in_part, lower_entry, FieldsFit}
-use Rattle.bitm.specs.Samples.{Tabled, part_of, entry_of, sample}
+use Rattle.bitm.specs.Samples.{Summarizes, part_of, entry_of, sample}
 use Rattle.bitm.specs.Search.{IsLast, IsLastEntry, entries_from, sought, negated, padded}
 use Rattle.bitm.proofs.lemmas.EntryLemmas.{entry-fits}
 use Rattle.bitm.proofs.lemmas.MarkLemmas.{kind_other}
@@ -29,7 +29,7 @@ items_other c one h = ap (count_of c) (kind_other one h)
 
 -- ---- a part and its entries
 
-module _ (b : List Bool) (upper lower : List ℕ) (total len : ℕ) (t : Tabled b upper lower total len) where
+module _ (b : List Bool) (upper lower : List ℕ) (total len : ℕ) (t : Summarizes b upper lower total len) where
   t' : HasEntries b upper lower
   t' = entries b upper lower t.tables
 
@@ -86,8 +86,8 @@ module _ (b : List Bool) (upper lower : List ℕ) (total len : ℕ) (t : Tabled 
           let both = ones_before-add-zeros_before (part_of b k) (length (part_of b k)) (omega arith) in
           omega (arith, ones_in, t.bits_are, length-part_of b k, both)
 
--- what an advance to an item finds is the item's entry
-pub advanced : (b : List Bool) (upper lower : List ℕ) (total len : ℕ) → Tabled b upper lower total len
+-- what a walk to an item finds is the item's entry
+pub advanced : (b : List Bool) (upper lower : List ℕ) (total len : ℕ) → Summarizes b upper lower total len
     → (v : Bool) (k : ℕ) → k < length upper → (item e : ℕ) → item < count_of (part_of b k) v
     → IsLastEntry (sought v b) (length lower) k item e → e ≡ entry_of (part_of b k) v item
 advanced b upper lower total len t v k inside item e some last =

@@ -12,7 +12,7 @@ use Rattle.bitm.specs.Entry.{before_in_part}
 use Rattle.bitm.specs.Reads.{ReadsAtMost}
 use Rattle.bitm.specs.Samples.{part_of, parts, sample, intervals, first_item, walk_start, sample_count_before, samples_of, sample_count_of, rank_in, WalkedTo, WalkedOut, SampledReads, IsSampleCount}
 use Rattle.bitm.specs.Search.{IsLastPart, IsLastEntry, entries_from, sought}
-use Rattle.bitm.specs.declared.probe.counts.ReadCounts.{ReadCounts}
+use Rattle.bitm.specs.declared.source.counts.ReadCounts.{ReadCounts}
 use Rattle.bitm.proofs.lemmas.MarkLemmas.{count_before-sought}
 use Rattle.bitm.proofs.lemmas.PartLemmas.{count_before-between, length-part_of, count_of-part_of, count_in_part, count_before-none, entry-small}
 use Rattle.bitm.proofs.lemmas.SampleLemmas.{sample_at, decoded, start_inside, start_at_most, ceil_more, ceil_less, before_more, before_le, length-samples, first_item_is}

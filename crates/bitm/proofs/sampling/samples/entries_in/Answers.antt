@@ -1,7 +1,0 @@
--- The part begins before the table ends.
-use Rattle.std.proofs.Common.{arith}
-use Rattle.bitm.proofs.lemmas.MadeLemmas.{first_begins}
-use Rattle.bitm.proofs.sampling.samples.entries_in.Goals as goal
-
-pub entries_of_part-requires : goal.entries_of_part-requires
-entries_of_part-requires c = omega (arith, first_begins _ _ _ _ _ c.requires.tabled.1 c.args.part c.requires.inside)

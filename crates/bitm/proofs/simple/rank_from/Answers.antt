@@ -1,0 +1,24 @@
+-- What is counted on the way to the place is at most all ones, which fit.
+use Rattle.std.proofs.Common.{refl, arith, rules}
+use Rattle.bitm.proofs.lemmas.SimpleLemmas.{counts_through}
+use Rattle.bitm.proofs.simple.rank_from.Goals as goal
+
+pub overflow_cast-whole : goal.overflow_cast-whole
+overflow_cast-whole c =
+    let h = counts_through c.args.words.now _ c.args.last c.requires.inside (λ j. search rules) refl in
+    omega (arith, c.count_bit_ones-whole.ensures, h.word, h.place, h.most, c.requires.few)
+
+pub overflow_add-result : goal.overflow_add-result
+overflow_add-result c =
+    let h = counts_through c.args.words.now _ c.args.last c.requires.inside (λ j. search rules) refl in
+    omega (arith, c.count_bit_ones-whole.ensures, h.word, h.place, h.most, c.requires.few, c.requires.before)
+
+pub returns : goal.returns
+returns c =
+    let h = counts_through c.args.words.now _ c.args.last c.requires.inside (λ j. search rules) refl in
+    omega (arith, c.count_bit_ones-whole.ensures, h.place, c.ones_through.ensures, c.requires.before)
+
+pub overflow_add-result-2 : goal.overflow_add-result-2
+overflow_add-result-2 c =
+    let h = counts_through c.args.words.now _ c.args.last c.requires.inside (λ j. search rules) refl in
+    omega (arith, returns c, h.most, c.requires.few)

@@ -1,0 +1,231 @@
+-- The sample of the rank lets the walk begin no later than the answer's entry; where there is none, nothing is picked.
+use Rattle.std.proofs.Common.{◌≡◌, ℕ, List, ◌+◌, ◌-◌, ◌*◌, ◌/◌, ◌^◌, ◌%◌, ◌<◌, ◌≤◌, length, get_or, slice_index_or, nat_eq, if◌then◌else◌, refl, sym, ap, ap₂, ◌∙◌, subst, arith}
+use Rattle.bitm_bits.proofs.lemmas.BitsLemmas.{length-bits_of}
+use Rattle.bitm_bits.specs.Bits.{bits_of, digit_count}
+use Rattle.bitm_bits.specs.Count.{ones_before, kind, IsSelect}
+use Rattle.bitm.specs.Samples.{part_of, parts, walk_start, samples_of, sample_count_before, rank_in}
+use Rattle.bitm.specs.Search.{IsLastEntry, entries_from, items_to, sought_in}
+use Rattle.bitm.specs.Tables.{Lists, HasTables}
+use Rattle.bitm.specs.declared.source.counts.ReadCounts.{ReadCounts}
+use Rattle.bitm.proofs.lemmas.MarkLemmas.{none_in_nothing}
+use Rattle.bitm.proofs.lemmas.SampleLemmas.{length-starts, start_at}
+use Rattle.bitm.proofs.lemmas.TableLemmas.{HasEntries, entries}
+use Rattle.bitm.proofs.lemmas.WalkLemmas.{count_is, outside_none, outside_reads, empty_reads, start_from, start_in, start_below, sampled_reads, interval_inside, first_inside, place_fits}
+use Rattle.bitm.proofs.strategies.sampled.sampled_select_on.Goals as goal
+use Rattle.bitm.proofs.strategies.sampled.sampled_select_on.Goals.{After-divide, After-first_entry-from}
+
+-- the rank in part k, and which sample is the rank's
+abbrev rank_of : ℕ → Lists → ℕ → ℕ → ℕ
+rank_of one l rank k = rank_in (bits_of l.words) (kind one) rank k
+
+abbrev number_of : ℕ → Lists → ℕ → ℕ → ℕ → ℕ
+number_of one l d rank k = sample_count_before (bits_of l.words) (kind one) d k + rank_of one l rank k / 2 ^ d
+
+at : (l : Lists) → HasTables l → HasEntries (bits_of l.words) l.upper l.lower
+at l t = entries (bits_of l.words) l.upper l.lower t
+
+pub returns-then-upper_len-eq0-clause-answer : goal.returns-then-upper_len-eq0-clause-answer
+returns-then-upper_len-eq0-clause-answer g c =
+    let t = at (g.T.TableSource.lists c.args.source.now) c.requires.tables in
+    none_in_nothing _ (kind g.row.ONE) c.args.rank (omega (arith, t.upper_length, c.upper_len.ensures))
+
+pub returns-then-upper_len-eq0-clause-reads : goal.returns-then-upper_len-eq0-clause-reads
+returns-then-upper_len-eq0-clause-reads g c =
+    let l = g.T.TableSource.lists c.args.source.now in
+    let t = at l c.requires.tables in
+    empty_reads (bits_of l.words) (kind g.row.ONE) (g.D.CombinedSamplingDensity.log c.args.density) c.args.rank
+    (g.T.TableSource.reads c.args.source.now) (omega (arith, t.upper_length, c.upper_len.ensures))
+
+pub offset_bounds-starts-part : goal.offset_bounds-starts-part
+offset_bounds-starts-part g c =
+    let l = g.T.TableSource.lists c.args.source.now in
+    let t = at l c.requires.tables in
+    record { fits = omega (arith, c.last_part-part.ensures.last.inside, t.upper_length, length-bits_of l.words, c.requires.short) }
+
+pub bounds-starts-part : goal.bounds-starts-part
+bounds-starts-part g c =
+    let l = g.T.TableSource.lists c.args.source.now in
+    let t = at l c.requires.tables in
+    let long = length-starts (bits_of l.words) (kind g.row.ONE) (g.D.CombinedSamplingDensity.log c.args.density) in
+    omega (arith, c.last_part-part.ensures.last.inside, t.upper_length, long, ap length c.requires.starts)
+
+module _ (g : _) (c : After-divide g) where
+  in_part : c.args.rank - c.before_part.result
+      ≡ rank_of g.row.ONE (g.T.TableSource.lists c.args.source.now) c.args.rank c.last_part-part.result
+  in_part =
+      let l = g.T.TableSource.lists c.args.source.now in
+      let here = c.last_part-part.result * 2 ^ 32 in
+      ap (λ (n : ℕ). c.args.rank - n)
+      (c.before_part.ensures.count
+      ∙ ap (λ (x : Lists). ones_before (sought_in g.row.ONE x.words) here) c.last_part-part.ensures.same
+      ∙ count_is (bits_of l.words) l.upper l.lower (at l c.requires.tables) (kind g.row.ONE) c.args.rank c.last_part-part.result
+      c.last_part-part.ensures.last)
+
+  inside : c.last_part-part.result < parts (bits_of (g.T.TableSource.lists c.args.source.now).words)
+  inside =
+      let t = at (g.T.TableSource.lists c.args.source.now) c.requires.tables in
+      omega (arith, c.last_part-part.ensures.last.inside, t.upper_length)
+
+  number_is : slice_index_or c.args.starts.now c.last_part-part.result 0 + c.divide.result
+      ≡ number_of g.row.ONE (g.T.TableSource.lists c.args.source.now) (g.D.CombinedSamplingDensity.log c.args.density) c.args.rank
+      c.last_part-part.result
+  number_is =
+      let b = bits_of (g.T.TableSource.lists c.args.source.now).words in
+      let d = g.D.CombinedSamplingDensity.log c.args.density in
+      let k = c.last_part-part.result in
+      ap₂ ◌+◌ (ap (λ (xs : List ℕ). get_or xs k 0) c.requires.starts ∙ start_at b (kind g.row.ONE) d k inside)
+      (c.divide.ensures ∙ ap (λ (n : ℕ). n / 2 ^ d) in_part)
+
+pub overflow_add-at : goal.overflow_add-at
+overflow_add-at g c =
+    let l = g.T.TableSource.lists c.args.source.now in
+    let d = g.D.CombinedSamplingDensity.log c.args.density in
+    let r = rank_of g.row.ONE l c.args.rank c.last_part-part.result in
+    let fits : r < 2 ^ 64 = omega arith in
+    let low = (g.met.D.CombinedSamplingDensity.in_range c.args.density).0 in
+    let short : length (bits_of l.words) < 2 ^ 64 = omega (arith, length-bits_of l.words, c.requires.short) in
+    let sum = place_fits (bits_of l.words) (kind g.row.ONE) d r (r / 2 ^ d) c.last_part-part.result low short (inside g c) fits refl in
+    record { fits = omega (arith, number_is g c, sum) }
+
+-- ---- no sample
+
+over : (g : _) (c : goal.Then-at-sampled g)
+    → length (samples_of (bits_of (g.T.TableSource.lists c.args.source.now).words) (kind g.row.ONE)
+    (g.D.CombinedSamplingDensity.log c.args.density))
+    ≤ number_of g.row.ONE (g.T.TableSource.lists c.args.source.now) (g.D.CombinedSamplingDensity.log c.args.density) c.args.rank
+    c.last_part-part.result
+over g c =
+    let a = (goal.at.returns-then-at-sampled-clause-answer g c).After-divide in
+    omega (arith, number_is g a, c.if-at-sampled.true, ap length c.requires.samples)
+
+pub returns-then-at-sampled-clause-answer : goal.returns-then-at-sampled-clause-answer
+returns-then-at-sampled-clause-answer g c =
+    let l = g.T.TableSource.lists c.args.source.now in
+    outside_none (bits_of l.words) l.upper l.lower (at l c.requires.tables) (kind g.row.ONE) c.args.rank c.last_part-part.result
+    c.last_part-part.ensures.last (g.D.CombinedSamplingDensity.log c.args.density) (over g c)
+
+pub returns-then-at-sampled-clause-reads : goal.returns-then-at-sampled-clause-reads
+returns-then-at-sampled-clause-reads g c =
+    let T = g.T.TableSource in
+    let l = T.lists c.args.source.now in
+    let t = at l c.requires.tables in
+    let part = c.last_part-part.ensures.reads in
+    let counted = c.before_part.ensures.counted in
+    outside_reads (bits_of l.words) l.upper l.lower t (kind g.row.ONE) c.args.rank c.last_part-part.result
+    c.last_part-part.ensures.last (g.D.CombinedSamplingDensity.log c.args.density) (over g c) (digit_count (parts (bits_of l.words)) + 1)
+    (T.reads c.args.source.now) (T.reads c.before_part.new.source)
+    (record {
+      upper = omega (arith, ap (λ (r : ReadCounts). r.upper) counted, part.upper, ap digit_count t.upper_length);
+      lower = omega (arith, ap (λ (r : ReadCounts). r.lower) counted, part.lower);
+      words = omega (arith, ap (λ (r : ReadCounts). r.words) counted, part.words);
+    })
+
+-- ---- the walk from a sample
+
+module _ (g : _) (c : After-first_entry-from g)
+    (in_part_is : c.args.rank - c.before_part.result
+    ≡ rank_of g.row.ONE (g.T.TableSource.lists c.args.source.now) c.args.rank c.last_part-part.result)
+    (place_is : slice_index_or c.args.starts.now c.last_part-part.result 0 + c.divide.result
+    ≡ number_of g.row.ONE (g.T.TableSource.lists c.args.source.now) (g.D.CombinedSamplingDensity.log c.args.density) c.args.rank
+    c.last_part-part.result) where
+  pos : 1 ≤ g.D.CombinedSamplingDensity.log c.args.density
+  pos = omega (arith, (g.met.D.CombinedSamplingDensity.in_range c.args.density).0)
+
+  there : number_of g.row.ONE (g.T.TableSource.lists c.args.source.now) (g.D.CombinedSamplingDensity.log c.args.density) c.args.rank
+      c.last_part-part.result
+      < length (samples_of (bits_of (g.T.TableSource.lists c.args.source.now).words) (kind g.row.ONE)
+      (g.D.CombinedSamplingDensity.log c.args.density))
+  there = omega (arith, place_is, c.if-at-sampled.false, ap length c.requires.samples)
+
+  from_is : c.first_entry-from.result
+      ≡ walk_start (part_of (bits_of (g.T.TableSource.lists c.args.source.now).words) c.last_part-part.result) (kind g.row.ONE)
+      (g.D.CombinedSamplingDensity.log c.args.density)
+      (rank_of g.row.ONE (g.T.TableSource.lists c.args.source.now) c.args.rank c.last_part-part.result)
+  from_is =
+      let l = g.T.TableSource.lists c.args.source.now in
+      let d = g.D.CombinedSamplingDensity.log c.args.density in
+      let s = slice_index_or c.args.sampled.now (slice_index_or c.args.starts.now c.last_part-part.result 0 + c.divide.result) 0 in
+      c.first_entry-from.ensures
+      ∙ ap (λ (r : ℕ). s % 2 ^ 21 + (if nat_eq (r / 2 ^ (d - 1) % 2) 1 then s / 2 ^ 21 else 0)) in_part_is
+      ∙ start_from (bits_of l.words) l.upper l.lower (at l c.requires.tables) (kind g.row.ONE) c.args.rank c.last_part-part.result
+      c.last_part-part.ensures.last d pos s there (ap₂ (λ (xs : List ℕ) (i : ℕ). get_or xs i 0) c.requires.samples place_is)
+
+  same : g.T.TableSource.lists c.before_part.new.source ≡ g.T.TableSource.lists c.args.source.now
+  same = c.before_part.ensures.same ∙ c.last_part-part.ensures.same
+
+pub walk-entry-requires-clause-from : goal.walk-entry-requires-clause-from
+walk-entry-requires-clause-from g c =
+    let a = (goal.at.walk-entry-requires-clause-from g c).After-divide in
+    let f = (goal.at.walk-entry-requires-clause-from g c).After-first_entry-from in
+    let l = g.T.TableSource.lists c.args.source.now in
+    let k = c.last_part-part.result in
+    let d = g.D.CombinedSamplingDensity.log c.args.density in
+    let starts =
+    start_in (bits_of l.words) l.upper l.lower (at l c.requires.tables) (kind g.row.ONE) c.args.rank k c.last_part-part.ensures.last d
+    (pos g f (in_part g a) (number_is g a)) (there g f (in_part g a) (number_is g a)) in
+    subst (λ (x : Lists). c.first_entry-from.result < entries_from (length x.lower) k) (sym (same g f (in_part g a) (number_is g a)))
+    (subst (λ (x : ℕ). x < entries_from (length l.lower) k) (sym (from_is g f (in_part g a) (number_is g a))) starts)
+
+pub walk-entry-requires-clause-at_most : goal.walk-entry-requires-clause-at_most
+walk-entry-requires-clause-at_most g c =
+    let a = (goal.at.walk-entry-requires-clause-at_most g c).After-divide in
+    let f = (goal.at.walk-entry-requires-clause-at_most g c).After-first_entry-from in
+    let l = g.T.TableSource.lists c.args.source.now in
+    let k = c.last_part-part.result in
+    let d = g.D.CombinedSamplingDensity.log c.args.density in
+    let from = c.first_entry-from.result in
+    let below =
+    start_below (bits_of l.words) l.upper l.lower (at l c.requires.tables) (kind g.row.ONE) c.args.rank k c.last_part-part.ensures.last d
+    (pos g f (in_part g a) (number_is g a)) (there g f (in_part g a) (number_is g a)) in
+    subst (λ (x : Lists). items_to g.row.ONE (bits_of x.words) k from ≤ c.args.rank - c.before_part.result)
+    (sym (same g f (in_part g a) (number_is g a)))
+    (subst (λ (x : ℕ). items_to g.row.ONE (bits_of l.words) k from ≤ x) (sym (in_part g a))
+    (subst (λ (x : ℕ). items_to g.row.ONE (bits_of l.words) k x ≤ rank_of g.row.ONE l c.args.rank k)
+    (sym (from_is g f (in_part g a) (number_is g a))) below))
+
+pub returns-clause-reads : goal.returns-clause-reads
+returns-clause-reads g c =
+    let a = (goal.at.returns-clause-reads g c).After-divide in
+    let f = (goal.at.returns-clause-reads g c).After-first_entry-from in
+    let T = g.T.TableSource in
+    let l = T.lists c.args.source.now in
+    let t = at l c.requires.tables in
+    let d = g.D.CombinedSamplingDensity.log c.args.density in
+    let v = kind g.row.ONE in
+    let k = c.last_part-part.result in
+    let b = bits_of l.words in
+    let r = rank_of g.row.ONE l c.args.rank k in
+    let w = c.walk-entry.ensures in
+    let e = c.select_in_entry.ensures in
+    let u = c.before_part.ensures in
+    let p = c.last_part-part.ensures in
+    let from = from_is g f (in_part g a) (number_is g a) in
+    let at_entry = same g f (in_part g a) (number_is g a) in
+    let left = c.args.rank - c.before_part.result in
+    let low : IsLastEntry (sought_in g.row.ONE l.words) (length l.lower) k r c.walk-entry.result.0 =
+    subst (λ (x : ℕ). IsLastEntry (sought_in g.row.ONE l.words) (length l.lower) k x c.walk-entry.result.0) (in_part g a)
+    (subst (λ (x : Lists). IsLastEntry (sought_in g.row.ONE x.words) (length x.lower) k left c.walk-entry.result.0) at_entry w.last) in
+    let order : walk_start (part_of b k) v d r ≤ c.walk-entry.result.0 = subst (λ (x : ℕ). x ≤ c.walk-entry.result.0) from w.order in
+    let before : c.before_part.result ≡ ones_before (sought_in g.row.ONE l.words) (k * 2 ^ 32) =
+    u.count ∙ ap (λ (x : Lists). ones_before (sought_in g.row.ONE x.words) (k * 2 ^ 32)) p.same in
+    let total : ones_before (sought_in g.row.ONE l.words) (k * 2 ^ 32) + left ≡ c.args.rank = omega (arith, before, p.last.at_most) in
+    let selected : IsSelect b v c.args.rank c.select_in_entry.result =
+    subst (λ (n : ℕ). IsSelect b v n c.select_in_entry.result) total
+    (subst
+    (λ (x : Lists). IsSelect (bits_of x.words) v (ones_before (sought_in g.row.ONE x.words) (k * 2 ^ 32) + left) c.select_in_entry.result)
+    (w.same ∙ at_entry) e.answer) in
+    let some =
+    first_inside b l.upper l.lower t v c.args.rank k p.last d
+    (interval_inside b l.upper l.lower t v c.args.rank k p.last d (there g f (in_part g a) (number_is g a))) in
+    sampled_reads b l.upper l.lower t v c.args.rank k p.last d c.walk-entry.result.0 low some
+    (T.reads c.args.source.now) (T.reads c.select_in_entry.new.source)
+    (record {
+      order = order;
+      reads =
+          record {
+            upper = omega (arith, e.reads, w.reads, p.reads, ap (λ (x : ReadCounts). x.upper) u.counted, ap digit_count t.upper_length);
+            lower = omega (arith, e.reads, w.reads, p.reads, ap (λ (x : ReadCounts). x.lower) u.counted, from, order);
+            words = omega (arith, e.reads, w.reads, p.reads, ap (λ (x : ReadCounts). x.words) u.counted);
+          };
+    })
+    c.select_in_entry.result selected e.inside

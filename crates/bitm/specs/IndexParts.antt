@@ -1,7 +1,0 @@
--- What a caller sees of an index. Its tables are those of the content's bits, so they are no part of it.
-
--- a content and the two strategies that support it
-pub record IndexParts (BV S S0 : Type 0) : Type 0 where
-  pub content : BV
-  pub select : S
-  pub select0 : S0

@@ -1,0 +1,285 @@
+//! The index over a content, generic in the content and in the two strategies that select.
+ghost use Rattle.std.specs.Prelude.{◌≡◌, ◌+◌, ◌*◌, ◌^◌, length, IfOk, IfErr};
+ghost use Rattle.std.specs.Box.{boxed_slice_items};
+ghost use Rattle.std.specs.Int.{div_ceil};
+ghost use Rattle.bitm_bits.specs.Bits.{bits_of, IsShort};
+ghost use Rattle.bitm_bits.specs.Count.{ones_of};
+ghost use Rattle.bitm_bits.specs.Size.{saturated};
+ghost use Rattle.bitm.specs.Reads.{none_read};
+ghost use Rattle.bitm.specs.Tables.{AreTablesOf, IsIndexed, upper_of, lower_of};
+
+use crate::queries::{HasBits, Rank, Select, Select0};
+use crate::search::ranking::rank_on;
+use crate::source::Probe;
+use crate::strategies::binary::BinaryRankSearch;
+use crate::strategies::traits::{Select0ForRank101111, SelectForRank101111};
+use crate::tables::{self, Tables};
+use bitm_bits::{CloneWords, GetSize};
+use std::alloc::{AllocError, Global};
+use std::boxed::BoxedSlice;
+use std::convert::AsSlice;
+use std::marker::Model;
+
+/// A content that lends words, with two tables of counts and a strategy for each kind of bit: rank reads one entry of
+/// each table and at most eight words, and selection is what the strategies make of the tables.
+///
+/// The upper table has one number for each begun part of 2^32 bits: the ones before it. The lower table has one packed
+/// entry for each begun 2048 bits, which are four records of 512:
+///
+/// ```text
+///  63        54 53         43 42         32 31                    0
+/// +------------+-------------+-------------+-----------------------+
+/// |  r1 : 10   |   r2 : 11   |   r3 : 11   |        r0 : 32        |
+/// +------------+-------------+-------------+-----------------------+
+///  r0  ones from the start of the entry's part to the entry
+///  r1  ones in the first record of the entry
+///  r2  ones in the first two records
+///  r3  ones in the first three records
+/// ```
+///
+/// So the lower table takes 64 bits for each 2048, the upper one 64 bits for each 2^32. A contract sees an index as its
+/// content and its two strategies; the tables are those of the content.
+///
+/// # Source
+/// Zhou, Andersen and Kaminsky, 'Space-efficient, high-performance rank and select structures on uncompressed bit
+/// sequences' (SEA 2013), with the fields of an entry turned round so that rank needs no branch.
+#[derive(Drop)]
+pub struct RankSelect101111<S: SelectForRank101111, S0: Select0ForRank101111, BV: AsSlice<u64>> {
+    content: BV,
+    tables: Tables,
+    select: S,
+    select0: S0,
+}
+
+impl<S: SelectForRank101111, S0: Select0ForRank101111, BV: AsSlice<u64>> Model
+    for RankSelect101111<S, S0, BV> {
+    ghost use Rattle.std.specs.Box.{boxed_slice_items};
+    ghost use Rattle.bitm_bits.specs.Bits.{bits_of, IsShort};
+    ghost use Rattle.bitm.specs.IndexValue.{IndexValue};
+    ghost use Rattle.bitm.specs.Tables.{AreTablesOf};
+
+    ghost Value = { IndexValue BV S S0 };
+
+    ghost view = { λ i. record { content = i.content; select = i.select; select0 = i.select0 } };
+
+    ghost invariant = { λ i. IsShort (BV.items i.content)
+        × AreTablesOf (bits_of (BV.items i.content))
+        (boxed_slice_items i.tables.l1ranks) (boxed_slice_items i.tables.l2ranks)
+        × S.supports i.select (BV.items i.content)
+        × S0.supports0 i.select0 (BV.items i.content) };
+}
+
+/// What an index keeps beside its content, and the number of ones.
+struct Made<S, S0> {
+    tables: Tables,
+    select: S,
+    select0: S0,
+    ones: usize,
+}
+
+/// The tables of the words, and two strategies that support them.
+fn make<S: SelectForRank101111, S0: Select0ForRank101111>(
+    alloc: Global,
+    words: &[u64],
+) -> Result<Made<S, S0>, AllocError>
+    requires { IsShort words.now }
+    ensures tables { IfOk result (λ made. AreTablesOf (bits_of words.now)
+        (boxed_slice_items made.tables.l1ranks) (boxed_slice_items made.tables.l2ranks)) }
+    ensures supports { IfOk result (λ made. S.supports made.select words.now) }
+    ensures supports0 { IfOk result (λ made. S0.supports0 made.select0 words.now) }
+    ensures ones { IfOk result (λ made. made.ones ≡ ones_of (bits_of words.now)) }
+{
+    let (tables, ones) = tables::make(alloc, words)?;
+    let upper = tables.l1ranks.as_slice();
+    let lower = tables.l2ranks.as_slice();
+    let select = S::new(alloc, words, upper, lower, ones)?;
+    let select0 = S0::new0(alloc, words, upper, lower, ones)?;
+    Ok(Made {
+        tables,
+        select,
+        select0,
+        ones,
+    })
+}
+
+impl<S: SelectForRank101111, S0: Select0ForRank101111, BV: AsSlice<u64>> RankSelect101111<
+    S,
+    S0,
+    BV,
+> {
+    /// An index over the content, and the number of ones.
+    ///
+    /// # Conditions
+    /// The content has fewer than 2^58 words.
+    /// # Errors
+    /// The content itself, where no memory was found for a table or a strategy; nothing else is left.
+    /// # Cost
+    /// The tables are made in one pass over the words; then each strategy makes what it keeps.
+    pub fn build(alloc: Global, content: BV) -> Result<(Self, usize), BV>
+        requires { IsShort (BV.items content) }
+        ensures kept { IfOk result (λ made. made.0.content ≡ content) }
+        ensures total { IfOk result (λ made. made.1 ≡ ones_of (bits_of (BV.items content))) }
+        ensures content_back { IfErr result (λ back. back ≡ content) }
+    {
+        match make::<S, S0>(alloc, content.as_slice()) {
+            Ok(
+                Made {
+                    tables,
+                    select,
+                    select0,
+                    ones,
+                },
+            ) => {
+                let index = RankSelect101111 {
+                    content,
+                    tables,
+                    select,
+                    select0,
+                };
+                Ok((index, ones))
+            }
+            Err(AllocError) => Err(content),
+        }
+    }
+
+    /// The content; it has fewer than 2^58 words.
+    #[inline(always)]
+    pub fn content(&self) -> &BV
+        ensures value { result.now ≡ self.now.content }
+        ensures short { IsShort (BV.items result.now) }
+    {
+        &self.content
+    }
+
+    /// The upper table: how many ones stand before each begun part of 2^32 bits.
+    #[inline(always)]
+    pub fn l1ranks(&self) -> &[usize]
+        ensures { result.now ≡ upper_of (bits_of (BV.items self.now.content)) }
+    {
+        self.tables.l1ranks.as_slice()
+    }
+
+    /// The lower table: one packed entry for each begun 2048 bits.
+    #[inline(always)]
+    pub fn l2ranks(&self) -> &[u64]
+        ensures { result.now ≡ lower_of (bits_of (BV.items self.now.content)) }
+    {
+        self.tables.l2ranks.as_slice()
+    }
+
+    /// The strategy that selects ones; it supports the content.
+    #[inline(always)]
+    pub fn select_support(&self) -> &S
+        ensures value { result.now ≡ self.now.select }
+        ensures supports { S.supports result.now (BV.items self.now.content) }
+    {
+        &self.select
+    }
+
+    /// The strategy that selects zeros; it supports the content.
+    #[inline(always)]
+    pub fn select0_support(&self) -> &S0
+        ensures value { result.now ≡ self.now.select0 }
+        ensures supports { S0.supports0 result.now (BV.items self.now.content) }
+    {
+        &self.select0
+    }
+
+    /// A source over the words and the tables, of which nothing was read.
+    #[inline(always)]
+    pub fn probe(&self) -> Probe<'_>
+        ensures words { result.lists.words ≡ BV.items self.now.content }
+        ensures indexed { IsIndexed result.lists }
+        ensures reads { result.reads ≡ none_read }
+    {
+        Probe::new(self.content().as_slice(), self.l1ranks(), self.l2ranks())
+    }
+}
+
+impl<S: SelectForRank101111, S0: Select0ForRank101111, BV: AsSlice<u64>> HasBits
+    for RankSelect101111<S, S0, BV> {
+    ghost bits = { λ i. bits_of (BV.items i.content) };
+}
+
+impl<S: SelectForRank101111, S0: Select0ForRank101111, BV: AsSlice<u64>> Rank
+    for RankSelect101111<S, S0, BV> {
+    #[inline(always)]
+    fn try_rank(&self, index: usize) -> Option<usize> {
+        rank_on(&mut self.probe(), index)
+    }
+}
+
+impl<S: SelectForRank101111, S0: Select0ForRank101111, BV: AsSlice<u64>> Select
+    for RankSelect101111<S, S0, BV> {
+    #[inline(always)]
+    fn try_select(&self, rank: usize) -> Option<usize> {
+        let words = self.as_slice();
+        self.select
+            .select(words, self.l1ranks(), self.l2ranks(), rank)
+    }
+}
+
+impl<S: SelectForRank101111, S0: Select0ForRank101111, BV: AsSlice<u64>> Select0
+    for RankSelect101111<S, S0, BV> {
+    #[inline(always)]
+    fn try_select0(&self, rank: usize) -> Option<usize> {
+        let words = self.as_slice();
+        self.select0
+            .select0(words, self.l1ranks(), self.l2ranks(), rank)
+    }
+}
+
+impl<S: SelectForRank101111, S0: Select0ForRank101111, BV: AsSlice<u64>> AsSlice<u64>
+    for RankSelect101111<S, S0, BV> {
+    ghost items = { λ i. BV.items i.content };
+
+    #[inline(always)]
+    fn as_slice(&self) -> &[u64] {
+        self.content.as_slice()
+    }
+}
+
+impl<
+    S: SelectForRank101111 + GetSize,
+    S0: Select0ForRank101111 + GetSize,
+    BV: AsSlice<u64> + GetSize,
+> GetSize for RankSelect101111<S, S0, BV> {
+    // the content, eight bytes for each begun part and each begun 32 words, and the two strategies
+    ghost dyn_bytes = { λ i. let words = length (BV.items i.content) in saturated
+        (BV.dyn_bytes i.content + 8 * div_ceil words (2 ^ 26) + 8 * div_ceil words 32
+        + S.dyn_bytes i.select + S0.dyn_bytes i.select0) };
+
+    const USES_DYN_MEM: bool = true;
+
+    fn size_bytes_dyn(&self) -> usize {
+        self.content
+            .size_bytes_dyn()
+            .saturating_add(self.tables.l1ranks.size_bytes_dyn())
+            .saturating_add(self.tables.l2ranks.size_bytes_dyn())
+            .saturating_add(self.select.size_bytes_dyn())
+            .saturating_add(self.select0.size_bytes_dyn())
+    }
+}
+
+impl<S: SelectForRank101111, S0: Select0ForRank101111, BV: CloneWords> RankSelect101111<S, S0, BV> {
+    /// An index over the same words, with tables and strategies of its own.
+    ///
+    /// # Errors
+    /// `AllocError` where memory was refused; this value is as it was.
+    pub fn try_clone(&self, alloc: Global) -> Result<Self, AllocError>
+        ensures { IfOk result (λ copy. BV.items copy.content ≡ BV.items self.now.content) }
+    {
+        let content = self.content.try_same(alloc)?;
+        match RankSelect101111::build(alloc, content) {
+            Ok((copy, _)) => Ok(copy),
+            Err(_) => Err(AllocError),
+        }
+    }
+}
+
+/// An index over words that it owns, which selects ones and zeros by binary search.
+pub type ArrayWithRank101111 = RankSelect101111<
+    BinaryRankSearch,
+    BinaryRankSearch,
+    BoxedSlice<u64, Global>,
+>;

@@ -1,0 +1,8 @@
+//! Rank and selection over a source of words and tables, with a bound on the reads of each.
+
+pub(crate) mod entries;
+pub(crate) mod parts;
+pub(crate) mod ranking;
+pub(crate) mod records;
+pub(crate) mod selecting;
+pub(crate) mod walking;

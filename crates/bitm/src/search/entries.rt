@@ -1,0 +1,226 @@
+//! The search for an entry of a part: by a guess where there are many entries, and by halves.
+ghost use Rattle.std.specs.Prelude.{◌≡◌, ◌+◌, ◌-◌, ◌*◌, ◌/◌, ◌^◌, ◌<◌, ◌≤◌, ◌⊎◌, length};
+ghost use Rattle.bitm_bits.specs.Bits.{digit_count, IsShort};
+ghost use Rattle.bitm.specs.Entry.{lower_entry};
+ghost use Rattle.bitm.specs.Reads.{lower_read, ReadsAtMost};
+ghost use Rattle.bitm.specs.Search.{entry_in, sought_in, IsAmong, IsLastEntry};
+ghost use Rattle.bitm.specs.Tables.{HasTables};
+
+use crate::entry::{complement_entry, entries_of_part, ones_to_entry};
+use crate::levels::L2_ENTRIES_PER_L1_ENTRY;
+use crate::source::TableSource;
+
+/// A search over fewer entries than this is by halving alone: the first caches hold them.
+const FEW: usize = 1 << 12;
+
+/// Entries of a window round a guess: five lines of a cache at most.
+const WINDOW: usize = 32;
+
+/// Lower entry `at` of the bits in which ones are sought.
+#[inline(always)]
+pub(crate) fn sought_entry<const ONE: u8, T: TableSource>(source: &mut T, at: usize) -> u64
+    requires tables { HasTables (T.lists source.old) }
+    requires inside { at < length (T.lists source.old).lower }
+    ensures entry { result ≡ lower_entry (sought_in ONE (T.lists source.old).words) at }
+    ensures counted { T.reads source.new ≡ lower_read (T.reads source.old) }
+    ensures same { T.lists source.new ≡ T.lists source.old }
+{
+    let entry = source.lower(at);
+    if ONE == 0 {
+        complement_entry(entry, at)
+    } else {
+        entry
+    }
+}
+
+/// Where the last entry is sought: among `left` entries of a part from entry `low` on, which packs `packed` (0 for the
+/// first of the part, which is not read), before entry `low + left`, which has `above` items before it (0: not known).
+#[derive(Clone, Copy)]
+struct Range {
+    low: usize,
+    left: usize,
+    packed: u64,
+    above: usize,
+}
+
+/// The side of entry `cut` of a range on which the last entry is with no more than `rank` of the kind before it.
+#[inline(always)]
+fn side_of<const ONE: u8, T: TableSource>(
+    source: &mut T,
+    part: usize,
+    range: Range,
+    cut: usize,
+    rank: usize,
+) -> Range
+    requires tables { HasTables (T.lists source.old) }
+    requires short { IsShort (T.lists source.old).words }
+    requires inside { part < length (T.lists source.old).upper }
+    requires some { 0 < cut }
+    requires in_range { cut < range.left }
+    requires among { IsAmong (sought_in ONE (T.lists source.old).words)
+        (length (T.lists source.old).lower) part rank range.low range.left }
+    requires packed { 0 < range.low → range.packed
+        ≡ lower_entry (sought_in ONE (T.lists source.old).words) (entry_in part range.low) }
+    ensures among { IsAmong (sought_in ONE (T.lists source.old).words)
+        (length (T.lists source.old).lower) part rank result.low result.left }
+    ensures packed { 0 < result.low → result.packed
+        ≡ lower_entry (sought_in ONE (T.lists source.old).words) (entry_in part result.low) }
+    ensures side { ((result.low ≡ range.low) × (result.left ≡ cut))
+        ⊎ ((result.low ≡ range.low + cut) × (result.left ≡ range.left - cut)) }
+    ensures counted { T.reads source.new ≡ lower_read (T.reads source.old) }
+    ensures same { T.lists source.new ≡ T.lists source.old }
+{
+    let Range {
+        low,
+        left,
+        packed,
+        above,
+    } = range;
+    let next = sought_entry::<ONE, T>(source, part * L2_ENTRIES_PER_L1_ENTRY + low + cut);
+    let count = ones_to_entry(next);
+    if count <= rank {
+        Range {
+            low: low + cut,
+            left: left - cut,
+            packed: next,
+            above,
+        }
+    } else {
+        Range {
+            low,
+            left: cut,
+            packed,
+            above: count,
+        }
+    }
+}
+
+/// A place in a range that is near the last entry where the items lie evenly; any other would serve too.
+#[inline(always)]
+fn guess(range: Range, rank: usize) -> usize
+    requires { 34 ≤ range.left }
+    ensures some { 0 < result }
+    ensures fits { result + 32 < range.left }
+{
+    let below = ones_to_entry(range.packed);
+    let (items, entries) = if range.above > below {
+        (range.above - below, range.left)
+    } else {
+        (below, range.low)
+    };
+    let about = rank.wrapping_sub(below).wrapping_mul(entries) / items.max(1);
+    about
+        .saturating_sub(WINDOW / 2)
+        .clamp(1, range.left - WINDOW - 1)
+}
+
+/// What is left of a large part's entries after two halvings, whose entries stay in the caches, and a window round a
+/// guess.
+#[inline(always)]
+fn guessed<const ONE: u8, T: TableSource>(
+    source: &mut T,
+    part: usize,
+    range: Range,
+    rank: usize,
+) -> Range
+    requires tables { HasTables (T.lists source.old) }
+    requires short { IsShort (T.lists source.old).words }
+    requires inside { part < length (T.lists source.old).upper }
+    requires many { 2 ^ 12 ≤ range.left }
+    requires most { range.left ≤ 2 ^ 21 }
+    requires first { range.low ≡ 0 }
+    requires among { IsAmong (sought_in ONE (T.lists source.old).words)
+        (length (T.lists source.old).lower) part rank range.low range.left }
+    ensures among { IsAmong (sought_in ONE (T.lists source.old).words)
+        (length (T.lists source.old).lower) part rank result.low result.left }
+    ensures packed { 0 < result.low → result.packed
+        ≡ lower_entry (sought_in ONE (T.lists source.old).words) (entry_in part result.low) }
+    ensures reads { (T.reads source.new).lower + digit_count (result.left - 1)
+        ≤ (T.reads source.old).lower + 23 }
+    ensures reads_first { result.low ≡ 0
+        → (T.reads source.new).lower + digit_count (result.left - 1)
+        ≤ (T.reads source.old).lower + 22 }
+    ensures upper { (T.reads source.new).upper ≡ (T.reads source.old).upper }
+    ensures words { (T.reads source.new).words ≡ (T.reads source.old).words }
+    ensures same { T.lists source.new ≡ T.lists source.old }
+{
+    let half = side_of::<ONE, T>(source, part, range, range.left / 2, rank);
+    let quarter = side_of::<ONE, T>(source, part, half, half.left / 2, rank);
+    let from = guess(quarter, rank);
+    let near = side_of::<ONE, T>(source, part, quarter, from, rank);
+    if near.low == quarter.low {
+        return near;
+    }
+    side_of::<ONE, T>(source, part, near, WINDOW, rank)
+}
+
+/// The range in which a search by halves begins: all entries of a part where they are few, else what a guess leaves.
+#[inline(always)]
+fn search_range<const ONE: u8, T: TableSource>(source: &mut T, part: usize, rank: usize) -> Range
+    requires tables { HasTables (T.lists source.old) }
+    requires short { IsShort (T.lists source.old).words }
+    requires inside { part < length (T.lists source.old).upper }
+    ensures among { IsAmong (sought_in ONE (T.lists source.old).words)
+        (length (T.lists source.old).lower) part rank result.low result.left }
+    ensures packed { 0 < result.low → result.packed
+        ≡ lower_entry (sought_in ONE (T.lists source.old).words) (entry_in part result.low) }
+    ensures reads { (T.reads source.new).lower + digit_count (result.left - 1)
+        ≤ (T.reads source.old).lower + 23 }
+    ensures reads_first { result.low ≡ 0
+        → (T.reads source.new).lower + digit_count (result.left - 1)
+        ≤ (T.reads source.old).lower + 22 }
+    ensures upper { (T.reads source.new).upper ≡ (T.reads source.old).upper }
+    ensures words { (T.reads source.new).words ≡ (T.reads source.old).words }
+    ensures same { T.lists source.new ≡ T.lists source.old }
+{
+    let range = Range {
+        low: 0,
+        left: entries_of_part(source.lower_len(), part),
+        packed: 0,
+        above: 0,
+    };
+    if range.left < FEW {
+        return range;
+    }
+    guessed::<ONE, T>(source, part, range, rank)
+}
+
+/// The last entry of a part with no more than `rank` of the kind before it in the part: its place in the part, and what it
+/// packs.
+pub(crate) fn last_entry<const ONE: u8, T: TableSource>(
+    source: &mut T,
+    part: usize,
+    rank: usize,
+) -> (usize, u64)
+    requires tables { HasTables (T.lists source.old) }
+    requires short { IsShort (T.lists source.old).words }
+    requires inside { part < length (T.lists source.old).upper }
+    ensures last { IsLastEntry (sought_in ONE (T.lists source.old).words)
+        (length (T.lists source.old).lower) part rank result.0 }
+    ensures entry { result.1
+        ≡ lower_entry (sought_in ONE (T.lists source.old).words) (entry_in part result.0) }
+    ensures reads { ReadsAtMost (T.reads source.old) (T.reads source.new) 0 23 0 }
+    ensures same { T.lists source.new ≡ T.lists source.old }
+{
+    let first = part * L2_ENTRIES_PER_L1_ENTRY;
+    let Range {
+        mut low,
+        mut left,
+        mut packed,
+        ..
+    } = search_range::<ONE, T>(source, part, rank);
+    while left > 1 {
+        let half = left / 2;
+        let next = sought_entry::<ONE, T>(source, first + low + half);
+        // The entry is kept with its place: then both are moved by the compare, and no branch is taken on it.
+        if ones_to_entry(next) <= rank {
+            low += half;
+            packed = next;
+        }
+        left -= half;
+    }
+    if low == 0 {
+        packed = sought_entry::<ONE, T>(source, first);
+    }
+    (low, packed)
+}

@@ -1,0 +1,76 @@
+//! Rank over a source, with a bound on its reads.
+ghost use Rattle.std.specs.Prelude.{◌≡◌, ◌+◌, ◌*◌, ◌<◌, ◌≤◌, length};
+ghost use Rattle.bitm_bits.specs.Bits.{bits_of, IsShort};
+ghost use Rattle.bitm_bits.specs.Count.{ones_before, IsRank};
+ghost use Rattle.bitm.specs.Reads.{OnlyReads, ReadsAtMost};
+ghost use Rattle.bitm.specs.Tables.{IsIndexed, bits_in};
+
+use crate::entry::{ones_to_entry, ones_to_record};
+use crate::levels::U64_PER_L2_RECORDS;
+use crate::source::TableSource;
+use crate::word::ones_through;
+
+/// So many words, 4 MiB, stay in a processor's caches. Past that a rank waits for its words, and more ranks wait side by
+/// side if each takes no more instructions than it needs.
+const WORDS_IN_CACHE: usize = 1 << 19;
+
+/// How many ones stand in the record that begins at word `first`, before word `end` of it.
+///
+/// Seven words are counted in a straight line, and those from `end` on are left out by a move: a loop up to `end` would
+/// be left at another turn each time. Only a record that the content cuts off has such a loop, and a large content.
+#[inline(always)]
+fn ones_in_record<T: TableSource>(source: &mut T, first: usize, end: usize) -> usize
+    requires short { IsShort (T.lists source.old).words }
+    requires order { first ≤ end }
+    requires near { end < first + 8 }
+    requires inside { end < length (T.lists source.old).words }
+    ensures ones { let b = bits_of (T.lists source.old).words in
+        ones_before b (64 * first) + result ≡ ones_before b (64 * end) }
+    ensures reads { ReadsAtMost (T.reads source.old) (T.reads source.new) 0 0 7 }
+    ensures same { T.lists source.new ≡ T.lists source.old }
+{
+    let mut ones = 0;
+    let len = source.words_len();
+    if len <= WORDS_IN_CACHE && first + U64_PER_L2_RECORDS <= len {
+        for k in 0..7 {
+            let count = source.word(first + k).count_ones() as usize;
+            if first + k < end {
+                ones += count;
+            }
+        }
+    } else {
+        for at in first..end {
+            ones += source.word(at).count_ones() as usize;
+        }
+    }
+    ones
+}
+
+/// How many of the first `index` bits of the source's words are ones; `None` exactly where there are fewer bits.
+///
+/// # Conditions
+/// The source's tables are those of its words, of fewer than 2^58 words.
+/// # Cost
+/// At most one upper entry, one lower entry and eight words are read: those of the last bit that counts.
+/// # Source
+/// The three levels are those of Zhou, Andersen and Kaminsky, 'Space-efficient, high-performance rank and select
+/// structures on uncompressed bit sequences' (SEA 2013), with the fields of an entry turned round so that rank needs no
+/// branch.
+#[inline]
+pub fn rank_on<T: TableSource>(source: &mut T, index: usize) -> Option<usize>
+    requires { IsIndexed (T.lists source.old) }
+    ensures answer { IsRank (bits_in (T.lists source.old)) index result }
+    ensures reads { OnlyReads T.lists T.reads source.old source.new 1 1 8 }
+{
+    // The last bit that counts. Where none does this is above every place, so one test tells both.
+    let last = index.wrapping_sub(1);
+    if last / 64 >= source.words_len() {
+        return if index == 0 { Some(0) } else { None };
+    }
+    let mut rank = source.upper(last >> 32);
+    let entry = source.lower(last / 2048);
+    rank += ones_to_entry(entry);
+    rank += ones_to_record(entry, last / 512 % 4);
+    rank += ones_in_record(source, last / 512 * 8, last / 64);
+    Some(rank + ones_through(source.word(last / 64), last % 64) as usize)
+}

@@ -1,0 +1,134 @@
+//! Selection in a record of eight words: the record of an entry, the word of the record, the bit of the word.
+ghost use Rattle.std.specs.Prelude.{◌≡◌, ◌+◌, ◌-◌, ◌*◌, ◌/◌, ◌%◌, ◌^◌, ◌<◌, ◌≤◌, length, count_ones, IfSome};
+ghost use Rattle.bitm_bits.specs.Bits.{bits_of, digit_count, IsShort};
+ghost use Rattle.bitm_bits.specs.Count.{ones_before, kind, IsSelect};
+ghost use Rattle.bitm.specs.Entry.{field_1, field_2, field_3, lower_entry, record_field};
+ghost use Rattle.bitm.specs.Reads.{OnlyReads, lower_read, upper_read, word_read, ReadsAtMost};
+ghost use Rattle.bitm.specs.Search.{entry_in, sought_in, IsLastPart, IsLastEntry, IsWord};
+ghost use Rattle.bitm.specs.Tables.{HasTables, IsIndexed, bits_in};
+
+use crate::entry::ones_to_record;
+use crate::levels::U64_PER_L2_RECORDS;
+use crate::source::TableSource;
+use crate::word::select64;
+
+/// 1 where no more than `rank` were counted, else 0.
+#[inline(always)]
+fn is_at_most(count: usize, rank: usize) -> usize
+    ensures yes { count ≤ rank → result ≡ 1 }
+    ensures no { rank < count → result ≡ 0 }
+{
+    (count <= rank) as usize
+}
+
+/// The record of an entry that has the one with this rank, and the ones of the entry before that record: by three
+/// comparisons, and no branch.
+#[inline(always)]
+pub(crate) fn record_of(entry: u64, rank: usize) -> (usize, usize)
+    requires second { field_1 entry ≤ field_2 entry }
+    requires third { field_2 entry ≤ field_3 entry }
+    ensures inside { result.0 < 4 }
+    ensures before { result.1 ≡ record_field entry result.0 }
+    ensures at_most { result.1 ≤ rank }
+    ensures next { result.0 < 3 → rank < record_field entry (result.0 + 1) }
+{
+    let one = (entry >> 54) as usize;
+    let two = (entry >> 43 & 0x7FF) as usize;
+    let three = (entry >> 32 & 0x7FF) as usize;
+    let place = is_at_most(one, rank) + is_at_most(two, rank) + is_at_most(three, rank);
+    (place, ones_to_record(entry, place))
+}
+
+/// The place of the one in a word with so many ones before it.
+#[inline(always)]
+fn select_in_word(word: u64, rank: usize) -> usize
+    requires { rank < count_ones word }
+    ensures inside { result < 64 }
+    ensures before { count_ones (word % 2 ^ result) ≡ rank }
+    ensures after { count_ones (word % 2 ^ (result + 1)) ≡ rank + 1 }
+{
+    select64(word, rank as u8) as usize
+}
+
+/// Word `at` of the bits in which ones are sought.
+#[inline(always)]
+fn sought_word<const ONE: u8, T: TableSource>(source: &mut T, at: usize) -> u64
+    requires { at < length (T.lists source.old).words }
+    ensures word { IsWord (sought_in ONE (T.lists source.old).words) at result }
+    ensures counted { T.reads source.new ≡ word_read (T.reads source.old) }
+    ensures same { T.lists source.new ≡ T.lists source.old }
+{
+    let word = source.word(at);
+    if ONE == 0 { !word } else { word }
+}
+
+/// The word that has the one with this rank, among the eight words from `first` on, which have it: its place, what it is
+/// and the rank that is left in it.
+///
+/// Each of the first seven words has a test of its own, since their number is fixed, and the eighth needs none.
+#[inline(always)]
+fn word_of_rank<const ONE: u8, T: TableSource>(
+    source: &mut T,
+    first: usize,
+    rank: usize,
+) -> (usize, u64, usize)
+    requires whole { first + 8 ≤ length (T.lists source.old).words }
+    requires fits { first < 2 ^ 60 }
+    requires next { let m = sought_in ONE (T.lists source.old).words in
+        ones_before m (64 * first) + rank < ones_before m (64 * (first + 8)) }
+    ensures from { first ≤ result.0 }
+    ensures to { result.0 < first + 8 }
+    ensures word { IsWord (sought_in ONE (T.lists source.old).words) result.0 result.1 }
+    ensures rest { let m = sought_in ONE (T.lists source.old).words in
+        ones_before m (64 * first) + rank ≡ ones_before m (64 * result.0) + result.2 }
+    ensures has { result.2 < count_ones result.1 }
+    ensures reads { ReadsAtMost (T.reads source.old) (T.reads source.new) 0 0 8 }
+    ensures same { T.lists source.new ≡ T.lists source.old }
+{
+    let mut rest = rank;
+    for k in 0..7 {
+        let word = sought_word::<ONE, T>(source, first + k);
+        let count = word.count_ones() as usize;
+        if rest < count {
+            return (first + k, word, rest);
+        }
+        rest -= count;
+    }
+    let last = sought_word::<ONE, T>(source, first + 7);
+    (first + 7, last, rest)
+}
+
+/// Selection among the eight words from `first` on, of which some may miss; the rank counts from there.
+#[inline(always)]
+pub(crate) fn select_in_record<const ONE: u8, T: TableSource>(
+    source: &mut T,
+    first: usize,
+    rank: usize,
+) -> Option<usize>
+    requires short { IsShort (T.lists source.old).words }
+    requires first { first < 2 ^ 60 }
+    requires next { let m = sought_in ONE (T.lists source.old).words in
+        first + 8 < length (T.lists source.old).words
+        → ones_before m (64 * first) + rank < ones_before m (64 * (first + 8)) }
+    ensures answer { let m = sought_in ONE (T.lists source.old).words in
+        IsSelect (bits_of (T.lists source.old).words) (kind ONE)
+        (ones_before m (64 * first) + rank) result }
+    ensures inside { IfSome result (λ p. (64 * first ≤ p) × (p < 64 * (first + 8))) }
+    ensures reads { ReadsAtMost (T.reads source.old) (T.reads source.new) 0 0 8 }
+    ensures same { T.lists source.new ≡ T.lists source.old }
+{
+    if first + U64_PER_L2_RECORDS < source.words_len() {
+        let (at, word, rest) = word_of_rank::<ONE, T>(source, first, rank);
+        return Some(at * 64 + select_in_word(word, rest));
+    }
+    let mut rest = rank;
+    for at in first..source.words_len().min(first + U64_PER_L2_RECORDS) {
+        let word = sought_word::<ONE, T>(source, at);
+        let count = word.count_ones() as usize;
+        if rest < count {
+            return Some(at * 64 + select_in_word(word, rest));
+        }
+        rest -= count;
+    }
+    None
+}

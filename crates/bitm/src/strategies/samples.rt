@@ -1,0 +1,241 @@
+//! Samples made from the tables alone: no word is read.
+ghost use Rattle.std.specs.Prelude.{◌≡◌, ◌+◌, ◌-◌, ◌*◌, ◌^◌, ◌<◌, ◌≤◌, ◌++◌, Bool, List, length, min, IfOk};
+ghost use Rattle.std.specs.Box.{boxed_slice_items};
+ghost use Rattle.bitm_bits.specs.Count.{count_of, ones_before, ones_of, kind};
+ghost use Rattle.bitm.specs.Entry.{lower_entry};
+ghost use Rattle.bitm.specs.Samples.{IsSummary, IsSummaryOf, part_of, sample};
+ghost use Rattle.bitm.specs.Samples.{intervals, part_samples, samples_of, sample_starts_of};
+ghost use Rattle.bitm.specs.Search.{IsLastEntry, entries_from, items_to, sought};
+
+use crate::entry::{complement_entry, entries_of_part, ones_to_entry};
+use crate::levels::L2_ENTRIES_PER_L1_ENTRY;
+use std::alloc::{AllocError, Global};
+use std::boxed::BoxedSlice;
+
+/// The tables of some bits, and how many ones and bits there are.
+#[derive(Clone, Copy)]
+pub(crate) struct Summary<'a> {
+    /// The ones before each part.
+    pub upper: &'a [usize],
+    /// The packed entries.
+    pub lower: &'a [u64],
+    /// How many ones there are.
+    pub total: usize,
+    /// How many bits there are.
+    pub len: usize,
+}
+
+/// How many ones there are, or zeros where `ONE` is 0, of so many ones among so many bits.
+#[inline(always)]
+pub(crate) fn items_among<const ONE: u8>(total: usize, len: usize) -> usize
+    requires { total ≤ len }
+    ensures most { result ≤ len }
+    ensures items { (b : List Bool) → total ≡ ones_of b → len ≡ length b
+        → result ≡ count_of b (kind ONE) }
+{
+    if ONE == 0 { len - total } else { total }
+}
+
+/// How many ones stand before a part's end.
+fn ones_to_end(summary: &Summary<'_>, part: usize) -> usize
+    requires summary { IsSummary summary.now }
+    requires inside { part < length summary.now.upper.now }
+    ensures { (b : List Bool) → IsSummaryOf b summary.now
+        → result ≡ ones_before b (min (length b) ((part + 1) * 2 ^ 32)) }
+{
+    if part + 1 < summary.upper.len() {
+        summary.upper[part + 1]
+    } else {
+        summary.total
+    }
+}
+
+/// How many ones, or zeros where `ONE` is 0, a part has.
+fn items_in<const ONE: u8>(summary: &Summary<'_>, part: usize) -> usize
+    requires summary { IsSummary summary.now }
+    requires inside { part < length summary.now.upper.now }
+    ensures few { result ≤ 2 ^ 32 }
+    ensures items { (b : List Bool) → IsSummaryOf b summary.now
+        → result ≡ count_of (part_of b part) (kind ONE) }
+{
+    let ones = ones_to_end(summary, part) - summary.upper[part];
+    if ONE == 0 {
+        (summary.len - (part << 32)).min(1 << 32) - ones
+    } else {
+        ones
+    }
+}
+
+/// Lower entry `at` of the bits in which ones are sought.
+#[inline(always)]
+fn sought_entry<const ONE: u8>(summary: &Summary<'_>, at: usize) -> u64
+    requires summary { IsSummary summary.now }
+    requires inside { at < length summary.now.lower.now }
+    ensures { (b : List Bool) → IsSummaryOf b summary.now
+        → result ≡ lower_entry (sought (kind ONE) b) at }
+{
+    let entry = summary.lower[at];
+    if ONE == 0 {
+        complement_entry(entry, at)
+    } else {
+        entry
+    }
+}
+
+/// How many entries a part has.
+#[inline(always)]
+fn entries_in(summary: &Summary<'_>, part: usize) -> usize
+    requires summary { IsSummary summary.now }
+    requires inside { part < length summary.now.upper.now }
+    ensures { result ≡ entries_from (length summary.now.lower.now) part }
+{
+    entries_of_part(summary.lower.len(), part)
+}
+
+/// The last entry of a part, from entry `from` on, with no more than `item` items before it in the part.
+fn walk_tables<const ONE: u8>(summary: &Summary<'_>, part: usize, from: usize, item: usize) -> usize
+    requires summary { IsSummary summary.now }
+    requires inside { part < length summary.now.upper.now }
+    requires from { from < entries_from (length summary.now.lower.now) part }
+    ensures order { from ≤ result }
+    ensures inside { result < entries_from (length summary.now.lower.now) part }
+    ensures last { (b : List Bool) → IsSummaryOf b summary.now → items_to ONE b part from ≤ item
+        → IsLastEntry (sought (kind ONE) b) (length summary.now.lower.now) part item result }
+{
+    let first = part * L2_ENTRIES_PER_L1_ENTRY;
+    let end = entries_in(summary, part);
+    for next in from + 1..end {
+        if item < ones_to_entry(sought_entry::<ONE>(summary, first + next)) {
+            return next - 1;
+        }
+    }
+    end - 1
+}
+
+/// The sample of an interval that begins at `item`, and an entry that is no later than that of the next interval's
+/// first item.
+fn sample_from<const ONE: u8>(
+    summary: &Summary<'_>,
+    part: usize,
+    log2: u8,
+    from: usize,
+    item: usize,
+    items: usize,
+) -> (u32, usize)
+    requires summary { IsSummary summary.now }
+    requires inside { part < length summary.now.upper.now }
+    requires low { 7 ≤ log2 }
+    requires high { log2 ≤ 31 }
+    requires from { from < entries_from (length summary.now.lower.now) part }
+    requires item { item < items }
+    requires few { items ≤ 2 ^ 32 }
+    ensures inside { result.1 < entries_from (length summary.now.lower.now) part }
+    ensures sample { (b : List Bool) → IsSummaryOf b summary.now
+        → items ≡ count_of (part_of b part) (kind ONE) → items_to ONE b part from ≤ item
+        → result.0 ≡ sample (part_of b part) (kind ONE) log2 item }
+    ensures at_most { (b : List Bool) → IsSummaryOf b summary.now → items_to ONE b part from ≤ item
+        → items_to ONE b part result.1 ≤ item + 2 ^ (log2 - 1) }
+{
+    let entry = walk_tables::<ONE>(summary, part, from, item);
+    let middle = item + (1 << (log2 - 1));
+    if middle < items {
+        let later = walk_tables::<ONE>(summary, part, entry, middle);
+        let distance = (later - entry).min(2047);
+        ((entry + (distance << 21)) as u32, later)
+    } else {
+        (entry as u32, entry)
+    }
+}
+
+/// How many samples a part has.
+#[inline(always)]
+fn samples_in<const ONE: u8>(summary: &Summary<'_>, part: usize, log2: u8) -> usize
+    requires summary { IsSummary summary.now }
+    requires inside { part < length summary.now.upper.now }
+    requires low { 7 ≤ log2 }
+    requires high { log2 ≤ 31 }
+    ensures few { result ≤ 2 ^ 25 }
+    ensures count { (b : List Bool) → IsSummaryOf b summary.now
+        → result ≡ intervals (part_of b part) (kind ONE) log2 }
+{
+    items_in::<ONE>(summary, part).div_ceil(1 << log2)
+}
+
+/// How many samples there are before each part, and in all.
+fn make_starts<const ONE: u8>(
+    alloc: Global,
+    summary: &Summary<'_>,
+    log2: u8,
+) -> Result<(Vec<usize>, usize), AllocError>
+    requires summary { IsSummary summary.now }
+    requires low { 7 ≤ log2 }
+    requires high { log2 ≤ 31 }
+    ensures { IfOk result (λ made. (b : List Bool) → IsSummaryOf b summary.now
+        → made.0.items ≡ sample_starts_of b (kind ONE) log2) }
+{
+    let mut starts = Vec::with_capacity(alloc, summary.upper.len())?;
+    let mut count = 0;
+    for part in 0..summary.upper.len() {
+        starts.push(count)?;
+        count += samples_in::<ONE>(summary, part, log2);
+    }
+    Ok((starts, count))
+}
+
+/// Adds the samples of a part.
+fn push_samples<const ONE: u8>(
+    samples: &mut Vec<u32>,
+    summary: &Summary<'_>,
+    part: usize,
+    log2: u8,
+) -> Result<(), AllocError>
+    requires summary { IsSummary summary.now }
+    requires inside { part < length summary.now.upper.now }
+    requires low { 7 ≤ log2 }
+    requires high { log2 ≤ 31 }
+    ensures { IfOk result (λ _. (b : List Bool) → IsSummaryOf b summary.now
+        → samples.new.items
+        ≡ samples.old.items ++ part_samples (part_of b part) (kind ONE) log2) }
+{
+    let items = items_in::<ONE>(summary, part);
+    let mut entry = 0;
+    for interval in 0..items.div_ceil(1 << log2) {
+        let (sample, next) = sample_from::<ONE>(
+            summary,
+            part,
+            log2,
+            entry,
+            interval << log2,
+            items,
+        );
+        samples.push(sample)?;
+        entry = next;
+    }
+    Ok(())
+}
+
+/// The samples of some bits at a density, and how many there are before each part: each list is allocated once, at its
+/// size.
+///
+/// # Errors
+/// `AllocError` where no memory was found; nothing is left.
+pub(crate) fn make_samples<const ONE: u8>(
+    alloc: Global,
+    summary: &Summary<'_>,
+    log2: u8,
+) -> Result<(BoxedSlice<u32, Global>, BoxedSlice<usize, Global>), AllocError>
+    requires summary { IsSummary summary.now }
+    requires low { 7 ≤ log2 }
+    requires high { log2 ≤ 31 }
+    ensures samples { IfOk result (λ made. (b : List Bool) → IsSummaryOf b summary.now
+        → boxed_slice_items made.0 ≡ samples_of b (kind ONE) log2) }
+    ensures starts { IfOk result (λ made. (b : List Bool) → IsSummaryOf b summary.now
+        → boxed_slice_items made.1 ≡ sample_starts_of b (kind ONE) log2) }
+{
+    let (starts, count) = make_starts::<ONE>(alloc, summary, log2)?;
+    let mut samples = Vec::with_capacity(alloc, count)?;
+    for part in 0..summary.upper.len() {
+        push_samples::<ONE>(&mut samples, summary, part, log2)?;
+    }
+    Ok((samples.into_boxed_slice(), starts.into_boxed_slice()))
+}

@@ -1,0 +1,189 @@
+//! Rank and selection in a word; selection by arithmetic on all its bytes at once: no table, no loop and no branch.
+ghost use Rattle.std.specs.Prelude.{◌≡◌, ◌<◌, ◌≤◌, ◌+◌, ◌-◌, ◌*◌, ◌%◌, ◌^◌, count_ones, map, count_by, nat_le, All, true};
+ghost use Rattle.std.specs.Int.{to_le_bytes, w64};
+ghost use Rattle.std.specs.List.{range_with_len};
+ghost use Rattle.bitm_bits.specs.Bits.{low_digits};
+ghost use Rattle.bitm_bits.specs.Count.{ones_before, Picks};
+
+/// How many ones a word has up to bit `last`, that one included: the bits above it are shifted out.
+#[inline(always)]
+pub(crate) fn ones_through(word: u64, last: usize) -> u32
+    requires { last < 64 }
+    ensures { result ≡ count_ones (word % 2 ^ (last + 1)) }
+{
+    (word << (63 - last)).count_ones()
+}
+
+/// The lowest bit of each byte.
+const LOWEST_OF_EACH_BYTE: u64 = 0x0101_0101_0101_0101;
+
+/// The highest bit of each byte.
+const HIGHEST_OF_EACH_BYTE: u64 = 0x8080_8080_8080_8080;
+
+/// The highest bit of each of the first seven bytes.
+const HIGHEST_OF_SEVEN_BYTES: u64 = 0x0080_8080_8080_8080;
+
+/// Seven copies of a number of seven bits, side by side: bit k of copy k is then the lowest bit of byte k.
+const SEVEN_COPIES: u64 = 0x0002_0408_1020_4081;
+
+/// A word whose byte k, lowest first, is the number of ones in bytes 0 to k of `n`.
+#[inline(always)]
+pub fn byte_sums(n: u64) -> u64
+    ensures { to_le_bytes w64 result
+        ≡ map (λ k. ones_before (low_digits 64 n) (8 * (k + 1))) (range_with_len 0 8) }
+{
+    let pairs = n - ((n >> 1) & 0x5555_5555_5555_5555);
+    let nibbles = (pairs & 0x3333_3333_3333_3333) + ((pairs >> 2) & 0x3333_3333_3333_3333);
+    let bytes = (nibbles & 0x0F0F_0F0F_0F0F_0F0F) + ((nibbles >> 4) & 0x0F0F_0F0F_0F0F_0F0F);
+    bytes.wrapping_mul(LOWEST_OF_EACH_BYTE)
+}
+
+/// How many of the eight bytes of `sums` are at most `r`.
+///
+/// # Conditions
+/// Each of the bytes is at most 64, and `r` is at most 63.
+#[inline(always)]
+pub fn bytes_at_most(sums: u64, r: u8) -> u8
+    requires small { All (λ s. s ≤ 64) (to_le_bytes w64 sums) }
+    requires below { r ≤ 63 }
+    ensures { result ≡ count_by (λ s. nat_le s r) (to_le_bytes w64 sums) }
+{
+    // No byte borrows from the next, since each is at least 128 and loses at most 64.
+    let kept = ((r as u64 * LOWEST_OF_EACH_BYTE) | HIGHEST_OF_EACH_BYTE) - sums;
+    (kept & HIGHEST_OF_EACH_BYTE).count_ones() as u8
+}
+
+/// The place of the one of `byte` with `rank` ones before it, of which `before` stand before the byte.
+#[inline(always)]
+fn select_in_byte(byte: u8, before: u8, rank: u8) -> u8
+    requires order { before ≤ rank }
+    requires below { rank ≤ 63 }
+    requires some { rank - before < ones_before (low_digits 8 byte) 8 }
+    ensures { Picks (low_digits 8 byte) true (rank - before) result }
+{
+    // Each of the first seven bits goes to a byte of its own, so that the sums of these bytes count the ones up to it.
+    let flags = ((byte & 0x7F) as u64 * SEVEN_COPIES) & LOWEST_OF_EACH_BYTE;
+    let sums = (flags + before as u64).wrapping_mul(LOWEST_OF_EACH_BYTE);
+    // As in `bytes_at_most`; where all seven are at most the rank it is the eighth bit.
+    let kept = ((rank as u64 * LOWEST_OF_EACH_BYTE) | HIGHEST_OF_EACH_BYTE) - sums;
+    (kept & HIGHEST_OF_SEVEN_BYTES).count_ones() as u8
+}
+
+/// The place of the one of `n` with `rank` ones before it. For the place of a zero, pass `!n`.
+///
+/// # Conditions
+/// `n` has more than `rank` ones.
+/// # Source
+/// Vigna, "Broadword Implementation of Rank/Select Queries" (WEA 2008), here with one comparison of all bytes for the
+/// byte and one more, of the first seven bits, for the bit in it.
+#[inline(always)]
+pub fn select64(n: u64, rank: u8) -> u8
+    requires { rank < ones_before (low_digits 64 n) 64 }
+    ensures inside { result < 64 }
+    ensures picked { Picks (low_digits 64 n) true rank result }
+{
+    let sums = byte_sums(n);
+    let place = 8 * bytes_at_most(sums, rank);
+    let before = ((sums << 8 >> place) & 0xFF) as u8;
+    place + select_in_byte(((n >> place) & 0xFF) as u8, before, rank)
+}
+
+#[cfg(test)]
+mod tests {
+    use super::*;
+
+    /// Ones at 2, 7, 15, 25, 33, 47, 60 and 61.
+    const EIGHT_ONES: u64 = 0x3000_8002_0200_8084;
+
+    /// What `select64` answers, where there are more than `rank` ones.
+    #[tactic(auto, using(crate::proofs::lemmas::InWordLemmas::ones_of_word))]
+    fn selected(n: u64, rank: u8) -> Option<u8> {
+        if (rank as u32) < n.count_ones() {
+            Some(select64(n, rank))
+        } else {
+            None
+        }
+    }
+
+    /// The place of the one with `rank` ones before it, found bit by bit.
+    fn found(n: u64, rank: u8) -> Option<u8> {
+        let mut left = rank;
+        for place in 0..64u8 {
+            if (n >> place) & 1 == 1 {
+                if left == 0 {
+                    return Some(place);
+                }
+                left -= 1;
+            }
+        }
+        None
+    }
+
+    #[test]
+    fn test_select64(rt: HostRuntime) {
+        for place in [0, 1, 7, 12, 23, 31, 46, 53, 63] {
+            assert_eq!(rt; selected(1 << place, 0), Some(place));
+        }
+        let places = [
+            (0, 2),
+            (1, 7),
+            (2, 15),
+            (3, 25),
+            (4, 33),
+            (5, 47),
+            (6, 60),
+            (7, 61),
+        ];
+        for (rank, place) in places {
+            assert_eq!(rt; selected(EIGHT_ONES, rank), Some(place));
+            assert_eq!(rt; found(EIGHT_ONES, rank), Some(place));
+        }
+        assert_eq!(rt; selected(EIGHT_ONES, 8), None);
+    }
+
+    #[test]
+    fn ones_at_the_ends_of_words_and_bytes(rt: HostRuntime) {
+        let rows = [
+            (0x8000_0000_0000_0001, 1, Some(63)),
+            (0xFF00_0000_0000_0000, 0, Some(56)),
+            (0xFF00_0000_0000_0000, 7, Some(63)),
+            (0, 0, None),
+            (u64::MAX, 63, Some(63)),
+            (u64::MAX, 64, None),
+        ];
+        for (n, rank, place) in rows {
+            assert_eq!(rt; selected(n, rank), place, "rank {rank}");
+            assert_eq!(rt; found(n, rank), place, "rank {rank}");
+        }
+    }
+
+    #[test]
+    fn each_rank_as_bit_by_bit(rt: HostRuntime) {
+        for rank in 0..64u8 {
+            assert_eq!(rt; selected(u64::MAX, rank), Some(rank));
+            assert_eq!(rt; found(u64::MAX, rank), Some(rank));
+            assert_eq!(rt; selected(1 << rank, 0), Some(rank));
+            assert_eq!(rt; found(1 << rank, 0), Some(rank));
+        }
+        for rank in 0..8u8 {
+            assert_eq!(rt; selected(0x0101_0101_0101_0101, rank), Some(8 * rank));
+            assert_eq!(rt; found(0x0101_0101_0101_0101, rank), Some(8 * rank));
+        }
+        assert_eq!(rt; selected(0x0101_0101_0101_0101, 8), None);
+    }
+
+    /// How many sums of bytes are at most `r`.
+    fn sums_at_most(n: u64, r: u8) -> u8
+        requires { r ≤ 63 }
+    {
+        bytes_at_most(byte_sums(n), r)
+    }
+
+    #[test]
+    fn sums_of_bytes(rt: HostRuntime) {
+        assert_eq!(rt; byte_sums(EIGHT_ONES), 0x0806_0605_0403_0302);
+        assert_eq!(rt; sums_at_most(EIGHT_ONES, 4), 4);
+        assert_eq!(rt; byte_sums(u64::MAX), 0x4038_3028_2018_1008);
+        assert_eq!(rt; sums_at_most(u64::MAX, 63), 7);
+    }
+}
