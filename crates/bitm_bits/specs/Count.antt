@@ -67,6 +67,12 @@ pub record IsFirstOneFrom (b : List Bool) (s p : ℕ) : Type 0 where
   pub one : item b p ≡ true
   pub least : (i : ℕ) → s ≤ i → i < p → item b i ≡ false
 
+-- p is the place of the first true item, or the length where no item is true
+pub record IsFirstOneOrEnd (b : List Bool) (p : ℕ) : Type 0 where
+  pub within : p ≤ length b
+  pub zeros : (i : ℕ) → i < p → item b i ≡ false
+  pub one : p < length b → item b p ≡ true
+
 -- some item from place s on is true
 abbrev pub HasOneFrom : List Bool → ℕ → Type 0
 HasOneFrom b s = (p : ℕ) × (s ≤ p) × (item b p ≡ true)

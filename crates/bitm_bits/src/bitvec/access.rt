@@ -2,7 +2,8 @@
 ghost use Rattle.std.specs.Prelude.{◌≡◌, ◌+◌, ◌*◌, ◌^◌, ◌<◌, ◌≤◌, ℕ, List, length, SomeIff, true, false};
 ghost use Rattle.bitm_bits.specs.Bits.{bits_of, item, IsShort};
 ghost use Rattle.bitm_bits.specs.Coming.{all_bits_left};
-ghost use Rattle.bitm_bits.specs.Count.{ones_of, zeros_of, places, HasOneFrom, HasOneTo, IsFirstOneFrom, IsLastOneTo, MatchesFirstOne};
+ghost use Rattle.bitm_bits.specs.Count.{ones_of, zeros_of, places, HasOneFrom, HasOneTo};
+ghost use Rattle.bitm_bits.specs.Count.{IsFirstOneFrom, IsFirstOneOrEnd, IsLastOneTo, MatchesFirstOne};
 ghost use Rattle.bitm_bits.specs.Number.{number_at, IsInRange, IsFragmentInRange};
 ghost use Rattle.bitm_bits.specs.Window.{reach_of};
 
@@ -297,10 +298,7 @@ pub trait BitAccess {
     /// There are fewer than 2^58 words.
     fn trailing_zero_bits(&self) -> usize
         requires { IsShort (words self.now) }
-        ensures within { result ≤ 64 * length (words self.now) }
-        ensures zeros { (i : ℕ) → i < result → item (bits_of (words self.now)) i ≡ false }
-        ensures one { result < 64 * length (words self.now)
-            → item (bits_of (words self.now)) result ≡ true };
+        ensures { IsFirstOneOrEnd (bits_of (words self.now)) result };
 
     /// The place of the first one from `start` on; `None` exactly where there is none, also where `start` is outside.
     ///

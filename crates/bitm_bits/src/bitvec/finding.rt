@@ -1,7 +1,8 @@
 //! The nearest one of words, found word by word.
 ghost use Rattle.std.specs.Prelude.{◌≡◌, ℕ, ◌*◌, ◌<◌, ◌≤◌, length, true, false};
 ghost use Rattle.bitm_bits.specs.Bits.{bits_of, item, IsShort};
-ghost use Rattle.bitm_bits.specs.Count.{HasOneFrom, HasOneTo, IsFirstOneFrom, IsLastOneTo, MatchesFirstOne};
+ghost use Rattle.bitm_bits.specs.Count.{HasOneFrom, HasOneTo, IsFirstOneFrom, IsFirstOneOrEnd, IsLastOneTo};
+ghost use Rattle.bitm_bits.specs.Count.{MatchesFirstOne};
 
 use crate::masks::{n_lowest_bits, n_lowest_bits_1_64};
 
@@ -12,9 +13,7 @@ use crate::masks::{n_lowest_bits, n_lowest_bits_1_64};
 #[inline]
 pub fn trailing_zero_bits(words: &[u64]) -> usize
     requires { IsShort words.now }
-    ensures within { result ≤ 64 * length words.now }
-    ensures zeros { (i : ℕ) → i < result → item (bits_of words.now) i ≡ false }
-    ensures one { result < 64 * length words.now → item (bits_of words.now) result ≡ true }
+    ensures { IsFirstOneOrEnd (bits_of words.now) result }
 {
     for (word_index, word) in words.iter().enumerate() {
         if *word != 0 {

@@ -3,6 +3,7 @@ use Rattle.std.proofs.Common.{rules, ◌≡◌, ℕ, ◌+◌, ◌*◌, ◌^◌, 
 use Rattle.std.specs.Int.{trailing_zeros}
 use Rattle.bitm_bits.specs.Bits.{bits_of, item}
 use Rattle.bitm_bits.specs.Count.{IsFirstOneFrom}
+use Rattle.bitm_bits.proofs.lemmas.BitsLemmas.{length-bits_of}
 use Rattle.bitm_bits.proofs.lemmas.SearchLemmas.{IsRestFrom, IsRestFrom-word, passed_word, first_left}
 use Rattle.bitm_bits.proofs.bitvec.finding.trailing_zero_bits.Goals as goal
 
@@ -14,19 +15,22 @@ first_of_word words q within fits some before =
     let P : ℕ → Type 0 = λ p. IsFirstOneFrom (bits_of words) 0 p in
     subst P place (first_left words 0 q (get_or words q 0) (IsRestFrom-word words q within fits before) some)
 
-pub returns-then-word-ne0-clause-zeros : goal.returns-then-word-ne0-clause-zeros
-returns-then-word-ne0-clause-zeros c =
+pub returns-then-word-ne0 : goal.returns-then-word-ne0
+returns-then-word-ne0 c =
     let words = c.args.words.now in
     let q = c.loop-word_index.word_index in
     let fits : get_or words q 0 < 2 ^ 64 = search rules in
-    λ i l. (first_of_word words q (omega arith) fits (omega arith) c.loop-word_index.invariant).least i (omega arith) l
+    let first = first_of_word words q (omega arith) fits (omega arith) c.loop-word_index.invariant in
+    record { within = omega (arith, first.inside); zeros = λ i l. first.least i (omega arith) l; one = λ _. first.one }
 
-pub returns-then-word-ne0-clause-one : goal.returns-then-word-ne0-clause-one
-returns-then-word-ne0-clause-one c =
-    let words = c.args.words.now in
-    let q = c.loop-word_index.word_index in
-    let fits : get_or words q 0 < 2 ^ 64 = search rules in
-    λ l. (first_of_word words q (omega arith) fits (omega arith) c.loop-word_index.invariant).one
+pub returns : goal.returns
+returns c =
+    let size = length-bits_of c.args.words.now in
+    record {
+      within = omega (arith, size);
+      zeros = λ i l. c.loop-word_index.invariant i (omega arith);
+      one = λ l. absurd (omega (arith, l, size));
+    }
 
 pub loop-word_index-preserved : goal.loop-word_index-preserved
 loop-word_index-preserved c =
