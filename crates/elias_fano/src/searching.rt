@@ -119,8 +119,9 @@ fn split_low(low: &[u64], width: u8, first: usize, end: usize, rest: u64) -> usi
 /// # Conditions
 /// The parts are those of one sequence of fewer than 2^56 numbers; the source's tables are those of its words.
 /// # Cost
-/// Two selections of zeros in the source, or one selection of a one where `n` is 1, and none where it is 0; then a search
-/// among the low digits of the items with the same upper digits as `v`, which reads nothing of the source. So at most
+/// Two selections of zeros in the source, one of them where no number has low digits, or one selection of a one where `n`
+/// is 1, and none where it is 0; then a search among the low digits of the items with the same upper digits as `v`, which
+/// reads nothing of the source. So at most
 /// `2 * (digits + 1)` upper entries, where the number of them has so many digits, 46 lower entries and 16 words, and at
 /// most as many selections as `n` has digits.
 pub fn first_at_least_counted<T: TableSource>(
@@ -151,6 +152,9 @@ pub fn first_at_least_counted<T: TableSource>(
     }
     let above = (v >> width) as usize;
     let first = count_below(source, above, n);
+    if width == 0 {
+        return if first < n { Some(first) } else { None };
+    }
     let end = count_to(source, above, n);
     let place = split_low(low, width, first, end, v & n_lowest_bits(width));
     if place < n { Some(place) } else { None }

@@ -1,5 +1,5 @@
 -- Items with the same number above their low digits: how many have at most a number there, and the first that reaches a value.
-use Rattle.std.proofs.Common.{◌≡◌, ℕ, ◌+◌, ◌-◌, ◌*◌, ◌/◌, ◌%◌, ◌^◌, ◌<◌, ◌≤◌, true, false, cond, Bool, List, length, get_or, sym, ap, ◌∙◌, ⊎_elim, arith, ◌⊎◌, inl, inr}
+use Rattle.std.proofs.Common.{◌≡◌, ℕ, ◌+◌, ◌-◌, ◌*◌, ◌/◌, ◌%◌, ◌^◌, ◌<◌, ◌≤◌, true, false, cond, Bool, List, length, get_or, sym, ap, ◌∙◌, subst, ⊎_elim, arith, ◌⊎◌, inl, inr}
 use Rattle.std.proofs.lemmas.Bool.{cases_lt, cases_order}
 use Rattle.std.proofs.lemmas.List.{get_or_default}
 use Rattle.std.proofs.lemmas.Nat.{div-add-mod', pow_pos}
@@ -238,3 +238,21 @@ module _ (xs : List ℕ) (n l : ℕ) (low upper : List ℕ) (h : ArePartsOf xs n
   fragments-inside above end to =
       let room : end * l ≤ length xs * l = mul-le-mul_right l to.bound in
       omega (arith, h.low_is.words)
+
+-- ---- no low digits: the items that begin with the upper digits are those that reach the value
+
+pub whole-reaches : (xs : List ℕ) (v w first : ℕ) → w ≡ 0 → CountsBelow xs w (v / 2 ^ w) first → first < length xs → Reaches xs v first
+whole-reaches xs v w first none below inside =
+    let P : ℕ → Type 0 = λ l. CountsBelow xs l (v / 2 ^ l) first in
+    let h = subst P none below in
+    record {
+      inside = inside;
+      at_least = omega (arith, h.above first (omega arith) inside);
+      before = λ j l. omega (arith, h.below j l);
+    }
+
+pub whole-none : (xs : List ℕ) (v w first : ℕ) → w ≡ 0 → CountsBelow xs w (v / 2 ^ w) first → length xs ≤ first → All (λ x. x < v) xs
+whole-none xs v w first none below past =
+    let P : ℕ → Type 0 = λ l. CountsBelow xs l (v / 2 ^ l) first in
+    let h = subst P none below in
+    λ j d inside. omega (arith, get_or_default xs j d 0 inside, h.below j (omega arith))

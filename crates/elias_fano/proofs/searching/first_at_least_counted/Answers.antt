@@ -1,10 +1,10 @@
 -- The place is among the items with the upper digits of the value, or the one after them.
-use Rattle.std.proofs.Common.{◌≡◌, ℕ, ◌+◌, ◌*◌, ◌/◌, ◌%◌, ◌^◌, ◌≤◌, List, length, ap, sym, ◌∙◌, subst, bit_and, arith}
+use Rattle.std.proofs.Common.{◌≡◌, ℕ, ◌+◌, ◌*◌, ◌/◌, ◌%◌, ◌^◌, ◌<◌, ◌≤◌, List, length, ap, sym, ◌∙◌, subst, bit_and, arith}
 use Rattle.std.proofs.lemmas.Nat.{and_mask}
 use Rattle.bitm.specs.Tables.{Lists}
 use Rattle.bitm_bits.specs.Bits.{bits_of, digit_count}
 use Rattle.bitm_bits.specs.Number.{number_at}
-use Rattle.elias_fano.proofs.lemmas.BucketLemmas.{IsBucket, bucket-reaches, bucket-none, bucket-order, fragments-rise, fragments-inside}
+use Rattle.elias_fano.proofs.lemmas.BucketLemmas.{IsBucket, bucket-reaches, bucket-none, bucket-order, fragments-rise, fragments-inside, whole-reaches, whole-none}
 use Rattle.elias_fano.proofs.lemmas.PartLemmas.{parts-width, upper-short}
 use Rattle.elias_fano.proofs.lemmas.ReadLemmas.{one-selection, two-selections, digits-allow-one, digits-allow-two}
 use Rattle.elias_fano.specs.Buckets.{CountsTo, Splits}
@@ -52,6 +52,34 @@ count_to-end-requires-clause-short g c =
 
 pub n_lowest_bits-requires : goal.n_lowest_bits-requires
 n_lowest_bits-requires g c = parts-width c.bit_laws.ensures.digits_bound_powers _ _ _ _ _ c.requires.parts.1
+
+-- ---- no low digits
+
+pub returns-then-first-n-clause-answer : goal.returns-then-first-n-clause-answer
+returns-then-first-n-clause-answer g c = λ xs h.
+    let inside : c.count_below-first.result < length xs = omega (arith, c.if-first-n.true, h.count) in
+    whole-reaches xs c.args.v _ _ c.if-width-eq0.true (c.count_below-first.ensures.count _ _ h.upper_is h.count) inside
+
+pub returns-else-first-n-clause-answer : goal.returns-else-first-n-clause-answer
+returns-else-first-n-clause-answer g c = λ xs h.
+    let past : length xs ≤ c.count_below-first.result = omega (arith, c.if-first-n.false, h.count) in
+    whole-none xs c.args.v _ _ c.if-width-eq0.true (c.count_below-first.ensures.count _ _ h.upper_is h.count) past
+
+pub returns-then-first-n-clause-reads : goal.returns-then-first-n-clause-reads
+returns-then-first-n-clause-reads g c =
+    digits-allow-one c.bit_laws.ensures.digits_bound_powers _ _ c.args.n _ (omega (arith, c.if-n-eq0.false)) c.count_below-first.ensures.reads
+
+pub returns-else-first-n-clause-reads : goal.returns-else-first-n-clause-reads
+returns-else-first-n-clause-reads g c =
+    digits-allow-one c.bit_laws.ensures.digits_bound_powers _ _ c.args.n _ (omega (arith, c.if-n-eq0.false)) c.count_below-first.ensures.reads
+
+pub returns-then-first-n-clause-two : goal.returns-then-first-n-clause-two
+returns-then-first-n-clause-two g c = one-selection _ _ _ c.count_below-first.ensures.reads
+
+pub returns-else-first-n-clause-two : goal.returns-else-first-n-clause-two
+returns-else-first-n-clause-two g c = one-selection _ _ _ c.count_below-first.ensures.reads
+
+-- ---- the items with the upper digits of the value
 
 ends : (g : _) (c : After-count_to-end g) (xs : List ℕ)
     → ArePartsOf xs c.args.n c.args.width c.args.low.now (g.T.TableSource.lists c.args.source.now).words
