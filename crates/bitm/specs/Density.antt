@@ -10,7 +10,8 @@ log2 n = digit_count n - 1
 abbrev pub optimal_rare : ℕ → ℕ → ℕ → ℕ
 optimal_rare n len most = if nat_eq n 0 then 7 else max 7 (most - log2 (len / n))
 
--- the logarithm for n items among len bits: the greatest one from three quarters on, and else the one for the rarer kind
+-- the logarithm for n items among len bits: the greatest one from three quarters on, and else the one for the rarer
+-- kind
 abbrev pub optimal : ℕ → ℕ → ℕ → ℕ
 optimal n len most =
     if nat_le (3 * len) (4 * n) then most else optimal_rare (if nat_lt len (2 * n) then len - n else n) len most

@@ -45,7 +45,8 @@ entry_of c v t = place c v t / 2048
 abbrev pub distance : List Bool → Bool → ℕ → ℕ → ℕ
 distance c v t q = if nat_lt q (count_of c v) then min 2047 (entry_of c v q - entry_of c v t) else 0
 
--- the sample of the interval that begins at item t: the entry, and above it the distance to the item half an interval later
+-- the sample of the interval that begins at item t: the entry, and above it the distance to the item half an interval
+-- later
 abbrev pub sample : List Bool → Bool → ℕ → ℕ → ℕ
 sample c v d t = entry_of c v t + distance c v t (t + 2 ^ (d - 1)) * 2 ^ 21
 
@@ -61,8 +62,8 @@ part_samples c v d = map (λ i. sample c v d (i * 2 ^ d)) (range_with_len 0 (int
 abbrev pub first_item : ℕ → ℕ → ℕ
 first_item d r = r - r % 2 ^ d
 
--- where selection of rank r inside the part begins: at the entry of the first item of r's interval, and in the interval's
--- second half as many entries later as its sample keeps
+-- where selection of rank r inside the part begins: at the entry of the first item of r's interval, and in the
+-- interval's second half as many entries later as its sample keeps
 abbrev pub walk_start : List Bool → Bool → ℕ → ℕ → ℕ
 walk_start c v d r =
     entry_of c v (first_item d r)

@@ -14,8 +14,8 @@ padded b = b ++ replicate (div_ceil (length b) 2048 * 2048 - length b) false
 abbrev pub negated : List Bool → List Bool
 negated b = map not b
 
--- the bits in which ones are sought: the padded bits, all negated where v is false, so that a missing bit of the last entry
--- counts as a zero
+-- the bits in which ones are sought: the padded bits, all negated where v is false, so that a missing bit of the last
+-- entry counts as a zero
 abbrev pub sought : Bool → List Bool → List Bool
 sought v b = if v then padded b else negated (padded b)
 
@@ -29,7 +29,8 @@ pub record IsLast (count : ℕ → ℕ) (n r k : ℕ) : Type 0 where
   pub at_most : count k ≤ r
   pub next : k + 1 < n → r < count (k + 1)
 
--- a search, among n counts that rise, for the last one that is at most r: it is among those from low on, of which so many are left
+-- a search, among n counts that rise, for the last one that is at most r: it is among those from low on, of which so
+-- many are left
 pub record Between (count : ℕ → ℕ) (n r low left : ℕ) : Type 0 where
   pub some : 0 < left
   pub bound : low + left ≤ n
@@ -52,7 +53,8 @@ entry_in part j = part * 2 ^ 21 + j
 abbrev pub IsLastEntry : List Bool → ℕ → ℕ → ℕ → ℕ → Type 0
 IsLastEntry m entries part r e = IsLast (λ j. before_in_part m (entry_in part j)) (entries_from entries part) r e
 
--- the last entry of a part with no more than r ones before it in the part is among those from low on, of which so many are left
+-- the last entry of a part with no more than r ones before it in the part is among those from low on, of which so many
+-- are left
 abbrev pub IsAmong : List Bool → ℕ → ℕ → ℕ → ℕ → ℕ → Type 0
 IsAmong m entries part r low left = Between (λ j. before_in_part m (part * 2 ^ 21 + j)) (entries_from entries part) r low left
 

@@ -7,8 +7,11 @@ ghost use Rattle.bitm.specs.Search.{entries_from, negated, padded};
 use crate::levels::L2_ENTRIES_PER_L1_ENTRY;
 
 /// How many of so many lower entries a part has.
+///
+/// # Conditions
+/// The parts before it are full.
 #[inline(always)]
-pub(crate) fn entries_of_part(entries: usize, part: usize) -> usize
+pub fn entries_of_part(entries: usize, part: usize) -> usize
     requires { part * 2 ^ 21 ≤ entries }
     ensures { result ≡ entries_from entries part }
 {
@@ -17,15 +20,18 @@ pub(crate) fn entries_of_part(entries: usize, part: usize) -> usize
 
 /// How many ones stand before an entry in its part.
 #[inline(always)]
-pub(crate) fn ones_to_entry(entry: u64) -> usize
+pub fn ones_to_entry(entry: u64) -> usize
     ensures { result ≡ field_0 entry }
 {
     (entry & 0xFFFF_FFFF) as usize
 }
 
 /// How many ones stand in an entry before one of its four records: by two shifts, and no branch for the first record.
+///
+/// # Conditions
+/// `place` is below 4.
 #[inline(always)]
-pub(crate) fn ones_to_record(entry: u64, place: usize) -> usize
+pub fn ones_to_record(entry: u64, place: usize) -> usize
     requires { place < 4 }
     ensures { result ≡ entry / 2 ^ (11 * (3 - place)) / 2 ^ 32 % 2 ^ 11 }
 {

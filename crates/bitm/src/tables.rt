@@ -61,8 +61,13 @@ fn ones_of_record(words: &[u64], first: usize) -> usize
 }
 
 /// Lower entry `at`, where `before` ones stand before it in its part, and the number of ones in it.
+///
+/// # Conditions
+/// The entry begins within the words, of which there are fewer than 2^58.
+/// # Cost
+/// Each of its 32 words is read once.
 #[inline(always)]
-fn make_entry(words: &[u64], at: usize, before: usize) -> (u64, usize)
+pub fn make_entry(words: &[u64], at: usize, before: usize) -> (u64, usize)
     requires short { IsShort words.now }
     requires begun { 32 * at < length words.now }
     requires before { before ≡ before_in_part (bits_of words.now) at }

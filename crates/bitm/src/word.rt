@@ -1,13 +1,17 @@
 //! Rank and selection in a word; selection by arithmetic on all its bytes at once: no table, no loop and no branch.
-ghost use Rattle.std.specs.Prelude.{◌≡◌, ◌<◌, ◌≤◌, ◌+◌, ◌-◌, ◌*◌, ◌%◌, ◌^◌, count_ones, map, count_by, nat_le, All, true};
+ghost use Rattle.std.specs.Prelude.{◌≡◌, ◌<◌, ◌≤◌, ◌+◌, ◌-◌, ◌*◌, ◌%◌, ◌^◌, map, count_by, All};
+ghost use Rattle.std.specs.Prelude.{count_ones, nat_le, true};
 ghost use Rattle.std.specs.Int.{to_le_bytes, w64};
 ghost use Rattle.std.specs.List.{range_with_len};
 ghost use Rattle.bitm_bits.specs.Bits.{low_digits};
 ghost use Rattle.bitm_bits.specs.Count.{ones_before, Picks};
 
 /// How many ones a word has up to bit `last`, that one included: the bits above it are shifted out.
+///
+/// # Conditions
+/// `last` is below 64.
 #[inline(always)]
-pub(crate) fn ones_through(word: u64, last: usize) -> u32
+pub fn ones_through(word: u64, last: usize) -> u32
     requires { last < 64 }
     ensures { result ≡ count_ones (word % 2 ^ (last + 1)) }
 {

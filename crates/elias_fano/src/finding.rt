@@ -11,8 +11,8 @@ impl EliasFano {
     /// The least place whose number is at least `v`; `None` exactly where there is none.
     ///
     /// # Cost
-    /// That of `first_at_least_counted`: at most two selections, 46 lower entries and 16 words of the upper vector, and one
-    /// fragment of the low one for each digit of how many numbers share the upper digits of `v`.
+    /// That of `first_at_least_counted`: at most two selections, 46 lower entries and 16 words of the upper vector,
+    /// and one fragment of the low one for each digit of how many numbers share the upper digits of `v`.
     #[inline]
     pub fn first_at_least(&self, v: u64) -> Option<usize>
         ensures { IsFirstAtLeast self.now v result }

@@ -42,8 +42,8 @@ impl<'a> Model for Numbers<'a> {
 }
 
 impl<'a> Numbers<'a> {
-    /// The numbers from place `start` on, of a sequence of `len` numbers with these parts; bit `first` of the upper words
-    /// is after the ones of the numbers before, and not after the one of number `start`.
+    /// The numbers from place `start` on, of a sequence of `len` numbers with these parts; bit `first` of the upper
+    /// words is after the ones of the numbers before, and not after the one of number `start`.
     #[inline(always)]
     pub(crate) fn new(
         low: &'a [u64],

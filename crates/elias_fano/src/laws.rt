@@ -1,5 +1,5 @@
-//! Laws of the definitions that contracts cite. A function here does nothing: its contract is the law, and a caller that
-//! wants the law calls it.
+//! Laws of the definitions that contracts cite. A function here does nothing: its contract is the law, and a caller
+//! that wants the law calls it.
 ghost use Rattle.elias_fano.specs.Laws.{ReachedFromThere, FirstOfEqual};
 ghost use Rattle.elias_fano.specs.Laws.{OneForEachItem, ItemsArePicked, PartsHoldItems, PartsAreSmall, BitLaws};
 ghost use Rattle.elias_fano.specs.Sequence.{IsSequence};

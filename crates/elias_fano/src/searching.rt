@@ -119,11 +119,10 @@ fn split_low(low: &[u64], width: u8, first: usize, end: usize, rest: u64) -> usi
 /// # Conditions
 /// The parts are those of one sequence of fewer than 2^56 numbers; the source's tables are those of its words.
 /// # Cost
-/// Two selections of zeros in the source, one of them where no number has low digits, or one selection of a one where `n`
-/// is 1, and none where it is 0; then a search among the low digits of the items with the same upper digits as `v`, which
-/// reads nothing of the source. So at most
-/// `2 * (digits + 1)` upper entries, where the number of them has so many digits, 46 lower entries and 16 words, and at
-/// most as many selections as `n` has digits.
+/// Two selections of zeros in the source, one of them where no number has low digits, or one selection of a one where
+/// `n` is 1, and none where it is 0; then a search among the low digits of the items with the same upper digits as
+/// `v`, which reads nothing of the source. So at most `2 * (digits + 1)` upper entries, where the number of them has
+/// so many digits, 46 lower entries and 16 words, and at most as many selections as `n` has digits.
 pub fn first_at_least_counted<T: TableSource>(
     source: &mut T,
     low: &[u64],

@@ -29,8 +29,8 @@ use std::marker::Model;
 ///
 /// # Source
 /// Elias, 'Efficient storage and retrieval by content and address of static files' (1974), and Fano, 'On the number of
-/// bits required to implement an associative memory' (1971); as an index of lists: Vigna, 'Quasi-succinct indices' (WSDM
-/// 2013).
+/// bits required to implement an associative memory' (1971); as an index of lists: Vigna, 'Quasi-succinct indices'
+/// (WSDM 2013).
 #[derive(Drop)]
 pub struct EliasFano {
     len: usize,

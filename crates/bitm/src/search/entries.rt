@@ -185,8 +185,8 @@ fn search_range<const ONE: u8, T: TableSource>(source: &mut T, part: usize, rank
     guessed::<ONE, T>(source, part, range, rank)
 }
 
-/// The last entry of a part with no more than `rank` of the kind before it in the part: its place in the part, and what it
-/// packs.
+/// The last entry of a part with no more than `rank` of the kind before it in the part: its place in the part, and
+/// what it packs.
 pub(crate) fn last_entry<const ONE: u8, T: TableSource>(
     source: &mut T,
     part: usize,

@@ -1,11 +1,10 @@
 //! The search for a part of 2^32 bits, by halves over the upper entries.
-ghost use Rattle.std.specs.Prelude.{◌≡◌, ◌+◌, ◌-◌, ◌*◌, ◌/◌, ◌%◌, ◌^◌, ◌<◌, ◌≤◌, length, count_ones, IfSome};
-ghost use Rattle.bitm_bits.specs.Bits.{bits_of, digit_count, IsShort};
-ghost use Rattle.bitm_bits.specs.Count.{ones_before, kind, IsSelect};
-ghost use Rattle.bitm.specs.Entry.{field_1, field_2, field_3, lower_entry, record_field};
-ghost use Rattle.bitm.specs.Reads.{OnlyReads, lower_read, upper_read, word_read, ReadsAtMost};
-ghost use Rattle.bitm.specs.Search.{entry_in, sought_in, IsLastPart, IsLastEntry, IsWord};
-ghost use Rattle.bitm.specs.Tables.{HasTables, IsIndexed, bits_in};
+ghost use Rattle.std.specs.Prelude.{◌≡◌, ◌+◌, ◌-◌, ◌*◌, ◌/◌, ◌^◌, ◌<◌, length};
+ghost use Rattle.bitm_bits.specs.Bits.{digit_count, IsShort};
+ghost use Rattle.bitm_bits.specs.Count.{ones_before};
+ghost use Rattle.bitm.specs.Reads.{upper_read, ReadsAtMost};
+ghost use Rattle.bitm.specs.Search.{sought_in, IsLastPart};
+ghost use Rattle.bitm.specs.Tables.{HasTables};
 
 use crate::source::TableSource;
 

@@ -10,16 +10,21 @@ use crate::levels::U64_PER_L2_RECORDS;
 use crate::source::TableSource;
 use crate::word::ones_through;
 
-/// So many words, 4 MiB, stay in a processor's caches. Past that a rank waits for its words, and more ranks wait side by
-/// side if each takes no more instructions than it needs.
+/// So many words, 4 MiB, stay in a processor's caches. Past that a rank waits for its words, and more ranks wait side
+/// by side if each takes no more instructions than it needs.
 const WORDS_IN_CACHE: usize = 1 << 19;
 
 /// How many ones stand in the record that begins at word `first`, before word `end` of it.
 ///
 /// Seven words are counted in a straight line, and those from `end` on are left out by a move: a loop up to `end` would
 /// be left at another turn each time. Only a record that the content cuts off has such a loop, and a large content.
+///
+/// # Conditions
+/// There is a word `end`, and it is among the eight from `first` on. Nothing is asked of the tables.
+/// # Cost
+/// At most seven words are read.
 #[inline(always)]
-fn ones_in_record<T: TableSource>(source: &mut T, first: usize, end: usize) -> usize
+pub fn ones_in_record<T: TableSource>(source: &mut T, first: usize, end: usize) -> usize
     requires short { IsShort (T.lists source.old).words }
     requires order { first ≤ end }
     requires near { end < first + 8 }

@@ -1,11 +1,10 @@
 //! Selection in a record of eight words: the record of an entry, the word of the record, the bit of the word.
 ghost use Rattle.std.specs.Prelude.{◌≡◌, ◌+◌, ◌-◌, ◌*◌, ◌/◌, ◌%◌, ◌^◌, ◌<◌, ◌≤◌, length, count_ones, IfSome};
-ghost use Rattle.bitm_bits.specs.Bits.{bits_of, digit_count, IsShort};
+ghost use Rattle.bitm_bits.specs.Bits.{bits_of, IsShort};
 ghost use Rattle.bitm_bits.specs.Count.{ones_before, kind, IsSelect};
-ghost use Rattle.bitm.specs.Entry.{field_1, field_2, field_3, lower_entry, record_field};
-ghost use Rattle.bitm.specs.Reads.{OnlyReads, lower_read, upper_read, word_read, ReadsAtMost};
-ghost use Rattle.bitm.specs.Search.{entry_in, sought_in, IsLastPart, IsLastEntry, IsWord};
-ghost use Rattle.bitm.specs.Tables.{HasTables, IsIndexed, bits_in};
+ghost use Rattle.bitm.specs.Entry.{field_1, field_2, field_3, record_field};
+ghost use Rattle.bitm.specs.Reads.{word_read, ReadsAtMost};
+ghost use Rattle.bitm.specs.Search.{sought_in, IsWord};
 
 use crate::entry::ones_to_record;
 use crate::levels::U64_PER_L2_RECORDS;
@@ -23,8 +22,11 @@ fn is_at_most(count: usize, rank: usize) -> usize
 
 /// The record of an entry that has the one with this rank, and the ones of the entry before that record: by three
 /// comparisons, and no branch.
+///
+/// # Conditions
+/// The entry's counts do not fall from record to record, as in each entry of a lower table.
 #[inline(always)]
-pub(crate) fn record_of(entry: u64, rank: usize) -> (usize, usize)
+pub fn record_of(entry: u64, rank: usize) -> (usize, usize)
     requires second { field_1 entry ≤ field_2 entry }
     requires third { field_2 entry ≤ field_3 entry }
     ensures inside { result.0 < 4 }
@@ -40,8 +42,11 @@ pub(crate) fn record_of(entry: u64, rank: usize) -> (usize, usize)
 }
 
 /// The place of the one in a word with so many ones before it.
+///
+/// # Conditions
+/// The word has more than `rank` ones.
 #[inline(always)]
-fn select_in_word(word: u64, rank: usize) -> usize
+pub fn select_in_word(word: u64, rank: usize) -> usize
     requires { rank < count_ones word }
     ensures inside { result < 64 }
     ensures before { count_ones (word % 2 ^ result) ≡ rank }
@@ -50,9 +55,12 @@ fn select_in_word(word: u64, rank: usize) -> usize
     select64(word, rank as u8) as usize
 }
 
-/// Word `at` of the bits in which ones are sought.
+/// Word `at` of the bits in which ones are sought: negated where `ONE` is 0.
+///
+/// # Conditions
+/// There is such a word. Nothing is asked of the tables.
 #[inline(always)]
-fn sought_word<const ONE: u8, T: TableSource>(source: &mut T, at: usize) -> u64
+pub fn sought_word<const ONE: u8, T: TableSource>(source: &mut T, at: usize) -> u64
     requires { at < length (T.lists source.old).words }
     ensures word { IsWord (sought_in ONE (T.lists source.old).words) at result }
     ensures counted { T.reads source.new ≡ word_read (T.reads source.old) }
@@ -62,8 +70,8 @@ fn sought_word<const ONE: u8, T: TableSource>(source: &mut T, at: usize) -> u64
     if ONE == 0 { !word } else { word }
 }
 
-/// The word that has the one with this rank, among the eight words from `first` on, which have it: its place, what it is
-/// and the rank that is left in it.
+/// The word that has the one with this rank, among the eight words from `first` on, which have it: its place, what it
+/// is and the rank that is left in it.
 ///
 /// Each of the first seven words has a test of its own, since their number is fixed, and the eighth needs none.
 #[inline(always)]

@@ -1,10 +1,10 @@
 //! Selection over a source, with a bound on its reads: the part, the entry, the record, the word.
-ghost use Rattle.std.specs.Prelude.{◌≡◌, ◌+◌, ◌-◌, ◌*◌, ◌/◌, ◌%◌, ◌^◌, ◌<◌, ◌≤◌, length, count_ones, IfSome};
+ghost use Rattle.std.specs.Prelude.{◌≡◌, ◌+◌, ◌-◌, ◌*◌, ◌/◌, ◌^◌, ◌<◌, length, IfSome};
 ghost use Rattle.bitm_bits.specs.Bits.{bits_of, digit_count, IsShort};
 ghost use Rattle.bitm_bits.specs.Count.{ones_before, kind, IsSelect};
-ghost use Rattle.bitm.specs.Entry.{field_1, field_2, field_3, lower_entry, record_field};
-ghost use Rattle.bitm.specs.Reads.{OnlyReads, lower_read, upper_read, word_read, ReadsAtMost};
-ghost use Rattle.bitm.specs.Search.{entry_in, sought_in, IsLastPart, IsLastEntry, IsWord};
+ghost use Rattle.bitm.specs.Entry.{lower_entry};
+ghost use Rattle.bitm.specs.Reads.{OnlyReads, ReadsAtMost};
+ghost use Rattle.bitm.specs.Search.{entry_in, sought_in, IsLastPart, IsLastEntry};
 ghost use Rattle.bitm.specs.Tables.{HasTables, IsIndexed, bits_in};
 
 use crate::entry::ones_to_entry;
@@ -14,8 +14,8 @@ use crate::search::parts::{before_part, last_part};
 use crate::search::records::{record_of, select_in_record};
 use crate::source::TableSource;
 
-/// Selection in entry `entry` of a part, which packs `packed`: the last one with no more than `rank` of the kind before it
-/// in the part.
+/// Selection in entry `entry` of a part, which packs `packed`: the last one with no more than `rank` of the kind
+/// before it in the part.
 #[inline(always)]
 pub(crate) fn select_in_entry<const ONE: u8, T: TableSource>(
     source: &mut T,

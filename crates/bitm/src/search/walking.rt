@@ -1,10 +1,8 @@
 //! The search for an entry of a part by a walk from an earlier one.
-ghost use Rattle.std.specs.Prelude.{◌≡◌, ◌+◌, ◌-◌, ◌*◌, ◌/◌, ◌%◌, ◌^◌, ◌<◌, ◌≤◌, length, if◌then◌else◌};
-ghost use Rattle.bitm_bits.specs.Bits.{bits_of, digit, IsShort};
-ghost use Rattle.bitm_bits.specs.Count.{kind, IsSelect};
+ghost use Rattle.std.specs.Prelude.{◌≡◌, ◌+◌, ◌-◌, ◌*◌, ◌/◌, ◌<◌, ◌≤◌, length};
+ghost use Rattle.bitm_bits.specs.Bits.{bits_of, IsShort};
 ghost use Rattle.bitm.specs.Entry.{lower_entry};
 ghost use Rattle.bitm.specs.Reads.{ReadsAtMost};
-ghost use Rattle.bitm.specs.Samples.{samples_of, sample_starts_of, SampledReads};
 ghost use Rattle.bitm.specs.Search.{entry_in, IsLastEntry, entries_from, items_to, sought_in};
 ghost use Rattle.bitm.specs.Tables.{HasTables};
 
@@ -13,8 +11,8 @@ use crate::levels::L2_ENTRIES_PER_L1_ENTRY;
 use crate::search::entries::sought_entry;
 use crate::source::TableSource;
 
-/// The last entry of a part, from entry `from` on, with no more than `rank` of the kind before it in the part: its place
-/// in the part, and what it packs.
+/// The last entry of a part, from entry `from` on, with no more than `rank` of the kind before it in the part: its
+/// place in the part, and what it packs.
 #[inline(always)]
 pub(crate) fn walk<const ONE: u8, T: TableSource>(
     source: &mut T,

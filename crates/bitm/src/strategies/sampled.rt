@@ -1,11 +1,8 @@
 //! Selection that starts at a sample, over a source, with a bound on its reads.
-ghost use Rattle.std.specs.Prelude.{◌≡◌, ◌+◌, ◌-◌, ◌*◌, ◌/◌, ◌%◌, ◌^◌, ◌<◌, ◌≤◌, length, if◌then◌else◌};
+ghost use Rattle.std.specs.Prelude.{◌≡◌, ◌+◌, ◌-◌, ◌/◌, ◌%◌, ◌^◌, ◌<◌, if◌then◌else◌};
 ghost use Rattle.bitm_bits.specs.Bits.{bits_of, digit, IsShort};
 ghost use Rattle.bitm_bits.specs.Count.{kind, IsSelect};
-ghost use Rattle.bitm.specs.Entry.{lower_entry};
-ghost use Rattle.bitm.specs.Reads.{ReadsAtMost};
 ghost use Rattle.bitm.specs.Samples.{samples_of, sample_starts_of, SampledReads};
-ghost use Rattle.bitm.specs.Search.{entry_in, IsLastEntry, entries_from, items_to, sought_in};
 ghost use Rattle.bitm.specs.Tables.{HasTables};
 
 use crate::search::parts::{before_part, last_part};
