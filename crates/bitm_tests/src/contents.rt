@@ -1,5 +1,6 @@
-//! The index over small contents, lent and owned, with each strategy: values from outside, and a plain count of all.
-use crate::plain::{
+//! Rank and selection over small contents, lent and owned, by each strategy. The rows are worked out by hand, so that
+//! they test the definitions of rank and selection; every other place and rank is compared with a walk over the bits.
+use crate::expect::{
     Sampled, expect_all, expect_all_owned, expect_one, expect_rank, expect_zero, indexed, owned,
 };
 use bitm::{BinaryRankSearch, Rank, Select, Select0, Select0ForRank101111, SelectForRank101111};
@@ -174,23 +175,23 @@ fn expect_case(rt: &impl Abort, alloc: Global, case: &Case<'_>) -> Result<(), Fa
 }
 
 #[test]
-fn empty_and_full_contents(rt: HostRuntime) -> Result<(), Fail> {
+fn no_words_and_full_words_are_ranked_and_selected(rt: HostRuntime) -> Result<(), Fail> {
     expect_case(&rt, rt.alloc(), &NO_WORDS)?;
     expect_case(&rt, rt.alloc(), &FULL_WORDS)
 }
 
 #[test]
-fn one_word(rt: HostRuntime) -> Result<(), Fail> {
+fn one_word_is_ranked_and_selected(rt: HostRuntime) -> Result<(), Fail> {
     expect_case(&rt, rt.alloc(), &ONE_EMPTY_WORD)?;
     expect_case(&rt, rt.alloc(), &ONE_WORD)
 }
 
 #[test]
-fn two_words(rt: HostRuntime) -> Result<(), Fail> {
+fn two_words_are_ranked_and_selected(rt: HostRuntime) -> Result<(), Fail> {
     expect_case(&rt, rt.alloc(), &TWO_WORDS)
 }
 
 #[test]
-fn sixty_words(rt: HostRuntime) -> Result<(), Fail> {
+fn sixty_words_of_two_entries_are_ranked_and_selected(rt: HostRuntime) -> Result<(), Fail> {
     expect_case(&rt, rt.alloc(), &SIXTY_WORDS)
 }

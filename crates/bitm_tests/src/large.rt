@@ -1,5 +1,7 @@
-//! A content of 2^20 words with ones at the even places: ranks and places at each step of 256 bits.
-use crate::plain::Sampled;
+//! A content of 2^20 words with ones at the even places, asked at each step of 256 bits. By hand: half of the bits
+//! before an even place are ones, and each two places have one bit of each kind. So the compiled code runs over
+//! tables of many entries.
+use crate::expect::Sampled;
 use bitm::{
     BinaryRankSearch, BitVec, Rank, RankSelect101111, RankSimple, Select, Select0,
     Select0ForRank101111, SelectForRank101111,
@@ -45,7 +47,7 @@ fn expect_places<S: SelectForRank101111, S0: Select0ForRank101111>(
 
 #[test]
 #[tactic(auto, using(bitm_bits::proofs::Callers::few_ones))]
-fn simple_rank(rt: HostRuntime) -> Result<(), Fail> {
+fn simple_rank_is_half_of_each_even_place(rt: HostRuntime) -> Result<(), Fail> {
     let content = even_ones(rt.alloc())?;
     assert!(rt; content.as_slice().len() < 2_000_000);
     match RankSimple::build(rt.alloc(), content) {
@@ -59,11 +61,13 @@ fn simple_rank(rt: HostRuntime) -> Result<(), Fail> {
 }
 
 #[test]
-fn binary_search(rt: HostRuntime) -> Result<(), Fail> {
+fn rank_is_half_of_each_even_place_and_binary_search_selects_it(
+    rt: HostRuntime,
+) -> Result<(), Fail> {
     expect_places::<BinaryRankSearch, BinaryRankSearch>(&rt, rt.alloc())
 }
 
 #[test]
-fn samples(rt: HostRuntime) -> Result<(), Fail> {
+fn rank_is_half_of_each_even_place_and_samples_select_it(rt: HostRuntime) -> Result<(), Fail> {
     expect_places::<Sampled, Sampled>(&rt, rt.alloc())
 }

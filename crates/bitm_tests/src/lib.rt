@@ -1,25 +1,36 @@
-//! Tests that cross crates: values from outside, and users of the traits.
+//! Tests that cross crates, a file a topic; the name of a test is the sentence that it shows.
+//!
+//! Clauses that are proved fix nearly every answer here. They are tested all the same, for what no proof of ours
+//! says:
+//!
+//! - that the definitions of the clauses mean what their words say: so what is expected comes from outside, worked
+//!   out by hand, taken from tests of the original crate or found by one walk over the bits, and never from an answer
+//!   of our own;
+//! - that the compiler and the toolchain make of the proved code a program that does the same: so it is the compiled
+//!   code that answers;
+//! - what no clause says: that `build` finds memory where there is some, which strategy an index asks, which types
+//!   keep bytes on the heap.
 #![tactic(auto)]
 
 #[cfg(test)]
 mod contents;
 #[cfg(test)]
+mod counted;
+#[cfg(test)]
+mod every_place;
+#[cfg(test)]
+mod expect;
+#[cfg(test)]
 mod large;
 #[cfg(test)]
-mod odd_contents;
-#[cfg(test)]
-mod optimal;
-#[cfg(test)]
-mod own_strategies;
-#[cfg(test)]
-mod plain;
-#[cfg(test)]
-mod probed;
+mod logarithms;
 #[cfg(test)]
 mod samples;
 #[cfg(test)]
 mod simple;
 #[cfg(test)]
 mod sizes;
+#[cfg(test)]
+mod strategies;
 #[cfg(test)]
 mod tables;

@@ -1,5 +1,6 @@
-//! Selection by samples: how many are kept, and what the index selects by them.
-use crate::plain::{Sampled, expect_one, expect_zero, indexed};
+//! Selection by samples: how many are kept, and what the index selects by them, worked out by hand. The samples are
+//! private: a test inside `bitm` compares them with those of the original crate.
+use crate::expect::{Sampled, expect_one, expect_zero, indexed};
 use bitm::{
     BinaryRankSearch, BitVec, CombinedSampling, ConstCombinedSamplingDensity, RankSelect101111,
 };
@@ -13,7 +14,7 @@ use std::test::Fail;
 type Each<const LOG: u8> = CombinedSampling<ConstCombinedSamplingDensity<LOG>>;
 
 #[test]
-fn full_words(rt: HostRuntime) {
+fn full_words_keep_one_sample_of_ones_and_none_of_zeros(rt: HostRuntime) {
     let words = [u64::MAX; 35];
     let (index, _) = indexed::<Sampled, Sampled>(&rt, rt.alloc(), words.as_slice());
     let entries = [0x8020_0600_0000_0000, 0x3006_00C0_0000_0800];
@@ -25,7 +26,7 @@ fn full_words(rt: HostRuntime) {
 }
 
 #[test]
-fn empty_words(rt: HostRuntime) {
+fn a_sample_for_each_128_zeros_is_17_in_33_empty_words(rt: HostRuntime) {
     let words = [0; 33];
     let (index, _) = indexed::<BinaryRankSearch, Each<7>>(&rt, rt.alloc(), words.as_slice());
     assert_eq!(rt; index.select0_support().sample_count(), 17);
@@ -33,7 +34,7 @@ fn empty_words(rt: HostRuntime) {
 }
 
 #[test]
-fn a_logarithm_below_seven_is_seven(rt: HostRuntime) {
+fn a_logarithm_below_seven_keeps_the_samples_of_seven(rt: HostRuntime) {
     let words = [0; 33];
     let (index, _) = indexed::<BinaryRankSearch, Each<3>>(&rt, rt.alloc(), words.as_slice());
     assert_eq!(rt; index.select0_support().sample_count(), 17);
@@ -75,13 +76,13 @@ fn expect_full_ends(
 }
 
 #[test]
-fn ones_in_two_entries(rt: HostRuntime) -> Result<(), Fail> {
+fn one_sample_selects_in_two_entries(rt: HostRuntime) -> Result<(), Fail> {
     let rows = [(64, Some(4032)), (127, Some(4095))];
     expect_full_ends(&rt, rt.alloc(), 64, rows.as_slice())
 }
 
 #[test]
-fn a_distance_above_what_a_sample_keeps(rt: HostRuntime) -> Result<(), Fail> {
+fn one_sample_selects_past_the_distance_that_it_keeps(rt: HostRuntime) -> Result<(), Fail> {
     let rows = [(63, Some(63)), (64, Some(6_144_000)), (128, None)];
     expect_full_ends(&rt, rt.alloc(), 96_001, rows.as_slice())
 }

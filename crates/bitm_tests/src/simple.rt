@@ -1,5 +1,5 @@
-//! The simple rank: ranks of full words, and generic code over its trait.
-use crate::plain::expect_rank;
+//! The simple rank: rows worked out by hand, by the calls of its trait and by its own, which answer 32 bits.
+use crate::expect::expect_rank;
 use bitm::{ArrayWithRankSimple, GetSize, Rank, RankSimple};
 use std::alloc::Global;
 use std::boxed::BoxedSlice;
@@ -42,7 +42,7 @@ fn owned(
 }
 
 #[test]
-fn nine_full_words(rt: HostRuntime) -> Result<(), Fail> {
+fn ranks_of_full_words_are_their_places_up_to_the_length(rt: HostRuntime) -> Result<(), Fail> {
     let (index, total) = owned(&rt, rt.alloc(), [u64::MAX; 9].as_slice())?;
     assert_eq!(rt; total, 576);
     let rows = [
@@ -63,7 +63,7 @@ fn nine_full_words(rt: HostRuntime) -> Result<(), Fail> {
 }
 
 #[test]
-fn two_words(rt: HostRuntime) -> Result<(), Fail> {
+fn ranks_of_two_words_are_counted_by_hand(rt: HostRuntime) -> Result<(), Fail> {
     let (index, total) = owned(&rt, rt.alloc(), [0b1101, 0b110].as_slice())?;
     assert_eq!(rt; total, 5);
     assert_eq!(rt; index.as_slice(), [0b1101, 0b110].as_slice());
@@ -85,7 +85,7 @@ fn two_words(rt: HostRuntime) -> Result<(), Fail> {
 }
 
 #[test]
-fn no_words(rt: HostRuntime) -> Result<(), Fail> {
+fn no_words_have_rank_0_at_place_0_alone(rt: HostRuntime) -> Result<(), Fail> {
     let (index, total) = owned(&rt, rt.alloc(), &[])?;
     assert_eq!(rt; total, 0);
     expect_ranks(&rt, &index, [(0, Some(0)), (1, None)].as_slice());

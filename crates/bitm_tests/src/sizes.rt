@@ -1,5 +1,5 @@
-//! Which types keep bytes on the heap, and how many.
-use crate::plain::Sampled;
+//! Which types keep bytes on the heap, which no clause can say of a constant, and how many, added up by hand.
+use crate::expect::Sampled;
 use bitm::{
     ArrayWithRank101111, ArrayWithRankSimple, BinaryRankSearch, BitVec, GetSize, RankSelect101111,
 };
@@ -9,7 +9,7 @@ use std::process::Abort;
 use std::test::Fail;
 
 #[test]
-fn all_but_binary_search_use_the_heap(rt: HostRuntime) {
+fn all_but_binary_search_may_use_the_heap(rt: HostRuntime) {
     assert!(rt; ArrayWithRank101111::USES_DYN_MEM);
     assert!(rt; ArrayWithRankSimple::USES_DYN_MEM);
     assert!(rt; Sampled::USES_DYN_MEM);
@@ -18,7 +18,7 @@ fn all_but_binary_search_use_the_heap(rt: HostRuntime) {
 }
 
 #[test]
-fn sizes_are_those_of_the_parts(rt: HostRuntime) -> Result<(), Fail> {
+fn an_index_takes_the_bytes_of_its_parts(rt: HostRuntime) -> Result<(), Fail> {
     let content = BoxedSlice::with_filled_64bit_segments(rt.alloc(), 35)?;
     assert!(rt; content.as_slice().len() < 100_000);
     match RankSelect101111::<Sampled, Sampled, _>::build(rt.alloc(), content) {

@@ -1,8 +1,10 @@
-//! What an index keeps and counts: its tables, its size, and ranks of a few contents.
-use crate::plain::{indexed, owned};
+//! The tables that an index keeps, its size, and ranks of a few contents, worked out by hand. An entry is the ones
+//! before its records 1, 2 and 3, from the bits 54, 43 and 32 on, and below them the ones before the entry in its
+//! part: for 64 ones in the first record of the second entry, after 2048 ones, 64 * (2^54 + 2^43 + 2^32) + 2048.
+use crate::expect::{indexed, owned};
 use bitm::{
     BinaryRankSearch, BitAccess, BitAccessMut, BitVec, GetSize, Rank, RankSelect101111, Select,
-    Select0, complement_entry, rank_on,
+    Select0, complement_entry,
 };
 use std::alloc::{AllocError, Global};
 use std::boxed::BoxedSlice;
@@ -37,7 +39,7 @@ fn expect_kept(
 }
 
 #[test]
-fn one_word(rt: HostRuntime) -> Result<(), Fail> {
+fn one_word_keeps_one_entry_in_16_bytes_beside_its_own(rt: HostRuntime) -> Result<(), Fail> {
     let words = [0b1101];
     let kept = (3, [0].as_slice(), [0x00C0_1803_0000_0000].as_slice());
     expect_kept(&rt, rt.alloc(), words.as_slice(), kept)?;
@@ -49,26 +51,28 @@ fn one_word(rt: HostRuntime) -> Result<(), Fail> {
 }
 
 #[test]
-fn no_words(rt: HostRuntime) -> Result<(), Fail> {
+fn no_words_keep_no_entry(rt: HostRuntime) -> Result<(), Fail> {
     expect_kept(&rt, rt.alloc(), &[], (0, &[], &[]))?;
     Ok(())
 }
 
 #[test]
-fn one_empty_word(rt: HostRuntime) -> Result<(), Fail> {
+fn one_empty_word_keeps_an_entry_of_zero(rt: HostRuntime) -> Result<(), Fail> {
     expect_kept(&rt, rt.alloc(), &[0], (0, &[0], &[0]))?;
     Ok(())
 }
 
 #[test]
-fn two_words(rt: HostRuntime) -> Result<(), Fail> {
+fn two_words_keep_one_entry(rt: HostRuntime) -> Result<(), Fail> {
     let kept = (5, [0].as_slice(), [0x0140_2805_0000_0000].as_slice());
     expect_kept(&rt, rt.alloc(), &[0b1101, 0b110], kept)?;
     Ok(())
 }
 
 #[test]
-fn a_second_entry(rt: HostRuntime) -> Result<(), Fail> {
+fn sixty_words_keep_a_second_entry_after_the_ones_of_the_first(
+    rt: HostRuntime,
+) -> Result<(), Fail> {
     let entries = [0x0601_8048_0000_0000, 0x0601_8048_0000_0060];
     let kept = (180, [0].as_slice(), entries.as_slice());
     expect_kept(&rt, rt.alloc(), [0b1101; 60].as_slice(), kept)?;
@@ -82,7 +86,7 @@ fn a_second_entry(rt: HostRuntime) -> Result<(), Fail> {
 }
 
 #[test]
-fn full_words(rt: HostRuntime) {
+fn a_full_word_after_a_full_entry_is_counted_to_the_end(rt: HostRuntime) {
     let words = [u64::MAX; 33];
     let (index, total) = built(&rt, rt.alloc(), words.as_slice());
     let entries = [0x8020_0600_0000_0000, 0x1002_0040_0000_0800];
@@ -100,7 +104,7 @@ fn full_words(rt: HostRuntime) {
 }
 
 #[test]
-fn a_full_entry(rt: HostRuntime) {
+fn a_full_entry_counts_512_ones_a_record(rt: HostRuntime) {
     let words = [u64::MAX; 32];
     let (index, _) = built(&rt, rt.alloc(), words.as_slice());
     assert_eq!(rt; index.l2ranks(), [0x8020_0600_0000_0000].as_slice());
@@ -109,7 +113,7 @@ fn a_full_entry(rt: HostRuntime) {
 }
 
 #[test]
-fn empty_words(rt: HostRuntime) {
+fn empty_words_keep_entries_of_zero_and_zeros_alone(rt: HostRuntime) {
     let words = [0; 33];
     let (index, total) = built(&rt, rt.alloc(), words.as_slice());
     assert_eq!(rt; index.l2ranks(), [0, 0].as_slice());
@@ -124,7 +128,7 @@ fn empty_words(rt: HostRuntime) {
 }
 
 #[test]
-fn one_bit_of_many(rt: HostRuntime) -> Result<(), Fail> {
+fn one_bit_that_is_set_counts_from_the_next_place_on(rt: HostRuntime) -> Result<(), Fail> {
     let mut content = BoxedSlice::with_zeroed_bits(rt.alloc(), 2048)?;
     let mut bits = content.as_mut_slice();
     bits.set_bit(100);
@@ -138,17 +142,7 @@ fn one_bit_of_many(rt: HostRuntime) -> Result<(), Fail> {
 }
 
 #[test]
-fn rank_over_a_probe(rt: HostRuntime) -> Result<(), Fail> {
-    let (index, _) = owned(&rt, rt.alloc(), [0b1101; 60].as_slice())?;
-    for place in 0..3842 {
-        let mut probe = index.probe();
-        assert_eq!(rt; rank_on(&mut probe, place), index.try_rank(place));
-    }
-    Ok(())
-}
-
-#[test]
-fn entries_of_negated_bits(rt: HostRuntime) {
+fn an_entry_is_turned_into_that_of_the_negated_bits(rt: HostRuntime) {
     assert_eq!(rt;
         complement_entry(0x00C0_1803_0000_0000, 0),
         0x7F5F_EDFD_0000_0000

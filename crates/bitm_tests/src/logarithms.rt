@@ -1,4 +1,6 @@
-//! The logarithm of how many items one sample stands for, by the share of items.
+//! The logarithm of how many items one sample stands for, by the share of items. The clause of
+//! `optimal_combined_sampling` pins it; the rows of the greatest 14 and 15 follow the tests of the original crate, and
+//! the others are worked out by hand.
 ghost use Rattle.std.specs.Prelude.{◌≤◌};
 
 use bitm::optimal_combined_sampling;
@@ -19,7 +21,7 @@ fn expect_rows(rt: &impl Abort, greatest: u8, rows: &[Row])
 }
 
 #[test]
-fn test_optimal_combined_sampling_14(rt: HostRuntime) {
+fn the_logarithm_follows_the_share_of_items_up_to_14(rt: HostRuntime) {
     let rows = [
         (4, 5, 14),
         (3, 4, 14),
@@ -45,7 +47,7 @@ fn test_optimal_combined_sampling_14(rt: HostRuntime) {
 }
 
 #[test]
-fn test_optimal_combined_sampling_15(rt: HostRuntime) {
+fn the_logarithm_follows_the_share_of_items_up_to_15(rt: HostRuntime) {
     let rows = [
         (4, 5, 15),
         (3, 4, 15),
@@ -61,7 +63,7 @@ fn test_optimal_combined_sampling_15(rt: HostRuntime) {
 }
 
 #[test]
-fn numbers_whose_products_do_not_fit(rt: HostRuntime) {
+fn the_logarithm_is_exact_where_products_pass_64_bits(rt: HostRuntime) {
     let rows = [
         (1 << 62, 1 << 63, 13),
         (1 << 63, usize::MAX, 13),
@@ -73,7 +75,7 @@ fn numbers_whose_products_do_not_fit(rt: HostRuntime) {
 }
 
 #[test]
-fn no_items_or_no_room(rt: HostRuntime) {
+fn no_bits_have_the_greatest_logarithm_and_no_items_the_least(rt: HostRuntime) {
     assert_eq!(rt; optimal_combined_sampling(0, 0, 13), 13);
     assert_eq!(rt; optimal_combined_sampling(0, 64, 13), 7);
     assert_eq!(rt; optimal_combined_sampling(1, 2, 7), 7);

@@ -1,6 +1,7 @@
-//! The index with strategies and a density that a user wrote: all answers against a plain count, and who is asked.
-use crate::odd_contents::expect_forms;
-use crate::plain::{Sampled, expect_all, indexed};
+//! The index with strategies and a density that a user wrote: all answers compared with a walk over the bits, since
+//! the proof of an index knows them by the laws of their traits alone; and who is asked, which no clause says.
+use crate::every_place::expect_borders;
+use crate::expect::{Sampled, expect_all, indexed};
 use bitm::{
     BinaryRankSearch, CombinedSampling, Select, Select0, Select0ForRank101111, SelectForRank101111,
 };
@@ -12,18 +13,7 @@ use uses::strategies::guarded::Guarded;
 use uses::strategies::listed::Listed;
 use uses::strategies::scan::Scan;
 
-/// Compares all answers over the odd contents.
-fn expect_odd_contents<S: SelectForRank101111, S0: Select0ForRank101111>(
-    rt: &impl Abort,
-    alloc: Global,
-) -> Result<(), Fail> {
-    for len in [0, 1, 9, 32, 33, 60] {
-        expect_forms::<S, S0>(rt, alloc, len)?;
-    }
-    Ok(())
-}
-
-/// Compares all answers over the small contents and the odd ones.
+/// Compares all answers over small contents and at every border.
 fn expect_contents<S: SelectForRank101111, S0: Select0ForRank101111>(
     rt: &impl Abort,
     alloc: Global,
@@ -32,36 +22,36 @@ fn expect_contents<S: SelectForRank101111, S0: Select0ForRank101111>(
     expect_all::<S, S0>(rt, alloc, [u64::MAX; 35].as_slice())?;
     expect_all::<S, S0>(rt, alloc, [0b1101, 0b110].as_slice())?;
     expect_all::<S, S0>(rt, alloc, [0b1101; 60].as_slice())?;
-    expect_odd_contents::<S, S0>(rt, alloc)
+    expect_borders::<S, S0>(rt, alloc)
 }
 
 #[test]
-fn a_walk_over_the_content(rt: HostRuntime) -> Result<(), Fail> {
+fn an_index_selects_by_a_walk_over_the_content(rt: HostRuntime) -> Result<(), Fail> {
     expect_contents::<Scan, Scan>(&rt, rt.alloc())
 }
 
 #[test]
-fn a_list_of_places(rt: HostRuntime) -> Result<(), Fail> {
+fn an_index_selects_by_a_list_of_places(rt: HostRuntime) -> Result<(), Fail> {
     expect_contents::<Listed, Listed>(&rt, rt.alloc())
 }
 
 #[test]
-fn a_guard_round_binary_search(rt: HostRuntime) -> Result<(), Fail> {
+fn an_index_selects_by_a_guard_round_binary_search(rt: HostRuntime) -> Result<(), Fail> {
     expect_contents::<Guarded<BinaryRankSearch>, Guarded<BinaryRankSearch>>(&rt, rt.alloc())
 }
 
 #[test]
-fn a_guard_round_samples(rt: HostRuntime) -> Result<(), Fail> {
+fn an_index_selects_by_a_guard_round_samples(rt: HostRuntime) -> Result<(), Fail> {
     expect_contents::<Guarded<Sampled>, Guarded<Sampled>>(&rt, rt.alloc())
 }
 
 #[test]
-fn samples_by_a_density_of_the_length(rt: HostRuntime) -> Result<(), Fail> {
-    expect_odd_contents::<CombinedSampling<ByLength>, CombinedSampling<ByLength>>(&rt, rt.alloc())
+fn an_index_selects_by_samples_of_a_density_by_the_length(rt: HostRuntime) -> Result<(), Fail> {
+    expect_borders::<CombinedSampling<ByLength>, CombinedSampling<ByLength>>(&rt, rt.alloc())
 }
 
 #[test]
-fn the_index_asks_its_own_strategies(rt: HostRuntime) {
+fn an_index_asks_the_strategy_of_its_kind_once_a_call(rt: HostRuntime) {
     let words = [0b1101, 0b110];
     let (index, _) = indexed::<Guarded<BinaryRankSearch>, Guarded<Sampled>>(
         &rt,

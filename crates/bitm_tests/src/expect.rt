@@ -1,4 +1,5 @@
-//! A plain count of a content's bits, and the answers of an index compared with it.
+//! What the tests share: one walk over a content's bits, which counts them one by one, and the answers of an index
+//! compared with it. The walk stands on a read of one bit and on nothing of the index.
 use bitm::{
     AdaptiveCombinedSamplingDensity, ArrayWithRank101111, BitAccess, CombinedSampling, Rank,
     RankSelect101111, Select, Select0, Select0ForRank101111, SelectForRank101111,
