@@ -1,4 +1,7 @@
-//! Values from outside, and each trait once through its bound.
+//! Tests of what no proof says: that the definitions of the clauses mean what their words say, and that the compiler
+//! makes of the proved code a program that does the same. So what is expected is worked out by hand or taken from
+//! tests of the original crate, and never from an answer of our own. Each trait is called once through its bound. The
+//! name of a test is the sentence that it shows.
 ghost use Rattle.std.specs.Prelude.{◌≡◌, ◌*◌, ◌<◌, length};
 ghost use Rattle.bitm_bits.specs.Bits.{IsShort};
 
@@ -12,7 +15,7 @@ mod making;
 use crate::{BitAccess, BitAccessMut, ceiling_div, n_lowest_bits};
 
 #[test]
-fn test_ceiling_div(rt: HostRuntime) {
+fn ceiling_div_rounds_up(rt: HostRuntime) {
     for (n, quotient) in [(7, 4), (8, 4), (9, 5)] {
         assert_eq!(rt; ceiling_div(n, 2), quotient, "at {n}");
     }
@@ -27,7 +30,7 @@ fn ceiling_div_is_exact_to_the_end_of_the_type(rt: HostRuntime) {
 }
 
 #[test]
-fn test_n_lowest(rt: HostRuntime) {
+fn n_lowest_bits_are_so_many_ones_at_the_bottom(rt: HostRuntime) {
     assert_eq!(rt; n_lowest_bits(63), u64::MAX >> 1);
     assert_eq!(rt; n_lowest_bits(3), 7);
     assert_eq!(rt; n_lowest_bits(1), 1);
@@ -52,7 +55,7 @@ fn counts_while_clear<B: BitAccessMut>(bits: &mut B, place: usize) -> (usize, us
 }
 
 #[test]
-fn bits(rt: HostRuntime) {
+fn bits_are_set_cleared_negated_and_counted(rt: HostRuntime) {
     let mut array = [u64::MAX; 2];
     let mut content = array.as_mut_slice();
     let near = [72, 73, 74, 127];

@@ -1,4 +1,4 @@
-//! Byte access: the window at a bit, read and written.
+//! Byte access: the window at a bit, read and written, worked out by hand.
 use crate::{get_bits25, get_bits57, init_bits25, init_bits57, set_bits25, set_bits57};
 
 const NIBBLES: [u8; 8] = [0x10, 0x32, 0x54, 0x76, 0x98, 0xBA, 0xDC, 0xFE];

@@ -1,4 +1,4 @@
-//! Finds: values from outside, and each call through its bound.
+//! Finds: values worked out by hand, each call through its bound.
 ghost use Rattle.std.specs.Prelude.{◌*◌, ◌<◌, ◌≤◌, length};
 ghost use Rattle.bitm_bits.specs.Bits.{IsShort};
 
@@ -29,7 +29,7 @@ fn last_to<B: BitAccess>(bits: &B, start: usize, known: usize) -> Option<usize>
 }
 
 #[test]
-fn finds_in_a_fragment(rt: HostRuntime) {
+fn finds_reach_a_fragment_from_both_sides(rt: HostRuntime) {
     let mut array = [0b101u64 << 3, 0];
     let content = array.as_mut_slice();
     assert_eq!(rt;

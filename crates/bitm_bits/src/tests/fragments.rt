@@ -1,4 +1,4 @@
-//! Ranges and fragments: values from outside.
+//! Ranges and fragments: values worked out by hand, or taken from tests of the original crate.
 ghost use Rattle.std.specs.Prelude.{◌≡◌, ◌+◌, ◌≤◌, length};
 ghost use Rattle.bitm_bits.specs.Number.{IsFragmentInRange};
 
@@ -33,7 +33,7 @@ fn tried<B: BitAccess>(bits: &B, indexes: [usize; 3], s: u8) -> [Option<u64>; 3]
 }
 
 #[test]
-fn fragments_init_set_swap(rt: HostRuntime) {
+fn fragments_are_begun_replaced_and_swapped(rt: HostRuntime) {
     let mut array = [0u64, 0];
     let mut content = array.as_mut_slice();
     content.init_fragment(1, 5, 3);
@@ -49,7 +49,7 @@ fn fragments_init_set_swap(rt: HostRuntime) {
 }
 
 #[test]
-fn fragments_conditionally_change(rt: HostRuntime) {
+fn a_closure_decides_whether_a_fragment_changes(rt: HostRuntime) {
     let mut array = [0u64, 0];
     let mut content = array.as_mut_slice();
     let old = content.conditionally_change_fragment(
@@ -90,7 +90,7 @@ fn a_fragment_changes_where_it_is_another_number(rt: HostRuntime) {
 }
 
 #[test]
-fn fragments_conditionally_copy(rt: HostRuntime) {
+fn a_predicate_decides_whether_a_fragment_is_copied(rt: HostRuntime) {
     let source = [u64::MAX; 2];
     for index in [11usize, 21] {
         let mut array = [0u64, 0];
@@ -133,7 +133,7 @@ fn a_predicate_gets_the_old_number_first(rt: HostRuntime) {
 }
 
 #[test]
-fn bits_len_64(rt: HostRuntime) {
+fn a_whole_word_is_begun_at_the_front(rt: HostRuntime) {
     let mut array = [0u64, 0];
     let mut content = array.as_mut_slice();
     content.init_bits(0, 0x0123_4567_89AB_CDEF, 64);
@@ -228,7 +228,7 @@ fn a_swap_crosses_a_word_border(rt: HostRuntime) {
 }
 
 #[test]
-fn prefetch_is_harmless(rt: HostRuntime) {
+fn prefetch_leaves_the_words_as_they_are(rt: HostRuntime) {
     let array = [0b101, u64::MAX];
     let content = array.as_slice();
     for place in [0, 1, 63, 64, 127, 128, usize::MAX] {

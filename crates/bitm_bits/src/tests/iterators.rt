@@ -1,9 +1,9 @@
-//! Iterators: values from outside.
+//! Iterators: values worked out by hand, or taken from tests of the original crate.
 
 use crate::{BitAccess, BitBIterator, BitIterator, BitOnesIterator, BitZerosIterator};
 
 #[test]
-fn iterators_of_ones(rt: HostRuntime) {
+fn places_of_ones_come_with_how_many_are_left(rt: HostRuntime) {
     let array = [0b101u64, 0b10];
     let content = array.as_slice();
     let mut ones = content.bit_ones();
@@ -27,7 +27,7 @@ fn iterators_of_ones(rt: HostRuntime) {
 }
 
 #[test]
-fn iterators_of_bits(rt: HostRuntime) {
+fn bits_come_with_how_many_are_left(rt: HostRuntime) {
     let array = [0b101u64, 0b10];
     let content = array.as_slice();
     let mut bits = content.bit_iter();
@@ -44,7 +44,7 @@ fn iterators_of_bits(rt: HostRuntime) {
 }
 
 #[test]
-fn iterators_empty_slice(rt: HostRuntime) {
+fn no_words_give_no_places_and_no_bits(rt: HostRuntime) {
     let array: [u64; 0] = [];
     let content = array.as_slice();
     let mut ones = content.bit_ones();
@@ -59,7 +59,7 @@ fn iterators_empty_slice(rt: HostRuntime) {
 }
 
 #[test]
-fn iterators_len_of_zeros(rt: HostRuntime) {
+fn places_of_zeros_come_with_how_many_are_left(rt: HostRuntime) {
     let array = [0, u64::MAX];
     let content = array.as_slice();
     let mut zeros = content.bit_zeros();
@@ -93,7 +93,7 @@ fn how_many(bits: BitIterator<'_>) -> usize {
 }
 
 #[test]
-fn bit_iterator_ranges(rt: HostRuntime) {
+fn each_bit_of_a_range_comes_once(rt: HostRuntime) {
     let array = [0b1011_0011u64, 1];
     let content = array.as_slice();
     let ones = [0, 1, 4, 5, 7, 64];

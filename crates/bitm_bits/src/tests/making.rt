@@ -1,4 +1,5 @@
-//! Vectors that are made, their sizes and copies, and the width that stores a number.
+//! Vectors that are made, their sizes and copies, and the width that stores a number: values worked out by hand. That
+//! memory is found where there is some, and that a type keeps bytes on the heap, no clause says.
 use crate::{BitAccess, BitVec, CloneWords, GetSize, bits_to_store, words};
 use std::alloc::{AllocError, Global};
 use std::boxed::BoxedSlice;
@@ -106,7 +107,7 @@ fn copies_have_the_same_words(rt: HostRuntime) {
 }
 
 #[test]
-fn test_bits_to_store(rt: HostRuntime) {
+fn bits_to_store_is_how_many_binary_digits_there_are(rt: HostRuntime) {
     let rows = [
         (0, 0),
         (1, 1),

@@ -2,7 +2,7 @@
 use Rattle.std.proofs.Common.{inl, ap, ◌∙◌}
 use Rattle.bitm_bits.specs.Bits.{bits_of, low_digits}
 use Rattle.bitm_bits.specs.Number.{number_of_bits, number_at, with_number}
-use Rattle.bitm_bits.proofs.tests.fragments.fragments_init_set_swap.Goals as goal
+use Rattle.bitm_bits.proofs.tests.fragments.fragments_are_begun_replaced_and_swapped.Goals as goal
 
 pub init_fragment-requires-clause-clear : goal.init_fragment-requires-clause-clear
 unfolding number_at number_of_bits bits_of

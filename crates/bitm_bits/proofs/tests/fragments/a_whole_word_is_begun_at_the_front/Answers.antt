@@ -2,7 +2,7 @@
 use Rattle.std.proofs.Common.{inl, ap}
 use Rattle.bitm_bits.specs.Bits.{bits_of}
 use Rattle.bitm_bits.specs.Number.{number_of_bits, number_at}
-use Rattle.bitm_bits.proofs.tests.fragments.bits_len_64.Goals as goal
+use Rattle.bitm_bits.proofs.tests.fragments.a_whole_word_is_begun_at_the_front.Goals as goal
 
 pub init_bits-requires-clause-clear : goal.init_bits-requires-clause-clear
 unfolding number_at number_of_bits bits_of
