@@ -82,7 +82,8 @@ impl<'a> Report<'a> {
         self.at_length.differ == 0 && self.tallies.iter().all(|tally| tally.count.differ == 0)
     }
 
-    /// Prints the differences, as far as they are kept, a line for each kind, and one for the ranks at the exact length.
+    /// Prints the differences, as far as they are kept, a line for each kind, and one for the ranks at the exact
+    /// length.
     pub fn print(&self, rt: &impl Print) -> io::Result<()> {
         for located in self.differences.iter() {
             let Located {

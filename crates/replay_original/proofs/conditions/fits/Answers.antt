@@ -3,7 +3,7 @@ use Rattle.std.proofs.Common.{◌≡◌, ◌+◌, ◌*◌, ◌/◌, ◌^◌, ◌
 use Rattle.std.proofs.Math.Nat.{lt-div-mul-add, div-eq_of_lt}
 use Rattle.std.proofs.lemmas.Bool.{eqb-true, eq-eqb}
 use Rattle.std.proofs.lemmas.Nat.{pow_pos}
-use Rattle.oracle.proofs.conditions.fits.Goals as goal
+use Rattle.replay_original.proofs.conditions.fits.Goals as goal
 
 pub returns-else-len-eq64 : goal.returns-else-len-eq64
 returns-else-len-eq64 c =
