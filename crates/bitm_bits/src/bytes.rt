@@ -48,8 +48,8 @@ fn store4(bytes: &mut [u8], at: usize, word: u32)
     bytes[at..at + 4].copy_from_slice(&word.to_le_bytes());
 }
 
-/// The bits from `first_bit` to the end of the eight bytes that begin with its byte, as a number, lowest first: 57 bits or
-/// more.
+/// The bits from `first_bit` to the end of the eight bytes that begin with its byte, as a number, lowest first: 57
+/// bits or more.
 ///
 /// # Conditions
 /// There are eight bytes from byte `first_bit / 8` on.
@@ -61,8 +61,9 @@ pub fn get_bits57(bytes: &[u8], first_bit: usize) -> u64
     load8(bytes, first_bit / 8) >> (first_bit % 8)
 }
 
-/// Makes each bit from `first_bit` to the end of the eight bytes that begin with its byte true where it was, or where that
-/// digit of `value` is one, lowest first. All other bits stay, and digits of `value` past the eight bytes are lost.
+/// Makes each bit from `first_bit` to the end of the eight bytes that begin with its byte true where it was, or where
+/// that digit of `value` is one, lowest first. All other bits stay, and digits of `value` past the eight bytes are
+/// lost.
 ///
 /// # Conditions
 /// There are eight bytes from byte `first_bit / 8` on.
@@ -76,8 +77,8 @@ pub fn init_bits57(bytes: &mut [u8], first_bit: usize, value: u64)
     store8(bytes, at, word);
 }
 
-/// Makes each bit from `first_bit` to the end of the eight bytes that begin with its byte that digit of `value` where that
-/// digit of `len_mask` is one, lowest first, and elsewhere does as `init_bits57`. All other bits stay.
+/// Makes each bit from `first_bit` to the end of the eight bytes that begin with its byte that digit of `value` where
+/// that digit of `len_mask` is one, lowest first, and elsewhere does as `init_bits57`. All other bits stay.
 ///
 /// # Conditions
 /// There are eight bytes from byte `first_bit / 8` on.
@@ -93,8 +94,8 @@ pub fn set_bits57(bytes: &mut [u8], first_bit: usize, value: u64, len_mask: u64)
     store8(bytes, at, word);
 }
 
-/// The bits from `first_bit` to the end of the four bytes that begin with its byte, as a number, lowest first: 25 bits or
-/// more.
+/// The bits from `first_bit` to the end of the four bytes that begin with its byte, as a number, lowest first: 25 bits
+/// or more.
 ///
 /// # Conditions
 /// There are four bytes from byte `first_bit / 8` on.
@@ -106,8 +107,9 @@ pub fn get_bits25(bytes: &[u8], first_bit: usize) -> u32
     load4(bytes, first_bit / 8) >> (first_bit % 8)
 }
 
-/// Makes each bit from `first_bit` to the end of the four bytes that begin with its byte true where it was, or where that
-/// digit of `value` is one, lowest first. All other bits stay, and digits of `value` past the four bytes are lost.
+/// Makes each bit from `first_bit` to the end of the four bytes that begin with its byte true where it was, or where
+/// that digit of `value` is one, lowest first. All other bits stay, and digits of `value` past the four bytes are
+/// lost.
 ///
 /// # Conditions
 /// There are four bytes from byte `first_bit / 8` on.
@@ -121,8 +123,8 @@ pub fn init_bits25(bytes: &mut [u8], first_bit: usize, value: u32)
     store4(bytes, at, word);
 }
 
-/// Makes each bit from `first_bit` to the end of the four bytes that begin with its byte that digit of `value` where that
-/// digit of `len_mask` is one, lowest first, and elsewhere does as `init_bits25`. All other bits stay.
+/// Makes each bit from `first_bit` to the end of the four bytes that begin with its byte that digit of `value` where
+/// that digit of `len_mask` is one, lowest first, and elsewhere does as `init_bits25`. All other bits stay.
 ///
 /// # Conditions
 /// There are four bytes from byte `first_bit / 8` on.

@@ -2,8 +2,10 @@
 //! the law, and a caller that wants the law calls it.
 ghost use Rattle.bitm_bits.specs.Laws.{ReadAfterWrite, NegatedTwice, SwappedTwice, SwappedWithItself};
 ghost use Rattle.bitm_bits.specs.Laws.{DigitsBoundPowers};
-ghost use Rattle.bitm_bits.specs.Laws.{OnesAndZeros, OnesAndZerosOfContent, CountsGrow, CountAfterItem, NoneBeforeTheFirst};
-ghost use Rattle.bitm_bits.specs.Laws.{AtMostOnePicked, OnePickedForEachRank, NonePickedFromTheCountOn, RankOfPicked, PickedByRank, NextOneIsSelected};
+ghost use Rattle.bitm_bits.specs.Laws.{OnesAndZeros, OnesAndZerosOfContent, CountsGrow, CountAfterItem};
+ghost use Rattle.bitm_bits.specs.Laws.{NoneBeforeTheFirst};
+ghost use Rattle.bitm_bits.specs.Laws.{AtMostOnePicked, OnePickedForEachRank, NonePickedFromTheCountOn};
+ghost use Rattle.bitm_bits.specs.Laws.{RankOfPicked, PickedByRank, NextOneIsSelected};
 ghost use Rattle.bitm_bits.specs.Laws.{PlacesRise, PlacesArePicked, PlacesAreCounted};
 ghost use Rattle.bitm_bits.specs.Laws.{AllBitsCome, NoBitsCome, BitsComeFromTheFront, BitsComeFromTheBack, EachBitOnce};
 

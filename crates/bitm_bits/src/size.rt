@@ -8,8 +8,8 @@ use std::mem::size_of;
 
 /// Tells how many bytes a value keeps on the heap.
 ///
-/// A lent slice keeps none, since its owner does. A value made of parts keeps the sum of what they keep, or `usize::MAX`
-/// where that is less.
+/// A lent slice keeps none, since its owner does. A value made of parts keeps the sum of what they keep, or
+/// `usize::MAX` where that is less.
 pub trait GetSize {
     /// How many bytes a value keeps on the heap: none, unless the type says otherwise.
     ghost dyn_bytes: { Self → ℕ } = { λ _. 0 };

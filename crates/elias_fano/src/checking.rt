@@ -19,8 +19,8 @@ fn is_rising(items: &[u64]) -> bool
 /// Tests numbers that are to be a sequence.
 ///
 /// # Errors
-/// `TooLong` exactly where there are 2^56 numbers or more; else `NotSorted` exactly where some number is less than the one
-/// before it.
+/// `TooLong` exactly where there are 2^56 numbers or more; else `NotSorted` exactly where some number is less than the
+/// one before it.
 pub(crate) fn check(items: &[u64]) -> Result<(), EfError>
     ensures short { IfOk result (λ _. length items.now < 2 ^ 56) }
     ensures rising { IfOk result (λ _. IsNonDecreasing items.now) }

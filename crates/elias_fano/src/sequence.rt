@@ -1,5 +1,6 @@
 //! The type of a sequence.
-ghost use Rattle.std.specs.Prelude.{◌≡◌, ◌+◌, ◌*◌, ◌^◌, ◌<◌, ◌≤◌, ◌↔◌, IsErrOf, SomeIff, length, slice_index, drop, IfOk};
+ghost use Rattle.std.specs.Prelude.{◌≡◌, ◌+◌, ◌*◌, ◌^◌, ◌<◌, ◌≤◌, ◌↔◌, IsErrOf, SomeIff, length, slice_index};
+ghost use Rattle.std.specs.Prelude.{drop, IfOk};
 ghost use Rattle.std.specs.Int.{div_ceil};
 ghost use Rattle.bitm_bits.specs.Bits.{IsShort};
 ghost use Rattle.bitm_bits.specs.Size.{saturated};

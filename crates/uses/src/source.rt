@@ -1,4 +1,5 @@
-//! Words and tables that a user keeps, as a source whose reads are counted: rank and selection over it, with their reads.
+//! Words and tables that a user keeps, as a source whose reads are counted: rank and selection over it, with their
+//! reads.
 ghost use Rattle.std.specs.Prelude.{◌≡◌, ◌+◌, false, length};
 ghost use Rattle.bitm_bits.specs.Bits.{digit_count};
 ghost use Rattle.bitm_bits.specs.Count.{IsRank, IsSelect};

@@ -2,7 +2,8 @@
 ghost use Rattle.std.specs.Prelude.{◌≡◌, ◌+◌, ◌*◌, ◌^◌, ◌<◌, ◌≤◌, ℕ, length, if◌then◌else◌, Some, MatchOption};
 ghost use Rattle.bitm_bits.specs.Bits.{bits_of, IsShort};
 ghost use Rattle.bitm_bits.specs.Lending.{LendsSame, Replaces, ReplacesIf, Negates};
-ghost use Rattle.bitm_bits.specs.Number.{number_at, with_swapped, IsClearOrAlready, IsFalseOrAlready, IsInRange, IsFragmentInRange};
+ghost use Rattle.bitm_bits.specs.Number.{number_at, with_swapped, IsClearOrAlready, IsFalseOrAlready};
+ghost use Rattle.bitm_bits.specs.Number.{IsInRange, IsFragmentInRange};
 
 use crate::bitvec::access::BitAccess;
 

@@ -68,8 +68,8 @@ pub trait BitVec: AsSlice<u64> {
         Self::with_filled_64bit_segments(alloc, n.div_ceil(64))
     }
 
-    /// A vector of the fewest words that have `n` fragments of `s` bits: each of them is `word`, and the bits after them are
-    /// zeros. At width 0 there are no words.
+    /// A vector of the fewest words that have `n` fragments of `s` bits: each of them is `word`, and the bits after
+    /// them are zeros. At width 0 there are no words.
     ///
     /// # Conditions
     /// `s` is 0 to 64, `word` has at most `s` binary digits, and `n * s` fits a `usize`.

@@ -1,7 +1,8 @@
 //! Calls that take a place, a begin or an index by reference, and leave there the next one.
 ghost use Rattle.std.specs.Prelude.{◌≡◌, ◌+◌, ◌*◌, ◌^◌, ◌<◌, ◌≤◌, length, if◌then◌else◌};
 ghost use Rattle.bitm_bits.specs.Bits.{bits_of, item, IsShort};
-ghost use Rattle.bitm_bits.specs.Number.{number_at, with_number, IsClearOrAlready, IsFalseOrAlready, IsInRange, IsFragmentInRange};
+ghost use Rattle.bitm_bits.specs.Number.{number_at, with_number, IsClearOrAlready, IsFalseOrAlready, IsInRange};
+ghost use Rattle.bitm_bits.specs.Number.{IsFragmentInRange};
 ghost use Rattle.bitm_bits.specs.Window.{with_flips};
 
 use crate::bitvec::fragments::{get_fragment, init_fragment, set_fragment, xor_fragment};

@@ -1,7 +1,8 @@
 //! Laws of words, of zeros and of what a write leaves, for items, numbers and counts.
 ghost use Rattle.bitm_bits.specs.WriteLaws.{BitsAreCounted, PlaceIsInside, WordIsItsBits};
 ghost use Rattle.bitm_bits.specs.WriteLaws.{ZerosHaveNoOnes, ZerosAreCounted, ZerosAreZero, NoItemsAreZero};
-ghost use Rattle.bitm_bits.specs.WriteLaws.{LengthIsKept, OneBitIsSet, ItemIsWritten, ItemBesideIsKept, NumberBesideIsKept, CountBeforeIsKept};
+ghost use Rattle.bitm_bits.specs.WriteLaws.{LengthIsKept, OneBitIsSet, ItemIsWritten, ItemBesideIsKept};
+ghost use Rattle.bitm_bits.specs.WriteLaws.{NumberBesideIsKept, CountBeforeIsKept};
 ghost use Rattle.bitm_bits.specs.WriteLaws.{OneMoreIsSet, OneMoreIsCleared, LastOneIsSet};
 
 /// Words have 64 bits each.
