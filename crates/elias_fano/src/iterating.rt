@@ -6,7 +6,7 @@ ghost use Rattle.elias_fano.specs.Numbers.{StandFrom};
 ghost use Rattle.elias_fano.specs.Parts.{ArePartsOf};
 
 use crate::laws;
-use crate::searching::joined;
+use crate::searching::item_at_one;
 use bitm::words;
 use std::iter::{DoubleEndedIterator, ExactSizeIterator, FusedIterator, Iterator};
 use std::marker::Model;
@@ -86,7 +86,7 @@ impl<'a> Iterator for Numbers<'a> {
             return None;
         }
         let place = words::find_bit_one_unchecked(self.upper, self.first);
-        let number = joined(place - self.start, self.low, self.start, self.width);
+        let number = item_at_one(place, self.low, self.start, self.width);
         self.start += 1;
         self.first = place + 1;
         Some(number)
@@ -114,7 +114,7 @@ impl<'a> DoubleEndedIterator for Numbers<'a> {
         }
         let at = self.end - 1;
         let place = words::rfind_bit_one_unchecked(self.upper, self.limit - 1);
-        let number = joined(place - at, self.low, at, self.width);
+        let number = item_at_one(place, self.low, at, self.width);
         self.end = at;
         self.limit = place;
         Some(number)

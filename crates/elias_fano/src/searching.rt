@@ -5,7 +5,7 @@ ghost use Rattle.bitm_bits.specs.Number.{number_at};
 ghost use Rattle.bitm.specs.Reads.{ReadsAtMost};
 ghost use Rattle.bitm.specs.Tables.{HasTables};
 ghost use Rattle.elias_fano.specs.Buckets.{CountsTo, CountsBelow, Splits};
-ghost use Rattle.elias_fano.specs.Parts.{ArePartsOf, IsUpper};
+ghost use Rattle.elias_fano.specs.Parts.{ArePartsOf, HasOneAt, IsUpper};
 ghost use Rattle.elias_fano.specs.Sequence.{IsFirstAtLeast};
 
 use crate::laws;
@@ -13,7 +13,7 @@ use bitm::{TableSource, binary_select_on, n_lowest_bits, words};
 
 /// The number whose part above its low digits is `above`: the low digits are fragment `at`.
 #[inline(always)]
-pub(crate) fn joined(above: usize, low: &[u64], at: usize, width: u8) -> u64
+fn joined(above: usize, low: &[u64], at: usize, width: u8) -> u64
     requires width { width ≤ 63 }
     requires place { at < 2 ^ 56 }
     requires inside { at * width + width ≤ 64 * length low.now }
@@ -27,7 +27,19 @@ pub(crate) fn joined(above: usize, low: &[u64], at: usize, width: u8) -> u64
     ((above as u64) << width) + words::get_fragment(low, at, width)
 }
 
-/// Number `at` of a sequence.
+/// Number `at` of a sequence, whose one in the upper vector stands at `place`: as many zeros are before that place as
+/// the number says above its low digits.
+#[inline(always)]
+pub(crate) fn item_at_one(place: usize, low: &[u64], at: usize, width: u8) -> u64
+    requires { (xs : List ℕ) × (n : ℕ) × (upper : List ℕ) × HasOneAt xs n width low.now upper at place }
+    ensures { (xs : List ℕ) (n : ℕ) (upper : List ℕ) → HasOneAt xs n width low.now upper at place
+        → result ≡ slice_index xs at }
+{
+    laws::bit_laws();
+    joined(place - at, low, at, width)
+}
+
+/// Number `at` of a sequence, by a selection of its one.
 #[inline(always)]
 fn item_on<T: TableSource>(source: &mut T, low: &[u64], width: u8, at: usize) -> u64
     requires parts { (xs : List ℕ) × (at < length xs)
@@ -41,7 +53,7 @@ fn item_on<T: TableSource>(source: &mut T, low: &[u64], width: u8, at: usize) ->
 {
     laws::bit_laws();
     match binary_select_on::<1, T>(source, at) {
-        Some(place) => joined(place - at, low, at, width),
+        Some(place) => item_at_one(place, low, at, width),
         None => unreachable!(),
     }
 }

@@ -15,7 +15,7 @@ use crate::error::EfError;
 use crate::iterating::Numbers;
 use crate::laws;
 use crate::making::{make_low, make_upper, width_for};
-use crate::searching::joined;
+use crate::searching::item_at_one;
 use bitm::{ArrayWithRank101111, CloneWords, GetSize, Probe, Select};
 use std::alloc::{AllocError, Global};
 use std::boxed::BoxedSlice;
@@ -116,7 +116,7 @@ impl EliasFano {
         ensures { result ≡ slice_index self.now i }
     {
         laws::bit_laws();
-        joined(self.upper.select(i) - i, self.low.as_slice(), i, self.width)
+        item_at_one(self.upper.select(i), self.low.as_slice(), i, self.width)
     }
 
     /// Number `i`; `None` exactly where there is none.

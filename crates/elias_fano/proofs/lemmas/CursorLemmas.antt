@@ -10,7 +10,7 @@ use Rattle.elias_fano.proofs.lemmas.PartLemmas.{items_of-is}
 use Rattle.elias_fano.proofs.lemmas.UpperLemmas.{one_is, place_is, ones_are, upper_place-le, upper_place-rises, upper_place-inside}
 use Rattle.elias_fano.specs.Laws.{BitLaws}
 use Rattle.elias_fano.specs.Numbers.{items_left, StandFrom, IsCursor}
-use Rattle.elias_fano.specs.Parts.{upper_place, upper_words_of, IsUpper, ArePartsOf, items_of}
+use Rattle.elias_fano.specs.Parts.{upper_place, upper_words_of, IsUpper, ArePartsOf, HasOneAt, items_of}
 
 -- ---- items of a range
 
@@ -114,11 +114,15 @@ module _ (laws : BitLaws) (xs : List ℕ) (n l : ℕ) (low upper : List ℕ) (st
   pub limit-some : 0 < limit
   limit-some = omega (arith, h.left start)
 
-  pub first-picked : (p : ℕ) → IsFirstOneFrom (bits_of upper) first p → Picks (bits_of upper) true start p
-  first-picked p found = let P : ℕ → Type 0 = λ q. Picks (bits_of upper) true start q in subst P (sym (first-is p found)) here
+  pub first-has : (p : ℕ) → IsFirstOneFrom (bits_of upper) first p → HasOneAt xs n l low upper start p
+  first-has p found =
+      let P : ℕ → Type 0 = λ q. Picks (bits_of upper) true start q in
+      record { parts = h.parts; inside = omega (arith, h.within); one = subst P (sym (first-is p found)) here }
 
-  pub last-picked : (p : ℕ) → IsLastOneTo (bits_of upper) (limit - 1) p → Picks (bits_of upper) true (end - 1) p
-  last-picked p found = let P : ℕ → Type 0 = λ q. Picks (bits_of upper) true (end - 1) q in subst P (sym (last-is p found)) there
+  pub last-has : (p : ℕ) → IsLastOneTo (bits_of upper) (limit - 1) p → HasOneAt xs n l low upper (end - 1) p
+  last-has p found =
+      let P : ℕ → Type 0 = λ q. Picks (bits_of upper) true (end - 1) q in
+      record { parts = h.parts; inside = omega (arith, h.within); one = subst P (sym (last-is p found)) there }
 
   -- what is left after a step from the front
   pub IsCursor-first : (p : ℕ) → IsFirstOneFrom (bits_of upper) first p → IsCursor xs n l low upper (start + 1) end (p + 1) limit

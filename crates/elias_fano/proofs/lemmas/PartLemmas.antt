@@ -9,7 +9,7 @@ use Rattle.bitm_bits.specs.Laws.{DigitsBoundPowers}
 use Rattle.bitm_bits.specs.Number.{number_at}
 use Rattle.bitm_bits.specs.WriteLaws.{NoItemsAreZero}
 use Rattle.elias_fano.specs.Laws.{BitLaws}
-use Rattle.elias_fano.specs.Parts.{upper_place, IsLow, ArePartsOf, items_of}
+use Rattle.elias_fano.specs.Parts.{upper_place, IsLow, ArePartsOf, HasOneAt, items_of}
 use Rattle.elias_fano.specs.Sequence.{largest}
 use Rattle.elias_fano.proofs.lemmas.SizeLemmas.{upper_few_at, width-small}
 use Rattle.elias_fano.proofs.lemmas.UpperLemmas.{place_of, place_is}
@@ -63,18 +63,27 @@ module _ (digits : DigitsBoundPowers) (xs : List ℕ) (n l : ℕ) (low upper : L
   pub upper-short : IsShort upper
   upper-short = omega (arith, h.upper_is.words, upper_few_at digits xs l (largest xs) h.width refl, h.sequence.short)
 
--- one item, from the place that its rank picks
-module _ (laws : BitLaws) (xs : List ℕ) (n l : ℕ) (low upper : List ℕ) (i p : ℕ) (h : ArePartsOf xs n l low upper) (inside : i < n)
-    (here : Picks (bits_of upper) true i p) where
+-- the one of an item stands in the parts as they are lent
+pub lent-has : (xs : List ℕ) (n l : ℕ) (low lent upper : List ℕ) (i p : ℕ) → ArePartsOf xs n l low upper → i < n
+    → Picks (bits_of upper) true i p → lent ≡ low → HasOneAt xs n l lent upper i p
+lent-has xs n l low lent upper i p h inside one same =
+    let P : List ℕ → Type 0 = λ w. HasOneAt xs n l w upper i p in
+    subst P (sym same) record { parts = h; inside = inside; one = one }
+
+-- one item, from the place of its one
+module _ (laws : BitLaws) (xs : List ℕ) (n l : ℕ) (low upper : List ℕ) (i p : ℕ) (h : HasOneAt xs n l low upper i p) where
+  inside : i < length xs
+  inside = omega (arith, h.parts.count, h.inside)
+
   at : p ≡ upper_place xs l i
-  at = place_is laws.at_most_one_picked laws.places_are_picked xs l upper i p h.upper_is (omega (arith, h.count)) here
+  at = place_is laws.at_most_one_picked laws.places_are_picked xs l upper i p h.parts.upper_is inside h.one
 
   -- no place comes before as many ones
   pub place-after : i ≤ p
   place-after = omega (arith, at)
 
   pub held-is : (p - i) * 2 ^ l + number_at (bits_of low) (i * l) l ≡ get_or xs i 0
-  held-is = item_is xs l i p low h.low_is (omega (arith, h.count)) at
+  held-is = item_is xs l i p low h.parts.low_is inside at
 
   pub held-fits : (p - i) * 2 ^ l + number_at (bits_of low) (i * l) l < 2 ^ 64
-  held-fits = omega (arith, held-is, h.sequence.small i 0 (omega (arith, h.count)))
+  held-fits = omega (arith, held-is, h.parts.sequence.small i 0 inside)

@@ -1,7 +1,7 @@
 -- The first one from bit first on is that of the number at the start.
 use Rattle.std.proofs.Common.{◌+◌, ◌∷◌, sym, ap, ◌∙◌, arith}
-use Rattle.elias_fano.proofs.lemmas.CursorLemmas.{some-first, first-picked, IsCursor-first, items_left-none, items_left-first}
-use Rattle.elias_fano.proofs.lemmas.PartLemmas.{parts-width, upper-short, place-after, held-is, held-fits}
+use Rattle.elias_fano.proofs.lemmas.CursorLemmas.{some-first, first-has, IsCursor-first, items_left-none, items_left-first}
+use Rattle.elias_fano.proofs.lemmas.PartLemmas.{upper-short}
 use Rattle.elias_fano.specs.Numbers.{items_left}
 use Rattle.elias_fano.specs.Parts.{items_of}
 use Rattle.elias_fano.proofs.iterating.NumbersIterator.next.Goals as goal
@@ -19,20 +19,9 @@ pub find_bit_one_unchecked-place-requires-clause-short : goal.find_bit_one_unche
 find_bit_one_unchecked-place-requires-clause-short c =
     upper-short c.bit_laws.ensures.digits_bound_powers _ _ _ _ _ c.self.invariant.parts
 
-pub overflow_sub-place : goal.overflow_sub-place
-overflow_sub-place c =
-    let h = c.self.invariant in
-    let at = first-picked c.bit_laws.ensures _ _ _ _ _ _ _ _ _ h c.if-self.false _ c.find_bit_one_unchecked-place.ensures in
-    place-after c.bit_laws.ensures _ _ _ _ _ _ _ h.parts (omega (arith, h.within, c.if-self.false)) at
-
-pub joined-number-requires-clause-width : goal.joined-number-requires-clause-width
-joined-number-requires-clause-width c = parts-width c.bit_laws.ensures.digits_bound_powers _ _ _ _ _ c.self.invariant.parts
-
-pub joined-number-requires-clause-fits : goal.joined-number-requires-clause-fits
-joined-number-requires-clause-fits c =
-    let h = c.self.invariant in
-    let at = first-picked c.bit_laws.ensures _ _ _ _ _ _ _ _ _ h c.if-self.false _ c.find_bit_one_unchecked-place.ensures in
-    held-fits c.bit_laws.ensures _ _ _ _ _ _ _ h.parts (omega (arith, h.within, c.if-self.false)) at
+pub item_at_one-number-requires : goal.item_at_one-number-requires
+item_at_one-number-requires c =
+    (_, _, _, first-has c.bit_laws.ensures _ _ _ _ _ _ _ _ _ c.self.invariant c.if-self.false _ c.find_bit_one_unchecked-place.ensures)
 
 pub overflow_add-self-2 : goal.overflow_add-self-2
 overflow_add-self-2 c =
@@ -48,8 +37,8 @@ returns-clause-steps c =
     let it = c.self.inside in
     let xs = items_of it.len it.width it.low.now it.upper.now in
     let h = c.self.invariant in
-    let at = first-picked c.bit_laws.ensures _ _ _ _ _ _ _ _ _ h c.if-self.false _ c.find_bit_one_unchecked-place.ensures in
-    let number = c.joined-number.ensures ∙ held-is c.bit_laws.ensures _ _ _ _ _ _ _ h.parts (omega (arith, h.within, c.if-self.false)) at in
+    let has = first-has c.bit_laws.ensures _ _ _ _ _ _ _ _ _ h c.if-self.false _ c.find_bit_one_unchecked-place.ensures in
+    let number = c.item_at_one-number.ensures _ _ _ has in
     sym c.self.view_is
     ∙ items_left-first xs it.start it.end c.if-self.false (omega (arith, h.within, h.parts.count))
     ∙ ap (λ x. x ∷ items_left xs (it.start + 1) it.end) (sym number)
