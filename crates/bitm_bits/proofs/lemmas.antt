@@ -1,10 +1,12 @@
 pub mod BesideLemmas
 pub mod BitsLemmas
-pub mod ByteLemmas
+pub mod ByteNumberLemmas
 pub mod ByteWindowLemmas
 pub mod ComingLemmas
 pub mod CountLemmas
 pub mod DigitLemmas
+pub mod FindBackLemmas
+pub mod FindLemmas
 pub mod FlipLemmas
 pub mod InitLemmas
 pub mod NumberLemmas
@@ -12,8 +14,6 @@ pub mod PickLemmas
 pub mod PlaceLemmas
 pub mod ReadLemmas
 pub mod RunLemmas
-pub mod SearchBackLemmas
-pub mod SearchLemmas
 pub mod SwapLemmas
 pub mod WordLemmas
 pub mod WriteLemmas

@@ -1,3 +1,3 @@
+pub mod LineLemmas
 pub mod NumeralLemmas
-pub mod PartLemmas
 pub mod SessionLemmas

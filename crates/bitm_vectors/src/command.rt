@@ -108,7 +108,7 @@ fn kind_named(name: &[u8]) -> Option<Kind>
 }
 
 /// The words that the parts write, where each part is one and there are at most `MAX_WORDS`.
-#[tactic(auto, using(crate::proofs::lemmas::PartLemmas::length_filter_map))]
+#[tactic(auto, using(crate::proofs::lemmas::LineLemmas::length_filter_map))]
 fn words(alloc: Global, rest: Option<&[u8]>) -> Result<Option<Vec<u64>>, AllocError>
     ensures read { IfOk result (λ words. option_map (λ v. v.items) words
         ≡ words_of (parts_left rest.entry)) }

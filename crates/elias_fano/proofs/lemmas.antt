@@ -1,8 +1,8 @@
 pub mod BucketLemmas
 pub mod CursorLemmas
+pub mod ItemLemmas
 pub mod LowLemmas
-pub mod PartLemmas
-pub mod ReadLemmas
+pub mod SelectionReadLemmas
 pub mod SequenceLemmas
 pub mod SizeLemmas
 pub mod SplitLemmas

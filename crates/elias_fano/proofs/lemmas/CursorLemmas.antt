@@ -6,7 +6,7 @@ use Rattle.std.proofs.lemmas.List.{get_or-drop}
 use Rattle.std.specs.List.Sorted.{IsNonDecreasing}
 use Rattle.bitm_bits.specs.Bits.{bits_of, item}
 use Rattle.bitm_bits.specs.Count.{ones_before, is_same, Picks, IsFirstOneFrom, IsLastOneTo}
-use Rattle.elias_fano.proofs.lemmas.PartLemmas.{items_of-is}
+use Rattle.elias_fano.proofs.lemmas.ItemLemmas.{items_of-is}
 use Rattle.elias_fano.proofs.lemmas.UpperLemmas.{one_is, place_is, ones_are, upper_place-le, upper_place-rises, upper_place-inside}
 use Rattle.elias_fano.specs.Laws.{BitLaws}
 use Rattle.elias_fano.specs.Numbers.{items_left, StandFrom, IsCursor}

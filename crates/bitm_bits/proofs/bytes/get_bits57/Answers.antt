@@ -1,6 +1,6 @@
 -- The word without its lowest digits is the window.
 use Rattle.std.proofs.Common.{◌/◌, ◌%◌, ◌^◌, ap, ◌∙◌, arith}
-use Rattle.bitm_bits.proofs.lemmas.ByteLemmas.{length-byte_bits_of}
+use Rattle.bitm_bits.proofs.lemmas.ByteNumberLemmas.{length-byte_bits_of}
 use Rattle.bitm_bits.proofs.lemmas.ByteWindowLemmas.{window_read}
 use Rattle.bitm_bits.specs.Bytes.{byte_bits_of}
 use Rattle.bitm_bits.proofs.bytes.get_bits57.Goals as goal

@@ -1,6 +1,6 @@
 -- The word that is written is the window after the change.
 use Rattle.std.proofs.Common.{w32, refl, ◌∙◌, arith}
-use Rattle.bitm_bits.proofs.lemmas.ByteLemmas.{length-byte_bits_of}
+use Rattle.bitm_bits.proofs.lemmas.ByteNumberLemmas.{length-byte_bits_of}
 use Rattle.bitm_bits.proofs.lemmas.ByteWindowLemmas.{window_init}
 use Rattle.bitm_bits.specs.Bytes.{byte_bits_of}
 use Rattle.bitm_bits.proofs.bytes.init_bits25.Goals as goal

@@ -1,6 +1,6 @@
 -- The sum of the bytes is the number that their bits make.
 use Rattle.std.proofs.Common.{◌∙◌, add-zero, rules}
-use Rattle.bitm_bits.proofs.lemmas.ByteLemmas.{bytes_as_number}
+use Rattle.bitm_bits.proofs.lemmas.ByteNumberLemmas.{bytes_as_number}
 use Rattle.bitm_bits.proofs.bytes.load8.Goals as goal
 
 pub returns : goal.returns

@@ -1,6 +1,6 @@
 -- Each byte of the number takes the place of the byte that stood there.
 use Rattle.std.proofs.Common.{◌≡◌, ◌+◌, ◌-◌, ◌∙◌, arith}
-use Rattle.bitm_bits.proofs.lemmas.ByteLemmas.{bytes_replaced}
+use Rattle.bitm_bits.proofs.lemmas.ByteNumberLemmas.{bytes_replaced}
 use Rattle.bitm_bits.proofs.bytes.store4.Goals as goal
 
 pub returns : goal.returns

@@ -1,6 +1,6 @@
 use Rattle.std.proofs.Common.{nat_eq, arith}
 use Rattle.std.proofs.lemmas.Grind.{common_steps}
-use Rattle.bitm_vectors.proofs.lemmas.PartLemmas.{only_of_many}
+use Rattle.bitm_vectors.proofs.lemmas.LineLemmas.{only_of_many}
 use Rattle.bitm_vectors.proofs.command.only.Goals as goal
 
 pub returns-in_default-Some : goal.returns-in_default-Some

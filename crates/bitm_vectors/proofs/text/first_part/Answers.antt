@@ -1,7 +1,7 @@
 use Rattle.std.proofs.Common.{nat_eq, sym, ◌∙◌, rules, tests}
 use Rattle.std.proofs.lemmas.Iterator.{YieldsList-from_slice}
 use Rattle.std.proofs.lemmas.Iterator.Search.{position_from_yields_List}
-use Rattle.bitm_vectors.proofs.lemmas.PartLemmas.{first_of_many, first_alone}
+use Rattle.bitm_vectors.proofs.lemmas.LineLemmas.{first_of_many, first_alone}
 use Rattle.bitm_vectors.proofs.text.first_part.Goals as goal
 
 pub returns-in-Some-clause-parts : goal.returns-in-Some-clause-parts

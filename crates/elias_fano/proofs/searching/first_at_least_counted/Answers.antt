@@ -5,8 +5,8 @@ use Rattle.bitm.specs.Tables.{Lists}
 use Rattle.bitm_bits.specs.Bits.{bits_of, digit_count}
 use Rattle.bitm_bits.specs.Number.{number_at}
 use Rattle.elias_fano.proofs.lemmas.BucketLemmas.{IsBucket, bucket-reaches, bucket-none, bucket-order, fragments-rise, fragments-inside, whole-reaches, whole-none}
-use Rattle.elias_fano.proofs.lemmas.PartLemmas.{parts-width, upper-short}
-use Rattle.elias_fano.proofs.lemmas.ReadLemmas.{one-selection, two-selections, digits-allow-one, digits-allow-two}
+use Rattle.elias_fano.proofs.lemmas.ItemLemmas.{parts-width, upper-short}
+use Rattle.elias_fano.proofs.lemmas.SelectionReadLemmas.{one-selection, two-selections, digits-allow-one, digits-allow-two}
 use Rattle.elias_fano.specs.Buckets.{CountsTo, Splits}
 use Rattle.elias_fano.specs.Parts.{IsUpper, ArePartsOf}
 use Rattle.elias_fano.proofs.searching.first_at_least_counted.Goals as goal

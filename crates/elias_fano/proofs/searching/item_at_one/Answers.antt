@@ -1,6 +1,6 @@
 -- As many zeros are before the place as the item says above its low digits, so these two are the item.
 use Rattle.std.proofs.Common.{◌∙◌}
-use Rattle.elias_fano.proofs.lemmas.PartLemmas.{place-after, held-is, held-fits, parts-width}
+use Rattle.elias_fano.proofs.lemmas.ItemLemmas.{place-after, held-is, held-fits, parts-width}
 use Rattle.elias_fano.proofs.searching.item_at_one.Goals as goal
 
 pub overflow_sub-place : goal.overflow_sub-place

@@ -1,6 +1,6 @@
 -- The place that is selected is that of the item's one.
 use Rattle.std.proofs.Common.{length, arith}
-use Rattle.elias_fano.proofs.lemmas.PartLemmas.{upper-short}
+use Rattle.elias_fano.proofs.lemmas.ItemLemmas.{upper-short}
 use Rattle.elias_fano.proofs.lemmas.UpperLemmas.{ones_are}
 use Rattle.elias_fano.proofs.searching.item_on.Goals as goal
 

@@ -1,5 +1,5 @@
 -- without low digits the number is what stands above them
-use Rattle.elias_fano.proofs.lemmas.PartLemmas.{joined-none}
+use Rattle.elias_fano.proofs.lemmas.ItemLemmas.{joined-none}
 use Rattle.elias_fano.proofs.searching.joined.Goals as goal
 
 pub returns-then-width-eq0 : goal.returns-then-width-eq0

@@ -3,7 +3,7 @@ use Rattle.std.proofs.Common.{rules, ◌≡◌, ℕ, ◌+◌, ◌*◌, ◌/◌, 
 use Rattle.std.specs.Int.{bit_not, trailing_zeros}
 use Rattle.bitm_bits.specs.Bits.{bits_of}
 use Rattle.bitm_bits.specs.Count.{IsFirstOneFrom}
-use Rattle.bitm_bits.proofs.lemmas.SearchLemmas.{IsRestFrom, IsRestFrom-start, IsRestFrom-next, none_left, none_from, first_left}
+use Rattle.bitm_bits.proofs.lemmas.FindLemmas.{IsRestFrom, IsRestFrom-start, IsRestFrom-next, none_left, none_from, first_left}
 use Rattle.bitm_bits.proofs.bitvec.finding.find_bit_one.Goals as goal
 
 pub returns-in_err-rest : goal.returns-in_err-rest

@@ -3,7 +3,7 @@ use Rattle.std.proofs.Common.{rules, ◌≡◌, ℕ, ◌+◌, ◌*◌, ◌/◌, 
 use Rattle.std.specs.Int.{trailing_zeros}
 use Rattle.bitm_bits.specs.Bits.{bits_of}
 use Rattle.bitm_bits.specs.Count.{IsFirstOneFrom}
-use Rattle.bitm_bits.proofs.lemmas.SearchLemmas.{inside_from_one, IsRestFrom, IsRestFrom-start, IsRestFrom-next, some_left, first_left}
+use Rattle.bitm_bits.proofs.lemmas.FindLemmas.{inside_from_one, IsRestFrom, IsRestFrom-start, IsRestFrom-next, some_left, first_left}
 use Rattle.bitm_bits.proofs.bitvec.finding.find_bit_one_unchecked.Goals as goal
 
 pub bounds-words-word_index : goal.bounds-words-word_index

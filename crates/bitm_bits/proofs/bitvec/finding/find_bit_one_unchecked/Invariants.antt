@@ -1,5 +1,5 @@
 use Rattle.std.proofs.Common.{◌-◌, ◌*◌, ◌+◌, ◌<◌, length}
-use Rattle.bitm_bits.proofs.lemmas.SearchLemmas.{IsRestFrom}
+use Rattle.bitm_bits.proofs.lemmas.FindLemmas.{IsRestFrom}
 use Rattle.bitm_bits.proofs.bitvec.finding.find_bit_one_unchecked.Given as goal
 
 abbrev pub invariant-loop-rest : goal.invariant-loop-rest

@@ -3,7 +3,7 @@ use Rattle.std.proofs.Common.{rules, ◌≡◌, ℕ, ◌+◌, ◌-◌, ◌*◌, 
 use Rattle.std.specs.Int.{leading_zeros}
 use Rattle.bitm_bits.specs.Bits.{bits_of, item}
 use Rattle.bitm_bits.specs.Count.{IsLastOneTo}
-use Rattle.bitm_bits.proofs.lemmas.SearchBackLemmas.{IsRestTo, IsRestTo-start, IsRestTo-next, some_before, last_left}
+use Rattle.bitm_bits.proofs.lemmas.FindBackLemmas.{IsRestTo, IsRestTo-start, IsRestTo-next, some_before, last_left}
 use Rattle.bitm_bits.proofs.bitvec.finding.rfind_bit_one_unchecked.Goals as goal
 
 pub loop-rest-init : goal.loop-rest-init

@@ -1,5 +1,5 @@
 use Rattle.std.proofs.Common.{◌*◌, ◌≤◌}
-use Rattle.bitm_bits.proofs.lemmas.SearchBackLemmas.{IsRestTo}
+use Rattle.bitm_bits.proofs.lemmas.FindBackLemmas.{IsRestTo}
 use Rattle.bitm_bits.proofs.bitvec.finding.rfind_bit_one_unchecked.Given as goal
 
 abbrev pub invariant-loop-rest : goal.invariant-loop-rest

@@ -4,7 +4,7 @@ use Rattle.std.specs.Int.{trailing_zeros}
 use Rattle.bitm_bits.specs.Bits.{bits_of, item}
 use Rattle.bitm_bits.specs.Count.{IsFirstOneFrom}
 use Rattle.bitm_bits.proofs.lemmas.BitsLemmas.{length-bits_of}
-use Rattle.bitm_bits.proofs.lemmas.SearchLemmas.{IsRestFrom, IsRestFrom-word, passed_word, first_left}
+use Rattle.bitm_bits.proofs.lemmas.FindLemmas.{IsRestFrom, IsRestFrom-word, passed_word, first_left}
 use Rattle.bitm_bits.proofs.bitvec.finding.trailing_zero_bits.Goals as goal
 
 first_of_word : (words : List ℕ) (q : ℕ) → q < length words → get_or words q 0 < 2 ^ 64 → 0 < get_or words q 0

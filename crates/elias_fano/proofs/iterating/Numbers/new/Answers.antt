@@ -1,7 +1,7 @@
 -- What is left are the numbers from the place on.
 use Rattle.std.proofs.Common.{◌∙◌, ap, arith}
 use Rattle.elias_fano.proofs.lemmas.CursorLemmas.{IsCursor-whole, items_left-all}
-use Rattle.elias_fano.proofs.lemmas.PartLemmas.{items_of-is, upper-short}
+use Rattle.elias_fano.proofs.lemmas.ItemLemmas.{items_of-is, upper-short}
 use Rattle.elias_fano.specs.Numbers.{items_left}
 use Rattle.elias_fano.proofs.iterating.Numbers.new.Goals as goal
 

@@ -1,7 +1,7 @@
 -- The last one before bit limit is that of the last number left.
 use Rattle.std.proofs.Common.{◌-◌, [], ◌∷◌, ◌++◌, sym, ap, ◌∙◌, arith}
 use Rattle.elias_fano.proofs.lemmas.CursorLemmas.{some-last, limit-some, last-has, IsCursor-last, items_left-none, items_left-last}
-use Rattle.elias_fano.proofs.lemmas.PartLemmas.{upper-short}
+use Rattle.elias_fano.proofs.lemmas.ItemLemmas.{upper-short}
 use Rattle.elias_fano.specs.Numbers.{items_left}
 use Rattle.elias_fano.specs.Parts.{items_of}
 use Rattle.elias_fano.proofs.iterating.NumbersDoubleEndedIterator.next_back.Goals as goal

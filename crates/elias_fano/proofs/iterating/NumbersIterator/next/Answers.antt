@@ -1,7 +1,7 @@
 -- The first one from bit first on is that of the number at the start.
 use Rattle.std.proofs.Common.{◌+◌, ◌∷◌, sym, ap, ◌∙◌, arith}
 use Rattle.elias_fano.proofs.lemmas.CursorLemmas.{some-first, first-has, IsCursor-first, items_left-none, items_left-first}
-use Rattle.elias_fano.proofs.lemmas.PartLemmas.{upper-short}
+use Rattle.elias_fano.proofs.lemmas.ItemLemmas.{upper-short}
 use Rattle.elias_fano.specs.Numbers.{items_left}
 use Rattle.elias_fano.specs.Parts.{items_of}
 use Rattle.elias_fano.proofs.iterating.NumbersIterator.next.Goals as goal

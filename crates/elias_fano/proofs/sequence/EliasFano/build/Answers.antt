@@ -1,7 +1,7 @@
 -- Sorted numbers are a sequence, and what was made are its parts.
 use Rattle.std.proofs.Common.{ℕ, ◌<◌, ◌^◌, List, length, get_or, refl, ap, sym, subst, arith}
 use Rattle.std.specs.Box.{boxed_slice_items}
-use Rattle.elias_fano.proofs.lemmas.PartLemmas.{items_of-is, parts_of_items, upper-short}
+use Rattle.elias_fano.proofs.lemmas.ItemLemmas.{items_of-is, parts_of_items, upper-short}
 use Rattle.elias_fano.proofs.lemmas.SequenceLemmas.{is_sequence}
 use Rattle.elias_fano.proofs.lemmas.SizeLemmas.{width-small, words_few}
 use Rattle.elias_fano.specs.Parts.{ArePartsOf}

@@ -1,6 +1,6 @@
 -- The value is what its parts hold, and the place that is selected is that of the number's one.
 use Rattle.std.proofs.Common.{ℕ, ◌<◌, List, length, get_or, ap, ◌∙◌, arith}
-use Rattle.elias_fano.proofs.lemmas.PartLemmas.{lent-has}
+use Rattle.elias_fano.proofs.lemmas.ItemLemmas.{lent-has}
 use Rattle.elias_fano.proofs.sequence.EliasFano.get.Goals as goal
 
 pub item_at_one-requires : goal.item_at_one-requires
