@@ -14,6 +14,7 @@ pub mod PickLemmas
 pub mod PlaceLemmas
 pub mod ReadLemmas
 pub mod RunLemmas
+pub mod SetLemmas
 pub mod SwapLemmas
 pub mod WordLemmas
 pub mod WriteLemmas

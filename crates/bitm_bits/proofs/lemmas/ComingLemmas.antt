@@ -18,6 +18,11 @@ bits_coming_none words start end l =
     let none : end - start ≡ 0 = omega arith in
     ap (λ n. take n (drop start (bits_of words))) none
 
+-- none come of a range that is at its end, and none of what a step leaves of it
+pub ended_bits_coming : (words : List ℕ) (start end from to : ℕ) → end ≤ start → to ≤ from
+    → (bits_coming words start end ≡ []) × (bits_coming words from to ≡ [])
+ended_bits_coming words start end from to was is = (bits_coming_none words start end was, bits_coming_none words from to is)
+
 pub bits_coming_all : (words : List ℕ) → bits_coming words 0 (64 * length words) ≡ bits_of words
 unfolding bits_coming
 bits_coming_all words = take_all (64 * length words - 0) (bits_of words) (omega (arith, length-bits_of words))

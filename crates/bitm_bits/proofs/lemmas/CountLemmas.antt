@@ -182,17 +182,11 @@ pub count_before-none : (b : List Bool) (v : Bool) → count_before b v 0 ≡ 0
 count_before-none b true = ones_before_none b
 count_before-none b false = zeros_before_none b
 
--- no more ones stand before an earlier place
-pub ones_before-le : (b : List Bool) (i j : ℕ) → i ≤ j → j ≤ length b → ones_before b i ≤ ones_before b j
-ones_before-le b i j l within =
-    let e : i + (j - i) ≡ j = omega arith in
-    omega (arith, count_before_grows true b i (j - i) (omega arith), ap (ones_before b) e)
-
 -- no more ones stand before any place than there are
 pub ones_before-at_most_all : (b : List Bool) (i : ℕ) → ones_before b i ≤ ones_before b (length b)
 ones_before-at_most_all b i =
     ⊎_elim
-    (λ inside. ones_before-le b i (length b) (omega arith) (omega arith))
+    (λ inside. count_before-le b true i (length b) (omega arith))
     (λ past. omega (arith, ones_before_past b i past))
     (cases_lt i (length b))
 

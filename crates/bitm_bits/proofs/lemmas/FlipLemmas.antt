@@ -1,11 +1,12 @@
 -- What the code negates in one or two words is the list of bits with items negated.
-use Rattle.std.proofs.Common.{◌≡◌, ℕ, zero, suc, ◌+◌, ◌-◌, ◌*◌, ◌/◌, ◌%◌, ◌^◌, ◌<◌, ◌≤◌, Bool, true, false, cond, not, List, [], ◌∷◌, length, get_or, take, drop, eqb, sym, refl, ap, ◌∙◌, ⊎_elim, arith, length-append, length-drop, length-take, ◌≢◌, set, bit_xor, subst, ◌⊎◌, inl, inr, length-set, get_or-set_same, get_or-set_other}
-use Rattle.std.proofs.lemmas.Bool.{cases_lt, cases_eq}
+use Rattle.std.proofs.Common.{◌≡◌, ℕ, zero, suc, ◌+◌, ◌-◌, ◌*◌, ◌/◌, ◌%◌, ◌^◌, ◌<◌, ◌≤◌, Bool, true, false, cond, not, List, [], ◌∷◌, length, get_or, take, drop, eqb, sym, refl, ap, ◌∙◌, ⊎_elim, arith, length-append, length-drop, length-take, set, bit_xor, subst, ◌⊎◌, inl, inr, length-set}
+use Rattle.std.proofs.lemmas.Bool.{cases_lt}
 use Rattle.std.proofs.lemmas.List.{get_or-drop, get_or-take, get_or_past, get_or_append_left, get_or-append_right}
 use Rattle.std.proofs.lemmas.Nat.Bits.{bit_at-lt, bit_at_above, bit_at_xor}
 use Rattle.std.specs.Int.{bit_at}
 use Rattle.bitm_bits.proofs.lemmas.BitsLemmas.{length-low_digits, item-low_digits, length-bits_of, item-bits_of_at, same_bits}
 use Rattle.bitm_bits.proofs.lemmas.ReadLemmas.{reach_of_inside, reach_of_across}
+use Rattle.bitm_bits.proofs.lemmas.SetLemmas.{written_at, written_at_two, length-set_two, between_left}
 use Rattle.bitm_bits.proofs.lemmas.WordLemmas.{bit_at-shr, bit_at-shl_below, bit_at-shl}
 use Rattle.bitm_bits.specs.Bits.{digit, low_digits, bits_of, item}
 use Rattle.bitm_bits.specs.Number.{IsInRange}
@@ -144,27 +145,12 @@ second_flipped old s v q shift start fits = record {
       omega (arith, bit_at_xor old (v / 2 ^ shift) j, x, bit_at-lt old j);
 }
 
-flip_at_place : (words : List ℕ) (s m v p y q : ℕ) → q < length words → IsFlippedWord (get_or words p 0) y s m v p
-    → (q ≢ p → IsFlippedWord (get_or words q 0) (get_or words q 0) s m v q)
-    → IsFlippedWord (get_or words q 0) (get_or (set words p y) q 0) s m v q
-flip_at_place words s m v p y q within at other =
-    ⊎_elim
-    (λ same.
-    let P : ℕ → Type 0 = λ k. IsFlippedWord (get_or words k 0) (get_or (set words p y) k 0) s m v k in
-    subst P (sym same)
-    (let Q : ℕ → Type 0 = λ z. IsFlippedWord (get_or words p 0) z s m v p in
-    subst Q (sym (get_or-set_same words p y 0 (omega arith))) at))
-    (λ apart.
-    let Q : ℕ → Type 0 = λ z. IsFlippedWord (get_or words q 0) z s m v q in
-    subst Q (sym (get_or-set_other words p q y 0 apart)) (other apart))
-    (cases_eq q p)
-
 -- what `xor_bits` leaves
 pub xor_bits_within : (words : List ℕ) (s n v : ℕ) → IsInRange words s n → s % 64 + n ≤ 64
     → bits_of (set words (s / 64) (bit_xor (get_or words (s / 64) 0) (v * 2 ^ (s % 64) % 2 ^ 64))) ≡ with_flips (bits_of words) s n v
 xor_bits_within words s n v h inside =
     bits_of_is_with_flips words (set words p y) s n v (64 - r) (length-set words p y) h.0 (reach_of_inside s n inside)
-    (λ q within. flip_at_place words s (64 - r) v p y q within
+    (λ q within. written_at (λ k old new. IsFlippedWord old new s (64 - r) v k) words p y q within
     (first_flipped (get_or words p 0) s (64 - r) v p r (omega arith) (omega arith) (omega arith))
     (λ apart. unflipped (get_or words q 0) s (64 - r) v q
     (⊎_elim (λ before. inl (omega arith)) (λ after. inr (omega arith)) (cases_lt q p))))
@@ -182,25 +168,15 @@ pub xor_bits_across : (words between : List ℕ) (s n v : ℕ) → IsInRange wor
     → between ≡ set words (s / 64 + 1) (bit_xor (get_or words (s / 64 + 1) 0) (v / 2 ^ (64 - s % 64)))
     → bits_of (set between (s / 64) (bit_xor (get_or between (s / 64) 0) (v * 2 ^ (s % 64) % 2 ^ 64))) ≡ with_flips (bits_of words) s n v
 xor_bits_across words between s n v h across small fits step =
-    ap (λ b. bits_of (set b p (bit_xor (get_or b p 0) z))) step
-    ∙ ap (λ w. bits_of (set (set words (p + 1) x) p (bit_xor w z))) (get_or-set_other words (p + 1) p x 0 (λ e. omega arith))
-    ∙ bits_of_is_with_flips words (set (set words (p + 1) x) p y) s n v 64
-    (length-set (set words (p + 1) x) p y ∙ length-set words (p + 1) x) h.0 (reach_of_across s n across)
-    (λ q within. ⊎_elim
-    (λ same.
-    let P : ℕ → Type 0 = λ k. IsFlippedWord (get_or words k 0) (get_or (set (set words (p + 1) x) p y) k 0) s 64 v k in
-    subst P (sym same)
-    (let Q : ℕ → Type 0 = λ w. IsFlippedWord (get_or words p 0) w s 64 v p in
-    subst Q (sym (get_or-set_same (set words (p + 1) x) p y 0 (omega (arith, length-set words (p + 1) x))))
-    (first_flipped (get_or words p 0) s 64 v p (s % 64) (omega arith) (omega arith) (omega arith))))
-    (λ apart.
-    let Q : ℕ → Type 0 = λ w. IsFlippedWord (get_or words q 0) w s 64 v q in
-    subst Q (sym (get_or-set_other (set words (p + 1) x) p q y 0 apart))
-    (flip_at_place words s 64 v (p + 1) x q within
+    ap (λ b. bits_of (set b p (bit_xor (get_or between p 0) z))) step
+    ∙ ap (λ w. bits_of (set (set words (p + 1) x) p (bit_xor w z))) (between_left words between p x step)
+    ∙ bits_of_is_with_flips words (set (set words (p + 1) x) p y) s n v 64 (length-set_two words p x y) h.0
+    (reach_of_across s n across)
+    (λ q within. written_at_two (λ k old new. IsFlippedWord old new s 64 v k) words p x y q within
     (second_flipped (get_or words (p + 1) 0) s v (p + 1) (64 - s % 64) (omega arith) fits)
-    (λ also. unflipped (get_or words q 0) s 64 v q
-    (⊎_elim (λ before. inl (omega arith)) (λ after. inr (omega arith)) (cases_lt q p)))))
-    (cases_eq q p))
+    (first_flipped (get_or words p 0) s 64 v p (s % 64) (omega arith) (omega arith) (omega arith))
+    (λ apart also. unflipped (get_or words q 0) s 64 v q
+    (⊎_elim (λ before. inl (omega arith)) (λ after. inr (omega arith)) (cases_lt q p))))
   where
     p : ℕ
     p = s / 64

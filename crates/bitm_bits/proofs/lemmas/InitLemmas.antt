@@ -4,8 +4,9 @@ use Rattle.std.proofs.lemmas.Nat.Bits.{bit_at-zero, bit_at_above, bit_at_or}
 use Rattle.std.specs.Int.{bit_at}
 use Rattle.bitm_bits.proofs.lemmas.NumberLemmas.{bit_at-number_at-bits_of, number_at-one}
 use Rattle.bitm_bits.proofs.lemmas.BitsLemmas.{length-bits_of}
+use Rattle.bitm_bits.proofs.lemmas.SetLemmas.{between_left}
 use Rattle.bitm_bits.proofs.lemmas.WordLemmas.{truth, bit_at-shr, bit_at-shl_below, bit_at-shl}
-use Rattle.bitm_bits.proofs.lemmas.WriteLemmas.{IsPutWord, put_in_one_word, put_in_two_words, between_left}
+use Rattle.bitm_bits.proofs.lemmas.WriteLemmas.{IsPutWord, put_in_one_word, put_in_two_words}
 use Rattle.bitm_bits.specs.Bits.{bits_of, item}
 use Rattle.bitm_bits.specs.Number.{number_at, with_number, IsInRange}
 use mir.Val.{bool_byte}

@@ -1,11 +1,12 @@
 -- What the code writes to one or two words is the list of bits with a number put in.
-use Rattle.std.proofs.Common.{mod-eq_of_lt, ◌≡◌, ℕ, ◌+◌, ◌-◌, ◌*◌, ◌/◌, ◌%◌, ◌^◌, ◌<◌, ◌≤◌, List, length, get_or, eqb, sym, refl, ap, ◌∙◌, ⊎_elim, arith, w64, ◌≢◌, set, bit_and, bit_or, subst, pow_mono, ◌⊎◌, inl, inr, length-set, get_or-set_same, get_or-set_other}
-use Rattle.std.proofs.lemmas.Bool.{cases_lt, cases_eq}
+use Rattle.std.proofs.Common.{mod-eq_of_lt, ◌≡◌, ℕ, ◌+◌, ◌-◌, ◌*◌, ◌/◌, ◌%◌, ◌^◌, ◌<◌, ◌≤◌, List, length, get_or, eqb, sym, refl, ap, ◌∙◌, ⊎_elim, arith, w64, ◌≢◌, set, bit_and, bit_or, subst, pow_mono, ◌⊎◌, inl, inr, length-set}
+use Rattle.std.proofs.lemmas.Bool.{cases_lt}
 use Rattle.std.proofs.lemmas.Nat.{pow_pos, shr_le}
 use Rattle.std.proofs.lemmas.Nat.Bits.{bit_at_lowest, bit_at_set_same, bit_at_set_other, bit_at_clear_same, bit_at_clear_other, bit_at-lt, bit_at_above, bit_at_ones, bit_at_ones_above}
 use Rattle.std.specs.Int.{bit_at, bit_not}
 use Rattle.bitm_bits.proofs.lemmas.BitsLemmas.{length-bits_of, item-bits_of_at, same_bits}
 use Rattle.bitm_bits.proofs.lemmas.NumberLemmas.{length-with_number, item-with_number_below, item-with_number_inside, item-with_number_above}
+use Rattle.bitm_bits.proofs.lemmas.SetLemmas.{written_at, written_at_two, length-set_two, between_left}
 use Rattle.bitm_bits.proofs.lemmas.WordLemmas.{bit_at-shr, bit_at-shl_below, bit_at-shl, bit_at-replaced}
 use Rattle.bitm_bits.specs.Bits.{digit, bits_of, item}
 use Rattle.bitm_bits.specs.Number.{with_number, IsInRange}
@@ -103,29 +104,13 @@ second_word old s n v q shift start fits small = record {
     mask_fits : (2 ^ n - 1) / 2 ^ shift < 2 ^ 64
     mask_fits = omega (arith, shr_le (2 ^ n - 1) shift, pow_mono small, pow_pos n)
 
--- the word at q after a write there, and elsewhere
-put_at_place : (words : List ℕ) (s n v p y q : ℕ) → q < length words → IsPutWord (get_or words p 0) y s n v p
-    → (q ≢ p → IsPutWord (get_or words q 0) (get_or words q 0) s n v q)
-    → IsPutWord (get_or words q 0) (get_or (set words p y) q 0) s n v q
-put_at_place words s n v p y q within at other =
-    ⊎_elim
-    (λ same.
-    let P : ℕ → Type 0 = λ k. IsPutWord (get_or words k 0) (get_or (set words p y) k 0) s n v k in
-    subst P (sym same)
-    (let Q : ℕ → Type 0 = λ z. IsPutWord (get_or words p 0) z s n v p in
-    subst Q (sym (get_or-set_same words p y 0 (omega arith))) at))
-    (λ apart.
-    let Q : ℕ → Type 0 = λ z. IsPutWord (get_or words q 0) z s n v q in
-    subst Q (sym (get_or-set_other words p q y 0 apart)) (other apart))
-    (cases_eq q p)
-
 -- a word of which just one digit changed
 pub one_bit_set : (words : List ℕ) (i y d : ℕ) → i < 64 * length words → d < 2 → bit_at y (i % 64) ≡ d
     → ((j : ℕ) → j < 64 → j ≢ i % 64 → bit_at y j ≡ bit_at (get_or words (i / 64) 0) j)
     → bits_of (set words (i / 64) y) ≡ with_number (bits_of words) i 1 d
 one_bit_set words i y d inside small there elsewhere =
     bits_of_is_with_number words (set words (i / 64) y) i 1 d (length-set words (i / 64) y) (omega arith)
-    (λ q within. put_at_place words i 1 d (i / 64) y q within
+    (λ q within. written_at (λ k old new. IsPutWord old new i 1 d k) words (i / 64) y q within
     (record {
       inside = λ k j l e low.
           let at : j ≡ i % 64 = omega arith in
@@ -158,7 +143,8 @@ pub put_in_one_word : (words : List ℕ) (s n v y : ℕ) → IsInRange words s n
     → bits_of (set words (s / 64) y) ≡ with_number (bits_of words) s n v
 put_in_one_word words s n v y h inside at =
     bits_of_is_with_number words (set words (s / 64) y) s n v (length-set words (s / 64) y) (omega arith)
-    (λ q within. put_at_place words s n v (s / 64) y q within at (λ apart. untouched (get_or words q 0) s n v q (away q apart)))
+    (λ q within. written_at (λ k old new. IsPutWord old new s n v k) words (s / 64) y q within at
+    (λ apart. untouched (get_or words q 0) s n v q (away q apart)))
   where
     away : (q : ℕ) → q ≢ s / 64 → (64 * q + 64 ≤ s) ⊎ (s + n ≤ 64 * q)
     away q apart = ⊎_elim (λ before. inl (omega arith)) (λ after. inr (omega arith)) (cases_lt q (s / 64))
@@ -169,30 +155,15 @@ pub put_in_two_words : (words : List ℕ) (s n v x y : ℕ) → IsInRange words 
     → IsPutWord (get_or words (s / 64) 0) y s n v (s / 64)
     → bits_of (set (set words (s / 64 + 1) x) (s / 64) y) ≡ with_number (bits_of words) s n v
 put_in_two_words words s n v x y h across small second first =
-    bits_of_is_with_number words (set (set words (p + 1) x) p y) s n v
-    (length-set (set words (p + 1) x) p y ∙ length-set words (p + 1) x) (omega arith)
-    (λ q within. ⊎_elim
-    (λ same.
-    let P : ℕ → Type 0 = λ k. IsPutWord (get_or words k 0) (get_or (set (set words (p + 1) x) p y) k 0) s n v k in
-    subst P (sym same)
-    (let Q : ℕ → Type 0 = λ z. IsPutWord (get_or words p 0) z s n v p in
-    subst Q (sym (get_or-set_same (set words (p + 1) x) p y 0 (omega (arith, length-set words (p + 1) x)))) first))
-    (λ apart.
-    let Q : ℕ → Type 0 = λ z. IsPutWord (get_or words q 0) z s n v q in
-    subst Q (sym (get_or-set_other (set words (p + 1) x) p q y 0 apart))
-    (put_at_place words s n v (p + 1) x q within second (λ also. untouched (get_or words q 0) s n v q (away q apart also))))
-    (cases_eq q p))
+    bits_of_is_with_number words (set (set words (p + 1) x) p y) s n v (length-set_two words p x y) (omega arith)
+    (λ q within. written_at_two (λ k old new. IsPutWord old new s n v k) words p x y q within second first
+    (λ apart also. untouched (get_or words q 0) s n v q (away q apart also)))
   where
     p : ℕ
     p = s / 64
 
     away : (q : ℕ) → q ≢ p → q ≢ p + 1 → (64 * q + 64 ≤ s) ⊎ (s + n ≤ 64 * q)
     away q apart also = ⊎_elim (λ before. inl (omega arith)) (λ after. inr (omega arith)) (cases_lt q p)
-
--- a write to the second word leaves the first
-pub between_left : (words between : List ℕ) (p x : ℕ) → between ≡ set words (p + 1) x → get_or between p 0 ≡ get_or words p 0
-between_left words between p x step =
-    ap (λ b. get_or b p 0) step ∙ get_or-set_other words (p + 1) p x 0 (λ e. omega arith)
 
 -- what `set_bits` leaves, with the mask and the words between its two writes as the code has them
 pub set_bits_within : (words : List ℕ) (s n v mask y : ℕ) → IsInRange words s n → s % 64 + n ≤ 64 → v < 2 ^ n → mask ≡ 2 ^ n - 1

@@ -1,7 +1,7 @@
 -- The bit at the start of the range comes, and the range goes on after it.
-use Rattle.std.proofs.Common.{◌≡◌, ◌≤◌, [], length, sym, ap, ◌∙◌, arith, rules}
-use Rattle.bitm_bits.proofs.lemmas.ComingLemmas.{bits_coming_none, bits_coming_step}
-use Rattle.bitm_bits.specs.Coming.{bits_left, bits_coming}
+use Rattle.std.proofs.Common.{length, sym, ap, ◌∙◌, arith, rules}
+use Rattle.bitm_bits.proofs.lemmas.ComingLemmas.{ended_bits_coming, bits_coming_step}
+use Rattle.bitm_bits.specs.Coming.{bits_left}
 use Rattle.bitm_bits.proofs.bitvec.each_bit.BitIteratorIterator.next.Goals as goal
 
 pub returns-in_err-place-clause-steps : goal.returns-in_err-place-clause-steps
@@ -9,11 +9,9 @@ returns-in_err-place-clause-steps c =
     let it = c.self.inside in
     let to = c.next.new.self in
     let ended = c.in_err-place.ensures.steps in
-    let was : bits_left c.args.self.now ≡ [] =
-    sym (ap bits_left c.self.view_is) ∙ bits_coming_none it.words.now it.range.start it.range.end (omega (arith, ended.1.0)) in
-    let reversed : to.end ≤ to.start = omega (arith, ended.0, ended.1.0, ended.1.1) in
-    let is : bits_coming it.words.now to.start to.end ≡ [] = bits_coming_none it.words.now to.start to.end reversed in
-    (rw c.from_residual.ensures (was, is), search rules)
+    let none = ended_bits_coming it.words.now it.range.start it.range.end to.start to.end (omega (arith, ended.1.0))
+    (omega (arith, ended.0, ended.1.0, ended.1.1)) in
+    (rw c.from_residual.ensures (sym (ap bits_left c.self.view_is) ∙ none.0, none.1), search rules)
 
 pub returns-clause-steps : goal.returns-clause-steps
 returns-clause-steps c =
