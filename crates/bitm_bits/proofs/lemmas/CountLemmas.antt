@@ -216,7 +216,11 @@ ones_before-bits_of_stretch words a n within fit =
       ones_of-bits_of (take n (drop a words)) (fits_in_stretch words a n fit),
     )
 
+-- each bit is a one or a zero
+pub ones_of-add-zeros_of : (words : List ℕ) → ones_of (bits_of words) + zeros_of (bits_of words) ≡ 64 * length words
+ones_of-add-zeros_of words =
+    ones_before-add-zeros_before (bits_of words) (length (bits_of words)) (omega arith) ∙ length-bits_of words
+
 -- there are no more ones than bits (a name that an attribute can write)
 pub few_ones : (words : List ℕ) → ones_of (bits_of words) ≤ 64 * length words
-few_ones words =
-    omega (arith, ones_before-add-zeros_before (bits_of words) (length (bits_of words)) (omega arith), length-bits_of words)
+few_ones words = omega (arith, ones_of-add-zeros_of words)

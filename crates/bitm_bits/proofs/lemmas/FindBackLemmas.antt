@@ -53,49 +53,57 @@ IsRestTo-start words s mask within fits low = record {
     w = get_or words (s / 64) 0
 
 -- where nothing is left of word q, no bit from its first on is a one
-passed_back : (words : List ℕ) (s q : ℕ) → IsRestTo words s q 0 → (i : ℕ) → i ≤ s → 64 * q ≤ i → item (bits_of words) i ≡ false
-passed_back words s q h i to from =
+passed_back : (words : List ℕ) (s q rest : ℕ) → IsRestTo words s q rest → rest ≡ 0
+    → (i : ℕ) → i ≤ s → 64 * q ≤ i → item (bits_of words) i ≡ false
+passed_back words s q rest h none i to from =
     ⊎_elim
     (λ here.
     let j = i - 64 * q in
     let place : i ≡ 64 * q + j = omega arith in
-    let digit_is : bit_at (get_or words q 0) j ≡ 0 = sym (h.kept j (omega arith) (omega arith)) ∙ bit_at-zero j in
+    let digit_is : bit_at (get_or words q 0) j ≡ 0 =
+    sym (h.kept j (omega arith) (omega arith)) ∙ ap (λ r. bit_at r j) none ∙ bit_at-zero j in
     item-bits_of_at words i q j place (omega arith) h.within ∙ ap (λ d. eqb d 1) digit_is)
     (λ later. h.passed i to later)
     (cases_lt i (64 * (q + 1)))
 
-pub IsRestTo-next : (words : List ℕ) (s q : ℕ) → IsRestTo words s (q + 1) 0 → 64 * (q + 1) ≤ s → get_or words q 0 < 2 ^ 64
-    → IsRestTo words s q (get_or words q 0)
-IsRestTo-next words s q h near fits = record {
+-- then the word before it is read
+pub IsRestTo-next : (words : List ℕ) (s q rest : ℕ) → IsRestTo words s q rest → rest ≡ 0 → 0 < q → 64 * q ≤ s
+    → get_or words (q - 1) 0 < 2 ^ 64
+    → IsRestTo words s (q - 1) (get_or words (q - 1) 0)
+IsRestTo-next words s q rest h none later near fits = record {
   within = omega (arith, h.within);
   fits = fits;
   kept = λ j l to. refl;
   cleared = λ j l after. absurd (omega arith);
-  passed = λ i to from. passed_back words s (q + 1) h i to from;
+  passed = λ i to from. passed_back words s q rest h none i to (omega arith);
 }
 
--- where some one is left, it stands before word q
-pub some_before : (words : List ℕ) (s q p : ℕ) → IsRestTo words s q 0 → p ≤ s → item (bits_of words) p ≡ true → p < 64 * q
-some_before words s q p h to one =
-    ⊎_elim (λ l. l) (λ from. absurd (false≢true (sym (passed_back words s q h p to from) ∙ one))) (cases_lt p (64 * q))
+-- where some one is left, a word before word q has it
+pub some_before : (words : List ℕ) (s q rest p : ℕ) → IsRestTo words s q rest → rest ≡ 0 → p ≤ s → item (bits_of words) p ≡ true
+    → 0 < q
+some_before words s q rest p h none to one =
+    ⊎_elim
+    (λ before. omega arith)
+    (λ from. absurd (false≢true (sym (passed_back words s q rest h none p to from) ∙ one)))
+    (cases_lt p (64 * q))
 
 -- the highest one of what is left is the last one
 pub last_left : (words : List ℕ) (s q rest : ℕ) → IsRestTo words s q rest → 0 < rest
-    → IsLastOneTo (bits_of words) s (64 * q + (63 - leading_zeros w64 rest))
+    → IsLastOneTo (bits_of words) s (q * 64 + (63 - leading_zeros w64 rest))
 last_left words s q rest h some =
     let t = 63 - leading_zeros w64 rest in
     let top = highest rest some h.fits in
     let low : t < 64 = omega arith in
-    let early : 64 * q + t ≤ s =
+    let early : q * 64 + t ≤ s =
     ⊎_elim
-    (λ late. let none : bit_at rest t ≡ 0 = h.cleared t low late in let one : bit_at rest t ≡ 1 = top.1 in absurd (omega arith))
+    (λ late. let none : bit_at rest t ≡ 0 = h.cleared t low (omega arith) in let one : bit_at rest t ≡ 1 = top.1 in absurd (omega arith))
     (λ l. l)
-    (cases_lt s (64 * q + t)) in
-    let at : bit_at (get_or words q 0) t ≡ 1 = sym (h.kept t low early) ∙ top.1 in
+    (cases_lt s (q * 64 + t)) in
+    let at : bit_at (get_or words q 0) t ≡ 1 = sym (h.kept t low (omega arith)) ∙ top.1 in
     record {
       to = early;
       inside = omega (arith, length-bits_of words, h.within);
-      one = item-bits_of_at words (64 * q + t) q t refl low h.within ∙ ap (λ d. eqb d 1) at;
+      one = item-bits_of_at words (q * 64 + t) q t (omega arith) low h.within ∙ ap (λ d. eqb d 1) at;
       greatest = λ i from to.
           ⊎_elim
           (λ here.

@@ -1,19 +1,17 @@
 -- Each word before the current one is 0, and the first that is not has the first one.
-use Rattle.std.proofs.Common.{rules, ◌≡◌, ℕ, ◌+◌, ◌*◌, ◌^◌, ◌<◌, List, length, get_or, w64, arith, subst, false}
+use Rattle.std.proofs.Common.{rules, ◌≡◌, ℕ, ◌+◌, ◌*◌, ◌^◌, ◌<◌, List, length, get_or, w64, arith, false}
 use Rattle.std.specs.Int.{trailing_zeros}
 use Rattle.bitm_bits.specs.Bits.{bits_of, item}
 use Rattle.bitm_bits.specs.Count.{IsFirstOneFrom}
 use Rattle.bitm_bits.proofs.lemmas.BitsLemmas.{length-bits_of}
-use Rattle.bitm_bits.proofs.lemmas.FindLemmas.{IsRestFrom, IsRestFrom-word, passed_word, first_left}
+use Rattle.bitm_bits.proofs.lemmas.FindLemmas.{IsRestFrom-word, passed_word, first_left}
 use Rattle.bitm_bits.proofs.bitvec.finding.trailing_zero_bits.Goals as goal
 
 first_of_word : (words : List ℕ) (q : ℕ) → q < length words → get_or words q 0 < 2 ^ 64 → 0 < get_or words q 0
     → ((i : ℕ) → i < 64 * q → item (bits_of words) i ≡ false)
     → IsFirstOneFrom (bits_of words) 0 (q * 64 + trailing_zeros w64 (get_or words q 0))
 first_of_word words q within fits some before =
-    let place : 64 * q + trailing_zeros w64 (get_or words q 0) ≡ q * 64 + trailing_zeros w64 (get_or words q 0) = omega arith in
-    let P : ℕ → Type 0 = λ p. IsFirstOneFrom (bits_of words) 0 p in
-    subst P place (first_left words 0 q (get_or words q 0) (IsRestFrom-word words q within fits before) some)
+    first_left words 0 q (get_or words q 0) (IsRestFrom-word words q within fits before) some
 
 pub returns-then-word-ne0 : goal.returns-then-word-ne0
 returns-then-word-ne0 c =
@@ -36,7 +34,6 @@ pub loop-word_index-preserved : goal.loop-word_index-preserved
 loop-word_index-preserved c =
     let words = c.args.words.now in
     let q = c.loop-word_index.word_index in
-    let P : ℕ → Type 0 = λ r. IsRestFrom words 0 q r in
     let fits : get_or words q 0 < 2 ^ 64 = search rules in
     let rest = IsRestFrom-word words q (omega arith) fits c.loop-word_index.invariant in
-    λ i l. passed_word words 0 q (subst P c.if-word-ne0.false rest) i (omega arith) l
+    λ i l. passed_word words 0 q _ rest c.if-word-ne0.false i (omega arith) l

@@ -1,11 +1,10 @@
 -- The ones left in the current word, and the bits of the kind in the words after it.
-use Rattle.std.proofs.Common.{◌≡◌, ℕ, zero, suc, ◌+◌, ◌*◌, ◌^◌, ◌<◌, ◌≢◌, Bool, true, List, length, count_ones, refl, sym, ap, ◌∙◌, arith, rules}
+use Rattle.std.proofs.Common.{◌≡◌, ℕ, zero, suc, ◌+◌, ◌^◌, ◌<◌, ◌≢◌, Bool, true, length, count_ones, refl, sym, ap, ◌∙◌, arith, rules}
 use Rattle.std.proofs.lemmas.Nat.{ones-le}
-use Rattle.bitm_bits.proofs.lemmas.BitsLemmas.{length-bits_of}
-use Rattle.bitm_bits.proofs.lemmas.CountLemmas.{ones_before-add-zeros_before}
+use Rattle.bitm_bits.proofs.lemmas.CountLemmas.{ones_of-add-zeros_of}
 use Rattle.bitm_bits.proofs.lemmas.PlaceLemmas.{length-coming}
 use Rattle.bitm_bits.specs.Bits.{bits_of}
-use Rattle.bitm_bits.specs.Count.{ones_of, zeros_of, count_of, kind}
+use Rattle.bitm_bits.specs.Count.{count_of, kind}
 use Rattle.bitm_bits.proofs.bitvec.places.BitBIteratorExactSizeIterator.len.Goals as goal
 use Rattle.bitm_bits.proofs.bitvec.places.BitBIteratorExactSizeIterator.len.Goals.{then-this-eq0, else-this-eq0}
 
@@ -13,17 +12,14 @@ kind_one : (v : ℕ) → v ≢ 0 → kind v ≡ true
 kind_one zero apart = absurd (apart refl)
 kind_one (suc v) apart = refl
 
-both_within : (words : List ℕ) → ones_of (bits_of words) + zeros_of (bits_of words) ≡ 64 * length words
-both_within words = ones_before-add-zeros_before (bits_of words) (length (bits_of words)) (omega arith) ∙ length-bits_of words
-
 pub overflow_add-result : goal.overflow_add-result
 overflow_add-result g c =
     let rest = c.self.inside.rest.now in
     let fits : c.self.inside.current < 2 ^ 64 = search rules in
     let left = ones-le 64 c.self.inside.current fits in
     elim c.if-this-eq0.branch [
-      | then-this-eq0 w ↦ omega (arith, w.rest-is, w.count_bit_zeros-rest.ensures, both_within rest, left, c.self.invariant)
-      | else-this-eq0 w ↦ omega (arith, w.rest-is, w.count_bit_ones-rest.ensures, both_within rest, left, c.self.invariant)
+      | then-this-eq0 w ↦ omega (arith, w.rest-is, w.count_bit_zeros-rest.ensures, ones_of-add-zeros_of rest, left, c.self.invariant)
+      | else-this-eq0 w ↦ omega (arith, w.rest-is, w.count_bit_ones-rest.ensures, ones_of-add-zeros_of rest, left, c.self.invariant)
     ]
 
 pub returns-clause-value : goal.returns-clause-value

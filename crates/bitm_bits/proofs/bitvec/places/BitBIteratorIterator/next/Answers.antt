@@ -15,7 +15,6 @@ returns-in_err-word-clause-steps g c =
 pub loop-self-preserved : goal.loop-self-preserved
 loop-self-preserved g c =
     let it = c.loop-self.self-inside in
-    let w = c.in_ok-word.word.now in
     let rest = c.in_ok-word.rest.now in
     let cut = c.in_ok-word.ensures.cases.0 in
     let first_word : get_or it.rest.now 0 0 < 2 ^ 64 = search rules in
@@ -23,7 +22,7 @@ loop-self-preserved g c =
     record {
       same =
           ap (λ x. coming g.row.B (it.first + 64) x rest) c.word_of-self-inside.ensures
-          ∙ sym (coming_turn g.row.B it.first w rest (subst P cut first_word))
+          ∙ sym (coming_turn g.row.B it.first c.in_ok-word.word.now rest (subst P cut first_word))
           ∙ sym (ap₂ (λ x r. coming g.row.B it.first x r) c.loop-self-test.true cut)
           ∙ c.loop-self.invariant.same;
       room = omega (arith, c.in_ok-word.ensures.cases.1, c.loop-self.invariant.room);
