@@ -12,6 +12,7 @@
 #![tactic(auto)]
 
 mod content;
+mod many;
 mod queries;
 mod rows;
 mod timing;

@@ -3,6 +3,7 @@ ghost use Rattle.std.specs.Prelude.{◌<◌, ◌^◌, length};
 ghost use Rattle.bitm_bits.specs.Bits.{IsShort};
 
 use crate::content::{Kind, content};
+use crate::many::{self, ManyBatch};
 use crate::queries::queries;
 use crate::timing::{Asked, IndexBatch, WordBatch, over_index, over_words};
 use bitm::{
@@ -97,6 +98,29 @@ fn index_row<S: SelectForRank101111, S0: Select0ForRank101111>(
     print_row(rt, of, batch.name(), by, least, QUERIES, check)
 }
 
+/// Times the batches that are asked at once, and prints their rows.
+fn many_rows<S: SelectForRank101111, S0: Select0ForRank101111>(
+    rt: &(impl Print + CpuClock + AllocGlobal),
+    of: Of,
+    rounds: u32,
+    by: &str,
+    index: &RankSelect101111<S, S0, &[u64]>,
+    asked: Asked<'_>,
+) -> anyhow::Result<()> {
+    let mut answers = queries(rt.alloc(), QUERIES, 1)?;
+    for batch in ManyBatch::ALL {
+        let mut least = u64::MAX;
+        let mut check = 0;
+        for _ in 0..rounds {
+            let start = used(rt)?;
+            check = many::over_index(batch, index, asked, answers.as_mut_slice());
+            least = least.min(used(rt)?.saturating_sub(start));
+        }
+        print_row(rt, of, batch.name(), by, least, QUERIES, check)?;
+    }
+    Ok(())
+}
+
 /// Samples of the density that the documents speak of.
 type Sampled = CombinedSampling<AdaptiveCombinedSamplingDensity<13>>;
 
@@ -126,6 +150,10 @@ fn index_rows<S: SelectForRank101111, S0: Select0ForRank101111>(
     )?;
     for batch in IndexBatch::ALL {
         index_row(rt, of, rounds, batch, by, &index, asked)?;
+    }
+    // No strategy is asked for many at once.
+    if by == "binary" {
+        many_rows(rt, of, rounds, by, &index, asked)?;
     }
     Ok(())
 }

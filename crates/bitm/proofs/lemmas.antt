@@ -8,6 +8,7 @@ pub mod InWordLemmas
 pub mod LeBytesLemmas
 pub mod LowBytes
 pub mod MadeLemmas
+pub mod ManyLemmas
 pub mod MarkLemmas
 pub mod PartLemmas
 pub mod RankLemmas

@@ -2,6 +2,7 @@ pub mod Density
 pub mod Entry
 pub mod IndexLaws
 pub mod IndexValue
+pub mod Many
 pub mod Reads
 pub mod Samples
 pub mod Search

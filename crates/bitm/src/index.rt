@@ -8,6 +8,8 @@ ghost use Rattle.bitm_bits.specs.Size.{saturated};
 ghost use Rattle.bitm.specs.Reads.{none_read};
 ghost use Rattle.bitm.specs.Tables.{AreTablesOf, IsIndexed, upper_of, lower_of};
 
+mod many;
+
 use crate::queries::{HasBits, Rank, Select, Select0};
 use crate::search::ranking::rank_on;
 use crate::source::Probe;

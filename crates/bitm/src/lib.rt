@@ -39,6 +39,7 @@ pub use levels::{
     U64_PER_L1_ENTRY, U64_PER_L2_ENTRY, U64_PER_L2_RECORDS,
 };
 pub use queries::{HasBits, Rank, Select, Select0};
+pub use search::many::{rank_many_on, select_many_on};
 pub use search::ranking::rank_on;
 pub use search::selecting::binary_select_on;
 pub use simple::{ArrayWithRankSimple, RankSimple};

@@ -1,6 +1,7 @@
 //! Rank and selection over a source of words and tables, with a bound on the reads of each.
 
 pub(crate) mod entries;
+pub(crate) mod many;
 pub(crate) mod parts;
 pub(crate) mod ranking;
 pub(crate) mod records;

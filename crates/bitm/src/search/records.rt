@@ -13,7 +13,7 @@ use crate::word::select64;
 
 /// 1 where no more than `rank` were counted, else 0.
 #[inline(always)]
-fn is_at_most(count: usize, rank: usize) -> usize
+pub(crate) fn is_at_most(count: usize, rank: usize) -> usize
     ensures yes { count ≤ rank → result ≡ 1 }
     ensures no { rank < count → result ≡ 0 }
 {

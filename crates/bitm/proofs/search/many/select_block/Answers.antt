@@ -1,0 +1,45 @@
+-- Fewer halvings are enough where there are few entries; the answers are those of the records.
+use Rattle.std.proofs.Common.{length, slice_index, ap, ◌∙◌, subst, arith}
+use Rattle.std.proofs.lemmas.Nat.{mul-le}
+use Rattle.bitm_bits.specs.Bits.{bits_of}
+use Rattle.bitm_bits.specs.Count.{kind, Picks}
+use Rattle.bitm.specs.Tables.{Lists}
+use Rattle.bitm.proofs.lemmas.ManyLemmas.{near_enough}
+use Rattle.bitm.proofs.search.many.select_block.Goals as goal
+
+pub loop-size-init : goal.loop-size-init
+loop-size-init g c =
+    let lists = g.T.TableSource.lists c.args.source.now in
+    let e = c.begin_each.ensures in
+    let n = length c.args.ranks.now in
+    let size = c.halvings-size.result in
+    record {
+      size = c.halvings-size.ensures.most;
+      long = omega (arith, c.begin_each.auto.entries, c.requires.same_length);
+      near =
+          record {
+            rests_enough = e.near.rests_enough;
+            entries_enough = e.near.entries_enough;
+            each =
+                λ k h.
+                near_enough g.row.ONE lists (slice_index c.args.ranks.now k) (slice_index c.begin_each.new.rests k)
+                (slice_index c.begin_each.new.entries k) size (e.near.each k h) c.halvings-size.ensures.most
+                (λ few. omega (
+                  arith,
+                  c.halvings-size.ensures.enough few,
+                  c.lower_len.ensures,
+                  ap (λ (l : Lists). length l.lower) e.same,
+                ));
+          };
+      upper = omega (arith, e.reads.upper);
+      lower = omega (arith, e.reads.lower, mul-le size n 21 n c.halvings-size.ensures.most (omega arith));
+      words = omega (arith, e.reads.words);
+      same = e.same;
+    }
+
+pub returns-clause-answers : goal.returns-clause-answers
+returns-clause-answers g c k h =
+    let ranks = c.args.ranks.now in
+    let places = c.finish_each.new.places in
+    subst (λ (l : Lists). Picks (bits_of l.words) (kind g.row.ONE) (slice_index ranks k) (slice_index places k))
+    (c.load_each.ensures.same ∙ c.loop-size.invariant.same) (c.finish_each.ensures.answers k h)

@@ -1,0 +1,321 @@
+//! Many queries at once over a source: selections side by side, so that one waits for the memory while the others do.
+ghost use Rattle.std.specs.Prelude.{◌≡◌, ◌+◌, ◌*◌, ◌^◌, ◌<◌, ◌≤◌, All, length};
+ghost use Rattle.bitm_bits.specs.Bits.{bits_of, digit_count, IsShort};
+ghost use Rattle.bitm_bits.specs.Count.{count_of, kind, IsSelect};
+ghost use Rattle.bitm.specs.Many.{RanksEach, PicksEach, IsNear, AreNear, IsInRecord, AreInRecords};
+ghost use Rattle.bitm.specs.Reads.{OnlyReads, ReadsAtMost};
+ghost use Rattle.bitm.specs.Tables.{HasTables, IsIndexed, bits_in};
+
+use crate::entry::ones_to_entry;
+use crate::levels::{L2_ENTRIES_PER_L1_ENTRY, U64_PER_L2_ENTRY, U64_PER_L2_RECORDS};
+use crate::search::entries::sought_entry;
+use crate::search::parts::{before_part, last_part};
+use crate::search::ranking::rank_on;
+use crate::search::records::{is_at_most, record_of, select_in_word, sought_word};
+use crate::source::TableSource;
+
+/// So many selections are under way side by side: more than a processor waits for at once.
+const SIDE_BY_SIDE: usize = 16;
+
+/// For each index how many of the first so many bits of the source's words are ones.
+///
+/// # Conditions
+/// The source's tables are those of its words, of fewer than 2^58 words. There are as many `ranks` as `indices`, and no
+/// index is greater than the number of bits.
+/// # Cost
+/// For each index at most one upper entry, one lower entry and eight words are read.
+#[inline]
+pub fn rank_many_on<T: TableSource>(source: &mut T, indices: &[usize], ranks: &mut [usize])
+    requires indexed { IsIndexed (T.lists source.old) }
+    requires same_length { length indices.now ≡ length ranks.old }
+    requires inside { All (λ i. i ≤ length (bits_in (T.lists source.old))) indices.now }
+    ensures answers { RanksEach (bits_in (T.lists source.old)) indices.now ranks.new }
+    ensures reads { OnlyReads T.lists T.reads source.old source.new
+        (length indices.now) (length indices.now) (8 * length indices.now) }
+{
+    for k in 0..indices.len() {
+        match rank_on(source, indices[k]) {
+            Some(count) => ranks[k] = count,
+            None => unreachable!(),
+        }
+    }
+}
+
+/// The first entry of the last part with no more than `rank` of the kind before it, and how many of them are left there.
+#[inline(always)]
+fn begin<const ONE: u8, T: TableSource>(source: &mut T, rank: usize) -> (usize, usize)
+    requires tables { HasTables (T.lists source.old) }
+    requires short { IsShort (T.lists source.old).words }
+    requires some { 0 < length (T.lists source.old).upper }
+    ensures near { IsNear ONE (T.lists source.old) rank result.1 result.0 21 }
+    ensures reads { ReadsAtMost (T.reads source.old) (T.reads source.new)
+        (digit_count (length (T.lists source.old).upper) + 1) 0 0 }
+    ensures same { T.lists source.new ≡ T.lists source.old }
+{
+    let part = last_part::<ONE, T>(source, rank);
+    let before = before_part::<ONE, T>(source, part);
+    (part * L2_ENTRIES_PER_L1_ENTRY, rank - before)
+}
+
+/// The entry 2^`size` after `entry`, where no more than `rest` of the kind stand before it in the part, else `entry`.
+///
+/// The sum has no branch on the count.
+#[inline(always)]
+fn halve<const ONE: u8, T: TableSource>(
+    source: &mut T,
+    _rank: usize,
+    rest: usize,
+    entry: usize,
+    size: u32,
+) -> usize
+    requires tables { HasTables (T.lists source.old) }
+    requires short { IsShort (T.lists source.old).words }
+    requires size { size < 21 }
+    requires near { IsNear ONE (T.lists source.old) _rank rest entry (size + 1) }
+    ensures near { IsNear ONE (T.lists source.old) _rank rest result size }
+    ensures reads { ReadsAtMost (T.reads source.old) (T.reads source.new) 0 1 0 }
+    ensures same { T.lists source.new ≡ T.lists source.old }
+{
+    let next = entry + (1 << size);
+    if next >= source.lower_len() {
+        return entry;
+    }
+    let count = ones_to_entry(sought_entry::<ONE, T>(source, next));
+    entry + (is_at_most(count, rest) << size)
+}
+
+/// The record of an entry that has the item of a rank: its first word's place, how many are left there, and that word,
+/// which is read at once, so that the records of all queries are waited for side by side.
+#[inline(always)]
+fn load<const ONE: u8, T: TableSource>(
+    source: &mut T,
+    _rank: usize,
+    rest: usize,
+    entry: usize,
+) -> (usize, usize, u64)
+    requires tables { HasTables (T.lists source.old) }
+    requires short { IsShort (T.lists source.old).words }
+    requires near { IsNear ONE (T.lists source.old) _rank rest entry 0 }
+    ensures in_record { IsInRecord ONE (T.lists source.old) _rank result.1 result.0 result.2 }
+    ensures reads { ReadsAtMost (T.reads source.old) (T.reads source.new) 0 1 1 }
+    ensures same { T.lists source.new ≡ T.lists source.old }
+{
+    let packed = sought_entry::<ONE, T>(source, entry);
+    let in_entry = rest - ones_to_entry(packed);
+    let (place, before) = record_of(packed, in_entry);
+    let first = entry * U64_PER_L2_ENTRY + place * U64_PER_L2_RECORDS;
+    let word = if first < source.words_len() {
+        sought_word::<ONE, T>(source, first)
+    } else {
+        0
+    };
+    (first, in_entry - before, word)
+}
+
+/// Selection in a record whose first word was read.
+#[inline(always)]
+fn finish<const ONE: u8, T: TableSource>(
+    source: &mut T,
+    _rank: usize,
+    rest: usize,
+    first: usize,
+    word: u64,
+) -> Option<usize>
+    requires short { IsShort (T.lists source.old).words }
+    requires in_record { IsInRecord ONE (T.lists source.old) _rank rest first word }
+    ensures answer { IsSelect (bits_of (T.lists source.old).words) (kind ONE) _rank result }
+    ensures reads { ReadsAtMost (T.reads source.old) (T.reads source.new) 0 0 7 }
+    ensures same { T.lists source.new ≡ T.lists source.old }
+{
+    let len = source.words_len();
+    if first >= len {
+        return None;
+    }
+    let count = word.count_ones() as usize;
+    if rest < count {
+        return Some(first * 64 + select_in_word(word, rest));
+    }
+    let mut rest = rest - count;
+    for at in first + 1..len.min(first + U64_PER_L2_RECORDS) {
+        let word = sought_word::<ONE, T>(source, at);
+        let count = word.count_ones() as usize;
+        if rest < count {
+            return Some(at * 64 + select_in_word(word, rest));
+        }
+        rest -= count;
+    }
+    None
+}
+
+/// Begins the search of each rank.
+#[inline(always)]
+fn begin_each<const ONE: u8, T: TableSource>(
+    source: &mut T,
+    ranks: &[usize],
+    rests: &mut [usize],
+    entries: &mut [usize],
+)
+    requires tables { HasTables (T.lists source.old) }
+    requires short { IsShort (T.lists source.old).words }
+    requires some { 0 < length (T.lists source.old).upper }
+    requires rests { length ranks.now ≤ length rests.old }
+    requires entries { length ranks.now ≤ length entries.old }
+    ensures near { AreNear ONE (T.lists source.old) ranks.now rests.new entries.new 21 }
+    ensures reads { ReadsAtMost (T.reads source.old) (T.reads source.new)
+        (length ranks.now * (digit_count (length (T.lists source.old).upper) + 1)) 0 0 }
+    ensures same { T.lists source.new ≡ T.lists source.old }
+{
+    for k in 0..ranks.len() {
+        let (entry, rest) = begin::<ONE, T>(source, ranks[k]);
+        entries[k] = entry;
+        rests[k] = rest;
+    }
+}
+
+/// Halves the entries of each search: 2^`size` of them are left.
+#[inline(always)]
+fn halve_each<const ONE: u8, T: TableSource>(
+    source: &mut T,
+    ranks: &[usize],
+    rests: &[usize],
+    entries: &mut [usize],
+    size: u32,
+)
+    requires tables { HasTables (T.lists source.old) }
+    requires short { IsShort (T.lists source.old).words }
+    requires size { size < 21 }
+    requires near { AreNear ONE (T.lists source.old) ranks.now rests.now entries.old (size + 1) }
+    ensures near { AreNear ONE (T.lists source.old) ranks.now rests.now entries.new size }
+    ensures reads { ReadsAtMost (T.reads source.old) (T.reads source.new) 0 (length ranks.now) 0 }
+    ensures same { T.lists source.new ≡ T.lists source.old }
+{
+    for k in 0..ranks.len() {
+        entries[k] = halve::<ONE, T>(source, ranks[k], rests[k], entries[k], size);
+    }
+}
+
+/// Loads the first word of each rank's record: `entries` then has its place.
+#[inline(always)]
+fn load_each<const ONE: u8, T: TableSource>(
+    source: &mut T,
+    ranks: &[usize],
+    rests: &mut [usize],
+    entries: &mut [usize],
+    words: &mut [u64],
+)
+    requires tables { HasTables (T.lists source.old) }
+    requires short { IsShort (T.lists source.old).words }
+    requires near { AreNear ONE (T.lists source.old) ranks.now rests.old entries.old 0 }
+    requires words { length ranks.now ≤ length words.old }
+    ensures loaded { AreInRecords ONE (T.lists source.old) ranks.now rests.new entries.new words.new }
+    ensures reads { ReadsAtMost (T.reads source.old) (T.reads source.new)
+        0 (length ranks.now) (length ranks.now) }
+    ensures same { T.lists source.new ≡ T.lists source.old }
+{
+    for k in 0..ranks.len() {
+        let (first, rest, word) = load::<ONE, T>(source, ranks[k], rests[k], entries[k]);
+        entries[k] = first;
+        rests[k] = rest;
+        words[k] = word;
+    }
+}
+
+/// Selects in each rank's record: `places` has the place of its first word, and then the answer.
+#[inline(always)]
+fn finish_each<const ONE: u8, T: TableSource>(
+    source: &mut T,
+    ranks: &[usize],
+    rests: &[usize],
+    places: &mut [usize],
+    words: &[u64],
+)
+    requires short { IsShort (T.lists source.old).words }
+    requires loaded { AreInRecords ONE (T.lists source.old) ranks.now rests.now places.old words.now }
+    requires some { All (λ r. r < count_of (bits_of (T.lists source.old).words) (kind ONE)) ranks.now }
+    ensures answers { PicksEach (bits_of (T.lists source.old).words) (kind ONE) ranks.now places.new }
+    ensures reads { ReadsAtMost (T.reads source.old) (T.reads source.new) 0 0 (7 * length ranks.now) }
+    ensures same { T.lists source.new ≡ T.lists source.old }
+{
+    for k in 0..ranks.len() {
+        match finish::<ONE, T>(source, ranks[k], rests[k], places[k], words[k]) {
+            Some(place) => places[k] = place,
+            None => unreachable!(),
+        }
+    }
+}
+
+/// So many halvings leave one entry of a part, where there are so many entries in all.
+#[inline(always)]
+fn halvings(entries: usize) -> u32
+    ensures most { result ≤ 21 }
+    ensures enough { result < 21 → entries ≤ 2 ^ result }
+{
+    let mut size = 0;
+    while size < 21 && 1 << size < entries {
+        size += 1;
+    }
+    size
+}
+
+/// Selections of no more ranks than go side by side.
+fn select_block<const ONE: u8, T: TableSource>(
+    source: &mut T,
+    ranks: &[usize],
+    places: &mut [usize],
+)
+    requires tables { HasTables (T.lists source.old) }
+    requires short { IsShort (T.lists source.old).words }
+    requires part { 0 < length (T.lists source.old).upper }
+    requires few { length ranks.now ≤ 16 }
+    requires same_length { length ranks.now ≡ length places.old }
+    requires some { All (λ r. r < count_of (bits_of (T.lists source.old).words) (kind ONE)) ranks.now }
+    ensures answers { PicksEach (bits_of (T.lists source.old).words) (kind ONE) ranks.now places.new }
+    ensures reads { ReadsAtMost (T.reads source.old) (T.reads source.new)
+        (length ranks.now * (digit_count (length (T.lists source.old).upper) + 1))
+        (22 * length ranks.now) (8 * length ranks.now) }
+    ensures same { T.lists source.new ≡ T.lists source.old }
+{
+    let mut rests = [0; SIDE_BY_SIDE];
+    begin_each::<ONE, T>(source, ranks, &mut rests, places);
+    let mut size = halvings(source.lower_len());
+    while size > 0 {
+        size -= 1;
+        halve_each::<ONE, T>(source, ranks, &rests, places, size);
+    }
+    let mut words = [0; SIDE_BY_SIDE];
+    load_each::<ONE, T>(source, ranks, &mut rests, places, &mut words);
+    finish_each::<ONE, T>(source, ranks, &rests, places, &words);
+}
+
+/// For each rank the place of the one of the source's words with so many ones before it; zeros in place of ones where
+/// `ONE` is 0.
+///
+/// Sixteen searches go side by side, each by halves: so the misses of one overlap with those of the others.
+///
+/// # Conditions
+/// The source's tables are those of its words, of fewer than 2^58 words. There are as many `places` as `ranks`, and more
+/// ones than each rank.
+/// # Cost
+/// For each rank at most as many upper entries as their number has binary digits and one more, 22 lower entries and eight
+/// words are read.
+#[inline]
+pub fn select_many_on<const ONE: u8, T: TableSource>(
+    source: &mut T,
+    ranks: &[usize],
+    places: &mut [usize],
+)
+    requires indexed { IsIndexed (T.lists source.old) }
+    requires same_length { length ranks.now ≡ length places.old }
+    requires some { All (λ r. r < count_of (bits_in (T.lists source.old)) (kind ONE)) ranks.now }
+    ensures answers { PicksEach (bits_in (T.lists source.old)) (kind ONE) ranks.now places.new }
+    ensures reads { OnlyReads T.lists T.reads source.old source.new
+        (length ranks.now * (digit_count (length (T.lists source.old).upper) + 1))
+        (22 * length ranks.now) (8 * length ranks.now) }
+{
+    let mut from = 0;
+    while from < ranks.len() {
+        let to = from + (ranks.len() - from).min(SIDE_BY_SIDE);
+        select_block::<ONE, T>(source, &ranks[from..to], &mut places[from..to]);
+        from = to;
+    }
+}
