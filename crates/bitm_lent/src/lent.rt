@@ -1,0 +1,155 @@
+//! Words and tables that are lent, and how long the tables are.
+ghost use Rattle.std.specs.Prelude.{◌≡◌, ◌^◌, ◌↔◌, ◌<◌, ◌≤◌, IsTrue, MatchOption, length, true, false};
+ghost use Rattle.std.specs.Int.{div_ceil};
+ghost use Rattle.bitm_bits.specs.Bits.{bits_of};
+ghost use Rattle.bitm_bits.specs.Count.{kind, IsRank, IsRank0};
+ghost use Rattle.bitm.specs.Tables.{HasTables, bits_in};
+ghost use Rattle.bitm_lent.specs.Answers.{HasBit, IsSelected};
+ghost use Rattle.bitm_lent.specs.Sizes.{HasSizes, listed};
+
+use crate::checking::are_tables;
+use crate::ranking::total_rank_on;
+use crate::selecting::{Selected, total_select_on};
+use bitm::{Probe, U64_PER_L1_ENTRY, U64_PER_L2_ENTRY};
+use std::marker::Model;
+
+/// How many upper entries so many words have: one for each begun 2^26 words.
+#[inline(always)]
+pub fn upper_len(words: usize) -> usize
+    ensures { result ≡ div_ceil words (2 ^ 26) }
+{
+    words.div_ceil(U64_PER_L1_ENTRY)
+}
+
+/// How many lower entries so many words have: one for each begun 32 words.
+#[inline(always)]
+pub fn lower_len(words: usize) -> usize
+    ensures { result ≡ div_ceil words 32 }
+{
+    words.div_ceil(U64_PER_L2_ENTRY)
+}
+
+/// Whether there are fewer than 2^58 words and the tables are as long as theirs.
+#[inline(always)]
+pub(crate) fn has_sizes(words: &[u64], upper: &[usize], lower: &[u64]) -> bool
+    ensures { IsTrue result ↔ HasSizes (listed words.now upper.now lower.now) }
+{
+    words.len() < 1 << 58
+        && upper.len() == upper_len(words.len())
+        && lower.len() == lower_len(words.len())
+}
+
+/// Words and two tables, all lent, of which the lengths are right.
+///
+/// Contracts see the three lists. What the tables hold is anybody's: a call says what it answers where they are those of
+/// the words, and what it answers else.
+#[derive(Drop)]
+pub struct Lent<'a> {
+    words: &'a [u64],
+    upper: &'a [usize],
+    lower: &'a [u64],
+}
+
+impl<'a> Model for Lent<'a> {
+    ghost use Rattle.bitm.specs.Tables.{Lists};
+    ghost use Rattle.bitm_lent.specs.Sizes.{HasSizes, listed};
+
+    ghost Value = { Lists };
+
+    ghost view = { λ l. listed l.words.now l.upper.now l.lower.now };
+
+    ghost invariant = { λ l. HasSizes (listed l.words.now l.upper.now l.lower.now) };
+}
+
+impl<'a> Lent<'a> {
+    /// The words and their tables; `None` exactly where there are 2^58 words or more, or a table is not as long as theirs.
+    #[inline(always)]
+    pub fn over(words: &'a [u64], upper: &'a [usize], lower: &'a [u64]) -> Option<Lent<'a>>
+        ensures { MatchOption result (HasSizes (listed words.now upper.now lower.now) → ⊥)
+            (λ lent. (lent ≡ listed words.now upper.now lower.now) × HasSizes lent) }
+    {
+        if has_sizes(words, upper, lower) {
+            Some(Lent {
+                words,
+                upper,
+                lower,
+            })
+        } else {
+            None
+        }
+    }
+
+    /// Whether the tables are those of the words: one pass over the words, which stops at the first wrong entry.
+    pub fn check(&self) -> bool
+        ensures { IsTrue result ↔ HasTables self.now }
+    {
+        are_tables(self.words, self.upper, self.lower)
+    }
+
+    /// How many of the first `index` bits are ones, where the tables are those of the words; `None` exactly where there
+    /// are fewer bits, whatever the tables hold.
+    ///
+    /// # Cost
+    /// At most one upper entry, one lower entry and eight words are read.
+    #[inline(always)]
+    pub fn rank(&self, index: usize) -> Option<usize>
+        ensures inside { MatchOption result (length (bits_in self.now) < index)
+            (λ _. index ≤ length (bits_in self.now)) }
+        ensures answer { HasTables self.now → IsRank (bits_in self.now) index result }
+    {
+        total_rank_on(&mut Probe::new(self.words, self.upper, self.lower), index)
+    }
+
+    /// How many of the first `index` bits are zeros, where the tables are those of the words; `None` exactly where there
+    /// are fewer bits, whatever the tables hold.
+    ///
+    /// # Cost
+    /// At most one upper entry, one lower entry and eight words are read.
+    #[inline(always)]
+    pub fn rank0(&self, index: usize) -> Option<usize>
+        ensures inside { MatchOption result (length (bits_in self.now) < index)
+            (λ _. index ≤ length (bits_in self.now)) }
+        ensures answer { HasTables self.now → IsRank0 (bits_in self.now) index result }
+    {
+        match self.rank(index) {
+            Some(ones) => Some(index.wrapping_sub(ones)),
+            None => None,
+        }
+    }
+
+    /// The place of the one with exactly `rank` ones before it.
+    ///
+    /// Whatever the tables hold, a place that is found is inside and has a one. Where they are those of the words it is
+    /// the right one, `Absent` is answered exactly where there is none, and `WrongTables` never.
+    ///
+    /// # Cost
+    /// At most as many upper entries as their number has binary digits and one more, 22 lower entries and eight words
+    /// are read, whatever the tables hold.
+    pub fn select(&self, rank: usize) -> Selected
+        ensures bit { HasBit (bits_in self.now) true result }
+        ensures answer { HasTables self.now → IsSelected (bits_in self.now) true rank result }
+    {
+        self.select_kind::<1>(rank)
+    }
+
+    /// The place of the zero with exactly `rank` zeros before it, as `select`.
+    ///
+    /// # Cost
+    /// As `select`.
+    pub fn select0(&self, rank: usize) -> Selected
+        ensures bit { HasBit (bits_in self.now) false result }
+        ensures answer { HasTables self.now → IsSelected (bits_in self.now) false rank result }
+    {
+        self.select_kind::<0>(rank)
+    }
+
+    /// The place of the one with exactly `rank` ones before it; zeros in place of ones where `ONE` is 0.
+    #[inline(always)]
+    pub(crate) fn select_kind<const ONE: u8>(&self, rank: usize) -> Selected
+        ensures bit { HasBit (bits_in self.now) (kind ONE) result }
+        ensures answer { HasTables self.now
+            → IsSelected (bits_in self.now) (kind ONE) rank result }
+    {
+        total_select_on::<ONE, Probe<'_>>(&mut Probe::new(self.words, self.upper, self.lower), rank)
+    }
+}

@@ -1,0 +1,27 @@
+//! Rank and select over words and tables that are lent, as a mapped file lends them: nothing is allocated or copied, and
+//! no call has a condition on what the tables hold.
+//!
+//! With the tables of the words the answers are plain counting. With any other numbers in them a call returns as well,
+//! reads no more than its bound says, and a place that it answers is inside and has the bit that was asked.
+//!
+//! ```
+//! let (mut upper, mut lower) = ([0], [0; 2]);         // upper_len(40) and lower_len(40) entries
+//! let ones = build(&words, &mut upper, &mut lower);   // Some(..) of 40 words
+//! let Some(lent) = Lent::over(&words, &upper, &lower) else { return };
+//! lent.select(17);                                    // Found(place), Absent or WrongTables
+//! ```
+#![tactic(auto)]
+
+mod checking;
+mod filling;
+mod lent;
+mod lists;
+mod ranking;
+mod searching;
+mod selecting;
+
+pub use filling::build;
+pub use lent::{Lent, lower_len, upper_len};
+pub use lists::{NO_ANSWER, WRONG_TABLES};
+pub use ranking::total_rank_on;
+pub use selecting::{Selected, total_select_on};

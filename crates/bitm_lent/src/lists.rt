@@ -1,0 +1,126 @@
+//! Answers to lists of queries.
+ghost use Rattle.std.specs.Prelude.{◌≡◌, ◌<◌, ◌↔◌, ℕ, IsTrue, length, slice_index, true, false};
+ghost use Rattle.bitm_bits.specs.Count.{kind};
+ghost use Rattle.bitm_lent.specs.Answers.{RankTold, SelectTold};
+
+use crate::lent::Lent;
+use crate::selecting::Selected;
+
+/// In a list of answers: there is no such place or bit.
+pub const NO_ANSWER: usize = usize::MAX;
+
+/// In a list of answers: the tables are not those of the words.
+pub const WRONG_TABLES: usize = usize::MAX - 1;
+
+/// The rank of one place, or `NO_ANSWER`; of zeros where `ONE` is 0.
+#[inline(always)]
+fn ranked<const ONE: u8>(lent: &Lent<'_>, place: usize) -> usize
+    ensures { RankTold (kind ONE) lent.now place result }
+{
+    let found = if ONE == 0 {
+        lent.rank0(place)
+    } else {
+        lent.rank(place)
+    };
+    match found {
+        Some(count) => count,
+        None => NO_ANSWER,
+    }
+}
+
+/// The place with one rank, `NO_ANSWER` or `WRONG_TABLES`; of a zero where `ONE` is 0.
+#[inline(always)]
+fn selected<const ONE: u8>(lent: &Lent<'_>, rank: usize) -> usize
+    ensures { SelectTold (kind ONE) lent.now rank result }
+{
+    match lent.select_kind::<ONE>(rank) {
+        Selected::Found(place) => place,
+        Selected::Absent => NO_ANSWER,
+        Selected::WrongTables => WRONG_TABLES,
+    }
+}
+
+/// Writes the rank of each place.
+fn rank_each<const ONE: u8>(lent: &Lent<'_>, places: &[usize], out: &mut [usize])
+    requires { length out.old ≡ length places.now }
+    ensures len { length out.new ≡ length places.now }
+    ensures told { (j : ℕ) → j < length places.now → RankTold (kind ONE) lent.now
+        (slice_index places.now j) (slice_index out.new j) }
+{
+    for at in 0..places.len() {
+        out[at] = ranked::<ONE>(lent, places[at]);
+    }
+}
+
+/// Writes the place with each rank.
+fn select_each<const ONE: u8>(lent: &Lent<'_>, ranks: &[usize], out: &mut [usize])
+    requires { length out.old ≡ length ranks.now }
+    ensures len { length out.new ≡ length ranks.now }
+    ensures told { (j : ℕ) → j < length ranks.now → SelectTold (kind ONE) lent.now
+        (slice_index ranks.now j) (slice_index out.new j) }
+{
+    for at in 0..ranks.len() {
+        out[at] = selected::<ONE>(lent, ranks[at]);
+    }
+}
+
+impl<'a> Lent<'a> {
+    /// Writes the rank of each place, as `rank` answers it, and `NO_ANSWER` where there are not so many bits; answers
+    /// false exactly where there is not room for as many answers as places, and nothing is written then.
+    pub fn rank_list(&self, places: &[usize], out: &mut [usize]) -> bool
+        ensures room { IsTrue result ↔ length out.old ≡ length places.now }
+        ensures told { IsTrue result → (j : ℕ) → j < length places.now → RankTold true self.now
+            (slice_index places.now j) (slice_index out.new j) }
+        ensures kept { result ≡ false → out.new ≡ out.old }
+    {
+        if out.len() != places.len() {
+            return false;
+        }
+        rank_each::<1>(self, places, out);
+        true
+    }
+
+    /// Writes the rank of each place among the zeros, as `rank0` answers it; else as `rank_list`.
+    pub fn rank0_list(&self, places: &[usize], out: &mut [usize]) -> bool
+        ensures room { IsTrue result ↔ length out.old ≡ length places.now }
+        ensures told { IsTrue result → (j : ℕ) → j < length places.now → RankTold false self.now
+            (slice_index places.now j) (slice_index out.new j) }
+        ensures kept { result ≡ false → out.new ≡ out.old }
+    {
+        if out.len() != places.len() {
+            return false;
+        }
+        rank_each::<0>(self, places, out);
+        true
+    }
+
+    /// Writes the place of the one with each rank, as `select` answers it, `NO_ANSWER` for `Absent` and `WRONG_TABLES` for
+    /// `WrongTables`; answers false exactly where there is not room for as many answers as ranks, and nothing is written
+    /// then.
+    pub fn select_list(&self, ranks: &[usize], out: &mut [usize]) -> bool
+        ensures room { IsTrue result ↔ length out.old ≡ length ranks.now }
+        ensures told { IsTrue result → (j : ℕ) → j < length ranks.now → SelectTold true self.now
+            (slice_index ranks.now j) (slice_index out.new j) }
+        ensures kept { result ≡ false → out.new ≡ out.old }
+    {
+        if out.len() != ranks.len() {
+            return false;
+        }
+        select_each::<1>(self, ranks, out);
+        true
+    }
+
+    /// Writes the place of the zero with each rank, as `select0` answers it; else as `select_list`.
+    pub fn select0_list(&self, ranks: &[usize], out: &mut [usize]) -> bool
+        ensures room { IsTrue result ↔ length out.old ≡ length ranks.now }
+        ensures told { IsTrue result → (j : ℕ) → j < length ranks.now → SelectTold false self.now
+            (slice_index ranks.now j) (slice_index out.new j) }
+        ensures kept { result ≡ false → out.new ≡ out.old }
+    {
+        if out.len() != ranks.len() {
+            return false;
+        }
+        select_each::<0>(self, ranks, out);
+        true
+    }
+}
