@@ -1,0 +1,47 @@
+//! How an answer is told: by a status, and a number that is written only where the status is `OK`.
+ghost use Rattle.std.specs.Prelude.{◌≡◌, MatchOption};
+ghost use Rattle.bitm_c.specs.Status.{IsTold};
+
+use bitm_lent::Selected;
+
+/// The answer was written.
+pub(crate) const OK: u32 = 0;
+
+/// There is no such place or bit; nothing was written.
+pub(crate) const NONE: u32 = 1;
+
+/// A length is not as it has to be; nothing was written.
+pub(crate) const BAD_SIZE: u32 = 2;
+
+/// The tables are not those of the words; nothing was written.
+pub(crate) const WRONG: u32 = 3;
+
+/// Writes the number that was found.
+#[inline(always)]
+pub(crate) fn tell<T: Copy>(found: Option<T>, out: &mut T) -> u32
+    ensures { MatchOption found ((result ≡ 1) × (out.new ≡ out.old))
+        (λ n. (result ≡ 0) × (out.new ≡ n)) }
+{
+    match found {
+        Some(number) => {
+            *out = number;
+            OK
+        }
+        None => NONE,
+    }
+}
+
+/// Writes the place that was found.
+#[inline(always)]
+pub(crate) fn tell_place(selected: Selected, out: &mut usize) -> u32
+    ensures { IsTold selected result out.old out.new }
+{
+    match selected {
+        Selected::Found(place) => {
+            *out = place;
+            OK
+        }
+        Selected::Absent => NONE,
+        Selected::WrongTables => WRONG,
+    }
+}

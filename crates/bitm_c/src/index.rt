@@ -1,0 +1,108 @@
+//! Building, checking and asking an index whose tables lie in the caller's memory.
+ghost use Rattle.std.specs.Prelude.{◌≡◌, ◌≢◌, ◌^◌, ◌↔◌, true, false};
+ghost use Rattle.std.specs.Int.{div_ceil};
+ghost use Rattle.bitm_bits.specs.Bits.{bits_of};
+ghost use Rattle.bitm_bits.specs.Count.{ones_of};
+ghost use Rattle.bitm.specs.Tables.{HasTables};
+ghost use Rattle.bitm_lent.specs.Sizes.{HasSizes, listed};
+ghost use Rattle.bitm_c.specs.Status.{lists_of, RankAnswered, SelectAnswered};
+
+use crate::answer::{BAD_SIZE, OK, WRONG, tell, tell_place};
+use crate::view::View;
+
+/// How many numbers the upper table of so many words has: one for each begun 2^26 words.
+#[unsafe(no_mangle)]
+pub extern "C" fn bitm_upper_len(words_len: usize) -> usize
+    ensures { result ≡ div_ceil words_len (2 ^ 26) }
+{
+    bitm_lent::upper_len(words_len)
+}
+
+/// How many numbers the lower table of so many words has: one for each begun 32 words.
+#[unsafe(no_mangle)]
+pub extern "C" fn bitm_lower_len(words_len: usize) -> usize
+    ensures { result ≡ div_ceil words_len 32 }
+{
+    bitm_lent::lower_len(words_len)
+}
+
+/// Writes both tables of the words, and the number of ones.
+#[unsafe(no_mangle)]
+pub extern "C" fn bitm_build(
+    words: &[u64],
+    upper: &mut [usize],
+    lower: &mut [u64],
+    ones: &mut usize,
+) -> u32
+    ensures ok { (result ≡ 0) ↔ HasSizes (listed words.now upper.old lower.old) }
+    ensures status { result ≢ 0 → result ≡ 2 }
+    ensures sizes { result ≡ 0 → HasSizes (listed words.now upper.new lower.new) }
+    ensures tables { result ≡ 0 → HasTables (listed words.now upper.new lower.new) }
+    ensures ones { result ≡ 0 → ones.new ≡ ones_of (bits_of words.now) }
+    ensures kept { result ≢ 0 → (upper.new ≡ upper.old) × (lower.new ≡ lower.old)
+        × (ones.new ≡ ones.old) }
+{
+    match bitm_lent::build(words, upper, lower) {
+        Some(count) => {
+            *ones = count;
+            OK
+        }
+        None => BAD_SIZE,
+    }
+}
+
+/// Whether the tables are those of the words: one pass over the words.
+#[unsafe(no_mangle)]
+pub extern "C" fn bitm_check(view: &View<'_>) -> u32
+    ensures ok { (result ≡ 0) ↔ HasSizes (lists_of view.now) × HasTables (lists_of view.now) }
+    ensures bad { (result ≡ 2) ↔ (HasSizes (lists_of view.now) → ⊥) }
+{
+    match view.lent() {
+        Some(lent) => { if lent.check() { OK } else { WRONG } }
+        None => BAD_SIZE,
+    }
+}
+
+/// How many of the first `index` bits are ones.
+#[unsafe(no_mangle)]
+pub extern "C" fn bitm_rank(view: &View<'_>, index: usize, out: &mut usize) -> u32
+    ensures { RankAnswered true (lists_of view.now) index result out.old out.new }
+{
+    match view.lent() {
+        Some(lent) => tell(lent.rank(index), out),
+        None => BAD_SIZE,
+    }
+}
+
+/// How many of the first `index` bits are zeros.
+#[unsafe(no_mangle)]
+pub extern "C" fn bitm_rank0(view: &View<'_>, index: usize, out: &mut usize) -> u32
+    ensures { RankAnswered false (lists_of view.now) index result out.old out.new }
+{
+    match view.lent() {
+        Some(lent) => tell(lent.rank0(index), out),
+        None => BAD_SIZE,
+    }
+}
+
+/// The place of the one with `rank` ones before it.
+#[unsafe(no_mangle)]
+pub extern "C" fn bitm_select(view: &View<'_>, rank: usize, out: &mut usize) -> u32
+    ensures { SelectAnswered true (lists_of view.now) rank result out.old out.new }
+{
+    match view.lent() {
+        Some(lent) => tell_place(lent.select(rank), out),
+        None => BAD_SIZE,
+    }
+}
+
+/// The place of the zero with `rank` zeros before it.
+#[unsafe(no_mangle)]
+pub extern "C" fn bitm_select0(view: &View<'_>, rank: usize, out: &mut usize) -> u32
+    ensures { SelectAnswered false (lists_of view.now) rank result out.old out.new }
+{
+    match view.lent() {
+        Some(lent) => tell_place(lent.select0(rank), out),
+        None => BAD_SIZE,
+    }
+}

@@ -1,0 +1,76 @@
+//! The same questions for lists of queries: one call, and one test of the lengths.
+ghost use Rattle.std.specs.Prelude.{◌≡◌, ◌≢◌, ◌<◌, ◌↔◌, ℕ, length, slice_index, true, false, if◌then◌else◌};
+ghost use Rattle.bitm_lent.specs.Answers.{RankTold, SelectTold};
+ghost use Rattle.bitm_lent.specs.Sizes.{HasSizes};
+ghost use Rattle.bitm_c.specs.Status.{lists_of};
+
+use crate::answer::{BAD_SIZE, OK};
+use crate::view::View;
+
+/// `OK` where the answers were written.
+#[inline(always)]
+fn done(written: bool) -> u32
+    ensures { result ≡ (if written then 0 else 2) }
+{
+    if written { OK } else { BAD_SIZE }
+}
+
+/// How many of the first bits are ones, for each number of bits.
+#[unsafe(no_mangle)]
+pub extern "C" fn bitm_rank_list(view: &View<'_>, queries: &[usize], out: &mut [usize]) -> u32
+    ensures ok { (result ≡ 0) ↔ HasSizes (lists_of view.now)
+        × (length out.old ≡ length queries.now) }
+    ensures kept { result ≢ 0 → (result ≡ 2) × (out.new ≡ out.old) }
+    ensures told { result ≡ 0 → (j : ℕ) → j < length queries.now
+        → RankTold true (lists_of view.now) (slice_index queries.now j) (slice_index out.new j) }
+{
+    match view.lent() {
+        Some(lent) => done(lent.rank_list(queries, out)),
+        None => BAD_SIZE,
+    }
+}
+
+/// How many of the first bits are zeros, for each number of bits.
+#[unsafe(no_mangle)]
+pub extern "C" fn bitm_rank0_list(view: &View<'_>, queries: &[usize], out: &mut [usize]) -> u32
+    ensures ok { (result ≡ 0) ↔ HasSizes (lists_of view.now)
+        × (length out.old ≡ length queries.now) }
+    ensures kept { result ≢ 0 → (result ≡ 2) × (out.new ≡ out.old) }
+    ensures told { result ≡ 0 → (j : ℕ) → j < length queries.now
+        → RankTold false (lists_of view.now) (slice_index queries.now j) (slice_index out.new j) }
+{
+    match view.lent() {
+        Some(lent) => done(lent.rank0_list(queries, out)),
+        None => BAD_SIZE,
+    }
+}
+
+/// The place of the one with each rank.
+#[unsafe(no_mangle)]
+pub extern "C" fn bitm_select_list(view: &View<'_>, queries: &[usize], out: &mut [usize]) -> u32
+    ensures ok { (result ≡ 0) ↔ HasSizes (lists_of view.now)
+        × (length out.old ≡ length queries.now) }
+    ensures kept { result ≢ 0 → (result ≡ 2) × (out.new ≡ out.old) }
+    ensures told { result ≡ 0 → (j : ℕ) → j < length queries.now
+        → SelectTold true (lists_of view.now) (slice_index queries.now j) (slice_index out.new j) }
+{
+    match view.lent() {
+        Some(lent) => done(lent.select_list(queries, out)),
+        None => BAD_SIZE,
+    }
+}
+
+/// The place of the zero with each rank.
+#[unsafe(no_mangle)]
+pub extern "C" fn bitm_select0_list(view: &View<'_>, queries: &[usize], out: &mut [usize]) -> u32
+    ensures ok { (result ≡ 0) ↔ HasSizes (lists_of view.now)
+        × (length out.old ≡ length queries.now) }
+    ensures kept { result ≢ 0 → (result ≡ 2) × (out.new ≡ out.old) }
+    ensures told { result ≡ 0 → (j : ℕ) → j < length queries.now
+        → SelectTold false (lists_of view.now) (slice_index queries.now j) (slice_index out.new j) }
+{
+    match view.lent() {
+        Some(lent) => done(lent.select0_list(queries, out)),
+        None => BAD_SIZE,
+    }
+}

@@ -1,0 +1,29 @@
+//! Words and tables as one struct lends them to C.
+ghost use Rattle.std.specs.Prelude.{◌≡◌, MatchOption};
+ghost use Rattle.bitm_lent.specs.Sizes.{HasSizes};
+ghost use Rattle.bitm_c.specs.Status.{lists_of};
+
+use bitm_lent::Lent;
+
+/// Words and two tables, all lent: for C three pairs of a pointer and a length.
+#[repr(C)]
+#[derive(Clone, Copy)]
+pub struct View<'a> {
+    /// The content.
+    pub words: &'a [u64],
+    /// The upper table.
+    pub upper: &'a [usize],
+    /// The lower table.
+    pub lower: &'a [u64],
+}
+
+impl<'a> View<'a> {
+    /// The three as the library asks them; `None` exactly where a length is not right.
+    #[inline(always)]
+    pub(crate) fn lent(&self) -> Option<Lent<'a>>
+        ensures { MatchOption result (HasSizes (lists_of self.now) → ⊥)
+            (λ lent. (lent ≡ lists_of self.now) × HasSizes (lists_of self.now)) }
+    {
+        Lent::over(self.words, self.upper, self.lower)
+    }
+}
