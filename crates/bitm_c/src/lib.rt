@@ -9,4 +9,5 @@ mod bits;
 mod header;
 mod index;
 mod lists;
+mod places;
 mod view;

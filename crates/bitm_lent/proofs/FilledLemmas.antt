@@ -38,15 +38,15 @@ tables_filled words upper lower s up low =
       lower_is = ext_get_or 0 lower (lower_of b) most (λ i h. low i h ∙ sym (get_or-lower_of b i 0 (omega (arith, h, most, length-lower_of b))));
     }
 
--- one more answer, in a list of answers to a list of queries
-pub told_more : (P : ℕ → ℕ → Type 0) (xs ys : List ℕ) (n y : ℕ) → ((j : ℕ) → j < n → P (slice_index xs j) (slice_index ys j)) → n < length ys
-    → P (slice_index xs n) y → (j : ℕ) → j < n + 1 → P (slice_index xs j) (slice_index (slice_set ys n y) j)
-told_more P xs ys n y before inside is j l =
+-- one more item, of which something is told by its place
+pub placed_more : (P : ℕ → ℕ → Type 0) (ys : List ℕ) (n y : ℕ) → ((j : ℕ) → j < n → P j (slice_index ys j)) → n < length ys → P n y
+    → (j : ℕ) → j < n + 1 → P j (slice_index (slice_set ys n y) j)
+placed_more P ys n y before inside is j l =
     elim (cases_lt j n) [
       | inl less ↦
           let other : j ≢ n = λ e. omega (arith, e, less) in
-          subst (P (slice_index xs j)) (sym (get_or-set_other ys n j y 0 other)) (before j less)
+          subst (P j) (sym (get_or-set_other ys n j y 0 other)) (before j less)
       | inr from ↦
           let e : j ≡ n = omega arith in
-          subst (P (slice_index xs j)) (sym (get_or-set_at ys n j y 0 e inside)) (subst (λ (k : ℕ). P (slice_index xs k) y) (sym e) is)
+          subst (P j) (sym (get_or-set_at ys n j y 0 e inside)) (subst (λ (k : ℕ). P k y) (sym e) is)
     ]

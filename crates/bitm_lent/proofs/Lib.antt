@@ -1,3 +1,4 @@
 pub mod FilledLemmas
+pub mod PlaceLemmas
 pub mod SelectedLemmas
 pub mod SizeLemmas
