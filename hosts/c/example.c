@@ -1,0 +1,24 @@
+/* An index over an array, with the header as it is installed. */
+#include <bitm.h>
+
+#include <stdio.h>
+#include <stdlib.h>
+
+int main(void)
+{
+    const uint64_t words[40] = {[1] = (uint64_t)1 << 36, [39] = 1}; /* the ones at places 100 and 2496 */
+    size_t upper_len = bitm_upper_len(40), lower_len = bitm_lower_len(40);
+    uint64_t *upper = malloc(8 * upper_len), *lower = malloc(8 * lower_len), ones, rank, place;
+    if (!upper || !lower)
+        return 1;
+    if (bitm_build(words, 40, upper, upper_len, lower, lower_len, &ones) != BITM_OK)
+        return 1;
+    struct bitm_view view = {words, 40, upper, upper_len, lower, lower_len};
+    if (bitm_rank(&view, 101, &rank) != BITM_OK || bitm_select(&view, 1, &place) != BITM_OK)
+        return 1;
+    printf("%llu ones, %llu of them among the first 101 bits, the second one at %llu\n", (unsigned long long)ones,
+           (unsigned long long)rank, (unsigned long long)place);
+    free(upper);
+    free(lower);
+    return ones == 2 && rank == 1 && place == 2496 ? 0 : 1;
+}

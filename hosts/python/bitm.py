@@ -1,0 +1,214 @@
+"""Rank and select of the proved archive over any buffers, without a copy: `array`, `mmap`, NumPy arrays, `bytes`.
+
+    library = bitm.Library("libbitm.so")            # a shared object of the archive, as `make install` makes it
+    upper, lower = library.tables(words)            # two arrays, filled
+    with library.over(words, upper, lower) as index:
+        index.rank(100), index.select(17), index.select_list([1, 2, 3])
+
+A buffer is read as numbers of 8 bytes in this machine's order. Only ctypes is needed.
+"""
+import array
+import ctypes
+
+OK, NONE, BAD_SIZE, WRONG = range(4)
+NO_ANSWER, WRONG_TABLES = 2**64 - 1, 2**64 - 2
+
+STATUS, SIZE, U32, U64, BOOL = ctypes.c_uint32, ctypes.c_size_t, ctypes.c_uint32, ctypes.c_uint64, ctypes.c_bool
+IN = OUT = ctypes.c_void_p  # a number, or the first of some
+
+
+class View(ctypes.Structure):
+    """`struct bitm_view`."""
+
+    _fields_ = [("words", IN), ("words_len", SIZE), ("upper", IN), ("upper_len", SIZE), ("lower", IN), ("lower_len", SIZE)]
+
+
+class Header(ctypes.Structure):
+    """`struct bitm_header`."""
+
+    _fields_ = [("mark", U64), ("words_len", U64), ("upper_len", U64), ("lower_len", U64)]
+
+
+VIEW, HEADER = ctypes.POINTER(View), ctypes.POINTER(Header)
+WORDS, LIST, ROOM = [IN, SIZE], [IN, SIZE], [OUT, SIZE]
+
+# What each export answers and takes; scripts/headers compares this with the exports.
+DECLARATIONS = {
+    "bitm_upper_len": (SIZE, [SIZE]),
+    "bitm_lower_len": (SIZE, [SIZE]),
+    "bitm_build": (STATUS, WORDS + ROOM + ROOM + [OUT]),
+    "bitm_check": (STATUS, [VIEW]),
+    "bitm_rank": (STATUS, [VIEW, SIZE, OUT]),
+    "bitm_rank0": (STATUS, [VIEW, SIZE, OUT]),
+    "bitm_select": (STATUS, [VIEW, SIZE, OUT]),
+    "bitm_select0": (STATUS, [VIEW, SIZE, OUT]),
+    "bitm_rank_list": (STATUS, [VIEW] + LIST + ROOM),
+    "bitm_rank0_list": (STATUS, [VIEW] + LIST + ROOM),
+    "bitm_select_list": (STATUS, [VIEW] + LIST + ROOM),
+    "bitm_select0_list": (STATUS, [VIEW] + LIST + ROOM),
+    "bitm_count": (STATUS, WORDS + [OUT]),
+    "bitm_ones": (STATUS, WORDS + [SIZE] + ROOM + [OUT]),
+    "bitm_get_bit": (STATUS, WORDS + [SIZE, OUT]),
+    "bitm_set_bit": (STATUS, WORDS + [SIZE, BOOL]),
+    "bitm_get_bits": (STATUS, WORDS + [SIZE, U32, OUT]),
+    "bitm_set_bits": (STATUS, WORDS + [SIZE, U32, U64]),
+    "bitm_get_fragment": (STATUS, WORDS + [SIZE, U32, OUT]),
+    "bitm_set_fragment": (STATUS, WORDS + [SIZE, U32, U64]),
+    "bitm_write_header": (STATUS, [SIZE, HEADER]),
+    "bitm_read_header": (STATUS, [HEADER, OUT]),
+}
+
+
+class WrongTables(Exception):
+    """The tables are not those of the words."""
+
+
+class _PyBuffer(ctypes.Structure):
+    """`Py_buffer` of the interpreter: where the bytes of an object lie."""
+
+    _fields_ = [
+        ("buf", ctypes.c_void_p), ("obj", ctypes.py_object), ("len", ctypes.c_ssize_t), ("itemsize", ctypes.c_ssize_t),
+        ("readonly", ctypes.c_int), ("ndim", ctypes.c_int), ("format", ctypes.c_char_p), ("shape", ctypes.c_void_p),
+        ("strides", ctypes.c_void_p), ("suboffsets", ctypes.c_void_p), ("internal", ctypes.c_void_p),
+    ]
+
+
+class _Lent:
+    """The numbers of a buffer, held in place until they are given back."""
+
+    def __init__(self, buffer, writable=False):
+        self._held = _PyBuffer()
+        self._open = False
+        ctypes.pythonapi.PyObject_GetBuffer(ctypes.py_object(buffer), ctypes.byref(self._held), 1 if writable else 0)
+        self._open = True
+        # Of no bytes the address may be anything, and a pointer of ours is NULL.
+        self.address, self.len = self._held.buf if self._held.len else None, self._held.len // 8
+        if self._held.len % 8 or (self.address or 0) % 8:
+            self.release()
+            raise ValueError("a buffer of whole numbers of 8 bytes is wanted, aligned to 8")
+
+    def release(self):
+        if self._open:
+            self._open = False
+            ctypes.pythonapi.PyBuffer_Release(ctypes.byref(self._held))
+
+    def __enter__(self):
+        return self
+
+    def __exit__(self, *_):
+        self.release()
+
+    __del__ = release
+
+
+class Library:
+    """The exports of a shared object, with their types."""
+
+    def __init__(self, path):
+        calls = ctypes.CDLL(str(path))
+        for name, (result, arguments) in DECLARATIONS.items():
+            call = getattr(calls, name)
+            call.restype, call.argtypes = result, arguments
+            setattr(self, name, call)
+
+    def over(self, words, upper, lower):
+        """The index over words and tables in buffers, as a context; ValueError where a length is not right."""
+        return Index(self, words, upper, lower)
+
+    def build(self, words, upper, lower):
+        """Writes both tables of the words into writable buffers, and answers the number of ones."""
+        ones = U64()
+        with _Lent(words) as w, _Lent(upper, True) as u, _Lent(lower, True) as k:
+            if self.bitm_build(w.address, w.len, u.address, u.len, k.address, k.len, ctypes.byref(ones)) != OK:
+                raise ValueError("a table is not as long as that of the words")
+        return ones.value
+
+    def tables(self, words):
+        """Both tables of the words, in two new arrays."""
+        with _Lent(words) as w:
+            lens = self.bitm_upper_len(w.len), self.bitm_lower_len(w.len)
+        upper, lower = (array.array("Q", bytes(8 * n)) for n in lens)
+        self.build(words, upper, lower)
+        return upper, lower
+
+    def ones(self, words, start=0, most=1 << 16):
+        """The places of the ones from a place on, no more than so many, as an array."""
+        out, written = array.array("Q", bytes(8 * most)), U64()
+        with _Lent(words) as w, _Lent(out, True) as o:
+            if self.bitm_ones(w.address, w.len, start, o.address, o.len, ctypes.byref(written)) != OK:
+                raise ValueError("too many words")
+        return out[: written.value]
+
+
+class Index:
+    """Words and tables in buffers that stay in place until the context ends."""
+
+    def __init__(self, library, words, upper, lower):
+        self._library = library
+        self._lent = [_Lent(words), _Lent(upper), _Lent(lower)]
+        self._view = View(*(part for lent in self._lent for part in (lent.address, lent.len)))
+        self._at = ctypes.byref(self._view)
+        if library.bitm_rank(self._at, 0, ctypes.byref(U64())) == BAD_SIZE:
+            self.close()
+            raise ValueError("a table is not as long as that of the words")
+
+    def check(self):
+        """Whether the tables are those of the words."""
+        return self._library.bitm_check(self._at) == OK
+
+    def rank(self, index):
+        """How many of the first bits are ones; None where there are fewer bits."""
+        return self._ask(self._library.bitm_rank, index)
+
+    def rank0(self, index):
+        """How many of the first bits are zeros; None where there are fewer bits."""
+        return self._ask(self._library.bitm_rank0, index)
+
+    def select(self, rank):
+        """The place of the one with so many ones before it; None where there is none."""
+        return self._ask(self._library.bitm_select, rank)
+
+    def select0(self, rank):
+        """The place of the zero with so many zeros before it; None where there is none."""
+        return self._ask(self._library.bitm_select0, rank)
+
+    def rank_list(self, places):
+        return self._ask_list(self._library.bitm_rank_list, places)
+
+    def rank0_list(self, places):
+        return self._ask_list(self._library.bitm_rank0_list, places)
+
+    def select_list(self, ranks):
+        return self._ask_list(self._library.bitm_select_list, ranks)
+
+    def select0_list(self, ranks):
+        return self._ask_list(self._library.bitm_select0_list, ranks)
+
+    def close(self):
+        """Gives the buffers back."""
+        for lent in self._lent:
+            lent.release()
+        self._view = View()
+        self._at = ctypes.byref(self._view)
+
+    def __enter__(self):
+        return self
+
+    def __exit__(self, *_):
+        self.close()
+
+    def _ask(self, call, query):
+        out = U64()
+        status = call(self._at, query, ctypes.byref(out))
+        if status == WRONG:
+            raise WrongTables()
+        return out.value if status == OK else None
+
+    def _ask_list(self, call, queries):
+        """An array of answers, NO_ANSWER and WRONG_TABLES among them, to a buffer or a list of queries."""
+        asked = array.array("Q", queries) if isinstance(queries, (list, tuple, range)) else queries
+        with _Lent(asked) as q:
+            out = array.array("Q", bytes(8 * q.len))
+            with _Lent(out, True) as o:
+                call(self._at, q.address, q.len, o.address, o.len)
+        return out

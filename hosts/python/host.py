@@ -1,0 +1,102 @@
+"""Asks an index over arrays, a mapped file and NumPy arrays, and compares every answer with a plain loop.
+
+The argument is the shared object of the archive."""
+import array
+import mmap
+import random
+import sys
+import tempfile
+
+import bitm
+
+library = bitm.Library(sys.argv[1])
+random.seed(7)
+
+
+def against_a_loop(words, index):
+    bits = [word >> i & 1 for word in words for i in range(64)]
+    places = [[i for i, bit in enumerate(bits) if bit == kind] for kind in (0, 1)]
+    ranks = [0]
+    for bit in bits:
+        ranks.append(ranks[-1] + bit)
+    assert index.check()
+    for i in random.sample(range(len(bits) + 1), min(len(bits), 300)) + [len(bits)]:
+        assert index.rank(i) == ranks[i] and index.rank0(i) == i - ranks[i]
+    assert index.rank(len(bits) + 1) is None
+    for kind, select in ((1, index.select), (0, index.select0)):
+        for r in random.sample(range(len(places[kind])), min(len(places[kind]), 300)):
+            assert select(r) == places[kind][r]
+        assert select(len(places[kind])) is None
+    n = len(bits)
+    assert list(index.rank_list(range(n + 2))) == ranks + [bitm.NO_ANSWER]
+    assert list(index.rank0_list(range(n + 2))) == [i - r for i, r in enumerate(ranks)] + [bitm.NO_ANSWER]
+    assert list(index.select_list(range(len(places[1]) + 1))) == places[1] + [bitm.NO_ANSWER]
+    assert list(index.select0_list(range(len(places[0]) + 1))) == places[0] + [bitm.NO_ANSWER]
+    return places[1]
+
+
+def refused(call):
+    try:
+        call()
+    except ValueError:
+        return True
+    return False
+
+
+def over_arrays(n):
+    words = array.array("Q", (random.getrandbits(64) & random.getrandbits(64) for _ in range(n)))
+    upper, lower = library.tables(words)
+    with library.over(words, upper, lower) as index:
+        ones = against_a_loop(words, index)
+    assert list(library.ones(words)) == ones and list(library.ones(words, 1, 3)) == [p for p in ones if p >= 1][:3]
+    assert refused(lambda: library.over(words, upper, lower[:-1])) or n == 0
+    if n:
+        lower[len(lower) // 2] ^= 1 << 33
+        with library.over(words, upper, lower) as index:
+            assert not index.check()
+
+
+def over_a_mapped_file(n):
+    """A file of a header, the words and both tables: written, mapped again read-only, and asked."""
+    lens = n, library.bitm_upper_len(n), library.bitm_lower_len(n)
+    begins = [32, 32 + 8 * lens[0], 32 + 8 * (lens[0] + lens[1]), 32 + 8 * sum(lens)]
+    with tempfile.TemporaryFile() as file:
+        file.truncate(begins[3])
+        with mmap.mmap(file.fileno(), begins[3]) as data, memoryview(data) as whole:
+            header = bitm.Header.from_buffer(data)
+            assert library.bitm_write_header(n, header) == bitm.OK
+            del header
+            words, upper, lower = (whole[begins[i] : begins[i + 1]].cast("Q") for i in range(3))
+            for i in range(n):
+                words[i] = random.getrandbits(64)
+            library.build(words, upper, lower)
+            for part in (words, upper, lower):
+                part.release()
+        with mmap.mmap(file.fileno(), begins[3], prot=mmap.PROT_READ) as data, memoryview(data) as whole:
+            read = bitm.U64()
+            assert library.bitm_read_header(bitm.Header.from_buffer_copy(whole[:32]), bitm.ctypes.byref(read)) == bitm.OK
+            assert read.value == n
+            words, upper, lower = (whole[begins[i] : begins[i + 1]].cast("Q") for i in range(3))
+            with library.over(words, upper, lower) as index:
+                against_a_loop(words, index)
+            for part in (words, upper, lower):
+                part.release()
+
+
+def over_numpy(n):
+    try:
+        import numpy
+    except ImportError:
+        return "NumPy is not here"
+    words = numpy.array([random.getrandbits(64) for _ in range(n)], dtype=numpy.uint64)
+    upper, lower = library.tables(words)
+    with library.over(words, upper, lower) as index:
+        against_a_loop([int(word) for word in words], index)
+        assert list(index.rank_list(numpy.arange(64 * n, dtype=numpy.uint64)))[-1] == index.rank(64 * n - 1)
+    return "NumPy arrays too"
+
+
+for n in (0, 1, 8, 33, 100):
+    over_arrays(n)
+    over_a_mapped_file(n)
+print(f"python host: all answers as the plain loop's; {over_numpy(40)}")
