@@ -8,7 +8,7 @@ ghost use Rattle.bitm.specs.Tables.{HasTables};
 ghost use Rattle.bitm_lent.specs.Sizes.{HasSizes, IsFilled, listed};
 
 use bitm::L2_ENTRIES_PER_L1_ENTRY;
-use bitm::building::entry_of;
+use bitm::building::make_entry;
 
 /// How many ones a part has, if its lower entries are right.
 fn ones_of_part(words: &[u64], upper: &[usize], lower: &[u64], part: usize) -> Option<usize>
@@ -25,7 +25,7 @@ fn ones_of_part(words: &[u64], upper: &[usize], lower: &[u64], part: usize) -> O
     let end = lower.len().min(first + L2_ENTRIES_PER_L1_ENTRY);
     let mut in_part = 0;
     for at in first..end {
-        let (entry, ones) = entry_of(words, at, in_part);
+        let (entry, ones) = make_entry(words, at, in_part);
         if lower[at] != entry {
             return None;
         }

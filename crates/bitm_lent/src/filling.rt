@@ -9,7 +9,7 @@ ghost use Rattle.bitm_lent.specs.Sizes.{HasSizes, IsFilled, listed};
 
 use crate::lent::has_sizes;
 use bitm::L2_ENTRIES_PER_L1_ENTRY;
-use bitm::building::entry_of;
+use bitm::building::make_entry;
 
 /// Writes the lower entries of a part, and answers the number of ones in it.
 fn fill_part(words: &[u64], part: usize, lower: &mut [u64]) -> usize
@@ -27,7 +27,7 @@ fn fill_part(words: &[u64], part: usize, lower: &mut [u64]) -> usize
     let end = lower.len().min(first + L2_ENTRIES_PER_L1_ENTRY);
     let mut in_part = 0;
     for at in first..end {
-        let (entry, ones) = entry_of(words, at, in_part);
+        let (entry, ones) = make_entry(words, at, in_part);
         lower[at] = entry;
         in_part += ones;
     }

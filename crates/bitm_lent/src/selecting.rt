@@ -10,7 +10,7 @@ ghost use Rattle.bitm_lent.specs.Answers.{HasBit, IsSelected, IsSelectedFrom};
 ghost use Rattle.bitm_lent.specs.Sizes.{HasSizes};
 
 use crate::searching::{before_part, last_entry, last_part};
-use bitm::building::{ones_to_entry, ones_to_record, record_of, select_in_word, word_of};
+use bitm::building::{ones_to_entry, ones_to_record, record_of, select_in_word, sought_word};
 use bitm::{L2_ENTRIES_PER_L1_ENTRY, TableSource, U64_PER_L2_ENTRY, U64_PER_L2_RECORDS};
 
 /// What a selection answers.
@@ -45,7 +45,7 @@ fn among<const ONE: u8, T: TableSource>(
 {
     let mut rest = rank;
     for k in 0..count {
-        let word = word_of::<ONE, T>(source, first + k);
+        let word = sought_word::<ONE, T>(source, first + k);
         let ones = word.count_ones() as usize;
         if rest < ones {
             return Some((first + k) * 64 + select_in_word(word, rest));

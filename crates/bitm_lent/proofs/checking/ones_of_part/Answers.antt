@@ -10,12 +10,12 @@ use Rattle.bitm_lent.proofs.checking.ones_of_part.Goals as goal
 pub returns-then-lower-at-clause-wrong : goal.returns-then-lower-at-clause-wrong
 returns-then-lower-at-clause-wrong c = λ _ t.
     c.if-lower-at.true
-    ((entries _ _ _ t).lower_is c.loop-at.at (omega (arith, c.min-end.ensures, c.loop-at-test.true)) ∙ sym c.entry_of-entry.ensures.entry)
+    ((entries _ _ _ t).lower_is c.loop-at.at (omega (arith, c.min-end.ensures, c.loop-at-test.true)) ∙ sym c.make_entry-entry.ensures.entry)
 
 pub overflow_add-in_part : goal.overflow_add-in_part
 overflow_add-in_part c =
     let most = ones_before-at_most_all (bits_of c.args.words.now) (2048 * (c.loop-at.at + 1)) in
-    record { fits = omega (arith, c.loop-at.invariant.ones, c.entry_of-entry.ensures.ones, most, few_ones c.args.words.now, c.requires.sized.short) }
+    record { fits = omega (arith, c.loop-at.invariant.ones, c.make_entry-entry.ensures.ones, most, few_ones c.args.words.now, c.requires.sized.short) }
 
 pub returns-clause-ones : goal.returns-clause-ones
 returns-clause-ones c =

@@ -9,7 +9,7 @@ use Rattle.bitm_lent.proofs.filling.fill_part.Goals as goal
 pub overflow_add-in_part : goal.overflow_add-in_part
 overflow_add-in_part c =
     let most = ones_before-at_most_all (bits_of c.args.words.now) (2048 * (c.loop-at.at + 1)) in
-    record { fits = omega (arith, c.loop-at.invariant.ones, c.entry_of-entry.ensures.ones, most, few_ones c.args.words.now, c.requires.short) }
+    record { fits = omega (arith, c.loop-at.invariant.ones, c.make_entry-entry.ensures.ones, most, few_ones c.args.words.now, c.requires.short) }
 
 pub returns-clause-ones : goal.returns-clause-ones
 returns-clause-ones c =

@@ -4,7 +4,7 @@ use Rattle.bitm_bits.proofs.lemmas.DigitLemmas.{digit_count_most}
 use Rattle.bitm.specs.Entry.{before_in_part, lower_entry}
 use Rattle.bitm.specs.Search.{Between, entries_from, sought_in}
 use Rattle.bitm.specs.Tables.{HasTables, Lists}
-use Rattle.bitm.specs.declared.probe.counts.ReadCounts.{ReadCounts}
+use Rattle.bitm.specs.declared.source.counts.ReadCounts.{ReadCounts}
 use Rattle.bitm.proofs.lemmas.SearchLemmas.{search_begins, goes_up, goes_down, halves_left}
 use Rattle.bitm.proofs.lemmas.SoughtLemmas.{first_none, low_is, entries_rise}
 use Rattle.bitm_lent.proofs.SizeLemmas.{first_of_part}

@@ -5,7 +5,7 @@ use Rattle.bitm_bits.proofs.lemmas.DigitLemmas.{digit_count-mono}
 use Rattle.bitm_bits.specs.Count.{ones_before}
 use Rattle.bitm.specs.Search.{Between, sought_in}
 use Rattle.bitm.specs.Tables.{HasTables, Lists}
-use Rattle.bitm.specs.declared.probe.counts.ReadCounts.{ReadCounts}
+use Rattle.bitm.specs.declared.source.counts.ReadCounts.{ReadCounts}
 use Rattle.bitm.proofs.lemmas.SearchLemmas.{search_begins, goes_up, goes_down, search_ends, halves_left}
 use Rattle.bitm.proofs.lemmas.SoughtLemmas.{parts_rise}
 use Rattle.bitm_lent.proofs.searching.last_part.Goals as goal
