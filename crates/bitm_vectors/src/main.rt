@@ -3,18 +3,16 @@
 #![tactic(auto)]
 
 mod answer;
-mod answering;
 mod command;
 mod index;
+mod program;
 mod session;
-mod starting;
 #[cfg(test)]
 mod tests;
 mod text;
 
-pub use answering::{WriteFailed, run};
-use starting::CANNOT_READ;
-pub use starting::start;
+use program::CANNOT_READ;
+pub use program::{WriteFailed, run, start};
 use std::env::Env;
 use std::io::BufWriter;
 use std::process::ExitCode;

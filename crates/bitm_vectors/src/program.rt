@@ -1,12 +1,14 @@
-//! The program without its process: arguments, statuses and texts.
-ghost use Rattle.std.specs.Prelude.{◌≡◌, ◌≢◌, ◌≤◌, ℕ, List, length, nat_eq};
+//! The program without its process: the answers to an input, and the file, the statuses and the texts around them.
+ghost use Rattle.std.specs.Prelude.{◌≡◌, ◌≢◌, ◌≤◌, ℕ, List, length, nat_eq, IfOk};
 ghost use Rattle.bitm_vectors.specs.Session.{State, Wrote};
 ghost use Rattle.bitm_vectors.specs.Text.{lines_of};
 
-use crate::answering::run;
-use std::fs;
+use crate::session::Session;
+use crate::text::Lines;
+use std::alloc::Global;
 use std::io::Write;
 use std::rt::Files;
+use std::{fs, io};
 
 /// What is written where the file, or the arguments before it, can't be read.
 pub(crate) const CANNOT_READ: &str = "bitm_vectors: cannot read the file";
@@ -16,6 +18,38 @@ const CANNOT_WRITE: &str = "bitm_vectors: cannot write";
 
 /// What is written where there is not exactly one argument.
 const USAGE: &str = "usage: bitm_vectors FILE";
+
+/// A write failed.
+#[derive(Clone, Copy, Debug, PartialEq, Eq)]
+pub struct WriteFailed;
+
+impl From<io::Error> for WriteFailed {
+    fn from(_error: io::Error) -> WriteFailed {
+        WriteFailed
+    }
+}
+
+/// Writes the answers to the lines of `input`, in their order and each with a line feed, and
+/// answers whether no answer was `bad command`.
+///
+/// A session begins with an empty vector and nothing built. Lines end with a line feed, a last one
+/// may lack it, and empty lines have no answer.
+///
+/// # Errors
+/// `WriteFailed` where a write to `out` failed; what was written before stays.
+pub fn run<W: Write>(alloc: Global, input: &[u8], out: &mut W) -> Result<bool, WriteFailed>
+    ensures { IfOk result (λ good. (end : State)
+        × Wrote (lines_of input.now) end (W.contents out.old) (W.contents out.new) good) }
+{
+    let mut session = Session::new(alloc);
+    let mut good = true;
+    for line in Lines::new(input) {
+        let answer = session.answer(alloc, line);
+        writeln!(out, "{answer}")?;
+        good &= answer.is_good();
+    }
+    Ok(good)
+}
 
 /// Answers the lines of the file that the one argument names, and answers the status that the
 /// program ends with.

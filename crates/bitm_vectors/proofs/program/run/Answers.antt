@@ -1,7 +1,7 @@
 use Rattle.std.proofs.Common.{map}
 use Rattle.std.proofs.lemmas.List.{map-append}
 use Rattle.bitm_vectors.proofs.lemmas.SessionLemmas.{wrote_more}
-use Rattle.bitm_vectors.proofs.answering.run.Goals as goal
+use Rattle.bitm_vectors.proofs.program.run.Goals as goal
 
 pub loop-line-preserved : goal.loop-line-preserved
 loop-line-preserved g c =
