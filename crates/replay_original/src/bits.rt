@@ -15,23 +15,17 @@ fn range(text: &str) -> Result<(usize, &str), Fault> {
 /// Compares the numbers that stand in ranges.
 pub fn bits<'a>(state: &State<'a>, line: &'a str, found: &mut Found<'a>) -> Result<(), Fault> {
     let (words, pairs) = state.content(line)?;
-    for pair in pairs.split_ascii_whitespace() {
-        let (argument, theirs) = text::pair(pair)?;
+    found.compare_each(pairs, Base::Hexadecimal, |argument| {
         let (begin, len) = range(argument)?;
-        let ours = words.try_get_bits(begin, text::width(len, 63)?);
-        found.compare(argument, Base::Hexadecimal, ours, theirs)?;
-    }
-    Ok(())
+        Ok(words.try_get_bits(begin, text::width(len, 63)?))
+    })
 }
 
 /// Compares what unmasked reads of ranges give.
 pub fn raw<'a>(state: &State<'a>, line: &'a str, found: &mut Found<'a>) -> Result<(), Fault> {
     let (words, pairs) = state.content(line)?;
-    for pair in pairs.split_ascii_whitespace() {
-        let (argument, theirs) = text::pair(pair)?;
+    found.compare_each(pairs, Base::Hexadecimal, |argument| {
         let (begin, len) = range(argument)?;
-        let ours = words.try_get_bits_unmasked(begin, text::width(len, 64)?);
-        found.compare(argument, Base::Hexadecimal, ours, theirs)?;
-    }
-    Ok(())
+        Ok(words.try_get_bits_unmasked(begin, text::width(len, 64)?))
+    })
 }

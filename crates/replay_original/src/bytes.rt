@@ -7,18 +7,16 @@ use crate::text::Base;
 use bitm::{get_bits25, get_bits57, init_bits25, init_bits57, set_bits25, set_bits57};
 use std::alloc::Global;
 
-/// Compares bytes.
+/// Compares bytes with those that a text writes.
 fn compare<'a>(
     alloc: Global,
     call: &'a str,
     ours: &[u8],
-    theirs: &[u8],
+    theirs: &str,
     found: &mut Found<'a>,
 ) -> Result<(), Fault> {
     let ours: Vec<u64> = ours.iter().map(|byte| u64::from(*byte)).collect(alloc)?;
-    let theirs: Vec<u64> = theirs.iter().map(|byte| u64::from(*byte)).collect(alloc)?;
-    found.compare_lists(call, Base::Hexadecimal, ours.as_slice(), theirs.as_slice());
-    Ok(())
+    found.compare_list(alloc, call, Base::Hexadecimal, ours.as_slice(), theirs)
 }
 
 /// Compares what a read of eight bytes gives.
@@ -50,14 +48,14 @@ pub fn init57<'a>(alloc: Global, line: &'a str, found: &mut Found<'a>) -> Result
     let (call, theirs) = text::halves(line)?;
     let (first_bit, number) = text::first_word(call);
     let place = text::place(first_bit)?;
-    let theirs = text::byte_list(alloc, theirs)?;
-    let mut ours = vec![in alloc; 0u8; theirs.len()]?;
+    let count = text::byte_list(alloc, theirs)?.len();
+    let mut ours = vec![in alloc; 0u8; count]?;
     if place / 8 + 8 > ours.len() {
         return Err(Fault::Condition);
     }
     let value = text::number(number, Base::Hexadecimal)?;
     init_bits57(ours.as_mut_slice(), place, value);
-    compare(alloc, call, ours.as_slice(), theirs.as_slice(), found)
+    compare(alloc, call, ours.as_slice(), theirs, found)
 }
 
 /// Compares the bytes after a number was written to four zero bytes among others.
@@ -65,14 +63,14 @@ pub fn init25<'a>(alloc: Global, line: &'a str, found: &mut Found<'a>) -> Result
     let (call, theirs) = text::halves(line)?;
     let (first_bit, number) = text::first_word(call);
     let place = text::place(first_bit)?;
-    let theirs = text::byte_list(alloc, theirs)?;
-    let mut ours = vec![in alloc; 0u8; theirs.len()]?;
+    let count = text::byte_list(alloc, theirs)?.len();
+    let mut ours = vec![in alloc; 0u8; count]?;
     if place / 8 + 4 > ours.len() {
         return Err(Fault::Condition);
     }
     let value = text::short_number(number)?;
     init_bits25(ours.as_mut_slice(), place, value);
-    compare(alloc, call, ours.as_slice(), theirs.as_slice(), found)
+    compare(alloc, call, ours.as_slice(), theirs, found)
 }
 
 /// Compares the bytes after a number was put over eight of them.
@@ -93,8 +91,7 @@ pub fn set57<'a>(
     let value = text::number(number, Base::Hexadecimal)?;
     let mask = text::number(mask, Base::Hexadecimal)?;
     set_bits57(ours.as_mut_slice(), place, value, mask);
-    let theirs = text::byte_list(alloc, theirs)?;
-    compare(alloc, call, ours.as_slice(), theirs.as_slice(), found)
+    compare(alloc, call, ours.as_slice(), theirs, found)
 }
 
 /// Compares the bytes after a number was put over four of them.
@@ -114,6 +111,5 @@ pub fn set25<'a>(
     }
     let (value, mask) = (text::short_number(number)?, text::short_number(mask)?);
     set_bits25(ours.as_mut_slice(), place, value, mask);
-    let theirs = text::byte_list(alloc, theirs)?;
-    compare(alloc, call, ours.as_slice(), theirs.as_slice(), found)
+    compare(alloc, call, ours.as_slice(), theirs, found)
 }

@@ -23,6 +23,15 @@ pub struct Totals {
     pub items: u64,
 }
 
+/// A call on the content as a line writes it: its text, the words that it is on, its arguments, and what came of it.
+#[derive(Clone, Copy)]
+pub struct Call<'s, 'a> {
+    pub text: &'a str,
+    pub words: &'s [u64],
+    pub arguments: &'a str,
+    pub theirs: &'a str,
+}
+
 /// What the lines read so far leave to the next ones.
 #[derive(Drop)]
 pub struct State<'a> {
@@ -109,6 +118,20 @@ impl<'a> State<'a> {
             }
             _ => Err(Fault::OtherContent),
         }
+    }
+
+    /// The call that a line writes before its slash, and what came of it after that.
+    pub fn call(&self, line: &'a str) -> Result<Call<'_, 'a>, Fault>
+        ensures { IfOk result (λ call. IsShort call.words.now) }
+    {
+        let (text, theirs) = text::halves(line)?;
+        let (words, arguments) = self.content(text)?;
+        Ok(Call {
+            text,
+            words,
+            arguments,
+            theirs,
+        })
     }
 
     /// The bytes.

@@ -11,7 +11,7 @@ use bitm::BitAccess;
 /// Compares the first ones from places on.
 pub fn find<'a>(state: &State<'a>, line: &'a str, found: &mut Found<'a>) -> Result<(), Fault> {
     let (words, pairs) = state.content(line)?;
-    found.compare_pairs(pairs, |start| words.find_bit_one(start))
+    found.compare_places(pairs, |start| words.find_bit_one(start))
 }
 
 /// The last one up to `start`, where there is one.
@@ -29,12 +29,9 @@ fn last_one(words: &[u64], start: usize) -> Result<u64, Fault>
 /// Compares the last ones up to places.
 pub fn rfind<'a>(state: &State<'a>, line: &'a str, found: &mut Found<'a>) -> Result<(), Fault> {
     let (words, pairs) = state.content(line)?;
-    for pair in pairs.split_ascii_whitespace() {
-        let (argument, theirs) = text::pair(pair)?;
-        let ours = last_one(words, text::place(argument)?)?;
-        found.compare(argument, Base::Decimal, Some(ours), theirs)?;
-    }
-    Ok(())
+    found.compare_each(pairs, Base::Decimal, |argument| {
+        Ok(Some(last_one(words, text::place(argument)?)?))
+    })
 }
 
 /// Compares the number of zeros before the first one.

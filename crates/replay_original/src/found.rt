@@ -170,25 +170,34 @@ impl<'a> Found<'a> {
         Ok(())
     }
 
-    /// Compares what a call answers at the arguments of pairs with the answers there.
-    pub fn compare_pairs<F: Fn(usize) -> Option<usize>>(
+    /// Compares what a call answers at the argument of each pair with the answer there.
+    pub fn compare_each<F: Fn(&'a str) -> Result<Option<u64>, Fault>>(
         &mut self,
         pairs: &'a str,
+        base: Base,
         call: F,
     ) -> Result<(), Fault>
         requires { F.IsAlwaysCallable call }
     {
         for pair in pairs.split_ascii_whitespace() {
             let (argument, theirs) = text::pair(pair)?;
-            let ours = call(text::place(argument)?);
-            self.compare(
-                argument,
-                Base::Decimal,
-                ours.map(|number| number as u64),
-                theirs,
-            )?;
+            let ours = call(argument)?;
+            self.compare(argument, base, ours, theirs)?;
         }
         Ok(())
+    }
+
+    /// Compares what a call answers at the places of pairs with the answers there.
+    pub fn compare_places<F: Fn(usize) -> Option<usize>>(
+        &mut self,
+        pairs: &'a str,
+        call: F,
+    ) -> Result<(), Fault>
+        requires { F.IsAlwaysCallable call }
+    {
+        self.compare_each(pairs, Base::Decimal, |argument| {
+            Ok(call(text::place(argument)?).map(|number| number as u64))
+        })
     }
 
     /// Compares ranks with the answers of pairs, and with the total of their kind of bit where the pair is that of the
@@ -232,12 +241,21 @@ impl<'a> Found<'a> {
         self.compare_values(argument, None, Base::Decimal, Some(ours), Some(theirs));
     }
 
-    /// Compares two lists item by item: where one is longer, its items differ from `None`.
-    pub fn compare_lists(&mut self, argument: &'a str, base: Base, ours: &[u64], theirs: &[u64]) {
+    /// Compares a list, item by item, with the one that a text writes: where one is longer, its items differ from `None`.
+    pub fn compare_list(
+        &mut self,
+        alloc: Global,
+        argument: &'a str,
+        base: Base,
+        ours: &[u64],
+        theirs: &str,
+    ) -> Result<(), Fault> {
+        let theirs = text::list(alloc, theirs, base)?;
         for item in 0..ours.len().max(theirs.len()) {
             let our_item = ours.get(item).copied();
             let their_item = theirs.get(item).copied();
             self.compare_values(argument, Some(item), base, our_item, their_item);
         }
+        Ok(())
     }
 }

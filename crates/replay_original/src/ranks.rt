@@ -5,8 +5,8 @@ ghost use Rattle.bitm_bits.specs.Bits.{IsShort};
 use crate::content::State;
 use crate::fault::Fault;
 use crate::found::Found;
+use crate::index;
 use crate::text::Base;
-use crate::{index, text};
 use bitm::{BinaryRankSearch, Rank, RankSimple, words};
 use std::alloc::{AllocError, Global};
 use std::convert::AsSlice;
@@ -62,9 +62,7 @@ pub fn simple<'a>(
     let (words, theirs) = state.content(line)?;
     let (index, _) = build(alloc, words)?.ok_or(Fault::Condition)?;
     let ours = table(alloc, &index)?;
-    let theirs = text::list(alloc, theirs, Base::Decimal)?;
-    found.compare_lists(line, Base::Decimal, ours.as_slice(), theirs.as_slice());
-    Ok(())
+    found.compare_list(alloc, line, Base::Decimal, ours.as_slice(), theirs)
 }
 
 /// Compares the ones before places and before the end, by the simple rank and by the tables of an index.

@@ -100,11 +100,10 @@ pub fn samples<'a>(
     line: &'a str,
     found: &mut Found<'a>,
 ) -> Result<(), Fault> {
-    let (call, theirs) = text::halves(line)?;
-    let (words, rest) = state.content(call)?;
-    let (claim, _) = read_claim(rest)?;
-    let theirs = text::list(alloc, theirs, Base::Hexadecimal)?;
-    compare(alloc, words, claim, theirs.len() as u64, found)
+    let call = state.call(line)?;
+    let (claim, _) = read_claim(call.arguments)?;
+    let theirs = text::list(alloc, call.theirs, Base::Hexadecimal)?;
+    compare(alloc, call.words, claim, theirs.len() as u64, found)
 }
 
 /// Compares the logarithm of a density, and the number of samples.
@@ -114,17 +113,11 @@ pub fn samplesat<'a>(
     line: &'a str,
     found: &mut Found<'a>,
 ) -> Result<(), Fault> {
-    let (call, _) = text::halves(line)?;
-    let (words, rest) = state.content(call)?;
-    let (claim, rest) = read_claim(rest)?;
+    let call = state.call(line)?;
+    let (claim, rest) = read_claim(call.arguments)?;
     let (count, _) = text::first_word(rest);
-    compare(
-        alloc,
-        words,
-        claim,
-        text::number(count, Base::Decimal)?,
-        found,
-    )
+    let count = text::number(count, Base::Decimal)?;
+    compare(alloc, call.words, claim, count, found)
 }
 
 /// The logarithms that are chosen for a share of items, one for each greatest result that the lines
@@ -145,7 +138,5 @@ pub fn ocs<'a>(alloc: Global, line: &'a str, found: &mut Found<'a>) -> Result<()
     let (len, rest) = text::first_word(line);
     let (n, theirs) = text::first_word(rest);
     let ours = chosen(text::place(n)?, text::place(len)?);
-    let theirs = text::list(alloc, theirs, Base::Decimal)?;
-    found.compare_lists(line, Base::Decimal, ours.as_slice(), theirs.as_slice());
-    Ok(())
+    found.compare_list(alloc, line, Base::Decimal, ours.as_slice(), theirs)
 }

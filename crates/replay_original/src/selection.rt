@@ -18,9 +18,9 @@ pub fn select<'a>(
 ) -> Result<(), Fault> {
     let (words, pairs) = state.content(line)?;
     let (index, _) = index::build::<BinaryRankSearch>(alloc, words)?;
-    found.compare_pairs(pairs, |rank| index.try_select(rank))?;
+    found.compare_places(pairs, |rank| index.try_select(rank))?;
     let (index, _) = index::build::<Sampled>(alloc, words)?;
-    found.compare_pairs(pairs, |rank| index.try_select(rank))
+    found.compare_places(pairs, |rank| index.try_select(rank))
 }
 
 /// Compares the places of zeros of ranks, by binary search and by samples.
@@ -32,7 +32,7 @@ pub fn select0<'a>(
 ) -> Result<(), Fault> {
     let (words, pairs) = state.content(line)?;
     let (index, _) = index::build::<BinaryRankSearch>(alloc, words)?;
-    found.compare_pairs(pairs, |rank| index.try_select0(rank))?;
+    found.compare_places(pairs, |rank| index.try_select0(rank))?;
     let (index, _) = index::build::<Sampled>(alloc, words)?;
-    found.compare_pairs(pairs, |rank| index.try_select0(rank))
+    found.compare_places(pairs, |rank| index.try_select0(rank))
 }

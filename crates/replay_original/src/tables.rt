@@ -21,9 +21,7 @@ pub fn l1<'a>(
         .iter()
         .map(|count| *count as u64)
         .collect(alloc)?;
-    let theirs = text::list(alloc, theirs, Base::Decimal)?;
-    found.compare_lists(line, Base::Decimal, ours.as_slice(), theirs.as_slice());
-    Ok(())
+    found.compare_list(alloc, line, Base::Decimal, ours.as_slice(), theirs)
 }
 
 /// Compares the lower table.
@@ -35,9 +33,7 @@ pub fn l2<'a>(
 ) -> Result<(), Fault> {
     let (words, theirs) = state.content(line)?;
     let (index, _) = index::build::<BinaryRankSearch>(alloc, words)?;
-    let theirs = text::list(alloc, theirs, Base::Hexadecimal)?;
-    found.compare_lists(line, Base::Hexadecimal, index.l2ranks(), theirs.as_slice());
-    Ok(())
+    found.compare_list(alloc, line, Base::Hexadecimal, index.l2ranks(), theirs)
 }
 
 /// Compares entries of the lower table at their places.
@@ -49,10 +45,7 @@ pub fn l2at<'a>(
 ) -> Result<(), Fault> {
     let (words, pairs) = state.content(line)?;
     let (index, _) = index::build::<BinaryRankSearch>(alloc, words)?;
-    for pair in pairs.split_ascii_whitespace() {
-        let (argument, theirs) = text::pair(pair)?;
-        let ours = index.l2ranks().get(text::place(argument)?).copied();
-        found.compare(argument, Base::Hexadecimal, ours, theirs)?;
-    }
-    Ok(())
+    found.compare_each(pairs, Base::Hexadecimal, |argument| {
+        Ok(index.l2ranks().get(text::place(argument)?).copied())
+    })
 }

@@ -39,7 +39,5 @@ pub fn sel64<'a>(alloc: Global, line: &'a str, found: &mut Found<'a>) -> Result<
     let (word, theirs) = text::first_word(line);
     let n = text::number(word, Base::Hexadecimal)?;
     let ours = places(alloc, n)?;
-    let theirs = text::list(alloc, theirs, Base::Decimal)?;
-    found.compare_lists(word, Base::Decimal, ours.as_slice(), theirs.as_slice());
-    Ok(())
+    found.compare_list(alloc, word, Base::Decimal, ours.as_slice(), theirs)
 }

@@ -39,17 +39,20 @@ pub fn set<'a>(
     line: &'a str,
     found: &mut Found<'a>,
 ) -> Result<(), Fault> {
-    let (call, theirs) = text::halves(line)?;
-    let (words, arguments) = state.content(call)?;
-    let Arguments { begin, len, number } = read_arguments(arguments, 63)?;
-    if !is_in_range(words, begin, len) || !fits(number, len) {
+    let call = state.call(line)?;
+    let Arguments { begin, len, number } = read_arguments(call.arguments, 63)?;
+    if !is_in_range(call.words, begin, len) || !fits(number, len) {
         return Err(Fault::Condition);
     }
-    let mut ours = Vec::from_slice(alloc, words)?;
+    let mut ours = Vec::from_slice(alloc, call.words)?;
     ours.as_mut_slice().set_bits(begin, number, len);
-    let theirs = text::list(alloc, theirs, Base::Hexadecimal)?;
-    found.compare_lists(call, Base::Hexadecimal, ours.as_slice(), theirs.as_slice());
-    Ok(())
+    found.compare_list(
+        alloc,
+        call.text,
+        Base::Hexadecimal,
+        ours.as_slice(),
+        call.theirs,
+    )
 }
 
 /// Compares the words after bits were negated.
@@ -59,28 +62,30 @@ pub fn xor<'a>(
     line: &'a str,
     found: &mut Found<'a>,
 ) -> Result<(), Fault> {
-    let (call, theirs) = text::halves(line)?;
-    let (words, arguments) = state.content(call)?;
-    let Arguments { begin, len, number } = read_arguments(arguments, 64)?;
-    if !is_in_range(words, begin, len) {
+    let call = state.call(line)?;
+    let Arguments { begin, len, number } = read_arguments(call.arguments, 64)?;
+    if !is_in_range(call.words, begin, len) {
         return Err(Fault::Condition);
     }
-    let mut ours = Vec::from_slice(alloc, words)?;
+    let mut ours = Vec::from_slice(alloc, call.words)?;
     ours.as_mut_slice().xor_bits(begin, number, len);
-    let theirs = text::list(alloc, theirs, Base::Hexadecimal)?;
-    found.compare_lists(call, Base::Hexadecimal, ours.as_slice(), theirs.as_slice());
-    Ok(())
+    found.compare_list(
+        alloc,
+        call.text,
+        Base::Hexadecimal,
+        ours.as_slice(),
+        call.theirs,
+    )
 }
 
 /// Compares the words after a number was written to zero words.
 pub fn init<'a>(alloc: Global, line: &'a str, found: &mut Found<'a>) -> Result<(), Fault> {
     let (call, theirs) = text::halves(line)?;
     let Arguments { begin, len, number } = read_arguments(call, 64)?;
-    let theirs = text::list(alloc, theirs, Base::Hexadecimal)?;
-    let mut ours = BoxedSlice::with_zeroed_64bit_segments(alloc, theirs.len())?;
+    let count = text::list(alloc, theirs, Base::Hexadecimal)?.len();
+    let mut ours = BoxedSlice::with_zeroed_64bit_segments(alloc, count)?;
     init_zeros(ours.as_mut_slice(), begin, number, len)?;
-    found.compare_lists(call, Base::Hexadecimal, ours.as_slice(), theirs.as_slice());
-    Ok(())
+    found.compare_list(alloc, call, Base::Hexadecimal, ours.as_slice(), theirs)
 }
 
 /// Writes a number to bits that are zeros.
@@ -106,17 +111,20 @@ pub fn swap<'a>(
     line: &'a str,
     found: &mut Found<'a>,
 ) -> Result<(), Fault> {
-    let (call, theirs) = text::halves(line)?;
-    let (words, arguments) = state.content(call)?;
-    let (i, arguments) = text::first_word(arguments);
+    let call = state.call(line)?;
+    let (i, arguments) = text::first_word(call.arguments);
     let (j, len) = text::first_word(arguments);
     let (i, j, len) = (text::place(i)?, text::place(j)?, text::width(len, 63)?);
-    if !is_fragment_in_range(words, i, len) || !is_fragment_in_range(words, j, len) {
+    if !is_fragment_in_range(call.words, i, len) || !is_fragment_in_range(call.words, j, len) {
         return Err(Fault::Condition);
     }
-    let mut ours = Vec::from_slice(alloc, words)?;
+    let mut ours = Vec::from_slice(alloc, call.words)?;
     ours.as_mut_slice().swap_fragments(i, j, len);
-    let theirs = text::list(alloc, theirs, Base::Hexadecimal)?;
-    found.compare_lists(call, Base::Hexadecimal, ours.as_slice(), theirs.as_slice());
-    Ok(())
+    found.compare_list(
+        alloc,
+        call.text,
+        Base::Hexadecimal,
+        ours.as_slice(),
+        call.theirs,
+    )
 }
