@@ -123,6 +123,34 @@ fn split_low(low: &[u64], width: u8, first: usize, end: usize, rest: u64) -> usi
     from
 }
 
+/// The first item that is at least `v`: among those with its upper digits, or the one after them.
+#[inline(always)]
+fn first_in_bucket<T: TableSource>(
+    source: &mut T,
+    low: &[u64],
+    width: u8,
+    n: usize,
+    v: u64,
+) -> Option<usize>
+    requires parts { (xs : List ℕ) × ArePartsOf xs n width low.now (T.lists source.old).words }
+    requires tables { HasTables (T.lists source.old) }
+    ensures answer { (xs : List ℕ) → ArePartsOf xs n width low.now (T.lists source.old).words
+        → IsFirstAtLeast xs v result }
+    ensures two { ReadsAtMost (T.reads source.old) (T.reads source.new)
+        (2 * (digit_count (length (T.lists source.old).upper) + 1)) (2 * 23) (2 * 8) }
+    ensures same { T.lists source.new ≡ T.lists source.old }
+{
+    laws::bit_laws();
+    let above = (v >> width) as usize;
+    let first = count_below(source, above, n);
+    if width == 0 {
+        return if first < n { Some(first) } else { None };
+    }
+    let end = count_to(source, above, n);
+    let place = split_low(low, width, first, end, v & n_lowest_bits(width));
+    if place < n { Some(place) } else { None }
+}
+
 /// The least place of a sequence whose number is at least `v`; `None` exactly where there is none.
 ///
 /// The sequence is handed in by its parts: `low` and `width` are what `EliasFano` answers as `low_words` and
@@ -161,12 +189,5 @@ pub fn first_at_least_counted<T: TableSource>(
         let only = item_on(source, low, width, 0);
         return if only < v { None } else { Some(0) };
     }
-    let above = (v >> width) as usize;
-    let first = count_below(source, above, n);
-    if width == 0 {
-        return if first < n { Some(first) } else { None };
-    }
-    let end = count_to(source, above, n);
-    let place = split_low(low, width, first, end, v & n_lowest_bits(width));
-    if place < n { Some(place) } else { None }
+    first_in_bucket(source, low, width, n, v)
 }
