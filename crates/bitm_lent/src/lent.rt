@@ -41,8 +41,8 @@ pub(crate) fn has_sizes(words: &[u64], upper: &[usize], lower: &[u64]) -> bool
 
 /// Words and two tables, all lent, of which the lengths are right.
 ///
-/// Contracts see the three lists. What the tables hold is anybody's: a call says what it answers where they are those of
-/// the words, and what it answers else.
+/// Contracts see the three lists. What the tables hold is anybody's: a call says what it answers where they are those
+/// of the words, and what it answers else.
 #[derive(Drop)]
 pub struct Lent<'a> {
     words: &'a [u64],
@@ -62,7 +62,8 @@ impl<'a> Model for Lent<'a> {
 }
 
 impl<'a> Lent<'a> {
-    /// The words and their tables; `None` exactly where there are 2^58 words or more, or a table is not as long as theirs.
+    /// The words and their tables; `None` exactly where there are 2^58 words or more, or a table is not as long as
+    /// theirs.
     #[inline(always)]
     pub fn over(words: &'a [u64], upper: &'a [usize], lower: &'a [u64]) -> Option<Lent<'a>>
         ensures { MatchOption result (HasSizes (listed words.now upper.now lower.now) → ⊥)
@@ -86,8 +87,8 @@ impl<'a> Lent<'a> {
         are_tables(self.words, self.upper, self.lower)
     }
 
-    /// How many of the first `index` bits are ones, where the tables are those of the words; `None` exactly where there
-    /// are fewer bits, whatever the tables hold.
+    /// How many of the first `index` bits are ones, where the tables are those of the words; `None` exactly where
+    /// there are fewer bits, whatever the tables hold.
     ///
     /// # Cost
     /// At most one upper entry, one lower entry and eight words are read.
@@ -100,8 +101,8 @@ impl<'a> Lent<'a> {
         total_rank_on(&mut Probe::new(self.words, self.upper, self.lower), index)
     }
 
-    /// How many of the first `index` bits are zeros, where the tables are those of the words; `None` exactly where there
-    /// are fewer bits, whatever the tables hold.
+    /// How many of the first `index` bits are zeros, where the tables are those of the words; `None` exactly where
+    /// there are fewer bits, whatever the tables hold.
     ///
     /// # Cost
     /// At most one upper entry, one lower entry and eight words are read.
@@ -119,8 +120,8 @@ impl<'a> Lent<'a> {
 
     /// The place of the one with exactly `rank` ones before it.
     ///
-    /// Whatever the tables hold, a place that is found is inside and has a one. Where they are those of the words it is
-    /// the right one, `Absent` is answered exactly where there is none, and `WrongTables` never.
+    /// Whatever the tables hold, a place that is found is inside and has a one. Where they are those of the words it
+    /// is the right one, `Absent` is answered exactly where there is none, and `WrongTables` never.
     ///
     /// # Cost
     /// At most as many upper entries as their number has binary digits and one more, 22 lower entries and eight words

@@ -1,5 +1,5 @@
-//! Rank and select over words and tables that are lent, as a mapped file lends them: nothing is allocated or copied, and
-//! no call has a condition on what the tables hold.
+//! Rank and select over words and tables that are lent, as a mapped file lends them: nothing is allocated or copied,
+//! and no call has a condition on what the tables hold.
 //!
 //! With the tables of the words the answers are plain counting. With any other numbers in them a call returns as well,
 //! reads no more than its bound says, and a place that it answers is inside and has the bit that was asked.

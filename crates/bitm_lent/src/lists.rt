@@ -94,9 +94,9 @@ impl<'a> Lent<'a> {
         true
     }
 
-    /// Writes the place of the one with each rank, as `select` answers it, `NO_ANSWER` for `Absent` and `WRONG_TABLES` for
-    /// `WrongTables`; answers false exactly where there is not room for as many answers as ranks, and nothing is written
-    /// then.
+    /// Writes the place of the one with each rank, as `select` answers it, `NO_ANSWER` for `Absent` and
+    /// `WRONG_TABLES` for `WrongTables`; answers false exactly where there is not room for as many answers as ranks,
+    /// and nothing is written then.
     pub fn select_list(&self, ranks: &[usize], out: &mut [usize]) -> bool
         ensures room { IsTrue result ↔ length out.old ≡ length ranks.now }
         ensures told { IsTrue result → (j : ℕ) → j < length ranks.now → SelectTold true self.now

@@ -5,8 +5,8 @@ ghost use Rattle.bitm_bits.specs.Count.{ones_before, ones_of, Picks};
 
 use bitm::words;
 
-/// Writes the places of the ones from place `from` on, rising, as many as there is room for, and answers how many; what
-/// stands behind them stays.
+/// Writes the places of the ones from place `from` on, rising, as many as there is room for, and answers how many;
+/// what stands behind them stays.
 ///
 /// # Conditions
 /// There are fewer than 2^58 words.

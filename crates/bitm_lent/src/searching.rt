@@ -70,8 +70,8 @@ fn sought_entry<const ONE: u8, T: TableSource>(source: &mut T, at: usize) -> u64
     }
 }
 
-/// The last entry of a part with no more than `rank` of the kind before it in the part, if the tables are right, else any:
-/// its place in the part, and what it packs.
+/// The last entry of a part with no more than `rank` of the kind before it in the part, if the tables are right, else
+/// any: its place in the part, and what it packs.
 pub(crate) fn last_entry<const ONE: u8, T: TableSource>(
     source: &mut T,
     part: usize,

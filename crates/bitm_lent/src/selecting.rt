@@ -88,8 +88,8 @@ fn fields_rise(entry: u64) -> bool
     ones_to_record(entry, 1) <= two && two <= ones_to_record(entry, 3)
 }
 
-/// Selection in entry `entry` of a part, which packs `packed`: the last one with no more than `rank` of the kind before it
-/// in the part, if the tables are right.
+/// Selection in entry `entry` of a part, which packs `packed`: the last one with no more than `rank` of the kind
+/// before it in the part, if the tables are right.
 #[inline(always)]
 fn in_packed<const ONE: u8, T: TableSource>(
     source: &mut T,
@@ -131,10 +131,11 @@ fn in_packed<const ONE: u8, T: TableSource>(
     in_record::<ONE, T>(source, first, in_entry - before_record)
 }
 
-/// The place of the one of the source's words with exactly `rank` ones before it; zeros in place of ones where `ONE` is 0.
+/// The place of the one of the source's words with exactly `rank` ones before it; zeros in place of ones where `ONE`
+/// is 0.
 ///
-/// Whatever the tables hold, a place that is found is inside and has such a bit. Where they are those of the words it is
-/// the right one, `Absent` is answered exactly where there is none, and `WrongTables` never.
+/// Whatever the tables hold, a place that is found is inside and has such a bit. Where they are those of the words it
+/// is the right one, `Absent` is answered exactly where there is none, and `WrongTables` never.
 ///
 /// # Conditions
 /// There are fewer than 2^58 words, and the tables are as long as theirs. Nothing is asked of what they hold.

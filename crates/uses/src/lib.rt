@@ -13,6 +13,7 @@
 //! | test a condition and then call | `asking` |
 //! | know what a call reads | `counted` |
 //! | rank and select over tables of one's own | `source` |
+//! | ask tables that came with the words and may be wrong | `lent` |
 //! | select by a strategy of one's own | `strategies` |
 //! | sample by a density of one's own | `density` |
 #![tactic(auto)]
@@ -24,6 +25,7 @@ pub mod density;
 pub mod inverse;
 pub mod inverted;
 pub mod iterating;
+pub mod lent;
 pub mod owned;
 pub mod readme;
 pub mod sieve;
