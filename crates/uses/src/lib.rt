@@ -11,6 +11,7 @@
 //! | intersect two lists of rising numbers | `inverted` |
 //! | number the members of a set densely, and find a member by its number | `dense` |
 //! | test a condition and then call | `asking` |
+//! | ask for many places at once | `many` |
 //! | know what a call reads | `counted` |
 //! | rank and select over tables of one's own | `source` |
 //! | ask tables that came with the words and may be wrong | `lent` |
@@ -26,6 +27,7 @@ pub mod inverse;
 pub mod inverted;
 pub mod iterating;
 pub mod lent;
+pub mod many;
 pub mod owned;
 pub mod readme;
 pub mod sieve;

@@ -1,0 +1,39 @@
+//! Many selections at once, with their condition tested first.
+ghost use Rattle.std.specs.Prelude.{◌≡◌, ◌<◌, ◌↔◌, true, All, IsTrue, length};
+ghost use Rattle.bitm_bits.specs.Bits.{bits_of};
+ghost use Rattle.bitm_bits.specs.Count.{ones_of};
+ghost use Rattle.bitm.specs.Many.{PicksEach};
+
+use bitm::{Rank, RankSelect101111, Select0ForRank101111, SelectForRank101111};
+
+/// Whether each rank is below a number of ones.
+fn all_below(ranks: &[usize], ones: usize) -> bool
+    ensures { IsTrue result ↔ All (λ r. r < ones) ranks.now }
+{
+    for rank in ranks {
+        if *rank >= ones {
+            return false;
+        }
+    }
+    true
+}
+
+/// Writes the places of the ones with these ranks, and says whether each of them has one; where one has none, `places`
+/// stays as it is.
+#[tactic(auto, using(bitm_bits::proofs::Callers::bits_counted))]
+pub fn try_select_many<S: SelectForRank101111, S0: Select0ForRank101111>(
+    index: &RankSelect101111<S, S0, &[u64]>,
+    ranks: &[usize],
+    places: &mut [usize],
+) -> bool
+    requires { length ranks.now ≡ length places.old }
+    ensures all { IsTrue result ↔ All (λ r. r < ones_of (bits_of index.now.content.now)) ranks.now }
+    ensures picked { IsTrue result → PicksEach (bits_of index.now.content.now) true ranks.now places.new }
+{
+    let ones = index.rank(64 * index.content().len());
+    let all = all_below(ranks, ones);
+    if all {
+        index.select_many(ranks, places);
+    }
+    all
+}
