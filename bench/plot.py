@@ -18,7 +18,7 @@ for kind in kinds:
 
 W, H, LEFT, TOP = 640, 360, 60, 20
 COLOURS = ['#1b6ca8', '#c8553d', '#2a9d55', '#8e44ad', '#b8860b', '#555555', '#d1495b', '#00798c', '#6a994e', '#bc6c25']
-drawn = ['rank (binary)', 'select (binary)', 'select0 (binary)', 'select (sampled)', 'select0 (sampled)', 'rank (sdsl)', 'select (sdsl)']
+drawn = ['rank (binary)', 'select (binary)', 'select0 (binary)', 'select_many (binary)', 'select (sampled)', 'select0 (sampled)', 'rank (sdsl)', 'select (sdsl)']
 for kind in kinds:
     lines = [(n, [(s, rows[(n, s, kind)]) for s in sizes if (n, s, kind) in rows]) for n in drawn]
     lines = [(n, p) for n, p in lines if p]
