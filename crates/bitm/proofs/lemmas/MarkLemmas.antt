@@ -3,10 +3,10 @@ use Rattle.std.proofs.Common.{◌≡◌, ◌≢◌, ℕ, zero, suc, ◌+◌, ◌
 use Rattle.std.proofs.lemmas.Bool.{cases_lt}
 use Rattle.std.proofs.lemmas.List.{length-map}
 use Rattle.std.proofs.lemmas.Nat.{ones_le_self}
-use Rattle.std.proofs.lemmas.Nat.Bits.{bit_at_not, same_from_bits_below}
+use Rattle.std.proofs.lemmas.Nat.Bits.{same_from_bits_below}
 use Rattle.std.specs.Int.{bit_at, bit_not, div_ceil}
 use Rattle.bitm_bits.proofs.lemmas.BitsLemmas.{length-bits_of}
-use Rattle.bitm_bits.proofs.lemmas.CountLemmas.{ones_before_more, zeros_before_more, ones_before-add-zeros_before, ones_before-bits_of_in_word, count_ones_more}
+use Rattle.bitm_bits.proofs.lemmas.CountLemmas.{ones_before_more, zeros_before_more, ones_before-add-zeros_before, ones_before-bits_of_in_word, count_ones_more, digits_of_both}
 use Rattle.bitm_bits.proofs.lemmas.NumberLemmas.{bit_at-number_at, number_at-lt}
 use Rattle.bitm_bits.proofs.lemmas.WordLemmas.{truth}
 use Rattle.bitm_bits.specs.Bits.{bits_of, item}
@@ -125,24 +125,6 @@ ones_counts words k w one h is other j le =
     rw (m, ones_before-sought (bits_of words) (64 * k + j), ones_before-sought (bits_of words) (64 * k), is)
     (ones_before-bits_of_in_word words k h j le)
 
--- the ones of a word and of its negation
-count_not : (k v : ℕ) → v < 2 ^ 64 → k ≤ 64 → count_ones (bit_not w64 v % 2 ^ k) + count_ones (v % 2 ^ k) ≡ k
-count_not zero v fits l =
-    let left : bit_not w64 v % 1 ≡ 0 = omega arith in
-    let right : v % 1 ≡ 0 = omega arith in
-    omega (arith, ap count_ones left, ap count_ones right, ones_le_self 0)
-count_not (suc k) v fits l =
-    let step : suc k ≡ k + 1 = omega arith in
-    omega (
-      arith,
-      ap (λ e. count_ones (bit_not w64 v % 2 ^ e)) step,
-      ap (λ e. count_ones (v % 2 ^ e)) step,
-      count_ones_more v k,
-      count_ones_more (bit_not w64 v) k,
-      bit_at_not w64 v k fits (omega arith),
-      count_not k v fits (omega arith),
-    )
-
 pub word_ones : (words : List ℕ) (k w one : ℕ) → k < length words → w < 2 ^ 64 → w ≡ slice_index words k → one ≢ 0
     → IsWord (sought_in one words) k w
 word_ones words k w one h lt is other =
@@ -156,7 +138,7 @@ zeros_counts words k w one h lt is none j le =
     let here = zeros_before-sought b (64 * k) (omega (arith, length-bits_of words)) in
     let ones = ones_before-bits_of_in_word words k h j le in
     let same = ap (λ (x : ℕ). count_ones (x % 2 ^ j)) is in
-    rw (marked_zero b one none) (omega (arith, there, here, ones, same, ones_before-self b (64 * k), count_not j w lt le))
+    rw (marked_zero b one none) (omega (arith, there, here, ones, same, ones_before-self b (64 * k), digits_of_both w j lt le))
 
 pub word_zeros : (words : List ℕ) (k w one : ℕ) → k < length words → w < 2 ^ 64 → w ≡ slice_index words k → one ≡ 0
     → IsWord (sought_in one words) k (2 ^ 64 - 1 - w)

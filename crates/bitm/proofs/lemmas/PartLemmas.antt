@@ -4,7 +4,7 @@ use Rattle.std.proofs.lemmas.Bool.{cases_lt}
 use Rattle.std.proofs.lemmas.List.{take-take}
 use Rattle.std.proofs.lemmas.List.Sums.{sum_by-append}
 use Rattle.std.specs.Int.{div_ceil}
-use Rattle.bitm_bits.proofs.lemmas.CountLemmas.{ones_before_more, zeros_before_more, ones_before_none, zeros_before_none}
+use Rattle.bitm_bits.proofs.lemmas.CountLemmas.{ones_before_more, zeros_before_more}
 use Rattle.bitm_bits.proofs.lemmas.PickLemmas.{Picks-places, length-places}
 use Rattle.bitm_bits.proofs.lemmas.WordLemmas.{truth}
 use Rattle.bitm_bits.specs.Bits.{item}
@@ -22,10 +22,6 @@ pub count_before-between : (v : Bool) (b : List Bool) (i j : ℕ) → i ≤ j �
 count_before-between true b i j h = (ones_before-between b i j h).0
 count_before-between false b i j h =
     omega (arith, (ones_before-between (negated b) i j h).0, ones_before-negated b i, ones_before-negated b j)
-
-pub count_before-none : (v : Bool) (b : List Bool) → count_before b v 0 ≡ 0
-count_before-none true b = ones_before_none b
-count_before-none false b = zeros_before_none b
 
 -- the count rises at an item
 count_before-next : (b : List Bool) (v : Bool) (p : ℕ) → p < length b → item b p ≡ v → count_before b v (p + 1) ≡ count_before b v p + 1

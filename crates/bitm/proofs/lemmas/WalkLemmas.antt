@@ -14,7 +14,8 @@ use Rattle.bitm.specs.Samples.{part_of, parts, sample, intervals, first_item, wa
 use Rattle.bitm.specs.Search.{IsLastPart, IsLastEntry, entries_from, sought}
 use Rattle.bitm.specs.declared.source.counts.ReadCounts.{ReadCounts}
 use Rattle.bitm.proofs.lemmas.MarkLemmas.{count_before-sought}
-use Rattle.bitm.proofs.lemmas.PartLemmas.{count_before-between, length-part_of, count_of-part_of, count_in_part, count_before-none, entry-small}
+use Rattle.bitm_bits.proofs.lemmas.CountLemmas.{count_before-none}
+use Rattle.bitm.proofs.lemmas.PartLemmas.{count_before-between, length-part_of, count_of-part_of, count_in_part, entry-small}
 use Rattle.bitm.proofs.lemmas.SampleLemmas.{sample_at, decoded, start_inside, start_at_most, ceil_more, ceil_less, before_more, before_le, length-samples, first_item_is}
 use Rattle.bitm.proofs.lemmas.StretchLemmas.{ones_before-self}
 use Rattle.bitm.proofs.lemmas.TableLemmas.{HasEntries}
@@ -170,7 +171,7 @@ pub empty_reads : (b : List Bool) (v : Bool) (d rank : ℕ) (reads : ReadCounts)
 empty_reads b v d rank reads h =
     let c = part_of b (parts b - 1) in
     let short : length c ≡ 0 = omega (arith, length-part_of b (parts b - 1)) in
-    let none : count_of c v ≡ 0 = ap (count_before c v) short ∙ count_before-none v c in
+    let none : count_of c v ≡ 0 = ap (count_before c v) short ∙ count_before-none c v in
     record {
       walked = λ l. absurd (omega (arith, none));
       nothing = λ _. record { upper = omega arith; lower = omega arith; words = omega arith };

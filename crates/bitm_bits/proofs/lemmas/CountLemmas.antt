@@ -106,8 +106,8 @@ module _ (words : List ℕ) (fit : (k : ℕ) → get_or words k 0 < 2 ^ 64) wher
       ∙ ones_before-bits_of_front (length words) (omega arith)
       ∙ ap (sum_by count_ones) (take_all (length words) words (omega arith))
 
--- a word has 64 digits
-digits_of_both : (v k : ℕ) → v < 2 ^ 64 → k ≤ 64 → count_ones (bit_not w64 v % 2 ^ k) + count_ones (v % 2 ^ k) ≡ k
+-- the ones of a word and of its negation, up to a place
+pub digits_of_both : (v k : ℕ) → v < 2 ^ 64 → k ≤ 64 → count_ones (bit_not w64 v % 2 ^ k) + count_ones (v % 2 ^ k) ≡ k
 digits_of_both v zero fits l =
     let left : bit_not w64 v % 1 ≡ 0 = omega arith in
     let right : v % 1 ≡ 0 = omega arith in

@@ -4,7 +4,7 @@ use Rattle.std.proofs.lemmas.Bool.{cases_order, cases_lt}
 use Rattle.std.proofs.lemmas.List.{get_or_past}
 use Rattle.std.proofs.lemmas.List.Sums.{sum_by-cons}
 use Rattle.std.specs.List.Sorted.{IsStrictlyIncreasing}
-use Rattle.bitm_bits.proofs.lemmas.CountLemmas.{count_before_more, count_before_grows, count_before-le}
+use Rattle.bitm_bits.proofs.lemmas.CountLemmas.{count_before_more, count_before_grows, count_before-le, count_before-none}
 use Rattle.bitm_bits.proofs.lemmas.WordLemmas.{truth}
 use Rattle.bitm_bits.specs.Bits.{item}
 use Rattle.bitm_bits.specs.Count.{ones_before, zeros_before, count_before, Picks, IsSelect, MatchesFirstOne, is_same, places}
@@ -42,11 +42,6 @@ unfolding ones_before zeros_before
 count_before_after true x b i = sum_by-cons truth x (take i b)
 count_before_after false x b i = sum_by-cons (λ y. truth (not y)) x (take i b)
 
-count_before_first : (v : Bool) (b : List Bool) → count_before b v 0 ≡ 0
-unfolding ones_before zeros_before
-count_before_first true b = refl
-count_before_first false b = refl
-
 -- p is the place of item k of the places, where the first item's place is from
 record IsPlace (b : List Bool) (v : Bool) (k from p : ℕ) : Type 0 where
   pub at : ℕ
@@ -80,7 +75,7 @@ here_place : (b : List Bool) (v : Bool) (from : ℕ) → IsPlace (v ∷ b) v 0 f
 here_place b v from = record {
   at = 0;
   is = omega arith;
-  picked = record { inside = omega arith; item = refl; before = count_before_first v (v ∷ b) };
+  picked = record { inside = omega arith; item = refl; before = count_before-none (v ∷ b) v };
 }
 
 place_at : (b : List Bool) (v : Bool) (k from d : ℕ) → k < length (places v from b) → IsPlace b v k from (get_or (places v from b) k d)
@@ -102,7 +97,7 @@ Picks-places b v k d l =
 -- ---- how many places are picked
 
 pub length-places : (v : Bool) (k : ℕ) (b : List Bool) → length (places v k b) ≡ count_before b v (length b)
-length-places v k [] = sym (count_before_first v [])
+length-places v k [] = sym (count_before-none [] v)
 length-places true k (true ∷ b) = omega (arith, length-places true (k + 1) b, count_before_after true true b (length b))
 length-places true k (false ∷ b) = omega (arith, length-places true (k + 1) b, count_before_after true false b (length b))
 length-places false k (true ∷ b) = omega (arith, length-places false (k + 1) b, count_before_after false true b (length b))

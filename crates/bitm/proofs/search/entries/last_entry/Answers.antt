@@ -1,11 +1,11 @@
 -- Each test halves what is left, and tells on which side the last entry of the part is.
-use Rattle.std.proofs.Common.{◌≡◌, ℕ, ◌+◌, ◌*◌, ◌-◌, ◌/◌, ◌^◌, ◌<◌, ◌≤◌, length, ap, sym, ◌∙◌, subst, arith}
+use Rattle.std.proofs.Common.{◌≡◌, ℕ, ◌+◌, ◌*◌, ◌-◌, ◌/◌, ◌^◌, ◌<◌, ◌≤◌, length, ap, sym, ◌∙◌, arith, ◌⊎◌, inl, inr}
 use Rattle.bitm.specs.Entry.{before_in_part, lower_entry}
 use Rattle.bitm.specs.Search.{Between, entries_from, sought_in}
 use Rattle.bitm.specs.Tables.{Lists}
 use Rattle.bitm.specs.declared.source.counts.ReadCounts.{ReadCounts}
 use Rattle.bitm_bits.specs.Bits.{digit_count}
-use Rattle.bitm.proofs.lemmas.SearchLemmas.{goes_up, goes_down, halves_left}
+use Rattle.bitm.proofs.lemmas.SearchLemmas.{halves, halves_left}
 use Rattle.bitm.proofs.lemmas.SoughtLemmas.{first_entry, few_entries, low_is, entries_rise}
 use Rattle.bitm.proofs.search.entries.last_entry.Goals as goal
 use Rattle.bitm.proofs.search.entries.last_entry.Goals.{After-ones_to_entry, then-ones_to_entry-rank, else-ones_to_entry-rank}
@@ -52,17 +52,14 @@ loop-left-preserved g c =
     let d = (goal.at.loop-left-preserved g c).After-ones_to_entry in
     let counts : ℕ → ℕ = λ j. before_in_part m (c.args.part * 2 ^ 21 + j) in
     let at : ℕ → ℕ = λ j. lower_entry m (c.args.part * 2 ^ 21 + j) in
-    let search : Between counts n c.args.rank c.if-ones_to_entry-rank.low (left - left / 2) =
+    let side : ((c.ones_to_entry.result ≤ c.args.rank) × (c.if-ones_to_entry-rank.low ≡ low + left / 2)) ⊎ ((c.args.rank < c.ones_to_entry.result) × (c.if-ones_to_entry-rank.low ≡ low)) =
     elim c.if-ones_to_entry-rank.branch [
-      | then-ones_to_entry-rank w ↦
-          let at_most = subst (λ (n : ℕ). n ≤ c.args.rank) (count g d) w.if-ones_to_entry-rank.true in
-          subst (λ (k : ℕ). Between counts n c.args.rank k (left - left / 2)) (sym w.low-is)
-          (goes_up counts n c.args.rank low left i.search c.loop-left-test.true at_most)
-      | else-ones_to_entry-rank w ↦
-          let above = subst (λ (n : ℕ). c.args.rank < n) (count g d) w.if-ones_to_entry-rank.false in
-          subst (λ (k : ℕ). Between counts n c.args.rank k (left - left / 2)) (sym w.low-is)
-          (goes_down counts n c.args.rank low left i.search c.loop-left-test.true above (λ j k h l. entries_rise m c.args.part j k h (omega arith)))
+      | then-ones_to_entry-rank w ↦ inl (w.if-ones_to_entry-rank.true, w.low-is)
+      | else-ones_to_entry-rank w ↦ inr (w.if-ones_to_entry-rank.false, w.low-is)
     ] in
+    let search : Between counts n c.args.rank c.if-ones_to_entry-rank.low (left - left / 2) =
+    halves counts n c.args.rank low left c.if-ones_to_entry-rank.low c.ones_to_entry.result i.search c.loop-left-test.true (count g d) side
+    (λ j k h l. entries_rise m c.args.part j k h (omega arith)) in
     let packed : 0 < c.if-ones_to_entry-rank.low → c.if-ones_to_entry-rank.packed ≡ at c.if-ones_to_entry-rank.low =
     elim c.if-ones_to_entry-rank.branch [
       | then-ones_to_entry-rank w ↦ λ h. w.packed-is ∙ next_is g d ∙ ap at (sym w.low-is)

@@ -1,12 +1,12 @@
 -- Each test halves what is left, and tells on which side the last part is.
-use Rattle.std.proofs.Common.{◌≡◌, ℕ, ◌+◌, ◌*◌, ◌-◌, ◌/◌, ◌^◌, ◌<◌, ◌≤◌, length, refl, ap, sym, ◌∙◌, subst, arith}
+use Rattle.std.proofs.Common.{◌≡◌, ℕ, ◌+◌, ◌*◌, ◌-◌, ◌/◌, ◌^◌, ◌<◌, ◌≤◌, length, refl, ap, sym, ◌∙◌, subst, arith, ◌⊎◌, inl, inr}
 use Rattle.bitm_bits.proofs.lemmas.CountLemmas.{ones_before_none}
 use Rattle.bitm_bits.specs.Count.{ones_before}
 use Rattle.bitm.specs.Search.{Between, sought_in}
 use Rattle.bitm.specs.Tables.{Lists}
 use Rattle.bitm.specs.declared.source.counts.ReadCounts.{ReadCounts}
 use Rattle.bitm_bits.proofs.lemmas.DigitLemmas.{digit_count-mono}
-use Rattle.bitm.proofs.lemmas.SearchLemmas.{search_begins, goes_up, goes_down, search_ends, halves_left}
+use Rattle.bitm.proofs.lemmas.SearchLemmas.{search_begins, halves, search_ends, halves_left}
 use Rattle.bitm.proofs.lemmas.SoughtLemmas.{parts_rise}
 use Rattle.bitm.proofs.search.parts.last_part.Goals as goal
 use Rattle.bitm.proofs.search.parts.last_part.Goals.{After-before_part, then-before_part-rank, else-before_part-rank}
@@ -45,17 +45,14 @@ loop-left-preserved g c =
     let left = c.loop-left.left in
     let d = (goal.at.loop-left-preserved g c).After-before_part in
     let counts : ℕ → ℕ = λ k. ones_before m (k * 2 ^ 32) in
-    let search : Between counts n c.args.rank c.if-before_part-rank.low (left - left / 2) =
+    let side : ((c.before_part.result ≤ c.args.rank) × (c.if-before_part-rank.low ≡ low + left / 2)) ⊎ ((c.args.rank < c.before_part.result) × (c.if-before_part-rank.low ≡ low)) =
     elim c.if-before_part-rank.branch [
-      | then-before_part-rank w ↦
-          let at_most : ones_before m ((low + left / 2) * 2 ^ 32) ≤ c.args.rank = omega (arith, count g d, w.if-before_part-rank.true) in
-          subst (λ (k : ℕ). Between counts n c.args.rank k (left - left / 2)) (sym w.low-is)
-          (goes_up counts n c.args.rank low left i.search c.loop-left-test.true at_most)
-      | else-before_part-rank w ↦
-          let above : c.args.rank < ones_before m ((low + left / 2) * 2 ^ 32) = omega (arith, count g d, w.if-before_part-rank.false) in
-          subst (λ (k : ℕ). Between counts n c.args.rank k (left - left / 2)) (sym w.low-is)
-          (goes_down counts n c.args.rank low left i.search c.loop-left-test.true above (λ j k h _. parts_rise m j k h))
+      | then-before_part-rank w ↦ inl (w.if-before_part-rank.true, w.low-is)
+      | else-before_part-rank w ↦ inr (w.if-before_part-rank.false, w.low-is)
     ] in
+    let search : Between counts n c.args.rank c.if-before_part-rank.low (left - left / 2) =
+    halves counts n c.args.rank low left c.if-before_part-rank.low c.before_part.result i.search c.loop-left-test.true (count g d) side
+    (λ j k h _. parts_rise m j k h) in
     record {
       search = search;
       upper = omega (arith, i.upper, ap (λ (r : ReadCounts). r.upper) e.counted, halves_left left c.loop-left-test.true);
