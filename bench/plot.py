@@ -5,7 +5,8 @@ import csv, os, sys
 rows = {}
 for r in csv.reader(open(sys.argv[1])):
     if len(r) == 7:
-        rows[(f'{r[0]} ({r[1]})', int(r[2]), r[3])] = float(r[4])
+        unit = '' if r[5] == 'ns' else f', {r[5]}'
+        rows[(f'{r[0]} ({r[1]}{unit})', int(r[2]), r[3])] = float(r[4])
 names = list(dict.fromkeys(k[0] for k in rows))
 sizes = sorted({k[1] for k in rows})
 kinds = list(dict.fromkeys(k[2] for k in rows))

@@ -1,14 +1,15 @@
 //! The rows: what is built, what is asked, and how long it took.
 ghost use Rattle.std.specs.Prelude.{◌<◌, ◌^◌, length};
 ghost use Rattle.bitm_bits.specs.Bits.{IsShort};
+ghost use Rattle.bitm.specs.Simple.{HasFewOnes};
 
 use crate::content::{Kind, content};
 use crate::many::{self, ManyBatch};
 use crate::queries::queries;
-use crate::timing::{Asked, IndexBatch, WordBatch, over_index, over_words};
+use crate::timing::{Asked, IndexBatch, WordBatch, over_index, over_words, ranks};
 use bitm::{
-    AdaptiveCombinedSamplingDensity, BinaryRankSearch, CombinedSampling, RankSelect101111,
-    Select0ForRank101111, SelectForRank101111, words,
+    AdaptiveCombinedSamplingDensity, BinaryRankSearch, CombinedSampling, GetSize, RankSelect101111,
+    RankSimple, Select0ForRank101111, SelectForRank101111, words,
 };
 use std::time::CpuClock;
 
@@ -34,11 +35,23 @@ fn print_row(
     calls: usize,
     check: usize,
 ) -> anyhow::Result<()> {
-    let hundredths = nanos.saturating_mul(100) / calls.max(1) as u64;
+    print_quotient(rt, of, row, by, (nanos, calls, "ns"), check)
+}
+
+/// Prints a row: so much for so many, in a unit.
+fn print_quotient(
+    rt: &impl Print,
+    of: Of,
+    row: &str,
+    by: &str,
+    (total, many, unit): (u64, usize, &str),
+    check: usize,
+) -> anyhow::Result<()> {
+    let hundredths = total.saturating_mul(100) / many.max(1) as u64;
     let (whole, part) = (hundredths / 100, hundredths % 100);
     let kind = of.kind.name();
     println!(rt;
-        "{row},{by},{},{kind},{whole}.{part:02},ns,{check}",
+        "{row},{by},{},{kind},{whole}.{part:02},{unit},{check}",
         of.log2
     )?;
     Ok(())
@@ -121,11 +134,71 @@ fn many_rows<S: SelectForRank101111, S0: Select0ForRank101111>(
     Ok(())
 }
 
+/// Prints how many bits each part of an index takes for each word of its content.
+fn space_rows<S: SelectForRank101111 + GetSize, S0: Select0ForRank101111 + GetSize>(
+    rt: &impl Print,
+    of: Of,
+    by: &str,
+    index: &RankSelect101111<S, S0, &[u64]>,
+) -> anyhow::Result<()> {
+    let tables = index
+        .l1ranks()
+        .len()
+        .saturating_add(index.l2ranks().len())
+        .saturating_mul(8);
+    let parts = [
+        ("space_tables", tables),
+        ("space_ones", index.select_support().size_bytes_dyn()),
+        ("space_zeros", index.select0_support().size_bytes_dyn()),
+    ];
+    let len = index.content().len();
+    for (row, bytes) in parts {
+        let bits = (bytes as u64).saturating_mul(8);
+        print_quotient(rt, of, row, by, (bits, len, "bits"), bytes)?;
+    }
+    Ok(())
+}
+
+/// Builds a simple index and prints the rows of its ranks.
+fn simple_rows(
+    rt: &(impl Print + CpuClock + AllocGlobal),
+    of: Of,
+    rounds: u32,
+    content: &[u64],
+    places: &[usize],
+) -> anyhow::Result<()>
+    requires short { IsShort content.now }
+    requires few { HasFewOnes content.now }
+{
+    let start = used(rt)?;
+    let Ok((index, total)) = RankSimple::build(rt.alloc(), content) else {
+        return Ok(());
+    };
+    let built = used(rt)?.saturating_sub(start);
+    print_row(
+        rt,
+        of,
+        "build_a_word",
+        "simple",
+        built,
+        content.len(),
+        total as usize,
+    )?;
+    let mut least = u64::MAX;
+    let mut check = 0;
+    for _ in 0..rounds {
+        let start = used(rt)?;
+        check = ranks(&index, places);
+        least = least.min(used(rt)?.saturating_sub(start));
+    }
+    print_row(rt, of, "rank", "simple", least, places.len(), check)
+}
+
 /// Samples of the density that the documents speak of.
 type Sampled = CombinedSampling<AdaptiveCombinedSamplingDensity<13>>;
 
 /// Builds an index and prints its rows.
-fn index_rows<S: SelectForRank101111, S0: Select0ForRank101111>(
+fn index_rows<S: SelectForRank101111 + GetSize, S0: Select0ForRank101111 + GetSize>(
     rt: &(impl Print + CpuClock + AllocGlobal),
     of: Of,
     rounds: u32,
@@ -148,6 +221,7 @@ fn index_rows<S: SelectForRank101111, S0: Select0ForRank101111>(
         content.len(),
         total,
     )?;
+    space_rows(rt, of, by, &index)?;
     for batch in IndexBatch::ALL {
         index_row(rt, of, rounds, batch, by, &index, asked)?;
     }
@@ -177,6 +251,9 @@ pub(crate) fn print(
     let places = queries(rt.alloc(), QUERIES, bits)?;
     for batch in WordBatch::ALL {
         word_row(rt, of, rounds, batch, content, places.as_slice())?;
+    }
+    if ones < 1 << 32 {
+        simple_rows(rt, of, rounds, content, places.as_slice())?;
     }
     let zeros = queries(rt.alloc(), QUERIES, bits.saturating_sub(ones))?;
     let ones = queries(rt.alloc(), QUERIES, ones)?;

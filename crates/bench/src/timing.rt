@@ -2,7 +2,8 @@
 ghost use Rattle.bitm_bits.specs.Bits.{IsShort};
 
 use bitm::{
-    Rank, RankSelect101111, Select, Select0, Select0ForRank101111, SelectForRank101111, words,
+    Rank, RankSelect101111, Select, Select0, Select0ForRank101111, SelectForRank101111, select64,
+    words,
 };
 
 /// What is asked of an index.
@@ -27,15 +28,18 @@ pub(crate) enum WordBatch {
     Count,
     /// Ranks by a scan, four of them.
     Scan,
+    /// Places of ones in words, each taken from the first 1024.
+    InWord,
 }
 
 impl WordBatch {
     /// Each batch once.
-    pub(crate) const ALL: [WordBatch; 4] = [
+    pub(crate) const ALL: [WordBatch; 5] = [
         WordBatch::Bit,
         WordBatch::Bits,
         WordBatch::Count,
         WordBatch::Scan,
+        WordBatch::InWord,
     ];
 
     /// Its row's name.
@@ -45,13 +49,14 @@ impl WordBatch {
             WordBatch::Bits => "get_bits_13",
             WordBatch::Count => "count_bit_ones_a_word",
             WordBatch::Scan => "rank_scan",
+            WordBatch::InWord => "select64",
         }
     }
 
     /// How many calls it makes, or how many words it counts.
     pub(crate) fn calls(self, words: usize, places: usize) -> usize {
         match self {
-            WordBatch::Bit | WordBatch::Bits => places,
+            WordBatch::Bit | WordBatch::Bits | WordBatch::InWord => places,
             WordBatch::Count => words,
             WordBatch::Scan => places.min(4),
         }
@@ -108,6 +113,7 @@ pub(crate) fn over_words(batch: WordBatch, content: &[u64], places: &[usize]) ->
         WordBatch::Bits => numbers(content, places),
         WordBatch::Count => words::count_bit_ones(content),
         WordBatch::Scan => scanned_ranks(content, &places[..places.len().min(4)]),
+        WordBatch::InWord => selects_in_words(content, places),
     }
 }
 
@@ -220,6 +226,30 @@ pub(crate) fn numbers(content: &[u64], places: &[usize]) -> usize {
     for place in places {
         if let Some(n) = words::try_get_bits(content, *place, 13) {
             sum = sum.wrapping_add(n as usize);
+        }
+    }
+    sum
+}
+
+/// The place of the one of a word with this rank, 0 where it has none.
+#[inline(always)]
+#[tactic(auto, using(bitm::proofs::Callers::ones_of_word))]
+fn place_in_word(word: u64, rank: u8) -> usize {
+    if (rank as u32) < word.count_ones() {
+        select64(word, rank) as usize
+    } else {
+        0
+    }
+}
+
+/// Adds up the places of ones in words, which have no fewer than 32.
+#[inline(never)]
+pub(crate) fn selects_in_words(content: &[u64], places: &[usize]) -> usize {
+    let mut sum = 0usize;
+    for place in places {
+        if let Some(word) = content.get(*place / 64 % 1024) {
+            let rank = (*place % 32) as u8;
+            sum = sum.wrapping_add(place_in_word(*word | 0x00FF_FF00_FFFF_0000, rank));
         }
     }
     sum
