@@ -47,50 +47,33 @@ pub record CountsRecords (b : List Bool) (at one two three all : ℕ) : Type 0 w
   pub entry : packed (before_in_part b at) one two three ≡ lower_entry b at
   pub ones : ones_before b (2048 * at) + all ≡ ones_before b (2048 * (at + 1))
 
-pub counts_records : (b : List Bool) (at w x y z : ℕ)
-    → ones_before b (64 * (at * 32)) + w ≡ ones_before b (64 * (at * 32 + 8))
-    → ones_before b (64 * (at * 32 + 8)) + x ≡ ones_before b (64 * (at * 32 + 8 + 8))
-    → ones_before b (64 * (at * 32 + 16)) + y ≡ ones_before b (64 * (at * 32 + 16 + 8))
-    → ones_before b (64 * (at * 32 + 24)) + z ≡ ones_before b (64 * (at * 32 + 24 + 8))
-    → CountsRecords b at w (w + x) (w + x + y) (w + x + y + z)
-counts_records b at w x y z first second third fourth =
-    let from : 64 * (at * 32) ≡ 2048 * at = omega arith in
-    let one : 64 * (at * 32 + 8) ≡ 2048 * at + 512 * 1 = omega arith in
-    let two : 64 * (at * 32 + 8 + 8) ≡ 2048 * at + 512 * 2 = omega arith in
-    let two' : 64 * (at * 32 + 16) ≡ 2048 * at + 512 * 2 = omega arith in
-    let three : 64 * (at * 32 + 16 + 8) ≡ 2048 * at + 512 * 3 = omega arith in
-    let three' : 64 * (at * 32 + 24) ≡ 2048 * at + 512 * 3 = omega arith in
-    let to : 64 * (at * 32 + 24 + 8) ≡ 2048 * (at + 1) = omega arith in
-    let w_is : w ≡ in_records b at 1 = omega (arith, first, ap (ones_before b) from, ap (ones_before b) one) in
-    let x_is : w + x ≡ in_records b at 2 = omega (arith, w_is, first, second, ap (ones_before b) from, ap (ones_before b) one, ap (ones_before b) two) in
-    let y_is : w + x + y ≡ in_records b at 3 =
-    omega (
-      arith,
-      first,
-      second,
-      third,
-      ap (ones_before b) from,
-      ap (ones_before b) two,
-      ap (ones_before b) two',
-      ap (ones_before b) three,
-    ) in
-    record {
-      entry = omega (arith, w_is, x_is, y_is);
-      ones =
-          omega (
-            arith,
-            first,
-            second,
-            third,
-            fourth,
-            ap (ones_before b) from,
-            ap (ones_before b) two,
-            ap (ones_before b) two',
-            ap (ones_before b) three,
-            ap (ones_before b) three',
-            ap (ones_before b) to,
-          );
-    }
+module _ (b : List Bool) (at w x y z : ℕ) (first : ones_before b (64 * (at * 32)) + w ≡ ones_before b (64 * (at * 32 + 8)))
+    (second : ones_before b (64 * (at * 32 + 8)) + x ≡ ones_before b (64 * (at * 32 + 8 + 8)))
+    (third : ones_before b (64 * (at * 32 + 16)) + y ≡ ones_before b (64 * (at * 32 + 16 + 8)))
+    (fourth : ones_before b (64 * (at * 32 + 24)) + z ≡ ones_before b (64 * (at * 32 + 24 + 8))) where
+  to_place : (n m : ℕ) → n ≡ m → ones_before b n ≡ ones_before b m
+  to_place n m e = ap (ones_before b) e
+
+  one_record : ones_before b (2048 * at) + w ≡ ones_before b (2048 * at + 512 * 1)
+  one_record = omega (arith, first, to_place (64 * (at * 32)) (2048 * at) (omega arith), to_place (64 * (at * 32 + 8)) (2048 * at + 512 * 1) (omega arith))
+
+  two_records : ones_before b (2048 * at) + (w + x) ≡ ones_before b (2048 * at + 512 * 2)
+  two_records =
+      let from : ones_before b (64 * (at * 32 + 8)) ≡ ones_before b (2048 * at + 512 * 1) = to_place _ _ (omega arith) in
+      omega (arith, one_record, second, from, to_place (64 * (at * 32 + 8 + 8)) (2048 * at + 512 * 2) (omega arith))
+
+  three_records : ones_before b (2048 * at) + (w + x + y) ≡ ones_before b (2048 * at + 512 * 3)
+  three_records =
+      let from : ones_before b (64 * (at * 32 + 16)) ≡ ones_before b (2048 * at + 512 * 2) = to_place _ _ (omega arith) in
+      omega (arith, two_records, third, from, to_place (64 * (at * 32 + 16 + 8)) (2048 * at + 512 * 3) (omega arith))
+
+  four_records : ones_before b (2048 * at) + (w + x + y + z) ≡ ones_before b (2048 * (at + 1))
+  four_records =
+      let from : ones_before b (64 * (at * 32 + 24)) ≡ ones_before b (2048 * at + 512 * 3) = to_place _ _ (omega arith) in
+      omega (arith, three_records, fourth, from, to_place (64 * (at * 32 + 24 + 8)) (2048 * (at + 1)) (omega arith))
+
+  pub counts_records : CountsRecords b at w (w + x) (w + x + y) (w + x + y + z)
+  counts_records = record { entry = omega (arith, one_record, two_records, three_records); ones = four_records }
 
 -- an entry that is counted is begun
 pub entry_begun : (n at : ℕ) → at < div_ceil n 32 → 32 * at < n

@@ -26,6 +26,27 @@ part_long xs a n h = omega (arith, length-take (a + n - a) (drop a xs), length-d
 part_item : (xs : List ℕ) (a n j : ℕ) → j < n → slice_index (take (a + n - a) (drop a xs)) j ≡ slice_index xs (a + j)
 part_item xs a n j h = get_or-take (a + n - a) (drop a xs) j 0 (omega arith) ∙ get_or-drop a xs j 0
 
+-- what is written at once are the answers of a part, after those that stand
+answers_follow : (P : ℕ → ℕ → Type 0) (from n : ℕ) (ranks places new : List ℕ) → from + n ≤ length places → length new ≡ n
+    → ((j : ℕ) → j < from → P (slice_index ranks j) (slice_index places j))
+    → ((j : ℕ) → j < n → P (slice_index (take (from + n - from) (drop from ranks)) j) (slice_index new j))
+    → (j : ℕ) → j < from + n → P (slice_index ranks j) (slice_index (put_mid from (from + n - from) places new) j)
+answers_follow P from n ranks places new inside long old added j h =
+    let after = put_mid from (from + n - from) places new in
+    elim (cases_lt j from) [
+      | inl below ↦
+          subst (P (slice_index ranks j)) (sym (put_below from (from + n - from) places new j below (omega (arith, inside)))) (old j below)
+      | inr over ↦
+          let at : from + (j - from) ≡ j = omega (arith, over) in
+          let k : j - from < n = omega (arith, over, h) in
+          let there : slice_index after j ≡ slice_index new (j - from) =
+          ap (slice_index after) (sym at)
+          ∙ put_inside from (from + n - from) places new (j - from) (omega (arith, k, long)) (omega (arith, inside)) in
+          let rank : slice_index (take (from + n - from) (drop from ranks)) (j - from) ≡ slice_index ranks j =
+          part_item ranks from n (j - from) k ∙ ap (slice_index ranks) at in
+          subst (P (slice_index ranks j)) (sym there) (subst (λ (r : ℕ). P r (slice_index new (j - from))) rank (added (j - from) k))
+    ]
+
 pub loop-from-preserved : goal.loop-from-preserved
 loop-from-preserved g c =
     let i = c.loop-from.invariant in
@@ -40,27 +61,6 @@ loop-from-preserved g c =
     let long = part_long ranks from n few in
     let new = c.select_block.new.places in
     let new_long : length new ≡ n = omega (arith, c.select_block.auto.places, part_long c.loop-from.places from n few_places) in
-    let after = put_mid from (from + n - from) c.loop-from.places new in
-    let answered : (j : ℕ) → j < from + n → Picks (bits_of lists.words) (kind g.row.ONE) (slice_index ranks j) (slice_index after j) =
-    λ j h.
-    elim (cases_lt j from) [
-      | inl below ↦
-          rw (put_below from (from + n - from) c.loop-from.places new j below (omega (arith, few_places))) (i.answered j below)
-      | inr over ↦
-          let at : from + (j - from) ≡ j = omega (arith, over) in
-          let k : j - from < n = omega (arith, over, h) in
-          let there : slice_index after j ≡ slice_index new (j - from) =
-          ap (slice_index after) (sym at)
-          ∙ put_inside from (from + n - from) c.loop-from.places new (j - from) (omega (arith, k, new_long)) (omega (arith, few_places)) in
-          let rank : slice_index (take (from + n - from) (drop from ranks)) (j - from) ≡ slice_index ranks j =
-          part_item ranks from n (j - from) k ∙ ap (slice_index ranks) at in
-          let picked =
-          subst (λ (l : Lists). Picks (bits_of l.words) (kind g.row.ONE)
-          (slice_index (take (from + n - from) (drop from ranks)) (j - from)) (slice_index new (j - from)))
-          i.same (e.answers (j - from) (omega (arith, k, long))) in
-          rw there
-          (subst (λ (r : ℕ). Picks (bits_of lists.words) (kind g.row.ONE) r (slice_index new (j - from))) rank picked)
-    ] in
     let upper =
     subst
     (λ (l : Lists).
@@ -72,7 +72,13 @@ loop-from-preserved g c =
     record {
       inside = few;
       long = omega (arith, i.long, put_long from n c.loop-from.places new few_places new_long);
-      answered = answered;
+      answered =
+          answers_follow (Picks (bits_of lists.words) (kind g.row.ONE)) from n ranks c.loop-from.places new few_places new_long i.answered
+          (λ j h.
+          subst
+          (λ (l : Lists).
+          Picks (bits_of l.words) (kind g.row.ONE) (slice_index (take (from + n - from) (drop from ranks)) j) (slice_index new j))
+          i.same (e.answers j (omega (arith, h, long))));
       upper = omega (arith, i.upper, upper, ap (λ (m : ℕ). m * digits) long, both);
       lower = omega (arith, i.lower, e.reads.lower, long);
       words = omega (arith, i.words, e.reads.words, long);

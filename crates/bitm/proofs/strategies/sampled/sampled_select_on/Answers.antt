@@ -1,5 +1,5 @@
 -- The sample of the rank lets the walk begin no later than the answer's entry; where there is none, nothing is picked.
-use Rattle.std.proofs.Common.{◌≡◌, ℕ, List, ◌+◌, ◌-◌, ◌*◌, ◌/◌, ◌^◌, ◌%◌, ◌<◌, ◌≤◌, length, get_or, slice_index_or, nat_eq, if◌then◌else◌, refl, sym, ap, ap₂, ◌∙◌, subst, arith}
+use Rattle.std.proofs.Common.{◌≡◌, ℕ, List, Option, ◌+◌, ◌-◌, ◌*◌, ◌/◌, ◌^◌, ◌%◌, ◌<◌, ◌≤◌, length, get_or, slice_index_or, nat_eq, if◌then◌else◌, refl, sym, ap, ap₂, ◌∙◌, subst, arith}
 use Rattle.bitm_bits.proofs.lemmas.BitsLemmas.{length-bits_of}
 use Rattle.bitm_bits.specs.Bits.{bits_of, digit_count}
 use Rattle.bitm_bits.specs.Count.{ones_before, kind, IsSelect}
@@ -183,6 +183,21 @@ walk-entry-requires-clause-at_most g c =
     (subst (λ (x : ℕ). items_to g.row.ONE (bits_of l.words) k x ≤ rank_of g.row.ONE l c.args.rank k)
     (sym (from_is g f (in_part g a) (number_is g a))) below))
 
+-- the entry where the walk ends, and what is selected in it, of the source as it was
+last_there : (one k left r e : ℕ) (l l' : Lists) → l' ≡ l → left ≡ r → IsLastEntry (sought_in one l'.words) (length l'.lower) k left e
+    → IsLastEntry (sought_in one l.words) (length l.lower) k r e
+last_there one k left r e l l' same is h =
+    subst (λ (x : ℕ). IsLastEntry (sought_in one l.words) (length l.lower) k x e) is
+    (subst (λ (x : Lists). IsLastEntry (sought_in one x.words) (length x.lower) k left e) same h)
+
+selected_there : (one k left rank : ℕ) (l l' : Lists) (o : Option ℕ) → l' ≡ l
+    → ones_before (sought_in one l.words) (k * 2 ^ 32) + left ≡ rank
+    → IsSelect (bits_of l'.words) (kind one) (ones_before (sought_in one l'.words) (k * 2 ^ 32) + left) o
+    → IsSelect (bits_of l.words) (kind one) rank o
+selected_there one k left rank l l' o same total h =
+    subst (λ (n : ℕ). IsSelect (bits_of l.words) (kind one) n o) total
+    (subst (λ (x : Lists). IsSelect (bits_of x.words) (kind one) (ones_before (sought_in one x.words) (k * 2 ^ 32) + left) o) same h)
+
 pub returns-clause-reads : goal.returns-clause-reads
 returns-clause-reads g c =
     let a = (goal.at.returns-clause-reads g c).After-divide in
@@ -202,18 +217,12 @@ returns-clause-reads g c =
     let from = from_is g f (in_part g a) (number_is g a) in
     let at_entry = same g f (in_part g a) (number_is g a) in
     let left = c.args.rank - c.before_part.result in
-    let low : IsLastEntry (sought_in g.row.ONE l.words) (length l.lower) k r c.walk-entry.result.0 =
-    subst (λ (x : ℕ). IsLastEntry (sought_in g.row.ONE l.words) (length l.lower) k x c.walk-entry.result.0) (in_part g a)
-    (subst (λ (x : Lists). IsLastEntry (sought_in g.row.ONE x.words) (length x.lower) k left c.walk-entry.result.0) at_entry w.last) in
+    let low = last_there g.row.ONE k left r c.walk-entry.result.0 l _ at_entry (in_part g a) w.last in
     let order : walk_start (part_of b k) v d r ≤ c.walk-entry.result.0 = subst (λ (x : ℕ). x ≤ c.walk-entry.result.0) from w.order in
     let before : c.before_part.result ≡ ones_before (sought_in g.row.ONE l.words) (k * 2 ^ 32) =
     u.count ∙ ap (λ (x : Lists). ones_before (sought_in g.row.ONE x.words) (k * 2 ^ 32)) p.same in
     let total : ones_before (sought_in g.row.ONE l.words) (k * 2 ^ 32) + left ≡ c.args.rank = omega (arith, before, p.last.at_most) in
-    let selected : IsSelect b v c.args.rank c.select_in_entry.result =
-    subst (λ (n : ℕ). IsSelect b v n c.select_in_entry.result) total
-    (subst
-    (λ (x : Lists). IsSelect (bits_of x.words) v (ones_before (sought_in g.row.ONE x.words) (k * 2 ^ 32) + left) c.select_in_entry.result)
-    (w.same ∙ at_entry) e.answer) in
+    let selected = selected_there g.row.ONE k left c.args.rank l _ c.select_in_entry.result (w.same ∙ at_entry) total e.answer in
     let some =
     first_inside b l.upper l.lower t v c.args.rank k p.last d
     (interval_inside b l.upper l.lower t v c.args.rank k p.last d (there g f (in_part g a) (number_is g a))) in
