@@ -1,7 +1,7 @@
 //! Samples that the original crate keeps where there are many: of 96001 words, of which the first and the last are full
 //! and the others empty.
 //!
-//! Made from its answers (`crates/oracle/data`, the lines `samplesat`).
+//! Made from its answers (`crates/replay_original/data`, the lines `samplesat`).
 
 /// The number of a sample, and the sample.
 pub type Row = (usize, u32);

@@ -1,7 +1,7 @@
 //! The samples that the original crate keeps for some contents.
 //!
-//! Made from its answers (`crates/oracle/data`, the lines `content` and `samples`): each hexadecimal sample is written
-//! as its entry and its distance.
+//! Made from its answers (`crates/replay_original/data`, the lines `content` and `samples`): each hexadecimal sample
+//! is written as its entry and its distance.
 
 /// Equal words: the word, and how many.
 pub type Words = (u64, usize);
