@@ -66,8 +66,8 @@ fn expect_kept<D: CombinedSamplingDensity>(
     let expected = samples_of(alloc, kept.1)?;
     assert_eq!(rt; zeros.samples.as_slice(), expected.as_slice());
     let starts: &[usize] = if words.is_empty() { &[] } else { &[0] };
-    assert_eq!(rt; ones.begins.as_slice(), starts);
-    assert_eq!(rt; zeros.begins.as_slice(), starts);
+    assert_eq!(rt; ones.starts.as_slice(), starts);
+    assert_eq!(rt; zeros.starts.as_slice(), starts);
     Ok(())
 }
 
@@ -128,8 +128,8 @@ fn expect_far<D: CombinedSamplingDensity>(
     let index = indexed::<D>(rt, alloc, words.as_slice());
     let (of_ones, of_zeros) = (index.select_support(), index.select0_support());
     assert_eq!(rt; of_ones.samples.as_slice(), [ones].as_slice());
-    assert_eq!(rt; of_ones.begins.as_slice(), [0].as_slice());
-    assert_eq!(rt; of_zeros.begins.as_slice(), [0].as_slice());
+    assert_eq!(rt; of_ones.starts.as_slice(), [0].as_slice());
+    assert_eq!(rt; of_zeros.starts.as_slice(), [0].as_slice());
     let zeros = of_zeros.samples.as_slice();
     assert_eq!(rt; zeros.len(), count);
     for (place, sample) in rows {
@@ -154,8 +154,8 @@ fn an_adaptive_density_is_sparse_where_items_are_many(rt: HostRuntime) -> Result
     let index = indexed::<AdaptiveCombinedSamplingDensity<13>>(&rt, rt.alloc(), words.as_slice());
     let ones = [0xFFE0_0000];
     assert_eq!(rt; index.select_support().samples.as_slice(), ones.as_slice());
-    assert_eq!(rt; index.select_support().begins.as_slice(), [0].as_slice());
-    assert_eq!(rt; index.select0_support().begins.as_slice(), [0].as_slice());
+    assert_eq!(rt; index.select_support().starts.as_slice(), [0].as_slice());
+    assert_eq!(rt; index.select0_support().starts.as_slice(), [0].as_slice());
     let zeros = index.select0_support().samples.as_slice();
     assert_eq!(rt; zeros.len(), 750);
     for number in 0..750u32 {
