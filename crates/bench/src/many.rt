@@ -50,8 +50,8 @@ fn sum(answers: &[usize]) -> usize {
     sum
 }
 
-/// Asks a batch of an index, and adds up its answers; 0 where some of them has none. The numbers are tested first, and the
-/// time of that is the batch's too.
+/// Asks a batch of an index, and adds up its answers; 0 where some of them has none. The numbers are tested first, and
+/// the time of that is the batch's too.
 #[inline(never)]
 #[tactic(auto, using(bitm_bits::proofs::Callers::bits_counted))]
 pub(crate) fn over_index<S: SelectForRank101111, S0: Select0ForRank101111>(

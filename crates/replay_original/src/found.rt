@@ -241,7 +241,8 @@ impl<'a> Found<'a> {
         self.compare_values(argument, None, Base::Decimal, Some(ours), Some(theirs));
     }
 
-    /// Compares a list, item by item, with the one that a text writes: where one is longer, its items differ from `None`.
+    /// Compares a list, item by item, with the one that a text writes: where one is longer, its items differ from
+    /// `None`.
     pub fn compare_list(
         &mut self,
         alloc: Global,

@@ -41,7 +41,8 @@ pub fn rank_many_on<T: TableSource>(source: &mut T, indices: &[usize], ranks: &m
     }
 }
 
-/// The first entry of the last part with no more than `rank` of the kind before it, and how many of them are left there.
+/// The first entry of the last part with no more than `rank` of the kind before it, and how many of them are left
+/// there.
 #[inline(always)]
 fn begin<const ONE: u8, T: TableSource>(source: &mut T, rank: usize) -> (usize, usize)
     requires tables { HasTables (T.lists source.old) }
@@ -293,11 +294,11 @@ fn select_block<const ONE: u8, T: TableSource>(
 /// Sixteen searches go side by side, each by halves: so the misses of one overlap with those of the others.
 ///
 /// # Conditions
-/// The source's tables are those of its words, of fewer than 2^58 words. There are as many `places` as `ranks`, and more
-/// ones than each rank.
+/// The source's tables are those of its words, of fewer than 2^58 words. There are as many `places` as `ranks`, and
+/// more ones than each rank.
 /// # Cost
-/// For each rank at most as many upper entries as their number has binary digits and one more, 22 lower entries and eight
-/// words are read.
+/// For each rank at most as many upper entries as their number has binary digits and one more, 22 lower entries and
+/// eight words are read.
 #[inline]
 pub fn select_many_on<const ONE: u8, T: TableSource>(
     source: &mut T,
