@@ -89,7 +89,7 @@ uint32_t bitm_rank0(const struct bitm_view *view, size_t index, uint64_t *out);
 
 /* The place of the one, or zero, with exactly rank ones, or zeros, before it. BITM_NONE where there is none,
  * BITM_WRONG where the tables turn out not to be those of the words. Reads at most as many upper entries as their
- * number has binary digits and one more, 22 lower entries and eight words. */
+ * number has binary digits and one more, 23 lower entries and eight words. */
 uint32_t bitm_select(const struct bitm_view *view, size_t rank, uint64_t *out);
 uint32_t bitm_select0(const struct bitm_view *view, size_t rank, uint64_t *out);
 

@@ -16,6 +16,7 @@ pub mod SampleLemmas
 pub mod SearchLemmas
 pub mod SelectLemmas
 pub mod SimpleLemmas
+pub mod SizeLemmas
 pub mod SoughtLemmas
 pub mod StretchLemmas
 pub mod TableLemmas

@@ -37,3 +37,9 @@ bits_in lists = bits_of lists.words
 pub record IsIndexed (lists : Lists) : Type 0 where
   pub tables : HasTables lists
   pub short : IsShort lists.words
+
+-- few enough words for an index, and tables as long as theirs: nothing is said of what they hold
+pub record HasSizes (lists : Lists) : Type 0 where
+  pub short : IsShort lists.words
+  pub upper_len : length lists.upper ≡ div_ceil (length lists.words) (2 ^ 26)
+  pub lower_len : length lists.lower ≡ div_ceil (length lists.words) 32

@@ -1,9 +1,12 @@
 //! What rank, selection and the tables are made of, for code that asks tables which nobody vouches for, as mapped or
-//! received ones. No function here asks that the tables are those of the words; what `record_of` asks of an entry, a
-//! caller can test.
+//! received ones. No function here asks that the tables are those of the words: each says what it answers where they
+//! are. What `record_of` asks of an entry, a caller can test.
 
 pub use crate::entry::{entries_of_part, ones_to_entry, ones_to_record};
+pub use crate::search::entries::{EntryRange, last_entry, last_in_range};
 pub use crate::search::ranking::ones_in_record;
-pub use crate::search::records::{record_of, select_in_word, sought_word};
+pub use crate::search::selecting::{
+    before_part, last_part, record_of, select_in_word, sought_word,
+};
 pub use crate::tables::make_entry;
 pub use crate::word::ones_through;

@@ -38,11 +38,19 @@ pub fn ones_to_record(entry: u64, place: usize) -> usize
     (entry >> (11 * (3 - place)) >> 32 & 0x7FF) as usize
 }
 
+/// Each field's greatest number at entry `at` less the field, where none exceeds it: one subtraction does all four, and
+/// none borrows then.
+#[inline(always)]
+pub(crate) fn negated_entry(entry: u64, at: usize) -> u64
+    ensures { FieldsFit entry at → result ≡ greatest at - entry }
+{
+    ((at % L2_ENTRIES_PER_L1_ENTRY) as u64 * 2048 + 0x8020_0600_0000_0000).wrapping_sub(entry)
+}
+
 /// Lower entry `at` of the negated bits, from that of the bits: each field's greatest number less the field.
 ///
 /// The four fields count the ones before the entry in its part of 2^32 bits, and in its first record, first two and
-/// first three records of 512 bits. One subtraction does all four, and none borrows. Bits that miss in the last entry
-/// count as zeros.
+/// first three records of 512 bits. Bits that miss in the last entry count as zeros.
 ///
 /// # Conditions
 /// No field of `entry` exceeds its greatest number at entry `at`: so it is for each entry of a lower table
@@ -57,5 +65,5 @@ pub fn complement_entry(entry: u64, at: usize) -> u64
     ensures zeros { (b : List Bool) → IsEntryOf b at entry
         → field_0 result ≡ zeros_before_in_part b at }
 {
-    (at % (1 << 21)) as u64 * 2048 + 0x8020_0600_0000_0000 - entry
+    negated_entry(entry, at)
 }

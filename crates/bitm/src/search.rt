@@ -2,8 +2,6 @@
 
 pub(crate) mod entries;
 pub(crate) mod many;
-pub(crate) mod parts;
 pub(crate) mod ranking;
-pub(crate) mod records;
 pub(crate) mod selecting;
 pub(crate) mod walking;

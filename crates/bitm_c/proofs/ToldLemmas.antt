@@ -3,9 +3,8 @@ use Rattle.std.proofs.Common.{◌≡◌, ℕ, ◌<◌, Bool, length, sym, subst,
 use Rattle.bitm_bits.proofs.lemmas.PickLemmas.{rank_below}
 use Rattle.bitm_bits.specs.Bits.{item}
 use Rattle.bitm_bits.specs.Count.{Picks}
-use Rattle.bitm.specs.Tables.{HasTables, Lists, bits_in}
+use Rattle.bitm.specs.Tables.{HasSizes, HasTables, Lists, bits_in}
 use Rattle.bitm_lent.specs.Answers.{HasBit, IsSelected}
-use Rattle.bitm_lent.specs.Sizes.{HasSizes}
 use Rattle.bitm_lent.specs.declared.selecting.Selected.{Selected}
 use Rattle.bitm_lent.specs.declared.selecting.Selected.TheVariants.{Found, Absent, WrongTables}
 use Rattle.bitm_c.specs.Status.{IsTold, SelectAnswered}

@@ -3,8 +3,8 @@ ghost use Rattle.std.specs.Prelude.{◌≡◌, ◌≢◌, ◌^◌, ◌↔◌, tr
 ghost use Rattle.std.specs.Int.{div_ceil};
 ghost use Rattle.bitm_bits.specs.Bits.{bits_of};
 ghost use Rattle.bitm_bits.specs.Count.{ones_of};
-ghost use Rattle.bitm.specs.Tables.{HasTables};
-ghost use Rattle.bitm_lent.specs.Sizes.{HasSizes, listed};
+ghost use Rattle.bitm.specs.Tables.{HasSizes, HasTables};
+ghost use Rattle.bitm_lent.specs.Sizes.{listed};
 ghost use Rattle.bitm_c.specs.Status.{lists_of, RankAnswered, SelectAnswered};
 
 use crate::answer::{BAD_SIZE, OK, WRONG, tell, tell_place};

@@ -1,6 +1,6 @@
 //! Words and tables as one struct lends them to C.
 ghost use Rattle.std.specs.Prelude.{◌≡◌, MatchOption};
-ghost use Rattle.bitm_lent.specs.Sizes.{HasSizes};
+ghost use Rattle.bitm.specs.Tables.{HasSizes};
 ghost use Rattle.bitm_c.specs.Status.{lists_of};
 
 use bitm_lent::Lent;

@@ -7,10 +7,10 @@ use Rattle.bitm_bits.proofs.lemmas.BitsLemmas.{length-bits_of}
 use Rattle.bitm_bits.specs.Bits.{bits_of}
 use Rattle.bitm_bits.specs.Count.{ones_before}
 use Rattle.bitm.specs.Entry.{lower_entry}
-use Rattle.bitm.specs.Tables.{AreTablesOf, upper_of, lower_of}
+use Rattle.bitm.specs.Tables.{AreTablesOf, HasSizes, lower_of, upper_of}
 use Rattle.bitm.proofs.lemmas.TableLemmas.{length-upper_of, length-lower_of, get_or-upper_of, get_or-lower_of}
 use Rattle.bitm.proofs.lemmas.TableMakingLemmas.{parts_of_words, entries_of_words}
-use Rattle.bitm_lent.specs.Sizes.{HasSizes, IsFilled, listed}
+use Rattle.bitm_lent.specs.Sizes.{IsFilled, listed}
 
 -- one more item
 pub filled_more : (f : ℕ → ℕ) (xs : List ℕ) (n y : ℕ) → IsFilled f xs n → n < length xs → y ≡ f n → IsFilled f (slice_set xs n y) (n + 1)

@@ -1,4 +1,3 @@
 pub mod FilledLemmas
 pub mod PlaceLemmas
 pub mod SelectedLemmas
-pub mod SizeLemmas

@@ -4,8 +4,8 @@ ghost use Rattle.std.specs.Int.{div_ceil};
 ghost use Rattle.bitm_bits.specs.Bits.{bits_of};
 ghost use Rattle.bitm_bits.specs.Count.{ones_before};
 ghost use Rattle.bitm.specs.Entry.{lower_entry};
-ghost use Rattle.bitm.specs.Tables.{HasTables};
-ghost use Rattle.bitm_lent.specs.Sizes.{HasSizes, IsFilled, listed};
+ghost use Rattle.bitm.specs.Tables.{HasSizes, HasTables};
+ghost use Rattle.bitm_lent.specs.Sizes.{IsFilled, listed};
 
 use bitm::L2_ENTRIES_PER_L1_ENTRY;
 use bitm::building::make_entry;

@@ -3,9 +3,9 @@ ghost use Rattle.std.specs.Prelude.{◌≡◌, ◌^◌, ◌↔◌, ◌<◌, ◌�
 ghost use Rattle.std.specs.Int.{div_ceil};
 ghost use Rattle.bitm_bits.specs.Bits.{bits_of};
 ghost use Rattle.bitm_bits.specs.Count.{kind, IsRank, IsRank0};
-ghost use Rattle.bitm.specs.Tables.{HasTables, bits_in};
+ghost use Rattle.bitm.specs.Tables.{HasSizes, HasTables, bits_in};
 ghost use Rattle.bitm_lent.specs.Answers.{HasBit, IsSelected};
-ghost use Rattle.bitm_lent.specs.Sizes.{HasSizes, listed};
+ghost use Rattle.bitm_lent.specs.Sizes.{listed};
 
 use crate::checking::are_tables;
 use crate::ranking::total_rank_on;
@@ -51,8 +51,8 @@ pub struct Lent<'a> {
 }
 
 impl<'a> Model for Lent<'a> {
-    ghost use Rattle.bitm.specs.Tables.{Lists};
-    ghost use Rattle.bitm_lent.specs.Sizes.{HasSizes, listed};
+    ghost use Rattle.bitm.specs.Tables.{HasSizes, Lists};
+    ghost use Rattle.bitm_lent.specs.Sizes.{listed};
 
     ghost Value = { Lists };
 
@@ -124,7 +124,7 @@ impl<'a> Lent<'a> {
     /// is the right one, `Absent` is answered exactly where there is none, and `WrongTables` never.
     ///
     /// # Cost
-    /// At most as many upper entries as their number has binary digits and one more, 22 lower entries and eight words
+    /// At most as many upper entries as their number has binary digits and one more, 23 lower entries and eight words
     /// are read, whatever the tables hold.
     pub fn select(&self, rank: usize) -> Selected
         ensures bit { HasBit (bits_in self.now) true result }

@@ -18,7 +18,6 @@ mod lent;
 mod lists;
 mod places;
 mod ranking;
-mod searching;
 mod selecting;
 
 pub use filling::build;

@@ -2,8 +2,7 @@
 ghost use Rattle.std.specs.Prelude.{◌≡◌, ◌≤◌, ◌<◌, length, MatchOption};
 ghost use Rattle.bitm_bits.specs.Count.{IsRank};
 ghost use Rattle.bitm.specs.Reads.{OnlyReads};
-ghost use Rattle.bitm.specs.Tables.{HasTables, bits_in};
-ghost use Rattle.bitm_lent.specs.Sizes.{HasSizes};
+ghost use Rattle.bitm.specs.Tables.{HasSizes, HasTables, bits_in};
 
 use bitm::TableSource;
 use bitm::building::{ones_in_record, ones_through, ones_to_entry, ones_to_record};

@@ -5,12 +5,13 @@ ghost use Rattle.bitm_bits.specs.Count.{ones_before, kind, Picks};
 ghost use Rattle.bitm.specs.Entry.{field_1, field_2, field_3, lower_entry};
 ghost use Rattle.bitm.specs.Reads.{OnlyReads, ReadsAtMost};
 ghost use Rattle.bitm.specs.Search.{entries_from, entry_in, sought_in, IsLastEntry, IsLastPart};
-ghost use Rattle.bitm.specs.Tables.{HasTables, bits_in};
+ghost use Rattle.bitm.specs.Tables.{HasSizes, HasTables, bits_in};
 ghost use Rattle.bitm_lent.specs.Answers.{HasBit, IsSelected, IsSelectedFrom};
-ghost use Rattle.bitm_lent.specs.Sizes.{HasSizes};
 
-use crate::searching::{before_part, last_entry, last_part};
-use bitm::building::{ones_to_entry, ones_to_record, record_of, select_in_word, sought_word};
+use bitm::building::{
+    before_part, last_entry, last_part, ones_to_entry, ones_to_record, record_of, select_in_word,
+    sought_word,
+};
 use bitm::{L2_ENTRIES_PER_L1_ENTRY, TableSource, U64_PER_L2_ENTRY, U64_PER_L2_RECORDS};
 
 /// What a selection answers.
@@ -140,7 +141,7 @@ fn in_packed<const ONE: u8, T: TableSource>(
 /// # Conditions
 /// There are fewer than 2^58 words, and the tables are as long as theirs. Nothing is asked of what they hold.
 /// # Cost
-/// At most as many upper entries as their number has binary digits and one more, 22 lower entries and eight words are
+/// At most as many upper entries as their number has binary digits and one more, 23 lower entries and eight words are
 /// read, whatever the tables hold.
 pub fn total_select_on<const ONE: u8, T: TableSource>(source: &mut T, rank: usize) -> Selected
     requires { HasSizes (T.lists source.old) }
@@ -148,7 +149,7 @@ pub fn total_select_on<const ONE: u8, T: TableSource>(source: &mut T, rank: usiz
     ensures answer { HasTables (T.lists source.old)
         → IsSelected (bits_in (T.lists source.old)) (kind ONE) rank result }
     ensures reads { OnlyReads T.lists T.reads source.old source.new
-        (digit_count (length (T.lists source.old).upper) + 1) 22 8 }
+        (digit_count (length (T.lists source.old).upper) + 1) 23 8 }
 {
     if source.upper_len() == 0 {
         return Selected::Absent;

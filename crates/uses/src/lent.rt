@@ -2,8 +2,8 @@
 ghost use Rattle.std.specs.Prelude.{◌≡◌, ◌↔◌, true, false, IsNone, IsTrue};
 ghost use Rattle.bitm_bits.specs.Bits.{bits_of};
 ghost use Rattle.bitm_bits.specs.Count.{IsSelect};
-ghost use Rattle.bitm.specs.Tables.{HasTables};
-ghost use Rattle.bitm_lent.specs.Sizes.{HasSizes, listed};
+ghost use Rattle.bitm.specs.Tables.{HasSizes, HasTables};
+ghost use Rattle.bitm_lent.specs.Sizes.{listed};
 
 use bitm_lent::{Lent, Selected, build};
 

@@ -11,7 +11,8 @@ use Rattle.bitm.specs.Many.{IsNear, IsInRecord}
 use Rattle.bitm.specs.Search.{sought_in, IsLastPart, IsLastEntry, IsWord}
 use Rattle.bitm.specs.Tables.{Lists, HasTables}
 use Rattle.bitm.proofs.lemmas.MarkLemmas.{none_in_nothing}
-use Rattle.bitm.proofs.lemmas.SoughtLemmas.{few_entries, first_none, next_is, rank_is, some_entry}
+use Rattle.bitm.proofs.lemmas.SizeLemmas.{few_entries, first_of_part, sizes_of}
+use Rattle.bitm.proofs.lemmas.SoughtLemmas.{first_none, next_is, rank_is}
 use Rattle.bitm.proofs.lemmas.TableLemmas.{entries}
 use borrow.Rule.Slice.PartMut.{put_mid}
 
@@ -28,7 +29,7 @@ module _ (one : ℕ) (lists : Lists) (rank rest : ℕ) where
         place = omega arith;
         last = last;
         total = total;
-        inside = some_entry lists.words lists.upper lists.lower t short part last.inside;
+        inside = omega (arith, first_of_part lists (sizes_of lists t short) part last.inside);
         at_most = omega (arith, first_none (sought_in one lists.words) part);
         next = λ h. absurd (omega (arith, h));
         room = omega arith;
@@ -116,7 +117,7 @@ near_ends one lists rank rest at near = record { inside = near.inside; at_most =
 pub near_few : (one : ℕ) (lists : Lists) (rank rest at : ℕ) → HasTables lists → IsShort lists.words → IsNear one lists rank rest at 0
     → at * 32 + 32 < 2 ^ 60
 near_few one lists rank rest at t short near =
-    omega (arith, near.place, near.inside, few_entries lists.words lists.upper lists.lower t short)
+    omega (arith, near.place, near.inside, few_entries lists (sizes_of lists t short))
 
 -- the record that is chosen in the entry where the search ends
 module _ (one : ℕ) (lists : Lists) (rank rest at packed count place before word : ℕ) (t : HasTables lists) (short : IsShort lists.words)

@@ -1,10 +1,10 @@
 -- Ones of the sought bits are bits of the kind that is sought; what a word of them tells of a place.
-use Rattle.std.proofs.Common.{◌≡◌, ◌≢◌, ℕ, zero, suc, ◌+◌, ◌-◌, ◌*◌, ◌%◌, ◌^◌, ◌<◌, ◌≤◌, Bool, true, false, not, List, length, replicate, min, length-append, slice_index, count_ones, arith, refl, sym, ap, ◌∙◌, w64, inl, inr}
+use Rattle.std.proofs.Common.{◌≡◌, ◌≢◌, ℕ, zero, suc, ◌+◌, ◌-◌, ◌*◌, ◌%◌, ◌^◌, ◌<◌, ◌≤◌, Bool, true, false, not, List, length, replicate, min, length-append, slice_index, count_ones, arith, refl, sym, ap, ◌∙◌, inl, inr}
 use Rattle.std.proofs.lemmas.Bool.{cases_lt}
 use Rattle.std.proofs.lemmas.List.{length-map}
 use Rattle.std.proofs.lemmas.Nat.{ones_le_self}
 use Rattle.std.proofs.lemmas.Nat.Bits.{same_from_bits_below}
-use Rattle.std.specs.Int.{bit_at, bit_not, div_ceil}
+use Rattle.std.specs.Int.{bit_at, div_ceil}
 use Rattle.bitm_bits.proofs.lemmas.BitsLemmas.{length-bits_of}
 use Rattle.bitm_bits.proofs.lemmas.CountLemmas.{ones_before_more, zeros_before_more, ones_before-add-zeros_before, ones_before-bits_of_in_word, count_ones_more, digits_of_both}
 use Rattle.bitm_bits.proofs.lemmas.NumberLemmas.{bit_at-number_at, number_at-lt}

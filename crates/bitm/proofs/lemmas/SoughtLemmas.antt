@@ -37,18 +37,6 @@ module _ (words upper lower : List ℕ) (t : AreTablesOf (bits_of words) upper l
     pub part_ones : (one : ℕ) → one ≢ 0 → u ≡ ones_before (sought_in one words) (k * 2 ^ 32)
     part_ones one h = rw (marked_other (bits_of words) one h) (u_ones ∙ sym (ones_before-sought (bits_of words) (k * 2 ^ 32)))
 
-  -- the part's first entry
-  pub first_entry : k * 2 ^ 21 < length lower
-  first_entry = omega (arith, t'.upper_length, t'.lower_length, length-bits_of words)
-
-  pub some_entry : 0 < entries_from (length lower) k
-  some_entry = omega (arith, first_entry)
-
--- so many lower entries have few words
-pub few_entries : (words upper lower : List ℕ) → AreTablesOf (bits_of words) upper lower → IsShort words → length lower * 32 + 32 < 2 ^ 60
-few_entries words upper lower t short =
-    let e = entries (bits_of words) upper lower t in omega (arith, e.lower_length, length-bits_of words)
-
 -- ---- before an entry
 
 pub entry_ones : (b : List Bool) (j one : ℕ) → one ≢ 0 → lower_entry b j ≡ lower_entry (sought (kind one) b) j

@@ -7,7 +7,7 @@ use Rattle.bitm_bits.proofs.lemmas.CountLemmas.{ones_before-bits_of_stretch, one
 use Rattle.bitm_bits.specs.Bits.{bits_of}
 use Rattle.bitm_bits.specs.Count.{ones_before, ones_of}
 use Rattle.bitm.proofs.lemmas.StretchLemmas.{ones_before-between}
-use Rattle.bitm.specs.Entry.{packed, before_in_part, in_records, lower_entry}
+use Rattle.bitm.specs.Entry.{packed, before_in_part, lower_entry}
 
 -- a word past the end counts as the end
 pub ones_before_capped : (words : List ℕ) (k : ℕ) → ones_before (bits_of words) (64 * min (length words) k) ≡ ones_before (bits_of words) (64 * k)

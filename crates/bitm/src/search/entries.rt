@@ -1,12 +1,13 @@
-//! The search for an entry of a part: by a guess where there are many entries, and by halves.
+//! The search for an entry of a part, in tables that may hold anything: by a guess where there are many entries, and by
+//! halves. Where the tables are not those of the words the search ends as well, with some entry of the part.
 ghost use Rattle.std.specs.Prelude.{◌≡◌, ◌+◌, ◌-◌, ◌*◌, ◌/◌, ◌^◌, ◌<◌, ◌≤◌, ◌⊎◌, length};
-ghost use Rattle.bitm_bits.specs.Bits.{digit_count, IsShort};
+ghost use Rattle.bitm_bits.specs.Bits.{digit_count};
 ghost use Rattle.bitm.specs.Entry.{lower_entry};
 ghost use Rattle.bitm.specs.Reads.{lower_read, ReadsAtMost};
-ghost use Rattle.bitm.specs.Search.{entry_in, sought_in, IsAmong, IsLastEntry};
-ghost use Rattle.bitm.specs.Tables.{HasTables};
+ghost use Rattle.bitm.specs.Search.{entries_from, entry_in, sought_in, IsAmong, IsLastEntry};
+ghost use Rattle.bitm.specs.Tables.{HasSizes, HasTables};
 
-use crate::entry::{complement_entry, entries_of_part, ones_to_entry};
+use crate::entry::{entries_of_part, negated_entry, ones_to_entry};
 use crate::levels::L2_ENTRIES_PER_L1_ENTRY;
 use crate::source::TableSource;
 
@@ -16,61 +17,72 @@ const FEW: usize = 1 << 12;
 /// Entries of a window round a guess: five lines of a cache at most.
 const WINDOW: usize = 32;
 
-/// Lower entry `at` of the bits in which ones are sought.
+/// Lower entry `at` of the bits in which ones are sought, where the tables are those of the words.
 #[inline(always)]
 pub(crate) fn sought_entry<const ONE: u8, T: TableSource>(source: &mut T, at: usize) -> u64
-    requires tables { HasTables (T.lists source.old) }
-    requires inside { at < length (T.lists source.old).lower }
-    ensures entry { result ≡ lower_entry (sought_in ONE (T.lists source.old).words) at }
+    requires { at < length (T.lists source.old).lower }
+    ensures entry { HasTables (T.lists source.old) → result
+        ≡ lower_entry (sought_in ONE (T.lists source.old).words) at }
     ensures counted { T.reads source.new ≡ lower_read (T.reads source.old) }
     ensures same { T.lists source.new ≡ T.lists source.old }
 {
     let entry = source.lower(at);
     if ONE == 0 {
-        complement_entry(entry, at)
+        negated_entry(entry, at)
     } else {
         entry
     }
 }
 
 /// Where the last entry is sought: among `left` entries of a part from entry `low` on, which packs `packed` (0 for the
-/// first of the part, which is not read), before entry `low + left`, which has `above` items before it (0: not known).
-#[derive(Clone, Copy)]
-struct Range {
-    low: usize,
-    left: usize,
-    packed: u64,
-    above: usize,
+/// first of the part, which need not be read), before entry `low + left`, which has `above` items before it (0: not
+/// known).
+#[derive(Clone, Copy, PartialEq, Eq, Debug)]
+pub struct EntryRange {
+    /// The first entry of the range, counted in its part.
+    pub low: usize,
+    /// How many entries the range has.
+    pub left: usize,
+    /// What entry `low` packs, unless it is the first of the part.
+    pub packed: u64,
+    /// How many items stand in the part before the range's end, or 0.
+    pub above: usize,
 }
 
-/// The side of entry `cut` of a range on which the last entry is with no more than `rank` of the kind before it.
+/// The side of entry `cut` of a range on which the last entry is with no more than `rank` of the kind before it, where
+/// the tables are those of the words.
 #[inline(always)]
 fn side_of<const ONE: u8, T: TableSource>(
     source: &mut T,
     part: usize,
-    range: Range,
+    range: EntryRange,
     cut: usize,
     rank: usize,
-) -> Range
-    requires tables { HasTables (T.lists source.old) }
-    requires short { IsShort (T.lists source.old).words }
+) -> EntryRange
+    requires sized { HasSizes (T.lists source.old) }
     requires inside { part < length (T.lists source.old).upper }
     requires some { 0 < cut }
     requires in_range { cut < range.left }
-    requires among { IsAmong (sought_in ONE (T.lists source.old).words)
+    requires within { range.low + range.left
+        ≤ entries_from (length (T.lists source.old).lower) part }
+    requires among { HasTables (T.lists source.old)
+        → IsAmong (sought_in ONE (T.lists source.old).words)
         (length (T.lists source.old).lower) part rank range.low range.left }
-    requires packed { 0 < range.low → range.packed
+    requires packed { HasTables (T.lists source.old) → 0 < range.low → range.packed
         ≡ lower_entry (sought_in ONE (T.lists source.old).words) (entry_in part range.low) }
-    ensures among { IsAmong (sought_in ONE (T.lists source.old).words)
+    ensures among { HasTables (T.lists source.old)
+        → IsAmong (sought_in ONE (T.lists source.old).words)
         (length (T.lists source.old).lower) part rank result.low result.left }
-    ensures packed { 0 < result.low → result.packed
+    ensures packed { HasTables (T.lists source.old) → 0 < result.low → result.packed
         ≡ lower_entry (sought_in ONE (T.lists source.old).words) (entry_in part result.low) }
     ensures side { ((result.low ≡ range.low) × (result.left ≡ cut))
         ⊎ ((result.low ≡ range.low + cut) × (result.left ≡ range.left - cut)) }
+    ensures within { result.low + result.left
+        ≤ entries_from (length (T.lists source.old).lower) part }
     ensures counted { T.reads source.new ≡ lower_read (T.reads source.old) }
     ensures same { T.lists source.new ≡ T.lists source.old }
 {
-    let Range {
+    let EntryRange {
         low,
         left,
         packed,
@@ -79,14 +91,14 @@ fn side_of<const ONE: u8, T: TableSource>(
     let next = sought_entry::<ONE, T>(source, part * L2_ENTRIES_PER_L1_ENTRY + low + cut);
     let count = ones_to_entry(next);
     if count <= rank {
-        Range {
+        EntryRange {
             low: low + cut,
             left: left - cut,
             packed: next,
             above,
         }
     } else {
-        Range {
+        EntryRange {
             low,
             left: cut,
             packed,
@@ -97,7 +109,7 @@ fn side_of<const ONE: u8, T: TableSource>(
 
 /// A place in a range that is near the last entry where the items lie evenly; any other would serve too.
 #[inline(always)]
-fn guess(range: Range, rank: usize) -> usize
+fn guess(range: EntryRange, rank: usize) -> usize
     requires { 34 ≤ range.left }
     ensures some { 0 < result }
     ensures fits { result + 32 < range.left }
@@ -120,20 +132,23 @@ fn guess(range: Range, rank: usize) -> usize
 fn guessed<const ONE: u8, T: TableSource>(
     source: &mut T,
     part: usize,
-    range: Range,
+    range: EntryRange,
     rank: usize,
-) -> Range
-    requires tables { HasTables (T.lists source.old) }
-    requires short { IsShort (T.lists source.old).words }
+) -> EntryRange
+    requires sized { HasSizes (T.lists source.old) }
     requires inside { part < length (T.lists source.old).upper }
     requires many { 2 ^ 12 ≤ range.left }
-    requires most { range.left ≤ 2 ^ 21 }
     requires first { range.low ≡ 0 }
-    requires among { IsAmong (sought_in ONE (T.lists source.old).words)
+    requires within { range.left ≤ entries_from (length (T.lists source.old).lower) part }
+    requires among { HasTables (T.lists source.old)
+        → IsAmong (sought_in ONE (T.lists source.old).words)
         (length (T.lists source.old).lower) part rank range.low range.left }
-    ensures among { IsAmong (sought_in ONE (T.lists source.old).words)
+    ensures left { 0 < result.left }
+    ensures within { result.low + result.left ≤ entries_from (length (T.lists source.old).lower) part }
+    ensures among { HasTables (T.lists source.old)
+        → IsAmong (sought_in ONE (T.lists source.old).words)
         (length (T.lists source.old).lower) part rank result.low result.left }
-    ensures packed { 0 < result.low → result.packed
+    ensures packed { HasTables (T.lists source.old) → 0 < result.low → result.packed
         ≡ lower_entry (sought_in ONE (T.lists source.old).words) (entry_in part result.low) }
     ensures reads { (T.reads source.new).lower + digit_count (result.left - 1)
         ≤ (T.reads source.old).lower + 23 }
@@ -156,13 +171,19 @@ fn guessed<const ONE: u8, T: TableSource>(
 
 /// The range in which a search by halves begins: all entries of a part where they are few, else what a guess leaves.
 #[inline(always)]
-fn search_range<const ONE: u8, T: TableSource>(source: &mut T, part: usize, rank: usize) -> Range
-    requires tables { HasTables (T.lists source.old) }
-    requires short { IsShort (T.lists source.old).words }
+fn search_range<const ONE: u8, T: TableSource>(
+    source: &mut T,
+    part: usize,
+    rank: usize,
+) -> EntryRange
+    requires sized { HasSizes (T.lists source.old) }
     requires inside { part < length (T.lists source.old).upper }
-    ensures among { IsAmong (sought_in ONE (T.lists source.old).words)
+    ensures left { 0 < result.left }
+    ensures within { result.low + result.left ≤ entries_from (length (T.lists source.old).lower) part }
+    ensures among { HasTables (T.lists source.old)
+        → IsAmong (sought_in ONE (T.lists source.old).words)
         (length (T.lists source.old).lower) part rank result.low result.left }
-    ensures packed { 0 < result.low → result.packed
+    ensures packed { HasTables (T.lists source.old) → 0 < result.low → result.packed
         ≡ lower_entry (sought_in ONE (T.lists source.old).words) (entry_in part result.low) }
     ensures reads { (T.reads source.new).lower + digit_count (result.left - 1)
         ≤ (T.reads source.old).lower + 23 }
@@ -173,7 +194,7 @@ fn search_range<const ONE: u8, T: TableSource>(source: &mut T, part: usize, rank
     ensures words { (T.reads source.new).words ≡ (T.reads source.old).words }
     ensures same { T.lists source.new ≡ T.lists source.old }
 {
-    let range = Range {
+    let range = EntryRange {
         low: 0,
         left: entries_of_part(source.lower_len(), part),
         packed: 0,
@@ -185,30 +206,50 @@ fn search_range<const ONE: u8, T: TableSource>(source: &mut T, part: usize, rank
     guessed::<ONE, T>(source, part, range, rank)
 }
 
-/// The last entry of a part with no more than `rank` of the kind before it in the part: its place in the part, and
-/// what it packs.
-pub(crate) fn last_entry<const ONE: u8, T: TableSource>(
+/// The last entry of a range of a part with no more than `rank` of the kind before it in the part, where the tables are
+/// those of the words and it is in the range; else some entry of the range: its place in the part, and what it packs.
+///
+/// # Conditions
+/// The tables are as long as those of the words, and the range has an entry and lies in the part.
+/// # Cost
+/// At most as many lower entries are read as one less than the range's entries has binary digits, and one more where
+/// the range begins with the part's first entry; whatever the tables hold.
+#[inline(always)]
+pub fn last_in_range<const ONE: u8, T: TableSource>(
     source: &mut T,
     part: usize,
+    range: EntryRange,
     rank: usize,
 ) -> (usize, u64)
-    requires tables { HasTables (T.lists source.old) }
-    requires short { IsShort (T.lists source.old).words }
+    requires sized { HasSizes (T.lists source.old) }
     requires inside { part < length (T.lists source.old).upper }
-    ensures last { IsLastEntry (sought_in ONE (T.lists source.old).words)
+    requires left { 0 < range.left }
+    requires within { range.low + range.left ≤ entries_from (length (T.lists source.old).lower) part }
+    requires among { HasTables (T.lists source.old)
+        → IsAmong (sought_in ONE (T.lists source.old).words)
+        (length (T.lists source.old).lower) part rank range.low range.left }
+    requires packed { HasTables (T.lists source.old) → 0 < range.low → range.packed
+        ≡ lower_entry (sought_in ONE (T.lists source.old).words) (entry_in part range.low) }
+    ensures from { range.low ≤ result.0 }
+    ensures to { result.0 < range.low + range.left }
+    ensures last { HasTables (T.lists source.old)
+        → IsLastEntry (sought_in ONE (T.lists source.old).words)
         (length (T.lists source.old).lower) part rank result.0 }
-    ensures entry { result.1
+    ensures entry { HasTables (T.lists source.old) → result.1
         ≡ lower_entry (sought_in ONE (T.lists source.old).words) (entry_in part result.0) }
-    ensures reads { ReadsAtMost (T.reads source.old) (T.reads source.new) 0 23 0 }
+    ensures reads { ReadsAtMost (T.reads source.old) (T.reads source.new)
+        0 (digit_count (range.left - 1) + 1) 0 }
+    ensures reads_later { 0 < range.low → ReadsAtMost (T.reads source.old) (T.reads source.new)
+        0 (digit_count (range.left - 1)) 0 }
     ensures same { T.lists source.new ≡ T.lists source.old }
 {
     let first = part * L2_ENTRIES_PER_L1_ENTRY;
-    let Range {
+    let EntryRange {
         mut low,
         mut left,
         mut packed,
         ..
-    } = search_range::<ONE, T>(source, part, rank);
+    } = range;
     while left > 1 {
         let half = left / 2;
         let next = sought_entry::<ONE, T>(source, first + low + half);
@@ -223,4 +264,31 @@ pub(crate) fn last_entry<const ONE: u8, T: TableSource>(
         packed = sought_entry::<ONE, T>(source, first);
     }
     (low, packed)
+}
+
+/// The last entry of a part with no more than `rank` of the kind before it in the part, where the tables are those of
+/// the words; else some entry of the part: its place in the part, and what it packs.
+///
+/// # Conditions
+/// There is such a part, and the tables are as long as those of the words. Nothing is asked of what they hold.
+/// # Cost
+/// At most 23 lower entries are read, whatever they hold.
+pub fn last_entry<const ONE: u8, T: TableSource>(
+    source: &mut T,
+    part: usize,
+    rank: usize,
+) -> (usize, u64)
+    requires sized { HasSizes (T.lists source.old) }
+    requires inside { part < length (T.lists source.old).upper }
+    ensures inside { result.0 < entries_from (length (T.lists source.old).lower) part }
+    ensures last { HasTables (T.lists source.old)
+        → IsLastEntry (sought_in ONE (T.lists source.old).words)
+        (length (T.lists source.old).lower) part rank result.0 }
+    ensures entry { HasTables (T.lists source.old) → result.1
+        ≡ lower_entry (sought_in ONE (T.lists source.old).words) (entry_in part result.0) }
+    ensures reads { ReadsAtMost (T.reads source.old) (T.reads source.new) 0 23 0 }
+    ensures same { T.lists source.new ≡ T.lists source.old }
+{
+    let range = search_range::<ONE, T>(source, part, rank);
+    last_in_range::<ONE, T>(source, part, range, rank)
 }

@@ -9,9 +9,10 @@ ghost use Rattle.bitm.specs.Tables.{HasTables, IsIndexed, bits_in};
 use crate::entry::ones_to_entry;
 use crate::levels::{L2_ENTRIES_PER_L1_ENTRY, U64_PER_L2_ENTRY, U64_PER_L2_RECORDS};
 use crate::search::entries::sought_entry;
-use crate::search::parts::{before_part, last_part};
 use crate::search::ranking::rank_on;
-use crate::search::records::{is_at_most, record_of, select_in_word, sought_word};
+use crate::search::selecting::{
+    before_part, is_at_most, last_part, record_of, select_in_word, sought_word,
+};
 use crate::source::TableSource;
 
 /// So many selections are under way side by side: more than a processor waits for at once.

@@ -1,18 +1,114 @@
-//! Selection over a source, with a bound on its reads: the part, the entry, the record, the word.
-ghost use Rattle.std.specs.Prelude.{◌≡◌, ◌+◌, ◌-◌, ◌*◌, ◌/◌, ◌^◌, ◌<◌, length, IfSome};
+//! Selection over a source, with a bound on its reads: the part, the entry, the record of the entry, the word of the
+//! record, the bit of the word.
+//!
+//! The part and the entry are sought in tables that may hold anything: where they are not those of the words, the
+//! search ends as well, with some part and some entry.
+ghost use Rattle.std.specs.Prelude.{◌≡◌, ◌+◌, ◌-◌, ◌*◌, ◌/◌, ◌%◌, ◌^◌, ◌<◌, ◌≤◌, length, count_ones, IfSome};
 ghost use Rattle.bitm_bits.specs.Bits.{bits_of, digit_count, IsShort};
 ghost use Rattle.bitm_bits.specs.Count.{ones_before, kind, IsSelect};
-ghost use Rattle.bitm.specs.Entry.{lower_entry};
-ghost use Rattle.bitm.specs.Reads.{OnlyReads, ReadsAtMost};
-ghost use Rattle.bitm.specs.Search.{entry_in, sought_in, IsLastPart, IsLastEntry};
+ghost use Rattle.bitm.specs.Entry.{field_1, field_2, field_3, lower_entry, record_field};
+ghost use Rattle.bitm.specs.Reads.{upper_read, word_read, OnlyReads, ReadsAtMost};
+ghost use Rattle.bitm.specs.Search.{entry_in, sought_in, IsLastPart, IsLastEntry, IsWord};
 ghost use Rattle.bitm.specs.Tables.{HasTables, IsIndexed, bits_in};
 
-use crate::entry::ones_to_entry;
+use crate::entry::{ones_to_entry, ones_to_record};
 use crate::levels::{L2_ENTRIES_PER_L1_ENTRY, U64_PER_L2_ENTRY, U64_PER_L2_RECORDS};
 use crate::search::entries::last_entry;
-use crate::search::parts::{before_part, last_part};
-use crate::search::records::{record_of, select_in_record};
 use crate::source::TableSource;
+use crate::word::select64;
+
+/// The place of the one of the source's words with exactly `rank` ones before it, and `None` exactly where there is
+/// none; zeros in place of ones where `ONE` is 0.
+///
+/// # Conditions
+/// The source's tables are those of its words, of fewer than 2^58 words.
+/// # Cost
+/// At most as many upper entries as their number has binary digits and one more, 23 lower entries and eight words are
+/// read, also where the answer is `None`.
+/// # Source
+/// The levels are those of Zhou, Andersen and Kaminsky, 'Space-efficient, high-performance rank and select structures
+/// on uncompressed bit sequences' (SEA 2013).
+pub fn binary_select_on<const ONE: u8, T: TableSource>(source: &mut T, rank: usize) -> Option<usize>
+    requires { IsIndexed (T.lists source.old) }
+    ensures answer { IsSelect (bits_in (T.lists source.old)) (kind ONE) rank result }
+    ensures reads { OnlyReads T.lists T.reads source.old source.new
+        (digit_count (length (T.lists source.old).upper) + 1) 23 8 }
+{
+    if source.upper_len() == 0 {
+        return None;
+    }
+    let part = last_part::<ONE, T>(source, rank);
+    let in_part = rank - before_part::<ONE, T>(source, part);
+    select_in_part::<ONE, T>(source, part, in_part)
+}
+
+/// How many ones, or zeros where `ONE` is 0, stand before a part, where the tables are those of the words.
+#[inline(always)]
+pub fn before_part<const ONE: u8, T: TableSource>(source: &mut T, part: usize) -> usize
+    requires { part < length (T.lists source.old).upper }
+    ensures count { IsIndexed (T.lists source.old) → result
+        ≡ ones_before (sought_in ONE (T.lists source.old).words) (part * 2 ^ 32) }
+    ensures counted { T.reads source.new ≡ upper_read (T.reads source.old) }
+    ensures same { T.lists source.new ≡ T.lists source.old }
+{
+    let ones = source.upper(part);
+    if ONE == 0 {
+        (part << 32).wrapping_sub(ones)
+    } else {
+        ones
+    }
+}
+
+/// The last part with no more than `rank` of the kind before it, where the tables are those of the words; else some
+/// part.
+///
+/// # Conditions
+/// There is a part. Nothing is asked of what the tables hold.
+/// # Cost
+/// At most as many upper entries as their number has binary digits are read, whatever they hold.
+pub fn last_part<const ONE: u8, T: TableSource>(source: &mut T, rank: usize) -> usize
+    requires { 0 < length (T.lists source.old).upper }
+    ensures inside { result < length (T.lists source.old).upper }
+    ensures last { IsIndexed (T.lists source.old)
+        → IsLastPart (sought_in ONE (T.lists source.old).words)
+        (length (T.lists source.old).upper) rank result }
+    ensures reads { ReadsAtMost (T.reads source.old) (T.reads source.new)
+        (digit_count (length (T.lists source.old).upper)) 0 0 }
+    ensures same { T.lists source.new ≡ T.lists source.old }
+{
+    let mut low = 0;
+    let mut left = source.upper_len();
+    while left > 1 {
+        let half = left / 2;
+        if before_part::<ONE, T>(source, low + half) <= rank {
+            low += half;
+        }
+        left -= half;
+    }
+    low
+}
+
+/// Selection in a part: the last one with no more than the rank before it, which counts from the part.
+#[inline(always)]
+fn select_in_part<const ONE: u8, T: TableSource>(
+    source: &mut T,
+    part: usize,
+    rank: usize,
+) -> Option<usize>
+    requires tables { HasTables (T.lists source.old) }
+    requires short { IsShort (T.lists source.old).words }
+    requires part { let m = sought_in ONE (T.lists source.old).words in
+        IsLastPart m (length (T.lists source.old).upper)
+        (ones_before m (part * 2 ^ 32) + rank) part }
+    ensures answer { let m = sought_in ONE (T.lists source.old).words in
+        IsSelect (bits_of (T.lists source.old).words) (kind ONE)
+        (ones_before m (part * 2 ^ 32) + rank) result }
+    ensures reads { ReadsAtMost (T.reads source.old) (T.reads source.new) 0 23 8 }
+    ensures same { T.lists source.new ≡ T.lists source.old }
+{
+    let (entry, packed) = last_entry::<ONE, T>(source, part, rank);
+    select_in_entry::<ONE, T>(source, part, entry, packed, rank)
+}
 
 /// Selection in entry `entry` of a part, which packs `packed`: the last one with no more than `rank` of the kind
 /// before it in the part.
@@ -47,28 +143,132 @@ pub(crate) fn select_in_entry<const ONE: u8, T: TableSource>(
     select_in_record::<ONE, T>(source, first, in_entry - before)
 }
 
-/// The place of the one of the source's words with exactly `rank` ones before it, and `None` exactly where there is
-/// none; zeros in place of ones where `ONE` is 0.
+/// 1 where no more than `rank` were counted, else 0.
+#[inline(always)]
+pub(crate) fn is_at_most(count: usize, rank: usize) -> usize
+    ensures yes { count ≤ rank → result ≡ 1 }
+    ensures no { rank < count → result ≡ 0 }
+{
+    (count <= rank) as usize
+}
+
+/// The record of an entry that has the one with this rank, and the ones of the entry before that record: by three
+/// comparisons, and no branch.
 ///
 /// # Conditions
-/// The source's tables are those of its words, of fewer than 2^58 words.
-/// # Cost
-/// At most as many upper entries as their number has binary digits and one more, 23 lower entries and eight words are
-/// read, also where the answer is `None`.
-/// # Source
-/// The levels are those of Zhou, Andersen and Kaminsky, 'Space-efficient, high-performance rank and select structures
-/// on uncompressed bit sequences' (SEA 2013).
-pub fn binary_select_on<const ONE: u8, T: TableSource>(source: &mut T, rank: usize) -> Option<usize>
-    requires { IsIndexed (T.lists source.old) }
-    ensures answer { IsSelect (bits_in (T.lists source.old)) (kind ONE) rank result }
-    ensures reads { OnlyReads T.lists T.reads source.old source.new
-        (digit_count (length (T.lists source.old).upper) + 1) 23 8 }
+/// The entry's counts do not fall from record to record, as in each entry of a lower table.
+#[inline(always)]
+pub fn record_of(entry: u64, rank: usize) -> (usize, usize)
+    requires second { field_1 entry ≤ field_2 entry }
+    requires third { field_2 entry ≤ field_3 entry }
+    ensures inside { result.0 < 4 }
+    ensures before { result.1 ≡ record_field entry result.0 }
+    ensures at_most { result.1 ≤ rank }
+    ensures next { result.0 < 3 → rank < record_field entry (result.0 + 1) }
 {
-    if source.upper_len() == 0 {
-        return None;
+    let one = (entry >> 54) as usize;
+    let two = (entry >> 43 & 0x7FF) as usize;
+    let three = (entry >> 32 & 0x7FF) as usize;
+    let place = is_at_most(one, rank) + is_at_most(two, rank) + is_at_most(three, rank);
+    (place, ones_to_record(entry, place))
+}
+
+/// The place of the one in a word with so many ones before it.
+///
+/// # Conditions
+/// The word has more than `rank` ones.
+#[inline(always)]
+pub fn select_in_word(word: u64, rank: usize) -> usize
+    requires { rank < count_ones word }
+    ensures inside { result < 64 }
+    ensures before { count_ones (word % 2 ^ result) ≡ rank }
+    ensures after { count_ones (word % 2 ^ (result + 1)) ≡ rank + 1 }
+{
+    select64(word, rank as u8) as usize
+}
+
+/// Word `at` of the bits in which ones are sought: negated where `ONE` is 0.
+///
+/// # Conditions
+/// There is such a word. Nothing is asked of the tables.
+#[inline(always)]
+pub fn sought_word<const ONE: u8, T: TableSource>(source: &mut T, at: usize) -> u64
+    requires { at < length (T.lists source.old).words }
+    ensures word { IsWord (sought_in ONE (T.lists source.old).words) at result }
+    ensures counted { T.reads source.new ≡ word_read (T.reads source.old) }
+    ensures same { T.lists source.new ≡ T.lists source.old }
+{
+    let word = source.word(at);
+    if ONE == 0 { !word } else { word }
+}
+
+/// The word that has the one with this rank, among the eight words from `first` on, which have it: its place, what it
+/// is and the rank that is left in it.
+///
+/// Each of the first seven words has a test of its own, since their number is fixed, and the eighth needs none.
+#[inline(always)]
+fn word_of_rank<const ONE: u8, T: TableSource>(
+    source: &mut T,
+    first: usize,
+    rank: usize,
+) -> (usize, u64, usize)
+    requires whole { first + 8 ≤ length (T.lists source.old).words }
+    requires fits { first < 2 ^ 60 }
+    requires next { let m = sought_in ONE (T.lists source.old).words in
+        ones_before m (64 * first) + rank < ones_before m (64 * (first + 8)) }
+    ensures from { first ≤ result.0 }
+    ensures to { result.0 < first + 8 }
+    ensures word { IsWord (sought_in ONE (T.lists source.old).words) result.0 result.1 }
+    ensures rest { let m = sought_in ONE (T.lists source.old).words in
+        ones_before m (64 * first) + rank ≡ ones_before m (64 * result.0) + result.2 }
+    ensures has { result.2 < count_ones result.1 }
+    ensures reads { ReadsAtMost (T.reads source.old) (T.reads source.new) 0 0 8 }
+    ensures same { T.lists source.new ≡ T.lists source.old }
+{
+    let mut rest = rank;
+    for k in 0..7 {
+        let word = sought_word::<ONE, T>(source, first + k);
+        let count = word.count_ones() as usize;
+        if rest < count {
+            return (first + k, word, rest);
+        }
+        rest -= count;
     }
-    let part = last_part::<ONE, T>(source, rank);
-    let in_part = rank - before_part::<ONE, T>(source, part);
-    let (entry, packed) = last_entry::<ONE, T>(source, part, in_part);
-    select_in_entry::<ONE, T>(source, part, entry, packed, in_part)
+    let last = sought_word::<ONE, T>(source, first + 7);
+    (first + 7, last, rest)
+}
+
+/// Selection among the eight words from `first` on, of which some may miss; the rank counts from there.
+#[inline(always)]
+pub(crate) fn select_in_record<const ONE: u8, T: TableSource>(
+    source: &mut T,
+    first: usize,
+    rank: usize,
+) -> Option<usize>
+    requires short { IsShort (T.lists source.old).words }
+    requires first { first < 2 ^ 60 }
+    requires next { let m = sought_in ONE (T.lists source.old).words in
+        first + 8 < length (T.lists source.old).words
+        → ones_before m (64 * first) + rank < ones_before m (64 * (first + 8)) }
+    ensures answer { let m = sought_in ONE (T.lists source.old).words in
+        IsSelect (bits_of (T.lists source.old).words) (kind ONE)
+        (ones_before m (64 * first) + rank) result }
+    ensures inside { IfSome result (λ p. (64 * first ≤ p) × (p < 64 * (first + 8))) }
+    ensures reads { ReadsAtMost (T.reads source.old) (T.reads source.new) 0 0 8 }
+    ensures same { T.lists source.new ≡ T.lists source.old }
+{
+    if first + U64_PER_L2_RECORDS < source.words_len() {
+        let (at, word, rest) = word_of_rank::<ONE, T>(source, first, rank);
+        return Some(at * 64 + select_in_word(word, rest));
+    }
+    let mut rest = rank;
+    for at in first..source.words_len().min(first + U64_PER_L2_RECORDS) {
+        let word = sought_word::<ONE, T>(source, at);
+        let count = word.count_ones() as usize;
+        if rest < count {
+            return Some(at * 64 + select_in_word(word, rest));
+        }
+        rest -= count;
+    }
+    None
 }

@@ -5,8 +5,7 @@ ghost use Rattle.bitm_bits.specs.Count.{kind, IsSelect};
 ghost use Rattle.bitm.specs.Samples.{samples_of, sample_starts_of, SampledReads};
 ghost use Rattle.bitm.specs.Tables.{HasTables};
 
-use crate::search::parts::{before_part, last_part};
-use crate::search::selecting::select_in_entry;
+use crate::search::selecting::{before_part, last_part, select_in_entry};
 use crate::search::walking::walk;
 use crate::source::TableSource;
 use crate::strategies::density::CombinedSamplingDensity;

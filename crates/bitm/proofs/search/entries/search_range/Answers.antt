@@ -4,22 +4,23 @@ use Rattle.bitm.specs.Entry.{before_in_part}
 use Rattle.bitm.specs.Search.{Between, entries_from, sought_in}
 use Rattle.bitm_bits.proofs.lemmas.DigitLemmas.{digit_count_most}
 use Rattle.bitm.proofs.lemmas.SearchLemmas.{search_begins}
-use Rattle.bitm.proofs.lemmas.SoughtLemmas.{first_entry, first_none, some_entry}
+use Rattle.bitm.proofs.lemmas.SizeLemmas.{first_of_part}
+use Rattle.bitm.proofs.lemmas.SoughtLemmas.{first_none}
 use Rattle.bitm.proofs.search.entries.search_range.Goals as goal
 
 pub entries_of_part-requires : goal.entries_of_part-requires
 entries_of_part-requires g c =
-    omega (arith, first_entry _ _ _ c.requires.tables c.requires.short c.args.part c.requires.inside, c.lower_len.ensures)
+    omega (arith, first_of_part _ c.requires.sized c.args.part c.requires.inside, c.lower_len.ensures)
 
 pub returns-then-range-lt-FEW-clause-among : goal.returns-then-range-lt-FEW-clause-among
-returns-then-range-lt-FEW-clause-among g c =
+returns-then-range-lt-FEW-clause-among g c = λ _.
     let lists = g.T.TableSource.lists c.args.source.now in
     let m = sought_in g.row.ONE lists.words in
     let n = entries_from (length lists.lower) c.args.part in
     let size : c.entries_of_part.result ≡ n = omega (arith, c.entries_of_part.ensures, c.lower_len.ensures) in
     let count : ℕ → ℕ = λ j. before_in_part m (c.args.part * 2 ^ 21 + j) in
     let begins =
-    search_begins count n c.args.rank (some_entry _ _ _ c.requires.tables c.requires.short c.args.part c.requires.inside)
+    search_begins count n c.args.rank (omega (arith, first_of_part lists c.requires.sized c.args.part c.requires.inside))
     (omega (arith, first_none m c.args.part)) in
     subst (Between count n c.args.rank 0) (sym size) begins
 

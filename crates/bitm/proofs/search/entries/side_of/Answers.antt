@@ -2,8 +2,10 @@
 use Rattle.std.proofs.Common.{◌≡◌, ℕ, ◌+◌, ◌*◌, ◌^◌, ◌≤◌, length, ap, ◌∙◌, subst, arith}
 use Rattle.bitm.specs.Entry.{before_in_part, lower_entry}
 use Rattle.bitm.specs.Search.{entries_from, sought_in}
+use Rattle.bitm.specs.Tables.{HasTables}
 use Rattle.bitm.proofs.lemmas.SearchLemmas.{goes_over}
-use Rattle.bitm.proofs.lemmas.SoughtLemmas.{first_entry, few_entries, low_is}
+use Rattle.bitm.proofs.lemmas.SizeLemmas.{few_entries, first_of_part}
+use Rattle.bitm.proofs.lemmas.SoughtLemmas.{low_is}
 use Rattle.bitm.proofs.search.entries.side_of.Goals as goal
 use Rattle.bitm.proofs.search.entries.side_of.Goals.{After-ones_to_entry-count}
 
@@ -13,27 +15,27 @@ overflow_mul-part g c =
       fits =
           omega (
             arith,
-            first_entry _ _ _ c.requires.tables c.requires.short c.args.part c.requires.inside,
-            few_entries _ _ _ c.requires.tables c.requires.short,
+            first_of_part _ c.requires.sized c.args.part c.requires.inside,
+            few_entries _ c.requires.sized,
           );
     }
 
 pub overflow_add-part : goal.overflow_add-part
 overflow_add-part g c =
-    record { fits = omega (arith, c.requires.among.bound, few_entries _ _ _ c.requires.tables c.requires.short) }
+    record { fits = omega (arith, c.requires.in_range, c.requires.within, few_entries _ c.requires.sized) }
 
 pub overflow_add-part-2 : goal.overflow_add-part-2
 overflow_add-part-2 g c =
-    record { fits = omega (arith, c.requires.among.bound, few_entries _ _ _ c.requires.tables c.requires.short) }
+    record { fits = omega (arith, c.requires.in_range, c.requires.within, few_entries _ c.requires.sized) }
 
-module _ (g : _) (c : After-ones_to_entry-count g) where
+module _ (g : _) (c : After-ones_to_entry-count g) (t : HasTables (g.T.TableSource.lists c.args.source.now)) where
   next_is : c.sought_entry-next.result
       ≡ lower_entry (sought_in g.row.ONE (g.T.TableSource.lists c.args.source.now).words)
       (c.args.part * 2 ^ 21 + (c.args.range.low + c.args.cut))
   next_is =
       let m = sought_in g.row.ONE (g.T.TableSource.lists c.args.source.now).words in
       let there : c.args.part * 2 ^ 21 + c.args.range.low + c.args.cut ≡ c.args.part * 2 ^ 21 + (c.args.range.low + c.args.cut) = omega arith in
-      c.sought_entry-next.ensures.entry ∙ ap (lower_entry m) there
+      c.sought_entry-next.ensures.entry t ∙ ap (lower_entry m) there
 
   count : c.ones_to_entry-count.result
       ≡ before_in_part (sought_in g.row.ONE (g.T.TableSource.lists c.args.source.now).words)
@@ -44,10 +46,10 @@ module _ (g : _) (c : After-ones_to_entry-count g) where
       ∙ low_is m c.sought_entry-next.result (c.args.part * 2 ^ 21 + (c.args.range.low + c.args.cut)) next_is
 
 pub returns-then-count-rank-clause-among : goal.returns-then-count-rank-clause-among
-returns-then-count-rank-clause-among g c =
+returns-then-count-rank-clause-among g c = λ t.
     let d = (goal.at.returns-then-count-rank-clause-among g c).After-ones_to_entry-count in
     let lists = g.T.TableSource.lists c.args.source.now in
     let m = sought_in g.row.ONE lists.words in
     goes_over (λ j. before_in_part m (c.args.part * 2 ^ 21 + j)) (entries_from (length lists.lower) c.args.part) c.args.rank
-    c.args.range.low c.args.range.left c.args.cut c.requires.among c.requires.some c.requires.in_range
-    (subst (λ (n : ℕ). n ≤ c.args.rank) (count g d) c.if-count-rank.true)
+    c.args.range.low c.args.range.left c.args.cut (c.requires.among t) c.requires.some c.requires.in_range
+    (subst (λ (n : ℕ). n ≤ c.args.rank) (count g d t) c.if-count-rank.true)

@@ -34,7 +34,7 @@ returns-clause-near g c =
     let inside : at + step < length lists.lower = omega (arith, next, c.lower_len.ensures, c.if-next-lower_len.false) in
     let count : c.ones_to_entry-count.result ≡ before_in_part m (at + step) =
     subst (λ (n : ℕ). c.ones_to_entry-count.result ≡ before_in_part m n) next
-    (c.ones_to_entry-count.ensures ∙ low_is m c.sought_entry.result (at + 1 * step % 18446744073709551616) c.sought_entry.ensures.entry) in
+    (c.ones_to_entry-count.ensures ∙ low_is m c.sought_entry.result (at + 1 * step % 18446744073709551616) (c.sought_entry.ensures.entry c.requires.tables)) in
     elim (cases_lt c.args.rest c.ones_to_entry-count.result) [
       | inl above ↦
           let none : at + c.is_at_most.result * step % 18446744073709551616 ≡ at =

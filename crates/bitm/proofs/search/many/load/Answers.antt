@@ -9,11 +9,11 @@ use Rattle.bitm.proofs.search.many.load.Goals.{then-first-words_len, else-first-
 
 pub record_of-place-requires-clause-second : goal.record_of-place-requires-clause-second
 record_of-place-requires-clause-second g c =
-    record_fields_rise _ c.sought_entry-packed.result c.args.entry 1 c.sought_entry-packed.ensures.entry (omega arith)
+    record_fields_rise _ c.sought_entry-packed.result c.args.entry 1 (c.sought_entry-packed.ensures.entry c.requires.tables) (omega arith)
 
 pub record_of-place-requires-clause-third : goal.record_of-place-requires-clause-third
 record_of-place-requires-clause-third g c =
-    record_fields_rise _ c.sought_entry-packed.result c.args.entry 2 c.sought_entry-packed.ensures.entry (omega arith)
+    record_fields_rise _ c.sought_entry-packed.result c.args.entry 2 (c.sought_entry-packed.ensures.entry c.requires.tables) (omega arith)
 
 pub overflow_mul-first : goal.overflow_mul-first
 overflow_mul-first g c = record { fits = omega (arith, near_few _ _ _ _ _ c.requires.tables c.requires.short c.requires.near) }
@@ -49,4 +49,4 @@ returns-clause-in_record g c =
     ] in
     near_loads g.row.ONE lists c.args._rank c.args.rest c.args.entry c.sought_entry-packed.result c.ones_to_entry.result
     c.record_of-place.result.0 c.record_of-place.result.1 c.if-first-words_len.word c.requires.tables c.requires.short c.requires.near
-    c.sought_entry-packed.ensures.entry c.ones_to_entry.ensures r.inside r.before r.at_most r.next word
+    (c.sought_entry-packed.ensures.entry c.requires.tables) c.ones_to_entry.ensures r.inside r.before r.at_most r.next word

@@ -3,13 +3,14 @@ use Rattle.std.proofs.Common.{ℕ, ◌+◌, ◌-◌, ◌*◌, ◌^◌, ◌<◌, 
 use Rattle.bitm_bits.specs.Bits.{bits_of}
 use Rattle.bitm_bits.specs.Count.{kind, IsSelect}
 use Rattle.bitm.specs.Search.{sought_in}
-use Rattle.bitm.proofs.lemmas.SoughtLemmas.{few_entries, rank_is, next_is, record_fields_rise}
+use Rattle.bitm.proofs.lemmas.SizeLemmas.{few_entries, sizes_of}
+use Rattle.bitm.proofs.lemmas.SoughtLemmas.{rank_is, next_is, record_fields_rise}
 use Rattle.bitm.proofs.search.selecting.select_in_entry.Goals as goal
 use Rattle.bitm.proofs.search.selecting.select_in_entry.Goals.{Start}
 
 -- the words of the entry are numbered by a `usize`
 few : (g : _) (c : Start g) → (c.args.part * 2 ^ 21 + c.args.entry) * 32 + 32 < 2 ^ 60
-few g c = omega (arith, c.requires.entry.inside, few_entries _ _ _ c.requires.tables c.requires.short)
+few g c = omega (arith, c.requires.entry.inside, few_entries _ (sizes_of _ c.requires.tables c.requires.short))
 
 pub overflow_mul-at : goal.overflow_mul-at
 overflow_mul-at g c = record { fits = omega (arith, few g (goal.at.overflow_mul-at g c).Start) }

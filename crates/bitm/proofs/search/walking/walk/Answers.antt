@@ -3,9 +3,10 @@ use Rattle.std.proofs.Common.{◌≡◌, ℕ, ◌+◌, ◌*◌, ◌-◌, ◌^◌
 use Rattle.bitm_bits.specs.Bits.{bits_of}
 use Rattle.bitm.specs.Entry.{lower_entry}
 use Rattle.bitm.specs.Search.{entries_from, items_to, sought_in}
-use Rattle.bitm.specs.Tables.{Lists}
+use Rattle.bitm.specs.Tables.{HasTables, Lists}
 use Rattle.bitm.specs.declared.source.counts.ReadCounts.{ReadCounts}
-use Rattle.bitm.proofs.lemmas.SoughtLemmas.{few_entries, first_entry, low_is}
+use Rattle.bitm.proofs.lemmas.SizeLemmas.{few_entries, first_of_part, sizes_of}
+use Rattle.bitm.proofs.lemmas.SoughtLemmas.{low_is}
 use Rattle.bitm.proofs.search.walking.walk.Goals as goal
 use Rattle.bitm.proofs.search.walking.walk.Goals.{After-ones_to_entry}
 
@@ -15,21 +16,21 @@ overflow_mul-first g c =
       fits =
           omega (
             arith,
-            first_entry _ _ _ c.requires.tables c.requires.short c.args.part c.requires.inside,
-            few_entries _ _ _ c.requires.tables c.requires.short,
+            first_of_part _ (sizes_of _ c.requires.tables c.requires.short) c.args.part c.requires.inside,
+            few_entries _ (sizes_of _ c.requires.tables c.requires.short),
           );
     }
 
 pub entries_of_part-end-requires : goal.entries_of_part-end-requires
 entries_of_part-end-requires g c =
-    omega (arith, first_entry _ _ _ c.requires.tables c.requires.short c.args.part c.requires.inside, c.lower_len.ensures)
+    omega (arith, first_of_part _ (sizes_of _ c.requires.tables c.requires.short) c.args.part c.requires.inside, c.lower_len.ensures)
 
 module _ (g : _) (c : After-ones_to_entry g) where
   entry_is : c.sought_entry-entry.result
       ≡ lower_entry (sought_in g.row.ONE (g.T.TableSource.lists c.args.source.now).words) (c.args.part * 2 ^ 21 + c.loop-next.next)
   entry_is =
       let at = c.args.part * 2 ^ 21 + c.loop-next.next in
-      c.sought_entry-entry.ensures.entry ∙ ap (λ (l : Lists). lower_entry (sought_in g.row.ONE l.words) at) c.loop-next.invariant.same
+      c.sought_entry-entry.ensures.entry (subst HasTables (sym c.loop-next.invariant.same) c.requires.tables) ∙ ap (λ (l : Lists). lower_entry (sought_in g.row.ONE l.words) at) c.loop-next.invariant.same
 
   count : c.ones_to_entry.result ≡ items_to g.row.ONE (bits_of (g.T.TableSource.lists c.args.source.now).words) c.args.part c.loop-next.next
   count =

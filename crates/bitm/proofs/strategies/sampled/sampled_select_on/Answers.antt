@@ -1,11 +1,11 @@
 -- The sample of the rank lets the walk begin no later than the answer's entry; where there is none, nothing is picked.
 use Rattle.std.proofs.Common.{◌≡◌, ℕ, List, Option, ◌+◌, ◌-◌, ◌*◌, ◌/◌, ◌^◌, ◌%◌, ◌<◌, ◌≤◌, length, get_or, slice_index_or, nat_eq, if◌then◌else◌, refl, sym, ap, ap₂, ◌∙◌, subst, arith}
 use Rattle.bitm_bits.proofs.lemmas.BitsLemmas.{length-bits_of}
-use Rattle.bitm_bits.specs.Bits.{bits_of, digit_count}
+use Rattle.bitm_bits.specs.Bits.{bits_of, digit_count, IsShort}
 use Rattle.bitm_bits.specs.Count.{ones_before, kind, IsSelect}
 use Rattle.bitm.specs.Samples.{part_of, parts, walk_start, samples_of, sample_count_before, rank_in}
 use Rattle.bitm.specs.Search.{IsLastEntry, entries_from, items_to, sought_in}
-use Rattle.bitm.specs.Tables.{Lists, HasTables}
+use Rattle.bitm.specs.Tables.{Lists, HasTables, IsIndexed}
 use Rattle.bitm.specs.declared.source.counts.ReadCounts.{ReadCounts}
 use Rattle.bitm.proofs.lemmas.MarkLemmas.{none_in_nothing}
 use Rattle.bitm.proofs.lemmas.SampleLemmas.{length-starts, start_at}
@@ -20,6 +20,9 @@ rank_of one l rank k = rank_in (bits_of l.words) (kind one) rank k
 
 abbrev number_of : ℕ → Lists → ℕ → ℕ → ℕ → ℕ
 number_of one l d rank k = sample_count_before (bits_of l.words) (kind one) d k + rank_of one l rank k / 2 ^ d
+
+indexed : (l : Lists) → HasTables l → IsShort l.words → IsIndexed l
+indexed l t short = record { tables = t; short = short }
 
 at : (l : Lists) → HasTables l → HasEntries (bits_of l.words) l.upper l.lower
 at l t = entries (bits_of l.words) l.upper l.lower t
@@ -40,14 +43,14 @@ pub offset_bounds-starts-part : goal.offset_bounds-starts-part
 offset_bounds-starts-part g c =
     let l = g.T.TableSource.lists c.args.source.now in
     let t = at l c.requires.tables in
-    record { fits = omega (arith, c.last_part-part.ensures.last.inside, t.upper_length, length-bits_of l.words, c.requires.short) }
+    record { fits = omega (arith, c.last_part-part.ensures.inside, t.upper_length, length-bits_of l.words, c.requires.short) }
 
 pub bounds-starts-part : goal.bounds-starts-part
 bounds-starts-part g c =
     let l = g.T.TableSource.lists c.args.source.now in
     let t = at l c.requires.tables in
     let long = length-starts (bits_of l.words) (kind g.row.ONE) (g.D.CombinedSamplingDensity.log c.args.density) in
-    omega (arith, c.last_part-part.ensures.last.inside, t.upper_length, long, ap length c.requires.starts)
+    omega (arith, c.last_part-part.ensures.inside, t.upper_length, long, ap length c.requires.starts)
 
 module _ (g : _) (c : After-divide g) where
   in_part : c.args.rank - c.before_part.result
@@ -56,15 +59,15 @@ module _ (g : _) (c : After-divide g) where
       let l = g.T.TableSource.lists c.args.source.now in
       let here = c.last_part-part.result * 2 ^ 32 in
       ap (λ (n : ℕ). c.args.rank - n)
-      (c.before_part.ensures.count
+      (c.before_part.ensures.count (subst IsIndexed (sym c.last_part-part.ensures.same) (indexed _ c.requires.tables c.requires.short))
       ∙ ap (λ (x : Lists). ones_before (sought_in g.row.ONE x.words) here) c.last_part-part.ensures.same
       ∙ count_is (bits_of l.words) l.upper l.lower (at l c.requires.tables) (kind g.row.ONE) c.args.rank c.last_part-part.result
-      c.last_part-part.ensures.last)
+      (c.last_part-part.ensures.last (indexed _ c.requires.tables c.requires.short)))
 
   inside : c.last_part-part.result < parts (bits_of (g.T.TableSource.lists c.args.source.now).words)
   inside =
       let t = at (g.T.TableSource.lists c.args.source.now) c.requires.tables in
-      omega (arith, c.last_part-part.ensures.last.inside, t.upper_length)
+      omega (arith, c.last_part-part.ensures.inside, t.upper_length)
 
   number_is : slice_index_or c.args.starts.now c.last_part-part.result 0 + c.divide.result
       ≡ number_of g.row.ONE (g.T.TableSource.lists c.args.source.now) (g.D.CombinedSamplingDensity.log c.args.density) c.args.rank
@@ -102,7 +105,7 @@ pub returns-then-at-sampled-clause-answer : goal.returns-then-at-sampled-clause-
 returns-then-at-sampled-clause-answer g c =
     let l = g.T.TableSource.lists c.args.source.now in
     outside_none (bits_of l.words) l.upper l.lower (at l c.requires.tables) (kind g.row.ONE) c.args.rank c.last_part-part.result
-    c.last_part-part.ensures.last (g.D.CombinedSamplingDensity.log c.args.density) (over g c)
+    (c.last_part-part.ensures.last (indexed _ c.requires.tables c.requires.short)) (g.D.CombinedSamplingDensity.log c.args.density) (over g c)
 
 pub returns-then-at-sampled-clause-reads : goal.returns-then-at-sampled-clause-reads
 returns-then-at-sampled-clause-reads g c =
@@ -112,7 +115,7 @@ returns-then-at-sampled-clause-reads g c =
     let part = c.last_part-part.ensures.reads in
     let counted = c.before_part.ensures.counted in
     outside_reads (bits_of l.words) l.upper l.lower t (kind g.row.ONE) c.args.rank c.last_part-part.result
-    c.last_part-part.ensures.last (g.D.CombinedSamplingDensity.log c.args.density) (over g c) (digit_count (parts (bits_of l.words)) + 1)
+    (c.last_part-part.ensures.last (indexed _ c.requires.tables c.requires.short)) (g.D.CombinedSamplingDensity.log c.args.density) (over g c) (digit_count (parts (bits_of l.words)) + 1)
     (T.reads c.args.source.now) (T.reads c.before_part.new.source)
     (record {
       upper = omega (arith, ap (λ (r : ReadCounts). r.upper) counted, part.upper, ap digit_count t.upper_length);
@@ -148,7 +151,7 @@ module _ (g : _) (c : After-first_entry-from g)
       c.first_entry-from.ensures
       ∙ ap (λ (r : ℕ). s % 2 ^ 21 + (if nat_eq (r / 2 ^ (d - 1) % 2) 1 then s / 2 ^ 21 else 0)) in_part_is
       ∙ start_from (bits_of l.words) l.upper l.lower (at l c.requires.tables) (kind g.row.ONE) c.args.rank c.last_part-part.result
-      c.last_part-part.ensures.last d pos s there (ap₂ (λ (xs : List ℕ) (i : ℕ). get_or xs i 0) c.requires.samples place_is)
+      (c.last_part-part.ensures.last (indexed _ c.requires.tables c.requires.short)) d pos s there (ap₂ (λ (xs : List ℕ) (i : ℕ). get_or xs i 0) c.requires.samples place_is)
 
   same : g.T.TableSource.lists c.before_part.new.source ≡ g.T.TableSource.lists c.args.source.now
   same = c.before_part.ensures.same ∙ c.last_part-part.ensures.same
@@ -161,7 +164,7 @@ walk-entry-requires-clause-from g c =
     let k = c.last_part-part.result in
     let d = g.D.CombinedSamplingDensity.log c.args.density in
     let starts =
-    start_in (bits_of l.words) l.upper l.lower (at l c.requires.tables) (kind g.row.ONE) c.args.rank k c.last_part-part.ensures.last d
+    start_in (bits_of l.words) l.upper l.lower (at l c.requires.tables) (kind g.row.ONE) c.args.rank k (c.last_part-part.ensures.last (indexed _ c.requires.tables c.requires.short)) d
     (pos g f (in_part g a) (number_is g a)) (there g f (in_part g a) (number_is g a)) in
     subst (λ (x : Lists). c.first_entry-from.result < entries_from (length x.lower) k) (sym (same g f (in_part g a) (number_is g a)))
     (subst (λ (x : ℕ). x < entries_from (length l.lower) k) (sym (from_is g f (in_part g a) (number_is g a))) starts)
@@ -175,7 +178,7 @@ walk-entry-requires-clause-at_most g c =
     let d = g.D.CombinedSamplingDensity.log c.args.density in
     let from = c.first_entry-from.result in
     let below =
-    start_below (bits_of l.words) l.upper l.lower (at l c.requires.tables) (kind g.row.ONE) c.args.rank k c.last_part-part.ensures.last d
+    start_below (bits_of l.words) l.upper l.lower (at l c.requires.tables) (kind g.row.ONE) c.args.rank k (c.last_part-part.ensures.last (indexed _ c.requires.tables c.requires.short)) d
     (pos g f (in_part g a) (number_is g a)) (there g f (in_part g a) (number_is g a)) in
     subst (λ (x : Lists). items_to g.row.ONE (bits_of x.words) k from ≤ c.args.rank - c.before_part.result)
     (sym (same g f (in_part g a) (number_is g a)))
@@ -214,19 +217,20 @@ returns-clause-reads g c =
     let e = c.select_in_entry.ensures in
     let u = c.before_part.ensures in
     let p = c.last_part-part.ensures in
+    let indexed_here = indexed l c.requires.tables c.requires.short in
     let from = from_is g f (in_part g a) (number_is g a) in
     let at_entry = same g f (in_part g a) (number_is g a) in
     let left = c.args.rank - c.before_part.result in
     let low = last_there g.row.ONE k left r c.walk-entry.result.0 l _ at_entry (in_part g a) w.last in
     let order : walk_start (part_of b k) v d r ≤ c.walk-entry.result.0 = subst (λ (x : ℕ). x ≤ c.walk-entry.result.0) from w.order in
     let before : c.before_part.result ≡ ones_before (sought_in g.row.ONE l.words) (k * 2 ^ 32) =
-    u.count ∙ ap (λ (x : Lists). ones_before (sought_in g.row.ONE x.words) (k * 2 ^ 32)) p.same in
-    let total : ones_before (sought_in g.row.ONE l.words) (k * 2 ^ 32) + left ≡ c.args.rank = omega (arith, before, p.last.at_most) in
+    u.count (subst IsIndexed (sym p.same) indexed_here) ∙ ap (λ (x : Lists). ones_before (sought_in g.row.ONE x.words) (k * 2 ^ 32)) p.same in
+    let total : ones_before (sought_in g.row.ONE l.words) (k * 2 ^ 32) + left ≡ c.args.rank = omega (arith, before, (p.last indexed_here).at_most) in
     let selected = selected_there g.row.ONE k left c.args.rank l _ c.select_in_entry.result (w.same ∙ at_entry) total e.answer in
     let some =
-    first_inside b l.upper l.lower t v c.args.rank k p.last d
-    (interval_inside b l.upper l.lower t v c.args.rank k p.last d (there g f (in_part g a) (number_is g a))) in
-    sampled_reads b l.upper l.lower t v c.args.rank k p.last d c.walk-entry.result.0 low some
+    first_inside b l.upper l.lower t v c.args.rank k (p.last indexed_here) d
+    (interval_inside b l.upper l.lower t v c.args.rank k (p.last indexed_here) d (there g f (in_part g a) (number_is g a))) in
+    sampled_reads b l.upper l.lower t v c.args.rank k (p.last indexed_here) d c.walk-entry.result.0 low some
     (T.reads c.args.source.now) (T.reads c.select_in_entry.new.source)
     (record {
       order = order;
