@@ -58,13 +58,15 @@ among g c t =
     let part = c.args.part in
     let low = c.loop-left.low in
     let left = c.loop-left.left in
-    let side : ((c.ones_to_entry.result ≤ c.args.rank) × (c.if-ones_to_entry-rank.low ≡ low + left / 2)) ⊎ ((c.args.rank < c.ones_to_entry.result) × (c.if-ones_to_entry-rank.low ≡ low)) =
+    let next = c.if-ones_to_entry-rank.low in
+    let seen = c.ones_to_entry.result in
+    let side : ((seen ≤ c.args.rank) × (next ≡ low + left / 2)) ⊎ ((c.args.rank < seen) × (next ≡ low)) =
     elim c.if-ones_to_entry-rank.branch [
       | then-ones_to_entry-rank w ↦ inl (w.if-ones_to_entry-rank.true, w.low-is)
       | else-ones_to_entry-rank w ↦ inr (w.if-ones_to_entry-rank.false, w.low-is)
     ] in
     halves (λ j. before_in_part m (part * 2 ^ 21 + j)) (entries_from (length lists.lower) part) c.args.rank low left
-    c.if-ones_to_entry-rank.low c.ones_to_entry.result (c.loop-left.invariant.among t) c.loop-left-test.true (count g c t) side
+    next seen (c.loop-left.invariant.among t) c.loop-left-test.true (count g c t) side
     (λ j k h l. entries_rise m part j k h (omega arith))
 
 packed : (g : _) (c : Joined-ones_to_entry-rank g) → HasTables (g.T.TableSource.lists c.args.source.now) → 0 < c.if-ones_to_entry-rank.low

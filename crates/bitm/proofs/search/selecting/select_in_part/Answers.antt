@@ -15,7 +15,9 @@ pub select_in_entry-requires-clause-part : goal.select_in_entry-requires-clause-
 select_in_entry-requires-clause-part g c =
     let part = c.args.part in
     subst
-    (λ (l : Lists). IsLastPart (sought_in g.row.ONE l.words) (length l.upper) (ones_before (sought_in g.row.ONE l.words) (part * 2 ^ 32) + c.args.rank) part)
+    (λ (l : Lists).
+    IsLastPart (sought_in g.row.ONE l.words) (length l.upper)
+    (ones_before (sought_in g.row.ONE l.words) (part * 2 ^ 32) + c.args.rank) part)
     (sym c.last_entry-entry.ensures.same) c.requires.part
 
 pub select_in_entry-requires-clause-entry : goal.select_in_entry-requires-clause-entry
@@ -33,5 +35,7 @@ pub returns-clause-answer : goal.returns-clause-answer
 returns-clause-answer g c =
     let here = c.args.part * 2 ^ 32 in
     subst
-    (λ (l : Lists). IsSelect (bits_of l.words) (kind g.row.ONE) (ones_before (sought_in g.row.ONE l.words) here + c.args.rank) c.select_in_entry.result)
+    (λ (l : Lists).
+    IsSelect (bits_of l.words) (kind g.row.ONE) (ones_before (sought_in g.row.ONE l.words) here + c.args.rank)
+    c.select_in_entry.result)
     c.last_entry-entry.ensures.same c.select_in_entry.ensures.answer

@@ -30,7 +30,8 @@ module _ (g : _) (c : After-ones_to_entry g) where
       ≡ lower_entry (sought_in g.row.ONE (g.T.TableSource.lists c.args.source.now).words) (c.args.part * 2 ^ 21 + c.loop-next.next)
   entry_is =
       let at = c.args.part * 2 ^ 21 + c.loop-next.next in
-      c.sought_entry-entry.ensures.entry (subst HasTables (sym c.loop-next.invariant.same) c.requires.tables) ∙ ap (λ (l : Lists). lower_entry (sought_in g.row.ONE l.words) at) c.loop-next.invariant.same
+      c.sought_entry-entry.ensures.entry (subst HasTables (sym c.loop-next.invariant.same) c.requires.tables)
+      ∙ ap (λ (l : Lists). lower_entry (sought_in g.row.ONE l.words) at) c.loop-next.invariant.same
 
   count : c.ones_to_entry.result ≡ items_to g.row.ONE (bits_of (g.T.TableSource.lists c.args.source.now).words) c.args.part c.loop-next.next
   count =

@@ -105,7 +105,8 @@ pub returns-then-at-sampled-clause-answer : goal.returns-then-at-sampled-clause-
 returns-then-at-sampled-clause-answer g c =
     let l = g.T.TableSource.lists c.args.source.now in
     outside_none (bits_of l.words) l.upper l.lower (at l c.requires.tables) (kind g.row.ONE) c.args.rank c.last_part-part.result
-    (c.last_part-part.ensures.last (indexed _ c.requires.tables c.requires.short)) (g.D.CombinedSamplingDensity.log c.args.density) (over g c)
+    (c.last_part-part.ensures.last (indexed _ c.requires.tables c.requires.short))
+    (g.D.CombinedSamplingDensity.log c.args.density) (over g c)
 
 pub returns-then-at-sampled-clause-reads : goal.returns-then-at-sampled-clause-reads
 returns-then-at-sampled-clause-reads g c =
@@ -115,7 +116,8 @@ returns-then-at-sampled-clause-reads g c =
     let part = c.last_part-part.ensures.reads in
     let counted = c.before_part.ensures.counted in
     outside_reads (bits_of l.words) l.upper l.lower t (kind g.row.ONE) c.args.rank c.last_part-part.result
-    (c.last_part-part.ensures.last (indexed _ c.requires.tables c.requires.short)) (g.D.CombinedSamplingDensity.log c.args.density) (over g c) (digit_count (parts (bits_of l.words)) + 1)
+    (c.last_part-part.ensures.last (indexed _ c.requires.tables c.requires.short))
+    (g.D.CombinedSamplingDensity.log c.args.density) (over g c) (digit_count (parts (bits_of l.words)) + 1)
     (T.reads c.args.source.now) (T.reads c.before_part.new.source)
     (record {
       upper = omega (arith, ap (λ (r : ReadCounts). r.upper) counted, part.upper, ap digit_count t.upper_length);
@@ -151,7 +153,8 @@ module _ (g : _) (c : After-first_entry-from g)
       c.first_entry-from.ensures
       ∙ ap (λ (r : ℕ). s % 2 ^ 21 + (if nat_eq (r / 2 ^ (d - 1) % 2) 1 then s / 2 ^ 21 else 0)) in_part_is
       ∙ start_from (bits_of l.words) l.upper l.lower (at l c.requires.tables) (kind g.row.ONE) c.args.rank c.last_part-part.result
-      (c.last_part-part.ensures.last (indexed _ c.requires.tables c.requires.short)) d pos s there (ap₂ (λ (xs : List ℕ) (i : ℕ). get_or xs i 0) c.requires.samples place_is)
+      (c.last_part-part.ensures.last (indexed _ c.requires.tables c.requires.short))
+      d pos s there (ap₂ (λ (xs : List ℕ) (i : ℕ). get_or xs i 0) c.requires.samples place_is)
 
   same : g.T.TableSource.lists c.before_part.new.source ≡ g.T.TableSource.lists c.args.source.now
   same = c.before_part.ensures.same ∙ c.last_part-part.ensures.same
@@ -164,7 +167,9 @@ walk-entry-requires-clause-from g c =
     let k = c.last_part-part.result in
     let d = g.D.CombinedSamplingDensity.log c.args.density in
     let starts =
-    start_in (bits_of l.words) l.upper l.lower (at l c.requires.tables) (kind g.row.ONE) c.args.rank k (c.last_part-part.ensures.last (indexed _ c.requires.tables c.requires.short)) d
+    start_in (bits_of l.words) l.upper l.lower (at l c.requires.tables) (kind g.row.ONE) c.args.rank k
+    (c.last_part-part.ensures.last (indexed _ c.requires.tables c.requires.short))
+    d
     (pos g f (in_part g a) (number_is g a)) (there g f (in_part g a) (number_is g a)) in
     subst (λ (x : Lists). c.first_entry-from.result < entries_from (length x.lower) k) (sym (same g f (in_part g a) (number_is g a)))
     (subst (λ (x : ℕ). x < entries_from (length l.lower) k) (sym (from_is g f (in_part g a) (number_is g a))) starts)
@@ -178,7 +183,9 @@ walk-entry-requires-clause-at_most g c =
     let d = g.D.CombinedSamplingDensity.log c.args.density in
     let from = c.first_entry-from.result in
     let below =
-    start_below (bits_of l.words) l.upper l.lower (at l c.requires.tables) (kind g.row.ONE) c.args.rank k (c.last_part-part.ensures.last (indexed _ c.requires.tables c.requires.short)) d
+    start_below (bits_of l.words) l.upper l.lower (at l c.requires.tables) (kind g.row.ONE) c.args.rank k
+    (c.last_part-part.ensures.last (indexed _ c.requires.tables c.requires.short))
+    d
     (pos g f (in_part g a) (number_is g a)) (there g f (in_part g a) (number_is g a)) in
     subst (λ (x : Lists). items_to g.row.ONE (bits_of x.words) k from ≤ c.args.rank - c.before_part.result)
     (sym (same g f (in_part g a) (number_is g a)))
