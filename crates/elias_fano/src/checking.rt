@@ -10,7 +10,7 @@ use crate::error::EfError;
 const TOO_MANY: usize = 1 << 56;
 
 /// Whether each number is at least the one before it.
-fn is_rising(items: &[u64]) -> bool
+pub fn is_rising(items: &[u64]) -> bool
     ensures { MatchBool result (IsNonDecreasing items.now) (HasFall items.now) }
 {
     items.is_sorted()

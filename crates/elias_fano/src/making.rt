@@ -2,7 +2,7 @@
 ghost use Rattle.std.specs.Prelude.{◌≡◌, ◌+◌, ◌*◌, ◌/◌, ◌^◌, ◌<◌, ◌≤◌, length, replicate, IfOk};
 ghost use Rattle.std.specs.Box.{boxed_slice_items};
 ghost use Rattle.std.specs.List.Sorted.{IsNonDecreasing};
-ghost use Rattle.elias_fano.specs.Parts.{width_of, low_words_of, upper_words_of, IsLow, IsUpper};
+ghost use Rattle.elias_fano.specs.Parts.{width_at, width_of, low_words_of, upper_words_of, IsLow, IsUpper};
 ghost use Rattle.elias_fano.specs.Sequence.{largest, IsSequence};
 
 use crate::laws;
@@ -10,8 +10,8 @@ use bitm::{BitVec, bits_to_store, n_lowest_bits, words};
 use std::alloc::{AllocError, Global};
 use std::boxed::BoxedSlice;
 
-/// The last number, which is the largest; 0 where there is none.
-pub(crate) fn largest_of(items: &[u64]) -> u64
+/// The last number, which is the largest where numbers never fall; 0 where there is none.
+pub fn largest_of(items: &[u64]) -> u64
     ensures { result ≡ largest items.now }
 {
     match items.last() {
@@ -20,15 +20,26 @@ pub(crate) fn largest_of(items: &[u64]) -> u64
     }
 }
 
+/// How many digits of each of `len` numbers are low ones, 0 to 63, where `largest` is the last of them; 0 where there
+/// is none.
+#[inline]
+pub fn low_width(len: usize, largest: u64) -> u8
+    ensures width { result ≡ width_at len largest }
+    ensures most { result ≤ 63 }
+{
+    bitm::laws::digits_bound_powers();
+    if len == 0 {
+        return 0;
+    }
+    bits_to_store(largest / len as u64).saturating_sub(1)
+}
+
 /// How many digits of each number are low ones.
 pub(crate) fn width_for(items: &[u64]) -> u8
     ensures { result ≡ width_of items.now }
 {
     bitm::laws::digits_bound_powers();
-    if items.is_empty() {
-        return 0;
-    }
-    bits_to_store(largest_of(items) / items.len() as u64).saturating_sub(1)
+    low_width(items.len(), largest_of(items))
 }
 
 /// The low digits of each number, one number after another.
@@ -49,9 +60,12 @@ pub(crate) fn make_low(
     Ok(low)
 }
 
-/// Writes the low digits of each number, where all bits are zeros.
+/// Writes the low digits of each number, `width` of each, where all bits are zeros.
+///
+/// # Conditions
+/// There are fewer than 2^56 numbers and at most 63 low digits; there are as many words as these take, all zeros.
 #[inline]
-fn write_low(low: &mut [u64], items: &[u64], width: u8)
+pub fn write_low(low: &mut [u64], items: &[u64], width: u8)
     requires width { width ≤ 63 }
     requires short { length items.now < 2 ^ 56 }
     requires clear { low.old ≡ replicate (low_words_of items.now width) 0 }
@@ -87,9 +101,14 @@ pub(crate) fn make_upper(
     Ok(upper)
 }
 
-/// Writes a one for each number, where all bits are zeros.
+/// Writes a one for each number, after as many zeros as it says without its `width` low digits, where all bits are
+/// zeros.
+///
+/// # Conditions
+/// The numbers never fall, and there are at most 63 low digits; there are as many words as the ones and zeros take,
+/// fewer than 2^58, all zeros.
 #[inline]
-fn write_upper(upper: &mut [u64], items: &[u64], width: u8)
+pub fn write_upper(upper: &mut [u64], items: &[u64], width: u8)
     requires width { width ≤ 63 }
     requires rising { IsNonDecreasing items.now }
     requires short { upper_words_of items.now width < 2 ^ 58 }

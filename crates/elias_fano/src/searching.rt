@@ -4,39 +4,44 @@ ghost use Rattle.bitm_bits.specs.Bits.{bits_of, digit_count, IsShort};
 ghost use Rattle.bitm_bits.specs.Number.{number_at};
 ghost use Rattle.bitm.specs.Reads.{ReadsAtMost};
 ghost use Rattle.bitm.specs.Tables.{HasTables};
-ghost use Rattle.elias_fano.specs.Buckets.{CountsTo, CountsBelow, Splits};
-ghost use Rattle.elias_fano.specs.Parts.{ArePartsOf, HasOneAt, IsUpper};
+ghost use Rattle.elias_fano.specs.Buckets.{CountsTo, CountsBelow, LowsRise, Splits};
+ghost use Rattle.elias_fano.specs.Parts.{ArePartsOf, HasFragment, HasOneAt, IsUpper};
 ghost use Rattle.elias_fano.specs.Sequence.{IsFirstAtLeast};
 
 use crate::laws;
 use bitm::{TableSource, binary_select_on, n_lowest_bits, words};
 
 /// The number whose part above its low digits is `above`: the low digits are fragment `at`.
+///
+/// # Conditions
+/// There is such a fragment. Where the number is 2^64 or more, the answer is any.
 #[inline(always)]
 fn joined(above: usize, low: &[u64], at: usize, width: u8) -> u64
-    requires width { width ≤ 63 }
-    requires place { at < 2 ^ 56 }
-    requires inside { at * width + width ≤ 64 * length low.now }
-    requires fits { above * 2 ^ width + number_at (bits_of low.now) (at * width) width < 2 ^ 64 }
-    ensures { result ≡ above * 2 ^ width + number_at (bits_of low.now) (at * width) width }
+    requires { HasFragment low.now at width }
+    ensures { above * 2 ^ width + number_at (bits_of low.now) (at * width) width < 2 ^ 64
+        → result ≡ above * 2 ^ width + number_at (bits_of low.now) (at * width) width }
 {
     bitm::laws::no_items_are_zero();
     if width == 0 {
         return above as u64;
     }
-    ((above as u64) << width) + words::get_fragment(low, at, width)
+    ((above as u64) << width).wrapping_add(words::get_fragment(low, at, width))
 }
 
 /// Number `at` of a sequence, whose one in the upper vector stands at `place`: as many zeros are before that place as
 /// the number says above its low digits.
+///
+/// # Conditions
+/// There is fragment `at` of `width` bits, in words that may hold anything. Where they are not the low words of a
+/// sequence, or the place is not that of the number's one, the answer is any.
 #[inline(always)]
-pub(crate) fn item_at_one(place: usize, low: &[u64], at: usize, width: u8) -> u64
-    requires { (xs : List ℕ) × (n : ℕ) × (upper : List ℕ) × HasOneAt xs n width low.now upper at place }
+pub fn item_at_one(place: usize, low: &[u64], at: usize, width: u8) -> u64
+    requires { HasFragment low.now at width }
     ensures { (xs : List ℕ) (n : ℕ) (upper : List ℕ) → HasOneAt xs n width low.now upper at place
         → result ≡ slice_index xs at }
 {
     laws::bit_laws();
-    joined(place - at, low, at, width)
+    joined(place.wrapping_sub(at), low, at, width)
 }
 
 /// Number `at` of a sequence, by a selection of its one.
@@ -95,16 +100,20 @@ fn count_below<T: TableSource>(source: &mut T, above: usize, n: usize) -> usize
 }
 
 /// The least place from `first` up to `end` whose low digits are at least `rest`, and `end` where there is none.
+///
+/// # Conditions
+/// The places are in order, and there are so many fragments, in words that may hold anything. Where the low digits fall
+/// somewhere in that range, the answer is any place of it, or `end`.
 #[inline]
-fn split_low(low: &[u64], width: u8, first: usize, end: usize, rest: u64) -> usize
+pub fn split_low(low: &[u64], width: u8, first: usize, end: usize, rest: u64) -> usize
     requires width { width ≤ 63 }
     requires short { end < 2 ^ 56 }
     requires order { first ≤ end }
     requires inside { end * width ≤ 64 * length low.now }
     requires fits { rest < 2 ^ width }
-    requires rising { (i j : ℕ) → first ≤ i → i ≤ j → j < end
-        → number_at (bits_of low.now) (i * width) width ≤ number_at (bits_of low.now) (j * width) width }
-    ensures { Splits (λ j. number_at (bits_of low.now) (j * width) width) first end rest result }
+    ensures within { (first ≤ result) × (result ≤ end) }
+    ensures splits { LowsRise low.now width first end
+        → Splits (λ j. number_at (bits_of low.now) (j * width) width) first end rest result }
 {
     if width == 0 {
         return first;

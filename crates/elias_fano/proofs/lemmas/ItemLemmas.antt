@@ -9,8 +9,9 @@ use Rattle.bitm_bits.specs.Laws.{DigitsBoundPowers}
 use Rattle.bitm_bits.specs.Number.{number_at}
 use Rattle.bitm_bits.specs.WriteLaws.{NoItemsAreZero}
 use Rattle.elias_fano.specs.Laws.{BitLaws}
-use Rattle.elias_fano.specs.Parts.{upper_place, IsLow, ArePartsOf, HasOneAt, items_of}
+use Rattle.elias_fano.specs.Parts.{upper_place, IsLow, ArePartsOf, HasFragment, HasOneAt, items_of}
 use Rattle.elias_fano.specs.Sequence.{largest}
+use Rattle.elias_fano.proofs.lemmas.LowLemmas.{fragment-inside}
 use Rattle.elias_fano.proofs.lemmas.SizeLemmas.{upper_few_at, width-small}
 use Rattle.elias_fano.proofs.lemmas.UpperLemmas.{place_of, place_is}
 
@@ -77,6 +78,14 @@ module _ (laws : BitLaws) (xs : List ℕ) (n l : ℕ) (low upper : List ℕ) (i 
 
   at : p ≡ upper_place xs l i
   at = place_is laws.at_most_one_picked laws.places_are_picked xs l upper i p h.parts.upper_is inside h.one
+
+  -- its low digits are inside
+  pub fragment-of : HasFragment low i l
+  fragment-of = record {
+    width = parts-width laws.digits_bound_powers xs n l low upper h.parts;
+    short = omega (arith, inside, h.parts.sequence.short);
+    inside = fragment-inside xs l i low inside h.parts.low_is.words;
+  }
 
   -- no place comes before as many ones
   pub place-after : i ≤ p

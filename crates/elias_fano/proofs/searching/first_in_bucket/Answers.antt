@@ -7,7 +7,7 @@ use Rattle.bitm_bits.specs.Number.{number_at}
 use Rattle.elias_fano.proofs.lemmas.BucketLemmas.{IsBucket, bucket-reaches, bucket-none, bucket-order, fragments-rise, fragments-inside, whole-reaches, whole-none}
 use Rattle.elias_fano.proofs.lemmas.ItemLemmas.{parts-width, upper-short}
 use Rattle.elias_fano.proofs.lemmas.SelectionReadLemmas.{one-selection, two-selections}
-use Rattle.elias_fano.specs.Buckets.{CountsTo, Splits}
+use Rattle.elias_fano.specs.Buckets.{CountsTo, LowsRise, Splits}
 use Rattle.elias_fano.specs.Parts.{IsUpper, ArePartsOf}
 use Rattle.elias_fano.proofs.searching.first_in_bucket.Goals as goal
 use Rattle.elias_fano.proofs.searching.first_in_bucket.Goals.{After-count_to-end, After-split_low-place}
@@ -70,13 +70,6 @@ split_low-place-requires-clause-inside g c =
     let d = (goal.at.split_low-place-requires-clause-inside g c).After-count_to-end in
     fragments-inside c.requires.parts.0 _ _ _ _ h _ _ (ends g d _ h)
 
-pub split_low-place-requires-clause-rising : goal.split_low-place-requires-clause-rising
-split_low-place-requires-clause-rising g c = λ i j from order less.
-    let h = c.requires.parts.1 in
-    let d = (goal.at.split_low-place-requires-clause-rising g c).After-count_to-end in
-    let begins = c.count_below-first.ensures.count _ _ h.upper_is h.count in
-    fragments-rise c.requires.parts.0 _ _ _ _ h _ _ _ i j begins (ends g d _ h) from order less
-
 bucket : (g : _) (c : After-split_low-place g) (xs : List ℕ)
     → ArePartsOf xs c.args.n c.args.width c.args.low.now (g.T.TableSource.lists c.args.source.now).words
     → IsBucket xs c.args.low.now c.args.width c.args.v c.count_below-first.result c.count_to-end.result c.split_low-place.result
@@ -88,11 +81,14 @@ bucket g c xs h =
     let rest : bit_and c.args.v c.n_lowest_bits.result ≡ c.args.v % 2 ^ w =
     ap (bit_and c.args.v) c.n_lowest_bits.ensures ∙ and_mask c.args.v w in
     let U : Lists → Type 0 = λ l. IsUpper xs w l.words in
+    let begins = c.count_below-first.ensures.count xs w h.upper_is h.count in
+    let finish = c.count_to-end.ensures.count xs w (subst U (sym c.count_below-first.ensures.same) h.upper_is) h.count in
+    let rise : LowsRise c.args.low.now w first end = λ i j from order less. fragments-rise xs _ _ _ _ h _ _ _ i j begins finish from order less in
     let P : ℕ → Type 0 = λ r. Splits (λ j. number_at (bits_of c.args.low.now) (j * w) w) first end r place in
     record {
-      begins = c.count_below-first.ensures.count xs w h.upper_is h.count;
-      ends = c.count_to-end.ensures.count xs w (subst U (sym c.count_below-first.ensures.same) h.upper_is) h.count;
-      splits = subst P rest c.split_low-place.ensures;
+      begins = begins;
+      ends = finish;
+      splits = subst P rest (c.split_low-place.ensures.splits rise);
     }
 
 pub returns-then-place-n-clause-answer : goal.returns-then-place-n-clause-answer

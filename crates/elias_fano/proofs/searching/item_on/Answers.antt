@@ -1,6 +1,6 @@
 -- The place that is selected is that of the item's one.
 use Rattle.std.proofs.Common.{length, arith}
-use Rattle.elias_fano.proofs.lemmas.ItemLemmas.{upper-short}
+use Rattle.elias_fano.proofs.lemmas.ItemLemmas.{upper-short, fragment-of}
 use Rattle.elias_fano.proofs.lemmas.UpperLemmas.{ones_are}
 use Rattle.elias_fano.proofs.searching.item_on.Goals as goal
 
@@ -20,7 +20,7 @@ unreachable-requires g c =
 pub item_at_one-requires : goal.item_at_one-requires
 item_at_one-requires g c =
     let h = c.requires.parts in
-    (h.0, length h.0, _, record { parts = h.2; inside = h.1; one = c.in-Some.ensures.answer })
+    fragment-of c.bit_laws.ensures h.0 (length h.0) _ _ _ _ _ record { parts = h.2; inside = h.1; one = c.in-Some.ensures.answer }
 
 pub returns-clause-item : goal.returns-clause-item
 returns-clause-item g c = λ xs n h inside.
