@@ -3,6 +3,7 @@ ghost use Rattle.std.specs.Prelude.{◌≡◌, ◌^◌, ◌↔◌, ◌<◌, ◌�
 ghost use Rattle.std.specs.Int.{div_ceil};
 ghost use Rattle.bitm_bits.specs.Bits.{bits_of};
 ghost use Rattle.bitm_bits.specs.Count.{kind, IsRank, IsRank0};
+ghost use Rattle.bitm.specs.Reads.{none_read};
 ghost use Rattle.bitm.specs.Tables.{HasSizes, HasTables, bits_in};
 ghost use Rattle.bitm_lent.specs.Answers.{HasBit, IsSelected};
 ghost use Rattle.bitm_lent.specs.Sizes.{listed};
@@ -80,6 +81,16 @@ impl<'a> Lent<'a> {
         }
     }
 
+    /// A source over the words and tables, of which nothing was read: for calls over any source.
+    #[inline(always)]
+    pub fn probe(&self) -> Probe<'_>
+        ensures lists { result.lists ≡ self.now }
+        ensures sizes { HasSizes result.lists }
+        ensures reads { result.reads ≡ none_read }
+    {
+        Probe::new(self.words, self.upper, self.lower)
+    }
+
     /// Whether the tables are those of the words: one pass over the words, which stops at the first wrong entry.
     pub fn check(&self) -> bool
         ensures { IsTrue result ↔ HasTables self.now }
@@ -98,7 +109,7 @@ impl<'a> Lent<'a> {
             (λ _. index ≤ length (bits_in self.now)) }
         ensures answer { HasTables self.now → IsRank (bits_in self.now) index result }
     {
-        total_rank_on(&mut Probe::new(self.words, self.upper, self.lower), index)
+        total_rank_on(&mut self.probe(), index)
     }
 
     /// How many of the first `index` bits are zeros, where the tables are those of the words; `None` exactly where
@@ -151,6 +162,6 @@ impl<'a> Lent<'a> {
         ensures answer { HasTables self.now
             → IsSelected (bits_in self.now) (kind ONE) rank result }
     {
-        total_select_on::<ONE, Probe<'_>>(&mut Probe::new(self.words, self.upper, self.lower), rank)
+        total_select_on::<ONE, Probe<'_>>(&mut self.probe(), rank)
     }
 }

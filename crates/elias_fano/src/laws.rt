@@ -58,9 +58,9 @@ pub fn parts_are_small()
     laws::digits_bound_powers();
 }
 
-/// The laws of bits that the proofs of this crate cite.
+/// The laws of bits that the proofs of this crate cite, and those of code that keeps the parts itself.
 #[inline(always)]
-pub(crate) fn bit_laws()
+pub fn bit_laws()
     ensures { BitLaws }
 {
     laws::bits_are_counted();

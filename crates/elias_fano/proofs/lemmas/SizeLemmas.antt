@@ -33,7 +33,7 @@ module _ (digits : DigitsBoundPowers) where
           omega (arith, (digits (n / 2) k).1 half)
 
   -- the largest item without its low digits is less than twice the number of items
-  few_of_some : (u n : ℕ) → 0 < n → u / 2 ^ (digit_count (u / n) - 1) < 2 * n
+  pub few_of_some : (u n : ℕ) → 0 < n → u / 2 ^ (digit_count (u / n) - 1) < 2 * n
   few_of_some u n some =
       let q = u / n in
       let d = digit_count q in

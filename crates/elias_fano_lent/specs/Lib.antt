@@ -1,0 +1,5 @@
+pub mod Answers
+pub mod Error
+pub mod Held
+pub mod Lists
+pub mod Sizes

@@ -1,0 +1,35 @@
+-- What is answered to a list of places.
+use Rattle.std.specs.Prelude.{◌≡◌, ◌≢◌, ⊤, ℕ, ◌<◌, ◌≤◌, List, length, slice_index}
+use Rattle.elias_fano_lent.specs.declared.lists.Listed.{Listed}
+use Rattle.elias_fano_lent.specs.declared.lists.Listed.TheVariants.{All, AbsentAt, WrongAt, WrongLength}
+
+-- how many numbers of n were written
+abbrev pub written : ℕ → Listed → ℕ
+written n All = n
+written n (AbsentAt k) = k
+written n (WrongAt k) = k
+written n WrongLength = 0
+
+-- of n items at places, with so much room: which case it is, where the parts hold anything
+abbrev pub IsListed : ℕ → List ℕ → ℕ → Listed → Type 0
+IsListed n places room All = (room ≡ length places) × ((j : ℕ) → j < length places → slice_index places j < n)
+IsListed n places room (AbsentAt k) =
+    (room ≡ length places) × (k < length places) × (n ≤ slice_index places k) × ((j : ℕ) → j < k → slice_index places j < n)
+IsListed n places room (WrongAt k) =
+    (room ≡ length places) × (k < length places) × ((j : ℕ) → j ≤ k → slice_index places j < n)
+IsListed n places room WrongLength = room ≢ length places
+
+-- right parts are not called wrong
+abbrev pub IsNeverWrong : Listed → Type 0
+IsNeverWrong All = ⊤
+IsNeverWrong (AbsentAt k) = ⊤
+IsNeverWrong (WrongAt k) = ⊥
+IsNeverWrong WrongLength = ⊤
+
+-- the first n of these are the items at those places
+abbrev pub AreItems : List ℕ → List ℕ → ℕ → List ℕ → Type 0
+AreItems xs places n ys = (j : ℕ) → j < n → slice_index ys j ≡ slice_index xs (slice_index places j)
+
+-- from item n on nothing changed, nor the length
+abbrev pub IsKeptFrom : ℕ → List ℕ → List ℕ → Type 0
+IsKeptFrom n old new = (length new ≡ length old) × ((j : ℕ) → n ≤ j → slice_index new j ≡ slice_index old j)

@@ -1,0 +1,36 @@
+//! Sequences of numbers that never fall, over memory that is lent, as a mapped file lends it: nothing is allocated or
+//! copied, and no call has a condition on what the memory holds.
+//!
+//! The parts are those of `elias_fano`, word by word: the low digits of each number, the upper vector, and the two
+//! tables of its index. With what `build` wrote the answers are those of the numbers. Whatever else the parts hold, a
+//! call returns, and reads no more than its bound says.
+//!
+//! ```
+//! let numbers = [2u64, 3, 5, 7, 11, 13, 24];
+//! let sizes = Sizes::of(7, 24);                       // Some(..): so many words and entries
+//! let width = build(&numbers, &mut low, &mut words, &mut upper, &mut lower);    // Ok(1)
+//! let Some(lent) = Lent::over(&words, &upper, &lower) else { return };
+//! let Some(primes) = LentSequence::over(7, 1, &low, lent) else { return };
+//! primes.get(4);              // Found(11)
+//! primes.first_at_least(8);   // Found(4)
+//! primes.first_at_least(25);  // Absent
+//! ```
+#![tactic(auto)]
+
+mod answer;
+mod asking;
+mod error;
+mod filling;
+mod lists;
+mod sequence;
+mod sizes;
+#[cfg(test)]
+mod tests;
+
+pub use answer::Sought;
+pub use asking::{total_first_at_least_on, total_item_on};
+pub use error::BuildError;
+pub use filling::build;
+pub use lists::Listed;
+pub use sequence::LentSequence;
+pub use sizes::Sizes;

@@ -1,0 +1,43 @@
+//! The numbers of a list of places.
+ghost use Rattle.std.specs.Prelude.{◌≡◌, ◌<◌, ℕ, List, length, slice_index};
+ghost use Rattle.elias_fano_lent.specs.Held.{Holds};
+ghost use Rattle.elias_fano_lent.specs.Lists.{written, AreItems, IsKeptFrom, IsListed, IsNeverWrong};
+
+use crate::answer::Sought;
+use crate::sequence::LentSequence;
+
+/// How far a list of places was answered.
+#[derive(Clone, Copy, PartialEq, Eq, Debug)]
+pub enum Listed {
+    /// All numbers were written.
+    All,
+    /// At this place of the list stands one at which there is no number; the numbers before it were written.
+    AbsentAt(usize),
+    /// At this place of the list the parts turned out not to be those of a sequence; the numbers before it were written.
+    WrongAt(usize),
+    /// There is not room for as many numbers as places; nothing was written.
+    WrongLength,
+}
+
+impl<'a> LentSequence<'a> {
+    /// Writes the number at each place of the list, as `get` answers it, up to the first that is not found.
+    pub fn get_list(&self, places: &[usize], out: &mut [u64]) -> Listed
+        ensures listed { IsListed self.now.len places.now (length out.old) result }
+        ensures told { (xs : List ℕ) → Holds xs self.now
+            → AreItems xs places.now (written (length places.now) result) out.new }
+        ensures right { (xs : List ℕ) → Holds xs self.now → IsNeverWrong result }
+        ensures kept { IsKeptFrom (written (length places.now) result) out.old out.new }
+    {
+        if out.len() != places.len() {
+            return Listed::WrongLength;
+        }
+        for at in 0..places.len() {
+            match self.get(places[at]) {
+                Sought::Found(number) => out[at] = number,
+                Sought::Absent => return Listed::AbsentAt(at),
+                Sought::WrongParts => return Listed::WrongAt(at),
+            }
+        }
+        Listed::All
+    }
+}

@@ -1,0 +1,87 @@
+//! A sequence whose parts are lent.
+ghost use Rattle.std.specs.Prelude.{◌≡◌, ℕ, List, MatchOption};
+ghost use Rattle.elias_fano_lent.specs.Answers.{IsFirst, IsItem, IsOfPlace, IsPlaceOf};
+ghost use Rattle.elias_fano_lent.specs.Held.{held, HasLengths, Holds};
+
+use crate::answer::Sought;
+use crate::asking::{total_first_at_least_on, total_item_on};
+use bitm_lent::Lent;
+use std::marker::Model;
+
+/// The parts of a sequence, all lent, of which the lengths are right.
+///
+/// Contracts see how many numbers there are, how many of their digits are low ones, and the lists. What the lists hold is
+/// anybody's: a call says what it answers where they are the parts of a sequence, and what it answers else.
+#[derive(Drop)]
+pub struct LentSequence<'a> {
+    len: usize,
+    width: u8,
+    low: &'a [u64],
+    upper: Lent<'a>,
+}
+
+impl<'a> Model for LentSequence<'a> {
+    ghost use Rattle.elias_fano_lent.specs.Held.{held, HasLengths, Held};
+
+    ghost Value = { Held };
+
+    ghost view = { λ s. held s.len s.width s.low.now s.upper };
+
+    ghost invariant = { λ s. HasLengths (held s.len s.width s.low.now s.upper) };
+}
+
+impl<'a> LentSequence<'a> {
+    /// `len` numbers with `width` low digits of each in `low`, and the upper words with their tables; `None` exactly where
+    /// there are 2^56 numbers or more, more than 63 low digits, or not as many low words as these take.
+    #[inline(always)]
+    pub fn over(len: usize, width: u8, low: &'a [u64], upper: Lent<'a>) -> Option<LentSequence<'a>>
+        ensures { MatchOption result (HasLengths (held len width low.now upper.entry) → ⊥)
+            (λ lent. (lent ≡ held len width low.now upper.entry) × HasLengths lent) }
+    {
+        if len >= 1 << 56 || width > 63 {
+            return None;
+        }
+        if low.len() != (len * width as usize).div_ceil(64) {
+            return None;
+        }
+        Some(LentSequence {
+            len,
+            width,
+            low,
+            upper,
+        })
+    }
+
+    /// How many numbers there are.
+    #[inline(always)]
+    pub fn len(&self) -> usize
+        ensures { result ≡ self.now.len }
+    {
+        self.len
+    }
+
+    /// Number `i`, where the parts are those of a sequence; `Absent` exactly where there is none, whatever they hold.
+    ///
+    /// # Cost
+    /// That of `total_item_on`.
+    #[inline(always)]
+    pub fn get(&self, i: usize) -> Sought<u64>
+        ensures inside { IsOfPlace self.now.len i result }
+        ensures answer { (xs : List ℕ) → Holds xs self.now → IsItem xs i result }
+    {
+        total_item_on(&mut self.upper.probe(), self.low, self.width, self.len, i)
+    }
+
+    /// The least place whose number is at least `v`, where the parts are those of a sequence, and `Absent` exactly where
+    /// each number is less; else any place of a number, `Absent` or `WrongParts`.
+    ///
+    /// # Cost
+    /// That of `total_first_at_least_on`.
+    #[inline]
+    pub fn first_at_least(&self, v: u64) -> Sought<usize>
+        ensures inside { IsPlaceOf self.now.len result }
+        ensures answer { (xs : List ℕ) → Holds xs self.now → IsFirst xs v result }
+    {
+        total_first_at_least_on(&mut self.upper.probe(), self.low, self.width, self.len, v)
+    }
+}
