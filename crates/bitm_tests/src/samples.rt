@@ -1,5 +1,4 @@
-//! Selection by samples: how many are kept, and what the index selects by them, worked out by hand. The samples are
-//! private: a test inside `bitm` compares them with those of the original crate.
+//! Selection by samples: how many are kept, and what the index selects by them, worked out by hand.
 use crate::expect::{Sampled, expect_one, expect_zero, indexed};
 use bitm::{
     BinaryRankSearch, BitVec, CombinedSampling, ConstCombinedSamplingDensity, RankSelect101111,

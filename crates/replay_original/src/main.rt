@@ -8,8 +8,7 @@
 //! exact length and `-`, the total is expected, which the line `ones` before it says (zeros are the other bits). These
 //! pairs are counted by themselves.
 //!
-//! `try_select` and `try_select0` are compared both by binary search and by samples. Samples are private to `bitm`:
-//! their number and the logarithm of their density are compared, and no sample.
+//! `try_select` and `try_select0` are compared both by binary search and by samples.
 //!
 //! The program prints each difference, up to ten, a line for each kind, and one for the ranks at the exact
 //! length, and ends with status 0 where nothing differs.

@@ -1,5 +1,4 @@
-//! How many samples there are, and how dense they are: the kinds `samples`, `samplesat` and `ocs`.
-ghost use Rattle.std.specs.Prelude.{◌≤◌};
+//! The samples, how many there are before each part, and how dense they are: the kinds `samples`, `samplesat` and `ocs`.
 ghost use Rattle.bitm_bits.specs.Bits.{IsShort};
 
 use crate::content::State;
@@ -13,17 +12,29 @@ use bitm::{
 };
 use std::alloc::Global;
 
+/// Samples as a line writes them.
+#[derive(Clone, Copy)]
+enum Claimed<'a> {
+    /// All of them.
+    All(&'a str),
+    /// How many there are, and some of them by their place.
+    Some { count: u64, pairs: &'a str },
+}
+
 /// What a line says of the samples of one kind of bit.
 #[derive(Clone, Copy)]
 struct Claim<'a> {
+    text: &'a str,
     density: &'a str,
     of_ones: bool,
     logarithm: u64,
+    starts: &'a str,
+    samples: Claimed<'a>,
 }
 
-/// What a line says of samples, and what follows the logarithm.
-fn read_claim(text: &str) -> Result<(Claim<'_>, &str), Fault> {
-    let (density, rest) = text::first_word(text);
+/// The density, the kind of bit and the logarithm that arguments begin with, and what follows them.
+fn read_density(arguments: &str) -> Result<(&str, bool, u64, &str), Fault> {
+    let (density, rest) = text::first_word(arguments);
     let (bit, rest) = text::first_word(rest);
     let of_ones = match bit {
         "1" => true,
@@ -31,44 +42,75 @@ fn read_claim(text: &str) -> Result<(Claim<'_>, &str), Fault> {
         _ => return Err(Fault::Malformed),
     };
     let (logarithm, rest) = text::first_word(rest);
-    let claim = Claim {
+    Ok((
         density,
         of_ones,
-        logarithm: text::number(logarithm, Base::Decimal)?,
-    };
-    Ok((claim, rest))
+        text::number(logarithm, Base::Decimal)?,
+        rest,
+    ))
 }
 
-/// How many items so many bits have: their ones, or else their zeros.
-fn items_among(of_ones: bool, ones: usize, len: usize) -> usize
-    requires { ones ≤ len }
-    ensures { result ≤ len }
-{
-    if of_ones { ones } else { len - ones }
+/// Compares samples with those of a line.
+fn compare_samples<'a>(
+    alloc: Global,
+    samples: &[u32],
+    claim: Claim<'a>,
+    found: &mut Found<'a>,
+) -> Result<(), Fault> {
+    match claim.samples {
+        Claimed::All(theirs) => {
+            let ours: Vec<u64> = samples
+                .iter()
+                .map(|sample| u64::from(*sample))
+                .collect(alloc)?;
+            found.compare_list(
+                alloc,
+                claim.text,
+                Base::Hexadecimal,
+                ours.as_slice(),
+                theirs,
+            )
+        }
+        Claimed::Some { count, pairs } => {
+            found.compare_numbers("number", samples.len() as u64, count);
+            found.compare_each(pairs, Base::Hexadecimal, |argument| {
+                let sample = samples.get(text::place(argument)?);
+                Ok(sample.map(|sample| u64::from(*sample)))
+            })
+        }
+    }
 }
 
-/// Compares the logarithm of a density and the number of samples with those of a line.
+/// Compares the logarithm of a density, the numbers of samples before each part, and the samples with those of a line.
 fn compare_at<'a, D: CombinedSamplingDensity>(
     alloc: Global,
     words: &[u64],
     claim: Claim<'a>,
-    count: u64,
     found: &mut Found<'a>,
 ) -> Result<(), Fault>
     requires { IsShort words.now }
 {
-    let (index, ones) = index::build::<CombinedSampling<D>>(alloc, words)?;
-    let len = 64 * words.len();
-    let items = items_among(claim.of_ones, ones, len);
-    let logarithm = D::items_per_sample_log2(D::density_for(items, len));
-    let samples = if claim.of_ones {
-        index.select_support().sample_count()
+    let (index, _) = index::build::<CombinedSampling<D>>(alloc, words)?;
+    let kept = if claim.of_ones {
+        index.select_support()
     } else {
-        index.select0_support().sample_count()
+        index.select0_support()
     };
-    found.compare_numbers("logarithm", u64::from(logarithm), claim.logarithm);
-    found.compare_numbers("number", samples as u64, count);
-    Ok(())
+    let logarithm = u64::from(kept.items_per_sample_log2());
+    found.compare_numbers("logarithm", logarithm, claim.logarithm);
+    let starts: Vec<u64> = kept
+        .starts()
+        .iter()
+        .map(|start| *start as u64)
+        .collect(alloc)?;
+    found.compare_list(
+        alloc,
+        claim.text,
+        Base::Decimal,
+        starts.as_slice(),
+        claim.starts,
+    )?;
+    compare_samples(alloc, kept.samples(), claim, found)
 }
 
 /// Compares what a line says with the samples of the density that it names.
@@ -76,24 +118,22 @@ fn compare<'a>(
     alloc: Global,
     words: &[u64],
     claim: Claim<'a>,
-    count: u64,
     found: &mut Found<'a>,
 ) -> Result<(), Fault>
     requires { IsShort words.now }
 {
     match claim.density {
-        "a7" => compare_at::<Adaptive<7>>(alloc, words, claim, count, found),
-        "a13" => compare_at::<Adaptive<13>>(alloc, words, claim, count, found),
-        "c7" => compare_at::<Const<7>>(alloc, words, claim, count, found),
-        "c8" => compare_at::<Const<8>>(alloc, words, claim, count, found),
-        "c10" => compare_at::<Const<10>>(alloc, words, claim, count, found),
-        "c31" => compare_at::<Const<31>>(alloc, words, claim, count, found),
+        "a7" => compare_at::<Adaptive<7>>(alloc, words, claim, found),
+        "a13" => compare_at::<Adaptive<13>>(alloc, words, claim, found),
+        "c7" => compare_at::<Const<7>>(alloc, words, claim, found),
+        "c8" => compare_at::<Const<8>>(alloc, words, claim, found),
+        "c10" => compare_at::<Const<10>>(alloc, words, claim, found),
+        "c31" => compare_at::<Const<31>>(alloc, words, claim, found),
         _ => Err(Fault::Malformed),
     }
 }
 
-/// Compares the logarithm of a density, and the number of samples with the length of a list of
-/// them.
+/// Compares the logarithm of a density, and all samples.
 pub fn samples<'a>(
     alloc: Global,
     state: &State<'a>,
@@ -101,12 +141,19 @@ pub fn samples<'a>(
     found: &mut Found<'a>,
 ) -> Result<(), Fault> {
     let call = state.call(line)?;
-    let (claim, _) = read_claim(call.arguments)?;
-    let theirs = text::list(alloc, call.theirs, Base::Hexadecimal)?;
-    compare(alloc, call.words, claim, theirs.len() as u64, found)
+    let (density, of_ones, logarithm, starts) = read_density(call.arguments)?;
+    let claim = Claim {
+        text: call.text,
+        density,
+        of_ones,
+        logarithm,
+        starts,
+        samples: Claimed::All(call.theirs),
+    };
+    compare(alloc, call.words, claim, found)
 }
 
-/// Compares the logarithm of a density, and the number of samples.
+/// Compares the logarithm of a density, the number of samples, and those at some places.
 pub fn samplesat<'a>(
     alloc: Global,
     state: &State<'a>,
@@ -114,10 +161,21 @@ pub fn samplesat<'a>(
     found: &mut Found<'a>,
 ) -> Result<(), Fault> {
     let call = state.call(line)?;
-    let (claim, rest) = read_claim(call.arguments)?;
-    let (count, _) = text::first_word(rest);
-    let count = text::number(count, Base::Decimal)?;
-    compare(alloc, call.words, claim, count, found)
+    let (density, of_ones, logarithm, rest) = read_density(call.arguments)?;
+    let (count, starts) = text::first_word(rest);
+    let samples = Claimed::Some {
+        count: text::number(count, Base::Decimal)?,
+        pairs: call.theirs,
+    };
+    let claim = Claim {
+        text: call.text,
+        density,
+        of_ones,
+        logarithm,
+        starts,
+        samples,
+    };
+    compare(alloc, call.words, claim, found)
 }
 
 /// The logarithms that are chosen for a share of items, one for each greatest result that the lines

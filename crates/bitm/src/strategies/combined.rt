@@ -16,13 +16,6 @@ use std::alloc::{AllocError, Global};
 use std::boxed::BoxedSlice;
 use std::marker::Model;
 
-#[cfg(test)]
-mod far;
-#[cfg(test)]
-mod original;
-#[cfg(test)]
-mod tests;
-
 /// Selection that starts at samples: one 32-bit sample for each begun interval of 2^d items of a part of 2^32 bits, and
 /// one number for each part, where the density `D` chooses d for the content.
 ///
@@ -96,6 +89,31 @@ impl<D: CombinedSamplingDensity> CombinedSampling<D> {
         self.samples.len()
     }
 
+    /// The samples that are kept, part after part, each with its entry in the low 21 bits and its distance in the others:
+    /// for code that stores them.
+    #[inline(always)]
+    pub fn samples(&self) -> &[u32]
+        ensures { result.now ≡ self.now.samples }
+    {
+        self.samples.as_slice()
+    }
+
+    /// How many samples there are before those of each part.
+    #[inline(always)]
+    pub fn starts(&self) -> &[usize]
+        ensures { result.now ≡ self.now.starts }
+    {
+        self.starts.as_slice()
+    }
+
+    /// A sample stands for 2 to this many items.
+    #[inline(always)]
+    pub fn items_per_sample_log2(&self) -> u8
+        ensures { result ≡ D.log self.now.density }
+    {
+        D::items_per_sample_log2(self.density)
+    }
+
     /// The place of the one of the source's words with exactly `rank` ones before it; `None` exactly where there is
     /// none.
     ///
@@ -115,13 +133,7 @@ impl<D: CombinedSamplingDensity> CombinedSampling<D> {
             (D.log self.now.density) rank result (T.reads source.old) (T.reads source.new) }
         ensures same { T.lists source.new ≡ T.lists source.old }
     {
-        sampled_select_on::<1, D, T>(
-            self.samples.as_slice(),
-            self.starts.as_slice(),
-            self.density,
-            source,
-            rank,
-        )
+        sampled_select_on::<1, D, T>(self.samples(), self.starts(), self.density, source, rank)
     }
 
     /// The place of the zero of the source's words with exactly `rank` zeros before it; `None` exactly where there is
@@ -140,13 +152,7 @@ impl<D: CombinedSamplingDensity> CombinedSampling<D> {
             (D.log self.now.density) rank result (T.reads source.old) (T.reads source.new) }
         ensures same { T.lists source.new ≡ T.lists source.old }
     {
-        sampled_select_on::<0, D, T>(
-            self.samples.as_slice(),
-            self.starts.as_slice(),
-            self.density,
-            source,
-            rank,
-        )
+        sampled_select_on::<0, D, T>(self.samples(), self.starts(), self.density, source, rank)
     }
 }
 

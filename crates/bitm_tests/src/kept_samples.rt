@@ -1,0 +1,122 @@
+//! The samples that are kept: worked out by hand, and as one walk over the bits finds them. `replay_original` compares
+//! them with those of the original crate.
+use bitm::{
+    AdaptiveCombinedSamplingDensity, BitAccess, CombinedSampling, CombinedSamplingDensity,
+    ConstCombinedSamplingDensity, RankSelect101111,
+};
+use std::alloc::{AllocError, Global};
+use std::process::Abort;
+
+/// An index over words, which selects both kinds by samples.
+type Index<'a, D> = RankSelect101111<CombinedSampling<D>, CombinedSampling<D>, &'a [u64]>;
+
+/// An index over the words.
+fn indexed<'a, D: CombinedSamplingDensity>(
+    rt: &impl Abort,
+    alloc: Global,
+    words: &'a [u64],
+) -> Index<'a, D> {
+    assert!(rt; words.len() < 100_000);
+    match RankSelect101111::build(alloc, words) {
+        Ok((index, _)) => index,
+        Err(_) => panic!(rt; "no memory"),
+    }
+}
+
+/// The words of runs.
+fn words_of(alloc: Global, runs: &[(u64, usize)]) -> Result<Vec<u64>, AllocError> {
+    let mut words = Vec::new(alloc);
+    for (word, count) in runs {
+        for _ in 0..*count {
+            words.push(*word)?;
+        }
+    }
+    Ok(words)
+}
+
+/// 96001 words, of which the first and the last are full and the others empty.
+fn full_ends(alloc: Global) -> Result<Vec<u64>, AllocError> {
+    words_of(alloc, &[(u64::MAX, 1), (0, 95_999), (u64::MAX, 1)])
+}
+
+#[test]
+fn an_adaptive_density_is_sparse_where_items_are_many(rt: HostRuntime) -> Result<(), AllocError> {
+    let words = full_ends(rt.alloc())?;
+    let index = indexed::<AdaptiveCombinedSamplingDensity<13>>(&rt, rt.alloc(), words.as_slice());
+    let ones = [0xFFE0_0000];
+    assert_eq!(rt; index.select_support().samples(), ones.as_slice());
+    assert_eq!(rt; index.select_support().starts(), [0].as_slice());
+    assert_eq!(rt; index.select0_support().starts(), [0].as_slice());
+    let zeros = index.select0_support().samples();
+    assert_eq!(rt; zeros.len(), 750);
+    for number in 0..750u32 {
+        let sample = zeros.get(number as usize).copied();
+        assert_eq!(rt; sample, Some(0x40_0000 + 4 * number), "sample {number}");
+    }
+    Ok(())
+}
+
+#[test]
+fn a_sample_has_the_distance_to_its_middle_item(rt: HostRuntime) -> Result<(), AllocError> {
+    let words = words_of(rt.alloc(), &[(u64::MAX, 1), (0, 62), (u64::MAX, 1)])?;
+    let index = indexed::<ConstCombinedSamplingDensity<7>>(&rt, rt.alloc(), words.as_slice());
+    let ones = [0x0020_0000];
+    assert_eq!(rt; index.select_support().samples(), ones.as_slice());
+    Ok(())
+}
+
+/// The samples of one part of words, by a walk over its bits: an item that is a whole number of intervals from the
+/// first begins a sample, and one half an interval later adds the distance to it.
+fn walked(alloc: Global, words: &[u64], kind: bool, log2: u8) -> Result<Vec<u32>, AllocError> {
+    let in_interval = 1u64.wrapping_shl(u32::from(log2)).wrapping_sub(1);
+    let mut samples: Vec<u32> = Vec::new(alloc);
+    let mut items = 0u64;
+    for place in 0..usize::MAX {
+        let Some(bit) = words.try_get_bit(place) else {
+            break;
+        };
+        if bit != kind {
+            continue;
+        }
+        let entry = (place / 2048 % 0x20_0000) as u32;
+        if items & in_interval == 0 {
+            samples.push(entry)?;
+        } else if items & in_interval >> 1 == 0 {
+            if let Some(last) = samples.last_mut() {
+                *last |= entry.wrapping_sub(*last).min(2047) << 21;
+            }
+        }
+        items = items.wrapping_add(1);
+    }
+    Ok(samples)
+}
+
+/// Compares what is kept at a density with a walk over the bits.
+fn expect_walked<D: CombinedSamplingDensity>(
+    rt: &impl Abort,
+    alloc: Global,
+    words: &[u64],
+) -> Result<(), AllocError> {
+    let index = indexed::<D>(rt, alloc, words);
+    let kept = index.select_support();
+    let ones = walked(alloc, words, true, kept.items_per_sample_log2())?;
+    assert_eq!(rt; kept.samples(), ones.as_slice());
+    let kept = index.select0_support();
+    let zeros = walked(alloc, words, false, kept.items_per_sample_log2())?;
+    assert_eq!(rt; kept.samples(), zeros.as_slice());
+    Ok(())
+}
+
+#[test]
+fn samples_are_those_of_a_walk(rt: HostRuntime) -> Result<(), AllocError> {
+    for len in [0, 1, 9, 32, 33, 60, 300] {
+        for word in [0, u64::MAX, 1, 1 << 63, 0x5555_5555_5555_5555, 0xFFFF] {
+            let words = words_of(rt.alloc(), &[(word, len), (!word, 1)])?;
+            let words = words.as_slice();
+            expect_walked::<AdaptiveCombinedSamplingDensity<13>>(&rt, rt.alloc(), words)?;
+            expect_walked::<ConstCombinedSamplingDensity<7>>(&rt, rt.alloc(), words)?;
+            expect_walked::<ConstCombinedSamplingDensity<9>>(&rt, rt.alloc(), words)?;
+        }
+    }
+    Ok(())
+}
