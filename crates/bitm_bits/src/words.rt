@@ -14,10 +14,12 @@ pub use crate::bitvec::finding::{
 };
 pub use crate::bitvec::fragments::{
     get_fragment, get_fragment_unmasked, init_fragment, set_fragment, swap_fragments,
-    try_get_fragment, try_get_fragment_unmasked, xor_fragment,
+    try_get_fragment, try_get_fragment_0_64, try_get_fragment_unmasked, try_set_fragment_0_64,
+    xor_fragment,
 };
 pub use crate::bitvec::reading::{
-    get_bit, get_bits, get_bits_unmasked, try_get_bit, try_get_bits, try_get_bits_unmasked,
+    get_bit, get_bits, get_bits_unmasked, try_get_bit, try_get_bits, try_get_bits_0_64,
+    try_get_bits_unmasked,
 };
 pub use crate::bitvec::successive::{
     get_successive_bit, get_successive_bits, get_successive_fragment, init_successive_bit,
@@ -25,5 +27,5 @@ pub use crate::bitvec::successive::{
     set_successive_fragment, xor_successive_bits, xor_successive_fragment,
 };
 pub use crate::bitvec::writing::{
-    clear_bit, init_bit, init_bits, set_bit, set_bit_to, set_bits, xor_bits,
+    clear_bit, init_bit, init_bits, set_bit, set_bit_to, set_bits, try_set_bits_0_64, xor_bits,
 };

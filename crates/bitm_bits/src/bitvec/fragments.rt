@@ -1,12 +1,14 @@
 //! Fragments of words: fragment `index` of width `s` is the `s` bits from bit `index * s` on, a product of whole
 //! numbers.
-ghost use Rattle.std.specs.Prelude.{◌≡◌, ◌*◌, ◌^◌, ◌<◌, ◌≤◌, SomeIff};
+ghost use Rattle.std.specs.Prelude.{◌≡◌, ◌*◌, ◌%◌, ◌^◌, ◌<◌, ◌≤◌, ◌↔◌, IsTrue, SomeIff, false};
 ghost use Rattle.bitm_bits.specs.Bits.{bits_of};
 ghost use Rattle.bitm_bits.specs.Number.{number_at, with_number, with_swapped, IsClearOrAlready, IsFragmentInRange};
 ghost use Rattle.bitm_bits.specs.Window.{reach_of, with_flips};
 
-use crate::bitvec::reading::{get_bits, get_bits_unmasked, try_get_bits, try_get_bits_unmasked};
-use crate::bitvec::writing::{init_bits, set_bits, xor_bits};
+use crate::bitvec::reading::{
+    get_bits, get_bits_unmasked, try_get_bits, try_get_bits_0_64, try_get_bits_unmasked,
+};
+use crate::bitvec::writing::{init_bits, set_bits, try_set_bits_0_64, xor_bits};
 
 /// The bits from the begin of fragment `index` to the end of its word, or 64 of them where the fragment crosses that
 /// end, as a number, lowest first.
@@ -61,6 +63,31 @@ pub fn try_get_fragment(words: &[u64], index: usize, s: u8) -> Option<u64>
         (number_at (bits_of words.now) (index * s) s) }
 {
     try_get_bits(words, index.checked_mul(s as usize)?, s)
+}
+
+/// Fragment `index` of width `s` as a number, lowest bit first, up to 64 bits; `None` exactly where it is not in range, or
+/// begins past `usize::MAX`, or `s` is above 64.
+#[inline(always)]
+pub fn try_get_fragment_0_64(words: &[u64], index: usize, s: u8) -> Option<u64>
+    ensures { SomeIff result ((s ≤ 64) × IsFragmentInRange words.now index s)
+        (number_at (bits_of words.now) (index * s) s) }
+{
+    try_get_bits_0_64(words, index.checked_mul(s as usize)?, s)
+}
+
+/// Replaces fragment `index` of width `s` by the `s` lowest bits of `v`, lowest first, up to 64 of them. Answers false
+/// exactly where it is not in range, or begins past `usize::MAX`, or `s` is above 64, and nothing is written then.
+#[inline(always)]
+pub fn try_set_fragment_0_64(words: &mut [u64], index: usize, v: u64, s: u8) -> bool
+    ensures done { IsTrue result ↔ (s ≤ 64) × IsFragmentInRange words.old index s }
+    ensures value { IsTrue result
+        → bits_of words.new ≡ with_number (bits_of words.old) (index * s) s (v % 2 ^ s) }
+    ensures kept { result ≡ false → words.new ≡ words.old }
+{
+    match index.checked_mul(s as usize) {
+        Some(begin) => try_set_bits_0_64(words, begin, v, s),
+        None => false,
+    }
 }
 
 /// Replaces fragment `index` of width `s` by the number `v`, lowest bit first.

@@ -1,10 +1,10 @@
 //! Reads of bits of words.
-ghost use Rattle.std.specs.Prelude.{◌≡◌, ◌*◌, ◌^◌, ◌<◌, ◌≤◌, length, SomeIff};
+ghost use Rattle.std.specs.Prelude.{◌≡◌, ◌*◌, ◌^◌, ◌<◌, ◌≤◌, ◌↔◌, IsTrue, length, SomeIff};
 ghost use Rattle.bitm_bits.specs.Bits.{bits_of, item};
 ghost use Rattle.bitm_bits.specs.Number.{number_at, IsInRange};
 ghost use Rattle.bitm_bits.specs.Window.{reach_of};
 
-use crate::masks::n_lowest_bits;
+use crate::masks::{n_lowest_bits, n_lowest_bits_0_64};
 
 /// The bit at `place`.
 ///
@@ -102,4 +102,34 @@ pub fn try_get_bits(words: &[u64], begin: usize, len: u8) -> Option<u64>
 {
     let wide = try_get_bits_unmasked(words, begin, len)?;
     Some(wide & n_lowest_bits(len))
+}
+
+/// Whether there is a bit at `begin`, and there are `len` bits from there on.
+///
+/// # Conditions
+/// `len` is 0 to 64.
+#[inline(always)]
+pub(crate) fn is_in_range(words: &[u64], begin: usize, len: u8) -> bool
+    requires { len ≤ 64 }
+    ensures { IsTrue result ↔ IsInRange words.now begin len }
+{
+    let (segment, offset) = (begin / 64, (begin % 64) as u8);
+    if offset + len <= 64 {
+        return segment < words.len();
+    }
+    segment + 1 < words.len()
+}
+
+/// The `len` bits from `begin` on as a number, lowest first, up to 64 of them; `None` exactly where they are not in range,
+/// or `len` is above 64.
+#[inline(always)]
+pub fn try_get_bits_0_64(words: &[u64], begin: usize, len: u8) -> Option<u64>
+    ensures { SomeIff result ((len ≤ 64) × IsInRange words.now begin len)
+        (number_at (bits_of words.now) begin len) }
+{
+    if len > 64 {
+        return None;
+    }
+    let wide = try_get_bits_unmasked(words, begin, len)?;
+    Some(wide & n_lowest_bits_0_64(len))
 }

@@ -1,11 +1,13 @@
 //! Writes of bits of words: all bits that a call does not name stay.
-ghost use Rattle.std.specs.Prelude.{◌≡◌, ◌*◌, ◌^◌, ◌<◌, ◌≤◌, length, bit_and, bit_or, if◌then◌else◌};
+ghost use Rattle.std.specs.Prelude.{◌≡◌, ◌-◌, ◌*◌, ◌%◌, ◌^◌, ◌<◌, ◌≤◌, ◌↔◌, IsTrue, false, length};
+ghost use Rattle.std.specs.Prelude.{bit_and, bit_or, if◌then◌else◌};
 ghost use Rattle.std.specs.Int.{bit_not, w64};
 ghost use Rattle.bitm_bits.specs.Bits.{bits_of};
 ghost use Rattle.bitm_bits.specs.Number.{with_number, IsClearOrAlready, IsFalseOrAlready, IsInRange};
 ghost use Rattle.bitm_bits.specs.Window.{with_flips};
 
-use crate::masks::n_lowest_bits;
+use crate::bitvec::reading::is_in_range;
+use crate::masks::{n_lowest_bits, n_lowest_bits_0_64};
 
 /// Replaces the bits of `mask` by those of `value`.
 #[inline(always)]
@@ -70,6 +72,23 @@ pub fn init_bit(words: &mut [u64], place: usize, value: bool)
     words[place / 64] |= (value as u64) << (place % 64);
 }
 
+/// Replaces the `len` bits from `begin` on by the number `v`, lowest first; the mask has the `len` lowest bits set.
+#[inline(always)]
+fn put_bits(words: &mut [u64], begin: usize, v: u64, len: u8, mask: u64)
+    requires in_range { IsInRange words.old begin len }
+    requires width { len ≤ 64 }
+    requires fits { v < 2 ^ len }
+    requires mask { mask ≡ 2 ^ len - 1 }
+    ensures { bits_of words.new ≡ with_number (bits_of words.old) begin len v }
+{
+    let (segment, offset) = (begin / 64, (begin % 64) as u8);
+    if offset + len > 64 {
+        let shift = 64 - offset;
+        set_bits_to(&mut words[segment + 1], v >> shift, mask >> shift);
+    }
+    set_bits_to(&mut words[segment], v << offset, mask << offset);
+}
+
 /// Replaces the `len` bits from `begin` on by the number `v`, lowest first.
 ///
 /// # Conditions
@@ -81,13 +100,24 @@ pub fn set_bits(words: &mut [u64], begin: usize, v: u64, len: u8)
     requires fits { v < 2 ^ len }
     ensures { bits_of words.new ≡ with_number (bits_of words.old) begin len v }
 {
-    let (segment, offset) = (begin / 64, (begin % 64) as u8);
-    let mask = n_lowest_bits(len);
-    if offset + len > 64 {
-        let shift = 64 - offset;
-        set_bits_to(&mut words[segment + 1], v >> shift, mask >> shift);
+    put_bits(words, begin, v, len, n_lowest_bits(len));
+}
+
+/// Replaces the `len` bits from `begin` on by the `len` lowest ones of `v`, lowest first, up to 64 of them. Answers false
+/// exactly where they are not in range, or `len` is above 64, and nothing is written then.
+#[inline(always)]
+pub fn try_set_bits_0_64(words: &mut [u64], begin: usize, v: u64, len: u8) -> bool
+    ensures done { IsTrue result ↔ (len ≤ 64) × IsInRange words.old begin len }
+    ensures value { IsTrue result
+        → bits_of words.new ≡ with_number (bits_of words.old) begin len (v % 2 ^ len) }
+    ensures kept { result ≡ false → words.new ≡ words.old }
+{
+    if len > 64 || !is_in_range(&*words, begin, len) {
+        return false;
     }
-    set_bits_to(&mut words[segment], v << offset, mask << offset);
+    let mask = n_lowest_bits_0_64(len);
+    put_bits(words, begin, v & mask, len, mask);
+    true
 }
 
 /// Makes the `len` bits from `begin` on, which are zeros or already the number `v`, the number `v`, lowest first.

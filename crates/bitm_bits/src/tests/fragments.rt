@@ -239,3 +239,23 @@ fn prefetch_leaves_the_words_as_they_are(rt: HostRuntime) {
     }
     assert_eq!(rt; content, [0b101, u64::MAX].as_slice());
 }
+
+#[test]
+fn ranges_and_fragments_of_64_bits_are_whole_words_or_parts_of_two(rt: HostRuntime) {
+    let mut array = [0u64, u64::MAX];
+    let content = array.as_mut_slice();
+    assert_eq!(rt; words::try_set_bits_0_64(content, 60, P, 64), true);
+    assert_eq!(rt; words::try_get_bits_0_64(content, 60, 64), Some(P));
+    assert_eq!(rt; words::try_get_bits_0_64(content, 60, 65), None);
+    assert_eq!(rt; words::try_set_bits_0_64(content, 65, 0, 64), false);
+    assert_eq!(rt; words::try_get_fragment_0_64(content, 0, 64), Some(P << 60));
+    assert_eq!(rt;
+        words::try_set_fragment_0_64(content, 1, u64::MAX, 64),
+        true
+    );
+    assert_eq!(rt;
+        words::try_get_fragment_0_64(content, 1, 64),
+        Some(u64::MAX)
+    );
+    assert_eq!(rt; words::try_get_fragment_0_64(content, 2, 64), None);
+}

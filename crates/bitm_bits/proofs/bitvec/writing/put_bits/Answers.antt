@@ -2,8 +2,8 @@
 use Rattle.std.proofs.Common.{◌/◌, set, ap, ◌∙◌, arith}
 use Rattle.bitm_bits.specs.Bits.{bits_of}
 use Rattle.bitm_bits.proofs.lemmas.WriteLemmas.{set_bits_within, set_bits_across}
-use Rattle.bitm_bits.proofs.bitvec.writing.set_bits.Goals as goal
-use Rattle.bitm_bits.proofs.bitvec.writing.set_bits.Goals.{then-offset-len-gt64, else-offset-len-gt64}
+use Rattle.bitm_bits.proofs.bitvec.writing.put_bits.Goals as goal
+use Rattle.bitm_bits.proofs.bitvec.writing.put_bits.Goals.{then-offset-len-gt64, else-offset-len-gt64}
 
 pub returns : goal.returns
 returns c =
@@ -12,10 +12,10 @@ returns c =
     let n = c.args.len in
     elim c.if-offset-len-gt64.branch [
       | then-offset-len-gt64 w ↦
-          set_bits_across words _ s n c.args.v _ _ _ c.requires.in_range (omega arith) (omega arith) c.requires.fits
-          c.n_lowest_bits-mask.ensures w.words-is w.set_bits_to.ensures c.set_bits_to-2.ensures
+          set_bits_across words _ s n c.args.v _ _ _ c.requires.in_range (omega arith) c.requires.width c.requires.fits
+          c.requires.mask w.words-is w.set_bits_to.ensures c.set_bits_to-2.ensures
       | else-offset-len-gt64 w ↦
           ap (λ b. bits_of (set b (s / 64) c.set_bits_to-2.new.word)) w.words-is
-          ∙ set_bits_within words s n c.args.v _ _ c.requires.in_range (omega arith) c.requires.fits c.n_lowest_bits-mask.ensures
+          ∙ set_bits_within words s n c.args.v _ _ c.requires.in_range (omega arith) c.requires.fits c.requires.mask
           (rw w.words-is at c.set_bits_to-2.ensures)
     ]
