@@ -120,8 +120,8 @@ uint32_t bitm_ones(const uint64_t *words, size_t words_len, size_t from, uint64_
 uint32_t bitm_get_bit(const uint64_t *words, size_t words_len, size_t index, uint64_t *out);
 uint32_t bitm_set_bit(uint64_t *words, size_t words_len, size_t index, bool value);
 
-/* The number that the len bits from begin on are, lowest first; 0 to 63 bits. BITM_NONE where begin is no place,
- * begin + len is past the end, or len is above 63. The bits of value from len on are passed over. */
+/* The number that the len bits from begin on are, lowest first; 0 to 64 bits. BITM_NONE where begin is no place,
+ * begin + len is past the end, or len is above 64. The bits of value from len on are passed over. */
 uint32_t bitm_get_bits(const uint64_t *words, size_t words_len, size_t begin, uint32_t len, uint64_t *out);
 uint32_t bitm_set_bits(uint64_t *words, size_t words_len, size_t begin, uint32_t len, uint64_t value);
 

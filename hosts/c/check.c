@@ -235,8 +235,12 @@ static void bits_and_fragments(void)
     MUST(bitm_get_bits(words, 3, 59, 12, &got) == BITM_OK && got == 0x7FE);
     MUST(bitm_get_bits(words, 3, 181, 12, &got) == BITM_NONE);
     MUST(bitm_get_bits(words, 3, SIZE_MAX, 60, &got) == BITM_NONE);
-    MUST(bitm_get_bits(words, 3, 0, 64, &got) == BITM_NONE);
+    MUST(bitm_get_bits(words, 3, 0, 65, &got) == BITM_NONE && bitm_set_bits(words, 3, 0, 65, 0) == BITM_NONE);
     MUST(bitm_get_bits(words, 3, 0, UINT32_MAX, &got) == BITM_NONE);
+    MUST(bitm_get_bits(words, 3, 6, 64, &got) == BITM_OK && got == ((uint64_t)0x3FF << 54));
+    MUST(bitm_set_bits(words, 3, 6, 64, 0x123456789ABCDEF0) == BITM_OK && words[0] == 0x8D159E26AF37BC00);
+    MUST(words[1] == 4 && bitm_get_bits(words, 3, 6, 64, &got) == BITM_OK && got == 0x123456789ABCDEF0);
+    MUST(bitm_get_bits(words, 3, 129, 64, &got) == BITM_NONE && bitm_set_bits(words, 3, 129, 64, 0) == BITM_NONE);
     MUST(bitm_set_bits(words, 3, 128, 63, UINT64_MAX) == BITM_OK && words[2] == UINT64_MAX >> 1);
     for (size_t i = 0; i < 14; i++) /* numbers of 13 bits, of which 14 fit in 192 */
         MUST(bitm_set_fragment(words, 3, i, 13, i * 500) == BITM_OK);
@@ -245,7 +249,10 @@ static void bits_and_fragments(void)
     MUST(bitm_get_fragment(words, 3, 14, 13, &got) == BITM_NONE && bitm_set_fragment(words, 3, 14, 13, 0) == BITM_NONE);
     MUST(bitm_get_fragment(words, 3, SIZE_MAX, 63, &got) == BITM_NONE);
     MUST(bitm_set_fragment(words, 3, SIZE_MAX, 63, 0) == BITM_NONE);
-    MUST(bitm_set_fragment(words, 3, 1, 64, 0) == BITM_NONE);
+    MUST(bitm_set_fragment(words, 3, 1, 64, 77) == BITM_OK && words[1] == 77);
+    MUST(bitm_get_fragment(words, 3, 1, 64, &got) == BITM_OK && got == 77);
+    MUST(bitm_get_fragment(words, 3, 3, 64, &got) == BITM_NONE && bitm_set_fragment(words, 3, 3, 64, 0) == BITM_NONE);
+    MUST(bitm_set_fragment(words, 3, 1, 65, 0) == BITM_NONE && bitm_set_fragment(words, 3, 0, 257, 0) == BITM_NONE);
 }
 
 /* A header says what it was written for, and no other number of words. */

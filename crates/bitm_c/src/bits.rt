@@ -5,7 +5,7 @@ ghost use Rattle.bitm_bits.specs.Count.{ones_of};
 ghost use Rattle.bitm_bits.specs.Number.{number_at, with_number, IsFragmentInRange, IsInRange};
 
 use crate::answer::{BAD_SIZE, NONE, OK, tell};
-use bitm::{n_lowest_bits, words as slices};
+use bitm::words as slices;
 
 /// How many ones the words have.
 #[unsafe(no_mangle)]
@@ -49,62 +49,68 @@ pub extern "C" fn bitm_set_bit(words: &mut [u64], index: usize, value: bool) -> 
     OK
 }
 
-/// The number that `len` bits from `begin` on are, lowest first.
+/// The number that `len` bits from `begin` on are, lowest first; 0 to 64 bits.
 #[unsafe(no_mangle)]
 pub extern "C" fn bitm_get_bits(words: &[u64], begin: usize, len: u32, out: &mut u64) -> u32
-    ensures ok { (result ≡ 0) ↔ (len ≤ 63) × IsInRange words.now begin len }
+    ensures ok { (result ≡ 0) ↔ (len ≤ 64) × IsInRange words.now begin len }
     ensures number { result ≡ 0 → out.new ≡ number_at (bits_of words.now) begin len }
     ensures kept { result ≢ 0 → (result ≡ 1) × (out.new ≡ out.old) }
 {
-    if len > 63 {
+    if len > 64 {
         return NONE;
     }
-    tell(slices::try_get_bits(words, begin, len as u8), out)
+    tell(slices::try_get_bits_0_64(words, begin, len as u8), out)
 }
 
-/// Replaces the `len` bits from `begin` on by the lowest ones of `value`, lowest first.
+/// Replaces the `len` bits from `begin` on by the lowest ones of `value`, lowest first; 0 to 64 bits.
 #[unsafe(no_mangle)]
 pub extern "C" fn bitm_set_bits(words: &mut [u64], begin: usize, len: u32, value: u64) -> u32
-    ensures ok { (result ≡ 0) ↔ (len ≤ 63) × IsInRange words.old begin len }
+    ensures ok { (result ≡ 0) ↔ (len ≤ 64) × IsInRange words.old begin len }
     ensures number { result ≡ 0 → bits_of words.new
         ≡ with_number (bits_of words.old) begin len (value % 2 ^ len) }
     ensures kept { result ≢ 0 → (result ≡ 1) × (words.new ≡ words.old) }
 {
-    if len > 63 {
+    if len > 64 {
         return NONE;
     }
-    match slices::try_get_bits(&*words, begin, len as u8) {
-        Some(_) => {
-            slices::set_bits(words, begin, value & n_lowest_bits(len as u8), len as u8);
-            OK
-        }
-        None => NONE,
-    }
+    done(slices::try_set_bits_0_64(words, begin, value, len as u8))
 }
 
-/// Fragment `index` of the fragments of `width` bits, as a number, lowest bit first.
+/// Fragment `index` of the fragments of `width` bits, as a number, lowest bit first; 0 to 64 bits.
 #[unsafe(no_mangle)]
 pub extern "C" fn bitm_get_fragment(words: &[u64], index: usize, width: u32, out: &mut u64) -> u32
-    ensures ok { (result ≡ 0) ↔ (width ≤ 63) × IsFragmentInRange words.now index width }
+    ensures ok { (result ≡ 0) ↔ (width ≤ 64) × IsFragmentInRange words.now index width }
     ensures number { result ≡ 0 → out.new ≡ number_at (bits_of words.now) (index * width) width }
     ensures kept { result ≢ 0 → (result ≡ 1) × (out.new ≡ out.old) }
 {
-    if width > 63 {
+    if width > 64 {
         return NONE;
     }
-    tell(slices::try_get_fragment(words, index, width as u8), out)
+    tell(
+        slices::try_get_fragment_0_64(words, index, width as u8),
+        out,
+    )
 }
 
-/// Replaces fragment `index` of the fragments of `width` bits by the lowest ones of `value`, lowest first.
+/// Replaces fragment `index` of the fragments of `width` bits by the lowest ones of `value`, lowest first; 0 to 64
+/// bits.
 #[unsafe(no_mangle)]
 pub extern "C" fn bitm_set_fragment(words: &mut [u64], index: usize, width: u32, value: u64) -> u32
-    ensures ok { (result ≡ 0) ↔ (width ≤ 63) × IsFragmentInRange words.old index width }
+    ensures ok { (result ≡ 0) ↔ (width ≤ 64) × IsFragmentInRange words.old index width }
     ensures number { result ≡ 0 → bits_of words.new
         ≡ with_number (bits_of words.old) (index * width) width (value % 2 ^ width) }
     ensures kept { result ≢ 0 → (result ≡ 1) × (words.new ≡ words.old) }
 {
-    match index.checked_mul(width as usize) {
-        Some(begin) => bitm_set_bits(words, begin, width, value),
-        None => NONE,
+    if width > 64 {
+        return NONE;
     }
+    done(slices::try_set_fragment_0_64(words, index, value, width as u8))
+}
+
+/// The status of a write that was made, or of none.
+#[inline(always)]
+fn done(made: bool) -> u32
+    ensures { result ≡ (if made then 0 else 1) }
+{
+    if made { OK } else { NONE }
 }
