@@ -1,5 +1,6 @@
 //! The parts of a sequence, made into memory that is lent.
-ghost use Rattle.std.specs.Prelude.{◌≡◌, ◌↔◌, IsErrOf, IfOk, IsErr, SomeIff, length, replicate};
+ghost use Rattle.std.specs.Prelude.{◌≡◌, ◌%◌, ◌≤◌, ◌↔◌, ℕ, IsErrOf, IfOk, IsErr, SomeIff, length};
+ghost use Rattle.std.specs.Prelude.{replicate, slice_index};
 ghost use Rattle.bitm_lent.specs.Sizes.{listed};
 ghost use Rattle.elias_fano.specs.Parts.{width_of};
 ghost use Rattle.elias_fano.specs.Sequence.{HasFall};
@@ -11,13 +12,27 @@ use crate::sizes::Sizes;
 use elias_fano::building::{is_rising, largest_of, write_low, write_upper};
 use elias_fano::laws;
 
+/// Makes every second word a zero, from the first or the second on.
+#[inline(always)]
+fn clear_half(words: &mut [u64], first: usize)
+    requires { first ≤ 1 }
+    ensures zeros { (j : ℕ) → j % 2 ≡ first → slice_index words.new j ≡ 0 }
+    ensures kept { (j : ℕ) → slice_index words.old j ≡ 0 → slice_index words.new j ≡ 0 }
+{
+    for k in 0..(words.len() / 2 + words.len() % 2) {
+        if 2 * k + first < words.len() {
+            words[2 * k + first] = 0;
+        }
+    }
+}
+
 /// Makes all words zeros.
 fn clear(words: &mut [u64])
     ensures { words.new ≡ replicate (length words.old) 0 }
 {
-    for word in words.iter_mut() {
-        *word = 0;
-    }
+    // A loop over all words would be compiled to a call of C's `memset`, and the archive for C calls nothing.
+    clear_half(&mut *words, 0);
+    clear_half(words, 1);
 }
 
 /// How many low digits each of the numbers has, if the parts have the lengths that theirs have.

@@ -1,6 +1,0 @@
-use Rattle.std.proofs.Common.{◌≡◌, ℕ, ◌<◌, slice_index}
-use Rattle.elias_fano_lent.proofs.filling.clear.Given as goal
-
--- zeros so far
-abbrev pub invariant-loop-word : goal.invariant-loop-word
-invariant-loop-word l = (j : ℕ) → j < l.word-index → slice_index l.words j ≡ 0
