@@ -1,4 +1,5 @@
-/* Rank and select over bits in memory of the caller's: words, and two tables of counts beside them.
+/* Rank and select over bits in memory of the caller's: words, and two tables of counts beside them. And sequences of
+ * numbers that never fall, in words of the caller's with such tables.
  *
  * Bit i of the words is bit i % 64, lowest first, of words[i / 64]. Words and tables lie in memory of the caller's,
  * as in a mapped file; no call allocates, keeps a pointer or has a state, so any number of threads may ask at once.
@@ -15,10 +16,11 @@
  *   - whatever the tables hold, rank is BITM_OK exactly where there are so many bits, and a place that selection finds
  *     is inside and has the bit that was asked;
  *   - where the tables are those of the words, the answer is plain counting, and no call says BITM_WRONG: so it is of
- *     tables that bitm_build made or that bitm_check passes, as long as neither words nor tables change in between.
+ *     tables that bitm_build made or that bitm_check passes, as long as neither words nor tables change in between;
+ *   - the same of sequences: with the parts that bitm_sequence_build made, the answers are those of the numbers.
  *
  * Cost: the reads that are named are proved, of all tables, right or wrong, of the library's calls that these exports
- * make (crates/bitm_lent). Time is not proved.
+ * make (crates/bitm_lent, crates/elias_fano_lent). Time is not proved.
  *
  * The caller's duties, as of each C function that takes pointers (nothing here can test them):
  *   - a pointer to n numbers is aligned to 8 bytes, and n numbers can be read there; it may be NULL where n is 0;
@@ -46,7 +48,8 @@ enum bitm_status {
     BITM_OK = 0,       /* the answer was written */
     BITM_NONE = 1,     /* there is no such place or bit */
     BITM_BAD_SIZE = 2, /* a length is not as it has to be: see each call */
-    BITM_WRONG = 3     /* the tables are not those of the words, or the header is none */
+    BITM_WRONG = 3,    /* the tables are not those of the words, the parts of no sequence, or the header is none */
+    BITM_UNSORTED = 4  /* a number is less than the one before it */
 };
 
 /* In a list of answers: there is no such place or bit; the tables are not those of the words. */
@@ -128,6 +131,61 @@ uint32_t bitm_set_bits(uint64_t *words, size_t words_len, size_t begin, uint32_t
 /* The same of the width bits from index * width on: fragment index of an array of numbers of width bits. */
 uint32_t bitm_get_fragment(const uint64_t *words, size_t words_len, size_t index, uint32_t width, uint64_t *out);
 uint32_t bitm_set_fragment(uint64_t *words, size_t words_len, size_t index, uint32_t width, uint64_t value);
+
+/* ---- sequences of numbers that never fall */
+
+/* The parts of a sequence of len numbers, by pointers and numbers of items: width low digits of each number in low, the
+ * rest as ones in words, and the two tables of these words. The duties are those of a bitm_view. Calls that take one
+ * answer BITM_BAD_SIZE where len is 2^56 or more, width is above 63, low has not as many words as len * width bits
+ * take, or words and tables do not fit together as in a bitm_view. */
+struct bitm_sequence_view {
+    size_t len;
+    uint64_t width;
+    const uint64_t *low;
+    size_t low_len;
+    const uint64_t *words;
+    size_t words_len;
+    const uint64_t *upper;
+    size_t upper_len;
+    const uint64_t *lower;
+    size_t lower_len;
+};
+
+/* How many low digits each number has, and how many numbers each part. */
+struct bitm_sequence_lens {
+    uint64_t width;
+    uint64_t low_len;
+    uint64_t words_len;
+    uint64_t upper_len;
+    uint64_t lower_len;
+};
+
+/* The sizes of len numbers of which the last, and so the largest, is largest; of no numbers that is 0. BITM_BAD_SIZE
+ * where len is 2^56 or more, or len is 0 and largest is not. low and words together have at most
+ * len * (width + 3) + 126 bits. */
+uint32_t bitm_sequence_sizes(size_t len, uint64_t largest, struct bitm_sequence_lens *out);
+
+/* Writes the parts of a sequence of the items, and width. BITM_OK; BITM_BAD_SIZE where a length is not what
+ * bitm_sequence_sizes says of items_len and the last item; else BITM_UNSORTED where an item is less than the one before
+ * it. Goes over the items twice and over the words once; what was in the parts' memory is not read. */
+uint32_t bitm_sequence_build(const uint64_t *items, size_t items_len, uint64_t *low, size_t low_len, uint64_t *words,
+                             size_t words_len, uint64_t *upper, size_t upper_len, uint64_t *lower, size_t lower_len,
+                             uint64_t *width);
+
+/* Number index, counted from 0. BITM_NONE exactly where index is len or more, whatever the parts hold; BITM_WRONG where
+ * the parts turn out to be those of no sequence. Reads what a selection reads, and one fragment of low. */
+uint32_t bitm_sequence_get(const struct bitm_sequence_view *view, size_t index, uint64_t *out);
+
+/* The least place whose number is at least value. BITM_NONE where each number is less, BITM_WRONG where the parts turn
+ * out to be those of no sequence; a place is below len, whatever the parts hold. Reads what two selections read, and
+ * one fragment of low for each binary digit of how many numbers share the upper digits of value. */
+uint32_t bitm_sequence_first_at_least(const struct bitm_sequence_view *view, uint64_t value, uint64_t *out);
+
+/* The numbers at a list of places, as bitm_sequence_get answers them, up to the first place for which it does not say
+ * BITM_OK; written is how many these are, and what stands behind them in out stays. BITM_OK, or BITM_BAD_SIZE (also
+ * where out_len is not queries_len), which writes nothing. */
+uint32_t bitm_sequence_get_list(const struct bitm_sequence_view *view, const uint64_t *queries, size_t queries_len,
+                                uint64_t *out, size_t out_len, uint64_t *written);
 
 /* ---- what a file begins with */
 

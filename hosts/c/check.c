@@ -9,9 +9,6 @@
 #include <sys/mman.h>
 #include <unistd.h>
 
-/* A number that no call writes where it answers no BITM_OK. */
-#define UNTOUCHED 77
-
 /* Every rank and every selection, one by one. Answers the number of ones. */
 static uint64_t single_queries(const struct bitm_view *view)
 {

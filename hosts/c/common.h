@@ -15,6 +15,9 @@
         }                                                                          \
     } while (0)
 
+/* A number that no call writes where it answers no BITM_OK. */
+#define UNTOUCHED 77
+
 static uint64_t seed = 0x9E3779B97F4A7C15u;
 
 static inline uint64_t draw(void)

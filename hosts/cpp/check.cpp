@@ -1,6 +1,7 @@
-// The header in C++: a class that keeps words and tables in vectors, and a comparison with a plain loop.
+// The header in C++: classes that keep words and tables, and sequences, in vectors; compared with a plain loop.
 #include "../../include/bitm.h"
 
+#include <algorithm>
 #include <cstdio>
 #include <cstdlib>
 #include <optional>
@@ -42,6 +43,39 @@ private:
     std::uint64_t ones_ = 0;
 };
 
+// Numbers that never fall, of which the constructor makes the parts.
+class Sequence {
+public:
+    explicit Sequence(const std::vector<std::uint64_t> &items) : len_(items.size())
+    {
+        bitm_sequence_lens of;
+        if (bitm_sequence_sizes(len_, items.empty() ? 0 : items.back(), &of) != BITM_OK) std::abort();
+        low_.resize(of.low_len), words_.resize(of.words_len), upper_.resize(of.upper_len), lower_.resize(of.lower_len);
+        if (bitm_sequence_build(items.data(), len_, low_.data(), low_.size(), words_.data(), words_.size(),
+                                upper_.data(), upper_.size(), lower_.data(), lower_.size(), &width_) != BITM_OK)
+            std::abort();
+    }
+
+    std::optional<std::uint64_t> get(std::size_t index) const { return ask(bitm_sequence_get, index); }
+    std::optional<std::uint64_t> first_at_least(std::uint64_t value) const
+    {
+        return ask(bitm_sequence_first_at_least, value);
+    }
+
+private:
+    template <class Call> std::optional<std::uint64_t> ask(Call call, std::uint64_t query) const
+    {
+        const bitm_sequence_view lent = {len_,          width_,         low_.data(),  low_.size(),   words_.data(),
+                                         words_.size(), upper_.data(), upper_.size(), lower_.data(), lower_.size()};
+        std::uint64_t out;
+        return call(&lent, query, &out) == BITM_OK ? std::optional(out) : std::nullopt;
+    }
+
+    std::size_t len_;
+    std::uint64_t width_ = 0;
+    std::vector<std::uint64_t> low_, words_, upper_, lower_;
+};
+
 void must(bool so, const char *what)
 {
     if (so) return;
@@ -68,6 +102,19 @@ int main()
         }
         must(index.ones() == ones && index.rank(n * 64) == ones && !index.rank(n * 64 + 1), "the end");
         must(!index.select(ones) && !index.select0(zeros), "none left");
+    }
+    for (std::size_t n : {0, 1, 7, 300}) {
+        std::vector<std::uint64_t> items(n);
+        for (auto &item : items) item = draw() >> 50;
+        std::sort(items.begin(), items.end());
+        const Sequence sequence(items);
+        for (std::size_t i = 0; i < n; i++) must(sequence.get(i) == items[i], "get");
+        must(!sequence.get(n), "no number");
+        for (std::uint64_t value = 0; value < 1 << 14; value++) {
+            const auto place = std::lower_bound(items.begin(), items.end(), value) - items.begin();
+            const auto found = sequence.first_at_least(value);
+            must(found ? *found == std::uint64_t(place) : std::size_t(place) == n, "first_at_least");
+        }
     }
     std::puts("C++ host: all answers as the plain loop's");
 }

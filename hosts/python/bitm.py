@@ -1,16 +1,19 @@
-"""Rank and select of the proved archive over any buffers, without a copy: `array`, `mmap`, NumPy arrays, `bytes`.
+"""Rank, select and sequences of the proved archive, over any buffers without a copy: `array`, `mmap`, NumPy, `bytes`.
 
     library = bitm.Library("libbitm.so")            # a shared object of the archive, as `make install` makes it
     upper, lower = library.tables(words)            # two arrays, filled
     with library.over(words, upper, lower) as index:
         index.rank(100), index.select(17), index.select_list([1, 2, 3])
+    parts = library.sequence_parts(numbers)         # numbers that never fall: a width and four arrays
+    with library.sequence(len(numbers), *parts) as sequence:
+        sequence.get(4), sequence.first_at_least(8), sequence.get_list([1, 2, 3])
 
 A buffer is read as numbers of 8 bytes in this machine's order. Only ctypes is needed.
 """
 import array
 import ctypes
 
-OK, NONE, BAD_SIZE, WRONG = range(4)
+OK, NONE, BAD_SIZE, WRONG, UNSORTED = range(5)
 NO_ANSWER, WRONG_TABLES = 2**64 - 1, 2**64 - 2
 
 STATUS, SIZE, U32, U64, BOOL = ctypes.c_uint32, ctypes.c_size_t, ctypes.c_uint32, ctypes.c_uint64, ctypes.c_bool
@@ -29,7 +32,20 @@ class Header(ctypes.Structure):
     _fields_ = [("mark", U64), ("words_len", U64), ("upper_len", U64), ("lower_len", U64)]
 
 
+class SequenceView(ctypes.Structure):
+    """`struct bitm_sequence_view`."""
+
+    _fields_ = [("len", SIZE), ("width", U64), ("low", IN), ("low_len", SIZE)] + View._fields_
+
+
+class SequenceLens(ctypes.Structure):
+    """`struct bitm_sequence_lens`."""
+
+    _fields_ = [("width", U64), ("low_len", U64), ("words_len", U64), ("upper_len", U64), ("lower_len", U64)]
+
+
 VIEW, HEADER = ctypes.POINTER(View), ctypes.POINTER(Header)
+SEQUENCE, SIZES = ctypes.POINTER(SequenceView), ctypes.POINTER(SequenceLens)
 WORDS, LIST, ROOM = [IN, SIZE], [IN, SIZE], [OUT, SIZE]
 
 # What each export answers and takes; scripts/headers compares this with the exports.
@@ -54,13 +70,18 @@ DECLARATIONS = {
     "bitm_set_bits": (STATUS, WORDS + [SIZE, U32, U64]),
     "bitm_get_fragment": (STATUS, WORDS + [SIZE, U32, OUT]),
     "bitm_set_fragment": (STATUS, WORDS + [SIZE, U32, U64]),
+    "bitm_sequence_sizes": (STATUS, [SIZE, U64, SIZES]),
+    "bitm_sequence_build": (STATUS, LIST + ROOM + ROOM + ROOM + ROOM + [OUT]),
+    "bitm_sequence_get": (STATUS, [SEQUENCE, SIZE, OUT]),
+    "bitm_sequence_first_at_least": (STATUS, [SEQUENCE, U64, OUT]),
+    "bitm_sequence_get_list": (STATUS, [SEQUENCE] + LIST + ROOM + [OUT]),
     "bitm_write_header": (STATUS, [SIZE, HEADER]),
     "bitm_read_header": (STATUS, [HEADER, OUT]),
 }
 
 
 class WrongTables(Exception):
-    """The tables are not those of the words."""
+    """The tables are not those of the words, or the parts are those of no sequence."""
 
 
 class _PyBuffer(ctypes.Structure):
@@ -130,6 +151,28 @@ class Library:
         upper, lower = (array.array("Q", bytes(8 * n)) for n in lens)
         self.build(words, upper, lower)
         return upper, lower
+
+    def sequence(self, length, width, low, words, upper, lower):
+        """The sequence over parts in buffers, as a context; ValueError where a length is not right."""
+        return Sequence(self, length, width, low, words, upper, lower)
+
+    def sequence_parts(self, numbers):
+        """The parts of a sequence of the numbers in a buffer: its width, and four new arrays."""
+        sizes, width = SequenceLens(), U64()
+        with _Lent(numbers) as n:
+            last = ctypes.c_uint64.from_address(n.address + 8 * (n.len - 1)).value if n.len else 0
+            if self.bitm_sequence_sizes(n.len, last, ctypes.byref(sizes)) != OK:
+                raise ValueError("too many numbers")
+            lens = sizes.low_len, sizes.words_len, sizes.upper_len, sizes.lower_len
+            made = [array.array("Q", bytes(8 * count)) for count in lens]
+            rooms = [_Lent(part, True) for part in made]
+            parts = [part for room in rooms for part in (room.address, room.len)]
+            status = self.bitm_sequence_build(n.address, n.len, *parts, ctypes.byref(width))
+            for room in rooms:
+                room.release()
+        if status != OK:
+            raise ValueError("a number is less than the one before it")
+        return width.value, *made
 
     def ones(self, words, start=0, most=1 << 16):
         """The places of the ones from a place on, no more than so many, as an array."""
@@ -212,3 +255,59 @@ class Index:
             with _Lent(out, True) as o:
                 call(self._at, q.address, q.len, o.address, o.len)
         return out
+
+
+class Sequence:
+    """Numbers that never fall, in parts in buffers that stay in place until the context ends."""
+
+    def __init__(self, library, length, width, low, words, upper, lower):
+        self._library = library
+        self._lent = [_Lent(part) for part in (low, words, upper, lower)]
+        parts = (part for lent in self._lent for part in (lent.address, lent.len))
+        self._view = SequenceView(length, width, *parts)
+        self._at = ctypes.byref(self._view)
+        if library.bitm_sequence_get(self._at, 0, ctypes.byref(U64())) == BAD_SIZE:
+            self.close()
+            raise ValueError("a part is not as long as that of so many numbers")
+
+    def __len__(self):
+        return self._view.len
+
+    def get(self, index):
+        """The number at a place; None where there is none."""
+        return self._ask(self._library.bitm_sequence_get, index)
+
+    def first_at_least(self, value):
+        """The least place whose number is at least a value; None where each number is less."""
+        return self._ask(self._library.bitm_sequence_first_at_least, value)
+
+    def get_list(self, places):
+        """An array of the numbers at a buffer or a list of places, up to the first place that has none."""
+        asked = array.array("Q", places) if isinstance(places, (list, tuple, range)) else places
+        written = U64()
+        with _Lent(asked) as q:
+            out = array.array("Q", bytes(8 * q.len))
+            with _Lent(out, True) as o:
+                end = ctypes.byref(written)
+                self._library.bitm_sequence_get_list(self._at, q.address, q.len, o.address, o.len, end)
+        return out[: written.value]
+
+    def close(self):
+        """Gives the buffers back."""
+        for lent in self._lent:
+            lent.release()
+        self._view = SequenceView()
+        self._at = ctypes.byref(self._view)
+
+    def __enter__(self):
+        return self
+
+    def __exit__(self, *_):
+        self.close()
+
+    def _ask(self, call, query):
+        out = U64()
+        status = call(self._at, query, ctypes.byref(out))
+        if status == WRONG:
+            raise WrongTables()
+        return out.value if status == OK else None

@@ -1,7 +1,8 @@
-"""Asks an index over arrays, a mapped file and NumPy arrays, and compares every answer with a plain loop.
+"""Asks an index and sequences over arrays, a mapped file and NumPy arrays, and compares the answers with plain loops.
 
 The argument is the shared object of the archive."""
 import array
+import bisect
 import mmap
 import random
 import sys
@@ -83,6 +84,37 @@ def over_a_mapped_file(n):
                 part.release()
 
 
+def over_numbers(numbers, buffer):
+    """A sequence of the numbers, which the buffer holds: each number, each place, and numbers in between."""
+    parts = library.sequence_parts(buffer)
+    with library.sequence(len(numbers), *parts) as sequence:
+        assert len(sequence) == len(numbers) and sequence.get(len(numbers)) is None
+        for i, number in enumerate(numbers):
+            assert sequence.get(i) == number
+            for value in (number, number - 1, number + 1):
+                if 0 <= value < 2**64:
+                    place = bisect.bisect_left(numbers, value)
+                    assert sequence.first_at_least(value) == (place if place < len(numbers) else None)
+        assert list(sequence.get_list(range(len(numbers) + 3))) == numbers
+    if len(parts[2]):
+        # Spoilt words: a number, none, or a word that the parts are those of no sequence.
+        parts[2][len(parts[2]) // 2] ^= 0xFFFF
+        with library.sequence(len(numbers), *parts) as sequence:
+            for i in range(len(numbers)):
+                try:
+                    sequence.get(i), sequence.first_at_least(numbers[i])
+                except bitm.WrongTables:
+                    pass
+
+
+def sequences(n):
+    for bits in (1, 8, 40, 64):
+        numbers = sorted(random.getrandbits(bits) for _ in range(n))
+        over_numbers(numbers, array.array("Q", numbers))
+    assert refused(lambda: library.sequence_parts(array.array("Q", [2, 1])))
+    assert refused(lambda: library.sequence(n + 64, 1, b"", b"", b"", b""))
+
+
 def over_numpy(n):
     try:
         import numpy
@@ -93,10 +125,13 @@ def over_numpy(n):
     with library.over(words, upper, lower) as index:
         against_a_loop([int(word) for word in words], index)
         assert list(index.rank_list(numpy.arange(64 * n, dtype=numpy.uint64)))[-1] == index.rank(64 * n - 1)
+    numbers = numpy.sort(numpy.array([random.getrandbits(60) for _ in range(n)], dtype=numpy.uint64))
+    over_numbers([int(number) for number in numbers], numbers)
     return "NumPy arrays too"
 
 
 for n in (0, 1, 8, 33, 100):
     over_arrays(n)
     over_a_mapped_file(n)
+    sequences(n)
 print(f"python host: all answers as the plain loop's; {over_numpy(40)}")

@@ -16,6 +16,9 @@ pub(crate) const BAD_SIZE: u32 = 2;
 /// The tables are not those of the words; nothing was written.
 pub(crate) const WRONG: u32 = 3;
 
+/// A number is less than the one before it; nothing was written.
+pub(crate) const UNSORTED: u32 = 4;
+
 /// Writes the number that was found.
 #[inline(always)]
 pub(crate) fn tell<T: Copy>(found: Option<T>, out: &mut T) -> u32

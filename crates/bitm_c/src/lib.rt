@@ -10,4 +10,5 @@ mod header;
 mod index;
 mod lists;
 mod places;
+mod sequence;
 mod view;

@@ -1,6 +1,7 @@
-//! Builds an index over a vector's words, asks it through the safe wrapper, and compares every answer with a plain
-//! loop.
-use bitm_host::{build, ones, table_lens, Lent, WrongTables};
+//! Builds an index over a vector's words, and sequences of numbers, asks them through the safe wrapper, and compares
+//! every answer with a plain loop.
+use bitm_host::{build, build_sequence, ones, sequence_sizes, table_lens};
+use bitm_host::{Lent, Sequence, Unbuilt, WrongParts, WrongTables};
 
 fn drawn(seed: &mut u64) -> u64 {
     *seed ^= *seed << 13;
@@ -45,6 +46,38 @@ fn against_a_loop(words: &[u64], upper: &[u64], lower: &[u64], total: u64) {
     assert_eq!(ones(words, 0, &mut room), Some(&places[..]));
 }
 
+/// Each number, each place and the values beside a number; then the same of spoilt words.
+fn sequence_against_a_loop(items: &[u64]) {
+    let of = sequence_sizes(items.len(), items.last().copied().unwrap_or(0)).expect("not too many");
+    let part = |n: u64| vec![7u64; n as usize];
+    let (mut low, mut words) = (part(of.low_len), part(of.words_len));
+    let (mut upper, mut lower) = (part(of.upper_len), part(of.lower_len));
+    let short = build_sequence(items, &mut low, &mut words, &mut upper, &mut []);
+    assert_eq!(short, Err(Unbuilt::WrongLength));
+    let width = build_sequence(items, &mut low, &mut words, &mut upper, &mut lower);
+    assert_eq!(width, Ok(of.width));
+    assert!(Sequence::over(items.len(), 64, &low, &words, &upper, &lower).is_none());
+    let made = Sequence::over(items.len(), of.width, &low, &words, &upper, &lower).expect("fits");
+    for (i, item) in items.iter().enumerate() {
+        assert_eq!(made.get(i), Ok(Some(*item)));
+        for value in [item.saturating_sub(1), *item, item.saturating_add(1)] {
+            let place = items.partition_point(|x| *x < value);
+            let want = (place < items.len()).then_some(place as u64);
+            assert_eq!(made.first_at_least(value), Ok(want));
+        }
+    }
+    assert_eq!(made.get(items.len()), Ok(None));
+    let places: Vec<u64> = (0..=items.len() as u64).collect();
+    let mut out = part(places.len() as u64);
+    assert_eq!(made.get_list(&places, &mut out), Some(items));
+    assert_eq!(made.get_list(&places, &mut out[1..]), None);
+    words.fill(0);
+    let spoilt = Sequence::over(items.len(), of.width, &low, &words, &upper, &lower).expect("fits");
+    for i in 0..items.len() {
+        assert_eq!(spoilt.get(i), Err(WrongParts));
+    }
+}
+
 fn main() {
     let mut seed = 0x2545F4914F6CDD1D;
     let mut contents = 0;
@@ -71,6 +104,11 @@ fn main() {
             }
         }
         contents += 1;
+    }
+    for n in [0usize, 1, 7, 300] {
+        let mut items: Vec<u64> = (0..n).map(|_| drawn(&mut seed) >> 20).collect();
+        items.sort_unstable();
+        sequence_against_a_loop(&items);
     }
     println!("rust host: {contents} contents, all answers as the plain loop's");
 }

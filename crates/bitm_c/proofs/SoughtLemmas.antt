@@ -1,0 +1,77 @@
+-- What was sought in a sequence is what is told.
+use Rattle.std.proofs.Common.{◌≡◌, ℕ, List, inl, inr, sym, subst, ◌∙◌, arith}
+use Rattle.elias_fano_lent.specs.Answers.{IsFirst, IsItem, IsOfPlace, IsPlaceOf}
+use Rattle.elias_fano_lent.specs.Held.{Held, Holds}
+use Rattle.elias_fano_lent.specs.declared.answer.Sought.{Sought}
+use Rattle.elias_fano_lent.specs.declared.answer.Sought.TheVariants.{Found, Absent, WrongParts}
+use Rattle.elias_fano.specs.Sequence.{Reaches}
+use Rattle.bitm_c.specs.Sequence.{held_by, IsSized, IsSoughtTold, ItemAnswered, PlaceAnswered}
+use Rattle.bitm_c.specs.declared.sequence.SequenceView.{SequenceView}
+
+module _ (view : SequenceView) (sized : IsSized view) (status old new : ℕ) where
+  item : (i : ℕ) (s : Sought ℕ) → IsSoughtTold s status old new → IsOfPlace view.len i s
+      → ((xs : List ℕ) → Holds xs (held_by view) → IsItem xs i s) → ItemAnswered view i status old new
+  item i (Found x) is inside answer = record {
+    kept = λ not. absurd (not is.0);
+    bad = λ no. absurd (no sized);
+    outside = λ _ past. absurd (omega (arith, inside, past));
+    inside = λ _ _. inl is.0;
+    right = λ _ xs h _. (is.0, is.1 ∙ (answer xs h).1);
+  }
+  item i Absent is past answer = record {
+    kept = λ _. is.1;
+    bad = λ no. absurd (no sized);
+    outside = λ _ _. is.0;
+    inside = λ _ less. absurd (omega (arith, past, less));
+    right = λ _ xs h less. absurd (omega (arith, answer xs h, less));
+  }
+  item i WrongParts is inside answer = record {
+    kept = λ _. is.1;
+    bad = λ no. absurd (no sized);
+    outside = λ _ past. absurd (omega (arith, inside, past));
+    inside = λ _ _. inr is.0;
+    right = λ _ xs h _. absurd (answer xs h);
+  }
+
+  -- the same of parts that are called by another name
+  pub item_of : (lent : Held) → lent ≡ held_by view → (i : ℕ) (s : Sought ℕ) → IsSoughtTold s status old new → IsOfPlace lent.len i s
+      → ((xs : List ℕ) → Holds xs lent → IsItem xs i s) → ItemAnswered view i status old new
+  item_of lent same i s is inside answer =
+      item i s is (subst (λ (l : Held). IsOfPlace l.len i s) same inside)
+      (subst (λ (l : Held). (xs : List ℕ) → Holds xs l → IsItem xs i s) same answer)
+
+  place : (v : ℕ) (s : Sought ℕ) → IsSoughtTold s status old new → IsPlaceOf view.len s
+      → ((xs : List ℕ) → Holds xs (held_by view) → IsFirst xs v s) → PlaceAnswered view v status old new
+  place v (Found p) is inside answer = record {
+    kept = λ not. absurd (not is.0);
+    bad = λ no. absurd (no sized);
+    good = λ _ e. absurd (omega (arith, is.0, e));
+    place = λ _. omega (arith, is.1, inside);
+    told = λ _ xs h. inl is.0;
+    right = λ xs h _. subst (λ (n : ℕ). Reaches xs v n) (sym is.1) (answer xs h);
+    none = λ xs h e. absurd (omega (arith, is.0, e));
+  }
+  place v Absent is inside answer = record {
+    kept = λ _. is.1;
+    bad = λ no. absurd (no sized);
+    good = λ _ e. absurd (omega (arith, is.0, e));
+    place = λ e. absurd (omega (arith, is.0, e));
+    told = λ _ xs h. inr is.0;
+    right = λ xs h e. absurd (omega (arith, is.0, e));
+    none = λ xs h _. answer xs h;
+  }
+  place v WrongParts is inside answer = record {
+    kept = λ _. is.1;
+    bad = λ no. absurd (no sized);
+    good = λ _ e. absurd (omega (arith, is.0, e));
+    place = λ e. absurd (omega (arith, is.0, e));
+    told = λ _ xs h. absurd (answer xs h);
+    right = λ xs h _. absurd (answer xs h);
+    none = λ xs h _. absurd (answer xs h);
+  }
+
+  pub place_of : (lent : Held) → lent ≡ held_by view → (v : ℕ) (s : Sought ℕ) → IsSoughtTold s status old new → IsPlaceOf lent.len s
+      → ((xs : List ℕ) → Holds xs lent → IsFirst xs v s) → PlaceAnswered view v status old new
+  place_of lent same v s is inside answer =
+      place v s is (subst (λ (l : Held). IsPlaceOf l.len s) same inside)
+      (subst (λ (l : Held). (xs : List ℕ) → Holds xs l → IsFirst xs v s) same answer)

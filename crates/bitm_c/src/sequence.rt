@@ -1,0 +1,198 @@
+//! Sequences of numbers that never fall, whose parts lie in the caller's memory.
+ghost use Rattle.std.specs.Prelude.{◌≡◌, ◌≢◌, ◌<◌, ◌≤◌, ◌↔◌, ◌⊎◌, ℕ, List, MatchOption, length, slice_index};
+ghost use Rattle.bitm_lent.specs.Sizes.{listed};
+ghost use Rattle.elias_fano.specs.Parts.{width_of};
+ghost use Rattle.elias_fano.specs.Sequence.{HasFall};
+ghost use Rattle.elias_fano_lent.specs.Held.{held, Holds};
+ghost use Rattle.elias_fano_lent.specs.Lists.{AreItems, IsKeptFrom};
+ghost use Rattle.elias_fano_lent.specs.Sizes.{sizes_of, HasRoom, IsLargest};
+ghost use Rattle.bitm_c.specs.Sequence.{held_by, sizes_in_c, IsListTold, IsSized, IsSoughtTold};
+ghost use Rattle.bitm_c.specs.Sequence.{ItemAnswered, PlaceAnswered};
+
+use crate::answer::{BAD_SIZE, NONE, OK, UNSORTED, WRONG};
+use bitm_lent::Lent;
+use elias_fano_lent::{BuildError, LentSequence, Listed, Sizes, Sought, build};
+
+/// The parts of a sequence, all lent: for C two numbers and four pairs of a pointer and a length.
+#[repr(C)]
+#[derive(Clone, Copy)]
+pub struct SequenceView<'a> {
+    /// How many numbers there are.
+    pub len: usize,
+    /// How many digits of each number are low ones.
+    pub width: u64,
+    /// The low digits of each number.
+    pub low: &'a [u64],
+    /// The upper vector.
+    pub words: &'a [u64],
+    /// The upper table of that vector.
+    pub upper: &'a [usize],
+    /// The lower table of that vector.
+    pub lower: &'a [u64],
+}
+
+/// How long the parts of a sequence are.
+#[repr(C)]
+#[derive(Clone, Copy)]
+pub struct SequenceLens {
+    /// How many digits of each number are low ones.
+    pub width: u64,
+    /// How many words hold the low digits.
+    pub low_len: u64,
+    /// How many words the upper vector has.
+    pub words_len: u64,
+    /// How many numbers the upper table has.
+    pub upper_len: u64,
+    /// How many numbers the lower table has.
+    pub lower_len: u64,
+}
+
+impl<'a> SequenceView<'a> {
+    /// The parts as the library asks them; `None` exactly where a length is not right.
+    #[inline(always)]
+    pub(crate) fn lent(&self) -> Option<LentSequence<'a>>
+        ensures { MatchOption result (IsSized self.now → ⊥)
+            (λ lent. (lent ≡ held_by self.now) × IsSized self.now) }
+    {
+        let upper = Lent::over(self.words, self.upper, self.lower)?;
+        if self.width > 63 {
+            return None;
+        }
+        LentSequence::over(self.len, self.width as u8, self.low, upper)
+    }
+}
+
+/// Writes what was found.
+#[inline(always)]
+fn tell_sought<T: Copy>(sought: Sought<T>, out: &mut T) -> u32
+    ensures { IsSoughtTold sought result out.old out.new }
+{
+    match sought {
+        Sought::Found(found) => {
+            *out = found;
+            OK
+        }
+        Sought::Absent => NONE,
+        Sought::WrongParts => WRONG,
+    }
+}
+
+/// How long the parts of `len` numbers are of which the last and largest is `largest`.
+#[unsafe(no_mangle)]
+pub extern "C" fn bitm_sequence_sizes(len: usize, largest: u64, out: &mut SequenceLens) -> u32
+    ensures ok { (result ≡ 0) ↔ IsLargest len largest }
+    ensures sizes { result ≡ 0 → out.new ≡ sizes_in_c (sizes_of len largest) }
+    ensures kept { result ≢ 0 → (result ≡ 2) × (out.new ≡ out.old) }
+{
+    match Sizes::of(len, largest) {
+        Some(sizes) => {
+            *out = SequenceLens {
+                width: sizes.width as u64,
+                low_len: sizes.low as u64,
+                words_len: sizes.words as u64,
+                upper_len: sizes.upper as u64,
+                lower_len: sizes.lower as u64,
+            };
+            OK
+        }
+        None => BAD_SIZE,
+    }
+}
+
+/// Writes the parts of a sequence of the numbers, and how many low digits each has.
+#[unsafe(no_mangle)]
+pub extern "C" fn bitm_sequence_build(
+    items: &[u64],
+    low: &mut [u64],
+    words: &mut [u64],
+    upper: &mut [usize],
+    lower: &mut [u64],
+    width: &mut u64,
+) -> u32
+    ensures ok { (result ≡ 0) → HasRoom items.now low.old words.old upper.old lower.old }
+    ensures bad { (result ≡ 2) ↔ (HasRoom items.now low.old words.old upper.old lower.old → ⊥) }
+    ensures unsorted { (result ≡ 4)
+        ↔ (HasRoom items.now low.old words.old upper.old lower.old × HasFall items.now) }
+    ensures status { result ≢ 0 → (result ≡ 2) ⊎ (result ≡ 4) }
+    ensures width { result ≡ 0 → width.new ≡ width_of items.now }
+    ensures parts { result ≡ 0 → Holds items.now
+        (held (length items.now) width.new low.new (listed words.new upper.new lower.new)) }
+    ensures kept { result ≢ 0 → (low.new ≡ low.old) × (words.new ≡ words.old)
+        × (upper.new ≡ upper.old) × (lower.new ≡ lower.old) × (width.new ≡ width.old) }
+{
+    match build(items, low, words, upper, lower) {
+        Ok(made) => {
+            *width = made as u64;
+            OK
+        }
+        Err(BuildError::WrongLength) => BAD_SIZE,
+        Err(BuildError::NotSorted) => UNSORTED,
+    }
+}
+
+/// Number `index`.
+#[unsafe(no_mangle)]
+pub extern "C" fn bitm_sequence_get(view: &SequenceView<'_>, index: usize, out: &mut u64) -> u32
+    ensures { ItemAnswered view.now index result out.old out.new }
+{
+    match view.lent() {
+        Some(lent) => tell_sought(lent.get(index), out),
+        None => BAD_SIZE,
+    }
+}
+
+/// The least place whose number is at least `value`.
+#[unsafe(no_mangle)]
+pub extern "C" fn bitm_sequence_first_at_least(
+    view: &SequenceView<'_>,
+    value: u64,
+    out: &mut usize,
+) -> u32
+    ensures { PlaceAnswered view.now value result out.old out.new }
+{
+    match view.lent() {
+        Some(lent) => tell_sought(lent.first_at_least(value), out),
+        None => BAD_SIZE,
+    }
+}
+
+/// The numbers at a list of places, up to the first that is not found, and how many these are.
+#[unsafe(no_mangle)]
+pub extern "C" fn bitm_sequence_get_list(
+    view: &SequenceView<'_>,
+    queries: &[usize],
+    out: &mut [u64],
+    written: &mut usize,
+) -> u32
+    ensures ok { (result ≡ 0) ↔ IsSized view.now × (length out.old ≡ length queries.now) }
+    ensures kept { result ≢ 0 → (result ≡ 2) × (out.new ≡ out.old)
+        × (written.new ≡ written.old) }
+    ensures most { result ≡ 0 → written.new ≤ length queries.now }
+    ensures inside { result ≡ 0 → (j : ℕ) → j < written.new
+        → slice_index queries.now j < view.now.len }
+    ensures items { result ≡ 0 → (xs : List ℕ) → Holds xs (held_by view.now)
+        → AreItems xs queries.now written.new out.new }
+    ensures whole { result ≡ 0 → (xs : List ℕ) → Holds xs (held_by view.now)
+        → written.new < length queries.now
+        → length xs ≤ slice_index queries.now written.new }
+    ensures behind { result ≡ 0 → IsKeptFrom written.new out.old out.new }
+{
+    match view.lent() {
+        Some(lent) => listed_told(lent.get_list(queries, out), queries.len(), written),
+        None => BAD_SIZE,
+    }
+}
+
+/// Writes how many numbers of a list were written.
+#[inline(always)]
+fn listed_told(listed: Listed, len: usize, written: &mut usize) -> u32
+    ensures { IsListTold listed len result written.old written.new }
+{
+    *written = match listed {
+        Listed::All => len,
+        Listed::AbsentAt(at) => at,
+        Listed::WrongAt(at) => at,
+        Listed::WrongLength => return BAD_SIZE,
+    };
+    OK
+}

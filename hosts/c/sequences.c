@@ -1,0 +1,166 @@
+/* Builds sequences of numbers that never fall, asks them, and compares every answer with the numbers. Then asks with
+ * wrong lengths and with each part spoilt. Each block has the exact size, so that the sanitizers see a read or write of
+ * one number too far. */
+#include "common.h"
+
+#include <string.h>
+
+/* A number for each place of blocks of the exact size. */
+static uint64_t *block_of(uint64_t count)
+{
+    uint64_t *block = malloc(count ? 8 * count : 1);
+    MUST(block);
+    for (uint64_t i = 0; i < count; i++)
+        block[i] = UNTOUCHED;
+    return block;
+}
+
+/* Each number by its place, and each value beside a number, against the numbers themselves. */
+static void ask_sequence(const struct bitm_sequence_view *view, const uint64_t *items)
+{
+    uint64_t got, written, *places = block_of(view->len + 1), *out = block_of(view->len + 1);
+    for (size_t i = 0; i <= view->len; i++)
+        places[i] = i;
+    for (size_t i = 0; i < view->len; i++) {
+        MUST(bitm_sequence_get(view, i, &got) == BITM_OK && got == items[i]);
+        size_t first = i;
+        while (first > 0 && items[first - 1] == items[i])
+            first--;
+        MUST(bitm_sequence_first_at_least(view, items[i], &got) == BITM_OK && got == first);
+        uint64_t before = first ? items[first - 1] + 1 : 0; /* no number is between */
+        MUST(bitm_sequence_first_at_least(view, before, &got) == BITM_OK && got == first);
+    }
+    got = UNTOUCHED;
+    MUST(bitm_sequence_get(view, view->len, &got) == BITM_NONE && bitm_sequence_get(view, SIZE_MAX, &got) == BITM_NONE);
+    if (view->len == 0 || items[view->len - 1] < UINT64_MAX) {
+        uint64_t above = view->len ? items[view->len - 1] + 1 : 0;
+        MUST(bitm_sequence_first_at_least(view, above, &got) == BITM_NONE);
+        MUST(bitm_sequence_first_at_least(view, UINT64_MAX, &got) == BITM_NONE && got == UNTOUCHED);
+    }
+    MUST(bitm_sequence_get_list(view, places, view->len + 1, out, view->len + 1, &written) == BITM_OK);
+    MUST(written == view->len && out[view->len] == UNTOUCHED && memcmp(out, items, 8 * view->len) == 0);
+    MUST(bitm_sequence_get_list(view, places, view->len + 1, out, view->len, &written) == BITM_BAD_SIZE);
+    free(places);
+    free(out);
+}
+
+/* Any parts: a number exactly where there is one or the parts are called wrong, and a place that is one. */
+static unsigned any_parts(const struct bitm_sequence_view *view, unsigned queries)
+{
+    unsigned wrong = 0;
+    for (unsigned i = 0; i < queries; i++) {
+        uint64_t place = draw() % (view->len + 2), value = draw() >> draw() % 64, got = UNTOUCHED, written = UNTOUCHED;
+        uint32_t status = bitm_sequence_get(view, place, &got);
+        MUST(place < view->len ? status == BITM_OK || status == BITM_WRONG : status == BITM_NONE);
+        MUST(status == BITM_OK || got == UNTOUCHED);
+        wrong += status == BITM_WRONG;
+        uint64_t one = UNTOUCHED;
+        MUST(bitm_sequence_get_list(view, &place, 1, &one, 1, &written) == BITM_OK && written == (status == BITM_OK));
+        MUST(one == got);
+        got = UNTOUCHED;
+        status = bitm_sequence_first_at_least(view, value, &got);
+        MUST(status == BITM_OK ? got < view->len : status != BITM_BAD_SIZE && got == UNTOUCHED);
+        wrong += status == BITM_WRONG;
+    }
+    return wrong;
+}
+
+static int compare(const void *a, const void *b)
+{
+    uint64_t x = *(const uint64_t *)a, y = *(const uint64_t *)b;
+    return x < y ? -1 : x > y;
+}
+
+/* Each number of each part in turn set to 0, to all ones and to anything; then all at once. */
+static unsigned spoilt_parts(const struct bitm_sequence_view *view, uint64_t *const parts[4], const uint64_t lens[4])
+{
+    unsigned wrong = 0;
+    for (int part = 0; part < 4; part++)
+        for (uint64_t turn = 0; turn < 3 * lens[part]; turn++) {
+            uint64_t *entry = parts[part] + turn / 3, kept = *entry;
+            *entry = turn % 3 == 0 ? 0 : turn % 3 == 1 ? UINT64_MAX : draw();
+            wrong += any_parts(view, 100);
+            *entry = kept;
+        }
+    MUST(any_parts(view, 100) == 0);
+    for (int part = 0; part < 4; part++)
+        for (uint64_t i = 0; i < lens[part]; i++)
+            parts[part][i] = draw();
+    return wrong + any_parts(view, 1000);
+}
+
+/* Lengths that do not fit: the status, and nothing is written. */
+static void wrong_lengths(const struct bitm_sequence_view *view, const uint64_t *items)
+{
+    struct bitm_sequence_view bad[4] = {*view, *view, *view, *view};
+    bad[0].width = 64, bad[1].low_len++, bad[2].upper_len++, bad[3].len = (size_t)1 << 56;
+    for (int i = 0; i < 4; i++) {
+        uint64_t got = UNTOUCHED;
+        MUST(bitm_sequence_get(&bad[i], 0, &got) == BITM_BAD_SIZE);
+        MUST(bitm_sequence_first_at_least(&bad[i], 0, &got) == BITM_BAD_SIZE && got == UNTOUCHED);
+        MUST(bitm_sequence_get_list(&bad[i], items, 0, NULL, 0, &got) == BITM_BAD_SIZE && got == UNTOUCHED);
+    }
+}
+
+/* A sequence of len numbers of so many bits: built, asked, with wrong lengths, and spoilt part by part. Answers how
+ * often parts were called wrong. */
+static unsigned sequence_of(size_t len, int bits)
+{
+    uint64_t *items = block_of(len), width = UNTOUCHED;
+    for (size_t i = 0; i < len; i++)
+        items[i] = draw() >> (64 - bits);
+    qsort(items, len, 8, compare);
+    struct bitm_sequence_lens of;
+    MUST(bitm_sequence_sizes(len, len ? items[len - 1] : 0, &of) == BITM_OK);
+    MUST(64 * (of.low_len + of.words_len) <= len * (of.width + 3) + 126);
+    uint64_t *low = block_of(of.low_len), *words = block_of(of.words_len);
+    uint64_t *upper = block_of(of.upper_len), *lower = block_of(of.lower_len);
+    MUST(bitm_sequence_build(items, len, low, of.low_len, words, of.words_len - 1, upper, of.upper_len, lower,
+                             of.lower_len, &width) == BITM_BAD_SIZE);
+    MUST(bitm_sequence_build(items, len, low, of.low_len + 1, words, of.words_len, upper, of.upper_len, lower,
+                             of.lower_len, &width) == BITM_BAD_SIZE);
+    MUST(width == UNTOUCHED && words[0] == UNTOUCHED && lower[0] == UNTOUCHED);
+    MUST(bitm_sequence_build(items, len, low, of.low_len, words, of.words_len, upper, of.upper_len, lower, of.lower_len,
+                             &width) == BITM_OK && width == of.width);
+    struct bitm_sequence_view view = {len, width, low, of.low_len, words, of.words_len, upper, of.upper_len, lower,
+                                      of.lower_len};
+    ask_sequence(&view, items);
+    MUST(any_parts(&view, 100) == 0);
+    wrong_lengths(&view, items);
+    uint64_t *const parts[] = {low, words, upper, lower};
+    const uint64_t lens[] = {of.low_len, of.words_len, of.upper_len, of.lower_len};
+    unsigned wrong = spoilt_parts(&view, parts, lens);
+    free(items);
+    for (int part = 0; part < 4; part++)
+        free(parts[part]);
+    return wrong;
+}
+
+static void sequences(void)
+{
+    const size_t lens[] = {0, 1, 2, 3, 7, 64, 65, 300};
+    const int bits[] = {1, 6, 9, 30, 64};
+    unsigned wrong = 0;
+    for (size_t i = 0; i < sizeof lens / sizeof *lens; i++)
+        for (size_t k = 0; k < sizeof bits / sizeof *bits; k++)
+            wrong += sequence_of(lens[i], bits[k]);
+    MUST(wrong > 0);
+    /* numbers worked out by hand: of each one low digit, and the rest as the place of a one */
+    const uint64_t primes[] = {2, 3, 5, 7, 11, 13, 24}, falling[] = {2, 3, 5, 7, 13, 11, 24};
+    uint64_t low[1] = {UNTOUCHED}, words[1] = {UNTOUCHED}, upper[1] = {UNTOUCHED}, lower[1] = {UNTOUCHED};
+    uint64_t width = UNTOUCHED;
+    MUST(bitm_sequence_build(falling, 7, low, 1, words, 1, upper, 1, lower, 1, &width) == BITM_UNSORTED);
+    MUST(low[0] == UNTOUCHED && words[0] == UNTOUCHED && upper[0] == UNTOUCHED && lower[0] == UNTOUCHED);
+    MUST(width == UNTOUCHED && bitm_sequence_build(primes, 7, low, 1, words, 1, upper, 1, lower, 1, &width) == BITM_OK);
+    MUST(width == 1 && low[0] == 0x3E && words[0] == 0x40A56);
+    struct bitm_sequence_lens of = {UNTOUCHED, 0, 0, 0, 0};
+    MUST(bitm_sequence_sizes((size_t)1 << 56, 1, &of) == BITM_BAD_SIZE);
+    MUST(bitm_sequence_sizes(0, 1, &of) == BITM_BAD_SIZE && of.width == UNTOUCHED);
+}
+
+int main(void)
+{
+    sequences();
+    puts("C host: sequences answer as their numbers do, and spoilt parts nothing outside");
+    return 0;
+}
