@@ -43,6 +43,20 @@ fn pack(before: usize, one: usize, two: usize, three: usize) -> u64
     before as u64 + ((three as u64) << 32) + ((two as u64) << 43) + ((one as u64) << 54)
 }
 
+/// How many ones stand in what is left of the record of eight words from word `first` on, which the words' end cuts
+/// off. It is called for the last entry alone, and apart, so that the other records need no bounds kept for it.
+#[cold]
+#[inline(never)]
+fn ones_of_cut_record(words: &[u64], first: usize) -> usize
+    requires short { IsShort words.now }
+    requires cut { length words.now < first + 8 }
+    ensures ones { ones_before (bits_of words.now) (64 * first) + result
+        ≡ ones_before (bits_of words.now) (64 * (first + 8)) }
+    ensures most { result ≤ 512 }
+{
+    words::count_bit_ones(&words[words.len().min(first)..])
+}
+
 /// How many ones stand in the record of eight words from word `first` on, or in what is left of it.
 #[inline(always)]
 fn ones_of_record(words: &[u64], first: usize) -> usize
@@ -56,7 +70,7 @@ fn ones_of_record(words: &[u64], first: usize) -> usize
     if end <= words.len() {
         words::count_bit_ones(&words[first..end])
     } else {
-        words::count_bit_ones(&words[words.len().min(first)..])
+        ones_of_cut_record(words, first)
     }
 }
 

@@ -6,8 +6,15 @@ use Rattle.bitm_bits.proofs.lemmas.BitsLemmas.{length-bits_of}
 use Rattle.bitm_bits.proofs.lemmas.CountLemmas.{ones_before-bits_of_stretch, ones_before_past}
 use Rattle.bitm_bits.specs.Bits.{bits_of}
 use Rattle.bitm_bits.specs.Count.{ones_before, ones_of}
-use Rattle.bitm.proofs.lemmas.StretchLemmas.{ones_before-between}
+use Rattle.bitm.proofs.lemmas.StretchLemmas.{ones_before-between, ones_before-most}
 use Rattle.bitm.specs.Entry.{packed, before_in_part, lower_entry}
+
+-- a record of eight words has at most 512 ones
+pub ones_of_record-most : (b : List Bool) (first n : ℕ) → ones_before b (64 * first) + n ≡ ones_before b (64 * (first + 8))
+    → n ≤ 512
+ones_of_record-most b first n is =
+    let e : 64 * first + 512 ≡ 64 * (first + 8) = omega arith in
+    omega (arith, is, ones_before-most b (64 * first) 512, ap (ones_before b) e)
 
 -- a word past the end counts as the end
 pub ones_before_capped : (words : List ℕ) (k : ℕ) → ones_before (bits_of words) (64 * min (length words) k) ≡ ones_before (bits_of words) (64 * k)
