@@ -1,5 +1,5 @@
 //! Rank over a source, with a bound on its reads.
-ghost use Rattle.std.specs.Prelude.{◌≡◌, ◌+◌, ◌*◌, ◌<◌, ◌≤◌, length};
+ghost use Rattle.std.specs.Prelude.{◌≡◌, ◌+◌, ◌*◌, ◌<◌, ◌≤◌, length, count_ones};
 ghost use Rattle.bitm_bits.specs.Bits.{bits_of, IsShort};
 ghost use Rattle.bitm_bits.specs.Count.{ones_before, IsRank};
 ghost use Rattle.bitm.specs.Reads.{OnlyReads, ReadsAtMost};
@@ -14,10 +14,82 @@ use crate::word::ones_through;
 /// by side if each takes no more instructions than it needs.
 const WORDS_IN_CACHE: usize = 1 << 19;
 
+/// Seven words of ones and seven of zeros: the seven from `7 - n` on keep the first `n` of seven words.
+const KEPT: [u64; 14] = [
+    u64::MAX,
+    u64::MAX,
+    u64::MAX,
+    u64::MAX,
+    u64::MAX,
+    u64::MAX,
+    u64::MAX,
+    0,
+    0,
+    0,
+    0,
+    0,
+    0,
+    0,
+];
+
+/// How many ones of a word are kept by number `at` of `KEPT`: all for the first seven, else none.
+#[inline(always)]
+fn kept_ones(word: u64, at: usize) -> usize
+    requires { at < 14 }
+    ensures all { at < 7 → result ≡ count_ones word }
+    ensures none { 7 ≤ at → result ≡ 0 }
+{
+    (word & KEPT[at]).count_ones() as usize
+}
+
+/// What `ones_in_record` answers, of a record that the content has in full: seven words are counted in a straight line,
+/// and those from `end` on are left out by a mask.
+#[inline(always)]
+fn masked_ones<T: TableSource>(source: &mut T, first: usize, end: usize) -> usize
+    requires order { first ≤ end }
+    requires near { end < first + 8 }
+    requires whole { first + 8 ≤ length (T.lists source.old).words }
+    requires short { IsShort (T.lists source.old).words }
+    ensures ones { let b = bits_of (T.lists source.old).words in
+        ones_before b (64 * first) + result ≡ ones_before b (64 * end) }
+    ensures reads { ReadsAtMost (T.reads source.old) (T.reads source.new) 0 0 7 }
+    ensures same { T.lists source.new ≡ T.lists source.old }
+{
+    let mut ones = 0;
+    let from = first + 7 - end;
+    for k in 0..7 {
+        ones += kept_ones(source.word(first + k), from + k);
+    }
+    ones
+}
+
+/// What `ones_in_record` answers, with a test before each of its words.
+#[inline(always)]
+fn tested_ones<T: TableSource>(source: &mut T, first: usize, end: usize) -> usize
+    requires order { first ≤ end }
+    requires near { end < first + 8 }
+    requires inside { end < length (T.lists source.old).words }
+    requires short { IsShort (T.lists source.old).words }
+    ensures ones { let b = bits_of (T.lists source.old).words in
+        ones_before b (64 * first) + result ≡ ones_before b (64 * end) }
+    ensures reads { ReadsAtMost (T.reads source.old) (T.reads source.new) 0 0 7 }
+    ensures same { T.lists source.new ≡ T.lists source.old }
+{
+    let mut ones = 0;
+    for k in 0..7 {
+        if first + k == end {
+            return ones;
+        }
+        ones += source.word(first + k).count_ones() as usize;
+    }
+    ones
+}
+
 /// How many ones stand in the record that begins at word `first`, before word `end` of it.
 ///
-/// Seven words are counted in a straight line, and those from `end` on are left out by a move: a loop up to `end` would
-/// be left at another turn each time. Only a record that the content cuts off has such a loop, and a large content.
+/// In a small content each word up to the seventh is counted, and those from `end` on are left out by a mask, since the
+/// processor would guess wrongly at which of them a test ends the count. In a large one there are these tests, since
+/// they leave fewer instructions.
 ///
 /// # Conditions
 /// There is a word `end`, and it is among the eight from `first` on. Nothing is asked of the tables.
@@ -34,21 +106,12 @@ pub fn ones_in_record<T: TableSource>(source: &mut T, first: usize, end: usize) 
     ensures reads { ReadsAtMost (T.reads source.old) (T.reads source.new) 0 0 7 }
     ensures same { T.lists source.new ≡ T.lists source.old }
 {
-    let mut ones = 0;
     let len = source.words_len();
     if len <= WORDS_IN_CACHE && first + U64_PER_L2_RECORDS <= len {
-        for k in 0..7 {
-            let count = source.word(first + k).count_ones() as usize;
-            if first + k < end {
-                ones += count;
-            }
-        }
+        masked_ones(source, first, end)
     } else {
-        for at in first..end {
-            ones += source.word(at).count_ones() as usize;
-        }
+        tested_ones(source, first, end)
     }
-    ones
 }
 
 /// How many of the first `index` bits of the source's words are ones; `None` exactly where there are fewer bits.
@@ -61,7 +124,7 @@ pub fn ones_in_record<T: TableSource>(source: &mut T, first: usize, end: usize) 
 /// The three levels are those of Zhou, Andersen and Kaminsky, 'Space-efficient, high-performance rank and select
 /// structures on uncompressed bit sequences' (SEA 2013), with the fields of an entry turned round so that rank needs no
 /// branch.
-#[inline]
+#[inline(always)]
 pub fn rank_on<T: TableSource>(source: &mut T, index: usize) -> Option<usize>
     requires { IsIndexed (T.lists source.old) }
     ensures answer { IsRank (bits_in (T.lists source.old)) index result }

@@ -1,7 +1,7 @@
 use Rattle.std.proofs.Common.{◌≡◌, ◌+◌, ◌*◌, ◌≤◌}
 use Rattle.bitm_bits.specs.Bits.{bits_of}
 use Rattle.bitm_bits.specs.Count.{ones_before}
-use Rattle.bitm.proofs.search.ranking.ones_in_record.Given as goal
+use Rattle.bitm.proofs.search.ranking.masked_ones.Given as goal
 
 -- the ones before the word, or before the last one that counts, and one read for each word so far
 abbrev pub invariant-loop-k : goal.invariant-loop-k
@@ -12,19 +12,6 @@ invariant-loop-k g l =
       up : l.first + l.k ≤ l.end → ones_before b (64 * l.first) + l.ones ≡ ones_before b (64 * (l.first + l.k));
       past : l.end ≤ l.first + l.k → ones_before b (64 * l.first) + l.ones ≡ ones_before b (64 * l.end);
       words : (T.reads l.source).words ≡ (T.reads l.fn.source).words + l.k;
-      upper : (T.reads l.source).upper ≡ (T.reads l.fn.source).upper;
-      lower : (T.reads l.source).lower ≡ (T.reads l.fn.source).lower;
-      same : T.lists l.source ≡ T.lists l.fn.source;
-    }
-
--- the ones before the word, and one read for each word so far
-abbrev pub invariant-loop-at : goal.invariant-loop-at
-invariant-loop-at g l =
-    let T = g.T.TableSource in
-    let b = bits_of (T.lists l.fn.source).words in
-    record {
-      ones : ones_before b (64 * l.first) + l.ones ≡ ones_before b (64 * l.at);
-      words : (T.reads l.source).words + l.first ≡ (T.reads l.fn.source).words + l.at;
       upper : (T.reads l.source).upper ≡ (T.reads l.fn.source).upper;
       lower : (T.reads l.source).lower ≡ (T.reads l.fn.source).lower;
       same : T.lists l.source ≡ T.lists l.fn.source;
