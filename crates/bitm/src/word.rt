@@ -38,7 +38,7 @@ pub fn byte_sums(n: u64) -> u64
 {
     let pairs = n - ((n >> 1) & 0x5555_5555_5555_5555);
     let nibbles = (pairs & 0x3333_3333_3333_3333) + ((pairs >> 2) & 0x3333_3333_3333_3333);
-    let bytes = (nibbles & 0x0F0F_0F0F_0F0F_0F0F) + ((nibbles >> 4) & 0x0F0F_0F0F_0F0F_0F0F);
+    let bytes = (nibbles + (nibbles >> 4)) & 0x0F0F_0F0F_0F0F_0F0F;
     bytes.wrapping_mul(LOWEST_OF_EACH_BYTE)
 }
 

@@ -1,7 +1,7 @@
 -- The ones of each byte of a word by masks, and their running sums by one product.
-use Rattle.std.proofs.Common.{◌≡◌, ℕ, zero, suc, ◌+◌, ◌-◌, ◌*◌, ◌/◌, ◌%◌, ◌^◌, ◌<◌, ◌≤◌, List, [], ◌∷◌, Bool, true, ◌==◌, ◌&&◌, bit_and, count_ones, refl, sym, ap, get_or, zero-add, ap₂, subst, ◌∙◌, arith, lit<, eqb-true, not-suc-le-zero, inl, inr}
-use Rattle.std.proofs.lemmas.Bool.{cases_lt, and_parts}
-use Rattle.std.proofs.lemmas.Nat.{and_le_l, and_le_r, mod_below, ones-le}
+use Rattle.std.proofs.Common.{◌≡◌, ℕ, zero, suc, ◌+◌, ◌-◌, ◌*◌, ◌/◌, ◌%◌, ◌^◌, ◌<◌, ◌≤◌, List, [], ◌∷◌, Bool, true, ◌==◌, ◌&&◌, bit_and, count_ones, refl, sym, ap, get_or, zero-add, ap₂, subst, ◌∙◌, arith, lit<, eqb-true, nat_le, not-suc-le-zero, inl, inr}
+use Rattle.std.proofs.lemmas.Bool.{cases_lt, and_parts, leb-true}
+use Rattle.std.proofs.lemmas.Nat.{and_block, and_le_l, and_mask, mod_below, ones-le}
 use Rattle.std.specs.Int.Count.{ones, ones_in}
 use Rattle.bitm.proofs.lemmas.ByteLemmas.{number_of_bytes, low_bytes-number_of_bytes}
 use Rattle.bitm.proofs.lemmas.FieldLemmas.{map_fields, sum_fields, running_sums, get_or-running_sums, Stays, map_fields-same, map_fields-self, map_fields-add, map_fields-sub, map_fields-and, map_fields-shr-and, sum_fields-count_ones}
@@ -34,7 +34,7 @@ abbrev nibbles : ℕ → ℕ
 nibbles v = bit_and (pairs v) 0x33 + bit_and (pairs v / 4) 0x33
 
 abbrev whole : ℕ → ℕ
-whole v = bit_and (nibbles v) 0x0F + bit_and (nibbles v / 16) 0x0F
+whole v = nibbles v % 16 + nibbles v / 16
 
 whole-count_ones : (v : ℕ) → v < 2 ^ 8 → whole v ≡ count_ones v
 unfolding all_below ones ones_in
@@ -51,9 +51,6 @@ in_each_byte m n = omega arith
 
 pairs_below : (v : ℕ) → v < 2 ^ 8 → pairs v < 2 ^ 8
 pairs_below v fits = omega arith
-
-nibbles_below : (v : ℕ) → v < 2 ^ 8 → nibbles v < 2 ^ 8
-nibbles_below v fits = omega (arith, and_le_r (pairs v) 0x33, and_le_r (pairs v / 4) 0x33)
 
 halves_le : (v : ℕ) → bit_and (v / 2) 0x55 ≤ v
 halves_le v = omega (arith, and_le_l (v / 2) 0x55)
@@ -75,11 +72,50 @@ kept f m n y stays below is =
 both : (f g : ℕ → ℕ) (n y z : ℕ) → y ≡ map_fields 8 8 f n → z ≡ map_fields 8 8 g n → y + z ≡ map_fields 8 8 (λ v. f v + g v) n
 both f g n y z y-is z-is = ap₂ (λ a b. a + b) y-is z-is ∙ map_fields-add 8 8 f g n
 
+-- both halves of each byte are at most 7, so that their sum and a carry from the next byte's half stay in the byte
+record HasLowHalves (f : ℕ → ℕ) : Type 0 where
+  low : (v : ℕ) → v < 2 ^ 8 → f v % 16 ≤ 7
+  high : (v : ℕ) → v < 2 ^ 8 → f v / 16 ≤ 7
+
+low_half : (f : ℕ → ℕ) → HasLowHalves f → (k n : ℕ) → map_fields 8 k f n % 16 ≤ 7
+unfolding map_fields
+low_half f halves zero n = omega arith
+low_half f halves (suc k) n = omega (arith, halves.low (n % 2 ^ 8) (mod_below n (2 ^ 8) (omega arith)))
+
+-- `(y + (y >> 4)) & 0x0F..` at all bytes
+halves_added : (f : ℕ → ℕ) → HasLowHalves f → (k n : ℕ) →
+    let y = map_fields 8 k f n in
+    bit_and (y + y / 16) (map_fields 8 k (λ v. 0x0F) n) ≡ map_fields 8 k (λ v. f v % 16 + f v / 16) n
+unfolding map_fields
+halves_added f halves zero n = refl
+halves_added f halves (suc k) n =
+    let y = map_fields 8 k f (n / 2 ^ 8) in
+    let v = n % 2 ^ 8 in
+    let c = f v in
+    let here = mod_below n (2 ^ 8) (omega arith) in
+    let low = halves.low v here in
+    let high = halves.high v here in
+    let above = low_half f halves k (n / 2 ^ 8) in
+    let byte = 16 * (c / 16 + y % 16) + (c % 16 + c / 16) in
+    let cut : y * 2 ^ 8 + c + (y * 2 ^ 8 + c) / 16 ≡ (y + y / 16) * 2 ^ 8 + byte = omega arith in
+    let mask = map_fields 8 k (λ v. 0x0F) (n / 2 ^ 8) in
+    let kept_half : bit_and byte 0x0F ≡ c % 16 + c / 16 = and_mask byte 4 ∙ omega arith in
+    ap (λ x. bit_and x (mask * 2 ^ 8 + 0x0F)) cut
+    ∙ and_block 8 (y + y / 16) mask byte 0x0F (omega arith) (lit< tt)
+    ∙ ap₂ (λ a b. a * 2 ^ 8 + b) (halves_added f halves k (n / 2 ^ 8)) kept_half
+
+few_in_nibbles : HasLowHalves nibbles
+unfolding all_below
+few_in_nibbles = record {
+  low = λ v fits. leb-true _ _ (all_below-at (λ u. nat_le (nibbles u % 16) 7) 256 v refl fits);
+  high = λ v fits. leb-true _ _ (all_below-at (λ u. nat_le (nibbles u / 16) 7) 256 v refl fits);
+}
+
 -- the bytes before the product are the numbers of ones
 byte_counts : (n : ℕ) → n < 2 ^ 64 →
     let p = n - bit_and (n / 2) 0x5555555555555555 in
     let q = bit_and p 0x3333333333333333 + bit_and (p / 4) 0x3333333333333333 in
-    bit_and q 0x0F0F0F0F0F0F0F0F + bit_and (q / 16) 0x0F0F0F0F0F0F0F0F ≡ map_fields 8 8 count_ones n
+    bit_and (q + q / 16) 0x0F0F0F0F0F0F0F0F ≡ map_fields 8 8 count_ones n
 byte_counts n fits =
     let p = n - bit_and (n / 2) 0x5555555555555555 in
     let q = bit_and p 0x3333333333333333 + bit_and (p / 4) 0x3333333333333333 in
@@ -92,10 +128,8 @@ byte_counts n fits =
     let high_pairs = masked 6 2 pairs 0x33 n p p-stays (lit< tt) refl p-is in
     let q-is : q ≡ map_fields 8 8 nibbles n =
     both (λ v. bit_and (pairs v) 0x33) (λ v. bit_and (pairs v / 4) 0x33) n _ _ low_pairs high_pairs in
-    let q-stays : Stays 8 nibbles = record { below = nibbles_below } in
-    let low_nibbles = kept nibbles 0x0F n q q-stays (lit< tt) q-is in
-    let high_nibbles = masked 4 4 nibbles 0x0F n q q-stays (lit< tt) refl q-is in
-    both (λ v. bit_and (nibbles v) 0x0F) (λ v. bit_and (nibbles v / 16) 0x0F) n _ _ low_nibbles high_nibbles
+    ap₂ (λ y m. bit_and (y + y / 16) m) q-is (sym (in_each_byte 0x0F n))
+    ∙ halves_added nibbles few_in_nibbles 8 n
     ∙ map_fields-same 8 8 whole count_ones n whole-count_ones
 
 -- ---- their running sums, by one product
@@ -129,7 +163,7 @@ product_sums f n i few inside =
 pub byte_sums_are : (n k : ℕ) → n < 2 ^ 64 → k < 8 →
     let p = n - bit_and (n / 2) 0x5555555555555555 in
     let q = bit_and p 0x3333333333333333 + bit_and (p / 4) 0x3333333333333333 in
-    let bytes = bit_and q 0x0F0F0F0F0F0F0F0F + bit_and (q / 16) 0x0F0F0F0F0F0F0F0F in
+    let bytes = bit_and (q + q / 16) 0x0F0F0F0F0F0F0F0F in
     get_or (low_bytes 8 (bytes * 0x0101010101010101 % 2 ^ 64)) k 0 ≡ ones_before (low_digits 64 n) (8 * (k + 1))
 byte_sums_are n k fits inside =
     let turned : suc k * 8 ≡ 8 * (k + 1) = omega arith in
