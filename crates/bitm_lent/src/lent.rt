@@ -1,7 +1,7 @@
 //! Words and tables that are lent, and how long the tables are.
 ghost use Rattle.std.specs.Prelude.{◌≡◌, ◌^◌, ◌↔◌, ◌<◌, ◌≤◌, IsTrue, MatchOption, length, true, false};
 ghost use Rattle.std.specs.Int.{div_ceil};
-ghost use Rattle.bitm_bits.specs.Bits.{bits_of};
+ghost use Rattle.bitm_bits.specs.Bits.{bits_of, IsShort};
 ghost use Rattle.bitm_bits.specs.Count.{kind, IsRank, IsRank0};
 ghost use Rattle.bitm.specs.Reads.{none_read};
 ghost use Rattle.bitm.specs.Tables.{HasSizes, HasTables, bits_in};
@@ -79,6 +79,15 @@ impl<'a> Lent<'a> {
         } else {
             None
         }
+    }
+
+    /// The words: fewer than 2^58.
+    #[inline(always)]
+    pub fn words(&self) -> &[u64]
+        ensures words { result.now ≡ self.now.words }
+        ensures short { IsShort result.now }
+    {
+        self.words
     }
 
     /// A source over the words and tables, of which nothing was read: for calls over any source.

@@ -16,7 +16,7 @@ use bitm::{TableSource, binary_select_on, n_lowest_bits, words};
 /// # Conditions
 /// There is such a fragment. Where the number is 2^64 or more, the answer is any.
 #[inline(always)]
-fn joined(above: usize, low: &[u64], at: usize, width: u8) -> u64
+pub fn joined(above: usize, low: &[u64], at: usize, width: u8) -> u64
     requires { HasFragment low.now at width }
     ensures { above * 2 ^ width + number_at (bits_of low.now) (at * width) width < 2 ^ 64
         → result ≡ above * 2 ^ width + number_at (bits_of low.now) (at * width) width }

@@ -1,4 +1,5 @@
 pub mod Answers
+pub mod Checks
 pub mod Error
 pub mod Held
 pub mod Lists

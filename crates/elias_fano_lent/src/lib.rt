@@ -11,6 +11,7 @@
 //! let width = build(&numbers, &mut low, &mut words, &mut upper, &mut lower);    // Ok(1)
 //! let Some(lent) = Lent::over(&words, &upper, &lower) else { return };
 //! let Some(primes) = LentSequence::over(7, 1, &low, lent) else { return };
+//! primes.check();             // true: these are the parts of a sequence
 //! primes.get(4);              // Found(11)
 //! primes.first_at_least(8);   // Found(4)
 //! primes.first_at_least(25);  // Absent
@@ -19,6 +20,7 @@
 
 mod answer;
 mod asking;
+mod checking;
 mod error;
 mod filling;
 mod lists;

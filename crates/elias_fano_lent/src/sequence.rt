@@ -1,10 +1,11 @@
 //! A sequence whose parts are lent.
-ghost use Rattle.std.specs.Prelude.{◌≡◌, ℕ, List, MatchOption};
+ghost use Rattle.std.specs.Prelude.{◌≡◌, ◌↔◌, ℕ, IsTrue, List, MatchOption};
 ghost use Rattle.elias_fano_lent.specs.Answers.{IsFirst, IsItem, IsOfPlace, IsPlaceOf};
 ghost use Rattle.elias_fano_lent.specs.Held.{held, HasLengths, Holds};
 
 use crate::answer::Sought;
 use crate::asking::{total_first_at_least_on, total_item_on};
+use crate::checking::are_parts;
 use bitm_lent::Lent;
 use std::marker::Model;
 
@@ -58,6 +59,14 @@ impl<'a> LentSequence<'a> {
         ensures { result ≡ self.now.len }
     {
         self.len
+    }
+
+    /// Whether the parts are those of some sequence, with the tables of its upper words: one pass over the upper words for
+    /// the tables, and one more for the numbers, with a fragment of the low words for each.
+    pub fn check(&self) -> bool
+        ensures { IsTrue result ↔ ((xs : List ℕ) × Holds xs self.now) }
+    {
+        self.upper.check() && are_parts(self.upper.words(), self.low, self.width, self.len)
     }
 
     /// Number `i`, where the parts are those of a sequence; `Absent` exactly where there is none, whatever they hold.

@@ -16,6 +16,7 @@ fn agrees(rt: &impl Abort, primes: &LentSequence<'_>) {
         assert_eq!(rt; primes.get(i), Sought::Found(*x));
         assert_eq!(rt; primes.first_at_least(*x), Sought::Found(i));
     }
+    assert_eq!(rt; primes.check(), true);
     assert_eq!(rt; primes.get(7), Sought::Absent);
     assert_eq!(rt; primes.first_at_least(8), Sought::Found(4));
     assert_eq!(rt; primes.first_at_least(25), Sought::Absent);
@@ -73,6 +74,7 @@ fn parts_of_nothing_are_told_or_answer_something(rt: HostRuntime) {
     let Some(none) = LentSequence::over(7, 1, low.as_slice(), upper) else {
         panic!(&rt; "lengths")
     };
+    assert_eq!(rt; none.check(), false);
     assert_eq!(rt; none.get(0), Sought::WrongParts);
     assert_eq!(rt; none.get(7), Sought::Absent);
 }

@@ -1,0 +1,58 @@
+-- Each one is that of the next number; where a test fails, no sequence has these parts.
+use Rattle.std.proofs.Common.{◌≡◌, ℕ, ◌+◌, ◌<◌, true, sym, ap, subst, ◌∙◌, arith}
+use Rattle.bitm_bits.proofs.lemmas.BitsLemmas.{length-bits_of}
+use Rattle.bitm_bits.proofs.lemmas.PickLemmas.{rank_below}
+use Rattle.bitm_bits.specs.Bits.{bits_of}
+use Rattle.bitm_lent.proofs.PlaceLemmas.{first_picked, next_counts, none_follows}
+use Rattle.elias_fano_lent.proofs.CheckLemmas.{AreNumbers-more, held_of_pick, held_is, ones-all, last-at_most}
+use Rattle.elias_fano_lent.specs.Checks.{AreNumbers}
+use Rattle.elias_fano_lent.proofs.checking.last_of.Goals as goal
+
+pub loop-at-preserved : goal.loop-at-preserved
+loop-at-preserved c =
+    let b = bits_of c.args.words.now in
+    let i = c.loop-at.invariant in
+    let found = c.in-Some.ensures in
+    let x = c.in-Some-number_of.ensures in
+    let here = held_of_pick c.bit_laws.ensures c.args.width _ _ c.loop-at.at c.in-Some.place (first_picked b c.loop-at.from _ _ found i.ones) in
+    record {
+      numbers = AreNumbers-more c.bit_laws.ensures c.args.width _ _ c.loop-at.at c.loop-at.last _ i.numbers (here ∙ sym x.1)
+          (omega (arith, x.0, x.1)) c.if-number-last.false;
+      ones = next_counts b c.loop-at.from c.in-Some.place found ∙ ap (λ k. k + 1) i.ones;
+      room = omega (arith, found.inside, length-bits_of c.args.words.now);
+    }
+
+pub returns-in-None : goal.returns-in-None
+returns-in-None c = λ xs h.
+    let none = none_follows (bits_of c.args.words.now) c.loop-at.from c.in-None.ensures in
+    omega (arith, none, c.loop-at.invariant.ones, c.loop-at-test.true, c.loop-at.auto.at-end, ones-all c.bit_laws.ensures xs c.args.n c.args.width _ _ h)
+
+pub returns-in-None-number_of : goal.returns-in-None-number_of
+returns-in-None-number_of c = λ xs h.
+    let pick = first_picked (bits_of c.args.words.now) c.loop-at.from _ _ c.in-Some.ensures c.loop-at.invariant.ones in
+    let inside : c.loop-at.at < c.args.n = omega (arith, c.loop-at-test.true, c.loop-at.auto.at-end) in
+    let here = held_of_pick c.bit_laws.ensures c.args.width c.args.low.now c.args.words.now c.loop-at.at c.in-Some.place pick in
+    let item = held_is c.bit_laws.ensures xs c.args.n c.args.width _ _ h c.loop-at.at inside in
+    c.in-None-number_of.ensures (omega (arith, here, item, h.sequence.small c.loop-at.at 0 (omega (arith, inside, h.count))))
+
+pub returns-then-number-last : goal.returns-then-number-last
+returns-then-number-last c = λ xs h.
+    let pick = first_picked (bits_of c.args.words.now) c.loop-at.from _ _ c.in-Some.ensures c.loop-at.invariant.ones in
+    let inside : c.loop-at.at < c.args.n = omega (arith, c.loop-at-test.true, c.loop-at.auto.at-end) in
+    let here = held_of_pick c.bit_laws.ensures c.args.width c.args.low.now c.args.words.now c.loop-at.at c.in-Some.place pick in
+    let item = held_is c.bit_laws.ensures xs c.args.n c.args.width _ _ h c.loop-at.at inside in
+    let order = last-at_most c.bit_laws.ensures xs c.args.n c.args.width _ _ h c.loop-at.at c.loop-at.last c.loop-at.invariant.numbers inside in
+    omega (arith, here, item, order, c.in-Some-number_of.ensures.1, c.if-number-last.true)
+
+pub returns-in-Some-find_bit_one : goal.returns-in-Some-find_bit_one
+returns-in-Some-find_bit_one c = λ xs h.
+    let b = bits_of c.args.words.now in
+    let pick = first_picked b c.loop-at.from _ _ c.in-Some-find_bit_one.ensures c.loop-at.invariant.ones in
+    omega (arith, rank_below b true _ _ pick, c.loop-at-test.false, ones-all c.bit_laws.ensures xs c.args.n c.args.width _ _ h)
+
+pub returns-in-None-find_bit_one : goal.returns-in-None-find_bit_one
+returns-in-None-find_bit_one c =
+    let ended : c.loop-at.at ≡ c.args.n = omega (arith, c.loop-at-test.false, c.loop-at.auto.at-end) in
+    let none = none_follows (bits_of c.args.words.now) c.loop-at.from c.in-None-find_bit_one.ensures in
+    let P : ℕ → Type 0 = λ k. AreNumbers c.args.width c.args.low.now c.args.words.now k c.loop-at.last in
+    (subst P ended c.loop-at.invariant.numbers, none ∙ c.loop-at.invariant.ones ∙ ended)

@@ -1,0 +1,22 @@
+-- The numbers that two vectors hold, as a walk over the ones finds them.
+use Rattle.std.specs.Prelude.{◌≡◌, ℕ, ◌+◌, ◌-◌, ◌*◌, ◌^◌, ◌<◌, ◌≤◌, true, List, length, slice_index}
+use Rattle.bitm_bits.specs.Bits.{bits_of}
+use Rattle.bitm_bits.specs.Count.{places}
+use Rattle.bitm_bits.specs.Number.{number_at}
+
+-- the words have n fragments of l bits, whatever they hold
+pub record HasFragments (low : List ℕ) (n l : ℕ) : Type 0 where
+  pub width : l ≤ 63
+  pub short : n < 2 ^ 56
+  pub inside : n * l ≤ 64 * length low
+
+-- number j: what stands above its low digits, with these
+abbrev pub held_item : ℕ → List ℕ → List ℕ → ℕ → ℕ
+held_item l low words j = (slice_index (places true 0 (bits_of words)) j - j) * 2 ^ l + number_at (bits_of low) (j * l) l
+
+-- the first k numbers do not fall, each is below 2^64, and the last of them is last, or 0 where there is none
+pub record AreNumbers (l : ℕ) (low words : List ℕ) (k last : ℕ) : Type 0 where
+  pub rising : (i j : ℕ) → i ≤ j → j < k → held_item l low words i ≤ held_item l low words j
+  pub small : (j : ℕ) → j < k → held_item l low words j < 2 ^ 64
+  pub last_is : 0 < k → last ≡ held_item l low words (k - 1)
+  pub none : k ≡ 0 → last ≡ 0

@@ -1,0 +1,83 @@
+//! Whether parts are those of a sequence.
+ghost use Rattle.std.specs.Prelude.{◌≡◌, ◌+◌, ◌-◌, ◌*◌, ◌^◌, ◌<◌, ◌≤◌, ◌↔◌, ℕ, IsTrue, List, length, MatchOption, SomeIff};
+ghost use Rattle.std.specs.Int.{div_ceil};
+ghost use Rattle.bitm_bits.specs.Bits.{bits_of, IsShort};
+ghost use Rattle.bitm_bits.specs.Count.{ones_of};
+ghost use Rattle.bitm_bits.specs.Number.{number_at};
+ghost use Rattle.elias_fano.specs.Parts.{ArePartsOf, HasFragment};
+ghost use Rattle.elias_fano_lent.specs.Checks.{AreNumbers, HasFragments};
+
+use crate::sizes::Sizes;
+use bitm::words as slices;
+use elias_fano::building::joined;
+use elias_fano::laws;
+
+/// Number `at`, whose one stands at `place`, if it is below 2^64.
+#[inline(always)]
+fn number_of(place: usize, low: &[u64], at: usize, width: u8) -> Option<u64>
+    requires fragment { HasFragment low.now at width }
+    requires order { at ≤ place }
+    ensures { let number = (place - at) * 2 ^ width + number_at (bits_of low.now) (at * width) width in
+        SomeIff result (number < 2 ^ 64) number }
+{
+    let above = place - at;
+    if width > 0 && (above as u64) >> (64 - width) != 0 {
+        return None;
+    }
+    Some(joined(above, low, at, width))
+}
+
+/// The last of `n` numbers, 0 where there is none, if the ones of the words and the low digits are those of `n` numbers
+/// that never fall.
+fn last_of(words: &[u64], low: &[u64], width: u8, n: usize) -> Option<u64>
+    requires short { IsShort words.now }
+    requires fragments { HasFragments low.now n width }
+    ensures { MatchOption result ((xs : List ℕ) → ArePartsOf xs n width low.now words.now → ⊥)
+        (λ last. AreNumbers width low.now words.now n last × (ones_of (bits_of words.now) ≡ n)) }
+{
+    laws::bit_laws();
+    let mut from = 0;
+    let mut last = 0;
+    for at in 0..n {
+        let place = match slices::find_bit_one(words, from) {
+            Some(place) => place,
+            None => return None,
+        };
+        let number = match number_of(place, low, at, width) {
+            Some(number) => number,
+            None => return None,
+        };
+        if number < last {
+            return None;
+        }
+        from = place + 1;
+        last = number;
+    }
+    match slices::find_bit_one(words, from) {
+        Some(_) => None,
+        None => Some(last),
+    }
+}
+
+/// Whether these are the parts of some sequence: one pass over the upper words.
+pub(crate) fn are_parts(words: &[u64], low: &[u64], width: u8, n: usize) -> bool
+    requires short { IsShort words.now }
+    requires fragments { HasFragments low.now n width }
+    requires low { length low.now ≡ div_ceil (n * width) 64 }
+    ensures { IsTrue result ↔ ((xs : List ℕ) × ArePartsOf xs n width low.now words.now) }
+{
+    laws::bit_laws();
+    let Some(last) = last_of(words, low, width, n) else {
+        return false;
+    };
+    let Some(sizes) = Sizes::of(n, last) else {
+        return false;
+    };
+    if sizes.width != width || sizes.words != words.len() {
+        return false;
+    }
+    match slices::find_bit_one(low, n * width as usize) {
+        Some(_) => false,
+        None => true,
+    }
+}
