@@ -17,7 +17,8 @@
  *     is inside and has the bit that was asked;
  *   - where the tables are those of the words, the answer is plain counting, and no call says BITM_WRONG: so it is of
  *     tables that bitm_build made or that bitm_check passes, as long as neither words nor tables change in between;
- *   - the same of sequences: with the parts that bitm_sequence_build made, the answers are those of the numbers.
+ *   - the same of sequences: with parts that bitm_sequence_build made or that bitm_sequence_check passes, the answers
+ *     are those of one sequence of numbers.
  *
  * Cost: the reads that are named are proved, of all tables, right or wrong, of the library's calls that these exports
  * make (crates/bitm_lent, crates/elias_fano_lent). Time is not proved.
@@ -171,6 +172,10 @@ uint32_t bitm_sequence_sizes(size_t len, uint64_t largest, struct bitm_sequence_
 uint32_t bitm_sequence_build(const uint64_t *items, size_t items_len, uint64_t *low, size_t low_len, uint64_t *words,
                              size_t words_len, uint64_t *upper, size_t upper_len, uint64_t *lower, size_t lower_len,
                              uint64_t *width);
+
+/* Whether the parts are those of some sequence, as bitm_sequence_build writes them: BITM_OK, BITM_WRONG or
+ * BITM_BAD_SIZE. Goes over the words twice, and reads one fragment of low for each number. */
+uint32_t bitm_sequence_check(const struct bitm_sequence_view *view);
 
 /* Number index, counted from 0. BITM_NONE exactly where index is len or more, whatever the parts hold; BITM_WRONG where
  * the parts turn out to be those of no sequence. Reads what a selection reads, and one fragment of low. */

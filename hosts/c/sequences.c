@@ -79,6 +79,10 @@ static unsigned spoilt_parts(const struct bitm_sequence_view *view, uint64_t *co
         for (uint64_t turn = 0; turn < 3 * lens[part]; turn++) {
             uint64_t *entry = parts[part] + turn / 3, kept = *entry;
             *entry = turn % 3 == 0 ? 0 : turn % 3 == 1 ? UINT64_MAX : draw();
+            /* Other low digits or words may be those of other numbers; their tables have no other value. */
+            uint32_t status = bitm_sequence_check(view);
+            MUST(*entry == kept ? status == BITM_OK : part < 2 ? status != BITM_BAD_SIZE : status == BITM_WRONG);
+            MUST(any_parts(view, 100) == 0 || status == BITM_WRONG);
             wrong += any_parts(view, 100);
             *entry = kept;
         }
@@ -96,7 +100,7 @@ static void wrong_lengths(const struct bitm_sequence_view *view, const uint64_t 
     bad[0].width = 64, bad[1].low_len++, bad[2].upper_len++, bad[3].len = (size_t)1 << 56;
     for (int i = 0; i < 4; i++) {
         uint64_t got = UNTOUCHED;
-        MUST(bitm_sequence_get(&bad[i], 0, &got) == BITM_BAD_SIZE);
+        MUST(bitm_sequence_get(&bad[i], 0, &got) == BITM_BAD_SIZE && bitm_sequence_check(&bad[i]) == BITM_BAD_SIZE);
         MUST(bitm_sequence_first_at_least(&bad[i], 0, &got) == BITM_BAD_SIZE && got == UNTOUCHED);
         MUST(bitm_sequence_get_list(&bad[i], items, 0, NULL, 0, &got) == BITM_BAD_SIZE && got == UNTOUCHED);
     }
@@ -125,7 +129,7 @@ static unsigned sequence_of(size_t len, int bits)
     struct bitm_sequence_view view = {len, width, low, of.low_len, words, of.words_len, upper, of.upper_len, lower,
                                       of.lower_len};
     ask_sequence(&view, items);
-    MUST(any_parts(&view, 100) == 0);
+    MUST(bitm_sequence_check(&view) == BITM_OK && any_parts(&view, 100) == 0);
     wrong_lengths(&view, items);
     uint64_t *const parts[] = {low, words, upper, lower};
     const uint64_t lens[] = {of.low_len, of.words_len, of.upper_len, of.lower_len};

@@ -56,6 +56,11 @@ public:
             std::abort();
     }
 
+    bool check() const
+    {
+        const bitm_sequence_view lent = view();
+        return bitm_sequence_check(&lent) == BITM_OK;
+    }
     std::optional<std::uint64_t> get(std::size_t index) const { return ask(bitm_sequence_get, index); }
     std::optional<std::uint64_t> first_at_least(std::uint64_t value) const
     {
@@ -63,10 +68,15 @@ public:
     }
 
 private:
+    bitm_sequence_view view() const
+    {
+        return {len_,          width_,        low_.data(),   low_.size(),   words_.data(),
+                words_.size(), upper_.data(), upper_.size(), lower_.data(), lower_.size()};
+    }
+
     template <class Call> std::optional<std::uint64_t> ask(Call call, std::uint64_t query) const
     {
-        const bitm_sequence_view lent = {len_,          width_,         low_.data(),  low_.size(),   words_.data(),
-                                         words_.size(), upper_.data(), upper_.size(), lower_.data(), lower_.size()};
+        const bitm_sequence_view lent = view();
         std::uint64_t out;
         return call(&lent, query, &out) == BITM_OK ? std::optional(out) : std::nullopt;
     }
@@ -109,7 +119,7 @@ int main()
         std::sort(items.begin(), items.end());
         const Sequence sequence(items);
         for (std::size_t i = 0; i < n; i++) must(sequence.get(i) == items[i], "get");
-        must(!sequence.get(n), "no number");
+        must(sequence.check() && !sequence.get(n), "no number");
         for (std::uint64_t value = 0; value < 1 << 14; value++) {
             const auto place = std::lower_bound(items.begin(), items.end(), value) - items.begin();
             const auto found = sequence.first_at_least(value);

@@ -72,6 +72,7 @@ DECLARATIONS = {
     "bitm_set_fragment": (STATUS, WORDS + [SIZE, U32, U64]),
     "bitm_sequence_sizes": (STATUS, [SIZE, U64, SIZES]),
     "bitm_sequence_build": (STATUS, LIST + ROOM + ROOM + ROOM + ROOM + [OUT]),
+    "bitm_sequence_check": (STATUS, [SEQUENCE]),
     "bitm_sequence_get": (STATUS, [SEQUENCE, SIZE, OUT]),
     "bitm_sequence_first_at_least": (STATUS, [SEQUENCE, U64, OUT]),
     "bitm_sequence_get_list": (STATUS, [SEQUENCE] + LIST + ROOM + [OUT]),
@@ -272,6 +273,10 @@ class Sequence:
 
     def __len__(self):
         return self._view.len
+
+    def check(self):
+        """Whether the parts are those of some sequence."""
+        return self._library.bitm_sequence_check(self._at) == OK
 
     def get(self, index):
         """The number at a place; None where there is none."""

@@ -88,7 +88,7 @@ def over_numbers(numbers, buffer):
     """A sequence of the numbers, which the buffer holds: each number, each place, and numbers in between."""
     parts = library.sequence_parts(buffer)
     with library.sequence(len(numbers), *parts) as sequence:
-        assert len(sequence) == len(numbers) and sequence.get(len(numbers)) is None
+        assert len(sequence) == len(numbers) and sequence.get(len(numbers)) is None and sequence.check()
         for i, number in enumerate(numbers):
             assert sequence.get(i) == number
             for value in (number, number - 1, number + 1):
@@ -97,9 +97,10 @@ def over_numbers(numbers, buffer):
                     assert sequence.first_at_least(value) == (place if place < len(numbers) else None)
         assert list(sequence.get_list(range(len(numbers) + 3))) == numbers
     if len(parts[2]):
-        # Spoilt words: a number, none, or a word that the parts are those of no sequence.
-        parts[2][len(parts[2]) // 2] ^= 0xFFFF
+        # One more one, or one less: a number, none, or a word that the parts are those of no sequence.
+        parts[2][len(parts[2]) // 2] ^= 1 << 33
         with library.sequence(len(numbers), *parts) as sequence:
+            assert not sequence.check()
             for i in range(len(numbers)):
                 try:
                     sequence.get(i), sequence.first_at_least(numbers[i])

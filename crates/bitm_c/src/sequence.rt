@@ -130,6 +130,21 @@ pub extern "C" fn bitm_sequence_build(
     }
 }
 
+/// Whether the parts are those of some sequence: one pass over the upper words for their tables, and one more for the
+/// numbers.
+#[unsafe(no_mangle)]
+pub extern "C" fn bitm_sequence_check(view: &SequenceView<'_>) -> u32
+    ensures ok { (result ≡ 0) ↔ (IsSized view.now
+        × ((xs : List ℕ) × Holds xs (held_by view.now))) }
+    ensures bad { (result ≡ 2) ↔ (IsSized view.now → ⊥) }
+    ensures status { (result ≡ 0) ⊎ (result ≡ 2) ⊎ (result ≡ 3) }
+{
+    match view.lent() {
+        Some(lent) => { if lent.check() { OK } else { WRONG } }
+        None => BAD_SIZE,
+    }
+}
+
 /// Number `index`.
 #[unsafe(no_mangle)]
 pub extern "C" fn bitm_sequence_get(view: &SequenceView<'_>, index: usize, out: &mut u64) -> u32

@@ -58,6 +58,7 @@ fn sequence_against_a_loop(items: &[u64]) {
     assert_eq!(width, Ok(of.width));
     assert!(Sequence::over(items.len(), 64, &low, &words, &upper, &lower).is_none());
     let made = Sequence::over(items.len(), of.width, &low, &words, &upper, &lower).expect("fits");
+    assert!(made.check());
     for (i, item) in items.iter().enumerate() {
         assert_eq!(made.get(i), Ok(Some(*item)));
         for value in [item.saturating_sub(1), *item, item.saturating_add(1)] {
@@ -73,6 +74,7 @@ fn sequence_against_a_loop(items: &[u64]) {
     assert_eq!(made.get_list(&places, &mut out[1..]), None);
     words.fill(0);
     let spoilt = Sequence::over(items.len(), of.width, &low, &words, &upper, &lower).expect("fits");
+    assert_eq!(spoilt.check(), items.is_empty());
     for i in 0..items.len() {
         assert_eq!(spoilt.get(i), Err(WrongParts));
     }
