@@ -31,9 +31,12 @@ pub struct CombinedSampling<D: CombinedSamplingDensity> {
     samples: BoxedSlice<u32, Global>,
     starts: BoxedSlice<usize, Global>,
     density: D::SamplingDensity,
+    // what the density stands for, so that a selection need not ask
+    log2: u8,
 }
 
 impl<D: CombinedSamplingDensity> Model for CombinedSampling<D> {
+    ghost use Rattle.std.specs.Prelude.{◌≡◌};
     ghost use Rattle.std.specs.Box.{boxed_slice_items};
     ghost use Rattle.bitm.specs.Samples.{Sampled};
 
@@ -44,6 +47,8 @@ impl<D: CombinedSamplingDensity> Model for CombinedSampling<D> {
       samples = boxed_slice_items s.samples;
       starts = boxed_slice_items s.starts;
     } };
+
+    ghost invariant = { λ s. s.log2 ≡ D.log s.density };
 }
 
 impl<D: CombinedSamplingDensity> CombinedSampling<D> {
@@ -67,15 +72,13 @@ impl<D: CombinedSamplingDensity> CombinedSampling<D> {
             total: total_rank,
             len,
         };
-        let (samples, starts) = make_samples::<ONE>(
-            alloc,
-            &summary,
-            D::items_per_sample_log2(density),
-        )?;
+        let log2 = D::items_per_sample_log2(density);
+        let (samples, starts) = make_samples::<ONE>(alloc, &summary, log2)?;
         Ok(CombinedSampling {
             samples,
             starts,
             density,
+            log2,
         })
     }
 
@@ -111,7 +114,7 @@ impl<D: CombinedSamplingDensity> CombinedSampling<D> {
     pub fn items_per_sample_log2(&self) -> u8
         ensures { result ≡ D.log self.now.density }
     {
-        D::items_per_sample_log2(self.density)
+        self.log2
     }
 
     /// The place of the one of the source's words with exactly `rank` ones before it; `None` exactly where there is
@@ -133,7 +136,7 @@ impl<D: CombinedSamplingDensity> CombinedSampling<D> {
             (D.log self.now.density) rank result (T.reads source.old) (T.reads source.new) }
         ensures same { T.lists source.new ≡ T.lists source.old }
     {
-        sampled_select_on::<1, D, T>(self.samples(), self.starts(), self.density, source, rank)
+        sampled_select_on::<1, T>(self.samples(), self.starts(), self.log2, source, rank)
     }
 
     /// The place of the zero of the source's words with exactly `rank` zeros before it; `None` exactly where there is
@@ -152,7 +155,7 @@ impl<D: CombinedSamplingDensity> CombinedSampling<D> {
             (D.log self.now.density) rank result (T.reads source.old) (T.reads source.new) }
         ensures same { T.lists source.new ≡ T.lists source.old }
     {
-        sampled_select_on::<0, D, T>(self.samples(), self.starts(), self.density, source, rank)
+        sampled_select_on::<0, T>(self.samples(), self.starts(), self.log2, source, rank)
     }
 }
 

@@ -12,7 +12,7 @@ use Rattle.bitm.proofs.lemmas.SampleLemmas.{length-starts, start_at}
 use Rattle.bitm.proofs.lemmas.TableLemmas.{HasEntries, entries}
 use Rattle.bitm.proofs.lemmas.WalkLemmas.{count_is, outside_none, outside_reads, empty_reads, start_from, start_in, start_below, sampled_reads, interval_inside, first_inside, place_fits}
 use Rattle.bitm.proofs.strategies.sampled.sampled_select_on.Goals as goal
-use Rattle.bitm.proofs.strategies.sampled.sampled_select_on.Goals.{After-divide, After-first_entry-from}
+use Rattle.bitm.proofs.strategies.sampled.sampled_select_on.Goals.{After-before_part, After-first_entry-from}
 
 -- the rank in part k, and which sample is the rank's
 abbrev rank_of : ℕ → Lists → ℕ → ℕ → ℕ
@@ -36,7 +36,7 @@ pub returns-then-upper_len-eq0-clause-reads : goal.returns-then-upper_len-eq0-cl
 returns-then-upper_len-eq0-clause-reads g c =
     let l = g.T.TableSource.lists c.args.source.now in
     let t = at l c.requires.tables in
-    empty_reads (bits_of l.words) (kind g.row.ONE) (g.D.CombinedSamplingDensity.log c.args.density) c.args.rank
+    empty_reads (bits_of l.words) (kind g.row.ONE) c.args.log2 c.args.rank
     (g.T.TableSource.reads c.args.source.now) (omega (arith, t.upper_length, c.upper_len.ensures))
 
 pub offset_bounds-starts-part : goal.offset_bounds-starts-part
@@ -49,10 +49,10 @@ pub bounds-starts-part : goal.bounds-starts-part
 bounds-starts-part g c =
     let l = g.T.TableSource.lists c.args.source.now in
     let t = at l c.requires.tables in
-    let long = length-starts (bits_of l.words) (kind g.row.ONE) (g.D.CombinedSamplingDensity.log c.args.density) in
+    let long = length-starts (bits_of l.words) (kind g.row.ONE) c.args.log2 in
     omega (arith, c.last_part-part.ensures.inside, t.upper_length, long, ap length c.requires.starts)
 
-module _ (g : _) (c : After-divide g) where
+module _ (g : _) (c : After-before_part g) where
   in_part : c.args.rank - c.before_part.result
       ≡ rank_of g.row.ONE (g.T.TableSource.lists c.args.source.now) c.args.rank c.last_part-part.result
   in_part =
@@ -69,44 +69,44 @@ module _ (g : _) (c : After-divide g) where
       let t = at (g.T.TableSource.lists c.args.source.now) c.requires.tables in
       omega (arith, c.last_part-part.ensures.inside, t.upper_length)
 
-  number_is : slice_index_or c.args.starts.now c.last_part-part.result 0 + c.divide.result
-      ≡ number_of g.row.ONE (g.T.TableSource.lists c.args.source.now) (g.D.CombinedSamplingDensity.log c.args.density) c.args.rank
+  number_is : slice_index_or c.args.starts.now c.last_part-part.result 0 + (c.args.rank - c.before_part.result) / 2 ^ c.args.log2
+      ≡ number_of g.row.ONE (g.T.TableSource.lists c.args.source.now) c.args.log2 c.args.rank
       c.last_part-part.result
   number_is =
       let b = bits_of (g.T.TableSource.lists c.args.source.now).words in
-      let d = g.D.CombinedSamplingDensity.log c.args.density in
+      let d = c.args.log2 in
       let k = c.last_part-part.result in
       ap₂ ◌+◌ (ap (λ (xs : List ℕ). get_or xs k 0) c.requires.starts ∙ start_at b (kind g.row.ONE) d k inside)
-      (c.divide.ensures ∙ ap (λ (n : ℕ). n / 2 ^ d) in_part)
+      (ap (λ (n : ℕ). n / 2 ^ d) in_part)
 
 pub overflow_add-at : goal.overflow_add-at
 overflow_add-at g c =
+    let a = (goal.at.overflow_add-at g c).After-before_part in
     let l = g.T.TableSource.lists c.args.source.now in
-    let d = g.D.CombinedSamplingDensity.log c.args.density in
+    let d = c.args.log2 in
     let r = rank_of g.row.ONE l c.args.rank c.last_part-part.result in
     let fits : r < 2 ^ 64 = omega arith in
-    let low = (g.met.D.CombinedSamplingDensity.in_range c.args.density).0 in
+    let low = c.requires.low in
     let short : length (bits_of l.words) < 2 ^ 64 = omega (arith, length-bits_of l.words, c.requires.short) in
-    let sum = place_fits (bits_of l.words) (kind g.row.ONE) d r (r / 2 ^ d) c.last_part-part.result low short (inside g c) fits refl in
-    record { fits = omega (arith, number_is g c, sum) }
+    let sum = place_fits (bits_of l.words) (kind g.row.ONE) d r (r / 2 ^ d) c.last_part-part.result low short (inside g a) fits refl in
+    record { fits = omega (arith, number_is g a, sum) }
 
 -- ---- no sample
 
 over : (g : _) (c : goal.Then-at-sampled g)
     → length (samples_of (bits_of (g.T.TableSource.lists c.args.source.now).words) (kind g.row.ONE)
-    (g.D.CombinedSamplingDensity.log c.args.density))
-    ≤ number_of g.row.ONE (g.T.TableSource.lists c.args.source.now) (g.D.CombinedSamplingDensity.log c.args.density) c.args.rank
+    c.args.log2)
+    ≤ number_of g.row.ONE (g.T.TableSource.lists c.args.source.now) c.args.log2 c.args.rank
     c.last_part-part.result
 over g c =
-    let a = (goal.at.returns-then-at-sampled-clause-answer g c).After-divide in
+    let a = (goal.at.returns-then-at-sampled-clause-answer g c).After-before_part in
     omega (arith, number_is g a, c.if-at-sampled.true, ap length c.requires.samples)
 
 pub returns-then-at-sampled-clause-answer : goal.returns-then-at-sampled-clause-answer
 returns-then-at-sampled-clause-answer g c =
     let l = g.T.TableSource.lists c.args.source.now in
     outside_none (bits_of l.words) l.upper l.lower (at l c.requires.tables) (kind g.row.ONE) c.args.rank c.last_part-part.result
-    (c.last_part-part.ensures.last (indexed _ c.requires.tables c.requires.short))
-    (g.D.CombinedSamplingDensity.log c.args.density) (over g c)
+    (c.last_part-part.ensures.last (indexed _ c.requires.tables c.requires.short)) c.args.log2 (over g c)
 
 pub returns-then-at-sampled-clause-reads : goal.returns-then-at-sampled-clause-reads
 returns-then-at-sampled-clause-reads g c =
@@ -117,7 +117,7 @@ returns-then-at-sampled-clause-reads g c =
     let counted = c.before_part.ensures.counted in
     outside_reads (bits_of l.words) l.upper l.lower t (kind g.row.ONE) c.args.rank c.last_part-part.result
     (c.last_part-part.ensures.last (indexed _ c.requires.tables c.requires.short))
-    (g.D.CombinedSamplingDensity.log c.args.density) (over g c) (digit_count (parts (bits_of l.words)) + 1)
+    c.args.log2 (over g c) (digit_count (parts (bits_of l.words)) + 1)
     (T.reads c.args.source.now) (T.reads c.before_part.new.source)
     (record {
       upper = omega (arith, ap (λ (r : ReadCounts). r.upper) counted, part.upper, ap digit_count t.upper_length);
@@ -130,26 +130,26 @@ returns-then-at-sampled-clause-reads g c =
 module _ (g : _) (c : After-first_entry-from g)
     (in_part_is : c.args.rank - c.before_part.result
     ≡ rank_of g.row.ONE (g.T.TableSource.lists c.args.source.now) c.args.rank c.last_part-part.result)
-    (place_is : slice_index_or c.args.starts.now c.last_part-part.result 0 + c.divide.result
-    ≡ number_of g.row.ONE (g.T.TableSource.lists c.args.source.now) (g.D.CombinedSamplingDensity.log c.args.density) c.args.rank
+    (place_is : slice_index_or c.args.starts.now c.last_part-part.result 0 + (c.args.rank - c.before_part.result) / 2 ^ c.args.log2
+    ≡ number_of g.row.ONE (g.T.TableSource.lists c.args.source.now) c.args.log2 c.args.rank
     c.last_part-part.result) where
-  pos : 1 ≤ g.D.CombinedSamplingDensity.log c.args.density
-  pos = omega (arith, (g.met.D.CombinedSamplingDensity.in_range c.args.density).0)
+  pos : 1 ≤ c.args.log2
+  pos = omega (arith, c.requires.low)
 
-  there : number_of g.row.ONE (g.T.TableSource.lists c.args.source.now) (g.D.CombinedSamplingDensity.log c.args.density) c.args.rank
+  there : number_of g.row.ONE (g.T.TableSource.lists c.args.source.now) c.args.log2 c.args.rank
       c.last_part-part.result
       < length (samples_of (bits_of (g.T.TableSource.lists c.args.source.now).words) (kind g.row.ONE)
-      (g.D.CombinedSamplingDensity.log c.args.density))
+      c.args.log2)
   there = omega (arith, place_is, c.if-at-sampled.false, ap length c.requires.samples)
 
   from_is : c.first_entry-from.result
       ≡ walk_start (part_of (bits_of (g.T.TableSource.lists c.args.source.now).words) c.last_part-part.result) (kind g.row.ONE)
-      (g.D.CombinedSamplingDensity.log c.args.density)
+      c.args.log2
       (rank_of g.row.ONE (g.T.TableSource.lists c.args.source.now) c.args.rank c.last_part-part.result)
   from_is =
       let l = g.T.TableSource.lists c.args.source.now in
-      let d = g.D.CombinedSamplingDensity.log c.args.density in
-      let s = slice_index_or c.args.sampled.now (slice_index_or c.args.starts.now c.last_part-part.result 0 + c.divide.result) 0 in
+      let d = c.args.log2 in
+      let s = slice_index_or c.args.sampled.now (slice_index_or c.args.starts.now c.last_part-part.result 0 + (c.args.rank - c.before_part.result) / 2 ^ c.args.log2) 0 in
       c.first_entry-from.ensures
       ∙ ap (λ (r : ℕ). s % 2 ^ 21 + (if nat_eq (r / 2 ^ (d - 1) % 2) 1 then s / 2 ^ 21 else 0)) in_part_is
       ∙ start_from (bits_of l.words) l.upper l.lower (at l c.requires.tables) (kind g.row.ONE) c.args.rank c.last_part-part.result
@@ -161,11 +161,11 @@ module _ (g : _) (c : After-first_entry-from g)
 
 pub walk-entry-requires-clause-from : goal.walk-entry-requires-clause-from
 walk-entry-requires-clause-from g c =
-    let a = (goal.at.walk-entry-requires-clause-from g c).After-divide in
+    let a = (goal.at.walk-entry-requires-clause-from g c).After-before_part in
     let f = (goal.at.walk-entry-requires-clause-from g c).After-first_entry-from in
     let l = g.T.TableSource.lists c.args.source.now in
     let k = c.last_part-part.result in
-    let d = g.D.CombinedSamplingDensity.log c.args.density in
+    let d = c.args.log2 in
     let starts =
     start_in (bits_of l.words) l.upper l.lower (at l c.requires.tables) (kind g.row.ONE) c.args.rank k
     (c.last_part-part.ensures.last (indexed _ c.requires.tables c.requires.short))
@@ -176,11 +176,11 @@ walk-entry-requires-clause-from g c =
 
 pub walk-entry-requires-clause-at_most : goal.walk-entry-requires-clause-at_most
 walk-entry-requires-clause-at_most g c =
-    let a = (goal.at.walk-entry-requires-clause-at_most g c).After-divide in
+    let a = (goal.at.walk-entry-requires-clause-at_most g c).After-before_part in
     let f = (goal.at.walk-entry-requires-clause-at_most g c).After-first_entry-from in
     let l = g.T.TableSource.lists c.args.source.now in
     let k = c.last_part-part.result in
-    let d = g.D.CombinedSamplingDensity.log c.args.density in
+    let d = c.args.log2 in
     let from = c.first_entry-from.result in
     let below =
     start_below (bits_of l.words) l.upper l.lower (at l c.requires.tables) (kind g.row.ONE) c.args.rank k
@@ -210,12 +210,12 @@ selected_there one k left rank l l' o same total h =
 
 pub returns-clause-reads : goal.returns-clause-reads
 returns-clause-reads g c =
-    let a = (goal.at.returns-clause-reads g c).After-divide in
+    let a = (goal.at.returns-clause-reads g c).After-before_part in
     let f = (goal.at.returns-clause-reads g c).After-first_entry-from in
     let T = g.T.TableSource in
     let l = T.lists c.args.source.now in
     let t = at l c.requires.tables in
-    let d = g.D.CombinedSamplingDensity.log c.args.density in
+    let d = c.args.log2 in
     let v = kind g.row.ONE in
     let k = c.last_part-part.result in
     let b = bits_of l.words in

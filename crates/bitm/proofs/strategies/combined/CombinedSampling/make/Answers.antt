@@ -33,8 +33,8 @@ returns g c =
     let bits : length c.args.content.now * 64 ≡ length b = omega (arith, long) in
     let chosen : D.chosen c.items_among.result (length c.args.content.now * 64) ≡ D.chosen (count_of b v) (length b) =
     ap₂ D.chosen items bits in
-    let kept = ap (samples_of b v) c.items_per_sample_log2.ensures.value in
-    let starts = ap (sample_starts_of b v) c.items_per_sample_log2.ensures.value in
+    let kept = ap (samples_of b v) c.items_per_sample_log2-log2.ensures.value in
+    let starts = ap (sample_starts_of b v) c.items_per_sample_log2-log2.ensures.value in
     record {
       short = c.requires.short;
       density_is = c.density_for-density.ensures ∙ chosen;
