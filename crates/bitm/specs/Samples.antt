@@ -108,9 +108,10 @@ pub record Summarizes (b : List Bool) (upper lower : List ℕ) (total len : ℕ)
 abbrev pub IsSummaryOf : List Bool → Summary → Type 0
 IsSummaryOf b summary = Summarizes b summary.upper.now summary.lower.now summary.total summary.len
 
--- they are those of some bits
-abbrev pub IsSummary : Summary → Type 0
-IsSummary summary = (b : List Bool) × IsSummaryOf b summary
+-- the tables are as long as those of so many bits: nothing is said of what they hold
+pub record IsSized (summary : Summary) : Type 0 where
+  pub upper_len : length summary.upper.now ≡ div_ceil summary.len (2 ^ 32)
+  pub lower_len : length summary.lower.now ≡ div_ceil summary.len 2048
 
 -- what a value that selects by samples shows: its density, the samples, and how many there are before each part
 pub record Sampled (S : Type 0) : Type 0 where

@@ -3,10 +3,12 @@
 //! are. What `record_of` asks of an entry, a caller can test.
 
 pub use crate::entry::{entries_of_part, ones_to_entry, ones_to_record};
-pub use crate::search::entries::{EntryRange, last_entry, last_in_range};
+pub use crate::search::entries::{EntryRange, last_entry, last_in_range, sought_entry};
 pub use crate::search::ranking::ones_in_record;
 pub use crate::search::selecting::{
     before_part, last_part, record_of, select_in_word, sought_word,
 };
+pub use crate::strategies::sampled::first_entry;
+pub use crate::strategies::samples::{Summary, items_in, sample_from};
 pub use crate::tables::make_entry;
 pub use crate::word::ones_through;

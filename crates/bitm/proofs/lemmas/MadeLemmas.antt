@@ -8,10 +8,10 @@ use Rattle.std.specs.List.{range_with_len}
 use Rattle.std.specs.Int.{div_ceil}
 use Rattle.bitm_bits.proofs.lemmas.CountLemmas.{ones_before-add-zeros_before}
 use Rattle.bitm_bits.specs.Count.{count_of, ones_before, count_before, kind}
-use Rattle.bitm.specs.Entry.{before_in_part, lower_entry, FieldsFit}
+use Rattle.bitm.specs.Entry.{before_in_part, lower_entry, greatest, FieldsFit}
 use Rattle.bitm.specs.Samples.{Summarizes, part_of, entry_of, sample}
-use Rattle.bitm.specs.Search.{IsLast, IsLastEntry, entries_from, sought, negated, padded}
-use Rattle.bitm.proofs.lemmas.EntryLemmas.{entry-fits}
+use Rattle.bitm.specs.Search.{IsLast, IsLastEntry, entries_from, sought}
+use Rattle.bitm.proofs.lemmas.EntryLemmas.{entry-complement, entry-fits}
 use Rattle.bitm.proofs.lemmas.MarkLemmas.{kind_other}
 use Rattle.bitm.proofs.lemmas.PartLemmas.{length-part_of, count_of-part_of, last_same, last_alike, entry_last, count_before-between, count_in_part}
 use Rattle.bitm.proofs.lemmas.SampleLemmas.{ceil_less}
@@ -29,27 +29,31 @@ items_other c one h = ap (count_of c) (kind_other one h)
 
 -- ---- a part and its entries
 
+-- a part of tables that are long enough has its first entry
+pub sized_first : (len upper lower k : ℕ) → upper ≡ div_ceil len (2 ^ 32) → lower ≡ div_ceil len 2048 → k < upper → k * 2 ^ 21 < lower
+sized_first len upper lower k uppers lowers inside = omega arith
+
 module _ (b : List Bool) (upper lower : List ℕ) (total len : ℕ) (t : Summarizes b upper lower total len) where
   t' : HasEntries b upper lower
   t' = entries b upper lower t.tables
 
-  pub fits_at : (j : ℕ) → j < length lower → FieldsFit (slice_index lower j) j
+  fits_at : (j : ℕ) → j < length lower → FieldsFit (slice_index lower j) j
   fits_at j h = subst (λ (e : ℕ). FieldsFit e j) (sym (t'.lower_is j h)) (entry-fits b j)
 
   pub ones_at : (j one : ℕ) → j < length lower → one ≢ 0 → slice_index lower j ≡ lower_entry (sought (kind one) b) j
   ones_at j one h other = t'.lower_is j h ∙ entry_ones b j one other
 
   pub zeros_at : (j one r : ℕ) → j < length lower → one ≡ 0
-      → (j < div_ceil (length b) 2048 → slice_index lower j ≡ lower_entry b j → r ≡ lower_entry (negated (padded b)) j)
-      → r ≡ lower_entry (sought (kind one) b) j
-  zeros_at j one r h none f = f (omega (arith, t'.lower_length)) (t'.lower_is j h) ∙ entry_zeros b j one none
+      → (FieldsFit (slice_index lower j) j → r ≡ greatest j - slice_index lower j) → r ≡ lower_entry (sought (kind one) b) j
+  zeros_at j one r h none f =
+      f (fits_at j h)
+      ∙ ap (λ (e : ℕ). greatest j - e) (t'.lower_is j h)
+      ∙ entry-complement b j (omega (arith, t'.lower_length))
+      ∙ entry_zeros b j one none
 
   module _ (k : ℕ) (inside : k < length upper) where
     pub begins : k * 2 ^ 32 < length b
     begins = omega (arith, t'.upper_length)
-
-    pub first_begins : k * 2 ^ 21 < length lower
-    first_begins = omega (arith, begins, t'.lower_length)
 
     pub entries_of_part : entries_from (length lower) k ≡ div_ceil (length (part_of b k)) 2048
     entries_of_part = omega (arith, t'.lower_length, length-part_of b k, begins)

@@ -18,8 +18,11 @@ const FEW: usize = 1 << 12;
 const WINDOW: usize = 32;
 
 /// Lower entry `at` of the bits in which ones are sought, where the tables are those of the words.
+///
+/// # Conditions
+/// There is such an entry. Nothing is asked of what it holds.
 #[inline(always)]
-pub(crate) fn sought_entry<const ONE: u8, T: TableSource>(source: &mut T, at: usize) -> u64
+pub fn sought_entry<const ONE: u8, T: TableSource>(source: &mut T, at: usize) -> u64
     requires { at < length (T.lists source.old).lower }
     ensures entry { HasTables (T.lists source.old) → result
         ≡ lower_entry (sought_in ONE (T.lists source.old).words) at }

@@ -9,9 +9,13 @@ use crate::search::selecting::{before_part, last_part, select_in_entry};
 use crate::search::walking::walk;
 use crate::source::TableSource;
 
-/// The entry at which a sample lets the selection of this rank begin, where a sample stands for 2^`log2` items.
+/// The entry at which a sample lets the selection of this rank begin, counted in its part, where a sample stands for
+/// 2^`log2` items.
+///
+/// # Conditions
+/// The logarithm is 7 to 31. Nothing is asked of the sample.
 #[inline(always)]
-fn first_entry(sample: u32, rank: usize, log2: u8) -> usize
+pub fn first_entry(sample: u32, rank: usize, log2: u8) -> usize
     requires low { 7 ≤ log2 }
     requires high { log2 ≤ 31 }
     ensures { result ≡ sample % 2 ^ 21 + (if digit rank (log2 - 1) then sample / 2 ^ 21 else 0) }

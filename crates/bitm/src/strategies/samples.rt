@@ -1,20 +1,22 @@
 //! Samples made from the tables alone: no word is read.
+//!
+//! The tables may hold anything: where they are not those of some bits, the samples are some numbers.
 ghost use Rattle.std.specs.Prelude.{◌≡◌, ◌+◌, ◌-◌, ◌*◌, ◌^◌, ◌<◌, ◌≤◌, ◌++◌, Bool, List, length, min, IfOk};
 ghost use Rattle.std.specs.Box.{boxed_slice_items};
 ghost use Rattle.bitm_bits.specs.Count.{count_of, ones_before, ones_of, kind};
 ghost use Rattle.bitm.specs.Entry.{lower_entry};
-ghost use Rattle.bitm.specs.Samples.{IsSummary, IsSummaryOf, part_of, sample};
+ghost use Rattle.bitm.specs.Samples.{IsSized, IsSummaryOf, part_of, sample};
 ghost use Rattle.bitm.specs.Samples.{intervals, part_samples, samples_of, sample_starts_of};
 ghost use Rattle.bitm.specs.Search.{IsLastEntry, entries_from, items_to, sought};
 
-use crate::entry::{complement_entry, entries_of_part, ones_to_entry};
+use crate::entry::{entries_of_part, negated_entry, ones_to_entry};
 use crate::levels::L2_ENTRIES_PER_L1_ENTRY;
 use std::alloc::{AllocError, Global};
 use std::boxed::BoxedSlice;
 
 /// The tables of some bits, and how many ones and bits there are.
 #[derive(Clone, Copy)]
-pub(crate) struct Summary<'a> {
+pub struct Summary<'a> {
     /// The ones before each part.
     pub upper: &'a [usize],
     /// The packed entries.
@@ -38,7 +40,7 @@ pub(crate) fn items_among<const ONE: u8>(total: usize, len: usize) -> usize
 
 /// How many ones stand before a part's end.
 fn ones_to_end(summary: &Summary<'_>, part: usize) -> usize
-    requires summary { IsSummary summary.now }
+    requires sized { IsSized summary.now }
     requires inside { part < length summary.now.upper.now }
     ensures { (b : List Bool) → IsSummaryOf b summary.now
         → result ≡ ones_before b (min (length b) ((part + 1) * 2 ^ 32)) }
@@ -50,33 +52,37 @@ fn ones_to_end(summary: &Summary<'_>, part: usize) -> usize
     }
 }
 
-/// How many ones, or zeros where `ONE` is 0, a part has.
-fn items_in<const ONE: u8>(summary: &Summary<'_>, part: usize) -> usize
-    requires summary { IsSummary summary.now }
+/// How many ones, or zeros where `ONE` is 0, a part has, where the tables are those of some bits; else no more than it
+/// has bits.
+///
+/// # Conditions
+/// There is such a part, and the tables are as long as those of so many bits. Nothing is asked of what they hold.
+pub fn items_in<const ONE: u8>(summary: &Summary<'_>, part: usize) -> usize
+    requires sized { IsSized summary.now }
     requires inside { part < length summary.now.upper.now }
     ensures few { result ≤ 2 ^ 32 }
+    ensures fits { result ≤ summary.now.len - part * 2 ^ 32 }
     ensures items { (b : List Bool) → IsSummaryOf b summary.now
         → result ≡ count_of (part_of b part) (kind ONE) }
 {
-    let ones = ones_to_end(summary, part) - summary.upper[part];
-    if ONE == 0 {
-        (summary.len - (part << 32)).min(1 << 32) - ones
-    } else {
-        ones
-    }
+    let bits = (summary.len - (part << 32)).min(1 << 32);
+    let ones = ones_to_end(summary, part)
+        .saturating_sub(summary.upper[part])
+        .min(bits);
+    if ONE == 0 { bits - ones } else { ones }
 }
 
 /// Lower entry `at` of the bits in which ones are sought.
 #[inline(always)]
 fn sought_entry<const ONE: u8>(summary: &Summary<'_>, at: usize) -> u64
-    requires summary { IsSummary summary.now }
+    requires sized { IsSized summary.now }
     requires inside { at < length summary.now.lower.now }
     ensures { (b : List Bool) → IsSummaryOf b summary.now
         → result ≡ lower_entry (sought (kind ONE) b) at }
 {
     let entry = summary.lower[at];
     if ONE == 0 {
-        complement_entry(entry, at)
+        negated_entry(entry, at)
     } else {
         entry
     }
@@ -85,7 +91,7 @@ fn sought_entry<const ONE: u8>(summary: &Summary<'_>, at: usize) -> u64
 /// How many entries a part has.
 #[inline(always)]
 fn entries_in(summary: &Summary<'_>, part: usize) -> usize
-    requires summary { IsSummary summary.now }
+    requires sized { IsSized summary.now }
     requires inside { part < length summary.now.upper.now }
     ensures { result ≡ entries_from (length summary.now.lower.now) part }
 {
@@ -94,7 +100,7 @@ fn entries_in(summary: &Summary<'_>, part: usize) -> usize
 
 /// The last entry of a part, from entry `from` on, with no more than `item` items before it in the part.
 fn walk_tables<const ONE: u8>(summary: &Summary<'_>, part: usize, from: usize, item: usize) -> usize
-    requires summary { IsSummary summary.now }
+    requires sized { IsSized summary.now }
     requires inside { part < length summary.now.upper.now }
     requires from { from < entries_from (length summary.now.lower.now) part }
     ensures order { from ≤ result }
@@ -113,8 +119,12 @@ fn walk_tables<const ONE: u8>(summary: &Summary<'_>, part: usize, from: usize, i
 }
 
 /// The sample of an interval that begins at `item`, and an entry that is no later than that of the next interval's
-/// first item.
-fn sample_from<const ONE: u8>(
+/// first item, where the tables are those of some bits; else some number and some entry of the part.
+///
+/// # Conditions
+/// The part has so many items by `items_in`, `item` is one of them, and `from` is an entry of the part, that of an
+/// earlier item or the first. The logarithm is 7 to 31.
+pub fn sample_from<const ONE: u8>(
     summary: &Summary<'_>,
     part: usize,
     log2: u8,
@@ -122,7 +132,7 @@ fn sample_from<const ONE: u8>(
     item: usize,
     items: usize,
 ) -> (u32, usize)
-    requires summary { IsSummary summary.now }
+    requires sized { IsSized summary.now }
     requires inside { part < length summary.now.upper.now }
     requires low { 7 ≤ log2 }
     requires high { log2 ≤ 31 }
@@ -150,7 +160,7 @@ fn sample_from<const ONE: u8>(
 /// How many samples a part has.
 #[inline(always)]
 fn samples_in<const ONE: u8>(summary: &Summary<'_>, part: usize, log2: u8) -> usize
-    requires summary { IsSummary summary.now }
+    requires sized { IsSized summary.now }
     requires inside { part < length summary.now.upper.now }
     requires low { 7 ≤ log2 }
     requires high { log2 ≤ 31 }
@@ -167,7 +177,7 @@ fn make_starts<const ONE: u8>(
     summary: &Summary<'_>,
     log2: u8,
 ) -> Result<(Vec<usize>, usize), AllocError>
-    requires summary { IsSummary summary.now }
+    requires sized { IsSized summary.now }
     requires low { 7 ≤ log2 }
     requires high { log2 ≤ 31 }
     ensures { IfOk result (λ made. (b : List Bool) → IsSummaryOf b summary.now
@@ -189,7 +199,7 @@ fn push_samples<const ONE: u8>(
     part: usize,
     log2: u8,
 ) -> Result<(), AllocError>
-    requires summary { IsSummary summary.now }
+    requires sized { IsSized summary.now }
     requires inside { part < length summary.now.upper.now }
     requires low { 7 ≤ log2 }
     requires high { log2 ≤ 31 }
@@ -224,7 +234,7 @@ pub(crate) fn make_samples<const ONE: u8>(
     summary: &Summary<'_>,
     log2: u8,
 ) -> Result<(BoxedSlice<u32, Global>, BoxedSlice<usize, Global>), AllocError>
-    requires summary { IsSummary summary.now }
+    requires sized { IsSized summary.now }
     requires low { 7 ≤ log2 }
     requires high { log2 ≤ 31 }
     ensures samples { IfOk result (λ made. (b : List Bool) → IsSummaryOf b summary.now

@@ -10,8 +10,7 @@ use Rattle.bitm.proofs.strategies.samples.make_starts.Goals as goal
 
 pub overflow_add-count : goal.overflow_add-count
 overflow_add-count g c =
-    let t = c.requires.summary.1 in
-    omega (arith, c.loop-part.invariant.few, c.samples_in-count.ensures.few, (entries _ _ _ t.tables).upper_length, t.bits_are)
+    omega (arith, c.loop-part.invariant.few, c.samples_in-count.ensures.few, c.requires.sized.upper_len)
 
 pub loop-part-preserved : goal.loop-part-preserved
 loop-part-preserved g c =

@@ -6,7 +6,7 @@ use Rattle.std.specs.List.{range_with_len}
 use Rattle.bitm_bits.specs.Count.{kind}
 use Rattle.bitm.specs.Samples.{intervals, part_of, sample}
 use Rattle.bitm.specs.Search.{items_to, sought}
-use Rattle.bitm.proofs.lemmas.MadeLemmas.{first_begins, interval_item, half_within, one_more}
+use Rattle.bitm.proofs.lemmas.MadeLemmas.{sized_first, interval_item, half_within, one_more}
 use Rattle.bitm.proofs.lemmas.SoughtLemmas.{first_none}
 use Rattle.bitm.proofs.strategies.samples.push_samples.Goals as goal
 
@@ -20,7 +20,7 @@ sample_from-sample-requires-clause-item g c =
 pub loop-interval-init : goal.loop-interval-init
 loop-interval-init g c =
     record {
-      inside = omega (arith, first_begins _ _ _ _ _ c.requires.summary.1 c.args.part c.requires.inside);
+      inside = omega (arith, sized_first _ _ _ c.args.part c.requires.sized.upper_len c.requires.sized.lower_len c.requires.inside);
       at_most = λ b t. omega (arith, first_none (sought (kind g.row.ONE) b) c.args.part);
       samples = λ b t. sym (append-nil c.args.samples.now.items);
     }

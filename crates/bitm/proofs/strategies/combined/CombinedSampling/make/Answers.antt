@@ -5,6 +5,7 @@ use Rattle.bitm_bits.specs.Bits.{bits_of}
 use Rattle.bitm_bits.specs.Count.{count_of, kind}
 use Rattle.bitm.specs.Samples.{samples_of, sample_starts_of, Summarizes}
 use Rattle.bitm.proofs.lemmas.StretchLemmas.{ones_before-self}
+use Rattle.bitm.proofs.lemmas.TableLemmas.{entries}
 use Rattle.bitm.proofs.strategies.combined.CombinedSampling.make.Goals as goal
 use Rattle.bitm.proofs.strategies.combined.CombinedSampling.make.Goals.{Start}
 
@@ -18,9 +19,11 @@ tabled : (g : _) (c : Start g)
 tabled g c =
     record { tables = c.requires.tables; ones_are = c.requires.total; bits_are = omega (arith, length-bits_of c.args.content.now) }
 
-pub make_samples-requires-clause-summary : goal.make_samples-requires-clause-summary
-make_samples-requires-clause-summary g c =
-    (bits_of c.args.content.now, tabled g (goal.at.make_samples-requires-clause-summary g c).Start)
+pub make_samples-requires-clause-sized : goal.make_samples-requires-clause-sized
+make_samples-requires-clause-sized g c =
+    let long = length-bits_of c.args.content.now in
+    let t = entries _ _ _ c.requires.tables in
+    record { upper_len = omega (arith, long, t.upper_length); lower_len = omega (arith, long, t.lower_length) }
 
 pub returns : goal.returns
 returns g c =
