@@ -1,13 +1,15 @@
 -- What a selection among eight words says where the tables are right, and where they may hold anything.
-use Rattle.std.proofs.Common.{◌≡◌, ℕ, ◌+◌, ◌*◌, ◌<◌, ◌≤◌, ◌-◌, Bool, List, length, arith}
+use Rattle.std.proofs.Common.{◌≡◌, ℕ, ◌+◌, ◌*◌, ◌^◌, ◌<◌, ◌≤◌, ◌-◌, Bool, List, length, arith}
 use Rattle.bitm_bits.proofs.lemmas.BitsLemmas.{length-bits_of}
 use Rattle.bitm_bits.proofs.lemmas.PickLemmas.{rank_below}
 use Rattle.bitm_bits.specs.Bits.{bits_of}
 use Rattle.bitm_bits.specs.Count.{ones_before, count_of}
 use Rattle.bitm.specs.Search.{sought}
-use Rattle.bitm.specs.Tables.{HasTables, Lists, bits_in}
+use Rattle.bitm.specs.Tables.{HasSizes, HasTables, Lists, bits_in}
 use Rattle.bitm.proofs.lemmas.MarkLemmas.{none_counted}
 use Rattle.bitm_lent.specs.Answers.{HasBit, IsSelected, IsSelectedFrom, SelectTold}
+use Rattle.bitm_lent.specs.Samples.{IsSelectedIfTold, SampledTold}
+use Rattle.bitm_lent.specs.declared.samples.LentSamples.{LentSamples}
 use Rattle.bitm_lent.specs.declared.selecting.Selected.{Selected}
 use Rattle.bitm_lent.specs.declared.selecting.Selected.TheVariants.{Found, Absent, WrongTables}
 
@@ -39,3 +41,15 @@ told_place v lists r p bit answer = record {
   some = λ t _. answer t;
   none = λ t past. absurd (omega (arith, past, rank_below (bits_in lists) v r p (answer t)));
 }
+
+-- the same of a place that samples led to
+pub sampled_place : (v : Bool) (lists : Lists) (lent : LentSamples) (r p : ℕ) → HasSizes lists → HasBit (bits_in lists) v (Found p)
+    → (HasTables lists → IsSelectedIfTold (bits_in lists) v r (Found p)) → SampledTold v lists lent r p
+sampled_place v lists lent r p sized bit told =
+    let below : p < 2 ^ 64 - 2 = omega (arith, bit.0, length-bits_of lists.words, sized.short) in
+    record {
+      bit = λ _. bit;
+      place = λ t _. told t;
+      absent = λ t e. absurd (omega (arith, e, below));
+      told = λ _ _ e. omega (arith, e, below);
+    }

@@ -8,6 +8,8 @@ ghost use Rattle.bitm.specs.Tables.{HasSizes, HasTables, bits_in};
 ghost use Rattle.bitm_lent.specs.Answers.{HasBit, IsSelected};
 ghost use Rattle.bitm_lent.specs.Sizes.{listed};
 
+mod by_samples;
+
 use crate::checking::are_tables;
 use crate::ranking::total_rank_on;
 use crate::selecting::{Selected, total_select_on};

@@ -9,6 +9,11 @@
 //! let ones = build(&words, &mut upper, &mut lower);   // Some(..) of 40 words
 //! let Some(lent) = Lent::over(&words, &upper, &lower) else { return };
 //! lent.select(17);                                    // Found(place), Absent or WrongTables
+//!
+//! let (mut numbers, mut starts) = ([0; 20], [0]);     // samples_len(40, 7) and upper_len(40) numbers
+//! let Some(used) = lent.build_samples(7, &mut numbers, &mut starts) else { return };
+//! let samples = LentSamples { samples: &numbers[..used], starts: &starts, log2: 7 };
+//! lent.sampled_select(&samples, 17);                  // the same answers, by fewer reads
 //! ```
 #![tactic(auto)]
 
@@ -18,6 +23,10 @@ mod lent;
 mod lists;
 mod places;
 mod ranking;
+mod sampled;
+mod sampled_lists;
+mod samples;
+mod sampling;
 mod selecting;
 
 pub use filling::build;
@@ -25,4 +34,6 @@ pub use lent::{Lent, lower_len, upper_len};
 pub use lists::{NO_ANSWER, WRONG_TABLES};
 pub use places::ones_from;
 pub use ranking::total_rank_on;
+pub use sampled::sampled_select_on;
+pub use samples::{LentSamples, samples_len};
 pub use selecting::{Selected, total_select_on};

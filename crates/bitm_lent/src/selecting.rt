@@ -21,7 +21,7 @@ pub enum Selected {
     Found(usize),
     /// There is no such bit.
     Absent,
-    /// The tables are not those of the words.
+    /// The tables are not those of the words, or samples that were given are not.
     WrongTables,
 }
 
@@ -92,7 +92,7 @@ fn fields_rise(entry: u64) -> bool
 /// Selection in entry `entry` of a part, which packs `packed`: the last one with no more than `rank` of the kind
 /// before it in the part, if the tables are right.
 #[inline(always)]
-fn in_packed<const ONE: u8, T: TableSource>(
+pub(crate) fn in_packed<const ONE: u8, T: TableSource>(
     source: &mut T,
     part: usize,
     entry: usize,

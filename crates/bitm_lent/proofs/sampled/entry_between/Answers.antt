@@ -1,0 +1,28 @@
+-- Two entries are asked, and as many are read as the range's length has digits.
+use Rattle.std.proofs.Common.{◌-◌, ap, inl, inr, arith}
+use Rattle.std.proofs.lemmas.Bool.{cases_lt}
+use Rattle.bitm_bits.proofs.lemmas.DigitLemmas.{digit_count_most}
+use Rattle.bitm.specs.declared.source.counts.ReadCounts.{ReadCounts}
+use Rattle.bitm_lent.proofs.sampled.entry_between.Goals as goal
+
+pub returns-clause-reads : goal.returns-clause-reads
+returns-clause-reads g c =
+    let n = c.args.end - c.args.low - 1 in
+    let r = c.last_in_range.ensures in
+    let digits = digit_count_most 21 n (omega (arith, c.requires.within, c.requires.some)) in
+    elim (cases_lt 0 c.args.low) [
+      | inl later ↦
+          let few = r.reads_later later in
+          record {
+            upper = omega (arith, few.upper, c.begun_by.ensures.reads.upper, c.is_behind.ensures.reads.upper);
+            lower = omega (arith, few.lower, c.begun_by.ensures.reads.lower, c.is_behind.ensures.reads.lower, digits);
+            words = omega (arith, few.words, c.begun_by.ensures.reads.words, c.is_behind.ensures.reads.words);
+          }
+      | inr first ↦
+          let none = c.begun_by.ensures.reads_first (omega (arith, first)) in
+          record {
+            upper = omega (arith, r.reads.upper, c.begun_by.ensures.reads.upper, c.is_behind.ensures.reads.upper);
+            lower = omega (arith, r.reads.lower, ap (λ (x : ReadCounts). x.lower) none, c.is_behind.ensures.reads.lower, digits);
+            words = omega (arith, r.reads.words, c.begun_by.ensures.reads.words, c.is_behind.ensures.reads.words);
+          }
+    ]

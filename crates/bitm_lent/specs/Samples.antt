@@ -1,0 +1,52 @@
+-- Samples that are lent, and what selection by them answers.
+use Rattle.std.specs.Prelude.{◌≡◌, ◌≢◌, ⊤, ℕ, ◌-◌, ◌*◌, ◌^◌, ◌<◌, ◌≤◌, Bool, List, length, slice_index}
+use Rattle.std.specs.Int.{div_ceil}
+use Rattle.bitm_bits.specs.Bits.{item}
+use Rattle.bitm_bits.specs.Count.{count_before, count_of, Picks}
+use Rattle.bitm.specs.Density.{within}
+use Rattle.bitm.specs.Samples.{samples_of, sample_starts_of}
+use Rattle.bitm.specs.Tables.{HasTables, Lists, bits_in}
+use Rattle.bitm_lent.specs.declared.samples.LentSamples.{LentSamples}
+use Rattle.bitm_lent.specs.declared.selecting.Selected.{Selected}
+use Rattle.bitm_lent.specs.declared.selecting.Selected.TheVariants.{Found, Absent, WrongTables}
+
+-- the two lists are the samples of the items v of the bits b at logarithm d, and how many there are before each part
+pub record AreSamples (b : List Bool) (v : Bool) (d : ℕ) (samples starts : List ℕ) : Type 0 where
+  pub samples_are : samples ≡ samples_of b v d
+  pub starts_are : starts ≡ sample_starts_of b v d
+
+-- what is lent are the samples of the items v of the bits b
+abbrev pub AreSamplesOf : List Bool → Bool → LentSamples → Type 0
+AreSamplesOf b v lent = AreSamples b v (within lent.log2) lent.samples.now lent.starts.now
+
+-- sample number j of the items v of the bits b, over all parts
+abbrev pub sample_number : List Bool → Bool → ℕ → ℕ → ℕ
+sample_number b v d j = slice_index (samples_of b v d) j
+
+-- how many samples are enough for so many words
+abbrev pub enough_samples : ℕ → ℕ → ℕ
+enough_samples words log = div_ceil words (2 ^ (within log - 6))
+
+-- there is room for the samples of any words of so many, and for as many starts as parts
+pub record HasRoom (lists : Lists) (log : ℕ) (samples starts : List ℕ) : Type 0 where
+  pub samples_len : enough_samples (length lists.words) log ≤ length samples
+  pub starts_len : length starts ≡ length lists.upper
+
+-- item number r of the part c is in an entry from low on and before end, of so many entries; or there is no such item
+pub record IsBounded (c : List Bool) (v : Bool) (r entries low end : ℕ) : Type 0 where
+  pub at_most : count_before c v (2048 * low) ≤ r
+  pub above : end < entries → r < count_before c v (2048 * end)
+
+-- the place with bit v and r such bits before it, Absent exactly where there are no more than r of them; or nothing is told
+abbrev pub IsSelectedIfTold : List Bool → Bool → ℕ → Selected → Type 0
+IsSelectedIfTold b v r (Found p) = Picks b v r p
+IsSelectedIfTold b v r Absent = count_of b v ≤ r
+IsSelectedIfTold b v r WrongTables = ⊤
+
+-- n tells the place with bit v and r such bits before it: below 2^64 - 2 it is a place with bit v, whatever is lent, and the right
+-- one where the tables are; it is 2^64 - 1 only where there is none then, and 2^64 - 2 only where tables or samples are wrong
+pub record SampledTold (v : Bool) (lists : Lists) (lent : LentSamples) (r n : ℕ) : Type 0 where
+  pub bit : n < 2 ^ 64 - 2 → (n < length (bits_in lists)) × (item (bits_in lists) n ≡ v)
+  pub place : HasTables lists → n < 2 ^ 64 - 2 → Picks (bits_in lists) v r n
+  pub absent : HasTables lists → n ≡ 2 ^ 64 - 1 → count_of (bits_in lists) v ≤ r
+  pub told : HasTables lists → AreSamplesOf (bits_in lists) v lent → n ≢ 2 ^ 64 - 2

@@ -1,0 +1,160 @@
+//! Samples of lent words, and selection by them.
+ghost use Rattle.std.specs.Prelude.{◌≡◌, ◌<◌, ◌≤◌, ℕ, length, slice_index, take, IfSome, IsNone, MatchOption, true, false};
+ghost use Rattle.bitm_bits.specs.Count.{kind};
+ghost use Rattle.bitm.specs.Density.{within};
+ghost use Rattle.bitm.specs.Tables.{HasSizes, HasTables, bits_in};
+ghost use Rattle.bitm_lent.specs.Answers.{HasBit, IsSelected};
+ghost use Rattle.bitm_lent.specs.Samples.{AreSamples, AreSamplesOf, HasRoom, IsSelectedIfTold};
+
+use crate::lent::Lent;
+use crate::sampled::sampled_select_on;
+use crate::samples::{Density, LentSamples, samples_len};
+use crate::sampling::fill_all;
+use crate::selecting::Selected;
+use bitm::building::Summary;
+use bitm::{CombinedSamplingDensity, Probe};
+
+impl<'a> Lent<'a> {
+    /// Writes the samples of ones, one for each 2^`log2` of a part, and how many there are before each part, and
+    /// answers how many there are: what stands behind these stays. Where the tables are those of the words the samples
+    /// are the words' own; else they are some numbers.
+    ///
+    /// `None` exactly where there are fewer than `samples_len` places for samples, or not as many starts as the upper
+    /// table has entries, and nothing is written then. The logarithm is brought to the nearer end of 7 to 31.
+    ///
+    /// # Cost
+    /// Each lower entry is read once and once more for each sample; of the words at most eight are read.
+    pub fn build_samples(
+        &self,
+        log2: u8,
+        samples: &mut [u32],
+        starts: &mut [usize],
+    ) -> Option<usize>
+        ensures room { MatchOption result
+            (HasRoom self.now log2 samples.old starts.old → ⊥)
+            (λ used. HasRoom self.now log2 samples.old starts.old
+            × (used ≤ length samples.old)) }
+        ensures made { IfSome result (λ used. HasTables self.now → AreSamples (bits_in self.now)
+            true (within log2) (take used samples.new) starts.new) }
+        ensures behind { IfSome result (λ used. (j : ℕ) → used ≤ j
+            → slice_index samples.new j ≡ slice_index samples.old j) }
+        ensures kept { IsNone result
+            → (samples.new ≡ samples.old) × (starts.new ≡ starts.old) }
+    {
+        self.build_kind::<1>(log2, samples, starts)
+    }
+
+    /// Writes the samples of zeros, as `build_samples` those of ones.
+    ///
+    /// # Cost
+    /// As `build_samples`.
+    pub fn build_samples0(
+        &self,
+        log2: u8,
+        samples: &mut [u32],
+        starts: &mut [usize],
+    ) -> Option<usize>
+        ensures room { MatchOption result
+            (HasRoom self.now log2 samples.old starts.old → ⊥)
+            (λ used. HasRoom self.now log2 samples.old starts.old
+            × (used ≤ length samples.old)) }
+        ensures made { IfSome result (λ used. HasTables self.now → AreSamples (bits_in self.now)
+            false (within log2) (take used samples.new) starts.new) }
+        ensures behind { IfSome result (λ used. (j : ℕ) → used ≤ j
+            → slice_index samples.new j ≡ slice_index samples.old j) }
+        ensures kept { IsNone result
+            → (samples.new ≡ samples.old) × (starts.new ≡ starts.old) }
+    {
+        self.build_kind::<0>(log2, samples, starts)
+    }
+
+    /// The samples of one kind of bits.
+    fn build_kind<const ONE: u8>(
+        &self,
+        log2: u8,
+        samples: &mut [u32],
+        starts: &mut [usize],
+    ) -> Option<usize>
+        ensures room { MatchOption result
+            (HasRoom self.now log2 samples.old starts.old → ⊥)
+            (λ used. HasRoom self.now log2 samples.old starts.old
+            × (used ≤ length samples.old)) }
+        ensures made { IfSome result (λ used. HasTables self.now → AreSamples (bits_in self.now)
+            (kind ONE) (within log2) (take used samples.new) starts.new) }
+        ensures behind { IfSome result (λ used. (j : ℕ) → used ≤ j
+            → slice_index samples.new j ≡ slice_index samples.old j) }
+        ensures kept { IsNone result
+            → (samples.new ≡ samples.old) × (starts.new ≡ starts.old) }
+    {
+        let len = self.words.len() * 64;
+        if samples.len() < samples_len(self.words.len(), log2) || starts.len() != self.upper.len() {
+            return None;
+        }
+        let Some(total) = self.rank(len) else {
+            return None;
+        };
+        let summary = Summary {
+            upper: self.upper,
+            lower: self.lower,
+            total,
+            len,
+        };
+        let log2 = Density::items_per_sample_log2(log2);
+        Some(fill_all::<ONE>(&summary, log2, samples, starts))
+    }
+
+    /// The place of the one with exactly `rank` ones before it, by samples of the ones.
+    ///
+    /// Whatever the tables and samples hold, a place that is found is inside and has a one. Where the tables are those
+    /// of the words it is the right one, `Absent` is answered only where there is none, and `WrongTables` only where
+    /// the samples are not those of the words' ones.
+    ///
+    /// # Cost
+    /// At most as many upper entries as their number has binary digits and one more, 23 lower entries and eight words
+    /// are read, whatever the tables and samples hold. Where these are those of the words, the lower entries are two
+    /// and one for each halving from the rank's sample to the next.
+    pub fn sampled_select(&self, samples: &LentSamples<'_>, rank: usize) -> Selected
+        ensures bit { HasBit (bits_in self.now) true result }
+        ensures told { HasTables self.now
+            → IsSelectedIfTold (bits_in self.now) true rank result }
+        ensures answer { HasTables self.now
+            → AreSamplesOf (bits_in self.now) true samples.now
+            → IsSelected (bits_in self.now) true rank result }
+    {
+        self.sampled_kind::<1>(samples, rank)
+    }
+
+    /// The place of the zero with exactly `rank` zeros before it, by samples of the zeros, as `sampled_select`.
+    ///
+    /// # Cost
+    /// As `sampled_select`.
+    pub fn sampled_select0(&self, samples: &LentSamples<'_>, rank: usize) -> Selected
+        ensures bit { HasBit (bits_in self.now) false result }
+        ensures told { HasTables self.now
+            → IsSelectedIfTold (bits_in self.now) false rank result }
+        ensures answer { HasTables self.now
+            → AreSamplesOf (bits_in self.now) false samples.now
+            → IsSelected (bits_in self.now) false rank result }
+    {
+        self.sampled_kind::<0>(samples, rank)
+    }
+
+    /// The place of the one with exactly `rank` ones before it; zeros in place of ones where `ONE` is 0.
+    #[inline(always)]
+    pub(crate) fn sampled_kind<const ONE: u8>(
+        &self,
+        samples: &LentSamples<'_>,
+        rank: usize,
+    ) -> Selected
+        ensures sized { HasSizes self.now }
+        ensures bit { HasBit (bits_in self.now) (kind ONE) result }
+        ensures told { HasTables self.now
+            → IsSelectedIfTold (bits_in self.now) (kind ONE) rank result }
+        ensures answer { HasTables self.now
+            → AreSamplesOf (bits_in self.now) (kind ONE) samples.now
+            → IsSelected (bits_in self.now) (kind ONE) rank result }
+    {
+        let source = &mut Probe::new(self.words, self.upper, self.lower);
+        sampled_select_on::<ONE, Probe<'_>>(source, samples, rank)
+    }
+}

@@ -1,0 +1,263 @@
+//! Selection that starts at samples, over a source with any tables and samples: the samples say between which entries
+//! of a part the rank is, two entries are asked whether that is so, and a search by halves finds the entry.
+ghost use Rattle.std.specs.Prelude.{◌≡◌, ℕ, ◌+◌, ◌-◌, ◌*◌, ◌%◌, ◌^◌, ◌<◌, ◌≤◌, ◌↔◌, Bool, List, length, slice_index, IfSome, IsNone, IsTrue, MatchOption};
+ghost use Rattle.std.specs.Int.{div_ceil};
+ghost use Rattle.bitm_bits.specs.Bits.{digit_count};
+ghost use Rattle.bitm_bits.specs.Count.{ones_before, kind};
+ghost use Rattle.bitm.specs.Density.{within};
+ghost use Rattle.bitm.specs.Entry.{before_in_part, lower_entry};
+ghost use Rattle.bitm.specs.Reads.{OnlyReads, ReadsAtMost};
+ghost use Rattle.bitm.specs.Samples.{part_of, parts, sample_count_before};
+ghost use Rattle.bitm.specs.Search.{entries_from, entry_in, sought_in, IsLastEntry, IsLastPart};
+ghost use Rattle.bitm.specs.Tables.{HasSizes, HasTables, bits_in};
+ghost use Rattle.bitm_lent.specs.Answers.{HasBit, IsSelected};
+ghost use Rattle.bitm_lent.specs.Samples.{AreSamplesOf, IsBounded, IsSelectedIfTold};
+
+use crate::samples::{Density, LentSamples};
+use crate::selecting::{Selected, in_packed};
+use bitm::building::{
+    EntryRange, before_part, entries_of_part, first_entry, last_in_range, last_part, ones_to_entry,
+    sought_entry,
+};
+use bitm::{CombinedSamplingDensity, L2_ENTRIES_PER_L1_ENTRY, TableSource};
+
+/// How many samples there are before a part, or in all where there is no such part.
+#[inline(always)]
+fn samples_to(lent: &LentSamples<'_>, part: usize) -> usize
+    ensures few { result ≤ length lent.now.samples.now }
+    ensures own { (b : List Bool) → (v : Bool) → AreSamplesOf b v lent.now → part ≤ parts b
+        → result ≡ sample_count_before b v (within lent.now.log2) part }
+{
+    let all = lent.samples.len();
+    match lent.starts.get(part) {
+        Some(start) => all.min(*start),
+        None => all,
+    }
+}
+
+/// The entry behind that of the first item of the interval that sample `at` begins.
+///
+/// # Conditions
+/// There is such a sample.
+#[inline(always)]
+fn entry_behind(lent: &LentSamples<'_>, at: usize) -> usize
+    requires { at < length lent.now.samples.now }
+    ensures { result ≡ slice_index lent.now.samples.now at % 2 ^ 21 + 1 }
+{
+    (lent.samples[at] & 0x1F_FFFF) as usize + 1
+}
+
+/// Between which entries of a part the one is that has item `rank` of the part: its first and the one behind its last,
+/// if the samples are those of the words; `None` only where they are not.
+#[inline(always)]
+fn bounds(
+    lent: &LentSamples<'_>,
+    part: usize,
+    entries: usize,
+    rank: usize,
+) -> Option<(usize, usize)>
+    requires part { part < 2 ^ 60 }
+    requires some { 0 < entries }
+    ensures within { IfSome result (λ r. (r.0 < r.1) × (r.1 ≤ entries)) }
+    ensures own { (b : List Bool) → (v : Bool) → AreSamplesOf b v lent.now → part < parts b
+        → entries ≡ div_ceil (length (part_of b part)) 2048
+        → MatchOption result ⊥ (λ r. IsBounded (part_of b part) v rank entries r.0 r.1) }
+{
+    let first = samples_to(lent, part);
+    let count = samples_to(lent, part + 1).saturating_sub(first);
+    let interval = Density::divide(rank, lent.log2);
+    if interval >= count {
+        return Some((entries - 1, entries));
+    }
+    let at = first + interval;
+    let low = first_entry(lent.samples[at], rank, Density::items_per_sample_log2(lent.log2));
+    if interval + 1 >= count {
+        return if low < entries {
+            Some((low, entries))
+        } else {
+            None
+        };
+    }
+    let end = entry_behind(lent, at + 1);
+    if end > entries || low >= end {
+        return None;
+    }
+    Some((low, end))
+}
+
+/// What entry `low` of a part packs, 0 for the first, which need not be read; `None` where more than `rank` of the kind
+/// stand before it in the part.
+#[inline(always)]
+fn begun_by<const ONE: u8, T: TableSource>(
+    source: &mut T,
+    part: usize,
+    low: usize,
+    rank: usize,
+) -> Option<u64>
+    requires sized { HasSizes (T.lists source.old) }
+    requires inside { part < length (T.lists source.old).upper }
+    requires low { low < entries_from (length (T.lists source.old).lower) part }
+    ensures begun { HasTables (T.lists source.old) → let m = sought_in ONE (T.lists source.old).words in
+        MatchOption result (rank < before_in_part m (entry_in part low))
+        (λ _. before_in_part m (entry_in part low) ≤ rank) }
+    ensures packed { HasTables (T.lists source.old) → 0 < low → IfSome result (λ packed. packed
+        ≡ lower_entry (sought_in ONE (T.lists source.old).words) (entry_in part low)) }
+    ensures reads { ReadsAtMost (T.reads source.old) (T.reads source.new) 0 1 0 }
+    ensures reads_first { low ≡ 0 → T.reads source.new ≡ T.reads source.old }
+    ensures same { T.lists source.new ≡ T.lists source.old }
+{
+    if low == 0 {
+        return Some(0);
+    }
+    let packed = sought_entry::<ONE, T>(source, part * L2_ENTRIES_PER_L1_ENTRY + low);
+    if ones_to_entry(packed) <= rank {
+        Some(packed)
+    } else {
+        None
+    }
+}
+
+/// Whether more than `rank` of the kind stand before entry `end` of a part in the part, if it has such an entry.
+#[inline(always)]
+fn is_behind<const ONE: u8, T: TableSource>(
+    source: &mut T,
+    part: usize,
+    end: usize,
+    rank: usize,
+) -> bool
+    requires sized { HasSizes (T.lists source.old) }
+    requires inside { part < length (T.lists source.old).upper }
+    ensures behind { HasTables (T.lists source.old) → let m = sought_in ONE (T.lists source.old).words in
+        IsTrue result ↔ (end < entries_from (length (T.lists source.old).lower) part
+        → rank < before_in_part m (entry_in part end)) }
+    ensures reads { ReadsAtMost (T.reads source.old) (T.reads source.new) 0 1 0 }
+    ensures same { T.lists source.new ≡ T.lists source.old }
+{
+    if end >= entries_of_part(source.lower_len(), part) {
+        return true;
+    }
+    let packed = sought_entry::<ONE, T>(source, part * L2_ENTRIES_PER_L1_ENTRY + end);
+    rank < ones_to_entry(packed)
+}
+
+/// The last entry of a part with no more than `rank` of the kind before it in the part, where the tables are those of
+/// the words, and what it packs; `None` only where it is not from entry `low` on and before `end`.
+#[inline(always)]
+fn entry_between<const ONE: u8, T: TableSource>(
+    source: &mut T,
+    part: usize,
+    low: usize,
+    end: usize,
+    rank: usize,
+) -> Option<(usize, u64)>
+    requires sized { HasSizes (T.lists source.old) }
+    requires inside { part < length (T.lists source.old).upper }
+    requires some { low < end }
+    requires within { end ≤ entries_from (length (T.lists source.old).lower) part }
+    ensures inside { IfSome result
+        (λ r. r.0 < entries_from (length (T.lists source.old).lower) part) }
+    ensures last { IfSome result (λ r. HasTables (T.lists source.old)
+        → IsLastEntry (sought_in ONE (T.lists source.old).words)
+        (length (T.lists source.old).lower) part rank r.0) }
+    ensures entry { IfSome result (λ r. HasTables (T.lists source.old) → r.1
+        ≡ lower_entry (sought_in ONE (T.lists source.old).words) (entry_in part r.0)) }
+    ensures found { HasTables (T.lists source.old) → let m = sought_in ONE (T.lists source.old).words in
+        before_in_part m (entry_in part low) ≤ rank
+        → (end < entries_from (length (T.lists source.old).lower) part
+        → rank < before_in_part m (entry_in part end))
+        → IsNone result → ⊥ }
+    ensures reads { ReadsAtMost (T.reads source.old) (T.reads source.new) 0 23 0 }
+    ensures same { T.lists source.new ≡ T.lists source.old }
+{
+    let Some(packed) = begun_by::<ONE, T>(source, part, low, rank) else {
+        return None;
+    };
+    if !is_behind::<ONE, T>(source, part, end, rank) {
+        return None;
+    }
+    let range = EntryRange {
+        low,
+        left: end - low,
+        packed,
+        above: 0,
+    };
+    Some(last_in_range::<ONE, T>(source, part, range, rank))
+}
+
+/// Selection in a part by samples: the last entry with no more than `rank` of the kind before it in the part, and the
+/// bit in it.
+#[inline(always)]
+fn sampled_in_part<const ONE: u8, T: TableSource>(
+    source: &mut T,
+    lent: &LentSamples<'_>,
+    part: usize,
+    rank: usize,
+) -> Selected
+    requires sized { HasSizes (T.lists source.old) }
+    requires inside { part < length (T.lists source.old).upper }
+    requires part { HasTables (T.lists source.old) →
+        let m = sought_in ONE (T.lists source.old).words in
+        IsLastPart m (length (T.lists source.old).upper)
+        (ones_before m (part * 2 ^ 32) + rank) part }
+    ensures bit { HasBit (bits_in (T.lists source.old)) (kind ONE) result }
+    ensures told { HasTables (T.lists source.old) →
+        let m = sought_in ONE (T.lists source.old).words in
+        IsSelectedIfTold (bits_in (T.lists source.old)) (kind ONE)
+        (ones_before m (part * 2 ^ 32) + rank) result }
+    ensures answer { HasTables (T.lists source.old)
+        → AreSamplesOf (bits_in (T.lists source.old)) (kind ONE) lent.now →
+        let m = sought_in ONE (T.lists source.old).words in
+        IsSelected (bits_in (T.lists source.old)) (kind ONE)
+        (ones_before m (part * 2 ^ 32) + rank) result }
+    ensures reads { ReadsAtMost (T.reads source.old) (T.reads source.new) 0 23 8 }
+    ensures same { T.lists source.new ≡ T.lists source.old }
+{
+    let entries = entries_of_part(source.lower_len(), part);
+    let Some((low, end)) = bounds(lent, part, entries, rank) else {
+        return Selected::WrongTables;
+    };
+    match entry_between::<ONE, T>(source, part, low, end, rank) {
+        Some((entry, packed)) => in_packed::<ONE, T>(source, part, entry, packed, rank),
+        None => Selected::WrongTables,
+    }
+}
+
+/// The place of the one of the source's words with exactly `rank` ones before it, by samples of their ones; of zeros
+/// where `ONE` is 0.
+///
+/// Whatever the tables and the samples hold, a place that is found is inside and has such a bit. Where the tables are
+/// those of the words it is the right one, `Absent` is answered only where there is none, and `WrongTables` only where
+/// the samples are not those of the words.
+///
+/// # Conditions
+/// There are fewer than 2^58 words, and the tables are as long as theirs. Nothing is asked of what they hold, and
+/// nothing of the samples.
+/// # Cost
+/// At most as many upper entries as their number has binary digits and one more, 23 lower entries and eight words are
+/// read, whatever the tables and samples hold; and four numbers of the samples. Where these are those of the words, two
+/// lower entries and one for each halving from the sample to the next.
+pub fn sampled_select_on<const ONE: u8, T: TableSource>(
+    source: &mut T,
+    lent: &LentSamples<'_>,
+    rank: usize,
+) -> Selected
+    requires { HasSizes (T.lists source.old) }
+    ensures bit { HasBit (bits_in (T.lists source.old)) (kind ONE) result }
+    ensures told { HasTables (T.lists source.old)
+        → IsSelectedIfTold (bits_in (T.lists source.old)) (kind ONE) rank result }
+    ensures answer { HasTables (T.lists source.old)
+        → AreSamplesOf (bits_in (T.lists source.old)) (kind ONE) lent.now
+        → IsSelected (bits_in (T.lists source.old)) (kind ONE) rank result }
+    ensures reads { OnlyReads T.lists T.reads source.old source.new
+        (digit_count (length (T.lists source.old).upper) + 1) 23 8 }
+{
+    if source.upper_len() == 0 {
+        return Selected::Absent;
+    }
+    let part = last_part::<ONE, T>(source, rank);
+    let before = before_part::<ONE, T>(source, part);
+    if before > rank {
+        return Selected::WrongTables;
+    }
+    sampled_in_part::<ONE, T>(source, lent, part, rank - before)
+}

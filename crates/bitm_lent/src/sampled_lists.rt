@@ -1,0 +1,80 @@
+//! Answers to lists of queries, by samples.
+ghost use Rattle.std.specs.Prelude.{◌≡◌, ◌<◌, ◌↔◌, ℕ, IsTrue, length, slice_index, true, false};
+ghost use Rattle.bitm_bits.specs.Count.{kind};
+ghost use Rattle.bitm_lent.specs.Samples.{SampledTold};
+
+use crate::lent::Lent;
+use crate::lists::{NO_ANSWER, WRONG_TABLES};
+use crate::samples::LentSamples;
+use crate::selecting::Selected;
+
+/// The place with one rank, `NO_ANSWER` or `WRONG_TABLES`; of a zero where `ONE` is 0.
+#[inline(always)]
+fn selected<const ONE: u8>(lent: &Lent<'_>, samples: &LentSamples<'_>, rank: usize) -> usize
+    ensures { SampledTold (kind ONE) lent.now samples.now rank result }
+{
+    match lent.sampled_kind::<ONE>(samples, rank) {
+        Selected::Found(place) => place,
+        Selected::Absent => NO_ANSWER,
+        Selected::WrongTables => WRONG_TABLES,
+    }
+}
+
+/// Writes the place with each rank.
+fn select_each<const ONE: u8>(
+    lent: &Lent<'_>,
+    samples: &LentSamples<'_>,
+    ranks: &[usize],
+    out: &mut [usize],
+)
+    requires { length out.old ≡ length ranks.now }
+    ensures len { length out.new ≡ length ranks.now }
+    ensures told { (j : ℕ) → j < length ranks.now → SampledTold (kind ONE) lent.now samples.now
+        (slice_index ranks.now j) (slice_index out.new j) }
+{
+    for at in 0..ranks.len() {
+        out[at] = selected::<ONE>(lent, samples, ranks[at]);
+    }
+}
+
+impl<'a> Lent<'a> {
+    /// Writes the place of the one with each rank, as `sampled_select` answers it, `NO_ANSWER` for `Absent` and
+    /// `WRONG_TABLES` for `WrongTables`; answers false exactly where there is not room for as many answers as ranks,
+    /// and nothing is written then.
+    pub fn sampled_select_list(
+        &self,
+        samples: &LentSamples<'_>,
+        ranks: &[usize],
+        out: &mut [usize],
+    ) -> bool
+        ensures room { IsTrue result ↔ length out.old ≡ length ranks.now }
+        ensures told { IsTrue result → (j : ℕ) → j < length ranks.now
+            → SampledTold true self.now samples.now (slice_index ranks.now j) (slice_index out.new j) }
+        ensures kept { result ≡ false → out.new ≡ out.old }
+    {
+        if out.len() != ranks.len() {
+            return false;
+        }
+        select_each::<1>(self, samples, ranks, out);
+        true
+    }
+
+    /// Writes the place of the zero with each rank, as `sampled_select0` answers it; else as `sampled_select_list`.
+    pub fn sampled_select0_list(
+        &self,
+        samples: &LentSamples<'_>,
+        ranks: &[usize],
+        out: &mut [usize],
+    ) -> bool
+        ensures room { IsTrue result ↔ length out.old ≡ length ranks.now }
+        ensures told { IsTrue result → (j : ℕ) → j < length ranks.now
+            → SampledTold false self.now samples.now (slice_index ranks.now j) (slice_index out.new j) }
+        ensures kept { result ≡ false → out.new ≡ out.old }
+    {
+        if out.len() != ranks.len() {
+            return false;
+        }
+        select_each::<0>(self, samples, ranks, out);
+        true
+    }
+}

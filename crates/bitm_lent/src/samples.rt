@@ -1,0 +1,31 @@
+//! Samples that are lent, and how many there are at most.
+ghost use Rattle.std.specs.Prelude.{◌≡◌};
+ghost use Rattle.bitm_lent.specs.Samples.{enough_samples};
+
+use bitm::{AdaptiveCombinedSamplingDensity, CombinedSamplingDensity};
+
+/// The density of a logarithm that a caller gives.
+pub(crate) type Density = AdaptiveCombinedSamplingDensity<31>;
+
+/// Samples of one kind of bits, all lent: one for each 2^`log2` ones, or zeros, of a part of 2^32 bits.
+///
+/// What they hold, and how many there are, is anybody's: a call says what it answers where they are those of the words,
+/// and what it answers else.
+#[derive(Clone, Copy)]
+pub struct LentSamples<'a> {
+    /// The samples, part after part, and nothing behind them.
+    pub samples: &'a [u32],
+    /// How many samples there are before each part.
+    pub starts: &'a [usize],
+    /// The logarithm of how many items one sample stands for; outside 7 to 31 it is brought to the nearer end.
+    pub log2: u8,
+}
+
+/// How many samples of one kind so many words have at most: one for each begun 2^(`log2` - 6) words. The logarithm is
+/// brought to the nearer end of 7 to 31.
+#[inline(always)]
+pub fn samples_len(words: usize, log2: u8) -> usize
+    ensures { result ≡ enough_samples words log2 }
+{
+    words.div_ceil(1 << (Density::items_per_sample_log2(log2) - 6))
+}
