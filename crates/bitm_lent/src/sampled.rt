@@ -70,7 +70,11 @@ fn bounds(
         return Some((entries - 1, entries));
     }
     let at = first + interval;
-    let low = first_entry(lent.samples[at], rank, Density::items_per_sample_log2(lent.log2));
+    let low = first_entry(
+        lent.samples[at],
+        rank,
+        Density::items_per_sample_log2(lent.log2),
+    );
     if interval + 1 >= count {
         return if low < entries {
             Some((low, entries))

@@ -1,6 +1,7 @@
 -- The samples of the rank's interval and of the next one say between which entries it is.
-use Rattle.std.proofs.Common.{ℕ, ◌<◌, Bool, List, length, subst, sym, arith}
+use Rattle.std.proofs.Common.{◌≡◌, ℕ, ◌+◌, ◌-◌, ◌/◌, ◌%◌, ◌^◌, ◌<◌, Bool, List, if◌then◌else◌, length, ap, subst, sym, ◌∙◌, arith}
 use Rattle.std.specs.Int.{div_ceil}
+use Rattle.bitm_bits.specs.Bits.{digit}
 use Rattle.bitm.specs.Density.{within}
 use Rattle.bitm.specs.Samples.{part_of, parts}
 use Rattle.bitm_lent.specs.Samples.{AreSamplesOf, IsBounded}
@@ -15,13 +16,19 @@ returns-then-interval-count-clause-own c b v own inside size =
     (c.samples_to-first.ensures.own b v own (omega (arith, inside))) (c.samples_to.ensures.own b v own (omega (arith, inside)))
     c.saturating_sub-count.ensures c.divide-interval.ensures c.if-interval-count.true c.args.entries size c.requires.some
 
+-- the entry of a sample, by the logarithm that the caller's stands for
+low_is : (low s rank d d' : ℕ) → low ≡ s % 2 ^ 21 + (if digit rank (d - 1) then s / 2 ^ 21 else 0) → d ≡ d'
+    → low ≡ s % 2 ^ 21 + (if digit rank (d' - 1) then s / 2 ^ 21 else 0)
+low_is low s rank d d' is same = is ∙ ap (λ (k : ℕ). s % 2 ^ 21 + (if digit rank (k - 1) then s / 2 ^ 21 else 0)) same
+
 last : (c : After-first_entry-low) (b : List Bool) (v : Bool) → AreSamplesOf b v c.args.lent.now → c.args.part < parts b
     → HasBounds (part_of b c.args.part) v c.args.rank c.first_entry-low.result (div_ceil (length (part_of b c.args.part)) 2048)
 last c b v own inside =
     bounded_last b v (within c.args.lent.now.log2) c.args.part c.args.rank (omega arith) inside c.args.lent.now.samples.now own.samples_are
     c.samples_to-first.result c.samples_to.result c.saturating_sub-count.result c.divide-interval.result
     (c.samples_to-first.ensures.own b v own (omega (arith, inside))) (c.samples_to.ensures.own b v own (omega (arith, inside)))
-    c.saturating_sub-count.ensures c.divide-interval.ensures (omega (arith, c.if-interval-count.false)) c.first_entry-low.result c.first_entry-low.ensures
+    c.saturating_sub-count.ensures c.divide-interval.ensures (omega (arith, c.if-interval-count.false)) c.first_entry-low.result
+    (low_is _ _ _ _ _ c.first_entry-low.ensures c.items_per_sample_log2.ensures.value)
 
 pub returns-then-low-entries-clause-own : goal.returns-then-low-entries-clause-own
 returns-then-low-entries-clause-own c b v own inside size =
@@ -40,7 +47,8 @@ next c b v own inside =
     bounded_next b v (within c.args.lent.now.log2) c.args.part c.args.rank (omega arith) inside c.args.lent.now.samples.now own.samples_are
     c.samples_to-first.result c.samples_to.result c.saturating_sub-count.result c.divide-interval.result
     (c.samples_to-first.ensures.own b v own (omega (arith, inside))) (c.samples_to.ensures.own b v own (omega (arith, inside)))
-    c.saturating_sub-count.ensures c.divide-interval.ensures (omega (arith, c.if-interval-count.false)) c.first_entry-low.result c.first_entry-low.ensures
+    c.saturating_sub-count.ensures c.divide-interval.ensures (omega (arith, c.if-interval-count.false)) c.first_entry-low.result
+    (low_is _ _ _ _ _ c.first_entry-low.ensures c.items_per_sample_log2.ensures.value)
     (omega (arith, c.if-interval-count-2.false)) c.entry_behind-end.result c.entry_behind-end.ensures
 
 pub returns-then-end-entries-clause-own : goal.returns-then-end-entries-clause-own
