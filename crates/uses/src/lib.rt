@@ -15,6 +15,7 @@
 //! | know what a call reads | `counted` |
 //! | rank and select over tables of one's own | `source` |
 //! | ask tables that came with the words and may be wrong | `lent` |
+//! | ask the parts of a sequence that came from elsewhere and may be wrong | `lent_sequence` |
 //! | select by a strategy of one's own | `strategies` |
 //! | sample by a density of one's own | `density` |
 #![tactic(auto)]
@@ -27,6 +28,7 @@ pub mod inverse;
 pub mod inverted;
 pub mod iterating;
 pub mod lent;
+pub mod lent_sequence;
 pub mod many;
 pub mod owned;
 pub mod readme;
