@@ -1,5 +1,5 @@
-/* Nanoseconds a query: one call each, one call for all, and the same reads inline in C. Argument: the number of bits
- * as a power of two (20 where it is left out). CPU time, best of 7 turns of 2^20 random queries. */
+/* Nanoseconds a query: one call each, one call for all, and the same reads inline in C; and of a sequence, one call each
+ * and one for all. Argument: the number of bits as a power of two (20 where it is left out). CPU time, best of 7 turns of 2^20 random queries. */
 #define _GNU_SOURCE
 #include "common.h"
 
@@ -67,6 +67,44 @@ static inline uint64_t select_inline(const struct bitm_view *v, uint64_t rank)
 #define ALL(call) call(&view, asked, QUERIES, answers, QUERIES); for (size_t i = 0; i < QUERIES; i++) sum += answers[i];
 #define INLINE(call) for (size_t i = 0; i < QUERIES; i++) sum += call(&view, asked[i]);
 
+static int compare(const void *a, const void *b)
+{
+    uint64_t x = *(const uint64_t *)a, y = *(const uint64_t *)b;
+    return x < y ? -1 : x > y;
+}
+
+/* A sequence of numbers of 40 bits whose upper vector has about so many bits. */
+static void sequence(uint64_t bits)
+{
+    size_t len = bits / 5 * 2;
+    uint64_t *items = malloc(8 * len), width, written;
+    MUST(items);
+    for (size_t i = 0; i < len; i++) items[i] = draw() >> 24;
+    qsort(items, len, 8, compare);
+    struct bitm_sequence_lens of;
+    MUST(bitm_sequence_sizes(len, items[len - 1], &of) == BITM_OK);
+    uint64_t *low = malloc(8 * (of.low_len + 1)), *words = malloc(8 * of.words_len);
+    uint64_t *upper = malloc(8 * of.upper_len), *lower = malloc(8 * of.lower_len);
+    MUST(low && words && upper && lower);
+    double from = now();
+    MUST(bitm_sequence_build(items, len, low, of.low_len, words, of.words_len, upper, of.upper_len, lower, of.lower_len,
+                             &width) == BITM_OK);
+    printf("sequence of %zu numbers, %.1f bits a number: build %.2f ns a number", len,
+           64.0 * (double)(of.low_len + of.words_len + of.upper_len + of.lower_len) / (double)len,
+           (now() - from) / (double)len);
+    struct bitm_sequence_view view = {len, width, low, of.low_len, words, of.words_len, upper, of.upper_len, lower,
+                                      of.lower_len};
+    from = now();
+    MUST(bitm_sequence_check(&view) == BITM_OK);
+    printf(", check %.2f ns a number\n", (now() - from) / (double)len);
+    for (size_t i = 0; i < QUERIES; i++) asked[i] = draw() % len;
+    TIME("get, a call each", EACH(bitm_sequence_get));
+    TIME("get, one call for all", bitm_sequence_get_list(&view, asked, QUERIES, answers, QUERIES, &written);
+         for (size_t i = 0; i < written; i++) sum += answers[i]);
+    for (size_t i = 0; i < QUERIES; i++) asked[i] = draw() >> 24;
+    TIME("first_at_least, a call each", EACH(bitm_sequence_first_at_least));
+}
+
 int main(int argc, char **argv)
 {
     int log2 = argc > 1 ? atoi(argv[1]) : 20;
@@ -95,5 +133,6 @@ int main(int argc, char **argv)
     TIME("select, inline C", INLINE(select_inline));
     TIME("select0, a call each", EACH(bitm_select0));
     TIME("select0, one call for all", ALL(bitm_select0_list));
+    sequence(bits);
     return 0;
 }
