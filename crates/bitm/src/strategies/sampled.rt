@@ -1,9 +1,12 @@
 //! Selection that starts at a sample, over a source, with a bound on its reads.
-ghost use Rattle.std.specs.Prelude.{◌≡◌, ◌+◌, ◌-◌, ◌/◌, ◌%◌, ◌^◌, ◌<◌, ◌≤◌, if◌then◌else◌};
-ghost use Rattle.bitm_bits.specs.Bits.{bits_of, digit, IsShort};
-ghost use Rattle.bitm_bits.specs.Count.{kind, IsSelect};
-ghost use Rattle.bitm.specs.Samples.{samples_of, sample_starts_of, SampledReads};
+ghost use Rattle.std.specs.Prelude.{◌≡◌, ◌+◌, ◌-◌, ◌*◌, ◌/◌, ◌%◌, ◌^◌, ◌<◌, ◌≤◌, length, if◌then◌else◌};
+ghost use Rattle.bitm_bits.specs.Bits.{bits_of, digit, digit_count, IsShort};
+ghost use Rattle.bitm_bits.specs.Count.{kind, ones_before, IsSelect};
+ghost use Rattle.bitm.specs.Reads.{ReadsAtMost};
+ghost use Rattle.bitm.specs.Samples.{parts, samples_of, sample_count_before, sample_starts_of, SampledReads};
+ghost use Rattle.bitm.specs.Search.{sought_in, IsLastPart};
 ghost use Rattle.bitm.specs.Tables.{HasTables};
+ghost use Rattle.bitm.specs.declared.source.counts.ReadCounts.{ReadCounts};
 
 use crate::search::selecting::{before_part, last_part, select_in_entry};
 use crate::search::walking::walk;
@@ -28,8 +31,50 @@ pub fn first_entry(sample: u32, rank: usize, log2: u8) -> usize
     }
 }
 
+/// Selection by the samples of the source's words, of which one stands for 2^`log2` items, in a part that is known and
+/// has `start` samples and `before` items before it: a walk over the lower entries from the sample on.
+#[inline(always)]
+fn sampled_in_part<const ONE: u8, T: TableSource>(
+    sampled: &[u32],
+    log2: u8,
+    source: &mut T,
+    part: usize,
+    start: usize,
+    before: usize,
+    rank: usize,
+) -> Option<usize>
+    requires tables { HasTables (T.lists source.old) }
+    requires short { IsShort (T.lists source.old).words }
+    requires low { 7 ≤ log2 }
+    requires high { log2 ≤ 31 }
+    requires samples { sampled.now
+        ≡ samples_of (bits_of (T.lists source.old).words) (kind ONE) log2 }
+    requires part { IsLastPart (sought_in ONE (T.lists source.old).words)
+        (length (T.lists source.old).upper) rank part }
+    requires start { start
+        ≡ sample_count_before (bits_of (T.lists source.old).words) (kind ONE) log2 part }
+    requires before { before
+        ≡ ones_before (sought_in ONE (T.lists source.old).words) (part * 2 ^ 32) }
+    ensures answer { IsSelect (bits_of (T.lists source.old).words) (kind ONE) rank result }
+    ensures reads { (early : ReadCounts)
+        → ReadsAtMost early (T.reads source.old)
+        (digit_count (parts (bits_of (T.lists source.old).words)) + 1) 0 0
+        → SampledReads (bits_of (T.lists source.old).words) (kind ONE) log2 rank result
+        early (T.reads source.new) }
+    ensures same { T.lists source.new ≡ T.lists source.old }
+{
+    let in_part = rank - before;
+    let at = start + (in_part >> log2);
+    if at >= sampled.len() {
+        return None;
+    }
+    let from = first_entry(sampled[at], in_part, log2);
+    let (entry, packed) = walk::<ONE, T>(source, part, from, in_part);
+    select_in_entry::<ONE, T>(source, part, entry, packed, in_part)
+}
+
 /// Selection by the samples of the source's words, of which one stands for 2^`log2` items: one read of an upper entry
-/// for each halving and one more, and a walk over the lower entries from the sample on.
+/// for each halving and one more, none where there is one part, and a walk over the lower entries from the sample on.
 pub(crate) fn sampled_select_on<const ONE: u8, T: TableSource>(
     sampled: &[u32],
     starts: &[usize],
@@ -50,16 +95,14 @@ pub(crate) fn sampled_select_on<const ONE: u8, T: TableSource>(
         rank result (T.reads source.old) (T.reads source.new) }
     ensures same { T.lists source.new ≡ T.lists source.old }
 {
-    if source.upper_len() == 0 {
-        return None;
+    match source.upper_len() {
+        0 => None,
+        // Nothing stands before the only part.
+        1 => sampled_in_part::<ONE, T>(sampled, log2, source, 0, 0, 0, rank),
+        _ => {
+            let part = last_part::<ONE, T>(source, rank);
+            let before = before_part::<ONE, T>(source, part);
+            sampled_in_part::<ONE, T>(sampled, log2, source, part, starts[part], before, rank)
+        }
     }
-    let part = last_part::<ONE, T>(source, rank);
-    let in_part = rank - before_part::<ONE, T>(source, part);
-    let at = starts[part] + (in_part >> log2);
-    if at >= sampled.len() {
-        return None;
-    }
-    let from = first_entry(sampled[at], in_part, log2);
-    let (entry, packed) = walk::<ONE, T>(source, part, from, in_part);
-    select_in_entry::<ONE, T>(source, part, entry, packed, in_part)
 }

@@ -1,43 +1,50 @@
--- The sample of the rank lets the walk begin no later than the answer's entry; where there is none, nothing is picked.
-use Rattle.std.proofs.Common.{◌≡◌, ℕ, List, Option, ◌+◌, ◌-◌, ◌*◌, ◌/◌, ◌^◌, ◌%◌, ◌<◌, ◌≤◌, length, get_or, slice_index_or, nat_eq, if◌then◌else◌, refl, sym, ap, ap₂, ◌∙◌, subst, arith}
+-- Nothing stands before the only part; of more parts the tables and the starts tell what does.
+use Rattle.std.proofs.Common.{ℕ, List, length, get_or, sym, ap, ◌∙◌, subst, arith}
 use Rattle.bitm_bits.proofs.lemmas.BitsLemmas.{length-bits_of}
-use Rattle.bitm_bits.specs.Bits.{bits_of, digit_count, IsShort}
-use Rattle.bitm_bits.specs.Count.{ones_before, kind, IsSelect}
-use Rattle.bitm.specs.Samples.{part_of, parts, walk_start, samples_of, sample_count_before, rank_in}
-use Rattle.bitm.specs.Search.{IsLastEntry, entries_from, items_to, sought_in}
-use Rattle.bitm.specs.Tables.{Lists, HasTables, IsIndexed}
+use Rattle.bitm_bits.proofs.lemmas.CountLemmas.{ones_before_none}
+use Rattle.bitm_bits.specs.Bits.{bits_of, digit_count}
+use Rattle.bitm_bits.specs.Count.{kind}
+use Rattle.bitm.specs.Samples.{parts, sample_count_before, SampledReads}
+use Rattle.bitm.specs.Search.{sought_in}
+use Rattle.bitm.specs.Tables.{Lists, HasTables}
 use Rattle.bitm.specs.declared.source.counts.ReadCounts.{ReadCounts}
 use Rattle.bitm.proofs.lemmas.MarkLemmas.{none_in_nothing}
 use Rattle.bitm.proofs.lemmas.SampleLemmas.{length-starts, start_at}
 use Rattle.bitm.proofs.lemmas.TableLemmas.{HasEntries, entries}
-use Rattle.bitm.proofs.lemmas.WalkLemmas.{count_is, outside_none, outside_reads, empty_reads, start_from, start_in, start_below, sampled_reads, interval_inside, first_inside, place_fits}
+use Rattle.bitm.proofs.lemmas.WalkLemmas.{empty_reads}
 use Rattle.bitm.proofs.strategies.sampled.sampled_select_on.Goals as goal
-use Rattle.bitm.proofs.strategies.sampled.sampled_select_on.Goals.{After-before_part, After-first_entry-from}
-
--- the rank in part k, and which sample is the rank's
-abbrev rank_of : ℕ → Lists → ℕ → ℕ → ℕ
-rank_of one l rank k = rank_in (bits_of l.words) (kind one) rank k
-
-abbrev number_of : ℕ → Lists → ℕ → ℕ → ℕ → ℕ
-number_of one l d rank k = sample_count_before (bits_of l.words) (kind one) d k + rank_of one l rank k / 2 ^ d
-
-indexed : (l : Lists) → HasTables l → IsShort l.words → IsIndexed l
-indexed l t short = record { tables = t; short = short }
 
 at : (l : Lists) → HasTables l → HasEntries (bits_of l.words) l.upper l.lower
 at l t = entries (bits_of l.words) l.upper l.lower t
 
-pub returns-then-upper_len-eq0-clause-answer : goal.returns-then-upper_len-eq0-clause-answer
-returns-then-upper_len-eq0-clause-answer g c =
+pub returns-in-0-clause-answer : goal.returns-in-0-clause-answer
+returns-in-0-clause-answer g c =
     let t = at (g.T.TableSource.lists c.args.source.now) c.requires.tables in
-    none_in_nothing _ (kind g.row.ONE) c.args.rank (omega (arith, t.upper_length, c.upper_len.ensures))
+    none_in_nothing _ (kind g.row.ONE) c.args.rank (omega (arith, t.upper_length, c.upper_len.ensures, c.in-0.is))
 
-pub returns-then-upper_len-eq0-clause-reads : goal.returns-then-upper_len-eq0-clause-reads
-returns-then-upper_len-eq0-clause-reads g c =
+pub returns-in-0-clause-reads : goal.returns-in-0-clause-reads
+returns-in-0-clause-reads g c =
     let l = g.T.TableSource.lists c.args.source.now in
     let t = at l c.requires.tables in
     empty_reads (bits_of l.words) (kind g.row.ONE) c.args.log2 c.args.rank
-    (g.T.TableSource.reads c.args.source.now) (omega (arith, t.upper_length, c.upper_len.ensures))
+    (g.T.TableSource.reads c.args.source.now) (omega (arith, t.upper_length, c.upper_len.ensures, c.in-0.is))
+
+-- ---- one part
+
+pub sampled_in_part-requires-clause-part : goal.sampled_in_part-requires-clause-part
+sampled_in_part-requires-clause-part g c =
+    let m = sought_in g.row.ONE (g.T.TableSource.lists c.args.source.now).words in
+    record {
+      inside = omega (arith, c.upper_len.ensures, c.in-1.is);
+      at_most = omega (arith, ones_before_none m);
+      next = λ h. absurd (omega (arith, h, c.upper_len.ensures, c.in-1.is));
+    }
+
+pub sampled_in_part-requires-clause-before : goal.sampled_in_part-requires-clause-before
+sampled_in_part-requires-clause-before g c =
+    sym (ones_before_none (sought_in g.row.ONE (g.T.TableSource.lists c.args.source.now).words))
+
+-- ---- more parts
 
 pub offset_bounds-starts-part : goal.offset_bounds-starts-part
 offset_bounds-starts-part g c =
@@ -52,200 +59,34 @@ bounds-starts-part g c =
     let long = length-starts (bits_of l.words) (kind g.row.ONE) c.args.log2 in
     omega (arith, c.last_part-part.ensures.inside, t.upper_length, long, ap length c.requires.starts)
 
-module _ (g : _) (c : After-before_part g) where
-  in_part : c.args.rank - c.before_part.result
-      ≡ rank_of g.row.ONE (g.T.TableSource.lists c.args.source.now) c.args.rank c.last_part-part.result
-  in_part =
-      let l = g.T.TableSource.lists c.args.source.now in
-      let here = c.last_part-part.result * 2 ^ 32 in
-      ap (λ (n : ℕ). c.args.rank - n)
-      (c.before_part.ensures.count (subst IsIndexed (sym c.last_part-part.ensures.same) (indexed _ c.requires.tables c.requires.short))
-      ∙ ap (λ (x : Lists). ones_before (sought_in g.row.ONE x.words) here) c.last_part-part.ensures.same
-      ∙ count_is (bits_of l.words) l.upper l.lower (at l c.requires.tables) (kind g.row.ONE) c.args.rank c.last_part-part.result
-      (c.last_part-part.ensures.last (indexed _ c.requires.tables c.requires.short)))
-
-  inside : c.last_part-part.result < parts (bits_of (g.T.TableSource.lists c.args.source.now).words)
-  inside =
-      let t = at (g.T.TableSource.lists c.args.source.now) c.requires.tables in
-      omega (arith, c.last_part-part.ensures.inside, t.upper_length)
-
-  number_is : slice_index_or c.args.starts.now c.last_part-part.result 0 + (c.args.rank - c.before_part.result) / 2 ^ c.args.log2
-      ≡ number_of g.row.ONE (g.T.TableSource.lists c.args.source.now) c.args.log2 c.args.rank
-      c.last_part-part.result
-  number_is =
-      let b = bits_of (g.T.TableSource.lists c.args.source.now).words in
-      let d = c.args.log2 in
-      let k = c.last_part-part.result in
-      ap₂ ◌+◌ (ap (λ (xs : List ℕ). get_or xs k 0) c.requires.starts ∙ start_at b (kind g.row.ONE) d k inside)
-      (ap (λ (n : ℕ). n / 2 ^ d) in_part)
-
-pub overflow_add-at : goal.overflow_add-at
-overflow_add-at g c =
-    let a = (goal.at.overflow_add-at g c).After-before_part in
+pub sampled_in_part-requires-in_default-clause-start : goal.sampled_in_part-requires-in_default-clause-start
+sampled_in_part-requires-in_default-clause-start g c =
     let l = g.T.TableSource.lists c.args.source.now in
-    let d = c.args.log2 in
-    let r = rank_of g.row.ONE l c.args.rank c.last_part-part.result in
-    let fits : r < 2 ^ 64 = omega arith in
-    let low = c.requires.low in
-    let short : length (bits_of l.words) < 2 ^ 64 = omega (arith, length-bits_of l.words, c.requires.short) in
-    let sum = place_fits (bits_of l.words) (kind g.row.ONE) d r (r / 2 ^ d) c.last_part-part.result low short (inside g a) fits refl in
-    record { fits = omega (arith, number_is g a, sum) }
-
--- ---- no sample
-
-over : (g : _) (c : goal.Then-at-sampled g)
-    → length (samples_of (bits_of (g.T.TableSource.lists c.args.source.now).words) (kind g.row.ONE)
-    c.args.log2)
-    ≤ number_of g.row.ONE (g.T.TableSource.lists c.args.source.now) c.args.log2 c.args.rank
-    c.last_part-part.result
-over g c =
-    let a = (goal.at.returns-then-at-sampled-clause-answer g c).After-before_part in
-    omega (arith, number_is g a, c.if-at-sampled.true, ap length c.requires.samples)
-
-pub returns-then-at-sampled-clause-answer : goal.returns-then-at-sampled-clause-answer
-returns-then-at-sampled-clause-answer g c =
-    let l = g.T.TableSource.lists c.args.source.now in
-    outside_none (bits_of l.words) l.upper l.lower (at l c.requires.tables) (kind g.row.ONE) c.args.rank c.last_part-part.result
-    (c.last_part-part.ensures.last (indexed _ c.requires.tables c.requires.short)) c.args.log2 (over g c)
-
-pub returns-then-at-sampled-clause-reads : goal.returns-then-at-sampled-clause-reads
-returns-then-at-sampled-clause-reads g c =
-    let T = g.T.TableSource in
-    let l = T.lists c.args.source.now in
     let t = at l c.requires.tables in
-    let part = c.last_part-part.ensures.reads in
-    let counted = c.before_part.ensures.counted in
-    outside_reads (bits_of l.words) l.upper l.lower t (kind g.row.ONE) c.args.rank c.last_part-part.result
-    (c.last_part-part.ensures.last (indexed _ c.requires.tables c.requires.short))
-    c.args.log2 (over g c) (digit_count (parts (bits_of l.words)) + 1)
-    (T.reads c.args.source.now) (T.reads c.before_part.new.source)
-    (record {
-      upper = omega (arith, ap (λ (r : ReadCounts). r.upper) counted, part.upper, ap digit_count t.upper_length);
-      lower = omega (arith, ap (λ (r : ReadCounts). r.lower) counted, part.lower);
-      words = omega (arith, ap (λ (r : ReadCounts). r.words) counted, part.words);
-    })
-
--- ---- the walk from a sample
-
-module _ (g : _) (c : After-first_entry-from g)
-    (in_part_is : c.args.rank - c.before_part.result
-    ≡ rank_of g.row.ONE (g.T.TableSource.lists c.args.source.now) c.args.rank c.last_part-part.result)
-    (place_is : slice_index_or c.args.starts.now c.last_part-part.result 0 + (c.args.rank - c.before_part.result) / 2 ^ c.args.log2
-    ≡ number_of g.row.ONE (g.T.TableSource.lists c.args.source.now) c.args.log2 c.args.rank
-    c.last_part-part.result) where
-  pos : 1 ≤ c.args.log2
-  pos = omega (arith, c.requires.low)
-
-  there : number_of g.row.ONE (g.T.TableSource.lists c.args.source.now) c.args.log2 c.args.rank
-      c.last_part-part.result
-      < length (samples_of (bits_of (g.T.TableSource.lists c.args.source.now).words) (kind g.row.ONE)
-      c.args.log2)
-  there = omega (arith, place_is, c.if-at-sampled.false, ap length c.requires.samples)
-
-  from_is : c.first_entry-from.result
-      ≡ walk_start (part_of (bits_of (g.T.TableSource.lists c.args.source.now).words) c.last_part-part.result) (kind g.row.ONE)
-      c.args.log2
-      (rank_of g.row.ONE (g.T.TableSource.lists c.args.source.now) c.args.rank c.last_part-part.result)
-  from_is =
-      let l = g.T.TableSource.lists c.args.source.now in
-      let d = c.args.log2 in
-      let s = slice_index_or c.args.sampled.now (slice_index_or c.args.starts.now c.last_part-part.result 0 + (c.args.rank - c.before_part.result) / 2 ^ c.args.log2) 0 in
-      c.first_entry-from.ensures
-      ∙ ap (λ (r : ℕ). s % 2 ^ 21 + (if nat_eq (r / 2 ^ (d - 1) % 2) 1 then s / 2 ^ 21 else 0)) in_part_is
-      ∙ start_from (bits_of l.words) l.upper l.lower (at l c.requires.tables) (kind g.row.ONE) c.args.rank c.last_part-part.result
-      (c.last_part-part.ensures.last (indexed _ c.requires.tables c.requires.short))
-      d pos s there (ap₂ (λ (xs : List ℕ) (i : ℕ). get_or xs i 0) c.requires.samples place_is)
-
-  same : g.T.TableSource.lists c.before_part.new.source ≡ g.T.TableSource.lists c.args.source.now
-  same = c.before_part.ensures.same ∙ c.last_part-part.ensures.same
-
-pub walk-entry-requires-clause-from : goal.walk-entry-requires-clause-from
-walk-entry-requires-clause-from g c =
-    let a = (goal.at.walk-entry-requires-clause-from g c).After-before_part in
-    let f = (goal.at.walk-entry-requires-clause-from g c).After-first_entry-from in
-    let l = g.T.TableSource.lists c.args.source.now in
     let k = c.last_part-part.result in
-    let d = c.args.log2 in
-    let starts =
-    start_in (bits_of l.words) l.upper l.lower (at l c.requires.tables) (kind g.row.ONE) c.args.rank k
-    (c.last_part-part.ensures.last (indexed _ c.requires.tables c.requires.short))
-    d
-    (pos g f (in_part g a) (number_is g a)) (there g f (in_part g a) (number_is g a)) in
-    subst (λ (x : Lists). c.first_entry-from.result < entries_from (length x.lower) k) (sym (same g f (in_part g a) (number_is g a)))
-    (subst (λ (x : ℕ). x < entries_from (length l.lower) k) (sym (from_is g f (in_part g a) (number_is g a))) starts)
-
-pub walk-entry-requires-clause-at_most : goal.walk-entry-requires-clause-at_most
-walk-entry-requires-clause-at_most g c =
-    let a = (goal.at.walk-entry-requires-clause-at_most g c).After-before_part in
-    let f = (goal.at.walk-entry-requires-clause-at_most g c).After-first_entry-from in
-    let l = g.T.TableSource.lists c.args.source.now in
-    let k = c.last_part-part.result in
-    let d = c.args.log2 in
-    let from = c.first_entry-from.result in
-    let below =
-    start_below (bits_of l.words) l.upper l.lower (at l c.requires.tables) (kind g.row.ONE) c.args.rank k
-    (c.last_part-part.ensures.last (indexed _ c.requires.tables c.requires.short))
-    d
-    (pos g f (in_part g a) (number_is g a)) (there g f (in_part g a) (number_is g a)) in
-    subst (λ (x : Lists). items_to g.row.ONE (bits_of x.words) k from ≤ c.args.rank - c.before_part.result)
-    (sym (same g f (in_part g a) (number_is g a)))
-    (subst (λ (x : ℕ). items_to g.row.ONE (bits_of l.words) k from ≤ x) (sym (in_part g a))
-    (subst (λ (x : ℕ). items_to g.row.ONE (bits_of l.words) k x ≤ rank_of g.row.ONE l c.args.rank k)
-    (sym (from_is g f (in_part g a) (number_is g a))) below))
-
--- the entry where the walk ends, and what is selected in it, of the source as it was
-last_there : (one k left r e : ℕ) (l l' : Lists) → l' ≡ l → left ≡ r → IsLastEntry (sought_in one l'.words) (length l'.lower) k left e
-    → IsLastEntry (sought_in one l.words) (length l.lower) k r e
-last_there one k left r e l l' same is h =
-    subst (λ (x : ℕ). IsLastEntry (sought_in one l.words) (length l.lower) k x e) is
-    (subst (λ (x : Lists). IsLastEntry (sought_in one x.words) (length x.lower) k left e) same h)
-
-selected_there : (one k left rank : ℕ) (l l' : Lists) (o : Option ℕ) → l' ≡ l
-    → ones_before (sought_in one l.words) (k * 2 ^ 32) + left ≡ rank
-    → IsSelect (bits_of l'.words) (kind one) (ones_before (sought_in one l'.words) (k * 2 ^ 32) + left) o
-    → IsSelect (bits_of l.words) (kind one) rank o
-selected_there one k left rank l l' o same total h =
-    subst (λ (n : ℕ). IsSelect (bits_of l.words) (kind one) n o) total
-    (subst (λ (x : Lists). IsSelect (bits_of x.words) (kind one) (ones_before (sought_in one x.words) (k * 2 ^ 32) + left) o) same h)
-
-pub returns-clause-reads : goal.returns-clause-reads
-returns-clause-reads g c =
-    let a = (goal.at.returns-clause-reads g c).After-before_part in
-    let f = (goal.at.returns-clause-reads g c).After-first_entry-from in
-    let T = g.T.TableSource in
-    let l = T.lists c.args.source.now in
-    let t = at l c.requires.tables in
-    let d = c.args.log2 in
     let v = kind g.row.ONE in
-    let k = c.last_part-part.result in
-    let b = bits_of l.words in
-    let r = rank_of g.row.ONE l c.args.rank k in
-    let w = c.walk-entry.ensures in
-    let e = c.select_in_entry.ensures in
-    let u = c.before_part.ensures in
-    let p = c.last_part-part.ensures in
-    let indexed_here = indexed l c.requires.tables c.requires.short in
-    let from = from_is g f (in_part g a) (number_is g a) in
-    let at_entry = same g f (in_part g a) (number_is g a) in
-    let left = c.args.rank - c.before_part.result in
-    let low = last_there g.row.ONE k left r c.walk-entry.result.0 l _ at_entry (in_part g a) w.last in
-    let order : walk_start (part_of b k) v d r ≤ c.walk-entry.result.0 = subst (λ (x : ℕ). x ≤ c.walk-entry.result.0) from w.order in
-    let before : c.before_part.result ≡ ones_before (sought_in g.row.ONE l.words) (k * 2 ^ 32) =
-    u.count (subst IsIndexed (sym p.same) indexed_here) ∙ ap (λ (x : Lists). ones_before (sought_in g.row.ONE x.words) (k * 2 ^ 32)) p.same in
-    let total : ones_before (sought_in g.row.ONE l.words) (k * 2 ^ 32) + left ≡ c.args.rank = omega (arith, before, (p.last indexed_here).at_most) in
-    let selected = selected_there g.row.ONE k left c.args.rank l _ c.select_in_entry.result (w.same ∙ at_entry) total e.answer in
-    let some =
-    first_inside b l.upper l.lower t v c.args.rank k (p.last indexed_here) d
-    (interval_inside b l.upper l.lower t v c.args.rank k (p.last indexed_here) d (there g f (in_part g a) (number_is g a))) in
-    sampled_reads b l.upper l.lower t v c.args.rank k (p.last indexed_here) d c.walk-entry.result.0 low some
-    (T.reads c.args.source.now) (T.reads c.select_in_entry.new.source)
+    let same = c.before_part-before.ensures.same ∙ c.last_part-part.ensures.same in
+    ap (λ (xs : List ℕ). get_or xs k 0) c.requires.starts
+    ∙ start_at (bits_of l.words) v c.args.log2 k (omega (arith, c.last_part-part.ensures.inside, t.upper_length))
+    ∙ ap (λ (x : Lists). sample_count_before (bits_of x.words) v c.args.log2 k) (sym same)
+
+pub returns-in_default-clause-reads : goal.returns-in_default-clause-reads
+returns-in_default-clause-reads g c =
+    let T = g.T.TableSource in
+    let t = at (T.lists c.args.source.now) c.requires.tables in
+    let part = c.last_part-part.ensures in
+    let before = c.before_part-before.ensures in
+    let same = before.same ∙ part.same in
+    let uppers = ap (λ (x : Lists). digit_count (parts (bits_of x.words))) same in
+    let from = T.reads c.args.source.now in
+    subst
+    (λ (x : Lists).
+    SampledReads (bits_of x.words) (kind g.row.ONE) c.args.log2 c.args.rank c.sampled_in_part-in_default.result from
+    (T.reads c.sampled_in_part-in_default.new.source))
+    same
+    (c.sampled_in_part-in_default.ensures.reads from
     (record {
-      order = order;
-      reads =
-          record {
-            upper = omega (arith, e.reads, w.reads, p.reads, ap (λ (x : ReadCounts). x.upper) u.counted, ap digit_count t.upper_length);
-            lower = omega (arith, e.reads, w.reads, p.reads, ap (λ (x : ReadCounts). x.lower) u.counted, from, order);
-            words = omega (arith, e.reads, w.reads, p.reads, ap (λ (x : ReadCounts). x.words) u.counted);
-          };
-    })
-    c.select_in_entry.result selected e.inside
+      upper = omega (arith, ap (λ (r : ReadCounts). r.upper) before.counted, part.reads.upper, ap digit_count t.upper_length, uppers);
+      lower = omega (arith, ap (λ (r : ReadCounts). r.lower) before.counted, part.reads.lower);
+      words = omega (arith, ap (λ (r : ReadCounts). r.words) before.counted, part.reads.words);
+    }))
