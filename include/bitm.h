@@ -24,7 +24,8 @@
  * make (crates/bitm_lent, crates/elias_fano_lent). Time is not proved.
  *
  * The caller's duties, as of each C function that takes pointers (nothing here can test them):
- *   - a pointer to n numbers is aligned to 8 bytes, and n numbers can be read there; it may be NULL where n is 0;
+ *   - a pointer to n numbers is aligned to 8 bytes (samples to 4), and n numbers can be read there; it may be NULL
+ *     where n is 0;
  *   - what is written (no const) overlaps nothing else that is passed, and nobody else reads or writes it meanwhile;
  *   - what is read (const) is not written meanwhile;
  *   - memory that is written may hold any bytes before, but has been allocated;
@@ -49,7 +50,7 @@ enum bitm_status {
     BITM_OK = 0,       /* the answer was written */
     BITM_NONE = 1,     /* there is no such place or bit */
     BITM_BAD_SIZE = 2, /* a length is not as it has to be: see each call */
-    BITM_WRONG = 3,    /* the tables are not those of the words, the parts of no sequence, or the header is none */
+    BITM_WRONG = 3,    /* the tables or samples are not those of the words, the parts of no sequence, or the header is none */
     BITM_UNSORTED = 4  /* a number is less than the one before it */
 };
 
@@ -109,6 +110,58 @@ uint32_t bitm_select_list(const struct bitm_view *view, const uint64_t *queries,
                           size_t out_len);
 uint32_t bitm_select0_list(const struct bitm_view *view, const uint64_t *queries, size_t queries_len, uint64_t *out,
                            size_t out_len);
+
+/* ---- selection by samples */
+
+/* Samples of the ones, or of the zeros: one of 32 bits for each 2^log2 of them in a part of 2^32 bits, and for each
+ * part how many samples stand before it. A logarithm below 7 counts as 7, and one above 31 as 31. More items a sample
+ * take less room, and a longer search.
+ *
+ *     size_t most = bitm_samples_len(n, 12);
+ *     uint64_t used;
+ *     bitm_build_samples(&view, 12, numbers, most, starts, m, &used);
+ *     struct bitm_samples samples = {numbers, used, starts, m, 12};
+ *     if (bitm_sampled_select(&view, &samples, 17, &place) == BITM_OK) ..
+ *
+ * samples_len is what the build wrote to used: what stands behind these is none of them. What both lists hold, how long
+ * they are, and the logarithm, may be anything: no samples lead to a wrong place where the tables are those of the
+ * words, and none at all to a read outside. */
+struct bitm_samples {
+    const uint32_t *samples;
+    size_t samples_len;
+    const uint64_t *starts;
+    size_t starts_len;
+    uint32_t log2;
+};
+
+/* How many samples of one kind so many words have at most: one for each begun 2^(log2 - 6) words. */
+size_t bitm_samples_len(size_t words_len, uint32_t log2);
+
+/* Writes the samples of ones, or zeros, for each part how many stand before it, and to used how many there are; what
+ * stands behind these stays. Where the tables are those of the words, so are the samples; else they are some numbers.
+ * BITM_OK, or BITM_BAD_SIZE as for a view, and where samples_len is less than bitm_samples_len says or starts_len is
+ * not the length of the upper table; nothing is written then. Reads the tables once, and eight words at most. */
+uint32_t bitm_build_samples(const struct bitm_view *view, uint32_t log2, uint32_t *samples, size_t samples_len,
+                            uint64_t *starts, size_t starts_len, uint64_t *used);
+uint32_t bitm_build_samples0(const struct bitm_view *view, uint32_t log2, uint32_t *samples, size_t samples_len,
+                             uint64_t *starts, size_t starts_len, uint64_t *used);
+
+/* The place of the one, or zero, with exactly rank ones, or zeros, before it, by samples of the ones, or zeros. Where
+ * the tables are those of the words, a place is the right one and BITM_NONE says that there is none, WHATEVER the
+ * samples hold; BITM_WRONG then says that the samples are not those of the words. Where the tables are not, a place is
+ * inside and has the bit that was asked. Reads at most as many upper entries as their number has binary digits and one
+ * more, 23 lower entries and eight words; right samples, two lower entries and one for each halving from the rank's
+ * sample to the next. */
+uint32_t bitm_sampled_select(const struct bitm_view *view, const struct bitm_samples *samples, size_t rank,
+                             uint64_t *out);
+uint32_t bitm_sampled_select0(const struct bitm_view *view, const struct bitm_samples *samples, size_t rank,
+                              uint64_t *out);
+
+/* out[i] answers queries[i] as the call of one query does; else as the lists of queries above. */
+uint32_t bitm_sampled_select_list(const struct bitm_view *view, const struct bitm_samples *samples,
+                                  const uint64_t *queries, size_t queries_len, uint64_t *out, size_t out_len);
+uint32_t bitm_sampled_select0_list(const struct bitm_view *view, const struct bitm_samples *samples,
+                                   const uint64_t *queries, size_t queries_len, uint64_t *out, size_t out_len);
 
 /* ---- bits and numbers in bits, with no tables */
 

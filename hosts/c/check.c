@@ -1,8 +1,9 @@
 /* Builds an index into a mapped file, maps the file again read-only, asks, and compares every answer with a plain
- * loop. Then asks with spoilt tables, wrong lengths and no words. Each block has the exact size, so that the
+ * loop. Then asks with spoilt tables and samples, wrong lengths and no words. Each block has the exact size, so that the
  * sanitizers see a read or write of one number too far. */
 #define _GNU_SOURCE
 #include "common.h"
+#include "sampled.h"
 
 #include <fcntl.h>
 #include <string.h>
@@ -119,6 +120,8 @@ static void in_a_file(size_t words_len, int kind)
     MUST(bitm_check(&view) == BITM_OK && single_queries(&view) == ones);
     MUST(bitm_count(from, words_len, &got) == BITM_OK && got == ones);
     lists_of_queries(&view);
+    sampled_queries(&view, 7);
+    sampled_queries(&view, 12);
     places_of_ones(from, words_len, ones);
     MUST(munmap((void *)(uintptr_t)read, bytes) == 0);
 }
@@ -283,10 +286,13 @@ int main(void)
     spoilt_tables(33);
     spoilt_tables(100);
     spoilt_tables(1000);
+    spoilt_everything(1);
+    spoilt_everything(100);
+    spoilt_everything(333);
     wrong_lengths();
     no_words();
     bits_and_fragments();
     headers();
-    puts("C host: all answers as the plain loop's, and none of spoilt tables outside");
+    puts("C host: all answers as the plain loop's, and none of spoilt tables and samples outside");
     return 0;
 }

@@ -10,6 +10,15 @@
 
 namespace {
 
+// Samples of one kind of bits, kept in vectors.
+struct Samples {
+    std::vector<std::uint32_t> samples;
+    std::vector<std::uint64_t> starts;
+    std::uint32_t log2;
+
+    bitm_samples lent() const { return {samples.data(), samples.size(), starts.data(), starts.size(), log2}; }
+};
+
 // A content with its tables, which the constructor makes.
 class Index {
 public:
@@ -25,6 +34,26 @@ public:
     std::optional<std::uint64_t> rank(std::size_t index) const { return ask(bitm_rank, index); }
     std::optional<std::uint64_t> select(std::size_t rank) const { return ask(bitm_select, rank); }
     std::optional<std::uint64_t> select0(std::size_t rank) const { return ask(bitm_select0, rank); }
+
+    // The samples of ones, one for each 2^log2.
+    Samples samples(std::uint32_t log2) const
+    {
+        Samples made{std::vector<std::uint32_t>(bitm_samples_len(words_.size(), log2)),
+                     std::vector<std::uint64_t>(upper_.size()), log2};
+        const bitm_view lent = view();
+        std::uint64_t used;
+        if (bitm_build_samples(&lent, log2, made.samples.data(), made.samples.size(), made.starts.data(),
+                               made.starts.size(), &used) != BITM_OK)
+            std::abort();
+        made.samples.resize(used);
+        return made;
+    }
+
+    std::optional<std::uint64_t> select(const Samples &by, std::size_t rank) const
+    {
+        const bitm_samples samples = by.lent();
+        return ask([&](auto view, auto r, auto out) { return bitm_sampled_select(view, &samples, r, out); }, rank);
+    }
 
 private:
     bitm_view view() const
@@ -102,16 +131,19 @@ int main()
         std::vector<std::uint64_t> words(n);
         for (auto &word : words) word = draw() & draw();
         const Index index(words);
+        const Samples samples = index.samples(7);
         std::uint64_t ones = 0, zeros = 0;
         for (std::size_t i = 0; i < n * 64; i++) {
             must(index.rank(i) == ones, "rank");
-            if (words[i / 64] >> (i % 64) & 1)
+            if (words[i / 64] >> (i % 64) & 1) {
+                must(index.select(samples, ones) == i, "select by samples");
                 must(index.select(ones++) == i, "select");
-            else
+            } else {
                 must(index.select0(zeros++) == i, "select0");
+            }
         }
         must(index.ones() == ones && index.rank(n * 64) == ones && !index.rank(n * 64 + 1), "the end");
-        must(!index.select(ones) && !index.select0(zeros), "none left");
+        must(!index.select(ones) && !index.select0(zeros) && !index.select(samples, ones), "none left");
     }
     for (std::size_t n : {0, 1, 7, 300}) {
         std::vector<std::uint64_t> items(n);

@@ -44,7 +44,13 @@ class SequenceLens(ctypes.Structure):
     _fields_ = [("width", U64), ("low_len", U64), ("words_len", U64), ("upper_len", U64), ("lower_len", U64)]
 
 
-VIEW, HEADER = ctypes.POINTER(View), ctypes.POINTER(Header)
+class Samples(ctypes.Structure):
+    """`struct bitm_samples`."""
+
+    _fields_ = [("samples", IN), ("samples_len", SIZE), ("starts", IN), ("starts_len", SIZE), ("log2", U32)]
+
+
+VIEW, HEADER, SAMPLES = ctypes.POINTER(View), ctypes.POINTER(Header), ctypes.POINTER(Samples)
 SEQUENCE, SIZES = ctypes.POINTER(SequenceView), ctypes.POINTER(SequenceLens)
 WORDS, LIST, ROOM = [IN, SIZE], [IN, SIZE], [OUT, SIZE]
 
@@ -62,6 +68,13 @@ DECLARATIONS = {
     "bitm_rank0_list": (STATUS, [VIEW] + LIST + ROOM),
     "bitm_select_list": (STATUS, [VIEW] + LIST + ROOM),
     "bitm_select0_list": (STATUS, [VIEW] + LIST + ROOM),
+    "bitm_samples_len": (SIZE, [SIZE, U32]),
+    "bitm_build_samples": (STATUS, [VIEW, U32] + ROOM + ROOM + [OUT]),
+    "bitm_build_samples0": (STATUS, [VIEW, U32] + ROOM + ROOM + [OUT]),
+    "bitm_sampled_select": (STATUS, [VIEW, SAMPLES, SIZE, OUT]),
+    "bitm_sampled_select0": (STATUS, [VIEW, SAMPLES, SIZE, OUT]),
+    "bitm_sampled_select_list": (STATUS, [VIEW, SAMPLES] + LIST + ROOM),
+    "bitm_sampled_select0_list": (STATUS, [VIEW, SAMPLES] + LIST + ROOM),
     "bitm_count": (STATUS, WORDS + [OUT]),
     "bitm_ones": (STATUS, WORDS + [SIZE] + ROOM + [OUT]),
     "bitm_get_bit": (STATUS, WORDS + [SIZE, OUT]),
@@ -98,16 +111,16 @@ class _PyBuffer(ctypes.Structure):
 class _Lent:
     """The numbers of a buffer, held in place until they are given back."""
 
-    def __init__(self, buffer, writable=False):
+    def __init__(self, buffer, writable=False, size=8):
         self._held = _PyBuffer()
         self._open = False
         ctypes.pythonapi.PyObject_GetBuffer(ctypes.py_object(buffer), ctypes.byref(self._held), 1 if writable else 0)
         self._open = True
         # Of no bytes the address may be anything, and a pointer of ours is NULL.
-        self.address, self.len = self._held.buf if self._held.len else None, self._held.len // 8
-        if self._held.len % 8 or (self.address or 0) % 8:
+        self.address, self.len = self._held.buf if self._held.len else None, self._held.len // size
+        if self._held.len % size or (self.address or 0) % size:
             self.release()
-            raise ValueError("a buffer of whole numbers of 8 bytes is wanted, aligned to 8")
+            raise ValueError(f"a buffer of whole numbers of {size} bytes is wanted, aligned to {size}")
 
     def release(self):
         if self._open:
@@ -184,14 +197,46 @@ class Library:
         return out[: written.value]
 
 
-class Index:
+class _Lending:
+    """A struct of the header over buffers, which stay in place until the context ends."""
+
+    def _lend(self, lent, view, *numbers):
+        self._lent = lent
+        self._view = view(*numbers, *(part for buffer in lent for part in (buffer.address, buffer.len)))
+        self._at = ctypes.byref(self._view)
+
+    def close(self):
+        """Gives the buffers back."""
+        for lent in self._lent:
+            lent.release()
+        self._view = type(self._view)()
+        self._at = ctypes.byref(self._view)
+
+    def __enter__(self):
+        return self
+
+    def __exit__(self, *_):
+        self.close()
+
+    def _ask(self, call, query):
+        out = U64()
+        status = call(self._at, query, ctypes.byref(out))
+        if status == WRONG:
+            raise WrongTables()
+        return out.value if status == OK else None
+
+
+def _to_ask(queries):
+    """A buffer of the queries, which are one or a list."""
+    return array.array("Q", queries) if isinstance(queries, (list, tuple, range)) else queries
+
+
+class Index(_Lending):
     """Words and tables in buffers that stay in place until the context ends."""
 
     def __init__(self, library, words, upper, lower):
         self._library = library
-        self._lent = [_Lent(words), _Lent(upper), _Lent(lower)]
-        self._view = View(*(part for lent in self._lent for part in (lent.address, lent.len)))
-        self._at = ctypes.byref(self._view)
+        self._lend([_Lent(words), _Lent(upper), _Lent(lower)], View)
         if library.bitm_rank(self._at, 0, ctypes.byref(U64())) == BAD_SIZE:
             self.close()
             raise ValueError("a table is not as long as that of the words")
@@ -228,45 +273,53 @@ class Index:
     def select0_list(self, ranks):
         return self._ask_list(self._library.bitm_select0_list, ranks)
 
-    def close(self):
-        """Gives the buffers back."""
-        for lent in self._lent:
-            lent.release()
-        self._view = View()
-        self._at = ctypes.byref(self._view)
+    def samples(self, kind, log2):
+        """The samples of the bits of a kind, 1 or 0, one for each 2^log2 of them, and how many stand before each part:
+        two new arrays."""
+        most, used = self._library.bitm_samples_len(self._view.words_len, log2), U64()
+        samples, starts = array.array("I", bytes(4 * most)), array.array("Q", bytes(8 * self._view.upper_len))
+        build = self._library.bitm_build_samples if kind else self._library.bitm_build_samples0
+        with _Lent(samples, True, 4) as s, _Lent(starts, True) as t:
+            build(self._at, log2, s.address, s.len, t.address, t.len, ctypes.byref(used))
+        return samples[: used.value], starts
 
-    def __enter__(self):
-        return self
-
-    def __exit__(self, *_):
-        self.close()
-
-    def _ask(self, call, query):
-        out = U64()
-        status = call(self._at, query, ctypes.byref(out))
-        if status == WRONG:
-            raise WrongTables()
-        return out.value if status == OK else None
+    def by_samples(self, kind, log2, samples, starts):
+        """Selection of the bits of a kind by samples in buffers, as a context."""
+        return Sampled(self, kind, log2, samples, starts)
 
     def _ask_list(self, call, queries):
         """An array of answers, NO_ANSWER and WRONG_TABLES among them, to a buffer or a list of queries."""
-        asked = array.array("Q", queries) if isinstance(queries, (list, tuple, range)) else queries
-        with _Lent(asked) as q:
+        with _Lent(_to_ask(queries)) as q:
             out = array.array("Q", bytes(8 * q.len))
             with _Lent(out, True) as o:
                 call(self._at, q.address, q.len, o.address, o.len)
         return out
 
 
-class Sequence:
+class Sampled(_Lending):
+    """Samples in buffers that stay in place until the context ends, beside an index."""
+
+    def __init__(self, index, kind, log2, samples, starts):
+        self._index, library = index, index._library
+        self._lend([_Lent(samples, size=4), _Lent(starts)], Samples)
+        self._view.log2 = log2
+        self._one = library.bitm_sampled_select if kind else library.bitm_sampled_select0
+        self._list = library.bitm_sampled_select_list if kind else library.bitm_sampled_select0_list
+
+    def select(self, rank):
+        """The place of the bit with so many of its kind before it; None where there is none."""
+        return self._index._ask(lambda view, query, out: self._one(view, self._at, query, out), rank)
+
+    def select_list(self, ranks):
+        return self._index._ask_list(lambda view, *lists: self._list(view, self._at, *lists), ranks)
+
+
+class Sequence(_Lending):
     """Numbers that never fall, in parts in buffers that stay in place until the context ends."""
 
     def __init__(self, library, length, width, low, words, upper, lower):
         self._library = library
-        self._lent = [_Lent(part) for part in (low, words, upper, lower)]
-        parts = (part for lent in self._lent for part in (lent.address, lent.len))
-        self._view = SequenceView(length, width, *parts)
-        self._at = ctypes.byref(self._view)
+        self._lend([_Lent(part) for part in (low, words, upper, lower)], SequenceView, length, width)
         if library.bitm_sequence_get(self._at, 0, ctypes.byref(U64())) == BAD_SIZE:
             self.close()
             raise ValueError("a part is not as long as that of so many numbers")
@@ -288,31 +341,10 @@ class Sequence:
 
     def get_list(self, places):
         """An array of the numbers at a buffer or a list of places, up to the first place that has none."""
-        asked = array.array("Q", places) if isinstance(places, (list, tuple, range)) else places
         written = U64()
-        with _Lent(asked) as q:
+        with _Lent(_to_ask(places)) as q:
             out = array.array("Q", bytes(8 * q.len))
             with _Lent(out, True) as o:
                 end = ctypes.byref(written)
                 self._library.bitm_sequence_get_list(self._at, q.address, q.len, o.address, o.len, end)
         return out[: written.value]
-
-    def close(self):
-        """Gives the buffers back."""
-        for lent in self._lent:
-            lent.release()
-        self._view = SequenceView()
-        self._at = ctypes.byref(self._view)
-
-    def __enter__(self):
-        return self
-
-    def __exit__(self, *_):
-        self.close()
-
-    def _ask(self, call, query):
-        out = U64()
-        status = call(self._at, query, ctypes.byref(out))
-        if status == WRONG:
-            raise WrongTables()
-        return out.value if status == OK else None

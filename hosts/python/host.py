@@ -33,7 +33,18 @@ def against_a_loop(words, index):
     assert list(index.rank0_list(range(n + 2))) == [i - r for i, r in enumerate(ranks)] + [bitm.NO_ANSWER]
     assert list(index.select_list(range(len(places[1]) + 1))) == places[1] + [bitm.NO_ANSWER]
     assert list(index.select0_list(range(len(places[0]) + 1))) == places[0] + [bitm.NO_ANSWER]
+    for kind in (0, 1):
+        for log2 in (7, 12):
+            with index.by_samples(kind, log2, *index.samples(kind, log2)) as sampled:
+                by_samples(places[kind], sampled)
     return places[1]
+
+
+def by_samples(places, sampled):
+    for r in random.sample(range(len(places)), min(len(places), 100)):
+        assert sampled.select(r) == places[r]
+    assert sampled.select(len(places)) is None
+    assert list(sampled.select_list(range(len(places) + 1))) == places + [bitm.NO_ANSWER]
 
 
 def refused(call):
@@ -55,6 +66,23 @@ def over_arrays(n):
         lower[len(lower) // 2] ^= 1 << 33
         with library.over(words, upper, lower) as index:
             assert not index.check()
+
+
+def with_spoilt_samples(n):
+    """No samples lead to a wrong place: an answer is right, or the samples are called wrong."""
+    words = array.array("Q", (random.getrandbits(64) & random.getrandbits(64) for _ in range(n)))
+    upper, lower = library.tables(words)
+    places = list(library.ones(words))
+    wrong = 0
+    with library.over(words, upper, lower) as index:
+        samples, starts = index.samples(1, 7)
+        for i in range(len(samples)):
+            spoilt = samples[:i] + array.array("I", [random.getrandbits(32)]) + samples[i + 1 :]
+            with index.by_samples(1, 7, spoilt, starts) as sampled:
+                for r, place in enumerate(sampled.select_list(range(len(places)))):
+                    wrong += place == bitm.WRONG_TABLES
+                    assert place in (places[r], bitm.WRONG_TABLES)
+    assert wrong > 0
 
 
 def over_a_mapped_file(n):
@@ -135,4 +163,5 @@ for n in (0, 1, 8, 33, 100):
     over_arrays(n)
     over_a_mapped_file(n)
     sequences(n)
+with_spoilt_samples(100)
 print(f"python host: all answers as the plain loop's; {over_numpy(40)}")

@@ -10,5 +10,6 @@ mod header;
 mod index;
 mod lists;
 mod places;
+mod sampled;
 mod sequence;
 mod view;

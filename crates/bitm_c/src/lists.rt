@@ -9,7 +9,7 @@ use crate::view::View;
 
 /// `OK` where the answers were written.
 #[inline(always)]
-fn done(written: bool) -> u32
+pub(crate) fn done(written: bool) -> u32
     ensures { result ≡ (if written then 0 else 2) }
 {
     if written { OK } else { BAD_SIZE }

@@ -1,7 +1,7 @@
-//! Builds an index over a vector's words, and sequences of numbers, asks them through the safe wrapper, and compares
-//! every answer with a plain loop.
-use bitm_host::{build, build_sequence, ones, sequence_sizes, table_lens};
-use bitm_host::{Lent, Sequence, Unbuilt, WrongParts, WrongTables};
+//! Builds an index over a vector's words, with samples, and sequences of numbers, asks them through the safe wrapper, and
+//! compares every answer with a plain loop.
+use bitm_host::{build, build_sequence, ones, samples_len, sequence_sizes, table_lens};
+use bitm_host::{Lent, LentSamples, Sequence, Unbuilt, WrongParts, WrongTables};
 
 fn drawn(seed: &mut u64) -> u64 {
     *seed ^= *seed << 13;
@@ -44,6 +44,44 @@ fn against_a_loop(words: &[u64], upper: &[u64], lower: &[u64], total: u64) {
     assert!(!lent.rank_list(&places, &mut out));
     let mut room = vec![0; places.len() + 3];
     assert_eq!(ones(words, 0, &mut room), Some(&places[..]));
+}
+
+/// Each selection by samples of right tables, and by samples that are spoilt: an answer is right, or they are called
+/// wrong.
+fn by_samples(lent: &Lent<'_>, words: &[u64], kind: u64) {
+    let places: Vec<u64> = (0..words.len() as u64 * 64)
+        .filter(|i| words[*i as usize / 64] >> (i % 64) & 1 == kind)
+        .collect();
+    let mut samples = vec![7; samples_len(words.len(), 7)];
+    let mut starts = vec![7; table_lens(words.len()).0];
+    let used = lent.build_samples(kind == 1, 7, &mut samples, &mut starts);
+    samples.truncate(used.expect("as long as asked"));
+    let ask = |samples: &[u32], starts: &[u64], rank| {
+        let given = LentSamples {
+            samples,
+            starts,
+            log2: 7,
+        };
+        if kind == 1 {
+            lent.sampled_select(&given, rank)
+        } else {
+            lent.sampled_select0(&given, rank)
+        }
+    };
+    for (rank, place) in places.iter().enumerate() {
+        assert_eq!(ask(&samples, &starts, rank), Ok(Some(*place)));
+        let told = ask(&samples[1..], &starts, rank);
+        assert!(told == Ok(Some(*place)) || told == Err(WrongTables));
+    }
+    assert_eq!(ask(&samples, &starts, places.len()), Ok(None));
+    let queries: Vec<u64> = (0..places.len() as u64).collect();
+    let mut out = vec![7; places.len()];
+    let given = LentSamples {
+        samples: &samples,
+        starts: &starts,
+        log2: 7,
+    };
+    assert!(lent.sampled_select_list(kind == 1, &given, &queries, &mut out) && out == places);
 }
 
 /// Each number, each place and the values beside a number; then the same of spoilt words.
@@ -91,6 +129,9 @@ fn main() {
         let (mut upper, mut lower) = (vec![7; m], vec![7; k]);
         let total = build(&words, &mut upper, &mut lower).expect("as long as asked");
         against_a_loop(&words, &upper, &lower, total);
+        let lent = Lent::over(&words, &upper, &lower).expect("the lengths are right");
+        by_samples(&lent, &words, 1);
+        by_samples(&lent, &words, 0);
         if n > 0 {
             assert!(build(&words, &mut upper, &mut lower[1..]).is_none());
             assert!(Lent::over(&words, &upper, &lower[1..]).is_none());

@@ -1,0 +1,190 @@
+//! Selection by samples that lie in the caller's memory.
+ghost use Rattle.std.specs.Prelude.{◌≡◌, ◌≢◌, ◌<◌, ◌≤◌, ◌↔◌, ℕ, length, min, slice_index, take, true, false};
+ghost use Rattle.bitm.specs.Density.{within};
+ghost use Rattle.bitm.specs.Tables.{HasSizes, HasTables, bits_in};
+ghost use Rattle.bitm_lent.specs.Samples.{AreSamples, HasRoom, SampledTold, enough_samples};
+ghost use Rattle.bitm_c.specs.Sampled.{SampledAnswered, lent_samples};
+ghost use Rattle.bitm_c.specs.Status.{lists_of};
+
+use crate::answer::{BAD_SIZE, OK, tell_place};
+use crate::lists::done;
+use crate::view::View;
+use bitm_lent::LentSamples;
+
+/// Samples of one kind, lent: for C two pairs of a pointer and a length, and a number.
+#[repr(C)]
+#[derive(Clone, Copy)]
+pub struct Samples<'a> {
+    /// The samples, and nothing behind them.
+    pub samples: &'a [u32],
+    /// How many samples there are before each part.
+    pub starts: &'a [usize],
+    /// The logarithm of how many items one sample stands for.
+    pub log2: u32,
+}
+
+/// A logarithm as the library takes it, where each one above 31 is 31.
+#[inline(always)]
+fn narrowed(log2: u32) -> u8
+    ensures { result ≡ min log2 31 }
+{
+    log2.min(31) as u8
+}
+
+impl<'a> Samples<'a> {
+    /// The samples as the library asks them.
+    #[inline(always)]
+    fn lent(&self) -> LentSamples<'a>
+        ensures { result ≡ lent_samples self.now }
+    {
+        LentSamples {
+            samples: self.samples,
+            starts: self.starts,
+            log2: narrowed(self.log2),
+        }
+    }
+}
+
+/// How many samples so many words have at most: one for each begun 2^(log2 - 6) words.
+#[unsafe(no_mangle)]
+pub extern "C" fn bitm_samples_len(words_len: usize, log2: u32) -> usize
+    ensures { result ≡ enough_samples words_len log2 }
+{
+    bitm_lent::samples_len(words_len, narrowed(log2))
+}
+
+/// Writes the samples of ones, how many there are before each part, and how many there are.
+#[unsafe(no_mangle)]
+pub extern "C" fn bitm_build_samples(
+    view: &View<'_>,
+    log2: u32,
+    samples: &mut [u32],
+    starts: &mut [usize],
+    used: &mut usize,
+) -> u32
+    ensures ok { (result ≡ 0) ↔ HasSizes (lists_of view.now)
+        × HasRoom (lists_of view.now) log2 samples.old starts.old }
+    ensures fits { result ≡ 0 → used.new ≤ length samples.old }
+    ensures made { result ≡ 0 → HasTables (lists_of view.now) → AreSamples
+        (bits_in (lists_of view.now)) true (within log2) (take used.new samples.new) starts.new }
+    ensures behind { result ≡ 0 → (j : ℕ) → used.new ≤ j
+        → slice_index samples.new j ≡ slice_index samples.old j }
+    ensures kept { result ≢ 0 → (result ≡ 2) × (samples.new ≡ samples.old)
+        × (starts.new ≡ starts.old) × (used.new ≡ used.old) }
+{
+    let Some(lent) = view.lent() else {
+        return BAD_SIZE;
+    };
+    match lent.build_samples(narrowed(log2), samples, starts) {
+        Some(count) => {
+            *used = count;
+            OK
+        }
+        None => BAD_SIZE,
+    }
+}
+
+/// Writes the samples of zeros, how many there are before each part, and how many there are.
+#[unsafe(no_mangle)]
+pub extern "C" fn bitm_build_samples0(
+    view: &View<'_>,
+    log2: u32,
+    samples: &mut [u32],
+    starts: &mut [usize],
+    used: &mut usize,
+) -> u32
+    ensures ok { (result ≡ 0) ↔ HasSizes (lists_of view.now)
+        × HasRoom (lists_of view.now) log2 samples.old starts.old }
+    ensures fits { result ≡ 0 → used.new ≤ length samples.old }
+    ensures made { result ≡ 0 → HasTables (lists_of view.now) → AreSamples
+        (bits_in (lists_of view.now)) false (within log2) (take used.new samples.new) starts.new }
+    ensures behind { result ≡ 0 → (j : ℕ) → used.new ≤ j
+        → slice_index samples.new j ≡ slice_index samples.old j }
+    ensures kept { result ≢ 0 → (result ≡ 2) × (samples.new ≡ samples.old)
+        × (starts.new ≡ starts.old) × (used.new ≡ used.old) }
+{
+    let Some(lent) = view.lent() else {
+        return BAD_SIZE;
+    };
+    match lent.build_samples0(narrowed(log2), samples, starts) {
+        Some(count) => {
+            *used = count;
+            OK
+        }
+        None => BAD_SIZE,
+    }
+}
+
+/// The place of the one with `rank` ones before it, by samples of the ones.
+#[unsafe(no_mangle)]
+pub extern "C" fn bitm_sampled_select(
+    view: &View<'_>,
+    samples: &Samples<'_>,
+    rank: usize,
+    out: &mut usize,
+) -> u32
+    ensures { SampledAnswered true (lists_of view.now) samples.now rank result out.old out.new }
+{
+    match view.lent() {
+        Some(lent) => tell_place(lent.sampled_select(&samples.lent(), rank), out),
+        None => BAD_SIZE,
+    }
+}
+
+/// The place of the zero with `rank` zeros before it, by samples of the zeros.
+#[unsafe(no_mangle)]
+pub extern "C" fn bitm_sampled_select0(
+    view: &View<'_>,
+    samples: &Samples<'_>,
+    rank: usize,
+    out: &mut usize,
+) -> u32
+    ensures { SampledAnswered false (lists_of view.now) samples.now rank result out.old out.new }
+{
+    match view.lent() {
+        Some(lent) => tell_place(lent.sampled_select0(&samples.lent(), rank), out),
+        None => BAD_SIZE,
+    }
+}
+
+/// The place of the one with each rank, by samples of the ones.
+#[unsafe(no_mangle)]
+pub extern "C" fn bitm_sampled_select_list(
+    view: &View<'_>,
+    samples: &Samples<'_>,
+    queries: &[usize],
+    out: &mut [usize],
+) -> u32
+    ensures ok { (result ≡ 0) ↔ HasSizes (lists_of view.now)
+        × (length out.old ≡ length queries.now) }
+    ensures kept { result ≢ 0 → (result ≡ 2) × (out.new ≡ out.old) }
+    ensures told { result ≡ 0 → (j : ℕ) → j < length queries.now
+        → SampledTold true (lists_of view.now) (lent_samples samples.now)
+        (slice_index queries.now j) (slice_index out.new j) }
+{
+    match view.lent() {
+        Some(lent) => done(lent.sampled_select_list(&samples.lent(), queries, out)),
+        None => BAD_SIZE,
+    }
+}
+
+/// The place of the zero with each rank, by samples of the zeros.
+#[unsafe(no_mangle)]
+pub extern "C" fn bitm_sampled_select0_list(
+    view: &View<'_>,
+    samples: &Samples<'_>,
+    queries: &[usize],
+    out: &mut [usize],
+) -> u32
+    ensures ok { (result ≡ 0) ↔ HasSizes (lists_of view.now)
+        × (length out.old ≡ length queries.now) }
+    ensures kept { result ≢ 0 → (result ≡ 2) × (out.new ≡ out.old) }
+    ensures told { result ≡ 0 → (j : ℕ) → j < length queries.now
+        → SampledTold false (lists_of view.now) (lent_samples samples.now)
+        (slice_index queries.now j) (slice_index out.new j) }
+{
+    match view.lent() {
+        Some(lent) => done(lent.sampled_select0_list(&samples.lent(), queries, out)),
+        None => BAD_SIZE,
+    }
+}
