@@ -16,6 +16,7 @@
 //! | rank and select over tables of one's own | `source` |
 //! | ask tables that came with the words and may be wrong | `lent` |
 //! | ask the parts of a sequence that came from elsewhere and may be wrong | `lent_sequence` |
+//! | select by samples that may be stale | `sampled` |
 //! | select by a strategy of one's own | `strategies` |
 //! | sample by a density of one's own | `density` |
 #![tactic(auto)]
@@ -32,6 +33,7 @@ pub mod lent_sequence;
 pub mod many;
 pub mod owned;
 pub mod readme;
+pub mod sampled;
 pub mod sieve;
 pub mod source;
 pub mod strategies;

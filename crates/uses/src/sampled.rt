@@ -1,0 +1,52 @@
+//! Samples that lie beside right tables and may be stale: made into memory of one's own, asked, and passed over where
+//! they are of other words.
+ghost use Rattle.std.specs.Prelude.{◌≡◌, true};
+ghost use Rattle.bitm_bits.specs.Count.{IsSelect};
+ghost use Rattle.bitm.specs.Tables.{HasTables, bits_in};
+ghost use Rattle.bitm_lent.specs.Answers.{IsSelected};
+ghost use Rattle.bitm_lent.specs.Samples.{HasRoom};
+
+use bitm_lent::{Lent, LentSamples, Selected};
+
+/// The place of the one with `rank` ones before it, by samples of whatever words, and without them where they say
+/// nothing.
+pub fn select(lent: &Lent<'_>, samples: &LentSamples<'_>, rank: usize) -> Option<usize>
+    requires { HasTables lent.now }
+    ensures { IsSelect (bits_in lent.now) true rank result }
+{
+    let by_samples = lent.sampled_select(samples, rank);
+    let selected = match by_samples {
+        Selected::WrongTables => lent.select(rank),
+        told => told,
+    };
+    match selected {
+        Selected::Found(place) => Some(place),
+        Selected::Absent => None,
+        // No right tables are called wrong.
+        Selected::WrongTables => unreachable!(),
+    }
+}
+
+/// Makes samples of ones, one for each 2^`log2`, and answers one selection by them: `WrongTables` only where there is
+/// no room for them.
+pub fn sample_and_select(
+    lent: &Lent<'_>,
+    log2: u8,
+    numbers: &mut [u32],
+    starts: &mut [usize],
+    rank: usize,
+) -> Selected
+    requires { HasTables lent.now }
+    ensures { HasRoom lent.now log2 numbers.old starts.old
+        → IsSelected (bits_in lent.now) true rank result }
+{
+    let Some(used) = lent.build_samples(log2, &mut *numbers, &mut *starts) else {
+        return Selected::WrongTables;
+    };
+    let samples = LentSamples {
+        samples: &numbers[..used],
+        starts: &*starts,
+        log2,
+    };
+    lent.sampled_select(&samples, rank)
+}
