@@ -6,6 +6,7 @@ pub mod EntryLemmas
 pub mod FieldLemmas
 pub mod InWordLemmas
 pub mod LeBytesLemmas
+pub mod LengthLemmas
 pub mod LowBytes
 pub mod MadeLemmas
 pub mod ManyLemmas
@@ -16,7 +17,6 @@ pub mod SampleLemmas
 pub mod SearchLemmas
 pub mod SelectLemmas
 pub mod SimpleLemmas
-pub mod SizeLemmas
 pub mod SoughtLemmas
 pub mod StretchLemmas
 pub mod TableLemmas

@@ -1,5 +1,5 @@
 pub mod BoundsLemmas
 pub mod FilledLemmas
-pub mod PlaceLemmas
+pub mod OnesFromLemmas
 pub mod SamplingLemmas
 pub mod SelectedLemmas

@@ -11,7 +11,7 @@ use Rattle.bitm.specs.Many.{IsNear, IsInRecord}
 use Rattle.bitm.specs.Search.{sought_in, IsLastPart, IsLastEntry, IsWord}
 use Rattle.bitm.specs.Tables.{Lists, HasTables}
 use Rattle.bitm.proofs.lemmas.MarkLemmas.{none_in_nothing}
-use Rattle.bitm.proofs.lemmas.SizeLemmas.{few_entries, first_of_part, sizes_of}
+use Rattle.bitm.proofs.lemmas.LengthLemmas.{few_entries, first_of_part, sizes_of}
 use Rattle.bitm.proofs.lemmas.SoughtLemmas.{first_none, next_is, rank_is}
 use Rattle.bitm.proofs.lemmas.TableLemmas.{entries}
 use borrow.Rule.Slice.PartMut.{put_mid}

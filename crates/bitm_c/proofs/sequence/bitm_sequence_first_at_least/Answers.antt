@@ -1,5 +1,5 @@
 -- What was found is told.
-use Rattle.bitm_c.proofs.SoughtLemmas.{place_of}
+use Rattle.bitm_c.proofs.SequenceToldLemmas.{place_of}
 use Rattle.bitm_c.proofs.sequence.bitm_sequence_first_at_least.Goals as goal
 
 pub returns-in-Some : goal.returns-in-Some

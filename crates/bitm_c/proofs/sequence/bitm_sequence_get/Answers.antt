@@ -1,5 +1,5 @@
 -- What was found is told.
-use Rattle.bitm_c.proofs.SoughtLemmas.{item_of}
+use Rattle.bitm_c.proofs.SequenceToldLemmas.{item_of}
 use Rattle.bitm_c.proofs.sequence.bitm_sequence_get.Goals as goal
 
 pub returns-in-Some : goal.returns-in-Some

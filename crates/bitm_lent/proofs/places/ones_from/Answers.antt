@@ -6,7 +6,7 @@ use Rattle.bitm_bits.proofs.lemmas.CountLemmas.{ones_before-at_most_all}
 use Rattle.bitm_bits.specs.Bits.{bits_of}
 use Rattle.bitm_bits.specs.Count.{ones_before, Picks}
 use Rattle.bitm_lent.proofs.FilledLemmas.{placed_more}
-use Rattle.bitm_lent.proofs.PlaceLemmas.{first_picked, next_counts, none_follows}
+use Rattle.bitm_lent.proofs.OnesFromLemmas.{first_picked, next_counts, none_follows}
 use Rattle.bitm_lent.proofs.places.ones_from.Goals as goal
 
 pub returns-in_default-clause-number : goal.returns-in_default-clause-number

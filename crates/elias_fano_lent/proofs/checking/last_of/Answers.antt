@@ -3,7 +3,7 @@ use Rattle.std.proofs.Common.{◌≡◌, ℕ, ◌+◌, ◌<◌, true, sym, ap, s
 use Rattle.bitm_bits.proofs.lemmas.BitsLemmas.{length-bits_of}
 use Rattle.bitm_bits.proofs.lemmas.PickLemmas.{rank_below}
 use Rattle.bitm_bits.specs.Bits.{bits_of}
-use Rattle.bitm_lent.proofs.PlaceLemmas.{first_picked, next_counts, none_follows}
+use Rattle.bitm_lent.proofs.OnesFromLemmas.{first_picked, next_counts, none_follows}
 use Rattle.elias_fano_lent.proofs.CheckLemmas.{AreNumbers-more, held_of_pick, held_is, ones-all, last-at_most}
 use Rattle.elias_fano_lent.specs.Checks.{AreNumbers}
 use Rattle.elias_fano_lent.proofs.checking.last_of.Goals as goal

@@ -5,7 +5,7 @@ use Rattle.bitm.specs.Search.{IsAmong, entries_from, sought_in}
 use Rattle.bitm.specs.Tables.{HasTables, Lists}
 use Rattle.bitm.specs.declared.source.counts.ReadCounts.{ReadCounts}
 use Rattle.bitm.proofs.lemmas.SearchLemmas.{halves, halves_left}
-use Rattle.bitm.proofs.lemmas.SizeLemmas.{few_entries, first_of_part}
+use Rattle.bitm.proofs.lemmas.LengthLemmas.{few_entries, first_of_part}
 use Rattle.bitm.proofs.lemmas.SoughtLemmas.{low_is, entries_rise}
 use Rattle.bitm.proofs.search.entries.last_in_range.Goals as goal
 use Rattle.bitm.proofs.search.entries.last_in_range.Goals.{Joined-ones_to_entry-rank, then-ones_to_entry-rank, else-ones_to_entry-rank}

@@ -4,7 +4,7 @@ use Rattle.bitm.specs.Entry.{before_in_part}
 use Rattle.bitm.specs.Search.{Between, entries_from, sought_in}
 use Rattle.bitm_bits.proofs.lemmas.DigitLemmas.{digit_count_most}
 use Rattle.bitm.proofs.lemmas.SearchLemmas.{search_begins}
-use Rattle.bitm.proofs.lemmas.SizeLemmas.{first_of_part}
+use Rattle.bitm.proofs.lemmas.LengthLemmas.{first_of_part}
 use Rattle.bitm.proofs.lemmas.SoughtLemmas.{first_none}
 use Rattle.bitm.proofs.search.entries.search_range.Goals as goal
 

@@ -4,7 +4,7 @@ use Rattle.bitm.specs.Entry.{before_in_part, lower_entry}
 use Rattle.bitm.specs.Search.{entries_from, sought_in}
 use Rattle.bitm.specs.Tables.{HasTables}
 use Rattle.bitm.proofs.lemmas.SearchLemmas.{goes_over}
-use Rattle.bitm.proofs.lemmas.SizeLemmas.{few_entries, first_of_part}
+use Rattle.bitm.proofs.lemmas.LengthLemmas.{few_entries, first_of_part}
 use Rattle.bitm.proofs.lemmas.SoughtLemmas.{low_is}
 use Rattle.bitm.proofs.search.entries.side_of.Goals as goal
 use Rattle.bitm.proofs.search.entries.side_of.Goals.{After-ones_to_entry-count}

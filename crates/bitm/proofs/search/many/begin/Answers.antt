@@ -4,7 +4,7 @@ use Rattle.bitm_bits.specs.Count.{ones_before}
 use Rattle.bitm.specs.Search.{sought_in}
 use Rattle.bitm.specs.Tables.{IsIndexed, Lists}
 use Rattle.bitm.proofs.lemmas.ManyLemmas.{near_begins}
-use Rattle.bitm.proofs.lemmas.SizeLemmas.{few_entries, first_of_part, sizes_of}
+use Rattle.bitm.proofs.lemmas.LengthLemmas.{few_entries, first_of_part, sizes_of}
 use Rattle.bitm.proofs.search.many.begin.Goals as goal
 
 pub overflow_mul-result : goal.overflow_mul-result

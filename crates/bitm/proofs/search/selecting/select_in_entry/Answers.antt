@@ -3,7 +3,7 @@ use Rattle.std.proofs.Common.{ℕ, ◌+◌, ◌-◌, ◌*◌, ◌^◌, ◌<◌, 
 use Rattle.bitm_bits.specs.Bits.{bits_of}
 use Rattle.bitm_bits.specs.Count.{kind, IsSelect}
 use Rattle.bitm.specs.Search.{sought_in}
-use Rattle.bitm.proofs.lemmas.SizeLemmas.{few_entries, sizes_of}
+use Rattle.bitm.proofs.lemmas.LengthLemmas.{few_entries, sizes_of}
 use Rattle.bitm.proofs.lemmas.SoughtLemmas.{rank_is, next_is, record_fields_rise}
 use Rattle.bitm.proofs.search.selecting.select_in_entry.Goals as goal
 use Rattle.bitm.proofs.search.selecting.select_in_entry.Goals.{Start}

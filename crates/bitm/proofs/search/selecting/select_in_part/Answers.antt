@@ -5,7 +5,7 @@ use Rattle.bitm_bits.specs.Count.{ones_before, kind, IsSelect}
 use Rattle.bitm.specs.Entry.{lower_entry}
 use Rattle.bitm.specs.Search.{IsLastPart, IsLastEntry, sought_in}
 use Rattle.bitm.specs.Tables.{Lists}
-use Rattle.bitm.proofs.lemmas.SizeLemmas.{sizes_of}
+use Rattle.bitm.proofs.lemmas.LengthLemmas.{sizes_of}
 use Rattle.bitm.proofs.search.selecting.select_in_part.Goals as goal
 
 pub last_entry-entry-requires-clause-sized : goal.last_entry-entry-requires-clause-sized

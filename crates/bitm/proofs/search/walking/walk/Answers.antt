@@ -5,7 +5,7 @@ use Rattle.bitm.specs.Entry.{lower_entry}
 use Rattle.bitm.specs.Search.{entries_from, items_to, sought_in}
 use Rattle.bitm.specs.Tables.{HasTables, Lists}
 use Rattle.bitm.specs.declared.source.counts.ReadCounts.{ReadCounts}
-use Rattle.bitm.proofs.lemmas.SizeLemmas.{few_entries, first_of_part, sizes_of}
+use Rattle.bitm.proofs.lemmas.LengthLemmas.{few_entries, first_of_part, sizes_of}
 use Rattle.bitm.proofs.lemmas.SoughtLemmas.{low_is}
 use Rattle.bitm.proofs.search.walking.walk.Goals as goal
 use Rattle.bitm.proofs.search.walking.walk.Goals.{After-ones_to_entry}
