@@ -8,6 +8,8 @@ ghost use Rattle.bitm_bits.specs.Count.{ones_before, ones_of, IsRank};
 ghost use Rattle.bitm.specs.Simple.{HasFewOnes, simple_table_of};
 
 use crate::queries::{HasBits, Rank};
+use crate::search::ranking::ones_in_record;
+use crate::source::Probe;
 use crate::word::ones_through;
 use bitm_bits::{CloneWords, GetSize, words};
 use std::alloc::{AllocError, Global};
@@ -92,7 +94,8 @@ fn rank_from(words: &[u64], before: u32, last: usize) -> u32
 {
     let first = last / BITS_PER_RUN * WORDS_PER_RUN;
     let word = last / 64;
-    let whole = words::count_bit_ones(&words[first..word]) as u32;
+    let mut source = Probe::new(words, [].as_slice(), [].as_slice());
+    let whole = ones_in_record(&mut source, first, word) as u32;
     before + whole + ones_through(words[word], last % 64)
 }
 

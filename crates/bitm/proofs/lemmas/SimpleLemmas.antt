@@ -58,19 +58,16 @@ pub record CountsThrough (b : List Bool) (i run whole part : ℕ) : Type 0 where
   pub place : run + whole + part ≡ ones_before b (i + 1)
   pub most : ones_before b (i + 1) ≤ ones_before b (length b)
 
-pub counts_through : (words part : List ℕ) (i : ℕ) → i < 64 * length words → ((j : ℕ) → get_or words j 0 < 2 ^ 64)
-    → part ≡ take (i / 64 - i / 512 * 8) (drop (i / 512 * 8) words)
-    → CountsThrough (bits_of words) i (ones_before (bits_of words) (512 * (i / 512))) (ones_of (bits_of part))
+pub counts_through : (words : List ℕ) (i whole : ℕ) → i < 64 * length words → ((j : ℕ) → get_or words j 0 < 2 ^ 64)
+    → ones_before (bits_of words) (64 * (i / 512 * 8)) + whole ≡ ones_before (bits_of words) (64 * (i / 64))
+    → CountsThrough (bits_of words) i (ones_before (bits_of words) (512 * (i / 512))) whole
     (count_ones (get_or words (i / 64) 0 % 2 ^ (i % 64 + 1)))
-counts_through words part i inside fit is =
+counts_through words i whole inside fit is =
     let b = bits_of words in
-    let stretch = ones_before-bits_of_stretch words (i / 512 * 8) (i / 64 - i / 512 * 8) (omega arith) fit in
-    let there = ap (λ p. ones_of (bits_of p)) is in
     let from : 64 * (i / 512 * 8) ≡ 512 * (i / 512) = omega arith in
-    let to : 64 * (i / 512 * 8 + (i / 64 - i / 512 * 8)) ≡ 64 * (i / 64) = omega arith in
     let at : 64 * (i / 64) + (i % 64 + 1) ≡ i + 1 = omega arith in
     let in_word = ones_before-bits_of_in_word words (i / 64) (omega arith) (i % 64 + 1) (omega arith) in
-    let word_is : ones_before b (512 * (i / 512)) + ones_of (bits_of part) ≡ ones_before b (64 * (i / 64)) = omega (arith, stretch, there, ap (ones_before b) from, ap (ones_before b) to) in
+    let word_is : ones_before b (512 * (i / 512)) + whole ≡ ones_before b (64 * (i / 64)) = omega (arith, is, ap (ones_before b) from) in
     record {
       word = word_is;
       place = omega (arith, word_is, in_word, ap (ones_before b) at);
