@@ -10,8 +10,9 @@ ghost use Rattle.bitm.specs.Simple.{HasFewOnes, simple_table_of};
 use crate::queries::{HasBits, Rank};
 use crate::search::ranking::ones_in_record;
 use crate::source::Probe;
+use crate::tables::ones_of_record;
 use crate::word::ones_through;
-use bitm_bits::{CloneWords, GetSize, words};
+use bitm_bits::{CloneWords, GetSize};
 use std::alloc::{AllocError, Global};
 use std::boxed::BoxedSlice;
 use std::convert::AsSlice;
@@ -73,14 +74,11 @@ fn make(alloc: Global, words: &[u64]) -> Result<(BoxedSlice<u32, Global>, u32), 
 #[inline(always)]
 fn ones_of_run(words: &[u64], run: usize) -> u32
     requires short { IsShort words.now }
-    requires few { HasFewOnes words.now }
     requires begun { 8 * run < length words.now }
     ensures { ones_before (bits_of words.now) (512 * run) + result
         ≡ ones_before (bits_of words.now) (512 * (run + 1)) }
 {
-    let first = run * WORDS_PER_RUN;
-    let end = words.len().min(first + WORDS_PER_RUN);
-    words::count_bit_ones(&words[first..end]) as u32
+    ones_of_record(words, run * WORDS_PER_RUN) as u32
 }
 
 /// How many ones there are up to place `last`, that one included, where `before` stand before its run.

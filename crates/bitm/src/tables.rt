@@ -59,7 +59,7 @@ fn ones_of_cut_record(words: &[u64], first: usize) -> usize
 
 /// How many ones stand in the record of eight words from word `first` on, or in what is left of it.
 #[inline(always)]
-fn ones_of_record(words: &[u64], first: usize) -> usize
+pub(crate) fn ones_of_record(words: &[u64], first: usize) -> usize
     requires short { IsShort words.now }
     requires near { first < 2 ^ 59 }
     ensures ones { ones_before (bits_of words.now) (64 * first) + result

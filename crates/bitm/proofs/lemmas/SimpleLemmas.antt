@@ -1,12 +1,10 @@
 -- The table of a simple rank, run by run.
-use Rattle.std.proofs.Common.{◌≡◌, ℕ, ◌+◌, ◌-◌, ◌*◌, ◌/◌, ◌%◌, ◌^◌, ◌<◌, ◌≤◌, min, Bool, List, length, take, drop, get_or, count_ones, ap, ⊎_elim, arith}
+use Rattle.std.proofs.Common.{◌≡◌, ℕ, ◌+◌, ◌*◌, ◌/◌, ◌%◌, ◌^◌, ◌<◌, ◌≤◌, Bool, List, length, get_or, count_ones, ap, arith}
 use Rattle.std.specs.Int.{div_ceil}
 use Rattle.std.proofs.lemmas.List.FromFn.{length-map-range_with_len, get_or-map-range_with_len}
-use Rattle.std.proofs.lemmas.Bool.{cases_lt}
-use Rattle.bitm_bits.proofs.lemmas.BitsLemmas.{length-bits_of}
-use Rattle.bitm_bits.proofs.lemmas.CountLemmas.{ones_before-bits_of_stretch, ones_before-bits_of_in_word, ones_before_past, ones_before-at_most_all}
+use Rattle.bitm_bits.proofs.lemmas.CountLemmas.{ones_before-bits_of_in_word, ones_before-at_most_all}
 use Rattle.bitm_bits.specs.Bits.{bits_of}
-use Rattle.bitm_bits.specs.Count.{ones_before, ones_of}
+use Rattle.bitm_bits.specs.Count.{ones_before}
 use Rattle.bitm.specs.Simple.{simple_table_of}
 
 -- entry k of the table
@@ -25,32 +23,6 @@ run_begun n i l = grind arith
 -- n words have as many runs of eight words as runs of 512 bits
 pub runs_of_words : (n : ℕ) → div_ceil n 8 ≡ div_ceil (64 * n) 512
 runs_of_words n = grind arith
-
--- the ones of run k, of eight words or of what is left of them
-pub run_counts : (words part : List ℕ) (k : ℕ) → 8 * k < length words → ((j : ℕ) → get_or words j 0 < 2 ^ 64)
-    → part ≡ take (min (length words) (k * 8 + 8) - k * 8) (drop (k * 8) words)
-    → ones_before (bits_of words) (512 * k) + ones_of (bits_of part) ≡ ones_before (bits_of words) (512 * (k + 1))
-run_counts words part k begun fit is =
-    let b = bits_of words in
-    let n = min (length words) (k * 8 + 8) - k * 8 in
-    let stretch = ones_before-bits_of_stretch words (k * 8) n (omega arith) fit in
-    let from : 64 * (k * 8) ≡ 512 * k = omega arith in
-    let there = ap (λ p. ones_of (bits_of p)) is in
-    ⊎_elim
-    (λ whole.
-    let to : 64 * (k * 8 + n) ≡ 512 * (k + 1) = omega arith in
-    omega (arith, stretch, there, ap (ones_before b) from, ap (ones_before b) to))
-    (λ last.
-    let to : 64 * (k * 8 + n) ≡ length b = omega (arith, length-bits_of words) in
-    omega (
-      arith,
-      stretch,
-      there,
-      ap (ones_before b) from,
-      ap (ones_before b) to,
-      ones_before_past b (512 * (k + 1)) (omega (arith, length-bits_of words)),
-    ))
-    (cases_lt (8 * k + 8) (length words))
 
 -- what is counted up to place i, that one included, from its run and from its word on
 pub record CountsThrough (b : List Bool) (i run whole part : ℕ) : Type 0 where
