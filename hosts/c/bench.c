@@ -1,7 +1,9 @@
-/* Nanoseconds a query: one call each, one call for all, and the same reads inline in C; and of a sequence, one call each
- * and one for all. Argument: the number of bits as a power of two (20 where it is left out). CPU time, best of 7 turns of 2^20 random queries. */
+/* Nanoseconds a query: one call each, one call for all, and the same reads inline in C; selection by samples; and of a
+ * sequence, one call each and one for all. Argument: the number of bits as a power of two (20 where it is left out).
+ * CPU time, best of 7 turns of 2^20 random queries. */
 #define _GNU_SOURCE
 #include "common.h"
+#include "sampled.h"
 
 #include <time.h>
 
@@ -64,6 +66,8 @@ static inline uint64_t select_inline(const struct bitm_view *v, uint64_t rank)
     } while (0)
 
 #define EACH(call) for (size_t i = 0; i < QUERIES; i++) { uint64_t got = 0; call(&view, asked[i], &got); sum += got; }
+#define SAMPLED(call, by) \
+    for (size_t i = 0; i < QUERIES; i++) { uint64_t got = 0; call(&view, &by, asked[i], &got); sum += got; }
 #define ALL(call) call(&view, asked, QUERIES, answers, QUERIES); for (size_t i = 0; i < QUERIES; i++) sum += answers[i];
 #define INLINE(call) for (size_t i = 0; i < QUERIES; i++) sum += call(&view, asked[i]);
 
@@ -133,6 +137,10 @@ int main(int argc, char **argv)
     TIME("select, inline C", INLINE(select_inline));
     TIME("select0, a call each", EACH(bitm_select0));
     TIME("select0, one call for all", ALL(bitm_select0_list));
+    struct bitm_samples of_ones = built_samples(&view, bitm_build_samples, 12);
+    struct bitm_samples of_zeros = built_samples(&view, bitm_build_samples0, 12);
+    TIME("select by samples", SAMPLED(bitm_sampled_select, of_ones));
+    TIME("select0 by samples", SAMPLED(bitm_sampled_select0, of_zeros));
     sequence(bits);
     return 0;
 }

@@ -1,6 +1,6 @@
 /* Builds an index into a mapped file, maps the file again read-only, asks, and compares every answer with a plain
- * loop. Then asks with spoilt tables and samples, wrong lengths and no words. Each block has the exact size, so that the
- * sanitizers see a read or write of one number too far. */
+ * loop. Then asks with spoilt tables and samples, wrong lengths and no words. Each block has the exact size, so that
+ * the sanitizers see a read or write of one number too far. */
 #define _GNU_SOURCE
 #include "common.h"
 #include "sampled.h"

@@ -2,6 +2,7 @@
  * are the answers. Takes some seconds; run by hand (crates/bitm_c/README.md). */
 #define _GNU_SOURCE
 #include "common.h"
+#include "sampled.h"
 
 #include <sys/mman.h>
 
@@ -36,6 +37,23 @@ int main(void)
         }
     }
     MUST(bitm_select(&view, ones, &got) == BITM_NONE && bitm_select0(&view, bits - ones, &got) == BITM_NONE);
+    /* one sample of ones for each part, which has six, three and two of them, less than 2^7; of zeros one for each
+     * 2^13, where 2^32 less six, or less three, is rounded up to 2^19 of them */
+    struct bitm_samples of_ones = built_samples(&view, bitm_build_samples, 7);
+    struct bitm_samples of_zeros = built_samples(&view, bitm_build_samples0, 13);
+    MUST(of_ones.samples_len == 3 && of_ones.starts[0] == 0 && of_ones.starts[1] == 1 && of_ones.starts[2] == 2);
+    MUST(of_ones.samples[0] == 0 && of_ones.samples[1] == 0 && of_ones.samples[2] == 0);
+    MUST(of_zeros.starts[0] == 0 && of_zeros.starts[1] == 524288 && of_zeros.starts[2] == 1048576);
+    for (size_t i = 0; i < ones; i++) {
+        MUST(bitm_sampled_select(&view, &of_ones, i, &got) == BITM_OK && got == places[i]);
+        uint64_t next = i + 1 < ones ? places[i + 1] : bits;
+        if (places[i] + 1 < next) {
+            MUST(bitm_sampled_select0(&view, &of_zeros, places[i] - i, &got) == BITM_OK && got == places[i] + 1);
+            MUST(bitm_sampled_select0(&view, &of_zeros, next - 1 - (i + 1), &got) == BITM_OK && got == next - 1);
+        }
+    }
+    MUST(bitm_sampled_select(&view, &of_ones, ones, &got) == BITM_NONE);
+    MUST(bitm_sampled_select0(&view, &of_zeros, bits - ones, &got) == BITM_NONE);
     MUST(bitm_ones(words, words_len, 6, found, 20, &got) == BITM_OK && got == ones - 2);
     MUST(found[0] == 2047 && found[8] == bits - 1);
     /* spoilt upper entries: any answer is a place with the bit */
