@@ -50,7 +50,7 @@ enum bitm_status {
     BITM_OK = 0,       /* the answer was written */
     BITM_NONE = 1,     /* there is no such place or bit */
     BITM_BAD_SIZE = 2, /* a length is not as it has to be: see each call */
-    BITM_WRONG = 3,    /* the tables or samples are not those of the words, the parts of no sequence, or the header is none */
+    BITM_WRONG = 3,    /* tables or samples are not those of the words, parts of no sequence, or a header is none */
     BITM_UNSORTED = 4  /* a number is less than the one before it */
 };
 
