@@ -1,5 +1,5 @@
 //! Rank and selection in a word; selection by arithmetic on all its bytes at once: no table, no loop and no branch.
-ghost use Rattle.std.specs.Prelude.{◌≡◌, ◌<◌, ◌≤◌, ◌+◌, ◌-◌, ◌*◌, ◌%◌, ◌^◌, map, count_by, All};
+ghost use Rattle.std.specs.Prelude.{◌≡◌, ◌<◌, ◌≤◌, ◌+◌, ◌-◌, ◌*◌, ◌/◌, ◌%◌, ◌^◌, map, count_by, All};
 ghost use Rattle.std.specs.Prelude.{count_ones, nat_le, true};
 ghost use Rattle.std.specs.Int.{to_le_bytes, w64};
 ghost use Rattle.std.specs.List.{range_with_len};
@@ -57,6 +57,20 @@ pub fn bytes_at_most(sums: u64, r: u8) -> u8
     (kept & HIGHEST_OF_EACH_BYTE).count_ones() as u8
 }
 
+/// What `bytes_at_most` answers where the last byte is above `r`: seven bytes are compared, as in `select_in_byte`, so
+/// that both comparisons are with one bound.
+#[inline(always)]
+fn first_bytes_at_most(sums: u64, r: u8) -> u8
+    requires small { All (λ s. s ≤ 64) (to_le_bytes w64 sums) }
+    requires below { r ≤ 63 }
+    requires last { r < sums / 2 ^ 56 }
+    ensures { result ≡ count_by (λ s. nat_le s r) (to_le_bytes w64 sums) }
+{
+    let kept = ((r as u64 * LOWEST_OF_EACH_BYTE) | HIGHEST_OF_EACH_BYTE) - sums;
+    let highest = kept & HIGHEST_OF_SEVEN_BYTES;
+    highest.count_ones() as u8
+}
+
 /// The place of the one of `byte` with `rank` ones before it, of which `before` stand before the byte.
 #[inline(always)]
 fn select_in_byte(byte: u8, before: u8, rank: u8) -> u8
@@ -87,7 +101,7 @@ pub fn select64(n: u64, rank: u8) -> u8
     ensures picked { Picks (low_digits 64 n) true rank result }
 {
     let sums = byte_sums(n);
-    let place = 8 * bytes_at_most(sums, rank);
+    let place = 8 * first_bytes_at_most(sums, rank);
     let before = ((sums << 8 >> place) & 0xFF) as u8;
     place + select_in_byte(((n >> place) & 0xFF) as u8, before, rank)
 }

@@ -1,9 +1,9 @@
 -- One subtraction and one mask compare all bytes of a word to a number.
 use Rattle.std.proofs.Common.{◌≡◌, ℕ, ◌+◌, ◌-◌, ◌*◌, ◌/◌, ◌%◌, ◌^◌, ◌<◌, ◌≤◌, min, cond, nat_le, count_by, All, bit_and, bit_or, count_ones, refl, sym, ap, ap₂, ◌∙◌, arith, lit<, inl, inr, le-leb}
 use Rattle.std.proofs.lemmas.Bool.{cases_lt, lt-leb}
-use Rattle.std.proofs.lemmas.Nat.{and_le_r}
+use Rattle.std.proofs.lemmas.Nat.{and_block, and_le_r}
 use Rattle.std.proofs.lemmas.Nat.Bits.{and_pow}
-use Rattle.std.specs.Int.Bits.{or_shifted_r}
+use Rattle.std.specs.Int.Bits.{or_shifted_r, and_zero_l}
 use Rattle.std.specs.Int.Count.{ones, ones_in}
 use Rattle.bitm.proofs.lemmas.ByteSumLemmas.{self, in_each_byte, kept}
 use Rattle.bitm.proofs.lemmas.FieldLemmas.{map_fields, map_fields-same, map_fields-same_bytes, map_fields-sub, map_fields-or, count_ones-map_fields, sum_fields-same, sum_fields-count_by}
@@ -61,3 +61,14 @@ module _ (x r : ℕ) (fits : x < 2 ^ 64) (small : All (λ s. s ≤ 64) (low_byte
       ∙ count_ones-map_fields 8 8 (λ s. bit_and (left r s) 0x80) x (record { below = λ v b. omega (arith, and_le_r (left r v) 0x80) })
       ∙ sum_fields-same 8 8 (λ s. count_ones (bit_and (left r s) 0x80)) (λ s. cond (nat_le s r) 1 0) x (λ s b. highest_left r s below)
       ∙ sum_fields-count_by (λ s. nat_le s r) 8 x
+
+-- ---- where the last byte is above r
+
+pub last_above : (x r : ℕ) → r ≤ 63 → r < x / 2 ^ 56 → bit_or (r * 0x0101010101010101) 0x8080808080808080 - x < 2 ^ 63
+last_above x r below last = omega (arith, bound_is r below)
+
+pub highest_of_seven : (k : ℕ) → k < 2 ^ 63 → bit_and k 0x0080808080808080 ≡ bit_and k 0x8080808080808080
+highest_of_seven k fits =
+    let here : k ≡ 0 * 2 ^ 63 + k = omega arith in
+    let split = ap (λ n. bit_and n 0x8080808080808080) here ∙ and_block 63 0 1 k 0x0080808080808080 fits (lit< tt) in
+    omega (arith, split, and_zero_l 1)
