@@ -1,6 +1,6 @@
-//! What rank, selection and the tables are made of, for code that asks tables which nobody vouches for, as mapped or
-//! received ones. No function here asks that the tables are those of the words: each says what it answers where they
-//! are. What `record_of` asks of an entry, a caller can test.
+//! What rank, selection, the tables and the samples are made of, for code that asks tables which nobody vouches for, as
+//! mapped or received ones. No function here asks that the tables are those of the words: each says what it answers
+//! where they are. What `record_of` asks of an entry, a caller can test.
 
 pub use crate::entry::{entries_of_part, ones_to_entry, ones_to_record};
 pub use crate::search::entries::{EntryRange, last_entry, last_in_range, sought_entry};

@@ -101,7 +101,8 @@ fn begun_by<const ONE: u8, T: TableSource>(
     requires sized { HasSizes (T.lists source.old) }
     requires inside { part < length (T.lists source.old).upper }
     requires low { low < entries_from (length (T.lists source.old).lower) part }
-    ensures begun { HasTables (T.lists source.old) → let m = sought_in ONE (T.lists source.old).words in
+    ensures begun { HasTables (T.lists source.old) →
+        let m = sought_in ONE (T.lists source.old).words in
         MatchOption result (rank < before_in_part m (entry_in part low))
         (λ _. before_in_part m (entry_in part low) ≤ rank) }
     ensures packed { HasTables (T.lists source.old) → 0 < low → IfSome result (λ packed. packed
@@ -131,7 +132,8 @@ fn is_behind<const ONE: u8, T: TableSource>(
 ) -> bool
     requires sized { HasSizes (T.lists source.old) }
     requires inside { part < length (T.lists source.old).upper }
-    ensures behind { HasTables (T.lists source.old) → let m = sought_in ONE (T.lists source.old).words in
+    ensures behind { HasTables (T.lists source.old) →
+        let m = sought_in ONE (T.lists source.old).words in
         IsTrue result ↔ (end < entries_from (length (T.lists source.old).lower) part
         → rank < before_in_part m (entry_in part end)) }
     ensures reads { ReadsAtMost (T.reads source.old) (T.reads source.new) 0 1 0 }
@@ -165,7 +167,8 @@ fn entry_between<const ONE: u8, T: TableSource>(
         (length (T.lists source.old).lower) part rank r.0) }
     ensures entry { IfSome result (λ r. HasTables (T.lists source.old) → r.1
         ≡ lower_entry (sought_in ONE (T.lists source.old).words) (entry_in part r.0)) }
-    ensures found { HasTables (T.lists source.old) → let m = sought_in ONE (T.lists source.old).words in
+    ensures found { HasTables (T.lists source.old) →
+        let m = sought_in ONE (T.lists source.old).words in
         before_in_part m (entry_in part low) ≤ rank
         → (end < entries_from (length (T.lists source.old).lower) part
         → rank < before_in_part m (entry_in part end))

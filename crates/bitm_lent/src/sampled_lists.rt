@@ -49,7 +49,8 @@ impl<'a> Lent<'a> {
     ) -> bool
         ensures room { IsTrue result ↔ length out.old ≡ length ranks.now }
         ensures told { IsTrue result → (j : ℕ) → j < length ranks.now
-            → SampledTold true self.now samples.now (slice_index ranks.now j) (slice_index out.new j) }
+            → SampledTold true self.now samples.now
+            (slice_index ranks.now j) (slice_index out.new j) }
         ensures kept { result ≡ false → out.new ≡ out.old }
     {
         if out.len() != ranks.len() {
@@ -68,7 +69,8 @@ impl<'a> Lent<'a> {
     ) -> bool
         ensures room { IsTrue result ↔ length out.old ≡ length ranks.now }
         ensures told { IsTrue result → (j : ℕ) → j < length ranks.now
-            → SampledTold false self.now samples.now (slice_index ranks.now j) (slice_index out.new j) }
+            → SampledTold false self.now samples.now
+            (slice_index ranks.now j) (slice_index out.new j) }
         ensures kept { result ≡ false → out.new ≡ out.old }
     {
         if out.len() != ranks.len() {
