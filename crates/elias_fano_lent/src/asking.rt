@@ -20,8 +20,8 @@ use elias_fano::laws;
 /// sequence, with the tables of its upper words, the number is the right one, and `WrongParts` is never answered.
 ///
 /// # Conditions
-/// There are fewer than 2^56 numbers and at most 63 low digits, and as many low words as these take; there are fewer than
-/// 2^58 words, and the tables are as long as theirs. Nothing is asked of what they hold.
+/// There are fewer than 2^56 numbers and at most 63 low digits, and as many low words as these take; there are fewer
+/// than 2^58 words, and the tables are as long as theirs. Nothing is asked of what they hold.
 /// # Cost
 /// One selection in the source, and one fragment of the low words: at most as many upper entries as their number has
 /// binary digits and one more, 23 lower entries and eight words, whatever the parts hold.
@@ -97,7 +97,8 @@ fn count_below<T: TableSource>(source: &mut T, above: usize, n: usize) -> Option
 /// each, and the source's words.
 ///
 /// Whatever the parts hold, a place that is found is below `n`. Where they are those of a sequence, with the tables of
-/// its upper words, it is the right one, `Absent` is answered exactly where each number is less, and `WrongParts` never.
+/// its upper words, it is the right one, `Absent` is answered exactly where each number is less, and `WrongParts`
+/// never.
 ///
 /// # Conditions
 /// As of `total_item_on`.

@@ -1,5 +1,6 @@
 //! Whether parts are those of a sequence.
-ghost use Rattle.std.specs.Prelude.{◌≡◌, ◌+◌, ◌-◌, ◌*◌, ◌^◌, ◌<◌, ◌≤◌, ◌↔◌, ℕ, IsTrue, List, length, MatchOption, SomeIff};
+ghost use Rattle.std.specs.Prelude.{◌≡◌, ◌+◌, ◌-◌, ◌*◌, ◌^◌, ◌<◌, ◌≤◌, ◌↔◌, ℕ, IsTrue, List, length};
+ghost use Rattle.std.specs.Prelude.{MatchOption, SomeIff};
 ghost use Rattle.std.specs.Int.{div_ceil};
 ghost use Rattle.bitm_bits.specs.Bits.{bits_of, IsShort};
 ghost use Rattle.bitm_bits.specs.Count.{ones_of};
@@ -17,7 +18,8 @@ use elias_fano::laws;
 fn number_of(place: usize, low: &[u64], at: usize, width: u8) -> Option<u64>
     requires fragment { HasFragment low.now at width }
     requires order { at ≤ place }
-    ensures { let number = (place - at) * 2 ^ width + number_at (bits_of low.now) (at * width) width in
+    ensures { let number =
+        (place - at) * 2 ^ width + number_at (bits_of low.now) (at * width) width in
         SomeIff result (number < 2 ^ 64) number }
 {
     let above = place - at;

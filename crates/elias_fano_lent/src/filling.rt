@@ -56,16 +56,16 @@ fn width_if_room(
     Some(sizes.width)
 }
 
-/// Writes the parts of a sequence of the numbers, and answers how many low digits each has: the words of the low digits,
-/// the upper words, and the two tables of these.
+/// Writes the parts of a sequence of the numbers, and answers how many low digits each has: the words of the low
+/// digits, the upper words, and the two tables of these.
 ///
 /// # Errors
-/// `WrongLength` exactly where there are 2^56 numbers or more, or a part has not the length that `Sizes::of` says of the
-/// number of the numbers and the last of them; else `NotSorted` exactly where some number is less than the one before it.
-/// Nothing is written then.
+/// `WrongLength` exactly where there are 2^56 numbers or more, or a part has not the length that `Sizes::of` says of
+/// the number of the numbers and the last of them; else `NotSorted` exactly where some number is less than the one
+/// before it. Nothing is written then.
 /// # Cost
-/// One pass over the numbers for each of the two vectors, and one over the upper words for their tables. What was in the
-/// parts' memory is not read.
+/// One pass over the numbers for each of the two vectors, and one over the upper words for their tables. What was in
+/// the parts' memory is not read.
 pub fn build(
     items: &[u64],
     low: &mut [u64],

@@ -13,7 +13,8 @@ pub enum Listed {
     All,
     /// At this place of the list stands one at which there is no number; the numbers before it were written.
     AbsentAt(usize),
-    /// At this place of the list the parts turned out not to be those of a sequence; the numbers before it were written.
+    /// At this place of the list the parts turned out not to be those of a sequence; the numbers before it were
+    /// written.
     WrongAt(usize),
     /// There is not room for as many numbers as places; nothing was written.
     WrongLength,

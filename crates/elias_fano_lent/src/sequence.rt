@@ -11,8 +11,8 @@ use std::marker::Model;
 
 /// The parts of a sequence, all lent, of which the lengths are right.
 ///
-/// Contracts see how many numbers there are, how many of their digits are low ones, and the lists. What the lists hold is
-/// anybody's: a call says what it answers where they are the parts of a sequence, and what it answers else.
+/// Contracts see how many numbers there are, how many of their digits are low ones, and the lists. What the lists hold
+/// is anybody's: a call says what it answers where they are the parts of a sequence, and what it answers else.
 #[derive(Drop)]
 pub struct LentSequence<'a> {
     len: usize,
@@ -32,8 +32,8 @@ impl<'a> Model for LentSequence<'a> {
 }
 
 impl<'a> LentSequence<'a> {
-    /// `len` numbers with `width` low digits of each in `low`, and the upper words with their tables; `None` exactly where
-    /// there are 2^56 numbers or more, more than 63 low digits, or not as many low words as these take.
+    /// `len` numbers with `width` low digits of each in `low`, and the upper words with their tables; `None` exactly
+    /// where there are 2^56 numbers or more, more than 63 low digits, or not as many low words as these take.
     #[inline(always)]
     pub fn over(len: usize, width: u8, low: &'a [u64], upper: Lent<'a>) -> Option<LentSequence<'a>>
         ensures { MatchOption result (HasLengths (held len width low.now upper.entry) → ⊥)
@@ -61,8 +61,8 @@ impl<'a> LentSequence<'a> {
         self.len
     }
 
-    /// Whether the parts are those of some sequence, with the tables of its upper words: one pass over the upper words for
-    /// the tables, and one more for the numbers, with a fragment of the low words for each.
+    /// Whether the parts are those of some sequence, with the tables of its upper words: one pass over the upper words
+    /// for the tables, and one more for the numbers, with a fragment of the low words for each.
     pub fn check(&self) -> bool
         ensures { IsTrue result ↔ ((xs : List ℕ) × Holds xs self.now) }
     {
@@ -81,8 +81,8 @@ impl<'a> LentSequence<'a> {
         total_item_on(&mut self.upper.probe(), self.low, self.width, self.len, i)
     }
 
-    /// The least place whose number is at least `v`, where the parts are those of a sequence, and `Absent` exactly where
-    /// each number is less; else any place of a number, `Absent` or `WrongParts`.
+    /// The least place whose number is at least `v`, where the parts are those of a sequence, and `Absent` exactly
+    /// where each number is less; else any place of a number, `Absent` or `WrongParts`.
     ///
     /// # Cost
     /// That of `total_first_at_least_on`.

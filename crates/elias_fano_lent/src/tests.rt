@@ -1,7 +1,7 @@
 //! Tests of what no proof says: that the compiler makes of the proved code a program that does the same, and that the
-//! parts are those of `EliasFano`, word by word. Of 2, 3, 5, 7, 11, 13 and 24 each number keeps one low digit (0, 1, 1, 1,
-//! 1, 1, 0), and its upper one stands at the rest of it, halved, and its place more: 1, 1 + 1, 2 + 2, 3 + 3, 5 + 4, 6 + 5
-//! and 12 + 6. The name of a test is the sentence that it shows.
+//! parts are those of `EliasFano`, word by word. Of 2, 3, 5, 7, 11, 13 and 24 each number keeps one low digit (0, 1, 1,
+//! 1, 1, 1, 0), and its upper one stands at the rest of it, halved, and its place more: 1, 1 + 1, 2 + 2, 3 + 3, 5 + 4,
+//! 6 + 5 and 12 + 6. The name of a test is the sentence that it shows.
 use crate::{BuildError, LentSequence, Listed, Sizes, Sought, build};
 use bitm_lent::Lent;
 use elias_fano::EliasFano;

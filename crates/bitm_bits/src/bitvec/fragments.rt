@@ -65,8 +65,8 @@ pub fn try_get_fragment(words: &[u64], index: usize, s: u8) -> Option<u64>
     try_get_bits(words, index.checked_mul(s as usize)?, s)
 }
 
-/// Fragment `index` of width `s` as a number, lowest bit first, up to 64 bits; `None` exactly where it is not in range, or
-/// begins past `usize::MAX`, or `s` is above 64.
+/// Fragment `index` of width `s` as a number, lowest bit first, up to 64 bits; `None` exactly where it is not in range,
+/// or begins past `usize::MAX`, or `s` is above 64.
 #[inline(always)]
 pub fn try_get_fragment_0_64(words: &[u64], index: usize, s: u8) -> Option<u64>
     ensures { SomeIff result ((s ≤ 64) × IsFragmentInRange words.now index s)

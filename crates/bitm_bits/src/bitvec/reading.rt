@@ -120,8 +120,8 @@ pub(crate) fn is_in_range(words: &[u64], begin: usize, len: u8) -> bool
     segment + 1 < words.len()
 }
 
-/// The `len` bits from `begin` on as a number, lowest first, up to 64 of them; `None` exactly where they are not in range,
-/// or `len` is above 64.
+/// The `len` bits from `begin` on as a number, lowest first, up to 64 of them; `None` exactly where they are not in
+/// range, or `len` is above 64.
 #[inline(always)]
 pub fn try_get_bits_0_64(words: &[u64], begin: usize, len: u8) -> Option<u64>
     ensures { SomeIff result ((len ≤ 64) × IsInRange words.now begin len)

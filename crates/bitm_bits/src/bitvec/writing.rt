@@ -103,8 +103,8 @@ pub fn set_bits(words: &mut [u64], begin: usize, v: u64, len: u8)
     put_bits(words, begin, v, len, n_lowest_bits(len));
 }
 
-/// Replaces the `len` bits from `begin` on by the `len` lowest ones of `v`, lowest first, up to 64 of them. Answers false
-/// exactly where they are not in range, or `len` is above 64, and nothing is written then.
+/// Replaces the `len` bits from `begin` on by the `len` lowest ones of `v`, lowest first, up to 64 of them. Answers
+/// false exactly where they are not in range, or `len` is above 64, and nothing is written then.
 #[inline(always)]
 pub fn try_set_bits_0_64(words: &mut [u64], begin: usize, v: u64, len: u8) -> bool
     ensures done { IsTrue result ↔ (len ≤ 64) × IsInRange words.old begin len }
