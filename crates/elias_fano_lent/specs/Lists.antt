@@ -1,5 +1,7 @@
 -- What is answered to a list of places.
-use Rattle.std.specs.Prelude.{◌≡◌, ◌≢◌, ⊤, ℕ, ◌<◌, ◌≤◌, List, length, slice_index}
+use Rattle.std.specs.Prelude.{◌≡◌, ◌≢◌, ⊤, ℕ, ◌-◌, ◌^◌, ◌<◌, ◌≤◌, ◌⊎◌, List, length, slice_index}
+use Rattle.elias_fano.specs.Sequence.{Reaches}
+use Rattle.elias_fano_lent.specs.Held.{Held, Holds}
 use Rattle.elias_fano_lent.specs.declared.lists.Listed.{Listed}
 use Rattle.elias_fano_lent.specs.declared.lists.Listed.TheVariants.{All, AbsentAt, WrongAt, WrongLength}
 
@@ -33,3 +35,15 @@ AreItems xs places n ys = (j : ℕ) → j < n → slice_index ys j ≡ slice_ind
 -- from item n on nothing changed, nor the length
 abbrev pub IsKeptFrom : ℕ → List ℕ → List ℕ → Type 0
 IsKeptFrom n old new = (length new ≡ length old) × ((j : ℕ) → n ≤ j → slice_index new j ≡ slice_index old j)
+
+-- each item is less than v
+abbrev pub IsAllLess : List ℕ → ℕ → Type 0
+IsAllLess xs v = (j : ℕ) → j < length xs → slice_index xs j < v
+
+-- n tells the least place whose number is at least v: below 2^64 - 2 it is a place, whatever the parts hold, and where they are
+-- those of a sequence it is the right one, or 2^64 - 1 exactly where each number is less
+pub record PlaceTold (parts : Held) (v n : ℕ) : Type 0 where
+  pub place : n < 2 ^ 64 - 2 → n < parts.len
+  pub told : (xs : List ℕ) → Holds xs parts → (n < 2 ^ 64 - 2) ⊎ (n ≡ 2 ^ 64 - 1)
+  pub right : (xs : List ℕ) → Holds xs parts → n < 2 ^ 64 - 2 → Reaches xs v n
+  pub none : (xs : List ℕ) → Holds xs parts → n ≡ 2 ^ 64 - 1 → IsAllLess xs v

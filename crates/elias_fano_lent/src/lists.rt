@@ -1,10 +1,11 @@
 //! The numbers of a list of places.
-ghost use Rattle.std.specs.Prelude.{◌≡◌, ◌<◌, ℕ, List, length, slice_index};
+ghost use Rattle.std.specs.Prelude.{◌≡◌, ◌<◌, ◌↔◌, ℕ, IsTrue, List, length, slice_index, false};
 ghost use Rattle.elias_fano_lent.specs.Held.{Holds};
-ghost use Rattle.elias_fano_lent.specs.Lists.{written, AreItems, IsKeptFrom, IsListed, IsNeverWrong};
+ghost use Rattle.elias_fano_lent.specs.Lists.{written, AreItems, IsKeptFrom, IsListed, IsNeverWrong, PlaceTold};
 
 use crate::answer::Sought;
 use crate::sequence::LentSequence;
+use bitm_lent::{NO_ANSWER, WRONG_TABLES};
 
 /// How far a list of places was answered.
 #[derive(Clone, Copy, PartialEq, Eq, Debug)]
@@ -40,5 +41,36 @@ impl<'a> LentSequence<'a> {
             }
         }
         Listed::All
+    }
+
+    /// Writes the place of the first number that is at least each value, as `first_at_least` answers it, `NO_ANSWER` for
+    /// `Absent` and `WRONG_TABLES` for `WrongParts`; answers false exactly where there is not room for as many places as
+    /// values, and nothing is written then.
+    pub fn first_at_least_list(&self, values: &[u64], out: &mut [usize]) -> bool
+        ensures room { IsTrue result ↔ length out.old ≡ length values.now }
+        ensures told { IsTrue result → (j : ℕ) → j < length values.now
+            → PlaceTold self.now (slice_index values.now j) (slice_index out.new j) }
+        ensures kept { result ≡ false → out.new ≡ out.old }
+    {
+        if out.len() != values.len() {
+            return false;
+        }
+        for at in 0..values.len() {
+            out[at] = self.first_told(values[at]);
+        }
+        true
+    }
+
+    /// The place of the first number that is at least `v`, `NO_ANSWER` or `WRONG_TABLES`.
+    #[inline(always)]
+    fn first_told(&self, v: u64) -> usize
+        ensures { PlaceTold self.now v result }
+    {
+        let _ = self.len();
+        match self.first_at_least(v) {
+            Sought::Found(place) => place,
+            Sought::Absent => NO_ANSWER,
+            Sought::WrongParts => WRONG_TABLES,
+        }
     }
 }

@@ -1,5 +1,5 @@
 //! A sequence whose parts are lent.
-ghost use Rattle.std.specs.Prelude.{◌≡◌, ◌↔◌, ℕ, IsTrue, List, MatchOption};
+ghost use Rattle.std.specs.Prelude.{◌≡◌, ◌^◌, ◌<◌, ◌↔◌, ℕ, IsTrue, List, MatchOption};
 ghost use Rattle.elias_fano_lent.specs.Answers.{IsFirst, IsItem, IsOfPlace, IsPlaceOf};
 ghost use Rattle.elias_fano_lent.specs.Held.{held, HasLengths, Holds};
 
@@ -53,10 +53,11 @@ impl<'a> LentSequence<'a> {
         })
     }
 
-    /// How many numbers there are.
+    /// How many numbers there are: fewer than 2^56.
     #[inline(always)]
     pub fn len(&self) -> usize
-        ensures { result ≡ self.now.len }
+        ensures len { result ≡ self.now.len }
+        ensures short { result < 2 ^ 56 }
     {
         self.len
     }

@@ -1,0 +1,12 @@
+-- One more place is told.
+use Rattle.std.proofs.Common.{ℕ, ◌<◌, length, slice_index, arith}
+use Rattle.bitm_lent.proofs.FilledLemmas.{placed_more}
+use Rattle.elias_fano_lent.specs.Lists.{PlaceTold}
+use Rattle.elias_fano_lent.proofs.sequence.LentSequence.first_at_least_list.Goals as goal
+
+pub loop-at-preserved : goal.loop-at-preserved
+loop-at-preserved c =
+    let P : ℕ → ℕ → Type 0 = λ j n. PlaceTold c.args.self.now (slice_index c.args.values.now j) n in
+    let room : c.loop-at.at < length c.loop-at.out =
+    omega (arith, c.loop-at.auto.out, c.loop-at.auto.at-end, c.if-out-values.false, c.loop-at-test.true) in
+    placed_more P c.loop-at.out c.loop-at.at c.first_told.result c.loop-at.invariant room c.first_told.ensures
