@@ -239,6 +239,12 @@ uint32_t bitm_sequence_get(const struct bitm_sequence_view *view, size_t index, 
  * one fragment of low for each binary digit of how many numbers share the upper digits of value. */
 uint32_t bitm_sequence_first_at_least(const struct bitm_sequence_view *view, uint64_t value, uint64_t *out);
 
+/* out[i] answers queries[i] as bitm_sequence_first_at_least does, or is BITM_NO_ANSWER for BITM_NONE and
+ * BITM_WRONG_TABLES for BITM_WRONG. BITM_OK, or BITM_BAD_SIZE (also where out_len is not queries_len), which writes
+ * nothing. */
+uint32_t bitm_sequence_first_at_least_list(const struct bitm_sequence_view *view, const uint64_t *queries,
+                                           size_t queries_len, uint64_t *out, size_t out_len);
+
 /* The numbers at a list of places, as bitm_sequence_get answers them, up to the first place for which it does not say
  * BITM_OK; written is how many these are, and what stands behind them in out stays. BITM_OK, or BITM_BAD_SIZE (also
  * where out_len is not queries_len), which writes nothing. */

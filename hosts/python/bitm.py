@@ -88,6 +88,7 @@ DECLARATIONS = {
     "bitm_sequence_check": (STATUS, [SEQUENCE]),
     "bitm_sequence_get": (STATUS, [SEQUENCE, SIZE, OUT]),
     "bitm_sequence_first_at_least": (STATUS, [SEQUENCE, U64, OUT]),
+    "bitm_sequence_first_at_least_list": (STATUS, [SEQUENCE] + LIST + ROOM),
     "bitm_sequence_get_list": (STATUS, [SEQUENCE] + LIST + ROOM + [OUT]),
     "bitm_write_header": (STATUS, [SIZE, HEADER]),
     "bitm_read_header": (STATUS, [HEADER, OUT]),
@@ -338,6 +339,15 @@ class Sequence(_Lending):
     def first_at_least(self, value):
         """The least place whose number is at least a value; None where each number is less."""
         return self._ask(self._library.bitm_sequence_first_at_least, value)
+
+    def first_at_least_list(self, values):
+        """An array of places, NO_ANSWER and WRONG_TABLES among them, to a buffer or a list of values."""
+        asked = array.array("Q", values) if isinstance(values, (list, tuple, range)) else values
+        with _Lent(asked) as q:
+            out = array.array("Q", bytes(8 * q.len))
+            with _Lent(out, True) as o:
+                self._library.bitm_sequence_first_at_least_list(self._at, q.address, q.len, o.address, o.len)
+        return out
 
     def get_list(self, places):
         """An array of the numbers at a buffer or a list of places, up to the first place that has none."""

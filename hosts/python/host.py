@@ -124,6 +124,10 @@ def over_numbers(numbers, buffer):
                     place = bisect.bisect_left(numbers, value)
                     assert sequence.first_at_least(value) == (place if place < len(numbers) else None)
         assert list(sequence.get_list(range(len(numbers) + 3))) == numbers
+        places = [bisect.bisect_left(numbers, number) for number in numbers]
+        assert list(sequence.first_at_least_list(numbers)) == places
+        past = sequence.first_at_least_list([2**64 - 1])[0]
+        assert past == (bitm.NO_ANSWER if 2**64 - 1 not in numbers else numbers.index(2**64 - 1))
     if len(parts[2]):
         # One more one, or one less: a number, none, or a word that the parts are those of no sequence.
         parts[2][len(parts[2]) // 2] ^= 1 << 33

@@ -4,7 +4,7 @@ ghost use Rattle.bitm_lent.specs.Sizes.{listed};
 ghost use Rattle.elias_fano.specs.Parts.{width_of};
 ghost use Rattle.elias_fano.specs.Sequence.{HasFall};
 ghost use Rattle.elias_fano_lent.specs.Held.{held, Holds};
-ghost use Rattle.elias_fano_lent.specs.Lists.{AreItems, IsKeptFrom};
+ghost use Rattle.elias_fano_lent.specs.Lists.{AreItems, IsKeptFrom, PlaceTold};
 ghost use Rattle.elias_fano_lent.specs.Sizes.{sizes_of, HasRoom, IsLargest};
 ghost use Rattle.bitm_c.specs.Sequence.{held_by, sizes_in_c, IsListTold, IsSized, IsSoughtTold};
 ghost use Rattle.bitm_c.specs.Sequence.{ItemAnswered, PlaceAnswered};
@@ -194,6 +194,30 @@ pub extern "C" fn bitm_sequence_get_list(
 {
     match view.lent() {
         Some(lent) => listed_told(lent.get_list(queries, out), queries.len(), written),
+        None => BAD_SIZE,
+    }
+}
+
+/// The least place whose number is at least each value.
+#[unsafe(no_mangle)]
+pub extern "C" fn bitm_sequence_first_at_least_list(
+    view: &SequenceView<'_>,
+    queries: &[u64],
+    out: &mut [usize],
+) -> u32
+    ensures ok { (result ≡ 0) ↔ IsSized view.now × (length out.old ≡ length queries.now) }
+    ensures kept { result ≢ 0 → (result ≡ 2) × (out.new ≡ out.old) }
+    ensures told { result ≡ 0 → (j : ℕ) → j < length queries.now → PlaceTold (held_by view.now)
+        (slice_index queries.now j) (slice_index out.new j) }
+{
+    match view.lent() {
+        Some(lent) => {
+            if lent.first_at_least_list(queries, out) {
+                OK
+            } else {
+                BAD_SIZE
+            }
+        }
         None => BAD_SIZE,
     }
 }
