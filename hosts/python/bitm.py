@@ -198,6 +198,11 @@ class Library:
         return out[: written.value]
 
 
+def _to_ask(queries):
+    """A buffer of the queries, which are one or a list."""
+    return array.array("Q", queries) if isinstance(queries, (list, tuple, range)) else queries
+
+
 class _Lending:
     """A struct of the header over buffers, which stay in place until the context ends."""
 
@@ -226,10 +231,13 @@ class _Lending:
             raise WrongTables()
         return out.value if status == OK else None
 
-
-def _to_ask(queries):
-    """A buffer of the queries, which are one or a list."""
-    return array.array("Q", queries) if isinstance(queries, (list, tuple, range)) else queries
+    def _ask_list(self, call, queries):
+        """An array of answers, NO_ANSWER and WRONG_TABLES among them, to a buffer or a list of queries."""
+        with _Lent(_to_ask(queries)) as q:
+            out = array.array("Q", bytes(8 * q.len))
+            with _Lent(out, True) as o:
+                call(self._at, q.address, q.len, o.address, o.len)
+        return out
 
 
 class Index(_Lending):
@@ -288,14 +296,6 @@ class Index(_Lending):
         """Selection of the bits of a kind by samples in buffers, as a context."""
         return Sampled(self, kind, log2, samples, starts)
 
-    def _ask_list(self, call, queries):
-        """An array of answers, NO_ANSWER and WRONG_TABLES among them, to a buffer or a list of queries."""
-        with _Lent(_to_ask(queries)) as q:
-            out = array.array("Q", bytes(8 * q.len))
-            with _Lent(out, True) as o:
-                call(self._at, q.address, q.len, o.address, o.len)
-        return out
-
 
 class Sampled(_Lending):
     """Samples in buffers that stay in place until the context ends, beside an index."""
@@ -342,12 +342,7 @@ class Sequence(_Lending):
 
     def first_at_least_list(self, values):
         """An array of places, NO_ANSWER and WRONG_TABLES among them, to a buffer or a list of values."""
-        asked = array.array("Q", values) if isinstance(values, (list, tuple, range)) else values
-        with _Lent(asked) as q:
-            out = array.array("Q", bytes(8 * q.len))
-            with _Lent(out, True) as o:
-                self._library.bitm_sequence_first_at_least_list(self._at, q.address, q.len, o.address, o.len)
-        return out
+        return self._ask_list(self._library.bitm_sequence_first_at_least_list, values)
 
     def get_list(self, places):
         """An array of the numbers at a buffer or a list of places, up to the first place that has none."""
