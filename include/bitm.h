@@ -140,7 +140,8 @@ size_t bitm_samples_len(size_t words_len, uint32_t log2);
 /* Writes the samples of ones, or zeros, for each part how many stand before it, and to used how many there are; what
  * stands behind these stays. Where the tables are those of the words, so are the samples; else they are some numbers.
  * BITM_OK, or BITM_BAD_SIZE as for a view, and where samples_len is less than bitm_samples_len says or starts_len is
- * not the length of the upper table; nothing is written then. Reads the tables once, and eight words at most. */
+ * not the length of the upper table; nothing is written then. Reads both tables once, up to two lower entries again
+ * for each sample, and at most eight words. */
 uint32_t bitm_build_samples(const struct bitm_view *view, uint32_t log2, uint32_t *samples, size_t samples_len,
                             uint64_t *starts, size_t starts_len, uint64_t *used);
 uint32_t bitm_build_samples0(const struct bitm_view *view, uint32_t log2, uint32_t *samples, size_t samples_len,

@@ -23,7 +23,8 @@ impl<'a> Lent<'a> {
     /// table has entries, and nothing is written then. The logarithm is brought to the nearer end of 7 to 31.
     ///
     /// # Cost
-    /// Each lower entry is read once and once more for each sample; of the words at most eight are read.
+    /// Each lower entry is read once, and up to two are read again for each sample; of the words at most eight are
+    /// read.
     pub fn build_samples(
         &self,
         log2: u8,
