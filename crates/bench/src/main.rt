@@ -7,8 +7,8 @@
 //! The content has 2^LOG2 bits. KIND is `sparse`, `even` or `dense` (ones drawn one in 64, one in two and seven in
 //! eight), or one that misleads a guess: `end` (ones in the last sixteenth alone), `blocks` (ones and zeros by turns,
 //! 2^16 words of each) or `ramp` (ever more ones). A value is the least of the rounds, of the thread's processor time;
-//! a row is `row,by,log2,kind,value,unit,check`, where the check is a sum of the answers. With no argument the program
-//! prints its usage.
+//! a row is `row,by,log2,kind,value,unit,check`, where the check is a sum of the answers, or the number of the
+//! writes. With no argument the program prints its usage.
 #![tactic(auto)]
 
 mod content;
