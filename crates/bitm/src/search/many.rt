@@ -10,9 +10,7 @@ use crate::entry::ones_to_entry;
 use crate::levels::{L2_ENTRIES_PER_L1_ENTRY, U64_PER_L2_ENTRY, U64_PER_L2_RECORDS};
 use crate::search::entries::sought_entry;
 use crate::search::ranking::rank_on;
-use crate::search::selecting::{
-    before_part, is_at_most, last_part, record_of, select_in_word, sought_word,
-};
+use crate::search::selecting::{before_part, last_part, record_of, select_in_word, sought_word};
 use crate::source::TableSource;
 
 /// So many selections are under way side by side: more than a processor waits for at once.
@@ -57,6 +55,15 @@ fn begin<const ONE: u8, T: TableSource>(source: &mut T, rank: usize) -> (usize, 
     let part = last_part::<ONE, T>(source, rank);
     let before = before_part::<ONE, T>(source, part);
     (part * L2_ENTRIES_PER_L1_ENTRY, rank - before)
+}
+
+/// 1 where no more than `rank` were counted, else 0.
+#[inline(always)]
+fn is_at_most(count: usize, rank: usize) -> usize
+    ensures yes { count ≤ rank → result ≡ 1 }
+    ensures no { rank < count → result ≡ 0 }
+{
+    (count <= rank) as usize
 }
 
 /// The entry 2^`size` after `entry`, where no more than `rest` of the kind stand before it in the part, else `entry`.

@@ -143,13 +143,13 @@ pub(crate) fn select_in_entry<const ONE: u8, T: TableSource>(
     select_in_record::<ONE, T>(source, first, in_entry - before)
 }
 
-/// 1 where no more than `rank` were counted, else 0.
+/// 1 where more than `rank` were counted, else 0.
 #[inline(always)]
-pub(crate) fn is_at_most(count: usize, rank: usize) -> usize
-    ensures yes { count ≤ rank → result ≡ 1 }
-    ensures no { rank < count → result ≡ 0 }
+fn is_above(count: usize, rank: usize) -> usize
+    ensures yes { rank < count → result ≡ 1 }
+    ensures no { count ≤ rank → result ≡ 0 }
 {
-    (count <= rank) as usize
+    (rank < count) as usize
 }
 
 /// The record of an entry that has the one with this rank, and the ones of the entry before that record: by three
@@ -169,8 +169,8 @@ pub fn record_of(entry: u64, rank: usize) -> (usize, usize)
     let one = (entry >> 54) as usize;
     let two = (entry >> 43 & 0x7FF) as usize;
     let three = (entry >> 32 & 0x7FF) as usize;
-    let place = is_at_most(one, rank) + is_at_most(two, rank) + is_at_most(three, rank);
-    (place, ones_to_record(entry, place))
+    let after = is_above(one, rank) + is_above(two, rank) + is_above(three, rank);
+    (3 - after, ones_to_record(entry, 3 - after))
 }
 
 /// The place of the one in a word with so many ones before it.
