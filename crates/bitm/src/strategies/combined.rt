@@ -127,7 +127,7 @@ impl<D: CombinedSamplingDensity> CombinedSampling<D> {
     /// lower entries more than the walk passes from where the sample lets it begin to the answer's entry. Where there
     /// is no answer, the walk ends at the last entry of the last part, if that part has items of the rank's interval;
     /// else neither a lower entry nor a word is read.
-    #[inline]
+    #[inline(always)]
     pub fn select_counted<T: TableSource>(&self, source: &mut T, rank: usize) -> Option<usize>
         requires tables { HasTables (T.lists source.old) }
         requires supported { Supported D.log D.chosen true (T.lists source.old).words self.now }
@@ -146,7 +146,7 @@ impl<D: CombinedSamplingDensity> CombinedSampling<D> {
     /// The source's tables are those of its words, and the value supports these for zeros.
     /// # Cost
     /// The reads of `select_counted`.
-    #[inline]
+    #[inline(always)]
     pub fn select0_counted<T: TableSource>(&self, source: &mut T, rank: usize) -> Option<usize>
         requires tables { HasTables (T.lists source.old) }
         requires supported { Supported D.log D.chosen false (T.lists source.old).words self.now }

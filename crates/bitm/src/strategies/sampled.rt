@@ -73,8 +73,38 @@ fn sampled_in_part<const ONE: u8, T: TableSource>(
     select_in_entry::<ONE, T>(source, part, entry, packed, in_part)
 }
 
-/// Selection by the samples of the source's words, of which one stands for 2^`log2` items: one read of an upper entry
-/// for each halving and one more, none where there is one part, and a walk over the lower entries from the sample on.
+/// Selection by the samples of the source's words where there are more parts than one: one read of an upper entry for
+/// each halving and one more, and a walk over the lower entries from the sample on.
+#[inline(never)]
+fn sampled_in_parts<const ONE: u8, T: TableSource>(
+    sampled: &[u32],
+    starts: &[usize],
+    log2: u8,
+    source: &mut T,
+    rank: usize,
+) -> Option<usize>
+    requires tables { HasTables (T.lists source.old) }
+    requires short { IsShort (T.lists source.old).words }
+    requires low { 7 ≤ log2 }
+    requires high { log2 ≤ 31 }
+    requires some { 0 < length (T.lists source.old).upper }
+    requires samples { sampled.now
+        ≡ samples_of (bits_of (T.lists source.old).words) (kind ONE) log2 }
+    requires starts { starts.now
+        ≡ sample_starts_of (bits_of (T.lists source.old).words) (kind ONE) log2 }
+    ensures answer { IsSelect (bits_of (T.lists source.old).words) (kind ONE) rank result }
+    ensures reads { SampledReads (bits_of (T.lists source.old).words) (kind ONE) log2
+        rank result (T.reads source.old) (T.reads source.new) }
+    ensures same { T.lists source.new ≡ T.lists source.old }
+{
+    let part = last_part::<ONE, T>(source, rank);
+    let before = before_part::<ONE, T>(source, part);
+    sampled_in_part::<ONE, T>(sampled, log2, source, part, starts[part], before, rank)
+}
+
+/// Selection by the samples of the source's words, of which one stands for 2^`log2` items: where there is one part no
+/// upper entry is read. More parts have a call of their own, so that the one for one part stands where it is asked.
+#[inline(always)]
 pub(crate) fn sampled_select_on<const ONE: u8, T: TableSource>(
     sampled: &[u32],
     starts: &[usize],
@@ -99,10 +129,6 @@ pub(crate) fn sampled_select_on<const ONE: u8, T: TableSource>(
         0 => None,
         // Nothing stands before the only part.
         1 => sampled_in_part::<ONE, T>(sampled, log2, source, 0, 0, 0, rank),
-        _ => {
-            let part = last_part::<ONE, T>(source, rank);
-            let before = before_part::<ONE, T>(source, part);
-            sampled_in_part::<ONE, T>(sampled, log2, source, part, starts[part], before, rank)
-        }
+        _ => sampled_in_parts::<ONE, T>(sampled, starts, log2, source, rank),
     }
 }
