@@ -6,7 +6,7 @@ use Rattle.std.proofs.lemmas.Nat.Bits.{bit_at_lowest, bit_at_set_same, bit_at_se
 use Rattle.std.specs.Int.{bit_at, bit_not}
 use Rattle.bitm_bits.proofs.lemmas.BitsLemmas.{length-bits_of, item-bits_of_at, same_bits}
 use Rattle.bitm_bits.proofs.lemmas.NumberLemmas.{length-with_number, item-with_number_below, item-with_number_inside, item-with_number_above}
-use Rattle.bitm_bits.proofs.lemmas.SetLemmas.{written_at, written_at_two, length-set_two, between_left}
+use Rattle.bitm_bits.proofs.lemmas.SetLemmas.{written_at, written_at_two, length-set_two}
 use Rattle.bitm_bits.proofs.lemmas.WordLemmas.{bit_at-shr, bit_at-shl_below, bit_at-shl, bit_at-replaced}
 use Rattle.bitm_bits.specs.Bits.{digit, bits_of, item}
 use Rattle.bitm_bits.specs.Number.{with_number, IsInRange}
@@ -181,7 +181,7 @@ set_bits_within words s n v mask y h inside fits low is =
 pub set_bits_across : (words between : List ℕ) (s n v mask x y : ℕ) → IsInRange words s n → 64 < s % 64 + n → n ≤ 64 → v < 2 ^ n → mask ≡ 2 ^ n - 1
     → between ≡ set words (s / 64 + 1) x
     → x ≡ bit_or (bit_and (get_or words (s / 64 + 1) 0) (bit_not w64 (mask / 2 ^ (64 - s % 64)))) (v / 2 ^ (64 - s % 64))
-    → y ≡ bit_or (bit_and (get_or between (s / 64) 0) (bit_not w64 (mask * 2 ^ (s % 64) % 2 ^ 64))) (v * 2 ^ (s % 64) % 2 ^ 64)
+    → y ≡ bit_or (bit_and (get_or words (s / 64) 0) (bit_not w64 (mask * 2 ^ (s % 64) % 2 ^ 64))) (v * 2 ^ (s % 64) % 2 ^ 64)
     → bits_of (set between (s / 64) y) ≡ with_number (bits_of words) s n v
 set_bits_across words between s n v mask x y h across small fits low step is_x is_y =
     ap (λ b. bits_of (set b p y)) step
@@ -190,10 +190,8 @@ set_bits_across words between s n v mask x y h across small fits low step is_x i
     let masked = ap (λ m. bit_or (bit_and (get_or words (p + 1) 0) (bit_not w64 (m / 2 ^ (64 - s % 64)))) (v / 2 ^ (64 - s % 64))) low in
     subst P (sym (is_x ∙ masked)) (second_word (get_or words (p + 1) 0) s n v (p + 1) (64 - s % 64) (omega arith) fits small))
     (let P : ℕ → Type 0 = λ z. IsPutWord (get_or words p 0) z s n v p in
-    let left = between_left words between p x step in
-    let kept = ap (λ w. bit_or (bit_and w (bit_not w64 (mask * 2 ^ (s % 64) % 2 ^ 64))) (v * 2 ^ (s % 64) % 2 ^ 64)) left in
     let masked = ap (λ m. bit_or (bit_and (get_or words p 0) (bit_not w64 (m * 2 ^ (s % 64) % 2 ^ 64))) (v * 2 ^ (s % 64) % 2 ^ 64)) low in
-    subst P (sym (is_y ∙ kept ∙ masked)) (first_word (get_or words p 0) s n v p (s % 64) (omega arith) (omega arith) fits))
+    subst P (sym (is_y ∙ masked)) (first_word (get_or words p 0) s n v p (s % 64) (omega arith) (omega arith) fits))
   where
     p : ℕ
     p = s / 64

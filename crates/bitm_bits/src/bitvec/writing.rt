@@ -82,11 +82,14 @@ fn put_bits(words: &mut [u64], begin: usize, v: u64, len: u8, mask: u64)
     ensures { bits_of words.new ≡ with_number (bits_of words.old) begin len v }
 {
     let (segment, offset) = (begin / 64, (begin % 64) as u8);
+    // The first word is read before the test, so that its address is made once and the test skips the second alone.
+    let mut first = words[segment];
+    set_bits_to(&mut first, v << offset, mask << offset);
     if offset + len > 64 {
         let shift = 64 - offset;
         set_bits_to(&mut words[segment + 1], v >> shift, mask >> shift);
     }
-    set_bits_to(&mut words[segment], v << offset, mask << offset);
+    words[segment] = first;
 }
 
 /// Replaces the `len` bits from `begin` on by the number `v`, lowest first.

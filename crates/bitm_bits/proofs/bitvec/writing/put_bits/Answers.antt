@@ -13,9 +13,9 @@ returns c =
     elim c.if-offset-len-gt64.branch [
       | then-offset-len-gt64 w ↦
           set_bits_across words _ s n c.args.v _ _ _ c.requires.in_range (omega arith) c.requires.width c.requires.fits
-          c.requires.mask w.words-is w.set_bits_to.ensures c.set_bits_to-2.ensures
+          c.requires.mask w.words-is w.set_bits_to-then-offset-len-gt64.ensures c.set_bits_to.ensures
       | else-offset-len-gt64 w ↦
-          ap (λ b. bits_of (set b (s / 64) c.set_bits_to-2.new.word)) w.words-is
+          ap (λ b. bits_of (set b (s / 64) c.set_bits_to.new.word)) w.words-is
           ∙ set_bits_within words s n c.args.v _ _ c.requires.in_range (omega arith) c.requires.fits c.requires.mask
-          (rw w.words-is at c.set_bits_to-2.ensures)
+          c.set_bits_to.ensures
     ]
