@@ -35,7 +35,7 @@ pub fn ones_to_record(entry: u64, place: usize) -> usize
     requires { place < 4 }
     ensures { result ≡ entry / 2 ^ (11 * (3 - place)) / 2 ^ 32 % 2 ^ 11 }
 {
-    (entry >> (11 * (3 - place)) >> 32 & 0x7FF) as usize
+    (entry >> (33 - 11 * place) >> 32 & 0x7FF) as usize
 }
 
 /// Each field's greatest number at entry `at` less the field, where none exceeds it: one subtraction does all four, and

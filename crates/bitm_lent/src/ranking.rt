@@ -5,7 +5,9 @@ ghost use Rattle.bitm.specs.Reads.{OnlyReads};
 ghost use Rattle.bitm.specs.Tables.{HasSizes, HasTables, bits_in};
 
 use bitm::TableSource;
-use bitm::building::{ones_in_record, ones_through, ones_to_entry, ones_to_record};
+use bitm::building::{
+    ones_in_record, ones_through, ones_to_entry, ones_to_part, ones_to_record,
+};
 
 /// How many of the first `index` bits of the source's words are ones, where its tables are those of its words; `None`
 /// exactly where there are fewer bits, whatever the tables hold.
@@ -28,10 +30,10 @@ pub fn total_rank_on<T: TableSource>(source: &mut T, index: usize) -> Option<usi
     if last / 64 >= source.words_len() {
         return if index == 0 { Some(0) } else { None };
     }
-    let to_part = source.upper(last >> 32);
-    let entry = source.lower(last / 2048);
-    let to_record = ones_to_entry(entry) + ones_to_record(entry, last / 512 % 4);
     let in_record = ones_in_record(source, last / 512 * 8, last / 64);
     let in_word = ones_through(source.word(last / 64), last % 64) as usize;
+    let entry = source.lower(last / 2048);
+    let to_record = ones_to_entry(entry) + ones_to_record(entry, last / 512 % 4);
+    let to_part = ones_to_part(source, last >> 32);
     Some(to_part.wrapping_add(to_record + in_record + in_word))
 }

@@ -67,13 +67,12 @@ module _ (words upper lower : List ℕ) (t : AreTablesOf (bits_of words) upper l
   pub lower_inside : i / 2048 < length lower
   lower_inside = let e = entries (bits_of words) upper lower t in omega (arith, e.lower_length, length-bits_of words)
 
-  -- the upper entry, the ones before the lower entry, and those before the record
-  pub tables_sum : (u e : ℕ) → u ≡ slice_index upper (i / 2 ^ 32) → e ≡ slice_index lower (i / 2048)
+  -- the ones before the part, those before the lower entry, and those before the record
+  pub tables_sum : (u e : ℕ) → u ≡ ones_before (bits_of words) (i / 2 ^ 32 * 2 ^ 32) → e ≡ slice_index lower (i / 2048)
       → u + field_0 e + e / 2 ^ (11 * (3 - i / 512 % 4)) / 2 ^ 32 % 2 ^ 11 ≡ ones_before (bits_of words) (64 * (i / 512 * 8))
-  tables_sum u e u_is e_is =
+  tables_sum u e first e_is =
       let b = bits_of words in
       let at = entries b upper lower t in
-      let first : u ≡ ones_before b (i / 2 ^ 32 * 2 ^ 32) = u_is ∙ at.upper_is (i / 2 ^ 32) upper_inside in
       let entry : e ≡ lower_entry b (i / 2048) = e_is ∙ at.lower_is (i / 2048) lower_inside in
       let low : field_0 e ≡ before_in_part b (i / 2048) = ap field_0 entry ∙ entry-low b (i / 2048) in
       let field : e / 2 ^ (11 * (3 - i / 512 % 4)) / 2 ^ 32 % 2 ^ 11 ≡ in_records b (i / 2048) (i / 512 % 4) =

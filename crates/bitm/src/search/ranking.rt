@@ -1,9 +1,9 @@
 //! Rank over a source, with a bound on its reads.
-ghost use Rattle.std.specs.Prelude.{◌≡◌, ◌+◌, ◌*◌, ◌<◌, ◌≤◌, length, count_ones};
+ghost use Rattle.std.specs.Prelude.{◌≡◌, ◌+◌, ◌*◌, ◌^◌, ◌<◌, ◌≤◌, length, count_ones};
 ghost use Rattle.bitm_bits.specs.Bits.{bits_of, IsShort};
 ghost use Rattle.bitm_bits.specs.Count.{ones_before, IsRank};
 ghost use Rattle.bitm.specs.Reads.{OnlyReads, ReadsAtMost};
-ghost use Rattle.bitm.specs.Tables.{IsIndexed, bits_in};
+ghost use Rattle.bitm.specs.Tables.{HasTables, IsIndexed, bits_in};
 
 use crate::entry::{ones_to_entry, ones_to_record};
 use crate::levels::U64_PER_L2_RECORDS;
@@ -13,6 +13,9 @@ use crate::word::ones_through;
 /// So many words, 4 MiB, stay in a processor's caches. Past that a rank waits for its words, and more ranks wait side
 /// by side if each takes no more instructions than it needs.
 const WORDS_IN_CACHE: usize = 1 << 19;
+
+/// So many words are one part.
+const WORDS_PER_PART: usize = 1 << 26;
 
 /// Seven words of ones and seven of zeros: the seven from `7 - n` on keep the first `n` of seven words.
 const KEPT: [u64; 14] = [
@@ -114,6 +117,28 @@ pub fn ones_in_record<T: TableSource>(source: &mut T, first: usize, end: usize) 
     }
 }
 
+/// How many ones stand before a part, where the tables are those of the words. Where there is one part none do, and its
+/// entry is not read: the test takes fewer instructions than the read.
+///
+/// # Conditions
+/// There is such a part. Nothing is asked of what the tables hold.
+/// # Cost
+/// At most one upper entry is read.
+#[inline(always)]
+pub fn ones_to_part<T: TableSource>(source: &mut T, part: usize) -> usize
+    requires { part < length (T.lists source.old).upper }
+    ensures count { HasTables (T.lists source.old)
+        → result ≡ ones_before (bits_of (T.lists source.old).words) (part * 2 ^ 32) }
+    ensures reads { ReadsAtMost (T.reads source.old) (T.reads source.new) 1 0 0 }
+    ensures same { T.lists source.new ≡ T.lists source.old }
+{
+    if source.words_len() <= WORDS_PER_PART {
+        0
+    } else {
+        source.upper(part)
+    }
+}
+
 /// How many of the first `index` bits of the source's words are ones; `None` exactly where there are fewer bits.
 ///
 /// # Conditions
@@ -135,10 +160,11 @@ pub fn rank_on<T: TableSource>(source: &mut T, index: usize) -> Option<usize>
     if last / 64 >= source.words_len() {
         return if index == 0 { Some(0) } else { None };
     }
-    let mut rank = source.upper(last >> 32);
+    // The words first: then nothing of the entry is held in registers while they are counted.
+    let in_record = ones_in_record(source, last / 512 * 8, last / 64);
+    let in_word = ones_through(source.word(last / 64), last % 64) as usize;
     let entry = source.lower(last / 2048);
-    rank += ones_to_entry(entry);
-    rank += ones_to_record(entry, last / 512 % 4);
-    rank += ones_in_record(source, last / 512 * 8, last / 64);
-    Some(rank + ones_through(source.word(last / 64), last % 64) as usize)
+    let to_record = ones_to_entry(entry) + ones_to_record(entry, last / 512 % 4);
+    let to_part = ones_to_part(source, last >> 32);
+    Some(to_part + to_record + in_record + in_word)
 }
