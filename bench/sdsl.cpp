@@ -7,13 +7,22 @@
 #include <sdsl/bit_vectors.hpp>
 #include <vector>
 
-template <class F> void row(const char* name, int log2, int rounds, const std::vector<uint64_t>& asked, F call) {
+// 0, which the compiler does not know: each call of a chained row waits for the answer before.
+uint64_t nothing = 0;
+
+// The least time of the rounds for a call.
+template <bool CHAINED, class F>
+void row(const char* name, int log2, int rounds, const std::vector<uint64_t>& asked, F call) {
     double least = 1e18;
     uint64_t check = 0;
     for (int k = 0; k < rounds; k++) {
         auto start = std::chrono::steady_clock::now();
         uint64_t sum = 0;
-        for (uint64_t at : asked) sum += call(at);
+        uint64_t last = 0;
+        for (uint64_t at : asked) {
+            last = call(CHAINED ? at ^ (last & nothing) : at);
+            sum += last;
+        }
         double nanos = std::chrono::duration<double, std::nano>(std::chrono::steady_clock::now() - start).count();
         check = sum;
         if (nanos < least) least = nanos;
@@ -21,18 +30,36 @@ template <class F> void row(const char* name, int log2, int rounds, const std::v
     std::printf("%s,sdsl,%d,even,%.2f,ns,%llu\n", name, log2, least / asked.size(), (unsigned long long)check);
 }
 
+// Bits of `bytes` for each word of a content of 2^LOG2 bits.
+void space(const char* name, int log2, double bytes) {
+    std::printf("%s,sdsl,%d,even,%.2f,bits,%.0f\n", name, log2, bytes * 8 / (uint64_t(1) << (log2 - 6)), bytes);
+}
+
 int main(int argc, char** argv) {
     if (argc != 3) return 2;
     int log2 = std::atoi(argv[1]), rounds = std::atoi(argv[2]);
+    nothing = rounds < 0;
     std::mt19937_64 draw(88172645463325252);
     sdsl::bit_vector bits(uint64_t(1) << log2);
     for (uint64_t k = 0; k < bits.size() / 64; k++) bits.data()[k] = draw();
     sdsl::rank_support_v5<> rank(&bits);
     sdsl::select_support_mcl<> select(&bits);
+    sdsl::select_support_mcl<0> select0(&bits);
     uint64_t ones = rank(bits.size());
-    std::vector<uint64_t> places(1 << 17), ranks(1 << 17);
+    std::vector<uint64_t> places(1 << 17), ranks(1 << 17), ranks0(1 << 17);
     for (auto& at : places) at = draw() % bits.size();
     for (auto& at : ranks) at = 1 + draw() % ones;
-    row("rank", log2, rounds, places, [&](uint64_t at) { return rank(at); });
-    row("select", log2, rounds, ranks, [&](uint64_t at) { return select(at); });
+    for (auto& at : ranks0) at = 1 + draw() % (bits.size() - ones);
+    auto rank_of = [&](uint64_t at) { return rank(at); };
+    auto select_of = [&](uint64_t at) { return select(at); };
+    auto select0_of = [&](uint64_t at) { return select0(at); };
+    row<false>("rank", log2, rounds, places, rank_of);
+    row<true>("rank_chained", log2, rounds, places, rank_of);
+    row<false>("select", log2, rounds, ranks, select_of);
+    row<true>("select_chained", log2, rounds, ranks, select_of);
+    row<false>("select0", log2, rounds, ranks0, select0_of);
+    row<true>("select0_chained", log2, rounds, ranks0, select0_of);
+    space("space_tables", log2, sdsl::size_in_bytes(rank));
+    space("space_ones", log2, sdsl::size_in_bytes(select));
+    space("space_zeros", log2, sdsl::size_in_bytes(select0));
 }
