@@ -5,9 +5,7 @@ ghost use Rattle.bitm.specs.Reads.{OnlyReads};
 ghost use Rattle.bitm.specs.Tables.{HasSizes, HasTables, bits_in};
 
 use bitm::TableSource;
-use bitm::building::{
-    ones_in_record, ones_through, ones_to_entry, ones_to_part, ones_to_record,
-};
+use bitm::building::{ones_in_record, ones_through, ones_to_entry, ones_to_part, ones_to_record};
 
 /// How many of the first `index` bits of the source's words are ones, where its tables are those of its words; `None`
 /// exactly where there are fewer bits, whatever the tables hold.
