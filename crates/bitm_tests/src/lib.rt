@@ -21,6 +21,8 @@ mod every_place;
 #[cfg(test)]
 mod expect;
 #[cfg(test)]
+mod in_word;
+#[cfg(test)]
 mod kept_samples;
 #[cfg(test)]
 mod large;

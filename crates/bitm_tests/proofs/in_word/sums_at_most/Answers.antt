@@ -1,7 +1,7 @@
 -- The sums of a word's bytes are at most 64.
 use Rattle.bitm.proofs.lemmas.LeBytesLemmas.{sums_at, small_le}
 use Rattle.bitm.proofs.lemmas.SelectLemmas.{sums_small}
-use Rattle.bitm.proofs.word.tests.sums_at_most.Goals as goal
+use Rattle.bitm_tests.proofs.in_word.sums_at_most.Goals as goal
 
 pub bytes_at_most-requires-clause-small : goal.bytes_at_most-requires-clause-small
 bytes_at_most-requires-clause-small c = small_le _ (sums_small _ _ (sums_at _ c.byte_sums.result c.byte_sums.ensures))
