@@ -275,8 +275,9 @@ static void headers(void)
     MUST(bitm_read_header(&header, &got) == BITM_OK && got == header.words_len);
 }
 
-int main(void)
+int main(int argc, char **argv)
 {
+    take_seed(argc, argv);
     const size_t lens[] = {1, 2, 7, 8, 9, 31, 32, 33, 64, 100, 333};
     for (size_t i = 0; i < sizeof lens / sizeof *lens; i++)
         for (int kind = 0; kind < 5; kind++)

@@ -28,6 +28,13 @@ static inline uint64_t draw(void)
     return seed;
 }
 
+/* Other draws, where the program is given a number. */
+static inline void take_seed(int argc, char **argv)
+{
+    if (argc > 1)
+        seed += strtoull(argv[1], NULL, 10);
+}
+
 static inline uint64_t bit_of(const uint64_t *words, uint64_t place)
 {
     return words[place / 64] >> (place % 64) & 1;

@@ -165,8 +165,9 @@ static void sequences(void)
     MUST(bitm_sequence_sizes(0, 1, &of) == BITM_BAD_SIZE && of.width == UNTOUCHED);
 }
 
-int main(void)
+int main(int argc, char **argv)
 {
+    take_seed(argc, argv);
     sequences();
     puts("C host: sequences answer as their numbers do, and spoilt parts nothing outside");
     return 0;

@@ -19,8 +19,6 @@ mod clone_words;
 pub mod laws;
 mod masks;
 mod size;
-#[cfg(test)]
-mod tests;
 pub mod words;
 
 pub use bitvec::access::BitAccess;

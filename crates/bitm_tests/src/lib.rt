@@ -27,9 +27,13 @@ mod kept_samples;
 #[cfg(test)]
 mod large;
 #[cfg(test)]
+mod lent_sequences;
+#[cfg(test)]
 mod logarithms;
 #[cfg(test)]
 mod samples;
+#[cfg(test)]
+mod sequences;
 #[cfg(test)]
 mod simple;
 #[cfg(test)]

@@ -26,8 +26,6 @@ mod filling;
 mod lists;
 mod sequence;
 mod sizes;
-#[cfg(test)]
-mod tests;
 
 pub use answer::Sought;
 pub use asking::{total_first_at_least_on, total_item_on};

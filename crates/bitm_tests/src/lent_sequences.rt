@@ -1,0 +1,105 @@
+//! Tests of what no proof says: that the compiler makes of the proved code a program that does the same, and that the
+//! parts are those of `EliasFano`, word by word. Of 2, 3, 5, 7, 11, 13 and 24 each number keeps one low digit (0, 1, 1,
+//! 1, 1, 1, 0), and its upper one stands at the rest of it, halved, and its place more: 1, 1 + 1, 2 + 2, 3 + 3, 5 + 4,
+//! 6 + 5 and 12 + 6. The name of a test is the sentence that it shows.
+use bitm_lent::Lent;
+use elias_fano::EliasFano;
+use elias_fano_lent::{BuildError, LentSequence, Listed, Sizes, Sought, build};
+use std::process::Abort;
+use std::test::Fail;
+
+const ITEMS: [u64; 7] = [2, 3, 5, 7, 11, 13, 24];
+
+/// Asks each number, each place, and what first is at least some values.
+fn agrees(rt: &impl Abort, primes: &LentSequence<'_>) {
+    for (i, x) in ITEMS.iter().enumerate() {
+        assert_eq!(rt; primes.get(i), Sought::Found(*x));
+        assert_eq!(rt; primes.first_at_least(*x), Sought::Found(i));
+    }
+    assert_eq!(rt; primes.check(), true);
+    assert_eq!(rt; primes.get(7), Sought::Absent);
+    assert_eq!(rt; primes.first_at_least(8), Sought::Found(4));
+    assert_eq!(rt; primes.first_at_least(25), Sought::Absent);
+    let mut out = [0u64; 3];
+    assert_eq!(rt;
+        primes.get_list([6, 0, 3].as_slice(), out.as_mut_slice()),
+        Listed::All
+    );
+    assert_eq!(rt; out, [24, 2, 7]);
+    assert_eq!(rt;
+        primes.get_list([6, 7, 3].as_slice(), out.as_mut_slice()),
+        Listed::AbsentAt(1)
+    );
+}
+
+#[test]
+fn what_was_written_is_read_and_found(rt: HostRuntime) -> Result<(), Fail> {
+    let (mut low, mut words, mut lower) = ([u64::MAX], [u64::MAX], [u64::MAX]);
+    let mut upper = [usize::MAX];
+    let items = ITEMS.as_slice();
+    let made = build(
+        items,
+        low.as_mut_slice(),
+        words.as_mut_slice(),
+        upper.as_mut_slice(),
+        lower.as_mut_slice(),
+    );
+    assert_eq!(rt; made, Ok(1));
+    assert_eq!(rt; low, [0b0111110]);
+    assert_eq!(rt;
+        words,
+        [1 << 1 | 1 << 2 | 1 << 4 | 1 << 6 | 1 << 9 | 1 << 11 | 1 << 18]
+    );
+    let same = EliasFano::build(rt.alloc(), items)?;
+    assert_eq!(rt; same.low_words(), low.as_slice());
+    assert_eq!(rt; same.upper_words(), words.as_slice());
+    let lent = Lent::over(words.as_slice(), upper.as_slice(), lower.as_slice());
+    let Some(upper) = lent else {
+        panic!(&rt; "lengths")
+    };
+    let Some(primes) = LentSequence::over(7, 1, low.as_slice(), upper) else {
+        panic!(&rt; "lengths")
+    };
+    agrees(&rt, &primes);
+    Ok(())
+}
+
+#[test]
+fn parts_of_nothing_are_told_or_answer_something(rt: HostRuntime) {
+    let (low, words, upper, lower) = ([0u64], [0u64], [0usize], [0u64]);
+    let lent = Lent::over(words.as_slice(), upper.as_slice(), lower.as_slice());
+    let Some(upper) = lent else {
+        panic!(&rt; "lengths")
+    };
+    let Some(none) = LentSequence::over(7, 1, low.as_slice(), upper) else {
+        panic!(&rt; "lengths")
+    };
+    assert_eq!(rt; none.check(), false);
+    assert_eq!(rt; none.get(0), Sought::WrongParts);
+    assert_eq!(rt; none.get(7), Sought::Absent);
+}
+
+#[test]
+fn lengths_and_order_are_tested(rt: HostRuntime) {
+    assert_eq!(rt; Sizes::of(0, 1), None);
+    assert_eq!(rt; Sizes::of(1 << 56, 1), None);
+    let (mut low, mut words, mut lower) = ([0u64; 0], [7u64], [7u64]);
+    let mut upper = [7usize];
+    let falling = build(
+        [1u64, 0].as_slice(),
+        low.as_mut_slice(),
+        words.as_mut_slice(),
+        upper.as_mut_slice(),
+        lower.as_mut_slice(),
+    );
+    assert_eq!(rt; falling, Err(BuildError::NotSorted));
+    let short = build(
+        [1u64, 2].as_slice(),
+        low.as_mut_slice(),
+        [].as_mut_slice(),
+        upper.as_mut_slice(),
+        lower.as_mut_slice(),
+    );
+    assert_eq!(rt; short, Err(BuildError::WrongLength));
+    assert_eq!(rt; words, [7]);
+}

@@ -1,0 +1,221 @@
+//! Tests of what no proof says: that the definitions of the clauses mean what their words say, that the compiler makes
+//! of the proved code a program that does the same, that memory is found where there is some, and what an error
+//! prints. The rows are worked out by hand. Of the first one, 2, 3, 5, 7, 11, 13 and 24, each number keeps one low
+//! digit (0, 1, 1, 1, 1, 1, 0), and its upper one stands at the rest of it, halved, and its place more: 1, 1 + 1, 2 +
+//! 2, 3 + 3, 5 + 4, 6 + 5 and 12 + 6. The name of a test is the sentence that it shows.
+use bitm::{BitAccess, GetSize};
+use elias_fano::{EfError, EliasFano};
+use std::alloc::{AllocError, Global};
+use std::process::Abort;
+use std::test::Fail;
+
+/// Builds a sequence, and compares its low width, the places of its upper ones, each number, by place and from either
+/// end, and what first is at least each value that is asked.
+fn agrees(
+    rt: &impl Abort,
+    alloc: Global,
+    items: &[u64],
+    width: u8,
+    ones: &[usize],
+    asked: &[(u64, Option<usize>)],
+) -> Result<(), EfError> {
+    let made = EliasFano::build(alloc, items)?;
+    assert_eq!(rt; made.len(), items.len());
+    assert_eq!(rt; made.low_width(), width);
+    for (i, x) in items.iter().enumerate() {
+        assert_eq!(rt; made.try_get(i), Some(*x));
+    }
+    assert_eq!(rt; made.try_get(items.len()), None);
+    assert_eq!(rt; made.try_get(usize::MAX), None);
+    let upper = made.upper_words();
+    let mut places = upper.bit_ones();
+    for one in ones {
+        assert_eq!(rt; places.next(), Some(*one));
+    }
+    assert_eq!(rt; places.next(), None);
+    for (v, place) in asked {
+        assert_eq!(rt; made.first_at_least(*v), *place);
+    }
+    comes_in_order(rt, &made, items);
+    Ok(())
+}
+
+/// Compares the numbers that come from either end with the items.
+fn comes_in_order(rt: &impl Abort, made: &EliasFano, items: &[u64]) {
+    let mut rising = made.iter();
+    let mut falling = made.iter();
+    assert_eq!(rt; rising.len(), items.len());
+    for x in items {
+        assert_eq!(rt; rising.next(), Some(*x));
+    }
+    assert_eq!(rt; rising.next(), None);
+    for x in items.iter().rev() {
+        assert_eq!(rt; falling.next_back(), Some(*x));
+    }
+    assert_eq!(rt; falling.next_back(), None);
+}
+
+#[test]
+fn numbers_are_kept_found_and_given_back_in_order(rt: HostRuntime) -> Result<(), Fail> {
+    let items = [2u64, 3, 5, 7, 11, 13, 24];
+    let ones = [1usize, 2, 4, 6, 9, 11, 18];
+    let asked = [(8, Some(4)), (25, None), (0, Some(0)), (24, Some(6))];
+    agrees(
+        &rt,
+        rt.alloc(),
+        items.as_slice(),
+        1,
+        ones.as_slice(),
+        asked.as_slice(),
+    )?;
+    Ok(())
+}
+
+#[test]
+fn no_numbers_have_no_places(rt: HostRuntime) -> Result<(), Fail> {
+    agrees(
+        &rt,
+        rt.alloc(),
+        [0u64; 0].as_slice(),
+        0,
+        [0usize; 0].as_slice(),
+        [(0, None)].as_slice(),
+    )?;
+    Ok(())
+}
+
+#[test]
+fn equal_numbers_are_found_at_the_first_of_them(rt: HostRuntime) -> Result<(), Fail> {
+    let asked = [(5, Some(0)), (6, None)];
+    agrees(
+        &rt,
+        rt.alloc(),
+        [5u64, 5, 5].as_slice(),
+        0,
+        [5usize, 6, 7].as_slice(),
+        asked.as_slice(),
+    )?;
+    agrees(
+        &rt,
+        rt.alloc(),
+        [0u64, 0].as_slice(),
+        0,
+        [0usize, 1].as_slice(),
+        [(0, Some(0))].as_slice(),
+    )?;
+    Ok(())
+}
+
+#[test]
+fn the_greatest_number_is_kept_and_found(rt: HostRuntime) -> Result<(), Fail> {
+    let asked = [(u64::MAX, Some(0)), (0, Some(0))];
+    agrees(
+        &rt,
+        rt.alloc(),
+        [u64::MAX].as_slice(),
+        63,
+        [1usize].as_slice(),
+        asked.as_slice(),
+    )?;
+    Ok(())
+}
+
+#[test]
+fn low_digits_stand_side_by_side_in_one_word(rt: HostRuntime) -> Result<(), Fail> {
+    let made = EliasFano::build(rt.alloc(), [2u64, 3, 5, 7, 11, 13, 24].as_slice())?;
+    assert_eq!(rt; made.low_words(), [0b0111110u64].as_slice());
+    assert_eq!(rt; made.upper_words().len(), 1);
+    Ok(())
+}
+
+#[test]
+fn values_between_the_numbers_have_the_nearest_below_them(rt: HostRuntime) -> Result<(), Fail> {
+    let made = EliasFano::build(rt.alloc(), [2u64, 3, 5, 7, 11, 13, 24].as_slice())?;
+    let asked = [
+        (1u64, None),
+        (2, Some(0)),
+        (8, Some(3)),
+        (23, Some(5)),
+        (u64::MAX, Some(6)),
+    ];
+    for (v, place) in asked {
+        assert_eq!(rt; made.last_at_most(v), place);
+    }
+    assert_eq!(rt; made.contains(13), true);
+    assert_eq!(rt; made.contains(14), false);
+    assert_eq!(rt; made.contains(25), false);
+    let mut both = made.iter_from(4);
+    assert_eq!(rt; both.next(), Some(11));
+    assert_eq!(rt; both.next_back(), Some(24));
+    assert_eq!(rt; both.next(), Some(13));
+    assert_eq!(rt; both.next_back(), None);
+    assert_eq!(rt; made.iter_from(7).next(), None);
+    Ok(())
+}
+
+#[test]
+fn a_copy_gives_the_same_numbers_in_as_many_bytes(rt: HostRuntime) -> Result<(), Fail> {
+    let items = [2u64, 3, 5, 7, 11, 13, 24];
+    let made = EliasFano::build(rt.alloc(), items.as_slice())?;
+    let copy = made.try_clone(rt.alloc())?;
+    comes_in_order(&rt, &copy, items.as_slice());
+    // a word of each vector, and one entry of each of the index's tables
+    assert_eq!(rt; copy.size_bytes_dyn(), 4 * 8);
+    Ok(())
+}
+
+#[test]
+fn errors_print_why(rt: HostRuntime) -> Result<(), Fail> {
+    assert_eq!(rt;
+        format!(in rt.alloc(); "{}", EfError::TooLong)?.as_str(),
+        "there are 2^56 numbers or more"
+    );
+    assert_eq!(rt;
+        format!(in rt.alloc(); "{}", EfError::NotSorted)?.as_str(),
+        "a number is less than the one before it"
+    );
+    assert_eq!(rt;
+        format!(in rt.alloc(); "{}", EfError::OutOfMemory)?.as_str(),
+        "no memory"
+    );
+    Ok(())
+}
+
+#[test]
+fn falls_are_refused(rt: HostRuntime) -> Result<(), Fail> {
+    assert_eq!(rt;
+        EliasFano::build(rt.alloc(), [3u64, 2].as_slice()).err(),
+        Some(EfError::NotSorted)
+    );
+    Ok(())
+}
+
+/// So many multiples of 256, from 0 on.
+fn multiples(alloc: Global, count: u32) -> Result<Vec<u64>, AllocError> {
+    let mut items = Vec::new(alloc);
+    for i in 0..count {
+        items.push(u64::from(i) * 256)?;
+    }
+    Ok(items)
+}
+
+#[test]
+fn each_of_many_numbers_is_found_at_its_place(rt: HostRuntime) -> Result<(), Fail> {
+    let items = multiples(rt.alloc(), 1 << 18)?;
+    let made = EliasFano::build(rt.alloc(), items.as_slice())?;
+    for (i, x) in items.iter().enumerate() {
+        assert_eq!(rt; made.get(i), *x);
+        assert_eq!(rt; made.first_at_least(*x), Some(i));
+    }
+    Ok(())
+}
+
+#[test]
+fn refused_memory_is_said(rt: HostRuntime) {
+    let items = [2u64, 3, 5, 7, 11, 13, 24];
+    match EliasFano::build(rt.alloc(), items.as_slice()) {
+        Ok(made) => assert_eq!(rt; made.try_get(4), Some(11)),
+        Err(error) => assert_eq!(rt; error, EfError::OutOfMemory),
+    }
+    assert_eq!(rt; items.as_slice(), [2u64, 3, 5, 7, 11, 13, 24].as_slice());
+}
