@@ -1,10 +1,10 @@
 //! Answers to lists of queries.
 ghost use Rattle.std.specs.Prelude.{◌≡◌, ◌<◌, ◌↔◌, ℕ, IsTrue, length, slice_index, true, false};
 ghost use Rattle.bitm_bits.specs.Count.{kind};
-ghost use Rattle.bitm_lent.specs.Answers.{RankTold, SelectTold};
+ghost use Rattle.bitm.specs.Answers.{RankTold, SelectTold};
 
 use crate::lent::Lent;
-use crate::selecting::Selected;
+use bitm::Selected;
 
 /// In a list of answers: there is no such place or bit.
 pub const NO_ANSWER: usize = usize::MAX;

@@ -10,16 +10,15 @@ ghost use Rattle.bitm.specs.Reads.{OnlyReads, ReadsAtMost};
 ghost use Rattle.bitm.specs.Samples.{part_of, parts, sample_count_before};
 ghost use Rattle.bitm.specs.Search.{entries_from, entry_in, sought_in, IsLastEntry, IsLastPart};
 ghost use Rattle.bitm.specs.Tables.{HasSizes, HasTables, bits_in};
-ghost use Rattle.bitm_lent.specs.Answers.{HasBit, IsSelected};
+ghost use Rattle.bitm.specs.Answers.{HasBit, IsSelected};
 ghost use Rattle.bitm_lent.specs.Samples.{AreSamplesOf, IsBounded, IsSelectedIfTold};
 
 use crate::samples::{Density, LentSamples};
-use crate::selecting::{Selected, in_packed};
 use bitm::building::{
-    EntryRange, before_part, entries_of_part, first_entry, last_in_range, last_part, ones_to_entry,
-    sought_entry,
+    EntryRange, before_part, entries_of_part, first_entry, in_packed, last_in_range, last_part,
+    ones_to_entry, sought_entry,
 };
-use bitm::{CombinedSamplingDensity, L2_ENTRIES_PER_L1_ENTRY, TableSource};
+use bitm::{CombinedSamplingDensity, L2_ENTRIES_PER_L1_ENTRY, Selected, TableSource};
 
 /// How many samples there are before a part, or in all where there is no such part.
 #[inline(always)]

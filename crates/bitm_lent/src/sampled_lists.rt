@@ -6,7 +6,7 @@ ghost use Rattle.bitm_lent.specs.Samples.{SampledTold};
 use crate::lent::Lent;
 use crate::lists::{NO_ANSWER, WRONG_TABLES};
 use crate::samples::LentSamples;
-use crate::selecting::Selected;
+use bitm::Selected;
 
 /// The place with one rank, `NO_ANSWER` or `WRONG_TABLES`; of a zero where `ONE` is 0.
 #[inline(always)]

@@ -4,7 +4,7 @@ use Rattle.bitm_bits.proofs.lemmas.BitsLemmas.{length-bits_of}
 use Rattle.bitm_bits.specs.Bits.{bits_of}
 use Rattle.bitm_bits.specs.Count.{kind}
 use Rattle.bitm.proofs.lemmas.MarkLemmas.{none_in_nothing}
-use Rattle.bitm_lent.proofs.selecting.total_select_on.Goals as goal
+use Rattle.bitm.proofs.search.selecting.total_select_on.Goals as goal
 
 pub returns-then-upper_len-eq0-clause-answer : goal.returns-then-upper_len-eq0-clause-answer
 returns-then-upper_len-eq0-clause-answer g c = λ _.

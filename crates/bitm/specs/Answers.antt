@@ -1,11 +1,11 @@
--- What calls over lent tables answer: of any tables, and of those of the words.
+-- What calls over tables that may hold anything answer: of any tables, and of those of the words.
 use Rattle.std.specs.Prelude.{◌≡◌, ⊤, ℕ, ◌+◌, ◌-◌, ◌*◌, ◌^◌, ◌<◌, ◌≤◌, Bool, List, length}
 use Rattle.bitm_bits.specs.Bits.{bits_of, item}
 use Rattle.bitm_bits.specs.Count.{ones_before, count_before, count_of, Picks}
 use Rattle.bitm.specs.Search.{sought}
 use Rattle.bitm.specs.Tables.{HasTables, Lists, bits_in}
-use Rattle.bitm_lent.specs.declared.selecting.Selected.{Selected}
-use Rattle.bitm_lent.specs.declared.selecting.Selected.TheVariants.{Found, Absent, WrongTables}
+use Rattle.bitm.specs.declared.search.selecting.Selected.{Selected}
+use Rattle.bitm.specs.declared.search.selecting.Selected.TheVariants.{Found, Absent, WrongTables}
 
 -- a place that is found is inside, and bit v stands there
 abbrev pub HasBit : List Bool → Bool → Selected → Type 0

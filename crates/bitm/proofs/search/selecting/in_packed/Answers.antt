@@ -4,10 +4,10 @@ use Rattle.bitm_bits.specs.Bits.{bits_of}
 use Rattle.bitm_bits.specs.Count.{kind}
 use Rattle.bitm.specs.Search.{sought_in}
 use Rattle.bitm.proofs.lemmas.SoughtLemmas.{low_is, rank_is, next_is, record_fields_rise}
-use Rattle.bitm_lent.specs.Answers.{IsSelected}
-use Rattle.bitm_lent.proofs.SelectedLemmas.{has_bit, selected}
-use Rattle.bitm_lent.proofs.selecting.in_packed.Goals as goal
-use Rattle.bitm_lent.proofs.selecting.in_packed.Goals.{Start}
+use Rattle.bitm.specs.Answers.{IsSelected}
+use Rattle.bitm.proofs.lemmas.SelectedLemmas.{has_bit, selected}
+use Rattle.bitm.proofs.search.selecting.in_packed.Goals as goal
+use Rattle.bitm.proofs.search.selecting.in_packed.Goals.{Start}
 
 pub returns-then-before-rank-clause-answer : goal.returns-then-before-rank-clause-answer
 returns-then-before-rank-clause-answer g c = λ t.

@@ -6,8 +6,8 @@ use Rattle.bitm.specs.Tables.{Lists, HasTables}
 use Rattle.bitm.proofs.lemmas.RankLemmas.{last_of, rank_inside, rank_outside, rank_of_none}
 use Rattle.bitm.proofs.lemmas.StretchLemmas.{ones_before-self, ones_before-between, word_through}
 use Rattle.bitm.proofs.lemmas.TableLemmas.{tables_sum}
-use Rattle.bitm_lent.proofs.ranking.total_rank_on.Goals as goal
-use Rattle.bitm_lent.proofs.ranking.total_rank_on.Goals.{After-ones_to_record, After-ones_to_part-to_part}
+use Rattle.bitm.proofs.search.ranking.total_rank_on.Goals as goal
+use Rattle.bitm.proofs.search.ranking.total_rank_on.Goals.{After-ones_to_record, After-ones_to_part-to_part}
 
 pub returns-then-index-eq0-clause-answer : goal.returns-then-index-eq0-clause-answer
 returns-then-index-eq0-clause-answer g c = λ _. rank_of_none _ c.args.index (omega arith)
