@@ -101,7 +101,9 @@ uint32_t bitm_select0(const struct bitm_view *view, size_t rank, uint64_t *out);
 /* ---- lists of queries */
 
 /* out[i] answers queries[i] as the call of one query does, or is BITM_NO_ANSWER for BITM_NONE and BITM_WRONG_TABLES
- * for BITM_WRONG. BITM_OK, or BITM_BAD_SIZE (also where out_len is not queries_len), which writes nothing. */
+ * for BITM_WRONG. Selections are searched for side by side, so in tables that are not those of the words a list may
+ * find another place with the bit than the call of one query, or none where that finds one. BITM_OK, or BITM_BAD_SIZE
+ * (also where out_len is not queries_len), which writes nothing. */
 uint32_t bitm_rank_list(const struct bitm_view *view, const uint64_t *queries, size_t queries_len, uint64_t *out,
                         size_t out_len);
 uint32_t bitm_rank0_list(const struct bitm_view *view, const uint64_t *queries, size_t queries_len, uint64_t *out,

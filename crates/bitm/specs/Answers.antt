@@ -1,5 +1,5 @@
 -- What calls over tables that may hold anything answer: of any tables, and of those of the words.
-use Rattle.std.specs.Prelude.{◌≡◌, ⊤, ℕ, ◌+◌, ◌-◌, ◌*◌, ◌^◌, ◌<◌, ◌≤◌, Bool, List, length}
+use Rattle.std.specs.Prelude.{◌≡◌, ⊤, ℕ, ◌+◌, ◌-◌, ◌*◌, ◌^◌, ◌<◌, ◌≤◌, Bool, List, Option, Some, None, length, slice_index}
 use Rattle.bitm_bits.specs.Bits.{bits_of, item}
 use Rattle.bitm_bits.specs.Count.{ones_before, count_before, count_of, Picks}
 use Rattle.bitm.specs.Search.{sought}
@@ -12,6 +12,24 @@ abbrev pub HasBit : List Bool → Bool → Selected → Type 0
 HasBit b v (Found p) = (p < length b) × (item b p ≡ v)
 HasBit b v Absent = ⊤
 HasBit b v WrongTables = ⊤
+
+-- a place that is found is from place i on and before place j
+abbrev pub IsFoundFrom : ℕ → ℕ → Selected → Type 0
+IsFoundFrom i j (Found p) = (i ≤ p) × (p < j)
+IsFoundFrom i j Absent = ⊤
+IsFoundFrom i j WrongTables = ⊤
+
+-- the place that is found, if one is
+abbrev pub place_in : Selected → Option ℕ
+place_in (Found p) = Some p
+place_in Absent = None
+place_in WrongTables = None
+
+-- what a list of answers says of it
+abbrev pub told_in : Selected → ℕ
+told_in (Found p) = p
+told_in Absent = 2 ^ 64 - 1
+told_in WrongTables = 2 ^ 64 - 2
 
 -- the place with bit v and r such bits before it, and Absent exactly where there are no more than r of them
 abbrev pub IsSelected : List Bool → Bool → ℕ → Selected → Type 0
@@ -37,3 +55,7 @@ pub record SelectTold (v : Bool) (lists : Lists) (r n : ℕ) : Type 0 where
   pub bit : n < 2 ^ 64 - 2 → (n < length (bits_in lists)) × (item (bits_in lists) n ≡ v)
   pub some : HasTables lists → r < count_of (bits_in lists) v → Picks (bits_in lists) v r n
   pub none : HasTables lists → count_of (bits_in lists) v ≤ r → n ≡ 2 ^ 64 - 1
+
+-- number k tells the place with rank k
+abbrev pub ToldEach : Bool → Lists → List ℕ → List ℕ → Type 0
+ToldEach v lists ranks places = (k : ℕ) → k < length ranks → SelectTold v lists (slice_index ranks k) (slice_index places k)

@@ -5,6 +5,7 @@ use Rattle.bitm_bits.specs.Bits.{bits_of}
 use Rattle.bitm_bits.specs.Count.{ones_before, kind}
 use Rattle.bitm_bits.specs.Number.{number_at}
 use Rattle.bitm.specs.Entry.{before_in_part}
+use Rattle.bitm.specs.Tables.{Lists}
 
 -- the bits, and falses up to a multiple of 2048
 abbrev pub padded : List Bool → List Bool
@@ -40,6 +41,11 @@ pub record Between (count : ℕ → ℕ) (n r low left : ℕ) : Type 0 where
 -- the last part with no more than r ones before it
 abbrev pub IsLastPart : List Bool → ℕ → ℕ → ℕ → Type 0
 IsLastPart m parts r part = IsLast (λ k. ones_before m (k * 2 ^ 32)) parts r part
+
+-- the last part with no more than r of the kind before it, of which rest are left there
+pub record IsPartOf (one : ℕ) (lists : Lists) (r part rest : ℕ) : Type 0 where
+  pub last : IsLastPart (sought_in one lists.words) (length lists.upper) (ones_before (sought_in one lists.words) (part * 2 ^ 32) + rest) part
+  pub total : ones_before (sought_in one lists.words) (part * 2 ^ 32) + rest ≡ r
 
 -- how many entries a part has, of so many entries in all
 abbrev pub entries_from : ℕ → ℕ → ℕ

@@ -27,10 +27,9 @@ mod sampled_lists;
 mod samples;
 mod sampling;
 
-pub use bitm::{Selected, total_rank_on, total_select_on};
+pub use bitm::{NO_ANSWER, Selected, WRONG_TABLES, total_rank_on, total_select_on};
 pub use filling::build;
 pub use lent::{Lent, lower_len, upper_len};
-pub use lists::{NO_ANSWER, WRONG_TABLES};
 pub use places::ones_from;
 pub use sampled::sampled_select_on;
 pub use samples::{LentSamples, samples_len};

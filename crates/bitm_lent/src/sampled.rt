@@ -15,8 +15,8 @@ ghost use Rattle.bitm_lent.specs.Samples.{AreSamplesOf, IsBounded, IsSelectedIfT
 
 use crate::samples::{Density, LentSamples};
 use bitm::building::{
-    EntryRange, before_part, entries_of_part, first_entry, in_packed, last_in_range, last_part,
-    ones_to_entry, sought_entry,
+    EntryRange, entries_of_part, first_entry, in_packed, last_in_range, ones_to_entry,
+    part_of_rank, sought_entry,
 };
 use bitm::{CombinedSamplingDensity, L2_ENTRIES_PER_L1_ENTRY, Selected, TableSource};
 
@@ -223,7 +223,7 @@ fn sampled_in_part<const ONE: u8, T: TableSource>(
         return Selected::WrongTables;
     };
     match entry_between::<ONE, T>(source, part, low, end, rank) {
-        Some((entry, packed)) => in_packed::<ONE, T>(source, part, entry, packed, rank),
+        Some((entry, packed)) => in_packed::<ONE, 1, T>(source, part, entry, packed, rank),
         None => Selected::WrongTables,
     }
 }
@@ -260,10 +260,9 @@ pub fn sampled_select_on<const ONE: u8, T: TableSource>(
     if source.upper_len() == 0 {
         return Selected::Absent;
     }
-    let part = last_part::<ONE, T>(source, rank);
-    let before = before_part::<ONE, T>(source, part);
-    if before > rank {
+    let (part, in_part) = part_of_rank::<ONE, T>(source, rank);
+    if in_part > rank {
         return Selected::WrongTables;
     }
-    sampled_in_part::<ONE, T>(source, lent, part, rank - before)
+    sampled_in_part::<ONE, T>(source, lent, part, in_part)
 }

@@ -4,9 +4,8 @@ ghost use Rattle.bitm_bits.specs.Count.{kind};
 ghost use Rattle.bitm_lent.specs.Samples.{SampledTold};
 
 use crate::lent::Lent;
-use crate::lists::{NO_ANSWER, WRONG_TABLES};
 use crate::samples::LentSamples;
-use bitm::Selected;
+use bitm::{NO_ANSWER, Selected, WRONG_TABLES};
 
 /// The place with one rank, `NO_ANSWER` or `WRONG_TABLES`; of a zero where `ONE` is 0.
 #[inline(always)]

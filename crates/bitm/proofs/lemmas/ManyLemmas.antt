@@ -7,29 +7,30 @@ use Rattle.std.proofs.lemmas.Nat.{pow-add}
 use Rattle.bitm_bits.specs.Bits.{bits_of, IsShort}
 use Rattle.bitm_bits.specs.Count.{ones_before, count_of, kind}
 use Rattle.bitm.specs.Entry.{before_in_part, field_0, lower_entry, record_field}
+use Rattle.bitm.specs.Answers.{told_in, IsSelectedFrom, SelectTold}
 use Rattle.bitm.specs.Many.{IsNear, IsInRecord}
-use Rattle.bitm.specs.Search.{sought_in, IsLastPart, IsLastEntry, IsWord}
+use Rattle.bitm.specs.Search.{sought_in, IsLastPart, IsLastEntry, IsPartOf, IsWord}
 use Rattle.bitm.specs.Tables.{Lists, HasTables}
+use Rattle.bitm.specs.declared.search.selecting.Selected.{Selected}
 use Rattle.bitm.proofs.lemmas.MarkLemmas.{none_in_nothing}
 use Rattle.bitm.proofs.lemmas.LengthLemmas.{few_entries, first_of_part, sizes_of}
+use Rattle.bitm.proofs.lemmas.SelectedLemmas.{has_bit, selected, told_is}
 use Rattle.bitm.proofs.lemmas.SoughtLemmas.{first_none, next_is, rank_is}
 use Rattle.bitm.proofs.lemmas.TableLemmas.{entries}
 use borrow.Rule.Slice.PartMut.{put_mid}
 
 module _ (one : ℕ) (lists : Lists) (rank rest : ℕ) where
   -- a search begins at the part's first entry
-  pub near_begins : (part : ℕ) → HasTables lists → IsShort lists.words
-      → IsLastPart (sought_in one lists.words) (length lists.upper) rank part
-      → rank ≡ ones_before (sought_in one lists.words) (part * 2 ^ 32) + rest
+  pub near_begins : (part : ℕ) → HasTables lists → IsShort lists.words → IsPartOf one lists rank part rest
       → IsNear one lists rank rest (part * 2 ^ 21) 21
-  near_begins part t short last total =
+  near_begins part t short is =
       record {
         part = part;
         low = 0;
         place = omega arith;
-        last = last;
-        total = total;
-        inside = omega (arith, first_of_part lists (sizes_of lists t short) part last.inside);
+        last = subst (λ (n : ℕ). IsLastPart (sought_in one lists.words) (length lists.upper) n part) is.total is.last;
+        total = sym is.total;
+        inside = omega (arith, first_of_part lists (sizes_of lists t short) part is.last.inside);
         at_most = omega (arith, first_none (sought_in one lists.words) part);
         next = λ h. absurd (omega (arith, h));
         room = omega arith;
@@ -38,10 +39,6 @@ module _ (one : ℕ) (lists : Lists) (rank rest : ℕ) where
   module _ (at size : ℕ) (near : IsNear one lists rank rest at (size + 1)) where
     doubled : 2 ^ (size + 1) ≡ 2 ^ size + 2 ^ size
     doubled = omega (arith, pow-add 2 size 1)
-
-    -- the step fits
-    pub step_small : 2 ^ size ≤ 2 ^ 20
-    step_small = omega (arith, near.room, doubled)
 
     -- where no more stand before the entry in the middle it is that one or a later one
     pub near_up : at + 2 ^ size < length lists.lower → before_in_part (sought_in one lists.words) (at + 2 ^ size) ≤ rest
@@ -156,10 +153,21 @@ module _ (one : ℕ) (lists : Lists) (rank rest at packed count place before wor
       let end = ap (λ (n : ℕ). ones_before (sought_in one lists.words) (64 * (n + 8))) same in
       record {
         fits = omega (arith, near_few one lists rank rest at t short near, small);
-        total = omega (arith, near.total, total, here);
-        next = λ h. omega (arith, near.total, total, after (omega (arith, h, same)), end);
+        total = λ _. omega (arith, near.total, total, here);
+        next = λ _ h. omega (arith, near.total, total, after (omega (arith, h, same)), end);
         word_is = word_is;
       }
+
+-- what is told of a selection in the record
+pub told_record : (one : ℕ) (lists : Lists) (rank rest first word : ℕ) → IsInRecord one lists rank rest first word → (s : Selected)
+    → IsSelectedFrom lists.words (kind one) first (ones_before (sought_in one lists.words) (64 * first) + rest) s
+    → SelectTold (kind one) lists rank (told_in s)
+told_record one lists rank rest first word there s is =
+    let R = ones_before (sought_in one lists.words) (64 * first) + rest in
+    told_is (kind one) lists rank s (has_bit lists.words (kind one) first R s is)
+    (λ t.
+    selected lists.words (kind one) first rank s (there.next t)
+    (subst (λ (n : ℕ). IsSelectedFrom lists.words (kind one) first n s) (sym (there.total t)) is))
 
 -- ---- lists that are written item by item: what holds of the items so far, and of those that are left
 

@@ -1,5 +1,5 @@
 -- What the tables tell of the bits in which ones are sought: before a part, before an entry, and in the record chosen.
-use Rattle.std.proofs.Common.{◌≡◌, ◌≢◌, ℕ, ◌+◌, ◌-◌, ◌*◌, ◌/◌, ◌%◌, ◌^◌, ◌<◌, ◌≤◌, Bool, List, length, slice_index, Option, Some, None, IfSome, arith, sym, ap, ◌∙◌, inl, inr}
+use Rattle.std.proofs.Common.{◌≡◌, ◌≢◌, ℕ, ◌+◌, ◌-◌, ◌*◌, ◌/◌, ◌%◌, ◌^◌, ◌<◌, ◌≤◌, Bool, List, length, slice_index, arith, sym, ap, ◌∙◌, inl, inr}
 use Rattle.std.proofs.lemmas.Bool.{cases_lt}
 use Rattle.bitm_bits.proofs.lemmas.BitsLemmas.{length-bits_of}
 use Rattle.bitm_bits.specs.Bits.{bits_of, IsShort}
@@ -174,10 +174,3 @@ module _ (words upper lower : List ℕ) (t : AreTablesOf (bits_of words) upper l
         → ones_before m (64 * ((part * 2 ^ 21 + e) * 32 + k * 8)) + (r - count - before)
         < ones_before m (64 * ((part * 2 ^ 21 + e) * 32 + k * 8 + 8))
     next_is h = omega (arith, rank_is, next_record words upper lower t m part r e k up low small most after h)
-
-    -- a place in the record is in the entry
-    pub place_in_entry : (o : Option ℕ)
-        → IfSome o (λ p. (64 * ((part * 2 ^ 21 + e) * 32 + k * 8) ≤ p) × (p < 64 * ((part * 2 ^ 21 + e) * 32 + k * 8 + 8)))
-        → IfSome o (λ p. p / 2048 ≡ part * 2 ^ 21 + e)
-    place_in_entry None inside = tt
-    place_in_entry (Some p) inside = omega (arith, inside.0, inside.1)

@@ -155,18 +155,7 @@ pub fn rank_on<T: TableSource>(source: &mut T, index: usize) -> Option<usize>
     ensures answer { IsRank (bits_in (T.lists source.old)) index result }
     ensures reads { OnlyReads T.lists T.reads source.old source.new 1 1 8 }
 {
-    // The last bit that counts. Where none does this is above every place, so one test tells both.
-    let last = index.wrapping_sub(1);
-    if last / 64 >= source.words_len() {
-        return if index == 0 { Some(0) } else { None };
-    }
-    // The words first: then nothing of the entry is held in registers while they are counted.
-    let in_record = ones_in_record(source, last / 512 * 8, last / 64);
-    let in_word = ones_through(source.word(last / 64), last % 64) as usize;
-    let entry = source.lower(last / 2048);
-    let to_record = ones_to_entry(entry) + ones_to_record(entry, last / 512 % 4);
-    let to_part = ones_to_part(source, last >> 32);
-    Some(to_part + to_record + in_record + in_word)
+    total_rank_on(source, index)
 }
 
 /// How many of the first `index` bits of the source's words are ones, where its tables are those of its words; `None`
@@ -190,6 +179,7 @@ pub fn total_rank_on<T: TableSource>(source: &mut T, index: usize) -> Option<usi
     if last / 64 >= source.words_len() {
         return if index == 0 { Some(0) } else { None };
     }
+    // The words first: then nothing of the entry is held in registers while they are counted.
     let in_record = ones_in_record(source, last / 512 * 8, last / 64);
     let in_word = ones_through(source.word(last / 64), last % 64) as usize;
     let entry = source.lower(last / 2048);

@@ -3,13 +3,14 @@
 //!
 //! The part and the entry are sought in tables that may hold anything: where they are not those of the words, the
 //! search ends as well, with some part and some entry.
-ghost use Rattle.std.specs.Prelude.{◌≡◌, ◌+◌, ◌-◌, ◌*◌, ◌/◌, ◌%◌, ◌^◌, ◌<◌, ◌≤◌, ◌↔◌, length, count_ones, IfSome, IsTrue, MatchOption};
+ghost use Rattle.std.specs.Prelude.{◌≡◌, ◌+◌, ◌-◌, ◌*◌, ◌/◌, ◌%◌, ◌^◌, ◌<◌, ◌≤◌};
+ghost use Rattle.std.specs.Prelude.{length, count_ones, IfSome, MatchOption};
 ghost use Rattle.bitm_bits.specs.Bits.{bits_of, digit_count, IsShort};
 ghost use Rattle.bitm_bits.specs.Count.{ones_before, kind, IsSelect, Picks};
-ghost use Rattle.bitm.specs.Answers.{HasBit, IsSelected, IsSelectedFrom};
+ghost use Rattle.bitm.specs.Answers.{place_in, told_in, HasBit, IsFoundFrom, IsSelected, IsSelectedFrom};
 ghost use Rattle.bitm.specs.Entry.{field_1, field_2, field_3, lower_entry, record_field};
 ghost use Rattle.bitm.specs.Reads.{upper_read, word_read, OnlyReads, ReadsAtMost};
-ghost use Rattle.bitm.specs.Search.{entries_from, entry_in, sought_in, IsLastPart, IsLastEntry, IsWord};
+ghost use Rattle.bitm.specs.Search.{entries_from, entry_in, sought_in, IsLastPart, IsLastEntry, IsPartOf, IsWord};
 ghost use Rattle.bitm.specs.Tables.{HasSizes, HasTables, IsIndexed, bits_in};
 
 use crate::entry::{ones_to_entry, ones_to_record};
@@ -48,16 +49,7 @@ pub fn total_select_on<const ONE: u8, T: TableSource>(source: &mut T, rank: usiz
     ensures reads { OnlyReads T.lists T.reads source.old source.new
         (digit_count (length (T.lists source.old).upper) + 1) 23 8 }
 {
-    if source.upper_len() == 0 {
-        return Selected::Absent;
-    }
-    let part = last_part::<ONE, T>(source, rank);
-    let before = before_part::<ONE, T>(source, part);
-    if before > rank {
-        return Selected::WrongTables;
-    }
-    let (entry, packed) = last_entry::<ONE, T>(source, part, rank - before);
-    in_packed::<ONE, T>(source, part, entry, packed, rank - before)
+    search_on::<ONE, 1, T>(source, rank)
 }
 
 /// The place of the one of the source's words with exactly `rank` ones before it, and `None` exactly where there is
@@ -77,12 +69,61 @@ pub fn binary_select_on<const ONE: u8, T: TableSource>(source: &mut T, rank: usi
     ensures reads { OnlyReads T.lists T.reads source.old source.new
         (digit_count (length (T.lists source.old).upper) + 1) 23 8 }
 {
+    found(search_on::<ONE, 0, T>(source, rank))
+}
+
+/// What `total_select_on` answers. Where `TESTS` is 0 no test looks for a difference that wrapped: a rank that did is
+/// in no record, so the words decide, and `Absent` may be answered in place of `WrongTables`.
+#[inline(always)]
+fn search_on<const ONE: u8, const TESTS: u8, T: TableSource>(
+    source: &mut T,
+    rank: usize,
+) -> Selected
+    requires { HasSizes (T.lists source.old) }
+    ensures bit { HasBit (bits_in (T.lists source.old)) (kind ONE) result }
+    ensures answer { HasTables (T.lists source.old)
+        → IsSelected (bits_in (T.lists source.old)) (kind ONE) rank result }
+    ensures reads { OnlyReads T.lists T.reads source.old source.new
+        (digit_count (length (T.lists source.old).upper) + 1) 23 8 }
+{
     if source.upper_len() == 0 {
-        return None;
+        return Selected::Absent;
     }
-    let part = last_part::<ONE, T>(source, rank);
-    let in_part = rank - before_part::<ONE, T>(source, part);
-    select_in_part::<ONE, T>(source, part, in_part)
+    let (part, in_part) = part_of_rank::<ONE, T>(source, rank);
+    if TESTS != 0 && in_part > rank {
+        return Selected::WrongTables;
+    }
+    let (entry, packed) = last_entry::<ONE, T>(source, part, in_part);
+    in_packed::<ONE, TESTS, T>(source, part, entry, packed, in_part)
+}
+
+/// The place that a selection found, if one was.
+#[inline(always)]
+pub(crate) fn found(selected: Selected) -> Option<usize>
+    ensures { result ≡ place_in selected }
+{
+    match selected {
+        Selected::Found(place) => Some(place),
+        Selected::Absent | Selected::WrongTables => None,
+    }
+}
+
+/// In a list of answers: there is no such place or bit.
+pub const NO_ANSWER: usize = usize::MAX;
+
+/// In a list of answers: the tables are not those of the words.
+pub const WRONG_TABLES: usize = usize::MAX - 1;
+
+/// What a list of answers says of a selection: the place, `NO_ANSWER` or `WRONG_TABLES`.
+#[inline(always)]
+pub fn told(selected: Selected) -> usize
+    ensures { result ≡ told_in selected }
+{
+    match selected {
+        Selected::Found(place) => place,
+        Selected::Absent => NO_ANSWER,
+        Selected::WrongTables => WRONG_TABLES,
+    }
 }
 
 /// How many ones, or zeros where `ONE` is 0, stand before a part, where the tables are those of the words.
@@ -131,59 +172,23 @@ pub fn last_part<const ONE: u8, T: TableSource>(source: &mut T, rank: usize) -> 
     low
 }
 
-/// Selection in a part: the last one with no more than the rank before it, which counts from the part.
+/// The last part with no more than `rank` of the kind before it, and how many of them are left there, where the tables
+/// are those of the words; else some part. In wrong tables the difference may wrap: no record has a bit of such a rank.
+///
+/// # Conditions
+/// There is a part. Nothing is asked of what the tables hold.
 #[inline(always)]
-fn select_in_part<const ONE: u8, T: TableSource>(
-    source: &mut T,
-    part: usize,
-    rank: usize,
-) -> Option<usize>
-    requires tables { HasTables (T.lists source.old) }
-    requires short { IsShort (T.lists source.old).words }
-    requires part { let m = sought_in ONE (T.lists source.old).words in
-        IsLastPart m (length (T.lists source.old).upper)
-        (ones_before m (part * 2 ^ 32) + rank) part }
-    ensures answer { let m = sought_in ONE (T.lists source.old).words in
-        IsSelect (bits_of (T.lists source.old).words) (kind ONE)
-        (ones_before m (part * 2 ^ 32) + rank) result }
-    ensures reads { ReadsAtMost (T.reads source.old) (T.reads source.new) 0 23 8 }
+pub fn part_of_rank<const ONE: u8, T: TableSource>(source: &mut T, rank: usize) -> (usize, usize)
+    requires { 0 < length (T.lists source.old).upper }
+    ensures inside { result.0 < length (T.lists source.old).upper }
+    ensures part { IsIndexed (T.lists source.old) → IsPartOf ONE (T.lists source.old) rank result.0 result.1 }
+    ensures reads { ReadsAtMost (T.reads source.old) (T.reads source.new)
+        (digit_count (length (T.lists source.old).upper) + 1) 0 0 }
     ensures same { T.lists source.new ≡ T.lists source.old }
 {
-    let (entry, packed) = last_entry::<ONE, T>(source, part, rank);
-    select_in_entry::<ONE, T>(source, part, entry, packed, rank)
-}
-
-/// Selection in entry `entry` of a part, which packs `packed`: the last one with no more than `rank` of the kind
-/// before it in the part.
-#[inline(always)]
-pub(crate) fn select_in_entry<const ONE: u8, T: TableSource>(
-    source: &mut T,
-    part: usize,
-    entry: usize,
-    packed: u64,
-    rank: usize,
-) -> Option<usize>
-    requires tables { HasTables (T.lists source.old) }
-    requires short { IsShort (T.lists source.old).words }
-    requires part { let m = sought_in ONE (T.lists source.old).words in
-        IsLastPart m (length (T.lists source.old).upper)
-        (ones_before m (part * 2 ^ 32) + rank) part }
-    requires entry { IsLastEntry (sought_in ONE (T.lists source.old).words)
-        (length (T.lists source.old).lower) part rank entry }
-    requires packed { packed
-        ≡ lower_entry (sought_in ONE (T.lists source.old).words) (entry_in part entry) }
-    ensures answer { let m = sought_in ONE (T.lists source.old).words in
-        IsSelect (bits_of (T.lists source.old).words) (kind ONE)
-        (ones_before m (part * 2 ^ 32) + rank) result }
-    ensures inside { IfSome result (λ p. p / 2048 ≡ entry_in part entry) }
-    ensures reads { ReadsAtMost (T.reads source.old) (T.reads source.new) 0 0 8 }
-    ensures same { T.lists source.new ≡ T.lists source.old }
-{
-    let at = part * L2_ENTRIES_PER_L1_ENTRY + entry;
-    let in_entry = rank - ones_to_entry(packed);
-    let (place, before) = record_of(packed, in_entry);
-    let first = at * U64_PER_L2_ENTRY + place * U64_PER_L2_RECORDS;
-    select_in_record::<ONE, T>(source, first, in_entry - before)
+    let part = last_part::<ONE, T>(source, rank);
+    let before = before_part::<ONE, T>(source, part);
+    (part, rank.wrapping_sub(before))
 }
 
 /// 1 where more than `rank` were counted, else 0.
@@ -198,16 +203,14 @@ fn is_above(count: usize, rank: usize) -> usize
 /// The record of an entry that has the one with this rank, and the ones of the entry before that record: by three
 /// comparisons, and no branch.
 ///
-/// # Conditions
-/// The entry's counts do not fall from record to record, as in each entry of a lower table.
+/// Where the entry's counts fall from record to record, as in no entry of a right table, it is some record of it.
 #[inline(always)]
 pub fn record_of(entry: u64, rank: usize) -> (usize, usize)
-    requires second { field_1 entry ≤ field_2 entry }
-    requires third { field_2 entry ≤ field_3 entry }
     ensures inside { result.0 < 4 }
     ensures before { result.1 ≡ record_field entry result.0 }
-    ensures at_most { result.1 ≤ rank }
-    ensures next { result.0 < 3 → rank < record_field entry (result.0 + 1) }
+    ensures at_most { field_1 entry ≤ field_2 entry → field_2 entry ≤ field_3 entry → result.1 ≤ rank }
+    ensures next { field_1 entry ≤ field_2 entry → field_2 entry ≤ field_3 entry
+        → result.0 < 3 → rank < record_field entry (result.0 + 1) }
 {
     let one = (entry >> 54) as usize;
     let two = (entry >> 43 & 0x7FF) as usize;
@@ -245,80 +248,9 @@ pub fn sought_word<const ONE: u8, T: TableSource>(source: &mut T, at: usize) -> 
     if ONE == 0 { !word } else { word }
 }
 
-/// The word that has the one with this rank, among the eight words from `first` on, which have it: its place, what it
-/// is and the rank that is left in it.
-///
-/// Each of the first seven words has a test of its own, since their number is fixed, and the eighth needs none.
-#[inline(always)]
-fn word_of_rank<const ONE: u8, T: TableSource>(
-    source: &mut T,
-    first: usize,
-    rank: usize,
-) -> (usize, u64, usize)
-    requires whole { first + 8 ≤ length (T.lists source.old).words }
-    requires fits { first < 2 ^ 60 }
-    requires next { let m = sought_in ONE (T.lists source.old).words in
-        ones_before m (64 * first) + rank < ones_before m (64 * (first + 8)) }
-    ensures from { first ≤ result.0 }
-    ensures to { result.0 < first + 8 }
-    ensures word { IsWord (sought_in ONE (T.lists source.old).words) result.0 result.1 }
-    ensures rest { let m = sought_in ONE (T.lists source.old).words in
-        ones_before m (64 * first) + rank ≡ ones_before m (64 * result.0) + result.2 }
-    ensures has { result.2 < count_ones result.1 }
-    ensures reads { ReadsAtMost (T.reads source.old) (T.reads source.new) 0 0 8 }
-    ensures same { T.lists source.new ≡ T.lists source.old }
-{
-    let mut rest = rank;
-    for k in 0..7 {
-        let word = sought_word::<ONE, T>(source, first + k);
-        let count = word.count_ones() as usize;
-        if rest < count {
-            return (first + k, word, rest);
-        }
-        rest -= count;
-    }
-    let last = sought_word::<ONE, T>(source, first + 7);
-    (first + 7, last, rest)
-}
-
-/// Selection among the eight words from `first` on, of which some may miss; the rank counts from there.
-#[inline(always)]
-pub(crate) fn select_in_record<const ONE: u8, T: TableSource>(
-    source: &mut T,
-    first: usize,
-    rank: usize,
-) -> Option<usize>
-    requires short { IsShort (T.lists source.old).words }
-    requires first { first < 2 ^ 60 }
-    requires next { let m = sought_in ONE (T.lists source.old).words in
-        first + 8 < length (T.lists source.old).words
-        → ones_before m (64 * first) + rank < ones_before m (64 * (first + 8)) }
-    ensures answer { let m = sought_in ONE (T.lists source.old).words in
-        IsSelect (bits_of (T.lists source.old).words) (kind ONE)
-        (ones_before m (64 * first) + rank) result }
-    ensures inside { IfSome result (λ p. (64 * first ≤ p) × (p < 64 * (first + 8))) }
-    ensures reads { ReadsAtMost (T.reads source.old) (T.reads source.new) 0 0 8 }
-    ensures same { T.lists source.new ≡ T.lists source.old }
-{
-    if first + U64_PER_L2_RECORDS < source.words_len() {
-        let (at, word, rest) = word_of_rank::<ONE, T>(source, first, rank);
-        return Some(at * 64 + select_in_word(word, rest));
-    }
-    let mut rest = rank;
-    for at in first..source.words_len().min(first + U64_PER_L2_RECORDS) {
-        let word = sought_word::<ONE, T>(source, at);
-        let count = word.count_ones() as usize;
-        if rest < count {
-            return Some(at * 64 + select_in_word(word, rest));
-        }
-        rest -= count;
-    }
-    None
-}
-
 /// Selection among `count` words from `first` on; the rank counts from there.
 #[inline(always)]
-fn among<const ONE: u8, T: TableSource>(
+pub(crate) fn among<const ONE: u8, T: TableSource>(
     source: &mut T,
     first: usize,
     count: usize,
@@ -332,7 +264,8 @@ fn among<const ONE: u8, T: TableSource>(
         MatchOption result
         (ones_before m (64 * (first + count)) ≤ ones_before m (64 * first) + rank)
         (Picks (bits_in (T.lists source.old)) (kind ONE) (ones_before m (64 * first) + rank)) }
-    ensures reads { ReadsAtMost (T.reads source.old) (T.reads source.new) 0 0 8 }
+    ensures inside { IfSome result (λ p. (64 * first ≤ p) × (p < 64 * (first + count))) }
+    ensures reads { ReadsAtMost (T.reads source.old) (T.reads source.new) 0 0 count }
     ensures same { T.lists source.new ≡ T.lists source.old }
 {
     let mut rest = rank;
@@ -354,6 +287,7 @@ fn in_record<const ONE: u8, T: TableSource>(source: &mut T, first: usize, rank: 
     requires first { first < 2 ^ 60 }
     ensures answer { IsSelectedFrom (T.lists source.old).words (kind ONE) first
         (ones_before (sought_in ONE (T.lists source.old).words) (64 * first) + rank) result }
+    ensures inside { IsFoundFrom (64 * first) (64 * (first + 8)) result }
     ensures reads { ReadsAtMost (T.reads source.old) (T.reads source.new) 0 0 8 }
     ensures same { T.lists source.new ≡ T.lists source.old }
 {
@@ -371,19 +305,10 @@ fn in_record<const ONE: u8, T: TableSource>(source: &mut T, first: usize, rank: 
     }
 }
 
-/// Whether the counts of an entry do not fall from record to record, as those of a right one.
-#[inline(always)]
-fn fields_rise(entry: u64) -> bool
-    ensures { IsTrue result ↔ (field_1 entry ≤ field_2 entry) × (field_2 entry ≤ field_3 entry) }
-{
-    let two = ones_to_record(entry, 2);
-    ones_to_record(entry, 1) <= two && two <= ones_to_record(entry, 3)
-}
-
 /// Selection in entry `entry` of a part, which packs `packed`: the last one with no more than `rank` of the kind
-/// before it in the part, if the tables are right.
+/// before it in the part, if the tables are right. `TESTS` as in `search_on`.
 #[inline(always)]
-pub fn in_packed<const ONE: u8, T: TableSource>(
+pub fn in_packed<const ONE: u8, const TESTS: u8, T: TableSource>(
     source: &mut T,
     part: usize,
     entry: usize,
@@ -406,19 +331,17 @@ pub fn in_packed<const ONE: u8, T: TableSource>(
         let m = sought_in ONE (T.lists source.old).words in
         IsSelected (bits_in (T.lists source.old)) (kind ONE)
         (ones_before m (part * 2 ^ 32) + rank) result }
+    ensures inside { IsFoundFrom (2048 * entry_in part entry) (2048 * (entry_in part entry + 1)) result }
     ensures reads { ReadsAtMost (T.reads source.old) (T.reads source.new) 0 0 8 }
     ensures same { T.lists source.new ≡ T.lists source.old }
 {
-    let before = ones_to_entry(packed);
-    if before > rank {
-        return Selected::WrongTables;
-    }
-    if !fields_rise(packed) {
-        return Selected::WrongTables;
-    }
-    let in_entry = rank - before;
-    let (place, before_record) = record_of(packed, in_entry);
+    let in_entry = rank.wrapping_sub(ones_to_entry(packed));
+    let (place, before) = record_of(packed, in_entry);
     let at = part * L2_ENTRIES_PER_L1_ENTRY + entry;
     let first = at * U64_PER_L2_ENTRY + place * U64_PER_L2_RECORDS;
-    in_record::<ONE, T>(source, first, in_entry - before_record)
+    let left = in_entry.wrapping_sub(before);
+    if TESTS != 0 && left > rank {
+        return Selected::WrongTables;
+    }
+    in_record::<ONE, T>(source, first, left)
 }

@@ -1,7 +1,8 @@
 use Rattle.std.proofs.Common.{◌≡◌, ℕ, ◌+◌, ◌-◌, ◌*◌, ◌<◌, ◌≤◌, length, slice_index}
-use Rattle.bitm_bits.specs.Bits.{bits_of, digit_count}
-use Rattle.bitm_bits.specs.Count.{kind, Picks}
-use Rattle.bitm.proofs.search.many.select_many_on.Given as goal
+use Rattle.bitm_bits.specs.Bits.{digit_count}
+use Rattle.bitm_bits.specs.Count.{kind}
+use Rattle.bitm.specs.Answers.{SelectTold}
+use Rattle.bitm.proofs.search.many.total_select_many_on.Given as goal
 
 -- the answers so far, and the reads of each
 abbrev pub invariant-loop-from : goal.invariant-loop-from
@@ -11,7 +12,7 @@ invariant-loop-from g l =
     record {
       inside : l.from ≤ length l.ranks;
       long : length l.ranks ≡ length l.places;
-      answered : (j : ℕ) → j < l.from → Picks (bits_of lists.words) (kind g.row.ONE) (slice_index l.ranks j) (slice_index l.places j);
+      answered : (j : ℕ) → j < l.from → SelectTold (kind g.row.ONE) lists (slice_index l.ranks j) (slice_index l.places j);
       upper : (T.reads l.source).upper ≤ (T.reads l.fn.source).upper + l.from * (digit_count (length lists.upper) + 1);
       lower : (T.reads l.source).lower ≤ (T.reads l.fn.source).lower + 22 * l.from;
       words : (T.reads l.source).words ≤ (T.reads l.fn.source).words + 8 * l.from;
