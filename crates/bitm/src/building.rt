@@ -6,7 +6,8 @@ pub use crate::entry::{entries_of_part, ones_to_entry, ones_to_record};
 pub use crate::search::entries::{EntryRange, last_entry, last_in_range, sought_entry};
 pub use crate::search::ranking::{ones_in_record, ones_to_part};
 pub use crate::search::selecting::{
-    before_part, in_packed, last_part, part_of_rank, record_of, select_in_word, sought_word, told,
+    before_part, in_packed, last_part, part_of_rank, record_of, search_on, select_in_word,
+    sought_word, told,
 };
 pub use crate::strategies::sampled::first_entry;
 pub use crate::strategies::samples::{Summary, items_in, sample_from};

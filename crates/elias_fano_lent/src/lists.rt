@@ -3,9 +3,9 @@ ghost use Rattle.std.specs.Prelude.{◌≡◌, ◌<◌, ◌↔◌, ℕ, IsTrue, 
 ghost use Rattle.elias_fano_lent.specs.Held.{Holds};
 ghost use Rattle.elias_fano_lent.specs.Lists.{written, AreItems, IsKeptFrom, IsListed, IsNeverWrong, PlaceTold};
 
-use crate::answer::Sought;
 use crate::sequence::LentSequence;
 use bitm_lent::{NO_ANSWER, WRONG_TABLES};
+use elias_fano::Sought;
 
 /// How far a list of places was answered.
 #[derive(Clone, Copy, PartialEq, Eq, Debug)]

@@ -3,10 +3,9 @@ ghost use Rattle.std.specs.Prelude.{◌≡◌, ◌^◌, ◌<◌, ◌↔◌, ℕ,
 ghost use Rattle.elias_fano_lent.specs.Answers.{IsFirst, IsItem, IsOfPlace, IsPlaceOf};
 ghost use Rattle.elias_fano_lent.specs.Held.{held, HasLengths, Holds};
 
-use crate::answer::Sought;
-use crate::asking::{total_first_at_least_on, total_item_on};
 use crate::checking::are_parts;
 use bitm_lent::Lent;
+use elias_fano::{Sought, total_first_at_least_on, total_item_on};
 use std::marker::Model;
 
 /// The parts of a sequence, all lent, of which the lengths are right.

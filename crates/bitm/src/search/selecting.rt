@@ -74,8 +74,13 @@ pub fn binary_select_on<const ONE: u8, T: TableSource>(source: &mut T, rank: usi
 
 /// What `total_select_on` answers. Where `TESTS` is 0 no test looks for a difference that wrapped: a rank that did is
 /// in no record, so the words decide, and `Absent` may be answered in place of `WrongTables`.
+///
+/// # Conditions
+/// Those of `total_select_on`.
+/// # Cost
+/// That of `total_select_on`.
 #[inline(always)]
-fn search_on<const ONE: u8, const TESTS: u8, T: TableSource>(
+pub fn search_on<const ONE: u8, const TESTS: u8, T: TableSource>(
     source: &mut T,
     rank: usize,
 ) -> Selected

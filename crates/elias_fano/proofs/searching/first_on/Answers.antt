@@ -7,9 +7,9 @@ use Rattle.bitm_bits.specs.Number.{number_at}
 use Rattle.elias_fano.proofs.lemmas.BucketLemmas.{IsBucket, bucket-reaches, bucket-none, bucket-order, fragments-rise}
 use Rattle.elias_fano.specs.Buckets.{CountsTo, LowsRise, Splits}
 use Rattle.elias_fano.specs.Parts.{IsUpper}
-use Rattle.elias_fano_lent.specs.Held.{held, Holds}
-use Rattle.elias_fano_lent.proofs.asking.total_first_at_least_on.Goals as goal
-use Rattle.elias_fano_lent.proofs.asking.total_first_at_least_on.Goals.{In-Some-count_to, After-split_low-place}
+use Rattle.elias_fano.specs.Held.{held, Holds}
+use Rattle.elias_fano.proofs.searching.first_on.Goals as goal
+use Rattle.elias_fano.proofs.searching.first_on.Goals.{In-Some-count_to, After-split_low-place}
 
 -- the source's lists are the same after the first selection
 ends : (g : _) (c : In-Some-count_to g) (xs : List ℕ)

@@ -2,8 +2,8 @@
 use Rattle.std.specs.Prelude.{◌≡◌, ⊤, ℕ, ◌<◌, ◌≤◌, List, length, slice_index}
 use Rattle.std.specs.List.{All}
 use Rattle.elias_fano.specs.Sequence.{Reaches}
-use Rattle.elias_fano_lent.specs.declared.answer.Sought.{Sought}
-use Rattle.elias_fano_lent.specs.declared.answer.Sought.TheVariants.{Found, Absent, WrongParts}
+use Rattle.elias_fano.specs.declared.answer.Sought.{Sought}
+use Rattle.elias_fano.specs.declared.answer.Sought.TheVariants.{Found, Absent, WrongParts}
 
 -- Absent exactly where item i of n is none
 abbrev pub IsOfPlace : ℕ → ℕ → Sought ℕ → Type 0
