@@ -160,7 +160,8 @@ uint32_t bitm_sampled_select(const struct bitm_view *view, const struct bitm_sam
 uint32_t bitm_sampled_select0(const struct bitm_view *view, const struct bitm_samples *samples, size_t rank,
                               uint64_t *out);
 
-/* out[i] answers queries[i] as the call of one query does; else as the lists of queries above. */
+/* out[i] answers queries[i] as the call of one query does where tables and samples are those of the words; with other
+ * samples and right tables it is what bitm_select_list writes. Else as the lists of queries above. */
 uint32_t bitm_sampled_select_list(const struct bitm_view *view, const struct bitm_samples *samples,
                                   const uint64_t *queries, size_t queries_len, uint64_t *out, size_t out_len);
 uint32_t bitm_sampled_select0_list(const struct bitm_view *view, const struct bitm_samples *samples,

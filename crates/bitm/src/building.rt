@@ -4,6 +4,7 @@
 
 pub use crate::entry::{entries_of_part, ones_to_entry, ones_to_record};
 pub use crate::search::entries::{EntryRange, last_entry, last_in_range, sought_entry};
+pub use crate::search::many::{SIDE_BY_SIDE, tell_entries};
 pub use crate::search::ranking::{ones_in_record, ones_to_part};
 pub use crate::search::selecting::{
     before_part, in_packed, last_part, part_of_rank, record_of, search_on, select_in_word,

@@ -24,6 +24,7 @@ mod lists;
 mod places;
 mod sampled;
 mod sampled_lists;
+mod sampled_many;
 mod samples;
 mod sampling;
 
@@ -32,4 +33,5 @@ pub use filling::build;
 pub use lent::{Lent, lower_len, upper_len};
 pub use places::ones_from;
 pub use sampled::sampled_select_on;
+pub use sampled_many::sampled_select_many_on;
 pub use samples::{LentSamples, samples_len};

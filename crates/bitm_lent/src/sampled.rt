@@ -190,6 +190,37 @@ fn entry_between<const ONE: u8, T: TableSource>(
     Some(last_in_range::<ONE, T>(source, part, range, rank))
 }
 
+/// The last entry of a part with no more than `rank` of the kind before it in the part, where the tables are those of
+/// the words, and what it packs; `None` only where it is not where the samples say.
+#[inline(always)]
+pub(crate) fn sampled_entry<const ONE: u8, T: TableSource>(
+    source: &mut T,
+    lent: &LentSamples<'_>,
+    part: usize,
+    rank: usize,
+) -> Option<(usize, u64)>
+    requires sized { HasSizes (T.lists source.old) }
+    requires inside { part < length (T.lists source.old).upper }
+    ensures inside { IfSome result
+        (λ r. r.0 < entries_from (length (T.lists source.old).lower) part) }
+    ensures last { IfSome result (λ r. HasTables (T.lists source.old)
+        → IsLastEntry (sought_in ONE (T.lists source.old).words)
+        (length (T.lists source.old).lower) part rank r.0) }
+    ensures entry { IfSome result (λ r. HasTables (T.lists source.old) → r.1
+        ≡ lower_entry (sought_in ONE (T.lists source.old).words) (entry_in part r.0)) }
+    ensures found { HasTables (T.lists source.old)
+        → AreSamplesOf (bits_in (T.lists source.old)) (kind ONE) lent.now
+        → IsNone result → ⊥ }
+    ensures reads { ReadsAtMost (T.reads source.old) (T.reads source.new) 0 23 0 }
+    ensures same { T.lists source.new ≡ T.lists source.old }
+{
+    let entries = entries_of_part(source.lower_len(), part);
+    let Some((low, end)) = bounds(lent, part, entries, rank) else {
+        return None;
+    };
+    entry_between::<ONE, T>(source, part, low, end, rank)
+}
+
 /// Selection in a part by samples: the last entry with no more than `rank` of the kind before it in the part, and the
 /// bit in it.
 #[inline(always)]
@@ -218,11 +249,7 @@ fn sampled_in_part<const ONE: u8, T: TableSource>(
     ensures reads { ReadsAtMost (T.reads source.old) (T.reads source.new) 0 23 8 }
     ensures same { T.lists source.new ≡ T.lists source.old }
 {
-    let entries = entries_of_part(source.lower_len(), part);
-    let Some((low, end)) = bounds(lent, part, entries, rank) else {
-        return Selected::WrongTables;
-    };
-    match entry_between::<ONE, T>(source, part, low, end, rank) {
+    match sampled_entry::<ONE, T>(source, lent, part, rank) {
         Some((entry, packed)) => in_packed::<ONE, 1, T>(source, part, entry, packed, rank),
         None => Selected::WrongTables,
     }

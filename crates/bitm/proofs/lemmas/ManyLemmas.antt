@@ -1,7 +1,7 @@
 -- Many queries at once: a search by powers of two, and the record that it ends at.
 use Rattle.std.proofs.Common.{◌≡◌, ◌≢◌, ℕ, ◌+◌, ◌-◌, ◌*◌, ◌^◌, ◌<◌, ◌≤◌, List, ◌++◌, take, drop, length, slice_index, slice_set, subst, sym, ap, ◌∙◌, arith, rules, inl, inr}
 use Rattle.std.proofs.lemmas.Bool.{cases_lt}
-use Rattle.std.proofs.lemmas.List.{get_or-set_same, get_or-set_other, length-append, length-take, length-drop, places}
+use Rattle.std.proofs.lemmas.List.{get_or-set_same, get_or-set_other, get_or-take, get_or-drop, length-append, length-take, length-drop, places}
 use Rattle.std.proofs.Math.Pow.{pow_mono}
 use Rattle.std.proofs.lemmas.Nat.{pow-add}
 use Rattle.bitm_bits.specs.Bits.{bits_of, IsShort}
@@ -109,6 +109,23 @@ near_enough one lists rank rest at size near most enough =
 pub near_ends : (one : ℕ) (lists : Lists) (rank rest at : ℕ) → (near : IsNear one lists rank rest at 0)
     → IsLastEntry (sought_in one lists.words) (length lists.lower) near.part rest near.low
 near_ends one lists rank rest at near = record { inside = near.inside; at_most = near.at_most; next = near.next }
+
+-- a search that finds the last entry of the part ends there
+pub near_found : (one : ℕ) (lists : Lists) (rank rest part low : ℕ) → IsPartOf one lists rank part rest
+    → IsLastEntry (sought_in one lists.words) (length lists.lower) part rest low
+    → IsNear one lists rank rest (part * 2 ^ 21 + low) 0
+near_found one lists rank rest part low is last =
+    record {
+      part = part;
+      low = low;
+      place = omega arith;
+      last = subst (λ (n : ℕ). IsLastPart (sought_in one lists.words) (length lists.upper) n part) is.total is.last;
+      total = sym is.total;
+      inside = last.inside;
+      at_most = last.at_most;
+      next = last.next;
+      room = omega (arith, last.inside);
+    }
 
 -- the entry that the search ends at is one of few
 pub near_few : (one : ℕ) (lists : Lists) (rank rest at : ℕ) → HasTables lists → IsShort lists.words → IsNear one lists rank rest at 0
@@ -227,6 +244,35 @@ put_long a n xs ys inside long =
       length-drop (a + n - a) (drop a xs),
       length-drop a xs,
     )
+
+-- a part of a list has so many items
+pub part_long : (xs : List ℕ) (a n : ℕ) → a + n ≤ length xs → length (take (a + n - a) (drop a xs)) ≡ n
+part_long xs a n h = omega (arith, length-take (a + n - a) (drop a xs), length-drop a xs)
+
+-- an item of a part
+part_item : (xs : List ℕ) (a n j : ℕ) → j < n → slice_index (take (a + n - a) (drop a xs)) j ≡ slice_index xs (a + j)
+part_item xs a n j h = get_or-take (a + n - a) (drop a xs) j 0 (omega arith) ∙ get_or-drop a xs j 0
+
+-- what is written at once are the answers of a part, after those that stand
+pub answers_follow : (P : ℕ → ℕ → Type 0) (from n : ℕ) (ranks places new : List ℕ) → from + n ≤ length places → length new ≡ n
+    → ((j : ℕ) → j < from → P (slice_index ranks j) (slice_index places j))
+    → ((j : ℕ) → j < n → P (slice_index (take (from + n - from) (drop from ranks)) j) (slice_index new j))
+    → (j : ℕ) → j < from + n → P (slice_index ranks j) (slice_index (put_mid from (from + n - from) places new) j)
+answers_follow P from n ranks places new inside long old added j h =
+    let after = put_mid from (from + n - from) places new in
+    elim (cases_lt j from) [
+      | inl below ↦
+          subst (P (slice_index ranks j)) (sym (put_below from (from + n - from) places new j below (omega (arith, inside)))) (old j below)
+      | inr over ↦
+          let at : from + (j - from) ≡ j = omega (arith, over) in
+          let k : j - from < n = omega (arith, over, h) in
+          let there : slice_index after j ≡ slice_index new (j - from) =
+          ap (slice_index after) (sym at)
+          ∙ put_inside from (from + n - from) places new (j - from) (omega (arith, k, long)) (omega (arith, inside)) in
+          let rank : slice_index (take (from + n - from) (drop from ranks)) (j - from) ≡ slice_index ranks j =
+          part_item ranks from n (j - from) k ∙ ap (slice_index ranks) at in
+          subst (P (slice_index ranks j)) (sym there) (subst (λ (r : ℕ). P r (slice_index new (j - from))) rank (added (j - from) k))
+    ]
 
 -- a content that has an item of the kind has a part
 pub some_part : (one : ℕ) (lists : Lists) (rank : ℕ) → HasTables lists → rank < count_of (bits_of lists.words) (kind one)

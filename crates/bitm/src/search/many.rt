@@ -13,12 +13,12 @@ use crate::levels::{L2_ENTRIES_PER_L1_ENTRY, U64_PER_L2_ENTRY, U64_PER_L2_RECORD
 use crate::search::entries::sought_entry;
 use crate::search::ranking::rank_on;
 use crate::search::selecting::{
-    Selected, among, part_of_rank, record_of, select_in_word, sought_word, told,
+    Selected, among, is_at_most, part_of_rank, record_of, select_in_word, sought_word, told,
 };
 use crate::source::TableSource;
 
 /// So many selections are under way side by side: more than a processor waits for at once.
-const SIDE_BY_SIDE: usize = 16;
+pub const SIDE_BY_SIDE: usize = 16;
 
 /// For each index how many of the first so many bits of the source's words are ones.
 ///
@@ -57,15 +57,6 @@ fn begin<const ONE: u8, T: TableSource>(source: &mut T, rank: usize) -> (usize, 
 {
     let (part, rest) = part_of_rank::<ONE, T>(source, rank);
     (part * L2_ENTRIES_PER_L1_ENTRY, rest)
-}
-
-/// 1 where no more than `rank` were counted, else 0.
-#[inline(always)]
-fn is_at_most(count: usize, rank: usize) -> usize
-    ensures yes { count ≤ rank → result ≡ 1 }
-    ensures no { rank < count → result ≡ 0 }
-{
-    (count <= rank) as usize
 }
 
 /// The entry 2^`size` after `entry`, where no more than `rest` of the kind stand before it in the part, else `entry`.
@@ -263,6 +254,32 @@ fn halvings(entries: usize) -> u32
     size
 }
 
+/// What is told of selections whose entries are found: `places` has the entry of each, and then what is told.
+///
+/// # Conditions
+/// There are no more ranks than go side by side; `rests` has how many are left of each in the part of its entry.
+/// # Cost
+/// For each rank one lower entry and at most eight words are read.
+#[inline(always)]
+pub fn tell_entries<const ONE: u8, T: TableSource>(
+    source: &mut T,
+    ranks: &[usize],
+    rests: &mut [usize],
+    places: &mut [usize],
+)
+    requires sized { HasSizes (T.lists source.old) }
+    requires few { length ranks.now ≤ 16 }
+    requires searches { AreSearches ONE (T.lists source.old) ranks.now rests.old places.old 0 }
+    ensures told { ToldEach (kind ONE) (T.lists source.old) ranks.now places.new }
+    ensures reads { ReadsAtMost (T.reads source.old) (T.reads source.new)
+        0 (length ranks.now) (8 * length ranks.now) }
+    ensures same { T.lists source.new ≡ T.lists source.old }
+{
+    let mut words = [0; SIDE_BY_SIDE];
+    load_each::<ONE, T>(source, ranks, rests, places, &mut words);
+    finish_each::<ONE, T>(source, ranks, rests, places, &words);
+}
+
 /// Selections of no more ranks than go side by side.
 fn select_block<const ONE: u8, T: TableSource>(
     source: &mut T,
@@ -286,9 +303,7 @@ fn select_block<const ONE: u8, T: TableSource>(
         size -= 1;
         halve_each::<ONE, T>(source, ranks, &rests, places, size);
     }
-    let mut words = [0; SIDE_BY_SIDE];
-    load_each::<ONE, T>(source, ranks, &mut rests, places, &mut words);
-    finish_each::<ONE, T>(source, ranks, &rests, places, &words);
+    tell_entries::<ONE, T>(source, ranks, &mut rests, places);
 }
 
 /// For each rank the place of the one of the source's words with so many ones before it, or `NO_ANSWER`; zeros in place

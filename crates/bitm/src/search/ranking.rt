@@ -6,7 +6,9 @@ ghost use Rattle.bitm.specs.Reads.{OnlyReads, ReadsAtMost};
 ghost use Rattle.bitm.specs.Tables.{HasSizes, HasTables, IsIndexed, bits_in};
 
 use crate::entry::{ones_to_entry, ones_to_record};
-use crate::levels::U64_PER_L2_RECORDS;
+use crate::levels::{
+    BITS_PER_L2_ENTRY, RECORD_BITS, RECORDS_PER_L2_ENTRY, U64_PER_L1_ENTRY, U64_PER_L2_RECORDS,
+};
 use crate::source::TableSource;
 use crate::word::ones_through;
 
@@ -14,26 +16,11 @@ use crate::word::ones_through;
 /// by side if each takes no more instructions than it needs.
 const WORDS_IN_CACHE: usize = 1 << 19;
 
-/// So many words are one part.
-const WORDS_PER_PART: usize = 1 << 26;
+/// A word of ones.
+const ALL: u64 = u64::MAX;
 
 /// Seven words of ones and seven of zeros: the seven from `7 - n` on keep the first `n` of seven words.
-const KEPT: [u64; 14] = [
-    u64::MAX,
-    u64::MAX,
-    u64::MAX,
-    u64::MAX,
-    u64::MAX,
-    u64::MAX,
-    u64::MAX,
-    0,
-    0,
-    0,
-    0,
-    0,
-    0,
-    0,
-];
+const KEPT: [u64; 14] = [ALL, ALL, ALL, ALL, ALL, ALL, ALL, 0, 0, 0, 0, 0, 0, 0];
 
 /// How many ones of a word are kept by number `at` of `KEPT`: all for the first seven, else none.
 #[inline(always)]
@@ -132,7 +119,7 @@ pub fn ones_to_part<T: TableSource>(source: &mut T, part: usize) -> usize
     ensures reads { ReadsAtMost (T.reads source.old) (T.reads source.new) 1 0 0 }
     ensures same { T.lists source.new ≡ T.lists source.old }
 {
-    if source.words_len() <= WORDS_PER_PART {
+    if source.words_len() <= U64_PER_L1_ENTRY {
         0
     } else {
         source.upper(part)
@@ -179,11 +166,12 @@ pub fn total_rank_on<T: TableSource>(source: &mut T, index: usize) -> Option<usi
     if last / 64 >= source.words_len() {
         return if index == 0 { Some(0) } else { None };
     }
+    let record = last / RECORD_BITS;
     // The words first: then nothing of the entry is held in registers while they are counted.
-    let in_record = ones_in_record(source, last / 512 * 8, last / 64);
+    let in_record = ones_in_record(source, record * U64_PER_L2_RECORDS, last / 64);
     let in_word = ones_through(source.word(last / 64), last % 64) as usize;
-    let entry = source.lower(last / 2048);
-    let to_record = ones_to_entry(entry) + ones_to_record(entry, last / 512 % 4);
+    let entry = source.lower(last / BITS_PER_L2_ENTRY);
+    let to_record = ones_to_entry(entry) + ones_to_record(entry, record % RECORDS_PER_L2_ENTRY);
     let to_part = ones_to_part(source, last >> 32);
     Some(to_part.wrapping_add(to_record + in_record + in_word))
 }

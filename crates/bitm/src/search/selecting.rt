@@ -196,13 +196,13 @@ pub fn part_of_rank<const ONE: u8, T: TableSource>(source: &mut T, rank: usize) 
     (part, rank.wrapping_sub(before))
 }
 
-/// 1 where more than `rank` were counted, else 0.
+/// 1 where no more than `rank` were counted, else 0.
 #[inline(always)]
-fn is_above(count: usize, rank: usize) -> usize
-    ensures yes { rank < count → result ≡ 1 }
-    ensures no { count ≤ rank → result ≡ 0 }
+pub(crate) fn is_at_most(count: usize, rank: usize) -> usize
+    ensures yes { count ≤ rank → result ≡ 1 }
+    ensures no { rank < count → result ≡ 0 }
 {
-    (rank < count) as usize
+    (count <= rank) as usize
 }
 
 /// The record of an entry that has the one with this rank, and the ones of the entry before that record: by three
@@ -220,8 +220,8 @@ pub fn record_of(entry: u64, rank: usize) -> (usize, usize)
     let one = (entry >> 54) as usize;
     let two = (entry >> 43 & 0x7FF) as usize;
     let three = (entry >> 32 & 0x7FF) as usize;
-    let after = is_above(one, rank) + is_above(two, rank) + is_above(three, rank);
-    (3 - after, ones_to_record(entry, 3 - after))
+    let place = is_at_most(one, rank) + is_at_most(two, rank) + is_at_most(three, rank);
+    (place, ones_to_record(entry, place))
 }
 
 /// The place of the one in a word with so many ones before it.

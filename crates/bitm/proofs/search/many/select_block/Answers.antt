@@ -45,6 +45,6 @@ loop-size-init g c =
 pub returns-clause-told : goal.returns-clause-told
 returns-clause-told g c k h =
     let ranks = c.args.ranks.now in
-    let places = c.finish_each.new.places in
+    let places = c.tell_entries.new.places in
     subst (λ (l : Lists). SelectTold (kind g.row.ONE) l (slice_index ranks k) (slice_index places k))
-    (c.load_each.ensures.same ∙ c.loop-size.invariant.same) (c.finish_each.ensures.told k h)
+    c.loop-size.invariant.same (c.tell_entries.ensures.told k h)

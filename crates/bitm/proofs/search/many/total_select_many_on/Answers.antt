@@ -1,46 +1,14 @@
 -- The answers of each block are those of its ranks, and the others stay.
-use Rattle.std.proofs.Common.{◌≡◌, ℕ, ◌+◌, ◌-◌, ◌*◌, ◌<◌, ◌≤◌, length, slice_index, List, take, drop, sym, ap, ◌∙◌, subst, arith, inl, inr}
-use Rattle.std.proofs.lemmas.Bool.{cases_lt}
-use Rattle.std.proofs.lemmas.List.{get_or-take, get_or-drop, length-take, length-drop}
-use borrow.Rule.Slice.PartMut.{put_mid}
+use Rattle.std.proofs.Common.{◌≡◌, ℕ, ◌+◌, ◌-◌, ◌*◌, ◌≤◌, length, slice_index, take, drop, ap, ◌∙◌, subst, arith}
 use Rattle.bitm_bits.specs.Bits.{digit_count}
 use Rattle.bitm_bits.specs.Count.{kind}
 use Rattle.bitm.specs.Answers.{SelectTold}
 use Rattle.bitm.specs.Tables.{Lists}
-use Rattle.bitm.proofs.lemmas.ManyLemmas.{put_below, put_inside, put_long}
+use Rattle.bitm.proofs.lemmas.ManyLemmas.{answers_follow, part_long, put_long}
 use Rattle.bitm.proofs.search.many.total_select_many_on.Goals as goal
 
 pub select_block-requires-clause-part : goal.select_block-requires-clause-part
 select_block-requires-clause-part g c = omega (arith, ap (λ (l : Lists). length l.upper) c.loop-from.invariant.same, c.requires.part)
-
--- a part of a list has so many items
-part_long : (xs : List ℕ) (a n : ℕ) → a + n ≤ length xs → length (take (a + n - a) (drop a xs)) ≡ n
-part_long xs a n h = omega (arith, length-take (a + n - a) (drop a xs), length-drop a xs)
-
--- an item of a part
-part_item : (xs : List ℕ) (a n j : ℕ) → j < n → slice_index (take (a + n - a) (drop a xs)) j ≡ slice_index xs (a + j)
-part_item xs a n j h = get_or-take (a + n - a) (drop a xs) j 0 (omega arith) ∙ get_or-drop a xs j 0
-
--- what is written at once are the answers of a part, after those that stand
-answers_follow : (P : ℕ → ℕ → Type 0) (from n : ℕ) (ranks places new : List ℕ) → from + n ≤ length places → length new ≡ n
-    → ((j : ℕ) → j < from → P (slice_index ranks j) (slice_index places j))
-    → ((j : ℕ) → j < n → P (slice_index (take (from + n - from) (drop from ranks)) j) (slice_index new j))
-    → (j : ℕ) → j < from + n → P (slice_index ranks j) (slice_index (put_mid from (from + n - from) places new) j)
-answers_follow P from n ranks places new inside long old added j h =
-    let after = put_mid from (from + n - from) places new in
-    elim (cases_lt j from) [
-      | inl below ↦
-          subst (P (slice_index ranks j)) (sym (put_below from (from + n - from) places new j below (omega (arith, inside)))) (old j below)
-      | inr over ↦
-          let at : from + (j - from) ≡ j = omega (arith, over) in
-          let k : j - from < n = omega (arith, over, h) in
-          let there : slice_index after j ≡ slice_index new (j - from) =
-          ap (slice_index after) (sym at)
-          ∙ put_inside from (from + n - from) places new (j - from) (omega (arith, k, long)) (omega (arith, inside)) in
-          let rank : slice_index (take (from + n - from) (drop from ranks)) (j - from) ≡ slice_index ranks j =
-          part_item ranks from n (j - from) k ∙ ap (slice_index ranks) at in
-          subst (P (slice_index ranks j)) (sym there) (subst (λ (r : ℕ). P r (slice_index new (j - from))) rank (added (j - from) k))
-    ]
 
 pub loop-from-preserved : goal.loop-from-preserved
 loop-from-preserved g c =

@@ -1,5 +1,5 @@
 -- Where the samples are those of the words, both entries that are asked agree with them.
-use Rattle.std.proofs.Common.{◌≡◌, ◌+◌, ◌*◌, ◌^◌, ◌≤◌, length, refl, arith}
+use Rattle.std.proofs.Common.{◌≡◌, ◌+◌, ◌*◌, ◌^◌, ◌≤◌, length, arith}
 use Rattle.bitm_bits.specs.Bits.{bits_of}
 use Rattle.bitm_bits.specs.Count.{kind}
 use Rattle.bitm.specs.Entry.{before_in_part}
@@ -7,18 +7,18 @@ use Rattle.bitm.specs.Search.{entries_from, sought_in}
 use Rattle.bitm.proofs.lemmas.PartLemmas.{count_in_part}
 use Rattle.bitm.proofs.lemmas.TableLemmas.{entries}
 use Rattle.bitm_lent.proofs.BoundsLemmas.{part_size}
-use Rattle.bitm_lent.proofs.sampled.sampled_in_part.Goals as goal
+use Rattle.bitm_lent.proofs.sampled.sampled_entry.Goals as goal
 
-pub returns-in_default-clause-answer : goal.returns-in_default-clause-answer
-returns-in_default-clause-answer g c = λ t own.
+pub returns-in_default-clause-found : goal.returns-in_default-clause-found
+returns-in_default-clause-found g c = λ t own none.
     let l = g.T.TableSource.lists c.args.source.now in
     let e = entries _ _ _ t in
     let size = part_size (bits_of l.words) l.upper l.lower e c.args.part c.requires.inside in
     c.in_default.ensures.own (bits_of l.words) (kind g.row.ONE) own (omega (arith, e.upper_length, c.requires.inside))
     (omega (arith, c.entries_of_part-entries.ensures, c.lower_len.ensures, size))
 
-pub returns-in-None-clause-answer : goal.returns-in-None-clause-answer
-returns-in-None-clause-answer g c = λ t own.
+pub returns-clause-found : goal.returns-clause-found
+returns-clause-found g c = λ t own none.
     let l = g.T.TableSource.lists c.args.source.now in
     let b = bits_of l.words in
     let v = kind g.row.ONE in
@@ -31,5 +31,5 @@ returns-in-None-clause-answer g c = λ t own.
     let within = c.in-Some.ensures.within in
     let low : before_in_part m (k * 2 ^ 21 + c.in-Some.low) ≤ c.args.rank =
     omega (arith, h.at_most, count_in_part v b k c.in-Some.low (omega (arith, within, n, size))) in
-    c.in-None.ensures.found t low
-    (λ more. omega (arith, h.above (omega (arith, more, n)), count_in_part v b k c.in-Some.end (omega (arith, more, size)))) refl
+    c.entry_between.ensures.found t low
+    (λ more. omega (arith, h.above (omega (arith, more, n)), count_in_part v b k c.in-Some.end (omega (arith, more, size)))) none
