@@ -4,8 +4,8 @@ use Rattle.bitm_bits.specs.Bits.{bits_of, item}
 use Rattle.bitm_bits.specs.Count.{ones_before, count_before, count_of, Picks}
 use Rattle.bitm.specs.Search.{sought}
 use Rattle.bitm.specs.Tables.{HasTables, Lists, bits_in}
-use Rattle.bitm.specs.declared.search.selecting.Selected.{Selected}
-use Rattle.bitm.specs.declared.search.selecting.Selected.TheVariants.{Found, Absent, WrongTables}
+use Rattle.bitm.specs.declared.search.selected.Selected.{Selected}
+use Rattle.bitm.specs.declared.search.selected.Selected.TheVariants.{Found, Absent, WrongTables}
 
 -- a place that is found is inside, and bit v stands there
 abbrev pub HasBit : List Bool → Bool → Selected → Type 0

@@ -5,8 +5,8 @@ use Rattle.bitm_bits.proofs.lemmas.BitsLemmas.{length-bits_of}
 use Rattle.bitm_bits.specs.Count.{count_of}
 use Rattle.bitm.specs.Answers.{told_in, HasBit, IsSelected, SelectTold}
 use Rattle.bitm.specs.Tables.{HasSizes, HasTables, Lists, bits_in}
-use Rattle.bitm.specs.declared.search.selecting.Selected.{Selected}
-use Rattle.bitm.specs.declared.search.selecting.Selected.TheVariants.{Found, Absent, WrongTables}
+use Rattle.bitm.specs.declared.search.selected.Selected.{Selected}
+use Rattle.bitm.specs.declared.search.selected.Selected.TheVariants.{Found, Absent, WrongTables}
 use Rattle.bitm_lent.specs.Samples.{AreSamplesOf, IsSelectedIfTold, SampledTold}
 use Rattle.bitm_lent.specs.declared.samples.LentSamples.{LentSamples}
 

@@ -170,8 +170,8 @@ pub fn split_low(low: &[u64], width: u8, first: usize, end: usize, rest: u64) ->
     from
 }
 
-/// What `total_first_at_least_on` answers. Where `TESTS` is 0 its selections look for no wrong tables but by the words, as
-/// in `bitm::building::search_on`.
+/// What `total_first_at_least_on` answers. Where `TESTS` is 0 its selections look for no wrong tables but by the words,
+/// as in `bitm::building::search_on`.
 #[inline(always)]
 fn first_on<const TESTS: u8, T: TableSource>(
     source: &mut T,

@@ -11,7 +11,7 @@ use Rattle.bitm.specs.Answers.{told_in, IsSelectedFrom, SelectTold}
 use Rattle.bitm.specs.Many.{IsNear, IsInRecord}
 use Rattle.bitm.specs.Search.{sought_in, IsLastPart, IsLastEntry, IsPartOf, IsWord}
 use Rattle.bitm.specs.Tables.{Lists, HasTables}
-use Rattle.bitm.specs.declared.search.selecting.Selected.{Selected}
+use Rattle.bitm.specs.declared.search.selected.Selected.{Selected}
 use Rattle.bitm.proofs.lemmas.MarkLemmas.{none_in_nothing}
 use Rattle.bitm.proofs.lemmas.LengthLemmas.{few_entries, first_of_part, sizes_of}
 use Rattle.bitm.proofs.lemmas.SelectedLemmas.{has_bit, selected, told_is}

@@ -7,8 +7,8 @@ use Rattle.bitm_bits.specs.Count.{ones_before, count_of, IsSelect}
 use Rattle.bitm.specs.Answers.{place_in, told_in, HasBit, IsFoundFrom, IsSelected, IsSelectedFrom, SelectTold}
 use Rattle.bitm.specs.Search.{sought}
 use Rattle.bitm.specs.Tables.{HasTables, Lists, bits_in}
-use Rattle.bitm.specs.declared.search.selecting.Selected.{Selected}
-use Rattle.bitm.specs.declared.search.selecting.Selected.TheVariants.{Found, Absent, WrongTables}
+use Rattle.bitm.specs.declared.search.selected.Selected.{Selected}
+use Rattle.bitm.specs.declared.search.selected.Selected.TheVariants.{Found, Absent, WrongTables}
 use Rattle.bitm.proofs.lemmas.MarkLemmas.{none_counted}
 
 module _ (words : List ℕ) (v : Bool) (k r : ℕ) where

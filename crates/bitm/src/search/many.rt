@@ -12,9 +12,9 @@ use crate::entry::ones_to_entry;
 use crate::levels::{L2_ENTRIES_PER_L1_ENTRY, U64_PER_L2_ENTRY, U64_PER_L2_RECORDS};
 use crate::search::entries::sought_entry;
 use crate::search::ranking::rank_on;
-use crate::search::selecting::{
-    Selected, among, is_at_most, part_of_rank, record_of, select_in_word, sought_word, told,
-};
+use crate::search::record::{among, is_at_most, record_of, select_in_word, sought_word};
+use crate::search::selected::{Selected, told};
+use crate::search::selecting::part_of_rank;
 use crate::source::TableSource;
 
 /// So many selections are under way side by side: more than a processor waits for at once.

@@ -86,7 +86,7 @@ fn tested_ones<T: TableSource>(source: &mut T, first: usize, end: usize) -> usiz
 /// # Cost
 /// At most seven words are read.
 #[inline(always)]
-pub fn ones_in_record<T: TableSource>(source: &mut T, first: usize, end: usize) -> usize
+pub(crate) fn ones_in_record<T: TableSource>(source: &mut T, first: usize, end: usize) -> usize
     requires short { IsShort (T.lists source.old).words }
     requires order { first ≤ end }
     requires near { end < first + 8 }
@@ -112,7 +112,7 @@ pub fn ones_in_record<T: TableSource>(source: &mut T, first: usize, end: usize) 
 /// # Cost
 /// At most one upper entry is read.
 #[inline(always)]
-pub fn ones_to_part<T: TableSource>(source: &mut T, part: usize) -> usize
+pub(crate) fn ones_to_part<T: TableSource>(source: &mut T, part: usize) -> usize
     requires { part < length (T.lists source.old).upper }
     ensures count { HasTables (T.lists source.old)
         → result ≡ ones_before (bits_of (T.lists source.old).words) (part * 2 ^ 32) }

@@ -8,7 +8,9 @@ ghost use Rattle.bitm.specs.Search.{sought_in, IsLastPart};
 ghost use Rattle.bitm.specs.Tables.{HasTables};
 ghost use Rattle.bitm.specs.declared.source.counts.ReadCounts.{ReadCounts};
 
-use crate::search::selecting::{before_part, found, in_packed, last_part};
+use crate::search::record::in_packed;
+use crate::search::selected::found;
+use crate::search::selecting::{before_part, last_part};
 use crate::search::walking::walk;
 use crate::source::TableSource;
 

@@ -2,7 +2,7 @@
 use Rattle.std.proofs.Common.{◌<◌, ◌^◌, arith}
 use Rattle.std.proofs.lemmas.Nat.{ones-le}
 use Rattle.bitm.proofs.lemmas.InWordLemmas.{rank_in_word, count_ones-picked, count_ones-picked_too}
-use Rattle.bitm.proofs.search.selecting.select_in_word.Goals as goal
+use Rattle.bitm.proofs.search.record.select_in_word.Goals as goal
 
 pub overflow_cast-rank : goal.overflow_cast-rank
 overflow_cast-rank c =

@@ -1,7 +1,7 @@
 use Rattle.std.proofs.Common.{◌≡◌, ◌+◌, ◌*◌}
 use Rattle.bitm_bits.specs.Count.{ones_before}
 use Rattle.bitm.specs.Search.{sought_in}
-use Rattle.bitm.proofs.search.selecting.among.Given as goal
+use Rattle.bitm.proofs.search.record.among.Given as goal
 
 -- the rank that is left from this word on, and one read for each word so far
 abbrev pub invariant-loop-k : goal.invariant-loop-k

@@ -8,8 +8,8 @@ use Rattle.bitm.specs.Tables.{HasTables}
 use Rattle.bitm.proofs.lemmas.SoughtLemmas.{low_is, rank_is, next_is, record_fields_rise}
 use Rattle.bitm.specs.Answers.{IsSelected, IsSelectedFrom}
 use Rattle.bitm.proofs.lemmas.SelectedLemmas.{found_within, has_bit, selected}
-use Rattle.bitm.proofs.search.selecting.in_packed.Goals as goal
-use Rattle.bitm.proofs.search.selecting.in_packed.Goals.{After-record_of-place}
+use Rattle.bitm.proofs.search.record.in_packed.Goals as goal
+use Rattle.bitm.proofs.search.record.in_packed.Goals.{After-record_of-place}
 
 pub returns-clause-bit : goal.returns-clause-bit
 returns-clause-bit g c =

@@ -3,7 +3,7 @@ use Rattle.std.proofs.Common.{◌+◌, ◌*◌, arith}
 use Rattle.bitm_bits.specs.Count.{ones_before, kind}
 use Rattle.bitm.specs.Search.{sought_in}
 use Rattle.bitm.proofs.lemmas.SelectedLemmas.{absent}
-use Rattle.bitm.proofs.search.selecting.in_record.Goals as goal
+use Rattle.bitm.proofs.search.record.in_record.Goals as goal
 
 pub returns-in-None-among-clause-answer : goal.returns-in-None-among-clause-answer
 returns-in-None-among-clause-answer g c =

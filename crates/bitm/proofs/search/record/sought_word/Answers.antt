@@ -1,6 +1,6 @@
 -- A word of the negated bits is the negated word.
 use Rattle.bitm.proofs.lemmas.MarkLemmas.{word_ones, word_zeros}
-use Rattle.bitm.proofs.search.selecting.sought_word.Goals as goal
+use Rattle.bitm.proofs.search.record.sought_word.Goals as goal
 
 pub returns-then-this-eq0-clause-word : goal.returns-then-this-eq0-clause-word
 returns-then-this-eq0-clause-word g c =

@@ -3,8 +3,8 @@ use Rattle.std.proofs.Common.{◌≡◌, ℕ, zero, suc, ◌+◌, ◌-◌, ◌*�
 use Rattle.std.proofs.lemmas.Nat.{and_mask}
 use Rattle.bitm.specs.Entry.{field_1, field_2, field_3, record_field}
 use Rattle.bitm.proofs.lemmas.SoughtLemmas.{record_chosen}
-use Rattle.bitm.proofs.search.selecting.record_of.Goals as goal
-use Rattle.bitm.proofs.search.selecting.record_of.Goals.{After-is_at_most-3}
+use Rattle.bitm.proofs.search.record.record_of.Goals as goal
+use Rattle.bitm.proofs.search.record.record_of.Goals.{After-is_at_most-3}
 
 -- two shifts take the field of a record
 shifted : (e k : ℕ) → e < 2 ^ 64 → k < 4 → e / 2 ^ (11 * (3 - k)) / 2 ^ 32 % 2 ^ 11 ≡ record_field e k

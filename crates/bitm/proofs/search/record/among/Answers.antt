@@ -5,8 +5,8 @@ use Rattle.bitm.specs.Search.{IsWord, sought_in}
 use Rattle.bitm.specs.Tables.{Lists}
 use Rattle.bitm.specs.declared.source.counts.ReadCounts.{ReadCounts}
 use Rattle.bitm.proofs.lemmas.MarkLemmas.{CountsWord, sought-long, word_counts, picked_in_word, word_passed}
-use Rattle.bitm.proofs.search.selecting.among.Goals as goal
-use Rattle.bitm.proofs.search.selecting.among.Goals.{After-sought_word-word}
+use Rattle.bitm.proofs.search.record.among.Goals as goal
+use Rattle.bitm.proofs.search.record.among.Goals.{After-sought_word-word}
 
 word : (g : _) (c : After-sought_word-word g)
     → CountsWord (sought_in g.row.ONE (g.T.TableSource.lists c.args.source.now).words) (c.args.first + c.loop-k.k) c.sought_word-word.result
