@@ -250,8 +250,9 @@ uint32_t bitm_sequence_first_at_least_list(const struct bitm_sequence_view *view
                                            size_t queries_len, uint64_t *out, size_t out_len);
 
 /* The numbers at a list of places, as bitm_sequence_get answers them, up to the first place for which it does not say
- * BITM_OK; written is how many these are, and what stands behind them in out stays. BITM_OK, or BITM_BAD_SIZE (also
- * where out_len is not queries_len), which writes nothing. */
+ * BITM_OK; written is how many these are, and what stands behind them in out stays. Ones are selected side by side, so
+ * in parts of no sequence a number may be another than bitm_sequence_get answers. BITM_OK, or BITM_BAD_SIZE (also where
+ * out_len is not queries_len), which writes nothing. */
 uint32_t bitm_sequence_get_list(const struct bitm_sequence_view *view, const uint64_t *queries, size_t queries_len,
                                 uint64_t *out, size_t out_len, uint64_t *written);
 

@@ -250,7 +250,7 @@ pub part_long : (xs : List ℕ) (a n : ℕ) → a + n ≤ length xs → length (
 part_long xs a n h = omega (arith, length-take (a + n - a) (drop a xs), length-drop a xs)
 
 -- an item of a part
-part_item : (xs : List ℕ) (a n j : ℕ) → j < n → slice_index (take (a + n - a) (drop a xs)) j ≡ slice_index xs (a + j)
+pub part_item : (xs : List ℕ) (a n j : ℕ) → j < n → slice_index (take (a + n - a) (drop a xs)) j ≡ slice_index xs (a + j)
 part_item xs a n j h = get_or-take (a + n - a) (drop a xs) j 0 (omega arith) ∙ get_or-drop a xs j 0
 
 -- what is written at once are the answers of a part, after those that stand
