@@ -1,6 +1,6 @@
 //! What selection, lists of selections, the tables and the samples are made of, for code that asks tables which nobody
-//! vouches for, as mapped or received ones. No function here asks that the tables are those of the words: each says what
-//! it answers where they are.
+//! vouches for, as mapped or received ones. No function here asks that the tables are those of the words: each says
+//! what it answers where they are.
 
 pub use crate::entry::{entries_of_part, ones_to_entry};
 pub use crate::search::entries::{EntryRange, last_entry, last_in_range, sought_entry};

@@ -186,7 +186,8 @@ fn halve_each<const ONE: u8, T: TableSource>(
 )
     requires sized { HasSizes (T.lists source.old) }
     requires size { size < 21 }
-    requires searches { AreSearches ONE (T.lists source.old) ranks.now rests.now entries.old (size + 1) }
+    requires searches { AreSearches ONE (T.lists source.old)
+        ranks.now rests.now entries.old (size + 1) }
     ensures searches { AreSearches ONE (T.lists source.old) ranks.now rests.now entries.new size }
     ensures reads { ReadsAtMost (T.reads source.old) (T.reads source.new) 0 (length ranks.now) 0 }
     ensures same { T.lists source.new ≡ T.lists source.old }
@@ -208,7 +209,8 @@ fn load_each<const ONE: u8, T: TableSource>(
     requires sized { HasSizes (T.lists source.old) }
     requires searches { AreSearches ONE (T.lists source.old) ranks.now rests.old entries.old 0 }
     requires words { length ranks.now ≤ length words.old }
-    ensures loaded { AreInRecords ONE (T.lists source.old) ranks.now rests.new entries.new words.new }
+    ensures loaded { AreInRecords ONE (T.lists source.old)
+        ranks.now rests.new entries.new words.new }
     ensures reads { ReadsAtMost (T.reads source.old) (T.reads source.new)
         0 (length ranks.now) (length ranks.now) }
     ensures same { T.lists source.new ≡ T.lists source.old }
@@ -231,9 +233,11 @@ fn finish_each<const ONE: u8, T: TableSource>(
     words: &[u64],
 )
     requires short { IsShort (T.lists source.old).words }
-    requires loaded { AreInRecords ONE (T.lists source.old) ranks.now rests.now places.old words.now }
+    requires loaded { AreInRecords ONE (T.lists source.old)
+        ranks.now rests.now places.old words.now }
     ensures told { ToldEach (kind ONE) (T.lists source.old) ranks.now places.new }
-    ensures reads { ReadsAtMost (T.reads source.old) (T.reads source.new) 0 0 (7 * length ranks.now) }
+    ensures reads { ReadsAtMost (T.reads source.old) (T.reads source.new)
+        0 0 (7 * length ranks.now) }
     ensures same { T.lists source.new ≡ T.lists source.old }
 {
     for k in 0..ranks.len() {

@@ -1,5 +1,5 @@
-//! Selection in an entry that was found: the record of the entry, the word of the record, the bit of the word. The entry
-//! may be any: where it is not that of the rank, the words decide.
+//! Selection in an entry that was found: the record of the entry, the word of the record, the bit of the word. The
+//! entry may be any: where it is not that of the rank, the words decide.
 ghost use Rattle.std.specs.Prelude.{◌≡◌, ◌+◌, ◌-◌, ◌*◌, ◌/◌, ◌%◌, ◌^◌, ◌<◌, ◌≤◌};
 ghost use Rattle.std.specs.Prelude.{length, count_ones, IfSome, MatchOption};
 ghost use Rattle.bitm_bits.specs.Bits.{bits_of, IsShort};
@@ -33,7 +33,8 @@ pub(crate) fn is_at_most(count: usize, rank: usize) -> usize
 pub(crate) fn record_of(entry: u64, rank: usize) -> (usize, usize)
     ensures inside { result.0 < 4 }
     ensures before { result.1 ≡ record_field entry result.0 }
-    ensures at_most { field_1 entry ≤ field_2 entry → field_2 entry ≤ field_3 entry → result.1 ≤ rank }
+    ensures at_most { field_1 entry ≤ field_2 entry → field_2 entry ≤ field_3 entry
+        → result.1 ≤ rank }
     ensures next { field_1 entry ≤ field_2 entry → field_2 entry ≤ field_3 entry
         → result.0 < 3 → rank < record_field entry (result.0 + 1) }
 {
@@ -156,7 +157,8 @@ pub fn in_packed<const ONE: u8, const TESTS: u8, T: TableSource>(
         let m = sought_in ONE (T.lists source.old).words in
         IsSelected (bits_in (T.lists source.old)) (kind ONE)
         (ones_before m (part * 2 ^ 32) + rank) result }
-    ensures inside { IsFoundFrom (2048 * entry_in part entry) (2048 * (entry_in part entry + 1)) result }
+    ensures inside { IsFoundFrom
+        (2048 * entry_in part entry) (2048 * (entry_in part entry + 1)) result }
     ensures reads { ReadsAtMost (T.reads source.old) (T.reads source.new) 0 0 8 }
     ensures same { T.lists source.new ≡ T.lists source.old }
 {

@@ -142,7 +142,8 @@ pub(crate) fn last_part<const ONE: u8, T: TableSource>(source: &mut T, rank: usi
 pub fn part_of_rank<const ONE: u8, T: TableSource>(source: &mut T, rank: usize) -> (usize, usize)
     requires { 0 < length (T.lists source.old).upper }
     ensures inside { result.0 < length (T.lists source.old).upper }
-    ensures part { IsIndexed (T.lists source.old) → IsPartOf ONE (T.lists source.old) rank result.0 result.1 }
+    ensures part { IsIndexed (T.lists source.old)
+        → IsPartOf ONE (T.lists source.old) rank result.0 result.1 }
     ensures reads { ReadsAtMost (T.reads source.old) (T.reads source.new)
         (digit_count (length (T.lists source.old).upper) + 1) 0 0 }
     ensures same { T.lists source.new ≡ T.lists source.old }
