@@ -101,7 +101,9 @@ uint32_t bitm_select0(const struct bitm_view *view, size_t rank, uint64_t *out);
 /* ---- lists of queries */
 
 /* out[i] answers queries[i] as the call of one query does, or is BITM_NO_ANSWER for BITM_NONE and BITM_WRONG_TABLES
- * for BITM_WRONG. BITM_OK, or BITM_BAD_SIZE (also where out_len is not queries_len), which writes nothing. */
+ * for BITM_WRONG. Selections are searched for side by side, so in tables that are not those of the words a list may
+ * find another place with the bit than the call of one query, or none where that finds one. BITM_OK, or BITM_BAD_SIZE
+ * (also where out_len is not queries_len), which writes nothing. */
 uint32_t bitm_rank_list(const struct bitm_view *view, const uint64_t *queries, size_t queries_len, uint64_t *out,
                         size_t out_len);
 uint32_t bitm_rank0_list(const struct bitm_view *view, const uint64_t *queries, size_t queries_len, uint64_t *out,
@@ -158,7 +160,8 @@ uint32_t bitm_sampled_select(const struct bitm_view *view, const struct bitm_sam
 uint32_t bitm_sampled_select0(const struct bitm_view *view, const struct bitm_samples *samples, size_t rank,
                               uint64_t *out);
 
-/* out[i] answers queries[i] as the call of one query does; else as the lists of queries above. */
+/* out[i] answers queries[i] as the call of one query does where tables and samples are those of the words; with other
+ * samples and right tables it is what bitm_select_list writes. Else as the lists of queries above. */
 uint32_t bitm_sampled_select_list(const struct bitm_view *view, const struct bitm_samples *samples,
                                   const uint64_t *queries, size_t queries_len, uint64_t *out, size_t out_len);
 uint32_t bitm_sampled_select0_list(const struct bitm_view *view, const struct bitm_samples *samples,
@@ -247,8 +250,9 @@ uint32_t bitm_sequence_first_at_least_list(const struct bitm_sequence_view *view
                                            size_t queries_len, uint64_t *out, size_t out_len);
 
 /* The numbers at a list of places, as bitm_sequence_get answers them, up to the first place for which it does not say
- * BITM_OK; written is how many these are, and what stands behind them in out stays. BITM_OK, or BITM_BAD_SIZE (also
- * where out_len is not queries_len), which writes nothing. */
+ * BITM_OK; written is how many these are, and what stands behind them in out stays. Ones are selected side by side, so
+ * in parts of no sequence a number may be another than bitm_sequence_get answers. BITM_OK, or BITM_BAD_SIZE (also where
+ * out_len is not queries_len), which writes nothing. */
 uint32_t bitm_sequence_get_list(const struct bitm_sequence_view *view, const uint64_t *queries, size_t queries_len,
                                 uint64_t *out, size_t out_len, uint64_t *written);
 

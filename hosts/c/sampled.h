@@ -86,20 +86,26 @@ static inline void sampled_queries(const struct bitm_view *view, uint32_t log2)
 }
 
 /* Any samples: where the tables are right an answer is that of the search without them, or the samples are called
- * wrong; else a place is inside and has the bit. Answers how often something was called wrong. */
+ * wrong, and a list calls none wrong; else a place is inside and has the bit. Answers how often something was called
+ * wrong. */
 static inline unsigned any_samples(const struct bitm_view *view, int right, const struct bitm_samples *made,
                                    uint64_t kind)
 {
-    uint64_t bits = (uint64_t)view->words_len * 64;
+    uint64_t bits = (uint64_t)view->words_len * 64, ranks[100], told[100];
     unsigned wrong = 0;
+    for (unsigned i = 0; i < 100; i++)
+        ranks[i] = i == 0 ? UINT64_MAX : draw() % (bits + 2);
+    MUST((kind ? bitm_sampled_select_list : bitm_sampled_select0_list)(view, made, ranks, 100, told, 100) == BITM_OK);
     for (unsigned i = 0; i < 100; i++) {
-        uint64_t got = UNWRITTEN, want = UNWRITTEN, rank = i == 0 ? UINT64_MAX : draw() % (bits + 2);
-        uint32_t status = (kind ? bitm_sampled_select : bitm_sampled_select0)(view, made, rank, &got);
-        uint32_t wanted = (kind ? bitm_select : bitm_select0)(view, rank, &want);
+        uint64_t got = UNWRITTEN, want = UNWRITTEN;
+        uint32_t status = (kind ? bitm_sampled_select : bitm_sampled_select0)(view, made, ranks[i], &got);
+        uint32_t wanted = (kind ? bitm_select : bitm_select0)(view, ranks[i], &want);
         wrong += status == BITM_WRONG;
         MUST(status != BITM_BAD_SIZE && (status == BITM_OK || got == UNWRITTEN));
         MUST(status != BITM_OK || (got < bits && bit_of(view->words, got) == kind));
         MUST(!right || status == BITM_WRONG || (status == wanted && got == want));
+        MUST(!right || told[i] == (wanted == BITM_OK ? want : BITM_NO_ANSWER));
+        MUST(told[i] >= BITM_WRONG_TABLES || (told[i] < bits && bit_of(view->words, told[i]) == kind));
     }
     return wrong;
 }

@@ -16,6 +16,7 @@ pub mod RankLemmas
 pub mod SampleLemmas
 pub mod SearchLemmas
 pub mod SelectLemmas
+pub mod SelectedLemmas
 pub mod SimpleLemmas
 pub mod SoughtLemmas
 pub mod StretchLemmas

@@ -1,12 +1,17 @@
 -- What the definitions of tables and words say of one another. Each law is the contract of a function of `index_laws`.
 use Rattle.std.specs.Prelude.{◌≡◌, ℕ, ◌^◌, ◌<◌, Bool, List, count_ones}
-use Rattle.bitm_bits.specs.Bits.{low_digits}
+use Rattle.bitm_bits.specs.Bits.{low_digits, IsShort}
 use Rattle.bitm_bits.specs.Count.{ones_before}
 use Rattle.bitm.specs.Entry.{FieldsFit, lower_entry}
+use Rattle.bitm.specs.Tables.{HasSizes, HasTables, Lists}
 
 -- an entry of a lower table fits the fields' greatest numbers
 abbrev pub EntriesFit : Type 0
 EntriesFit = (b : List Bool) (j : ℕ) → FieldsFit (lower_entry b j) j
+
+-- tables of few enough words are as long as theirs
+abbrev pub TablesHaveSizes : Type 0
+TablesHaveSizes = (l : Lists) → HasTables l → IsShort l.words → HasSizes l
 
 -- the ones that a processor counts in a word are those among its 64 bits
 abbrev pub OnesOfWord : Type 0

@@ -1,3 +1,4 @@
+pub mod Answers
 pub mod Density
 pub mod Entry
 pub mod IndexLaws

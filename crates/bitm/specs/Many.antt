@@ -3,7 +3,7 @@ use Rattle.std.specs.Prelude.{◌≡◌, ℕ, ◌+◌, ◌*◌, ◌^◌, ◌<◌
 use Rattle.bitm_bits.specs.Count.{ones_before, Picks}
 use Rattle.bitm.specs.Entry.{before_in_part}
 use Rattle.bitm.specs.Search.{entries_from, entry_in, sought_in, IsLastPart, IsWord}
-use Rattle.bitm.specs.Tables.{Lists}
+use Rattle.bitm.specs.Tables.{HasTables, Lists}
 
 -- rank k is the number of ones before index k
 abbrev pub RanksEach : List Bool → List ℕ → List ℕ → Type 0
@@ -27,19 +27,24 @@ pub record IsNear (one : ℕ) (lists : Lists) (rank rest at size : ℕ) : Type 0
       → rest < before_in_part (sought_in one lists.words) (entry_in part (low + 2 ^ size))
   pub room : low + 2 ^ size ≤ 2 ^ 21
 
+-- a search is at an entry, and where the tables are those of the words it is on its way to the item of the rank
+pub record IsSearch (one : ℕ) (lists : Lists) (rank rest at size : ℕ) : Type 0 where
+  pub entry : at < length lists.lower
+  pub near : HasTables lists → IsNear one lists rank rest at size
+
 -- query k has its rest and its entry in the two lists
-pub record AreNear (one : ℕ) (lists : Lists) (ranks rests entries : List ℕ) (size : ℕ) : Type 0 where
+pub record AreSearches (one : ℕ) (lists : Lists) (ranks rests entries : List ℕ) (size : ℕ) : Type 0 where
   pub rests_enough : length ranks ≤ length rests
   pub entries_enough : length ranks ≤ length entries
-  pub each : (k : ℕ) → k < length ranks → IsNear one lists (slice_index ranks k) (slice_index rests k) (slice_index entries k) size
+  pub each : (k : ℕ) → k < length ranks → IsSearch one lists (slice_index ranks k) (slice_index rests k) (slice_index entries k) size
 
 -- of the items that are sought, the one of this rank, if there is one, is in the record that begins at word first, where rest of
--- them stand before it; word is the first of the record
+-- them stand before it, if the tables are those of the words; word is the first of the record
 pub record IsInRecord (one : ℕ) (lists : Lists) (rank rest first word : ℕ) : Type 0 where
   pub fits : first < 2 ^ 60
-  pub total : rank ≡ ones_before (sought_in one lists.words) (64 * first) + rest
-  pub next : first + 8 < length lists.words → rank < ones_before (sought_in one lists.words) (64 * (first + 8))
   pub word_is : first < length lists.words → IsWord (sought_in one lists.words) first word
+  pub total : HasTables lists → rank ≡ ones_before (sought_in one lists.words) (64 * first) + rest
+  pub next : HasTables lists → first + 8 < length lists.words → rank < ones_before (sought_in one lists.words) (64 * (first + 8))
 
 -- query k has its rest, its record and that one's first word in the three lists
 pub record AreInRecords (one : ℕ) (lists : Lists) (ranks rests firsts words : List ℕ) : Type 0 where

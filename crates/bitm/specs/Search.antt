@@ -4,7 +4,9 @@ use Rattle.std.specs.Int.{div_ceil}
 use Rattle.bitm_bits.specs.Bits.{bits_of}
 use Rattle.bitm_bits.specs.Count.{ones_before, kind}
 use Rattle.bitm_bits.specs.Number.{number_at}
-use Rattle.bitm.specs.Entry.{before_in_part}
+use Rattle.bitm.specs.Entry.{before_in_part, lower_entry}
+use Rattle.bitm.specs.Tables.{HasTables, Lists}
+use Rattle.bitm.specs.declared.search.entries.EntryRange.{EntryRange}
 
 -- the bits, and falses up to a multiple of 2048
 abbrev pub padded : List Bool → List Bool
@@ -41,6 +43,11 @@ pub record Between (count : ℕ → ℕ) (n r low left : ℕ) : Type 0 where
 abbrev pub IsLastPart : List Bool → ℕ → ℕ → ℕ → Type 0
 IsLastPart m parts r part = IsLast (λ k. ones_before m (k * 2 ^ 32)) parts r part
 
+-- the last part with no more than r of the kind before it, of which rest are left there
+pub record IsPartOf (one : ℕ) (lists : Lists) (r part rest : ℕ) : Type 0 where
+  pub last : IsLastPart (sought_in one lists.words) (length lists.upper) (ones_before (sought_in one lists.words) (part * 2 ^ 32) + rest) part
+  pub total : ones_before (sought_in one lists.words) (part * 2 ^ 32) + rest ≡ r
+
 -- how many entries a part has, of so many entries in all
 abbrev pub entries_from : ℕ → ℕ → ℕ
 entries_from entries part = min (entries - part * 2 ^ 21) (2 ^ 21)
@@ -57,6 +64,14 @@ IsLastEntry m entries part r e = IsLast (λ j. before_in_part m (entry_in part j
 -- are left
 abbrev pub IsAmong : List Bool → ℕ → ℕ → ℕ → ℕ → ℕ → Type 0
 IsAmong m entries part r low left = Between (λ j. before_in_part m (part * 2 ^ 21 + j)) (entries_from entries part) r low left
+
+-- a range of the entries of a part, and, where the tables are those of the words, that the last entry of the part with no more
+-- than r ones before it is in the range, and what the range's first entry packs, unless it is the part's first
+pub record IsRange (one : ℕ) (lists : Lists) (part r : ℕ) (range : EntryRange) : Type 0 where
+  pub some : 0 < range.left
+  pub within : range.low + range.left ≤ entries_from (length lists.lower) part
+  pub among : HasTables lists → IsAmong (sought_in one lists.words) (length lists.lower) part r range.low range.left
+  pub packed : HasTables lists → 0 < range.low → range.packed ≡ lower_entry (sought_in one lists.words) (entry_in part range.low)
 
 -- how many of the bits that are sought stand in a part before its entry j
 abbrev pub items_to : ℕ → List Bool → ℕ → ℕ → ℕ

@@ -31,7 +31,7 @@ pub fn ones_to_entry(entry: u64) -> usize
 /// # Conditions
 /// `place` is below 4.
 #[inline(always)]
-pub fn ones_to_record(entry: u64, place: usize) -> usize
+pub(crate) fn ones_to_record(entry: u64, place: usize) -> usize
     requires { place < 4 }
     ensures { result ≡ entry / 2 ^ (11 * (3 - place)) / 2 ^ 32 % 2 ^ 11 }
 {

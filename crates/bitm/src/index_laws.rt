@@ -1,11 +1,11 @@
 //! Laws of rank and selection, for any value that has both: each function makes two calls and says what comes of them.
 //!
 //! Code that is generic over `I: Rank + Select` takes them as they stand, or knows the same after its own two calls.
-//! The two functions at the end do nothing: their contract is a law of the definitions.
+//! The three functions at the end do nothing: their contract is a law of the definitions.
 ghost use Rattle.std.specs.Prelude.{◌≡◌, ◌<◌, ◌≤◌, length, true, false};
 ghost use Rattle.bitm_bits.specs.Bits.{item};
 ghost use Rattle.bitm_bits.specs.Count.{ones_of, zeros_of};
-ghost use Rattle.bitm.specs.IndexLaws.{EntriesFit, OnesOfWord};
+ghost use Rattle.bitm.specs.IndexLaws.{EntriesFit, OnesOfWord, TablesHaveSizes};
 
 use crate::queries::{Rank, Select, Select0};
 
@@ -74,6 +74,11 @@ pub fn ranks_add_up<I: Rank>(bits: &I, index: usize) -> usize
 /// An entry of a lower table meets the condition of `complement_entry`.
 pub fn entries_fit()
     ensures { EntriesFit }
+{}
+
+/// The tables of words, of which there are few enough for an index, are as long as calls on any tables want.
+pub fn tables_have_sizes()
+    ensures { TablesHaveSizes }
 {}
 
 /// `count_ones` of a word counts the ones among its bits: so a test `rank < word.count_ones()` meets the condition of

@@ -18,6 +18,12 @@ pub const U64_PER_L2_RECORDS: usize = 8;
 /// Bits of one record of eight words.
 pub const BITS_PER_L2_RECORDS: u64 = 64 * U64_PER_L2_RECORDS as u64;
 
+/// Bits of one record, as a number of places.
+pub(crate) const RECORD_BITS: usize = 64 * U64_PER_L2_RECORDS;
+
+/// Records of one lower entry.
+pub(crate) const RECORDS_PER_L2_ENTRY: usize = U64_PER_L2_ENTRY / U64_PER_L2_RECORDS;
+
 /// Lower entries of one part: 2^32 bits by 2048.
 pub const L2_ENTRIES_PER_L1_ENTRY: usize = 1 << (32 - 11);
 

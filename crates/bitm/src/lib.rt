@@ -39,9 +39,10 @@ pub use levels::{
     U64_PER_L1_ENTRY, U64_PER_L2_ENTRY, U64_PER_L2_RECORDS,
 };
 pub use queries::{HasBits, Rank, Select, Select0};
-pub use search::many::{rank_many_on, select_many_on};
-pub use search::ranking::rank_on;
-pub use search::selecting::binary_select_on;
+pub use search::many::{rank_many_on, select_many_on, total_select_many_on};
+pub use search::ranking::{rank_on, total_rank_on};
+pub use search::selected::{NO_ANSWER, Selected, WRONG_TABLES};
+pub use search::selecting::{binary_select_on, total_select_on};
 pub use simple::{ArrayWithRankSimple, RankSimple};
 pub use source::counts::ReadCounts;
 pub use source::{Probe, TableSource};

@@ -3,5 +3,7 @@
 pub(crate) mod entries;
 pub(crate) mod many;
 pub(crate) mod ranking;
+pub(crate) mod record;
+pub(crate) mod selected;
 pub(crate) mod selecting;
 pub(crate) mod walking;

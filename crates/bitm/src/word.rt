@@ -11,7 +11,7 @@ ghost use Rattle.bitm_bits.specs.Count.{ones_before, Picks};
 /// # Conditions
 /// `last` is below 64.
 #[inline(always)]
-pub fn ones_through(word: u64, last: usize) -> u32
+pub(crate) fn ones_through(word: u64, last: usize) -> u32
     requires { last < 64 }
     ensures { result ≡ count_ones (word % 2 ^ (last + 1)) }
 {

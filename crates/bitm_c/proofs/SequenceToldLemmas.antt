@@ -2,8 +2,8 @@
 use Rattle.std.proofs.Common.{◌≡◌, ℕ, List, inl, inr, sym, subst, ◌∙◌, arith}
 use Rattle.elias_fano_lent.specs.Answers.{IsFirst, IsItem, IsOfPlace, IsPlaceOf}
 use Rattle.elias_fano_lent.specs.Held.{Held, Holds}
-use Rattle.elias_fano_lent.specs.declared.answer.Sought.{Sought}
-use Rattle.elias_fano_lent.specs.declared.answer.Sought.TheVariants.{Found, Absent, WrongParts}
+use Rattle.elias_fano.specs.declared.answer.Sought.{Sought}
+use Rattle.elias_fano.specs.declared.answer.Sought.TheVariants.{Found, Absent, WrongParts}
 use Rattle.elias_fano.specs.Sequence.{Reaches}
 use Rattle.bitm_c.specs.Sequence.{held_by, IsSized, IsSoughtTold, ItemAnswered, PlaceAnswered}
 use Rattle.bitm_c.specs.declared.sequence.SequenceView.{SequenceView}

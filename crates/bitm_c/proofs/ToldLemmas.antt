@@ -5,8 +5,8 @@ use Rattle.bitm_bits.specs.Bits.{item}
 use Rattle.bitm_bits.specs.Count.{Picks}
 use Rattle.bitm.specs.Tables.{HasSizes, HasTables, Lists, bits_in}
 use Rattle.bitm_lent.specs.Answers.{HasBit, IsSelected}
-use Rattle.bitm_lent.specs.declared.selecting.Selected.{Selected}
-use Rattle.bitm_lent.specs.declared.selecting.Selected.TheVariants.{Found, Absent, WrongTables}
+use Rattle.bitm.specs.declared.search.selected.Selected.{Selected}
+use Rattle.bitm.specs.declared.search.selected.Selected.TheVariants.{Found, Absent, WrongTables}
 use Rattle.bitm_c.specs.Status.{IsTold, SelectAnswered}
 
 module _ (v : Bool) (lists : Lists) (sized : HasSizes lists) (rank status old new : ℕ) where

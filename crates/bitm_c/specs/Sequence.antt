@@ -6,8 +6,8 @@ use Rattle.bitm_lent.specs.Sizes.{listed}
 use Rattle.elias_fano.specs.Sequence.{Reaches}
 use Rattle.elias_fano_lent.specs.Held.{held, HasLengths, Held, Holds}
 use Rattle.elias_fano_lent.specs.Lists.{written}
-use Rattle.elias_fano_lent.specs.declared.answer.Sought.{Sought}
-use Rattle.elias_fano_lent.specs.declared.answer.Sought.TheVariants.{Found, Absent, WrongParts}
+use Rattle.elias_fano.specs.declared.answer.Sought.{Sought}
+use Rattle.elias_fano.specs.declared.answer.Sought.TheVariants.{Found, Absent, WrongParts}
 use Rattle.elias_fano_lent.specs.declared.lists.Listed.{Listed}
 use Rattle.elias_fano_lent.specs.declared.lists.Listed.TheVariants.{WrongLength}
 use Rattle.elias_fano_lent.specs.declared.sizes.Sizes.{Sizes}

@@ -1,48 +1,16 @@
--- What a selection among eight words says where the tables are right, and where they may hold anything.
-use Rattle.std.proofs.Common.{◌≡◌, ℕ, ◌+◌, ◌*◌, ◌^◌, ◌<◌, ◌≤◌, ◌-◌, Bool, List, length, arith}
+-- A place that a selection found, as a number in a list of answers.
+use Rattle.std.proofs.Common.{ℕ, ◌^◌, ◌<◌, ◌-◌, Bool, arith, inl, inr}
+use Rattle.std.proofs.lemmas.Bool.{cases_lt}
 use Rattle.bitm_bits.proofs.lemmas.BitsLemmas.{length-bits_of}
-use Rattle.bitm_bits.proofs.lemmas.PickLemmas.{rank_below}
-use Rattle.bitm_bits.specs.Bits.{bits_of}
-use Rattle.bitm_bits.specs.Count.{ones_before, count_of}
-use Rattle.bitm.specs.Search.{sought}
+use Rattle.bitm_bits.specs.Count.{count_of}
+use Rattle.bitm.specs.Answers.{told_in, HasBit, IsSelected, SelectTold}
 use Rattle.bitm.specs.Tables.{HasSizes, HasTables, Lists, bits_in}
-use Rattle.bitm.proofs.lemmas.MarkLemmas.{none_counted}
-use Rattle.bitm_lent.specs.Answers.{HasBit, IsSelected, IsSelectedFrom, SelectTold}
-use Rattle.bitm_lent.specs.Samples.{IsSelectedIfTold, SampledTold}
+use Rattle.bitm.specs.declared.search.selected.Selected.{Selected}
+use Rattle.bitm.specs.declared.search.selected.Selected.TheVariants.{Found, Absent, WrongTables}
+use Rattle.bitm_lent.specs.Samples.{AreSamplesOf, IsSelectedIfTold, SampledTold}
 use Rattle.bitm_lent.specs.declared.samples.LentSamples.{LentSamples}
-use Rattle.bitm_lent.specs.declared.selecting.Selected.{Selected}
-use Rattle.bitm_lent.specs.declared.selecting.Selected.TheVariants.{Found, Absent, WrongTables}
 
-module _ (words : List ℕ) (v : Bool) (k r : ℕ) where
-  -- a place that is picked has the bit
-  pub has_bit : (s : Selected) → IsSelectedFrom words v k r s → HasBit (bits_of words) v s
-  has_bit (Found p) is = (is.inside, is.item)
-  has_bit Absent is = tt
-  has_bit WrongTables is = tt
-
-  -- where the rank stands before the words that follow, the tables are not called wrong
-  pub selected : (s : Selected) → (k + 8 < length words → r < ones_before (sought v (bits_of words)) (64 * (k + 8)))
-      → IsSelectedFrom words v k r s → IsSelected (bits_of words) v r s
-  selected (Found p) next is = is
-  selected Absent next is = is
-  selected WrongTables next is = absurd (omega (arith, next is.0, is.1))
-
-  -- nothing is left where the words end
-  pub absent : (count : ℕ) → length words ≤ k + 8 → count ≡ length words - k
-      → ones_before (sought v (bits_of words)) (64 * (k + count)) ≤ r → count_of (bits_of words) v ≤ r
-  absent count ends is le =
-      none_counted (bits_of words) v r (64 * (k + count)) (omega (arith, length-bits_of words, is, ends)) le
-
--- the place that is found, as a number in a list of answers
-pub told_place : (v : Bool) (lists : Lists) (r p : ℕ) → HasBit (bits_in lists) v (Found p)
-    → (HasTables lists → IsSelected (bits_in lists) v r (Found p)) → SelectTold v lists r p
-told_place v lists r p bit answer = record {
-  bit = λ _. bit;
-  some = λ t _. answer t;
-  none = λ t past. absurd (omega (arith, past, rank_below (bits_in lists) v r p (answer t)));
-}
-
--- the same of a place that samples led to
+-- the place that samples led to, as a number in a list of answers
 pub sampled_place : (v : Bool) (lists : Lists) (lent : LentSamples) (r p : ℕ) → HasSizes lists → HasBit (bits_in lists) v (Found p)
     → (HasTables lists → IsSelectedIfTold (bits_in lists) v r (Found p)) → SampledTold v lists lent r p
 sampled_place v lists lent r p sized bit told =
@@ -53,3 +21,44 @@ sampled_place v lists lent r p sized bit told =
       absent = λ t e. absurd (omega (arith, e, below));
       told = λ _ _ e. omega (arith, e, below);
     }
+
+-- what a list of answers says of a selection by samples
+pub sampled_is : (v : Bool) (lists : Lists) (lent : LentSamples) (r : ℕ) (s : Selected) → HasSizes lists → HasBit (bits_in lists) v s
+    → (HasTables lists → IsSelectedIfTold (bits_in lists) v r s)
+    → (HasTables lists → AreSamplesOf (bits_in lists) v lent → IsSelected (bits_in lists) v r s)
+    → SampledTold v lists lent r (told_in s)
+sampled_is v lists lent r (Found p) sized bit told answer = sampled_place v lists lent r p sized bit told
+sampled_is v lists lent r Absent sized bit told answer = record {
+  bit = λ h. absurd (omega (arith, h));
+  place = λ _ h. absurd (omega (arith, h));
+  absent = λ t _. told t;
+  told = λ _ _ e. omega (arith, e);
+}
+sampled_is v lists lent r WrongTables sized bit told answer = record {
+  bit = λ h. absurd (omega (arith, h));
+  place = λ _ h. absurd (omega (arith, h));
+  absent = λ _ e. absurd (omega (arith, e));
+  told = λ t own _. answer t own;
+}
+
+-- what is told of a selection without samples may be told of one by samples
+pub sampled_of_told : (v : Bool) (lists : Lists) (lent : LentSamples) (r n : ℕ) → HasSizes lists → SelectTold v lists r n
+    → SampledTold v lists lent r n
+sampled_of_told v lists lent r n sized told = record {
+  bit = told.bit;
+  place = λ t h.
+      elim (cases_lt r (count_of (bits_in lists) v)) [
+        | inl some ↦ told.some t some
+        | inr past ↦ absurd (omega (arith, told.none t past, h))
+      ];
+  absent = λ t e.
+      elim (cases_lt r (count_of (bits_in lists) v)) [
+        | inl some ↦ absurd (omega (arith, (told.some t some).inside, e, length-bits_of lists.words, sized.short))
+        | inr past ↦ past
+      ];
+  told = λ t _ e.
+      elim (cases_lt r (count_of (bits_in lists) v)) [
+        | inl some ↦ omega (arith, (told.some t some).inside, e, length-bits_of lists.words, sized.short)
+        | inr past ↦ omega (arith, told.none t past, e)
+      ];
+}

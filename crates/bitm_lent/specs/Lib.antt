@@ -1,3 +1,3 @@
-pub mod Answers
+pub use Rattle.bitm.specs.Answers
 pub mod Samples
 pub mod Sizes

@@ -7,8 +7,8 @@ use Rattle.bitm.specs.Density.{within}
 use Rattle.bitm.specs.Samples.{samples_of, sample_starts_of}
 use Rattle.bitm.specs.Tables.{HasTables, Lists, bits_in}
 use Rattle.bitm_lent.specs.declared.samples.LentSamples.{LentSamples}
-use Rattle.bitm_lent.specs.declared.selecting.Selected.{Selected}
-use Rattle.bitm_lent.specs.declared.selecting.Selected.TheVariants.{Found, Absent, WrongTables}
+use Rattle.bitm.specs.declared.search.selected.Selected.{Selected}
+use Rattle.bitm.specs.declared.search.selected.Selected.TheVariants.{Found, Absent, WrongTables}
 
 -- the two lists are the samples of the items v of the bits b at logarithm d, and how many there are before each part
 pub record AreSamples (b : List Bool) (v : Bool) (d : ℕ) (samples starts : List ℕ) : Type 0 where

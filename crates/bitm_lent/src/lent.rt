@@ -5,15 +5,13 @@ ghost use Rattle.bitm_bits.specs.Bits.{bits_of, IsShort};
 ghost use Rattle.bitm_bits.specs.Count.{kind, IsRank, IsRank0};
 ghost use Rattle.bitm.specs.Reads.{none_read};
 ghost use Rattle.bitm.specs.Tables.{HasSizes, HasTables, bits_in};
-ghost use Rattle.bitm_lent.specs.Answers.{HasBit, IsSelected};
+ghost use Rattle.bitm.specs.Answers.{HasBit, IsSelected};
 ghost use Rattle.bitm_lent.specs.Sizes.{listed};
 
 mod by_samples;
 
 use crate::checking::are_tables;
-use crate::ranking::total_rank_on;
-use crate::selecting::{Selected, total_select_on};
-use bitm::{Probe, U64_PER_L1_ENTRY, U64_PER_L2_ENTRY};
+use bitm::{Probe, Selected, U64_PER_L1_ENTRY, U64_PER_L2_ENTRY, total_rank_on, total_select_on};
 use std::marker::Model;
 
 /// How many upper entries so many words have: one for each begun 2^26 words.

@@ -1,16 +1,11 @@
 //! Answers to lists of queries.
 ghost use Rattle.std.specs.Prelude.{◌≡◌, ◌<◌, ◌↔◌, ℕ, IsTrue, length, slice_index, true, false};
 ghost use Rattle.bitm_bits.specs.Count.{kind};
-ghost use Rattle.bitm_lent.specs.Answers.{RankTold, SelectTold};
+ghost use Rattle.bitm.specs.Answers.{RankTold, SelectTold};
 
 use crate::lent::Lent;
-use crate::selecting::Selected;
-
-/// In a list of answers: there is no such place or bit.
-pub const NO_ANSWER: usize = usize::MAX;
-
-/// In a list of answers: the tables are not those of the words.
-pub const WRONG_TABLES: usize = usize::MAX - 1;
+use bitm::building::told;
+use bitm::{NO_ANSWER, Probe, total_select_many_on};
 
 /// The rank of one place, or `NO_ANSWER`; of zeros where `ONE` is 0.
 #[inline(always)]
@@ -33,11 +28,7 @@ fn ranked<const ONE: u8>(lent: &Lent<'_>, place: usize) -> usize
 fn selected<const ONE: u8>(lent: &Lent<'_>, rank: usize) -> usize
     ensures { SelectTold (kind ONE) lent.now rank result }
 {
-    match lent.select_kind::<ONE>(rank) {
-        Selected::Found(place) => place,
-        Selected::Absent => NO_ANSWER,
-        Selected::WrongTables => WRONG_TABLES,
-    }
+    told(lent.select_kind::<ONE>(rank))
 }
 
 /// Writes the rank of each place.
@@ -52,13 +43,17 @@ fn rank_each<const ONE: u8>(lent: &Lent<'_>, places: &[usize], out: &mut [usize]
     }
 }
 
-/// Writes the place with each rank.
+/// Writes the place with each rank, by searches side by side where there is a word.
 fn select_each<const ONE: u8>(lent: &Lent<'_>, ranks: &[usize], out: &mut [usize])
     requires { length out.old ≡ length ranks.now }
     ensures len { length out.new ≡ length ranks.now }
     ensures told { (j : ℕ) → j < length ranks.now → SelectTold (kind ONE) lent.now
         (slice_index ranks.now j) (slice_index out.new j) }
 {
+    if !lent.words().is_empty() {
+        total_select_many_on::<ONE, Probe<'_>>(&mut lent.probe(), ranks, out);
+        return;
+    }
     for at in 0..ranks.len() {
         out[at] = selected::<ONE>(lent, ranks[at]);
     }
@@ -94,7 +89,8 @@ impl<'a> Lent<'a> {
         true
     }
 
-    /// Writes the place of the one with each rank, as `select` answers it, `NO_ANSWER` for `Absent` and
+    /// Writes the place of the one with each rank, as `select` answers it where the tables are those of the words; in
+    /// others it may be another place with a one. `NO_ANSWER` is written for `Absent` and
     /// `WRONG_TABLES` for `WrongTables`; answers false exactly where there is not room for as many answers as ranks,
     /// and nothing is written then.
     pub fn select_list(&self, ranks: &[usize], out: &mut [usize]) -> bool

@@ -10,16 +10,15 @@ ghost use Rattle.bitm.specs.Reads.{OnlyReads, ReadsAtMost};
 ghost use Rattle.bitm.specs.Samples.{part_of, parts, sample_count_before};
 ghost use Rattle.bitm.specs.Search.{entries_from, entry_in, sought_in, IsLastEntry, IsLastPart};
 ghost use Rattle.bitm.specs.Tables.{HasSizes, HasTables, bits_in};
-ghost use Rattle.bitm_lent.specs.Answers.{HasBit, IsSelected};
+ghost use Rattle.bitm.specs.Answers.{HasBit, IsSelected};
 ghost use Rattle.bitm_lent.specs.Samples.{AreSamplesOf, IsBounded, IsSelectedIfTold};
 
 use crate::samples::{Density, LentSamples};
-use crate::selecting::{Selected, in_packed};
 use bitm::building::{
-    EntryRange, before_part, entries_of_part, first_entry, last_in_range, last_part, ones_to_entry,
-    sought_entry,
+    EntryRange, entries_of_part, first_entry, in_packed, last_in_range, ones_to_entry,
+    part_of_rank, sought_entry,
 };
-use bitm::{CombinedSamplingDensity, L2_ENTRIES_PER_L1_ENTRY, TableSource};
+use bitm::{CombinedSamplingDensity, L2_ENTRIES_PER_L1_ENTRY, Selected, TableSource};
 
 /// How many samples there are before a part, or in all where there is no such part.
 #[inline(always)]
@@ -191,6 +190,37 @@ fn entry_between<const ONE: u8, T: TableSource>(
     Some(last_in_range::<ONE, T>(source, part, range, rank))
 }
 
+/// The last entry of a part with no more than `rank` of the kind before it in the part, where the tables are those of
+/// the words, and what it packs; `None` only where it is not where the samples say.
+#[inline(always)]
+pub(crate) fn sampled_entry<const ONE: u8, T: TableSource>(
+    source: &mut T,
+    lent: &LentSamples<'_>,
+    part: usize,
+    rank: usize,
+) -> Option<(usize, u64)>
+    requires sized { HasSizes (T.lists source.old) }
+    requires inside { part < length (T.lists source.old).upper }
+    ensures inside { IfSome result
+        (λ r. r.0 < entries_from (length (T.lists source.old).lower) part) }
+    ensures last { IfSome result (λ r. HasTables (T.lists source.old)
+        → IsLastEntry (sought_in ONE (T.lists source.old).words)
+        (length (T.lists source.old).lower) part rank r.0) }
+    ensures entry { IfSome result (λ r. HasTables (T.lists source.old) → r.1
+        ≡ lower_entry (sought_in ONE (T.lists source.old).words) (entry_in part r.0)) }
+    ensures found { HasTables (T.lists source.old)
+        → AreSamplesOf (bits_in (T.lists source.old)) (kind ONE) lent.now
+        → IsNone result → ⊥ }
+    ensures reads { ReadsAtMost (T.reads source.old) (T.reads source.new) 0 23 0 }
+    ensures same { T.lists source.new ≡ T.lists source.old }
+{
+    let entries = entries_of_part(source.lower_len(), part);
+    let Some((low, end)) = bounds(lent, part, entries, rank) else {
+        return None;
+    };
+    entry_between::<ONE, T>(source, part, low, end, rank)
+}
+
 /// Selection in a part by samples: the last entry with no more than `rank` of the kind before it in the part, and the
 /// bit in it.
 #[inline(always)]
@@ -219,12 +249,8 @@ fn sampled_in_part<const ONE: u8, T: TableSource>(
     ensures reads { ReadsAtMost (T.reads source.old) (T.reads source.new) 0 23 8 }
     ensures same { T.lists source.new ≡ T.lists source.old }
 {
-    let entries = entries_of_part(source.lower_len(), part);
-    let Some((low, end)) = bounds(lent, part, entries, rank) else {
-        return Selected::WrongTables;
-    };
-    match entry_between::<ONE, T>(source, part, low, end, rank) {
-        Some((entry, packed)) => in_packed::<ONE, T>(source, part, entry, packed, rank),
+    match sampled_entry::<ONE, T>(source, lent, part, rank) {
+        Some((entry, packed)) => in_packed::<ONE, 1, T>(source, part, entry, packed, rank),
         None => Selected::WrongTables,
     }
 }
@@ -261,10 +287,9 @@ pub fn sampled_select_on<const ONE: u8, T: TableSource>(
     if source.upper_len() == 0 {
         return Selected::Absent;
     }
-    let part = last_part::<ONE, T>(source, rank);
-    let before = before_part::<ONE, T>(source, part);
-    if before > rank {
+    let (part, in_part) = part_of_rank::<ONE, T>(source, rank);
+    if in_part > rank {
         return Selected::WrongTables;
     }
-    sampled_in_part::<ONE, T>(source, lent, part, rank - before)
+    sampled_in_part::<ONE, T>(source, lent, part, in_part)
 }

@@ -4,23 +4,20 @@ ghost use Rattle.bitm_bits.specs.Count.{kind};
 ghost use Rattle.bitm_lent.specs.Samples.{SampledTold};
 
 use crate::lent::Lent;
-use crate::lists::{NO_ANSWER, WRONG_TABLES};
+use crate::sampled_many::sampled_select_many_on;
 use crate::samples::LentSamples;
-use crate::selecting::Selected;
+use bitm::Probe;
+use bitm::building::told;
 
 /// The place with one rank, `NO_ANSWER` or `WRONG_TABLES`; of a zero where `ONE` is 0.
 #[inline(always)]
 fn selected<const ONE: u8>(lent: &Lent<'_>, samples: &LentSamples<'_>, rank: usize) -> usize
     ensures { SampledTold (kind ONE) lent.now samples.now rank result }
 {
-    match lent.sampled_kind::<ONE>(samples, rank) {
-        Selected::Found(place) => place,
-        Selected::Absent => NO_ANSWER,
-        Selected::WrongTables => WRONG_TABLES,
-    }
+    told(lent.sampled_kind::<ONE>(samples, rank))
 }
 
-/// Writes the place with each rank.
+/// Writes the place with each rank, by searches side by side where there is a word.
 fn select_each<const ONE: u8>(
     lent: &Lent<'_>,
     samples: &LentSamples<'_>,
@@ -32,15 +29,20 @@ fn select_each<const ONE: u8>(
     ensures told { (j : ℕ) → j < length ranks.now → SampledTold (kind ONE) lent.now samples.now
         (slice_index ranks.now j) (slice_index out.new j) }
 {
+    if !lent.words().is_empty() {
+        sampled_select_many_on::<ONE, Probe<'_>>(&mut lent.probe(), samples, ranks, out);
+        return;
+    }
     for at in 0..ranks.len() {
         out[at] = selected::<ONE>(lent, samples, ranks[at]);
     }
 }
 
 impl<'a> Lent<'a> {
-    /// Writes the place of the one with each rank, as `sampled_select` answers it, `NO_ANSWER` for `Absent` and
-    /// `WRONG_TABLES` for `WrongTables`; answers false exactly where there is not room for as many answers as ranks,
-    /// and nothing is written then.
+    /// Writes the place of the one with each rank, as `sampled_select` answers it where tables and samples are those of
+    /// the words, `NO_ANSWER` for `Absent` and `WRONG_TABLES` for `WrongTables`. With the tables of the words and other
+    /// samples it finds what `select` does, and in other tables it may be another place with a one. Answers false
+    /// exactly where there is not room for as many answers as ranks, and nothing is written then.
     pub fn sampled_select_list(
         &self,
         samples: &LentSamples<'_>,

@@ -1,6 +1,6 @@
-pub mod Answers
+pub use Rattle.elias_fano.specs.Answers
 pub mod Checks
 pub mod Error
-pub mod Held
+pub use Rattle.elias_fano.specs.Held
 pub mod Lists
 pub mod Sizes

@@ -1,5 +1,7 @@
 -- What is answered to a list of places.
-use Rattle.std.specs.Prelude.{◌≡◌, ◌≢◌, ⊤, ℕ, ◌-◌, ◌^◌, ◌<◌, ◌≤◌, ◌⊎◌, List, length, slice_index}
+use Rattle.std.specs.Prelude.{◌≡◌, ◌≢◌, ⊤, ℕ, ◌-◌, ◌%◌, ◌^◌, ◌<◌, ◌≤◌, ◌⊎◌, true, List, length, slice_index}
+use Rattle.bitm.specs.Answers.{SelectTold}
+use Rattle.bitm.specs.Tables.{Lists}
 use Rattle.elias_fano.specs.Sequence.{Reaches}
 use Rattle.elias_fano_lent.specs.Held.{Held, Holds}
 use Rattle.elias_fano_lent.specs.declared.lists.Listed.{Listed}
@@ -20,6 +22,11 @@ IsListed n places room (AbsentAt k) =
 IsListed n places room (WrongAt k) =
     (room ≡ length places) × (k < length places) × ((j : ℕ) → j ≤ k → slice_index places j < n)
 IsListed n places room WrongLength = room ≢ length places
+
+-- of the places from place k of the list on and before place end, sixteen numbers tell the ones
+abbrev pub AreAhead : Lists → List ℕ → ℕ → ℕ → List ℕ → Type 0
+AreAhead upper places k end ones =
+    (j : ℕ) → k ≤ j → j < end → j < length places → SelectTold true upper (slice_index places j) (slice_index ones (j % 16))
 
 -- right parts are not called wrong
 abbrev pub IsNeverWrong : Listed → Type 0

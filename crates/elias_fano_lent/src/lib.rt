@@ -18,8 +18,6 @@
 //! ```
 #![tactic(auto)]
 
-mod answer;
-mod asking;
 mod checking;
 mod error;
 mod filling;
@@ -27,8 +25,7 @@ mod lists;
 mod sequence;
 mod sizes;
 
-pub use answer::Sought;
-pub use asking::{total_first_at_least_on, total_item_on};
+pub use elias_fano::{Sought, total_first_at_least_on, total_item_on};
 pub use error::BuildError;
 pub use filling::build;
 pub use lists::Listed;

@@ -3,9 +3,10 @@ ghost use Rattle.std.specs.Prelude.{◌≡◌, ◌<◌, ◌↔◌, ℕ, IsTrue, 
 ghost use Rattle.elias_fano_lent.specs.Held.{Holds};
 ghost use Rattle.elias_fano_lent.specs.Lists.{written, AreItems, IsKeptFrom, IsListed, IsNeverWrong, PlaceTold};
 
-use crate::answer::Sought;
 use crate::sequence::LentSequence;
+use bitm::building::SIDE_BY_SIDE;
 use bitm_lent::{NO_ANSWER, WRONG_TABLES};
+use elias_fano::Sought;
 
 /// How far a list of places was answered.
 #[derive(Clone, Copy, PartialEq, Eq, Debug)]
@@ -22,7 +23,8 @@ pub enum Listed {
 }
 
 impl<'a> LentSequence<'a> {
-    /// Writes the number at each place of the list, as `get` answers it, up to the first that is not found.
+    /// Writes the number at each place of the list, as `get` answers it where the parts are those of a sequence, up to
+    /// the first that is not found. In other parts a number may be another than `get` finds.
     pub fn get_list(&self, places: &[usize], out: &mut [u64]) -> Listed
         ensures listed { IsListed self.now.len places.now (length out.old) result }
         ensures told { (xs : List ℕ) → Holds xs self.now
@@ -33,8 +35,10 @@ impl<'a> LentSequence<'a> {
         if out.len() != places.len() {
             return Listed::WrongLength;
         }
+        let mut ones = [0; SIDE_BY_SIDE];
         for at in 0..places.len() {
-            match self.get(places[at]) {
+            self.select_ahead(places, at, &mut ones);
+            match self.item_told(places[at], ones[at % SIDE_BY_SIDE]) {
                 Sought::Found(number) => out[at] = number,
                 Sought::Absent => return Listed::AbsentAt(at),
                 Sought::WrongParts => return Listed::WrongAt(at),

@@ -1,13 +1,37 @@
 //! A sequence whose parts are lent.
-ghost use Rattle.std.specs.Prelude.{◌≡◌, ◌^◌, ◌<◌, ◌↔◌, ℕ, IsTrue, List, MatchOption};
+ghost use Rattle.std.specs.Prelude.{◌≡◌, ◌+◌, ◌*◌, ◌/◌, ◌^◌, ◌<◌, ◌↔◌, ℕ};
+ghost use Rattle.std.specs.Prelude.{IsTrue, List, MatchOption, length, true};
+ghost use Rattle.bitm.specs.Answers.{SelectTold};
+ghost use Rattle.bitm.specs.Tables.{Lists};
+ghost use Rattle.elias_fano.specs.Parts.{HasFragment};
 ghost use Rattle.elias_fano_lent.specs.Answers.{IsFirst, IsItem, IsOfPlace, IsPlaceOf};
 ghost use Rattle.elias_fano_lent.specs.Held.{held, HasLengths, Holds};
+ghost use Rattle.elias_fano_lent.specs.Lists.{AreAhead};
 
-use crate::answer::Sought;
-use crate::asking::{total_first_at_least_on, total_item_on};
 use crate::checking::are_parts;
-use bitm_lent::Lent;
+use bitm::building::SIDE_BY_SIDE;
+use bitm_lent::{Lent, WRONG_TABLES};
+use elias_fano::building::item_at_one;
+use elias_fano::{Sought, laws, total_first_at_least_on, total_item_on};
 use std::marker::Model;
+
+/// Number `place` of `n`, of which a list of selections tells the one.
+#[inline(always)]
+fn item_of(low: &[u64], width: u8, n: usize, place: usize, one: usize) -> Sought<u64>
+    requires { place < n → HasFragment low.now place width }
+    ensures inside { IsOfPlace n place result }
+    ensures answer { (xs : List ℕ) (upper : Lists) → Holds xs (held n width low.now upper)
+        → SelectTold true upper place one → IsItem xs place result }
+{
+    laws::bit_laws();
+    if place >= n {
+        return Sought::Absent;
+    }
+    if one >= WRONG_TABLES {
+        return Sought::WrongParts;
+    }
+    Sought::Found(item_at_one(one, low, place, width))
+}
 
 /// The parts of a sequence, all lent, of which the lengths are right.
 ///
@@ -68,6 +92,33 @@ impl<'a> LentSequence<'a> {
         ensures { IsTrue result ↔ ((xs : List ℕ) × Holds xs self.now) }
     {
         self.upper.check() && are_parts(self.upper.words(), self.low, self.width, self.len)
+    }
+
+    /// At the first place of each sixteen, selects the ones of them all, side by side.
+    #[inline(always)]
+    pub(crate) fn select_ahead(&self, places: &[usize], at: usize, ones: &mut [usize])
+        requires at { at < length places.now }
+        requires room { length ones.old ≡ 16 }
+        requires told { AreAhead self.now.upper places.now at ((at + 15) / 16 * 16) ones.old }
+        ensures told { AreAhead self.now.upper places.now at ((at + 16) / 16 * 16) ones.new }
+        ensures room { length ones.new ≡ 16 }
+    {
+        if at % SIDE_BY_SIDE != 0 {
+            return;
+        }
+        let count = (places.len() - at).min(SIDE_BY_SIDE);
+        self.upper
+            .select_list(&places[at..at + count], &mut ones[0..count]);
+    }
+
+    /// Number `place`, of which a list of selections tells the one.
+    #[inline(always)]
+    pub(crate) fn item_told(&self, place: usize, one: usize) -> Sought<u64>
+        requires { SelectTold true self.now.upper place one }
+        ensures inside { IsOfPlace self.now.len place result }
+        ensures answer { (xs : List ℕ) → Holds xs self.now → IsItem xs place result }
+    {
+        item_of(self.low, self.width, self.len, place, one)
     }
 
     /// Number `i`, where the parts are those of a sequence; `Absent` exactly where there is none, whatever they hold.

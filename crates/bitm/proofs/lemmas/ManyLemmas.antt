@@ -1,35 +1,36 @@
 -- Many queries at once: a search by powers of two, and the record that it ends at.
 use Rattle.std.proofs.Common.{◌≡◌, ◌≢◌, ℕ, ◌+◌, ◌-◌, ◌*◌, ◌^◌, ◌<◌, ◌≤◌, List, ◌++◌, take, drop, length, slice_index, slice_set, subst, sym, ap, ◌∙◌, arith, rules, inl, inr}
 use Rattle.std.proofs.lemmas.Bool.{cases_lt}
-use Rattle.std.proofs.lemmas.List.{get_or-set_same, get_or-set_other, length-append, length-take, length-drop, places}
+use Rattle.std.proofs.lemmas.List.{get_or-set_same, get_or-set_other, get_or-take, get_or-drop, length-append, length-take, length-drop, places}
 use Rattle.std.proofs.Math.Pow.{pow_mono}
 use Rattle.std.proofs.lemmas.Nat.{pow-add}
 use Rattle.bitm_bits.specs.Bits.{bits_of, IsShort}
 use Rattle.bitm_bits.specs.Count.{ones_before, count_of, kind}
 use Rattle.bitm.specs.Entry.{before_in_part, field_0, lower_entry, record_field}
+use Rattle.bitm.specs.Answers.{told_in, IsSelectedFrom, SelectTold}
 use Rattle.bitm.specs.Many.{IsNear, IsInRecord}
-use Rattle.bitm.specs.Search.{sought_in, IsLastPart, IsLastEntry, IsWord}
+use Rattle.bitm.specs.Search.{sought_in, IsLastPart, IsLastEntry, IsPartOf, IsWord}
 use Rattle.bitm.specs.Tables.{Lists, HasTables}
+use Rattle.bitm.specs.declared.search.selected.Selected.{Selected}
 use Rattle.bitm.proofs.lemmas.MarkLemmas.{none_in_nothing}
 use Rattle.bitm.proofs.lemmas.LengthLemmas.{few_entries, first_of_part, sizes_of}
+use Rattle.bitm.proofs.lemmas.SelectedLemmas.{has_bit, selected, told_is}
 use Rattle.bitm.proofs.lemmas.SoughtLemmas.{first_none, next_is, rank_is}
 use Rattle.bitm.proofs.lemmas.TableLemmas.{entries}
 use borrow.Rule.Slice.PartMut.{put_mid}
 
 module _ (one : ℕ) (lists : Lists) (rank rest : ℕ) where
   -- a search begins at the part's first entry
-  pub near_begins : (part : ℕ) → HasTables lists → IsShort lists.words
-      → IsLastPart (sought_in one lists.words) (length lists.upper) rank part
-      → rank ≡ ones_before (sought_in one lists.words) (part * 2 ^ 32) + rest
+  pub near_begins : (part : ℕ) → HasTables lists → IsShort lists.words → IsPartOf one lists rank part rest
       → IsNear one lists rank rest (part * 2 ^ 21) 21
-  near_begins part t short last total =
+  near_begins part t short is =
       record {
         part = part;
         low = 0;
         place = omega arith;
-        last = last;
-        total = total;
-        inside = omega (arith, first_of_part lists (sizes_of lists t short) part last.inside);
+        last = subst (λ (n : ℕ). IsLastPart (sought_in one lists.words) (length lists.upper) n part) is.total is.last;
+        total = sym is.total;
+        inside = omega (arith, first_of_part lists (sizes_of lists t short) part is.last.inside);
         at_most = omega (arith, first_none (sought_in one lists.words) part);
         next = λ h. absurd (omega (arith, h));
         room = omega arith;
@@ -38,10 +39,6 @@ module _ (one : ℕ) (lists : Lists) (rank rest : ℕ) where
   module _ (at size : ℕ) (near : IsNear one lists rank rest at (size + 1)) where
     doubled : 2 ^ (size + 1) ≡ 2 ^ size + 2 ^ size
     doubled = omega (arith, pow-add 2 size 1)
-
-    -- the step fits
-    pub step_small : 2 ^ size ≤ 2 ^ 20
-    step_small = omega (arith, near.room, doubled)
 
     -- where no more stand before the entry in the middle it is that one or a later one
     pub near_up : at + 2 ^ size < length lists.lower → before_in_part (sought_in one lists.words) (at + 2 ^ size) ≤ rest
@@ -113,6 +110,23 @@ pub near_ends : (one : ℕ) (lists : Lists) (rank rest at : ℕ) → (near : IsN
     → IsLastEntry (sought_in one lists.words) (length lists.lower) near.part rest near.low
 near_ends one lists rank rest at near = record { inside = near.inside; at_most = near.at_most; next = near.next }
 
+-- a search that finds the last entry of the part ends there
+pub near_found : (one : ℕ) (lists : Lists) (rank rest part low : ℕ) → IsPartOf one lists rank part rest
+    → IsLastEntry (sought_in one lists.words) (length lists.lower) part rest low
+    → IsNear one lists rank rest (part * 2 ^ 21 + low) 0
+near_found one lists rank rest part low is last =
+    record {
+      part = part;
+      low = low;
+      place = omega arith;
+      last = subst (λ (n : ℕ). IsLastPart (sought_in one lists.words) (length lists.upper) n part) is.total is.last;
+      total = sym is.total;
+      inside = last.inside;
+      at_most = last.at_most;
+      next = last.next;
+      room = omega (arith, last.inside);
+    }
+
 -- the entry that the search ends at is one of few
 pub near_few : (one : ℕ) (lists : Lists) (rank rest at : ℕ) → HasTables lists → IsShort lists.words → IsNear one lists rank rest at 0
     → at * 32 + 32 < 2 ^ 60
@@ -156,10 +170,21 @@ module _ (one : ℕ) (lists : Lists) (rank rest at packed count place before wor
       let end = ap (λ (n : ℕ). ones_before (sought_in one lists.words) (64 * (n + 8))) same in
       record {
         fits = omega (arith, near_few one lists rank rest at t short near, small);
-        total = omega (arith, near.total, total, here);
-        next = λ h. omega (arith, near.total, total, after (omega (arith, h, same)), end);
+        total = λ _. omega (arith, near.total, total, here);
+        next = λ _ h. omega (arith, near.total, total, after (omega (arith, h, same)), end);
         word_is = word_is;
       }
+
+-- what is told of a selection in the record
+pub told_record : (one : ℕ) (lists : Lists) (rank rest first word : ℕ) → IsInRecord one lists rank rest first word → (s : Selected)
+    → IsSelectedFrom lists.words (kind one) first (ones_before (sought_in one lists.words) (64 * first) + rest) s
+    → SelectTold (kind one) lists rank (told_in s)
+told_record one lists rank rest first word there s is =
+    let R = ones_before (sought_in one lists.words) (64 * first) + rest in
+    told_is (kind one) lists rank s (has_bit lists.words (kind one) first R s is)
+    (λ t.
+    selected lists.words (kind one) first rank s (there.next t)
+    (subst (λ (n : ℕ). IsSelectedFrom lists.words (kind one) first n s) (sym (there.total t)) is))
 
 -- ---- lists that are written item by item: what holds of the items so far, and of those that are left
 
@@ -219,6 +244,35 @@ put_long a n xs ys inside long =
       length-drop (a + n - a) (drop a xs),
       length-drop a xs,
     )
+
+-- a part of a list has so many items
+pub part_long : (xs : List ℕ) (a n : ℕ) → a + n ≤ length xs → length (take (a + n - a) (drop a xs)) ≡ n
+part_long xs a n h = omega (arith, length-take (a + n - a) (drop a xs), length-drop a xs)
+
+-- an item of a part
+pub part_item : (xs : List ℕ) (a n j : ℕ) → j < n → slice_index (take (a + n - a) (drop a xs)) j ≡ slice_index xs (a + j)
+part_item xs a n j h = get_or-take (a + n - a) (drop a xs) j 0 (omega arith) ∙ get_or-drop a xs j 0
+
+-- what is written at once are the answers of a part, after those that stand
+pub answers_follow : (P : ℕ → ℕ → Type 0) (from n : ℕ) (ranks places new : List ℕ) → from + n ≤ length places → length new ≡ n
+    → ((j : ℕ) → j < from → P (slice_index ranks j) (slice_index places j))
+    → ((j : ℕ) → j < n → P (slice_index (take (from + n - from) (drop from ranks)) j) (slice_index new j))
+    → (j : ℕ) → j < from + n → P (slice_index ranks j) (slice_index (put_mid from (from + n - from) places new) j)
+answers_follow P from n ranks places new inside long old added j h =
+    let after = put_mid from (from + n - from) places new in
+    elim (cases_lt j from) [
+      | inl below ↦
+          subst (P (slice_index ranks j)) (sym (put_below from (from + n - from) places new j below (omega (arith, inside)))) (old j below)
+      | inr over ↦
+          let at : from + (j - from) ≡ j = omega (arith, over) in
+          let k : j - from < n = omega (arith, over, h) in
+          let there : slice_index after j ≡ slice_index new (j - from) =
+          ap (slice_index after) (sym at)
+          ∙ put_inside from (from + n - from) places new (j - from) (omega (arith, k, long)) (omega (arith, inside)) in
+          let rank : slice_index (take (from + n - from) (drop from ranks)) (j - from) ≡ slice_index ranks j =
+          part_item ranks from n (j - from) k ∙ ap (slice_index ranks) at in
+          subst (P (slice_index ranks j)) (sym there) (subst (λ (r : ℕ). P r (slice_index new (j - from))) rank (added (j - from) k))
+    ]
 
 -- a content that has an item of the kind has a part
 pub some_part : (one : ℕ) (lists : Lists) (rank : ℕ) → HasTables lists → rank < count_of (bits_of lists.words) (kind one)

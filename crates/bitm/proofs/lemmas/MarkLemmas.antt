@@ -1,6 +1,5 @@
 -- Ones of the sought bits are bits of the kind that is sought; what a word of them tells of a place.
-use Rattle.std.proofs.Common.{◌≡◌, ◌≢◌, ℕ, zero, suc, ◌+◌, ◌-◌, ◌*◌, ◌%◌, ◌^◌, ◌<◌, ◌≤◌, Bool, true, false, not, List, length, replicate, min, length-append, slice_index, count_ones, arith, refl, sym, ap, ◌∙◌, inl, inr}
-use Rattle.std.proofs.lemmas.Bool.{cases_lt}
+use Rattle.std.proofs.Common.{◌≡◌, ◌≢◌, ℕ, zero, suc, ◌+◌, ◌-◌, ◌*◌, ◌%◌, ◌^◌, ◌<◌, ◌≤◌, Bool, true, false, not, List, length, replicate, length-append, slice_index, count_ones, arith, refl, sym, ap, ◌∙◌}
 use Rattle.std.proofs.lemmas.List.{length-map}
 use Rattle.std.proofs.lemmas.Nat.{ones_le_self}
 use Rattle.std.proofs.lemmas.Nat.Bits.{same_from_bits_below}
@@ -173,18 +172,6 @@ module _ (words : List ℕ) (v : Bool) (k w R rest : ℕ) (word : CountsWord (so
 pub none_counted : (b : List Bool) (v : Bool) (r i : ℕ) → length b ≤ i → ones_before (sought v b) i ≤ r → count_before b v (length b) ≤ r
 none_counted b v r i past le =
     omega (arith, count_before-sought b v (length b) (omega arith), (ones_before-between (sought v b) (length b) i past).0)
-
-pub none_found : (words : List ℕ) (v : Bool) (R left first end at : ℕ) → R ≡ ones_before (sought v (bits_of words)) (64 * at) + left
-    → end ≡ min (length words) (first + 8) → end ≤ at → at ≤ first + 8
-    → (first + 8 < length words → R < ones_before (sought v (bits_of words)) (64 * (first + 8)))
-    → count_before (bits_of words) v (length (bits_of words)) ≤ R
-none_found words v R left first end at count is over le next =
-    elim (cases_lt at (length words)) [
-      | inl h ↦
-          let last : at ≡ first + 8 = omega arith in
-          absurd (omega (arith, next (omega arith), ap (λ (n : ℕ). ones_before (sought v (bits_of words)) (64 * n)) last, count))
-      | inr h ↦ none_counted (bits_of words) v R (64 * at) (omega (arith, length-bits_of words)) (omega (arith, count))
-    ]
 
 -- nothing is picked in no bits
 pub none_in_nothing : (b : List Bool) (v : Bool) (r : ℕ) → length b ≡ 0 → count_before b v (length b) ≤ r

@@ -1,5 +1,5 @@
 -- What the tables tell of the bits in which ones are sought: before a part, before an entry, and in the record chosen.
-use Rattle.std.proofs.Common.{◌≡◌, ◌≢◌, ℕ, ◌+◌, ◌-◌, ◌*◌, ◌/◌, ◌%◌, ◌^◌, ◌<◌, ◌≤◌, Bool, List, length, slice_index, Option, Some, None, IfSome, arith, sym, ap, ◌∙◌, inl, inr}
+use Rattle.std.proofs.Common.{◌≡◌, ◌≢◌, ℕ, ◌+◌, ◌-◌, ◌*◌, ◌/◌, ◌%◌, ◌^◌, ◌<◌, ◌≤◌, Bool, List, length, slice_index, arith, sym, ap, ◌∙◌, inl, inr}
 use Rattle.std.proofs.lemmas.Bool.{cases_lt}
 use Rattle.bitm_bits.proofs.lemmas.BitsLemmas.{length-bits_of}
 use Rattle.bitm_bits.specs.Bits.{bits_of, IsShort}
@@ -76,29 +76,28 @@ record_fields_rise b e j k is h =
     let next = record_field_is b j (k + 1) (omega arith) in
     omega (arith, g.0, there, next, ap (λ x. record_field x k) is, ap (λ x. record_field x (k + 1)) is)
 
--- of three rising counts the last that is at most the rank is as many from the third as are above it
+-- of three rising counts the last that is at most the rank is as many as are at most it
 pub record_chosen : (count : ℕ → ℕ) (rank p q r : ℕ) → count 0 ≡ 0 → count 1 ≤ count 2 → count 2 ≤ count 3
-    → (rank < count 1 → p ≡ 1) → (count 1 ≤ rank → p ≡ 0) → (rank < count 2 → q ≡ 1) → (count 2 ≤ rank → q ≡ 0)
-    → (rank < count 3 → r ≡ 1) → (count 3 ≤ rank → r ≡ 0)
-    → (3 - (p + q + r) < 4) × (count (3 - (p + q + r)) ≤ rank)
-    × (3 - (p + q + r) < 3 → rank < count (3 - (p + q + r) + 1))
+    → (count 1 ≤ rank → p ≡ 1) → (rank < count 1 → p ≡ 0) → (count 2 ≤ rank → q ≡ 1) → (rank < count 2 → q ≡ 0)
+    → (count 3 ≤ rank → r ≡ 1) → (rank < count 3 → r ≡ 0)
+    → (p + q + r < 4) × (count (p + q + r) ≤ rank) × (p + q + r < 3 → rank < count (p + q + r + 1))
 record_chosen count rank p q r none second third p-yes p-no q-yes q-no r-yes r-no =
     elim (cases_lt rank (count 1)) [
       | inl first ↦
-          let e : 3 - (p + q + r) ≡ 0 = omega (arith, p-yes first, q-yes (omega arith), r-yes (omega arith)) in
+          let e : p + q + r ≡ 0 = omega (arith, p-no first, q-no (omega arith), r-no (omega arith)) in
           (omega arith, omega (arith, ap count e), λ _. omega (arith, ap (λ k. count (k + 1)) e))
       | inr above ↦
           elim (cases_lt rank (count 2)) [
             | inl first ↦
-                let e : 3 - (p + q + r) ≡ 1 = omega (arith, p-no above, q-yes first, r-yes (omega arith)) in
+                let e : p + q + r ≡ 1 = omega (arith, p-yes above, q-no first, r-no (omega arith)) in
                 (omega arith, omega (arith, ap count e), λ _. omega (arith, ap (λ k. count (k + 1)) e))
             | inr over ↦
                 elim (cases_lt rank (count 3)) [
                   | inl first ↦
-                      let e : 3 - (p + q + r) ≡ 2 = omega (arith, p-no above, q-no over, r-yes first) in
+                      let e : p + q + r ≡ 2 = omega (arith, p-yes above, q-yes over, r-no first) in
                       (omega arith, omega (arith, ap count e), λ _. omega (arith, ap (λ k. count (k + 1)) e))
                   | inr all ↦
-                      let e : 3 - (p + q + r) ≡ 3 = omega (arith, p-no above, q-no over, r-no all) in
+                      let e : p + q + r ≡ 3 = omega (arith, p-yes above, q-yes over, r-yes all) in
                       (omega arith, omega (arith, ap count e), λ h. absurd (omega arith))
                 ]
           ]
@@ -174,10 +173,3 @@ module _ (words upper lower : List ℕ) (t : AreTablesOf (bits_of words) upper l
         → ones_before m (64 * ((part * 2 ^ 21 + e) * 32 + k * 8)) + (r - count - before)
         < ones_before m (64 * ((part * 2 ^ 21 + e) * 32 + k * 8 + 8))
     next_is h = omega (arith, rank_is, next_record words upper lower t m part r e k up low small most after h)
-
-    -- a place in the record is in the entry
-    pub place_in_entry : (o : Option ℕ)
-        → IfSome o (λ p. (64 * ((part * 2 ^ 21 + e) * 32 + k * 8) ≤ p) × (p < 64 * ((part * 2 ^ 21 + e) * 32 + k * 8 + 8)))
-        → IfSome o (λ p. p / 2048 ≡ part * 2 ^ 21 + e)
-    place_in_entry None inside = tt
-    place_in_entry (Some p) inside = omega (arith, inside.0, inside.1)

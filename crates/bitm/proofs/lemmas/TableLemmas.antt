@@ -61,9 +61,6 @@ to_record b i =
     rw (part, record_at) (omega arith)
 
 module _ (words upper lower : List ℕ) (t : AreTablesOf (bits_of words) upper lower) (i : ℕ) (inside : i / 64 < length words) where
-  pub upper_inside : i / 2 ^ 32 < length upper
-  upper_inside = let e = entries (bits_of words) upper lower t in omega (arith, e.upper_length, length-bits_of words)
-
   pub lower_inside : i / 2048 < length lower
   lower_inside = let e = entries (bits_of words) upper lower t in omega (arith, e.lower_length, length-bits_of words)
 

@@ -4,7 +4,7 @@ ghost use Rattle.std.specs.Prelude.{◌≡◌, ◌+◌, ◌-◌, ◌*◌, ◌/�
 ghost use Rattle.bitm_bits.specs.Bits.{digit_count};
 ghost use Rattle.bitm.specs.Entry.{lower_entry};
 ghost use Rattle.bitm.specs.Reads.{lower_read, ReadsAtMost};
-ghost use Rattle.bitm.specs.Search.{entries_from, entry_in, sought_in, IsAmong, IsLastEntry};
+ghost use Rattle.bitm.specs.Search.{entries_from, entry_in, sought_in, IsLastEntry, IsRange};
 ghost use Rattle.bitm.specs.Tables.{HasSizes, HasTables};
 
 use crate::entry::{entries_of_part, negated_entry, ones_to_entry};
@@ -39,7 +39,7 @@ pub fn sought_entry<const ONE: u8, T: TableSource>(source: &mut T, at: usize) ->
 
 /// Where the last entry is sought: among `left` entries of a part from entry `low` on, which packs `packed` (0 for the
 /// first of the part, which need not be read), before entry `low + left`, which has `above` items before it (0: not
-/// known).
+/// known). Contracts say of it `IsRange`.
 #[derive(Clone, Copy, PartialEq, Eq, Debug)]
 pub struct EntryRange {
     /// The first entry of the range, counted in its part.
@@ -66,22 +66,10 @@ fn side_of<const ONE: u8, T: TableSource>(
     requires inside { part < length (T.lists source.old).upper }
     requires some { 0 < cut }
     requires in_range { cut < range.left }
-    requires within { range.low + range.left
-        ≤ entries_from (length (T.lists source.old).lower) part }
-    requires among { HasTables (T.lists source.old)
-        → IsAmong (sought_in ONE (T.lists source.old).words)
-        (length (T.lists source.old).lower) part rank range.low range.left }
-    requires packed { HasTables (T.lists source.old) → 0 < range.low → range.packed
-        ≡ lower_entry (sought_in ONE (T.lists source.old).words) (entry_in part range.low) }
-    ensures among { HasTables (T.lists source.old)
-        → IsAmong (sought_in ONE (T.lists source.old).words)
-        (length (T.lists source.old).lower) part rank result.low result.left }
-    ensures packed { HasTables (T.lists source.old) → 0 < result.low → result.packed
-        ≡ lower_entry (sought_in ONE (T.lists source.old).words) (entry_in part result.low) }
+    requires range { IsRange ONE (T.lists source.old) part rank range }
+    ensures range { IsRange ONE (T.lists source.old) part rank result }
     ensures side { ((result.low ≡ range.low) × (result.left ≡ cut))
         ⊎ ((result.low ≡ range.low + cut) × (result.left ≡ range.left - cut)) }
-    ensures within { result.low + result.left
-        ≤ entries_from (length (T.lists source.old).lower) part }
     ensures counted { T.reads source.new ≡ lower_read (T.reads source.old) }
     ensures same { T.lists source.new ≡ T.lists source.old }
 {
@@ -142,17 +130,8 @@ fn guessed<const ONE: u8, T: TableSource>(
     requires inside { part < length (T.lists source.old).upper }
     requires many { 2 ^ 12 ≤ range.left }
     requires first { range.low ≡ 0 }
-    requires within { range.left ≤ entries_from (length (T.lists source.old).lower) part }
-    requires among { HasTables (T.lists source.old)
-        → IsAmong (sought_in ONE (T.lists source.old).words)
-        (length (T.lists source.old).lower) part rank range.low range.left }
-    ensures left { 0 < result.left }
-    ensures within { result.low + result.left ≤ entries_from (length (T.lists source.old).lower) part }
-    ensures among { HasTables (T.lists source.old)
-        → IsAmong (sought_in ONE (T.lists source.old).words)
-        (length (T.lists source.old).lower) part rank result.low result.left }
-    ensures packed { HasTables (T.lists source.old) → 0 < result.low → result.packed
-        ≡ lower_entry (sought_in ONE (T.lists source.old).words) (entry_in part result.low) }
+    requires range { IsRange ONE (T.lists source.old) part rank range }
+    ensures range { IsRange ONE (T.lists source.old) part rank result }
     ensures reads { (T.reads source.new).lower + digit_count (result.left - 1)
         ≤ (T.reads source.old).lower + 23 }
     ensures reads_first { result.low ≡ 0
@@ -181,13 +160,7 @@ fn search_range<const ONE: u8, T: TableSource>(
 ) -> EntryRange
     requires sized { HasSizes (T.lists source.old) }
     requires inside { part < length (T.lists source.old).upper }
-    ensures left { 0 < result.left }
-    ensures within { result.low + result.left ≤ entries_from (length (T.lists source.old).lower) part }
-    ensures among { HasTables (T.lists source.old)
-        → IsAmong (sought_in ONE (T.lists source.old).words)
-        (length (T.lists source.old).lower) part rank result.low result.left }
-    ensures packed { HasTables (T.lists source.old) → 0 < result.low → result.packed
-        ≡ lower_entry (sought_in ONE (T.lists source.old).words) (entry_in part result.low) }
+    ensures range { IsRange ONE (T.lists source.old) part rank result }
     ensures reads { (T.reads source.new).lower + digit_count (result.left - 1)
         ≤ (T.reads source.old).lower + 23 }
     ensures reads_first { result.low ≡ 0
@@ -226,13 +199,7 @@ pub fn last_in_range<const ONE: u8, T: TableSource>(
 ) -> (usize, u64)
     requires sized { HasSizes (T.lists source.old) }
     requires inside { part < length (T.lists source.old).upper }
-    requires left { 0 < range.left }
-    requires within { range.low + range.left ≤ entries_from (length (T.lists source.old).lower) part }
-    requires among { HasTables (T.lists source.old)
-        → IsAmong (sought_in ONE (T.lists source.old).words)
-        (length (T.lists source.old).lower) part rank range.low range.left }
-    requires packed { HasTables (T.lists source.old) → 0 < range.low → range.packed
-        ≡ lower_entry (sought_in ONE (T.lists source.old).words) (entry_in part range.low) }
+    requires range { IsRange ONE (T.lists source.old) part rank range }
     ensures from { range.low ≤ result.0 }
     ensures to { result.0 < range.low + range.left }
     ensures last { HasTables (T.lists source.old)

@@ -1,20 +1,24 @@
 //! Many queries at once over a source: selections side by side, so that one waits for the memory while the others do.
-ghost use Rattle.std.specs.Prelude.{◌≡◌, ◌+◌, ◌*◌, ◌^◌, ◌<◌, ◌≤◌, All, length};
-ghost use Rattle.bitm_bits.specs.Bits.{bits_of, digit_count, IsShort};
-ghost use Rattle.bitm_bits.specs.Count.{count_of, kind, IsSelect};
-ghost use Rattle.bitm.specs.Many.{RanksEach, PicksEach, IsNear, AreNear, IsInRecord, AreInRecords};
+ghost use Rattle.std.specs.Prelude.{◌≡◌, ◌+◌, ◌*◌, ◌^◌, ◌<◌, ◌≤◌, ℕ, All, length};
+ghost use Rattle.bitm_bits.specs.Bits.{digit_count, IsShort};
+ghost use Rattle.bitm_bits.specs.Count.{count_of, kind, ones_before};
+ghost use Rattle.bitm.specs.Answers.{IsSelectedFrom, ToldEach};
+ghost use Rattle.bitm.specs.Many.{RanksEach, PicksEach, IsSearch, AreSearches, IsInRecord, AreInRecords};
 ghost use Rattle.bitm.specs.Reads.{OnlyReads, ReadsAtMost};
-ghost use Rattle.bitm.specs.Tables.{HasTables, IsIndexed, bits_in};
+ghost use Rattle.bitm.specs.Search.{sought_in, IsWord};
+ghost use Rattle.bitm.specs.Tables.{HasSizes, IsIndexed, bits_in};
 
 use crate::entry::ones_to_entry;
 use crate::levels::{L2_ENTRIES_PER_L1_ENTRY, U64_PER_L2_ENTRY, U64_PER_L2_RECORDS};
 use crate::search::entries::sought_entry;
 use crate::search::ranking::rank_on;
-use crate::search::selecting::{before_part, last_part, record_of, select_in_word, sought_word};
+use crate::search::record::{among, is_at_most, record_of, select_in_word, sought_word};
+use crate::search::selected::{Selected, told};
+use crate::search::selecting::part_of_rank;
 use crate::source::TableSource;
 
 /// So many selections are under way side by side: more than a processor waits for at once.
-const SIDE_BY_SIDE: usize = 16;
+pub const SIDE_BY_SIDE: usize = 16;
 
 /// For each index how many of the first so many bits of the source's words are ones.
 ///
@@ -41,29 +45,18 @@ pub fn rank_many_on<T: TableSource>(source: &mut T, indices: &[usize], ranks: &m
 }
 
 /// The first entry of the last part with no more than `rank` of the kind before it, and how many of them are left
-/// there.
+/// there, where the tables are those of the words; else the first entry of some part.
 #[inline(always)]
 fn begin<const ONE: u8, T: TableSource>(source: &mut T, rank: usize) -> (usize, usize)
-    requires tables { HasTables (T.lists source.old) }
-    requires short { IsShort (T.lists source.old).words }
+    requires sized { HasSizes (T.lists source.old) }
     requires some { 0 < length (T.lists source.old).upper }
-    ensures near { IsNear ONE (T.lists source.old) rank result.1 result.0 21 }
+    ensures search { IsSearch ONE (T.lists source.old) rank result.1 result.0 21 }
     ensures reads { ReadsAtMost (T.reads source.old) (T.reads source.new)
         (digit_count (length (T.lists source.old).upper) + 1) 0 0 }
     ensures same { T.lists source.new ≡ T.lists source.old }
 {
-    let part = last_part::<ONE, T>(source, rank);
-    let before = before_part::<ONE, T>(source, part);
-    (part * L2_ENTRIES_PER_L1_ENTRY, rank - before)
-}
-
-/// 1 where no more than `rank` were counted, else 0.
-#[inline(always)]
-fn is_at_most(count: usize, rank: usize) -> usize
-    ensures yes { count ≤ rank → result ≡ 1 }
-    ensures no { rank < count → result ≡ 0 }
-{
-    (count <= rank) as usize
+    let (part, rest) = part_of_rank::<ONE, T>(source, rank);
+    (part * L2_ENTRIES_PER_L1_ENTRY, rest)
 }
 
 /// The entry 2^`size` after `entry`, where no more than `rest` of the kind stand before it in the part, else `entry`.
@@ -72,16 +65,15 @@ fn is_at_most(count: usize, rank: usize) -> usize
 #[inline(always)]
 fn halve<const ONE: u8, T: TableSource>(
     source: &mut T,
-    _rank: usize,
     rest: usize,
     entry: usize,
     size: u32,
 ) -> usize
-    requires tables { HasTables (T.lists source.old) }
-    requires short { IsShort (T.lists source.old).words }
+    requires sized { HasSizes (T.lists source.old) }
     requires size { size < 21 }
-    requires near { IsNear ONE (T.lists source.old) _rank rest entry (size + 1) }
-    ensures near { IsNear ONE (T.lists source.old) _rank rest result size }
+    requires entry { entry < length (T.lists source.old).lower }
+    ensures search { (rank : ℕ) → IsSearch ONE (T.lists source.old) rank rest entry (size + 1)
+        → IsSearch ONE (T.lists source.old) rank rest result size }
     ensures reads { ReadsAtMost (T.reads source.old) (T.reads source.new) 0 1 0 }
     ensures same { T.lists source.new ≡ T.lists source.old }
 {
@@ -93,24 +85,24 @@ fn halve<const ONE: u8, T: TableSource>(
     entry + (is_at_most(count, rest) << size)
 }
 
-/// The record of an entry that has the item of a rank: its first word's place, how many are left there, and that word,
-/// which is read at once, so that the records of all queries are waited for side by side.
+/// The record of an entry that has the item of a rank, if the tables are those of the words: its first word's place,
+/// how many are left there, and that word, which is read at once, so that the records of all queries are waited for
+/// side by side.
 #[inline(always)]
 fn load<const ONE: u8, T: TableSource>(
     source: &mut T,
-    _rank: usize,
     rest: usize,
     entry: usize,
 ) -> (usize, usize, u64)
-    requires tables { HasTables (T.lists source.old) }
-    requires short { IsShort (T.lists source.old).words }
-    requires near { IsNear ONE (T.lists source.old) _rank rest entry 0 }
-    ensures in_record { IsInRecord ONE (T.lists source.old) _rank result.1 result.0 result.2 }
+    requires sized { HasSizes (T.lists source.old) }
+    requires entry { entry < length (T.lists source.old).lower }
+    ensures in_record { (rank : ℕ) → IsSearch ONE (T.lists source.old) rank rest entry 0
+        → IsInRecord ONE (T.lists source.old) rank result.1 result.0 result.2 }
     ensures reads { ReadsAtMost (T.reads source.old) (T.reads source.new) 0 1 1 }
     ensures same { T.lists source.new ≡ T.lists source.old }
 {
     let packed = sought_entry::<ONE, T>(source, entry);
-    let in_entry = rest - ones_to_entry(packed);
+    let in_entry = rest.wrapping_sub(ones_to_entry(packed));
     let (place, before) = record_of(packed, in_entry);
     let first = entry * U64_PER_L2_ENTRY + place * U64_PER_L2_RECORDS;
     let word = if first < source.words_len() {
@@ -118,42 +110,45 @@ fn load<const ONE: u8, T: TableSource>(
     } else {
         0
     };
-    (first, in_entry - before, word)
+    (first, in_entry.wrapping_sub(before), word)
 }
 
-/// Selection in a record whose first word was read.
+/// Selection in a record whose first word was read; the rank counts from there.
 #[inline(always)]
 fn finish<const ONE: u8, T: TableSource>(
     source: &mut T,
-    _rank: usize,
     rest: usize,
     first: usize,
     word: u64,
-) -> Option<usize>
+) -> Selected
     requires short { IsShort (T.lists source.old).words }
-    requires in_record { IsInRecord ONE (T.lists source.old) _rank rest first word }
-    ensures answer { IsSelect (bits_of (T.lists source.old).words) (kind ONE) _rank result }
+    requires first { first < 2 ^ 60 }
+    requires word { first < length (T.lists source.old).words
+        → IsWord (sought_in ONE (T.lists source.old).words) first word }
+    ensures answer { IsSelectedFrom (T.lists source.old).words (kind ONE) first
+        (ones_before (sought_in ONE (T.lists source.old).words) (64 * first) + rest) result }
     ensures reads { ReadsAtMost (T.reads source.old) (T.reads source.new) 0 0 7 }
     ensures same { T.lists source.new ≡ T.lists source.old }
 {
     let len = source.words_len();
     if first >= len {
-        return None;
+        return Selected::Absent;
     }
     let count = word.count_ones() as usize;
     if rest < count {
-        return Some(first * 64 + select_in_word(word, rest));
+        return Selected::Found(first * 64 + select_in_word(word, rest));
     }
-    let mut rest = rest - count;
-    for at in first + 1..len.min(first + U64_PER_L2_RECORDS) {
-        let word = sought_word::<ONE, T>(source, at);
-        let count = word.count_ones() as usize;
-        if rest < count {
-            return Some(at * 64 + select_in_word(word, rest));
+    let end = len.min(first + U64_PER_L2_RECORDS);
+    match among::<ONE, T>(source, first + 1, end - (first + 1), rest - count) {
+        Some(place) => Selected::Found(place),
+        None => {
+            if first + U64_PER_L2_RECORDS < len {
+                Selected::WrongTables
+            } else {
+                Selected::Absent
+            }
         }
-        rest -= count;
     }
-    None
 }
 
 /// Begins the search of each rank.
@@ -164,12 +159,11 @@ fn begin_each<const ONE: u8, T: TableSource>(
     rests: &mut [usize],
     entries: &mut [usize],
 )
-    requires tables { HasTables (T.lists source.old) }
-    requires short { IsShort (T.lists source.old).words }
+    requires sized { HasSizes (T.lists source.old) }
     requires some { 0 < length (T.lists source.old).upper }
     requires rests { length ranks.now ≤ length rests.old }
     requires entries { length ranks.now ≤ length entries.old }
-    ensures near { AreNear ONE (T.lists source.old) ranks.now rests.new entries.new 21 }
+    ensures searches { AreSearches ONE (T.lists source.old) ranks.now rests.new entries.new 21 }
     ensures reads { ReadsAtMost (T.reads source.old) (T.reads source.new)
         (length ranks.now * (digit_count (length (T.lists source.old).upper) + 1)) 0 0 }
     ensures same { T.lists source.new ≡ T.lists source.old }
@@ -190,16 +184,16 @@ fn halve_each<const ONE: u8, T: TableSource>(
     entries: &mut [usize],
     size: u32,
 )
-    requires tables { HasTables (T.lists source.old) }
-    requires short { IsShort (T.lists source.old).words }
+    requires sized { HasSizes (T.lists source.old) }
     requires size { size < 21 }
-    requires near { AreNear ONE (T.lists source.old) ranks.now rests.now entries.old (size + 1) }
-    ensures near { AreNear ONE (T.lists source.old) ranks.now rests.now entries.new size }
+    requires searches { AreSearches ONE (T.lists source.old)
+        ranks.now rests.now entries.old (size + 1) }
+    ensures searches { AreSearches ONE (T.lists source.old) ranks.now rests.now entries.new size }
     ensures reads { ReadsAtMost (T.reads source.old) (T.reads source.new) 0 (length ranks.now) 0 }
     ensures same { T.lists source.new ≡ T.lists source.old }
 {
     for k in 0..ranks.len() {
-        entries[k] = halve::<ONE, T>(source, ranks[k], rests[k], entries[k], size);
+        entries[k] = halve::<ONE, T>(source, rests[k], entries[k], size);
     }
 }
 
@@ -212,24 +206,24 @@ fn load_each<const ONE: u8, T: TableSource>(
     entries: &mut [usize],
     words: &mut [u64],
 )
-    requires tables { HasTables (T.lists source.old) }
-    requires short { IsShort (T.lists source.old).words }
-    requires near { AreNear ONE (T.lists source.old) ranks.now rests.old entries.old 0 }
+    requires sized { HasSizes (T.lists source.old) }
+    requires searches { AreSearches ONE (T.lists source.old) ranks.now rests.old entries.old 0 }
     requires words { length ranks.now ≤ length words.old }
-    ensures loaded { AreInRecords ONE (T.lists source.old) ranks.now rests.new entries.new words.new }
+    ensures loaded { AreInRecords ONE (T.lists source.old)
+        ranks.now rests.new entries.new words.new }
     ensures reads { ReadsAtMost (T.reads source.old) (T.reads source.new)
         0 (length ranks.now) (length ranks.now) }
     ensures same { T.lists source.new ≡ T.lists source.old }
 {
     for k in 0..ranks.len() {
-        let (first, rest, word) = load::<ONE, T>(source, ranks[k], rests[k], entries[k]);
+        let (first, rest, word) = load::<ONE, T>(source, rests[k], entries[k]);
         entries[k] = first;
         rests[k] = rest;
         words[k] = word;
     }
 }
 
-/// Selects in each rank's record: `places` has the place of its first word, and then the answer.
+/// Selects in each rank's record: `places` has the place of its first word, and then what is told.
 #[inline(always)]
 fn finish_each<const ONE: u8, T: TableSource>(
     source: &mut T,
@@ -239,17 +233,15 @@ fn finish_each<const ONE: u8, T: TableSource>(
     words: &[u64],
 )
     requires short { IsShort (T.lists source.old).words }
-    requires loaded { AreInRecords ONE (T.lists source.old) ranks.now rests.now places.old words.now }
-    requires some { All (λ r. r < count_of (bits_of (T.lists source.old).words) (kind ONE)) ranks.now }
-    ensures answers { PicksEach (bits_of (T.lists source.old).words) (kind ONE) ranks.now places.new }
-    ensures reads { ReadsAtMost (T.reads source.old) (T.reads source.new) 0 0 (7 * length ranks.now) }
+    requires loaded { AreInRecords ONE (T.lists source.old)
+        ranks.now rests.now places.old words.now }
+    ensures told { ToldEach (kind ONE) (T.lists source.old) ranks.now places.new }
+    ensures reads { ReadsAtMost (T.reads source.old) (T.reads source.new)
+        0 0 (7 * length ranks.now) }
     ensures same { T.lists source.new ≡ T.lists source.old }
 {
     for k in 0..ranks.len() {
-        match finish::<ONE, T>(source, ranks[k], rests[k], places[k], words[k]) {
-            Some(place) => places[k] = place,
-            None => unreachable!(),
-        }
+        places[k] = told(finish::<ONE, T>(source, rests[k], places[k], words[k]));
     }
 }
 
@@ -266,19 +258,43 @@ fn halvings(entries: usize) -> u32
     size
 }
 
+/// What is told of selections whose entries are found: `places` has the entry of each, and then what is told.
+///
+/// # Conditions
+/// There are no more ranks than go side by side; `rests` has how many are left of each in the part of its entry.
+/// # Cost
+/// For each rank one lower entry and at most eight words are read.
+#[inline(always)]
+pub fn tell_entries<const ONE: u8, T: TableSource>(
+    source: &mut T,
+    ranks: &[usize],
+    rests: &mut [usize],
+    places: &mut [usize],
+)
+    requires sized { HasSizes (T.lists source.old) }
+    requires few { length ranks.now ≤ 16 }
+    requires searches { AreSearches ONE (T.lists source.old) ranks.now rests.old places.old 0 }
+    ensures told { ToldEach (kind ONE) (T.lists source.old) ranks.now places.new }
+    ensures reads { ReadsAtMost (T.reads source.old) (T.reads source.new)
+        0 (length ranks.now) (8 * length ranks.now) }
+    ensures same { T.lists source.new ≡ T.lists source.old }
+{
+    let mut words = [0; SIDE_BY_SIDE];
+    load_each::<ONE, T>(source, ranks, rests, places, &mut words);
+    finish_each::<ONE, T>(source, ranks, rests, places, &words);
+}
+
 /// Selections of no more ranks than go side by side.
 fn select_block<const ONE: u8, T: TableSource>(
     source: &mut T,
     ranks: &[usize],
     places: &mut [usize],
 )
-    requires tables { HasTables (T.lists source.old) }
-    requires short { IsShort (T.lists source.old).words }
+    requires sized { HasSizes (T.lists source.old) }
     requires part { 0 < length (T.lists source.old).upper }
     requires few { length ranks.now ≤ 16 }
     requires same_length { length ranks.now ≡ length places.old }
-    requires some { All (λ r. r < count_of (bits_of (T.lists source.old).words) (kind ONE)) ranks.now }
-    ensures answers { PicksEach (bits_of (T.lists source.old).words) (kind ONE) ranks.now places.new }
+    ensures told { ToldEach (kind ONE) (T.lists source.old) ranks.now places.new }
     ensures reads { ReadsAtMost (T.reads source.old) (T.reads source.new)
         (length ranks.now * (digit_count (length (T.lists source.old).upper) + 1))
         (22 * length ranks.now) (8 * length ranks.now) }
@@ -291,15 +307,45 @@ fn select_block<const ONE: u8, T: TableSource>(
         size -= 1;
         halve_each::<ONE, T>(source, ranks, &rests, places, size);
     }
-    let mut words = [0; SIDE_BY_SIDE];
-    load_each::<ONE, T>(source, ranks, &mut rests, places, &mut words);
-    finish_each::<ONE, T>(source, ranks, &rests, places, &words);
+    tell_entries::<ONE, T>(source, ranks, &mut rests, places);
+}
+
+/// For each rank the place of the one of the source's words with so many ones before it, or `NO_ANSWER`; zeros in place
+/// of ones where `ONE` is 0.
+///
+/// Whatever the tables hold, a place is inside and has such a bit. Where they are those of the words it is the right
+/// one, `NO_ANSWER` is told exactly where there is none, and `WRONG_TABLES` never. Sixteen searches go side by side,
+/// each by halves: so the misses of one overlap with those of the others.
+///
+/// # Conditions
+/// There are fewer than 2^58 words and at least one, and the tables are as long as theirs. Nothing is asked of what
+/// they hold. There are as many `places` as `ranks`.
+/// # Cost
+/// For each rank at most as many upper entries as their number has binary digits and one more, 22 lower entries and
+/// eight words are read, whatever the tables hold.
+pub fn total_select_many_on<const ONE: u8, T: TableSource>(
+    source: &mut T,
+    ranks: &[usize],
+    places: &mut [usize],
+)
+    requires sized { HasSizes (T.lists source.old) }
+    requires part { 0 < length (T.lists source.old).upper }
+    requires same_length { length ranks.now ≡ length places.old }
+    ensures told { ToldEach (kind ONE) (T.lists source.old) ranks.now places.new }
+    ensures reads { OnlyReads T.lists T.reads source.old source.new
+        (length ranks.now * (digit_count (length (T.lists source.old).upper) + 1))
+        (22 * length ranks.now) (8 * length ranks.now) }
+{
+    let mut from = 0;
+    while from < ranks.len() {
+        let to = from + (ranks.len() - from).min(SIDE_BY_SIDE);
+        select_block::<ONE, T>(source, &ranks[from..to], &mut places[from..to]);
+        from = to;
+    }
 }
 
 /// For each rank the place of the one of the source's words with so many ones before it; zeros in place of ones where
 /// `ONE` is 0.
-///
-/// Sixteen searches go side by side, each by halves: so the misses of one overlap with those of the others.
 ///
 /// # Conditions
 /// The source's tables are those of its words, of fewer than 2^58 words. There are as many `places` as `ranks`, and
@@ -321,10 +367,8 @@ pub fn select_many_on<const ONE: u8, T: TableSource>(
         (length ranks.now * (digit_count (length (T.lists source.old).upper) + 1))
         (22 * length ranks.now) (8 * length ranks.now) }
 {
-    let mut from = 0;
-    while from < ranks.len() {
-        let to = from + (ranks.len() - from).min(SIDE_BY_SIDE);
-        select_block::<ONE, T>(source, &ranks[from..to], &mut places[from..to]);
-        from = to;
+    if ranks.len() == 0 {
+        return;
     }
+    total_select_many_on::<ONE, T>(source, ranks, places);
 }

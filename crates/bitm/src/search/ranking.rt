@@ -1,12 +1,14 @@
 //! Rank over a source, with a bound on its reads.
-ghost use Rattle.std.specs.Prelude.{◌≡◌, ◌+◌, ◌*◌, ◌^◌, ◌<◌, ◌≤◌, length, count_ones};
+ghost use Rattle.std.specs.Prelude.{◌≡◌, ◌+◌, ◌*◌, ◌^◌, ◌<◌, ◌≤◌, length, count_ones, MatchOption};
 ghost use Rattle.bitm_bits.specs.Bits.{bits_of, IsShort};
 ghost use Rattle.bitm_bits.specs.Count.{ones_before, IsRank};
 ghost use Rattle.bitm.specs.Reads.{OnlyReads, ReadsAtMost};
-ghost use Rattle.bitm.specs.Tables.{HasTables, IsIndexed, bits_in};
+ghost use Rattle.bitm.specs.Tables.{HasSizes, HasTables, IsIndexed, bits_in};
 
 use crate::entry::{ones_to_entry, ones_to_record};
-use crate::levels::U64_PER_L2_RECORDS;
+use crate::levels::{
+    BITS_PER_L2_ENTRY, RECORD_BITS, RECORDS_PER_L2_ENTRY, U64_PER_L1_ENTRY, U64_PER_L2_RECORDS,
+};
 use crate::source::TableSource;
 use crate::word::ones_through;
 
@@ -14,26 +16,11 @@ use crate::word::ones_through;
 /// by side if each takes no more instructions than it needs.
 const WORDS_IN_CACHE: usize = 1 << 19;
 
-/// So many words are one part.
-const WORDS_PER_PART: usize = 1 << 26;
+/// A word of ones.
+const ALL: u64 = u64::MAX;
 
 /// Seven words of ones and seven of zeros: the seven from `7 - n` on keep the first `n` of seven words.
-const KEPT: [u64; 14] = [
-    u64::MAX,
-    u64::MAX,
-    u64::MAX,
-    u64::MAX,
-    u64::MAX,
-    u64::MAX,
-    u64::MAX,
-    0,
-    0,
-    0,
-    0,
-    0,
-    0,
-    0,
-];
+const KEPT: [u64; 14] = [ALL, ALL, ALL, ALL, ALL, ALL, ALL, 0, 0, 0, 0, 0, 0, 0];
 
 /// How many ones of a word are kept by number `at` of `KEPT`: all for the first seven, else none.
 #[inline(always)]
@@ -99,7 +86,7 @@ fn tested_ones<T: TableSource>(source: &mut T, first: usize, end: usize) -> usiz
 /// # Cost
 /// At most seven words are read.
 #[inline(always)]
-pub fn ones_in_record<T: TableSource>(source: &mut T, first: usize, end: usize) -> usize
+pub(crate) fn ones_in_record<T: TableSource>(source: &mut T, first: usize, end: usize) -> usize
     requires short { IsShort (T.lists source.old).words }
     requires order { first ≤ end }
     requires near { end < first + 8 }
@@ -125,14 +112,14 @@ pub fn ones_in_record<T: TableSource>(source: &mut T, first: usize, end: usize) 
 /// # Cost
 /// At most one upper entry is read.
 #[inline(always)]
-pub fn ones_to_part<T: TableSource>(source: &mut T, part: usize) -> usize
+pub(crate) fn ones_to_part<T: TableSource>(source: &mut T, part: usize) -> usize
     requires { part < length (T.lists source.old).upper }
     ensures count { HasTables (T.lists source.old)
         → result ≡ ones_before (bits_of (T.lists source.old).words) (part * 2 ^ 32) }
     ensures reads { ReadsAtMost (T.reads source.old) (T.reads source.new) 1 0 0 }
     ensures same { T.lists source.new ≡ T.lists source.old }
 {
-    if source.words_len() <= WORDS_PER_PART {
+    if source.words_len() <= U64_PER_L1_ENTRY {
         0
     } else {
         source.upper(part)
@@ -155,16 +142,36 @@ pub fn rank_on<T: TableSource>(source: &mut T, index: usize) -> Option<usize>
     ensures answer { IsRank (bits_in (T.lists source.old)) index result }
     ensures reads { OnlyReads T.lists T.reads source.old source.new 1 1 8 }
 {
+    total_rank_on(source, index)
+}
+
+/// How many of the first `index` bits of the source's words are ones, where its tables are those of its words; `None`
+/// exactly where there are fewer bits, whatever the tables hold.
+///
+/// # Conditions
+/// There are fewer than 2^58 words, and the tables are as long as theirs. Nothing is asked of what they hold.
+/// # Cost
+/// At most one upper entry, one lower entry and eight words are read: those of the last bit that counts.
+#[inline(always)]
+pub fn total_rank_on<T: TableSource>(source: &mut T, index: usize) -> Option<usize>
+    requires { HasSizes (T.lists source.old) }
+    ensures inside { MatchOption result (length (bits_in (T.lists source.old)) < index)
+        (λ _. index ≤ length (bits_in (T.lists source.old))) }
+    ensures answer { HasTables (T.lists source.old)
+        → IsRank (bits_in (T.lists source.old)) index result }
+    ensures reads { OnlyReads T.lists T.reads source.old source.new 1 1 8 }
+{
     // The last bit that counts. Where none does this is above every place, so one test tells both.
     let last = index.wrapping_sub(1);
     if last / 64 >= source.words_len() {
         return if index == 0 { Some(0) } else { None };
     }
+    let record = last / RECORD_BITS;
     // The words first: then nothing of the entry is held in registers while they are counted.
-    let in_record = ones_in_record(source, last / 512 * 8, last / 64);
+    let in_record = ones_in_record(source, record * U64_PER_L2_RECORDS, last / 64);
     let in_word = ones_through(source.word(last / 64), last % 64) as usize;
-    let entry = source.lower(last / 2048);
-    let to_record = ones_to_entry(entry) + ones_to_record(entry, last / 512 % 4);
+    let entry = source.lower(last / BITS_PER_L2_ENTRY);
+    let to_record = ones_to_entry(entry) + ones_to_record(entry, record % RECORDS_PER_L2_ENTRY);
     let to_part = ones_to_part(source, last >> 32);
-    Some(to_part + to_record + in_record + in_word)
+    Some(to_part.wrapping_add(to_record + in_record + in_word))
 }

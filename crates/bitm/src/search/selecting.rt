@@ -1,21 +1,41 @@
-//! Selection over a source, with a bound on its reads: the part, the entry, the record of the entry, the word of the
-//! record, the bit of the word.
+//! Selection over a source, with a bound on its reads: the part, the entry, and what stands in it.
 //!
 //! The part and the entry are sought in tables that may hold anything: where they are not those of the words, the
 //! search ends as well, with some part and some entry.
-ghost use Rattle.std.specs.Prelude.{◌≡◌, ◌+◌, ◌-◌, ◌*◌, ◌/◌, ◌%◌, ◌^◌, ◌<◌, ◌≤◌, length, count_ones, IfSome};
-ghost use Rattle.bitm_bits.specs.Bits.{bits_of, digit_count, IsShort};
+ghost use Rattle.std.specs.Prelude.{◌≡◌, ◌+◌, ◌-◌, ◌*◌, ◌/◌, ◌^◌, ◌<◌, ◌≤◌, length};
+ghost use Rattle.bitm_bits.specs.Bits.{digit_count};
 ghost use Rattle.bitm_bits.specs.Count.{ones_before, kind, IsSelect};
-ghost use Rattle.bitm.specs.Entry.{field_1, field_2, field_3, lower_entry, record_field};
-ghost use Rattle.bitm.specs.Reads.{upper_read, word_read, OnlyReads, ReadsAtMost};
-ghost use Rattle.bitm.specs.Search.{entry_in, sought_in, IsLastPart, IsLastEntry, IsWord};
-ghost use Rattle.bitm.specs.Tables.{HasTables, IsIndexed, bits_in};
+ghost use Rattle.bitm.specs.Answers.{HasBit, IsSelected};
+ghost use Rattle.bitm.specs.Reads.{upper_read, OnlyReads, ReadsAtMost};
+ghost use Rattle.bitm.specs.Search.{sought_in, IsLastPart, IsPartOf};
+ghost use Rattle.bitm.specs.Tables.{HasSizes, HasTables, IsIndexed, bits_in};
 
-use crate::entry::{ones_to_entry, ones_to_record};
-use crate::levels::{L2_ENTRIES_PER_L1_ENTRY, U64_PER_L2_ENTRY, U64_PER_L2_RECORDS};
 use crate::search::entries::last_entry;
+use crate::search::record::in_packed;
+use crate::search::selected::{Selected, found};
 use crate::source::TableSource;
-use crate::word::select64;
+
+/// The place of the one of the source's words with exactly `rank` ones before it; zeros in place of ones where `ONE`
+/// is 0.
+///
+/// Whatever the tables hold, a place that is found is inside and has such a bit. Where they are those of the words it
+/// is the right one, `Absent` is answered exactly where there is none, and `WrongTables` never.
+///
+/// # Conditions
+/// There are fewer than 2^58 words, and the tables are as long as theirs. Nothing is asked of what they hold.
+/// # Cost
+/// At most as many upper entries as their number has binary digits and one more, 23 lower entries and eight words are
+/// read, whatever the tables hold.
+pub fn total_select_on<const ONE: u8, T: TableSource>(source: &mut T, rank: usize) -> Selected
+    requires { HasSizes (T.lists source.old) }
+    ensures bit { HasBit (bits_in (T.lists source.old)) (kind ONE) result }
+    ensures answer { HasTables (T.lists source.old)
+        → IsSelected (bits_in (T.lists source.old)) (kind ONE) rank result }
+    ensures reads { OnlyReads T.lists T.reads source.old source.new
+        (digit_count (length (T.lists source.old).upper) + 1) 23 8 }
+{
+    search_on::<ONE, 1, T>(source, rank)
+}
 
 /// The place of the one of the source's words with exactly `rank` ones before it, and `None` exactly where there is
 /// none; zeros in place of ones where `ONE` is 0.
@@ -34,17 +54,42 @@ pub fn binary_select_on<const ONE: u8, T: TableSource>(source: &mut T, rank: usi
     ensures reads { OnlyReads T.lists T.reads source.old source.new
         (digit_count (length (T.lists source.old).upper) + 1) 23 8 }
 {
+    found(search_on::<ONE, 0, T>(source, rank))
+}
+
+/// What `total_select_on` answers. Where `TESTS` is 0 no test looks for a difference that wrapped: a rank that did is
+/// in no record, so the words decide, and `Absent` may be answered in place of `WrongTables`.
+///
+/// # Conditions
+/// Those of `total_select_on`.
+/// # Cost
+/// That of `total_select_on`.
+#[inline(always)]
+pub fn search_on<const ONE: u8, const TESTS: u8, T: TableSource>(
+    source: &mut T,
+    rank: usize,
+) -> Selected
+    requires { HasSizes (T.lists source.old) }
+    ensures bit { HasBit (bits_in (T.lists source.old)) (kind ONE) result }
+    ensures answer { HasTables (T.lists source.old)
+        → IsSelected (bits_in (T.lists source.old)) (kind ONE) rank result }
+    ensures reads { OnlyReads T.lists T.reads source.old source.new
+        (digit_count (length (T.lists source.old).upper) + 1) 23 8 }
+{
     if source.upper_len() == 0 {
-        return None;
+        return Selected::Absent;
     }
-    let part = last_part::<ONE, T>(source, rank);
-    let in_part = rank - before_part::<ONE, T>(source, part);
-    select_in_part::<ONE, T>(source, part, in_part)
+    let (part, in_part) = part_of_rank::<ONE, T>(source, rank);
+    if TESTS != 0 && in_part > rank {
+        return Selected::WrongTables;
+    }
+    let (entry, packed) = last_entry::<ONE, T>(source, part, in_part);
+    in_packed::<ONE, TESTS, T>(source, part, entry, packed, in_part)
 }
 
 /// How many ones, or zeros where `ONE` is 0, stand before a part, where the tables are those of the words.
 #[inline(always)]
-pub fn before_part<const ONE: u8, T: TableSource>(source: &mut T, part: usize) -> usize
+pub(crate) fn before_part<const ONE: u8, T: TableSource>(source: &mut T, part: usize) -> usize
     requires { part < length (T.lists source.old).upper }
     ensures count { IsIndexed (T.lists source.old) → result
         ≡ ones_before (sought_in ONE (T.lists source.old).words) (part * 2 ^ 32) }
@@ -66,7 +111,7 @@ pub fn before_part<const ONE: u8, T: TableSource>(source: &mut T, part: usize) -
 /// There is a part. Nothing is asked of what the tables hold.
 /// # Cost
 /// At most as many upper entries as their number has binary digits are read, whatever they hold.
-pub fn last_part<const ONE: u8, T: TableSource>(source: &mut T, rank: usize) -> usize
+pub(crate) fn last_part<const ONE: u8, T: TableSource>(source: &mut T, rank: usize) -> usize
     requires { 0 < length (T.lists source.old).upper }
     ensures inside { result < length (T.lists source.old).upper }
     ensures last { IsIndexed (T.lists source.old)
@@ -88,187 +133,22 @@ pub fn last_part<const ONE: u8, T: TableSource>(source: &mut T, rank: usize) -> 
     low
 }
 
-/// Selection in a part: the last one with no more than the rank before it, which counts from the part.
-#[inline(always)]
-fn select_in_part<const ONE: u8, T: TableSource>(
-    source: &mut T,
-    part: usize,
-    rank: usize,
-) -> Option<usize>
-    requires tables { HasTables (T.lists source.old) }
-    requires short { IsShort (T.lists source.old).words }
-    requires part { let m = sought_in ONE (T.lists source.old).words in
-        IsLastPart m (length (T.lists source.old).upper)
-        (ones_before m (part * 2 ^ 32) + rank) part }
-    ensures answer { let m = sought_in ONE (T.lists source.old).words in
-        IsSelect (bits_of (T.lists source.old).words) (kind ONE)
-        (ones_before m (part * 2 ^ 32) + rank) result }
-    ensures reads { ReadsAtMost (T.reads source.old) (T.reads source.new) 0 23 8 }
-    ensures same { T.lists source.new ≡ T.lists source.old }
-{
-    let (entry, packed) = last_entry::<ONE, T>(source, part, rank);
-    select_in_entry::<ONE, T>(source, part, entry, packed, rank)
-}
-
-/// Selection in entry `entry` of a part, which packs `packed`: the last one with no more than `rank` of the kind
-/// before it in the part.
-#[inline(always)]
-pub(crate) fn select_in_entry<const ONE: u8, T: TableSource>(
-    source: &mut T,
-    part: usize,
-    entry: usize,
-    packed: u64,
-    rank: usize,
-) -> Option<usize>
-    requires tables { HasTables (T.lists source.old) }
-    requires short { IsShort (T.lists source.old).words }
-    requires part { let m = sought_in ONE (T.lists source.old).words in
-        IsLastPart m (length (T.lists source.old).upper)
-        (ones_before m (part * 2 ^ 32) + rank) part }
-    requires entry { IsLastEntry (sought_in ONE (T.lists source.old).words)
-        (length (T.lists source.old).lower) part rank entry }
-    requires packed { packed
-        ≡ lower_entry (sought_in ONE (T.lists source.old).words) (entry_in part entry) }
-    ensures answer { let m = sought_in ONE (T.lists source.old).words in
-        IsSelect (bits_of (T.lists source.old).words) (kind ONE)
-        (ones_before m (part * 2 ^ 32) + rank) result }
-    ensures inside { IfSome result (λ p. p / 2048 ≡ entry_in part entry) }
-    ensures reads { ReadsAtMost (T.reads source.old) (T.reads source.new) 0 0 8 }
-    ensures same { T.lists source.new ≡ T.lists source.old }
-{
-    let at = part * L2_ENTRIES_PER_L1_ENTRY + entry;
-    let in_entry = rank - ones_to_entry(packed);
-    let (place, before) = record_of(packed, in_entry);
-    let first = at * U64_PER_L2_ENTRY + place * U64_PER_L2_RECORDS;
-    select_in_record::<ONE, T>(source, first, in_entry - before)
-}
-
-/// 1 where more than `rank` were counted, else 0.
-#[inline(always)]
-fn is_above(count: usize, rank: usize) -> usize
-    ensures yes { rank < count → result ≡ 1 }
-    ensures no { count ≤ rank → result ≡ 0 }
-{
-    (rank < count) as usize
-}
-
-/// The record of an entry that has the one with this rank, and the ones of the entry before that record: by three
-/// comparisons, and no branch.
+/// The last part with no more than `rank` of the kind before it, and how many of them are left there, where the tables
+/// are those of the words; else some part. In wrong tables the difference may wrap: no record has a bit of such a rank.
 ///
 /// # Conditions
-/// The entry's counts do not fall from record to record, as in each entry of a lower table.
+/// There is a part. Nothing is asked of what the tables hold.
 #[inline(always)]
-pub fn record_of(entry: u64, rank: usize) -> (usize, usize)
-    requires second { field_1 entry ≤ field_2 entry }
-    requires third { field_2 entry ≤ field_3 entry }
-    ensures inside { result.0 < 4 }
-    ensures before { result.1 ≡ record_field entry result.0 }
-    ensures at_most { result.1 ≤ rank }
-    ensures next { result.0 < 3 → rank < record_field entry (result.0 + 1) }
-{
-    let one = (entry >> 54) as usize;
-    let two = (entry >> 43 & 0x7FF) as usize;
-    let three = (entry >> 32 & 0x7FF) as usize;
-    let after = is_above(one, rank) + is_above(two, rank) + is_above(three, rank);
-    (3 - after, ones_to_record(entry, 3 - after))
-}
-
-/// The place of the one in a word with so many ones before it.
-///
-/// # Conditions
-/// The word has more than `rank` ones.
-#[inline(always)]
-pub fn select_in_word(word: u64, rank: usize) -> usize
-    requires { rank < count_ones word }
-    ensures inside { result < 64 }
-    ensures before { count_ones (word % 2 ^ result) ≡ rank }
-    ensures after { count_ones (word % 2 ^ (result + 1)) ≡ rank + 1 }
-{
-    select64(word, rank as u8) as usize
-}
-
-/// Word `at` of the bits in which ones are sought: negated where `ONE` is 0.
-///
-/// # Conditions
-/// There is such a word. Nothing is asked of the tables.
-#[inline(always)]
-pub fn sought_word<const ONE: u8, T: TableSource>(source: &mut T, at: usize) -> u64
-    requires { at < length (T.lists source.old).words }
-    ensures word { IsWord (sought_in ONE (T.lists source.old).words) at result }
-    ensures counted { T.reads source.new ≡ word_read (T.reads source.old) }
+pub fn part_of_rank<const ONE: u8, T: TableSource>(source: &mut T, rank: usize) -> (usize, usize)
+    requires { 0 < length (T.lists source.old).upper }
+    ensures inside { result.0 < length (T.lists source.old).upper }
+    ensures part { IsIndexed (T.lists source.old)
+        → IsPartOf ONE (T.lists source.old) rank result.0 result.1 }
+    ensures reads { ReadsAtMost (T.reads source.old) (T.reads source.new)
+        (digit_count (length (T.lists source.old).upper) + 1) 0 0 }
     ensures same { T.lists source.new ≡ T.lists source.old }
 {
-    let word = source.word(at);
-    if ONE == 0 { !word } else { word }
-}
-
-/// The word that has the one with this rank, among the eight words from `first` on, which have it: its place, what it
-/// is and the rank that is left in it.
-///
-/// Each of the first seven words has a test of its own, since their number is fixed, and the eighth needs none.
-#[inline(always)]
-fn word_of_rank<const ONE: u8, T: TableSource>(
-    source: &mut T,
-    first: usize,
-    rank: usize,
-) -> (usize, u64, usize)
-    requires whole { first + 8 ≤ length (T.lists source.old).words }
-    requires fits { first < 2 ^ 60 }
-    requires next { let m = sought_in ONE (T.lists source.old).words in
-        ones_before m (64 * first) + rank < ones_before m (64 * (first + 8)) }
-    ensures from { first ≤ result.0 }
-    ensures to { result.0 < first + 8 }
-    ensures word { IsWord (sought_in ONE (T.lists source.old).words) result.0 result.1 }
-    ensures rest { let m = sought_in ONE (T.lists source.old).words in
-        ones_before m (64 * first) + rank ≡ ones_before m (64 * result.0) + result.2 }
-    ensures has { result.2 < count_ones result.1 }
-    ensures reads { ReadsAtMost (T.reads source.old) (T.reads source.new) 0 0 8 }
-    ensures same { T.lists source.new ≡ T.lists source.old }
-{
-    let mut rest = rank;
-    for k in 0..7 {
-        let word = sought_word::<ONE, T>(source, first + k);
-        let count = word.count_ones() as usize;
-        if rest < count {
-            return (first + k, word, rest);
-        }
-        rest -= count;
-    }
-    let last = sought_word::<ONE, T>(source, first + 7);
-    (first + 7, last, rest)
-}
-
-/// Selection among the eight words from `first` on, of which some may miss; the rank counts from there.
-#[inline(always)]
-pub(crate) fn select_in_record<const ONE: u8, T: TableSource>(
-    source: &mut T,
-    first: usize,
-    rank: usize,
-) -> Option<usize>
-    requires short { IsShort (T.lists source.old).words }
-    requires first { first < 2 ^ 60 }
-    requires next { let m = sought_in ONE (T.lists source.old).words in
-        first + 8 < length (T.lists source.old).words
-        → ones_before m (64 * first) + rank < ones_before m (64 * (first + 8)) }
-    ensures answer { let m = sought_in ONE (T.lists source.old).words in
-        IsSelect (bits_of (T.lists source.old).words) (kind ONE)
-        (ones_before m (64 * first) + rank) result }
-    ensures inside { IfSome result (λ p. (64 * first ≤ p) × (p < 64 * (first + 8))) }
-    ensures reads { ReadsAtMost (T.reads source.old) (T.reads source.new) 0 0 8 }
-    ensures same { T.lists source.new ≡ T.lists source.old }
-{
-    if first + U64_PER_L2_RECORDS < source.words_len() {
-        let (at, word, rest) = word_of_rank::<ONE, T>(source, first, rank);
-        return Some(at * 64 + select_in_word(word, rest));
-    }
-    let mut rest = rank;
-    for at in first..source.words_len().min(first + U64_PER_L2_RECORDS) {
-        let word = sought_word::<ONE, T>(source, at);
-        let count = word.count_ones() as usize;
-        if rest < count {
-            return Some(at * 64 + select_in_word(word, rest));
-        }
-        rest -= count;
-    }
-    None
+    let part = last_part::<ONE, T>(source, rank);
+    let before = before_part::<ONE, T>(source, part);
+    (part, rank.wrapping_sub(before))
 }

@@ -8,7 +8,9 @@ ghost use Rattle.bitm.specs.Search.{sought_in, IsLastPart};
 ghost use Rattle.bitm.specs.Tables.{HasTables};
 ghost use Rattle.bitm.specs.declared.source.counts.ReadCounts.{ReadCounts};
 
-use crate::search::selecting::{before_part, last_part, select_in_entry};
+use crate::search::record::in_packed;
+use crate::search::selected::found;
+use crate::search::selecting::{before_part, last_part};
 use crate::search::walking::walk;
 use crate::source::TableSource;
 
@@ -70,7 +72,7 @@ fn sampled_in_part<const ONE: u8, T: TableSource>(
     }
     let from = first_entry(sampled[at], in_part, log2);
     let (entry, packed) = walk::<ONE, T>(source, part, from, in_part);
-    select_in_entry::<ONE, T>(source, part, entry, packed, in_part)
+    found(in_packed::<ONE, 0, T>(source, part, entry, packed, in_part))
 }
 
 /// Selection by the samples of the source's words where there are more parts than one: one read of an upper entry for

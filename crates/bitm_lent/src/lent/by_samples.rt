@@ -3,16 +3,15 @@ ghost use Rattle.std.specs.Prelude.{◌≡◌, ◌<◌, ◌≤◌, ℕ, length, 
 ghost use Rattle.bitm_bits.specs.Count.{kind};
 ghost use Rattle.bitm.specs.Density.{within};
 ghost use Rattle.bitm.specs.Tables.{HasSizes, HasTables, bits_in};
-ghost use Rattle.bitm_lent.specs.Answers.{HasBit, IsSelected};
+ghost use Rattle.bitm.specs.Answers.{HasBit, IsSelected};
 ghost use Rattle.bitm_lent.specs.Samples.{AreSamples, AreSamplesOf, HasRoom, IsSelectedIfTold};
 
 use crate::lent::Lent;
 use crate::sampled::sampled_select_on;
 use crate::samples::{Density, LentSamples, samples_len};
 use crate::sampling::fill_all;
-use crate::selecting::Selected;
 use bitm::building::Summary;
-use bitm::{CombinedSamplingDensity, Probe};
+use bitm::{CombinedSamplingDensity, Probe, Selected};
 
 impl<'a> Lent<'a> {
     /// Writes the samples of ones, one for each 2^`log2` of a part, and how many there are before each part, and

@@ -116,17 +116,6 @@ module _ (laws : BitLaws) (xs : List ℕ) (l : ℕ) (upper : List ℕ) (h : IsUp
 
 -- ---- the first item that reaches a value is among those with the value's upper digits, or the next one
 
--- below no number there is none (a name that an attribute can write)
-pub counts_below_zero : (xs : List ℕ) (l h : ℕ) → h ≡ 0 → CountsBelow xs l h 0
-counts_below_zero xs l h none = record { bound = omega arith; below = λ j l. absurd (omega arith); above = λ j _ _. omega arith }
-
-pub CountsBelow-next : (xs : List ℕ) (l h c : ℕ) → 0 < h → CountsTo xs l (h - 1) c → CountsBelow xs l h c
-CountsBelow-next xs l h c some t = record {
-  bound = t.bound;
-  below = λ j less. omega (arith, t.below j less);
-  above = λ j from inside. omega (arith, t.above j from inside);
-}
-
 -- more above the low digits is more
 less_above : (x v p : ℕ) → 0 < p → x / p < v / p → x < v
 less_above x v p some less =

@@ -3,11 +3,14 @@ use Rattle.std.proofs.Common.{◌≡◌, ℕ, ◌+◌, ◌-◌, ◌*◌, ◌/◌
 use Rattle.std.proofs.lemmas.Grind.{same_number_lists}
 use Rattle.std.proofs.lemmas.List.FromFn.{length-map-range_with_len, get_or-map-range_with_len}
 use Rattle.std.proofs.lemmas.Nat.{div-add-mod'}
+use Rattle.std.specs.Int.{div_ceil}
 use Rattle.bitm_bits.specs.Bits.{bits_of, IsShort}
 use Rattle.bitm_bits.specs.Count.{places, Picks}
 use Rattle.bitm_bits.specs.Laws.{DigitsBoundPowers}
 use Rattle.bitm_bits.specs.Number.{number_at}
 use Rattle.bitm_bits.specs.WriteLaws.{NoItemsAreZero}
+use Rattle.bitm.specs.Tables.{Lists}
+use Rattle.elias_fano.specs.Held.{held, HasLengths}
 use Rattle.elias_fano.specs.Laws.{BitLaws}
 use Rattle.elias_fano.specs.Parts.{upper_place, IsLow, ArePartsOf, HasFragment, HasOneAt, items_of}
 use Rattle.elias_fano.specs.Sequence.{largest}
@@ -63,6 +66,14 @@ module _ (digits : DigitsBoundPowers) (xs : List ℕ) (n l : ℕ) (low upper : L
 
   pub upper-short : IsShort upper
   upper-short = omega (arith, h.upper_is.words, upper_few_at digits xs l (largest xs) h.width refl, h.sequence.short)
+
+  -- and their lengths are those of parts
+  pub parts-lengths : (lists : Lists) → HasLengths (held n l low lists)
+  parts-lengths lists = record {
+    short = omega (arith, h.count, h.sequence.short);
+    width = parts-width;
+    low = h.low_is.words ∙ ap (λ k. div_ceil (k * l) 64) (sym h.count);
+  }
 
 -- the one of an item stands in the parts as they are lent
 pub lent-has : (xs : List ℕ) (n l : ℕ) (low lent upper : List ℕ) (i p : ℕ) → ArePartsOf xs n l low upper → i < n

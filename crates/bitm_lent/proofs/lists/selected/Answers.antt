@@ -1,6 +1,6 @@
--- A place that is found has the bit, and where the tables are right it is the one with the rank.
-use Rattle.bitm_lent.proofs.SelectedLemmas.{told_place}
+-- What is told of the selection.
+use Rattle.bitm.proofs.lemmas.SelectedLemmas.{told_is}
 use Rattle.bitm_lent.proofs.lists.selected.Goals as goal
 
-pub returns-in-Found : goal.returns-in-Found
-returns-in-Found g c = told_place _ _ c.args.rank c.in-Found.place c.in-Found.ensures.bit c.in-Found.ensures.answer
+pub returns : goal.returns
+returns g c = rw c.told.ensures (told_is _ _ c.args.rank c.select_kind.result c.select_kind.ensures.bit c.select_kind.ensures.answer)

@@ -1,8 +1,12 @@
 -- The rank is what stands before the part, and the rank in the part.
-use Rattle.std.proofs.Common.{arith}
+use Rattle.std.proofs.Common.{ℕ, ◌+◌, ◌*◌, ◌^◌, length, sym, subst, arith}
 use Rattle.bitm_bits.proofs.lemmas.BitsLemmas.{length-bits_of}
 use Rattle.bitm_bits.specs.Bits.{bits_of}
-use Rattle.bitm_bits.specs.Count.{kind}
+use Rattle.bitm_bits.specs.Count.{kind, ones_before}
+use Rattle.bitm.specs.Answers.{IsSelected}
+use Rattle.bitm.specs.Search.{sought_in, IsLastPart}
+use Rattle.bitm.specs.Tables.{HasTables, Lists}
+use Rattle.bitm_lent.specs.Samples.{AreSamplesOf, IsSelectedIfTold}
 use Rattle.bitm.proofs.lemmas.MarkLemmas.{none_in_nothing}
 use Rattle.bitm_lent.proofs.sampled.sampled_select_on.Goals as goal
 
@@ -14,3 +18,42 @@ returns-then-upper_len-eq0-clause-told g c = λ _.
 
 pub returns-then-upper_len-eq0-clause-answer : goal.returns-then-upper_len-eq0-clause-answer
 returns-then-upper_len-eq0-clause-answer g c = λ t _. returns-then-upper_len-eq0-clause-told g c t
+
+pub sampled_in_part-requires-clause-part : goal.sampled_in_part-requires-clause-part
+sampled_in_part-requires-clause-part g c = λ u.
+    let same = c.part_of_rank-part.ensures.same in
+    let is = c.part_of_rank-part.ensures.part (record { tables = subst HasTables same u; short = c.requires.short }) in
+    subst
+    (λ (l : Lists).
+    IsLastPart (sought_in g.row.ONE l.words) (length l.upper)
+    (ones_before (sought_in g.row.ONE l.words) (c.part_of_rank-part.result.0 * 2 ^ 32) + c.part_of_rank-part.result.1)
+    c.part_of_rank-part.result.0)
+    (sym same) is.last
+
+pub returns-clause-told : goal.returns-clause-told
+returns-clause-told g c = λ t.
+    let b = bits_of (g.T.TableSource.lists c.args.source.now).words in
+    let here = c.part_of_rank-part.result.0 * 2 ^ 32 in
+    let left = c.part_of_rank-part.result.1 in
+    let same = c.part_of_rank-part.ensures.same in
+    let is = c.part_of_rank-part.ensures.part (record { tables = t; short = c.requires.short }) in
+    subst (λ (n : ℕ). IsSelectedIfTold b (kind g.row.ONE) n c.sampled_in_part.result) is.total
+    (subst
+    (λ (l : Lists).
+    IsSelectedIfTold (bits_of l.words) (kind g.row.ONE) (ones_before (sought_in g.row.ONE l.words) here + left) c.sampled_in_part.result)
+    same (c.sampled_in_part.ensures.told (subst HasTables (sym same) t)))
+
+pub returns-clause-answer : goal.returns-clause-answer
+returns-clause-answer g c = λ t own.
+    let b = bits_of (g.T.TableSource.lists c.args.source.now).words in
+    let here = c.part_of_rank-part.result.0 * 2 ^ 32 in
+    let left = c.part_of_rank-part.result.1 in
+    let same = c.part_of_rank-part.ensures.same in
+    let is = c.part_of_rank-part.ensures.part (record { tables = t; short = c.requires.short }) in
+    subst (λ (n : ℕ). IsSelected b (kind g.row.ONE) n c.sampled_in_part.result) is.total
+    (subst
+    (λ (l : Lists).
+    IsSelected (bits_of l.words) (kind g.row.ONE) (ones_before (sought_in g.row.ONE l.words) here + left) c.sampled_in_part.result)
+    same
+    (c.sampled_in_part.ensures.answer (subst HasTables (sym same) t)
+    (subst (λ (l : Lists). AreSamplesOf (bits_of l.words) (kind g.row.ONE) c.args.lent.now) (sym same) own)))

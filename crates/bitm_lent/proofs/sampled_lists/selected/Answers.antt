@@ -1,7 +1,8 @@
--- A place that is found has the bit, and where the tables are right it is the one with the rank.
-use Rattle.bitm_lent.proofs.SelectedLemmas.{sampled_place}
+-- What is told of the selection.
+use Rattle.bitm_lent.proofs.SelectedLemmas.{sampled_is}
 use Rattle.bitm_lent.proofs.sampled_lists.selected.Goals as goal
 
-pub returns-in-Found : goal.returns-in-Found
-returns-in-Found g c =
-    sampled_place _ _ _ c.args.rank c.in-Found.place c.in-Found.ensures.sized c.in-Found.ensures.bit c.in-Found.ensures.told
+pub returns : goal.returns
+returns g c =
+    let s = c.sampled_kind.ensures in
+    rw c.told.ensures (sampled_is _ _ c.args.samples.now c.args.rank c.sampled_kind.result s.sized s.bit s.told s.answer)

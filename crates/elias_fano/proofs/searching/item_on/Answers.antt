@@ -1,27 +1,17 @@
--- The place that is selected is that of the item's one.
-use Rattle.std.proofs.Common.{length, arith}
-use Rattle.elias_fano.proofs.lemmas.ItemLemmas.{upper-short, fragment-of}
-use Rattle.elias_fano.proofs.lemmas.UpperLemmas.{ones_are}
+-- The parts are those of a sequence, which has the number.
+use Rattle.std.proofs.Common.{arith}
+use Rattle.elias_fano.proofs.lemmas.ItemLemmas.{parts-lengths, upper-short}
 use Rattle.elias_fano.proofs.searching.item_on.Goals as goal
 
-pub binary_select_on-requires : goal.binary_select_on-requires
-binary_select_on-requires g c =
-    record {
-      tables = c.requires.tables;
-      short = upper-short c.bit_laws.ensures.digits_bound_powers _ _ _ _ _ c.requires.parts.2;
-    }
+pub total_item_on-requires-clause-lengths : goal.total_item_on-requires-clause-lengths
+total_item_on-requires-clause-lengths g c =
+    parts-lengths c.bit_laws.ensures.digits_bound_powers _ _ _ _ _ c.requires.parts.1 _
 
--- there are as many ones as items, and so one for this rank
-pub unreachable-requires : goal.unreachable-requires
-unreachable-requires g c =
-    let h = c.requires.parts in
-    omega (arith, h.1, c.in-None.ensures.answer, ones_are c.bit_laws.ensures.places_are_counted h.0 c.args.width _ h.2.upper_is)
-
-pub item_at_one-requires : goal.item_at_one-requires
-item_at_one-requires g c =
-    let h = c.requires.parts in
-    fragment-of c.bit_laws.ensures h.0 (length h.0) _ _ _ _ _ record { parts = h.2; inside = h.1; one = c.in-Some.ensures.answer }
+pub total_item_on-requires-clause-sized : goal.total_item_on-requires-clause-sized
+total_item_on-requires-clause-sized g c =
+    c.tables_have_sizes.ensures _ c.requires.tables
+    (upper-short c.bit_laws.ensures.digits_bound_powers _ _ _ _ _ c.requires.parts.1)
 
 pub returns-clause-item : goal.returns-clause-item
-returns-clause-item g c = λ xs n h inside.
-    c.item_at_one.ensures xs n _ record { parts = h; inside = inside; one = c.in-Some.ensures.answer }
+returns-clause-item g c = λ xs h.
+    (c.in-Found.ensures.answer xs record { are = h; tables = c.requires.tables }).1

@@ -24,7 +24,7 @@ quarter_few : (g : _) (c : After-side_of-near g) → c.side_of-quarter.result.le
 quarter_few g c =
     let half = halved _ _ _ _ c.side_of-half.ensures.side in
     let quarter = halved _ _ _ _ c.side_of-quarter.ensures.side in
-    omega (arith, c.requires.within)
+    omega (arith, c.requires.range.within, c.requires.first)
 
 near_few : (g : _) (c : After-side_of-near g) → c.side_of-near.result.left < 2 ^ 19
 near_few g c =

@@ -18,11 +18,11 @@ overflow_mul-first g c =
 
 pub overflow_add-first : goal.overflow_add-first
 overflow_add-first g c =
-    record { fits = omega (arith, c.loop-left.invariant.to, c.requires.within, few_entries _ c.requires.sized) }
+    record { fits = omega (arith, c.loop-left.invariant.to, c.requires.range.within, few_entries _ c.requires.sized) }
 
 pub overflow_add-first-in-loop-left : goal.overflow_add-first-in-loop-left
 overflow_add-first-in-loop-left g c =
-    record { fits = omega (arith, c.loop-left.invariant.to, c.requires.within, few_entries _ c.requires.sized) }
+    record { fits = omega (arith, c.loop-left.invariant.to, c.requires.range.within, few_entries _ c.requires.sized) }
 
 -- ---- the entry in the middle
 

@@ -1,6 +1,6 @@
 use Rattle.std.proofs.Common.{◌≡◌, ℕ, ◌+◌, ◌*◌, ◌<◌, ◌≤◌, length, slice_index}
 use Rattle.bitm_bits.specs.Bits.{digit_count}
-use Rattle.bitm.specs.Many.{IsNear}
+use Rattle.bitm.specs.Many.{IsSearch}
 use Rattle.bitm.proofs.search.many.begin_each.Given as goal
 
 -- the searches that were begun, and the reads of each
@@ -12,7 +12,7 @@ invariant-loop-k g l =
       rests_enough : length l.ranks ≤ length l.rests;
       entries_enough : length l.ranks ≤ length l.entries;
       begun : (j : ℕ) → j < l.k
-          → IsNear g.row.ONE lists (slice_index l.ranks j) (slice_index l.rests j) (slice_index l.entries j) 21;
+          → IsSearch g.row.ONE lists (slice_index l.ranks j) (slice_index l.rests j) (slice_index l.entries j) 21;
       upper : (T.reads l.source).upper ≤ (T.reads l.fn.source).upper + l.k * (digit_count (length lists.upper) + 1);
       lower : (T.reads l.source).lower ≤ (T.reads l.fn.source).lower;
       words : (T.reads l.source).words ≤ (T.reads l.fn.source).words;

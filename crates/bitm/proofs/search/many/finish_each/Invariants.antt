@@ -1,6 +1,6 @@
 use Rattle.std.proofs.Common.{◌≡◌, ℕ, ◌+◌, ◌*◌, ◌<◌, ◌≤◌, length, slice_index}
-use Rattle.bitm_bits.specs.Bits.{bits_of}
-use Rattle.bitm_bits.specs.Count.{kind, Picks}
+use Rattle.bitm_bits.specs.Count.{kind}
+use Rattle.bitm.specs.Answers.{SelectTold}
 use Rattle.bitm.specs.Many.{IsInRecord}
 use Rattle.bitm.proofs.search.many.finish_each.Given as goal
 
@@ -11,7 +11,7 @@ invariant-loop-k g l =
     let lists = T.lists l.fn.source in
     record {
       places_enough : length l.ranks ≤ length l.places;
-      answered : (j : ℕ) → j < l.k → Picks (bits_of lists.words) (kind g.row.ONE) (slice_index l.ranks j) (slice_index l.places j);
+      answered : (j : ℕ) → j < l.k → SelectTold (kind g.row.ONE) lists (slice_index l.ranks j) (slice_index l.places j);
       left : (j : ℕ) → l.k ≤ j → j < length l.ranks
           → IsInRecord g.row.ONE lists (slice_index l.ranks j) (slice_index l.rests j) (slice_index l.places j) (slice_index l.words j);
       upper : (T.reads l.source).upper ≤ (T.reads l.fn.source).upper;

@@ -1,5 +1,5 @@
 use Rattle.std.proofs.Common.{◌≡◌, ℕ, ◌+◌, ◌<◌, ◌≤◌, length, slice_index}
-use Rattle.bitm.specs.Many.{IsNear}
+use Rattle.bitm.specs.Many.{IsSearch}
 use Rattle.bitm.proofs.search.many.halve_each.Given as goal
 
 -- the searches that were halved, those that are left, and the reads of each
@@ -11,9 +11,9 @@ invariant-loop-k g l =
       rests_enough : length l.ranks ≤ length l.rests;
       entries_enough : length l.ranks ≤ length l.entries;
       halved : (j : ℕ) → j < l.k
-          → IsNear g.row.ONE lists (slice_index l.ranks j) (slice_index l.rests j) (slice_index l.entries j) l.size;
+          → IsSearch g.row.ONE lists (slice_index l.ranks j) (slice_index l.rests j) (slice_index l.entries j) l.size;
       left : (j : ℕ) → l.k ≤ j → j < length l.ranks
-          → IsNear g.row.ONE lists (slice_index l.ranks j) (slice_index l.rests j) (slice_index l.entries j) (l.size + 1);
+          → IsSearch g.row.ONE lists (slice_index l.ranks j) (slice_index l.rests j) (slice_index l.entries j) (l.size + 1);
       upper : (T.reads l.source).upper ≤ (T.reads l.fn.source).upper;
       lower : (T.reads l.source).lower ≤ (T.reads l.fn.source).lower + l.k;
       words : (T.reads l.source).words ≤ (T.reads l.fn.source).words;

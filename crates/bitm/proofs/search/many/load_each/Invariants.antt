@@ -1,5 +1,5 @@
 use Rattle.std.proofs.Common.{◌≡◌, ℕ, ◌+◌, ◌<◌, ◌≤◌, length, slice_index}
-use Rattle.bitm.specs.Many.{IsInRecord, IsNear}
+use Rattle.bitm.specs.Many.{IsInRecord, IsSearch}
 use Rattle.bitm.proofs.search.many.load_each.Given as goal
 
 -- the records that were begun, the searches that are left, and the reads of each
@@ -14,7 +14,7 @@ invariant-loop-k g l =
       loaded : (j : ℕ) → j < l.k
           → IsInRecord g.row.ONE lists (slice_index l.ranks j) (slice_index l.rests j) (slice_index l.entries j) (slice_index l.words j);
       left : (j : ℕ) → l.k ≤ j → j < length l.ranks
-          → IsNear g.row.ONE lists (slice_index l.ranks j) (slice_index l.rests j) (slice_index l.entries j) 0;
+          → IsSearch g.row.ONE lists (slice_index l.ranks j) (slice_index l.rests j) (slice_index l.entries j) 0;
       upper : (T.reads l.source).upper ≤ (T.reads l.fn.source).upper;
       lower : (T.reads l.source).lower ≤ (T.reads l.fn.source).lower + l.k;
       words : (T.reads l.source).words ≤ (T.reads l.fn.source).words + l.k;

@@ -1,8 +1,8 @@
 -- Fewer halvings are enough where there are few entries; the answers are those of the records.
 use Rattle.std.proofs.Common.{length, slice_index, ap, ◌∙◌, subst, arith}
 use Rattle.std.proofs.lemmas.Nat.{mul-le}
-use Rattle.bitm_bits.specs.Bits.{bits_of}
-use Rattle.bitm_bits.specs.Count.{kind, Picks}
+use Rattle.bitm_bits.specs.Count.{kind}
+use Rattle.bitm.specs.Answers.{SelectTold}
 use Rattle.bitm.specs.Tables.{Lists}
 use Rattle.bitm.proofs.lemmas.ManyLemmas.{near_enough}
 use Rattle.bitm.proofs.search.many.select_block.Goals as goal
@@ -18,18 +18,23 @@ loop-size-init g c =
       long = omega (arith, c.begin_each.auto.entries, c.requires.same_length);
       near =
           record {
-            rests_enough = e.near.rests_enough;
-            entries_enough = e.near.entries_enough;
+            rests_enough = e.searches.rests_enough;
+            entries_enough = e.searches.entries_enough;
             each =
                 λ k h.
-                near_enough g.row.ONE lists (slice_index c.args.ranks.now k) (slice_index c.begin_each.new.rests k)
-                (slice_index c.begin_each.new.entries k) size (e.near.each k h) c.halvings-size.ensures.most
-                (λ few. omega (
-                  arith,
-                  c.halvings-size.ensures.enough few,
-                  c.lower_len.ensures,
-                  ap (λ (l : Lists). length l.lower) e.same,
-                ));
+                record {
+                  entry = (e.searches.each k h).entry;
+                  near =
+                      λ t.
+                      near_enough g.row.ONE lists (slice_index c.args.ranks.now k) (slice_index c.begin_each.new.rests k)
+                      (slice_index c.begin_each.new.entries k) size ((e.searches.each k h).near t) c.halvings-size.ensures.most
+                      (λ few. omega (
+                        arith,
+                        c.halvings-size.ensures.enough few,
+                        c.lower_len.ensures,
+                        ap (λ (l : Lists). length l.lower) e.same,
+                      ));
+                };
           };
       upper = omega (arith, e.reads.upper);
       lower = omega (arith, e.reads.lower, mul-le size n 21 n c.halvings-size.ensures.most (omega arith));
@@ -37,9 +42,9 @@ loop-size-init g c =
       same = e.same;
     }
 
-pub returns-clause-answers : goal.returns-clause-answers
-returns-clause-answers g c k h =
+pub returns-clause-told : goal.returns-clause-told
+returns-clause-told g c k h =
     let ranks = c.args.ranks.now in
-    let places = c.finish_each.new.places in
-    subst (λ (l : Lists). Picks (bits_of l.words) (kind g.row.ONE) (slice_index ranks k) (slice_index places k))
-    (c.load_each.ensures.same ∙ c.loop-size.invariant.same) (c.finish_each.ensures.answers k h)
+    let places = c.tell_entries.new.places in
+    subst (λ (l : Lists). SelectTold (kind g.row.ONE) l (slice_index ranks k) (slice_index places k))
+    c.loop-size.invariant.same (c.tell_entries.ensures.told k h)

@@ -1,6 +1,6 @@
 use Rattle.std.proofs.Common.{◌≡◌, ◌+◌, ◌*◌, ◌≤◌, length}
 use Rattle.bitm_bits.specs.Bits.{digit_count}
-use Rattle.bitm.specs.Many.{AreNear}
+use Rattle.bitm.specs.Many.{AreSearches}
 use Rattle.bitm.proofs.search.many.select_block.Given as goal
 
 -- where each search is, and one read of each for each halving
@@ -12,7 +12,7 @@ invariant-loop-size g l =
     record {
       size : l.size ≤ 21;
       long : length l.places ≡ n;
-      near : AreNear g.row.ONE lists l.ranks l.rests l.places l.size;
+      near : AreSearches g.row.ONE lists l.ranks l.rests l.places l.size;
       upper : (T.reads l.source).upper ≤ (T.reads l.fn.source).upper + n * (digit_count (length lists.upper) + 1);
       lower : (T.reads l.source).lower + l.size * n ≤ (T.reads l.fn.source).lower + 21 * n;
       words : (T.reads l.source).words ≤ (T.reads l.fn.source).words;

@@ -7,14 +7,14 @@ use Rattle.bitm_bits.specs.Count.{ones_before}
 use Rattle.bitm.proofs.lemmas.TableLemmas.{entries}
 use Rattle.bitm.proofs.search.ranking.ones_to_part.Goals as goal
 
-pub returns-then-words_len-le-WORDS_PER_PART-clause-count : goal.returns-then-words_len-le-WORDS_PER_PART-clause-count
-returns-then-words_len-le-WORDS_PER_PART-clause-count g c = λ t.
+pub returns-then-words_len-le-U64_PER_L1_ENTRY-clause-count : goal.returns-then-words_len-le-U64_PER_L1_ENTRY-clause-count
+returns-then-words_len-le-U64_PER_L1_ENTRY-clause-count g c = λ t.
     let l = g.T.TableSource.lists c.args.source.now in
     let b = bits_of l.words in
     let parts = (entries b l.upper l.lower t).upper_length in
     let first : c.args.part ≡ 0 =
-    omega (arith, c.requires, parts, length-bits_of l.words, c.words_len.ensures, c.if-words_len-le-WORDS_PER_PART.true) in
+    omega (arith, c.requires, parts, length-bits_of l.words, c.words_len.ensures, c.if-words_len-le-U64_PER_L1_ENTRY.true) in
     sym (ap (λ (k : ℕ). ones_before b (k * 2 ^ 32)) first ∙ ones_before_none b)
 
-pub returns-else-words_len-le-WORDS_PER_PART-clause-count : goal.returns-else-words_len-le-WORDS_PER_PART-clause-count
-returns-else-words_len-le-WORDS_PER_PART-clause-count g c = λ t. c.upper.ensures.item ∙ (entries _ _ _ t).upper_is c.args.part c.requires
+pub returns-else-words_len-le-U64_PER_L1_ENTRY-clause-count : goal.returns-else-words_len-le-U64_PER_L1_ENTRY-clause-count
+returns-else-words_len-le-U64_PER_L1_ENTRY-clause-count g c = λ t. c.upper.ensures.item ∙ (entries _ _ _ t).upper_is c.args.part c.requires

@@ -5,8 +5,10 @@ use Rattle.bitm_bits.specs.Bits.{bits_of, digit_count}
 use Rattle.bitm_bits.specs.Count.{ones_before, kind, IsSelect}
 use Rattle.bitm.specs.Samples.{part_of, parts, walk_start, samples_of, sample_count_before, rank_in}
 use Rattle.bitm.specs.Search.{IsLastEntry, entries_from, items_to, sought_in}
-use Rattle.bitm.specs.Tables.{Lists, HasTables}
+use Rattle.bitm.specs.Tables.{Lists, HasSizes, HasTables}
 use Rattle.bitm.proofs.lemmas.TableLemmas.{HasEntries, entries}
+use Rattle.bitm.proofs.lemmas.LengthLemmas.{sizes_of}
+use Rattle.bitm.proofs.lemmas.SelectedLemmas.{in_entry, is_select}
 use Rattle.bitm.proofs.lemmas.WalkLemmas.{count_is, outside_none, outside_reads, start_from, start_in, start_below, sampled_reads, interval_inside, first_inside, place_fits}
 use Rattle.bitm.proofs.strategies.sampled.sampled_in_part.Goals as goal
 use Rattle.bitm.proofs.strategies.sampled.sampled_in_part.Goals.{Start, After-first_entry-from}
@@ -159,19 +161,20 @@ returns-clause-reads g c =
     let b = bits_of l.words in
     let r = rank_of g.row.ONE l c.args.rank k in
     let w = c.walk-entry.ensures in
-    let e = c.select_in_entry.ensures in
+    let e = c.in_packed.ensures in
     let p = c.requires.part in
     let from = from_is g f (in_part g a) (number_is g a) in
     let left = c.args.rank - c.args.before in
     let low = subst (λ (x : ℕ). IsLastEntry (sought_in g.row.ONE l.words) (length l.lower) k x c.walk-entry.result.0) (in_part g a) w.last in
     let order : walk_start (part_of b k) v d r ≤ c.walk-entry.result.0 = subst (λ (x : ℕ). x ≤ c.walk-entry.result.0) from w.order in
     let total : ones_before (sought_in g.row.ONE l.words) (k * 2 ^ 32) + left ≡ c.args.rank = omega (arith, c.requires.before, p.at_most) in
-    let selected = selected_there g.row.ONE k left c.args.rank l _ c.select_in_entry.result w.same total e.answer in
+    let told = is_select _ _ _ c.in_packed.result (e.answer (subst HasTables (sym w.same) c.requires.tables)) in
+    let selected = selected_there g.row.ONE k left c.args.rank l _ c.found.result w.same total (rw c.found.ensures told) in
     let some =
     first_inside b l.upper l.lower t v c.args.rank k p d
     (interval_inside b l.upper l.lower t v c.args.rank k p d (there g f (in_part g a) (number_is g a))) in
     λ early reads.
-    sampled_reads b l.upper l.lower t v c.args.rank k p d c.walk-entry.result.0 low some early (T.reads c.select_in_entry.new.source)
+    sampled_reads b l.upper l.lower t v c.args.rank k p d c.walk-entry.result.0 low some early (T.reads c.in_packed.new.source)
     (record {
       order = order;
       reads =
@@ -181,4 +184,7 @@ returns-clause-reads g c =
             words = omega (arith, e.reads, w.reads, reads);
           };
     })
-    c.select_in_entry.result selected e.inside
+    c.found.result selected (rw c.found.ensures (in_entry _ c.in_packed.result e.inside))
+
+pub in_packed-requires-clause-sized : goal.in_packed-requires-clause-sized
+in_packed-requires-clause-sized g c = subst HasSizes (sym c.walk-entry.ensures.same) (sizes_of _ c.requires.tables c.requires.short)

@@ -1,0 +1,5 @@
+use Rattle.bitm.proofs.lemmas.LengthLemmas.{sizes_of}
+use Rattle.bitm.proofs.index_laws.tables_have_sizes.Goals as goal
+
+pub returns : goal.returns
+returns c = sizes_of

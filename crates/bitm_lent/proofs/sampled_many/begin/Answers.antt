@@ -1,0 +1,56 @@
+-- The entry is the last one of the part with no more before it, whoever found it.
+use Rattle.std.proofs.Common.{◌≡◌, ◌+◌, ◌*◌, ◌^◌, ◌<◌, ◌≤◌, length, ap, sym, subst, arith}
+use Rattle.bitm.proofs.lemmas.LengthLemmas.{few_entries, first_of_part}
+use Rattle.bitm.proofs.lemmas.ManyLemmas.{near_found}
+use Rattle.bitm.specs.Search.{entries_from, sought_in, IsLastEntry}
+use Rattle.bitm.specs.Tables.{HasTables, Lists}
+use Rattle.bitm_lent.proofs.sampled_many.begin.Goals as goal
+use Rattle.bitm_lent.proofs.sampled_many.begin.Goals.{After-entry_of-entry}
+
+inside : (g : _) (c : After-entry_of-entry g)
+    → c.entry_of-entry.result < entries_from (length (g.T.TableSource.lists c.args.source.now).lower) c.part_of_rank-part.result.0
+inside g c =
+    subst (λ (l : Lists). c.entry_of-entry.result < entries_from (length l.lower) c.part_of_rank-part.result.0)
+    c.part_of_rank-part.ensures.same c.entry_of-entry.ensures.inside
+
+pub overflow_mul-result : goal.overflow_mul-result
+overflow_mul-result g c =
+    record {
+      fits =
+          omega (
+            arith,
+            first_of_part _ c.requires.sized c.part_of_rank-part.result.0 c.part_of_rank-part.ensures.inside,
+            few_entries _ c.requires.sized,
+          );
+    }
+
+pub overflow_add-result : goal.overflow_add-result
+overflow_add-result g c =
+    let d = (goal.at.overflow_add-result g c).After-entry_of-entry in
+    record {
+      fits =
+          omega (
+            arith,
+            inside g d,
+            first_of_part _ c.requires.sized c.part_of_rank-part.result.0 c.part_of_rank-part.ensures.inside,
+            few_entries _ c.requires.sized,
+          );
+    }
+
+pub returns-clause-search : goal.returns-clause-search
+returns-clause-search g c =
+    let d = (goal.at.returns-clause-search g c).After-entry_of-entry in
+    let lists = g.T.TableSource.lists c.args.source.now in
+    let part = c.part_of_rank-part.result.0 in
+    let rest = c.part_of_rank-part.result.1 in
+    let entry = c.entry_of-entry.result in
+    let same = c.part_of_rank-part.ensures.same in
+    record {
+      entry = omega (arith, inside g d, first_of_part lists c.requires.sized part c.part_of_rank-part.ensures.inside);
+      near =
+          λ t.
+          near_found g.row.ONE lists c.args.rank rest part entry
+          (c.part_of_rank-part.ensures.part (record { tables = t; short = c.requires.sized.short }))
+          (subst (λ (l : Lists). IsLastEntry (sought_in g.row.ONE l.words) (length l.lower) part rest entry) same
+          (c.entry_of-entry.ensures.last (subst HasTables (sym same) t)));
+    }

@@ -1,0 +1,139 @@
+//! Selections by samples side by side, over a source with any tables and samples.
+ghost use Rattle.std.specs.Prelude.{◌≡◌, ◌+◌, ◌*◌, ◌<◌, ◌≤◌, length};
+ghost use Rattle.bitm_bits.specs.Bits.{digit_count};
+ghost use Rattle.bitm_bits.specs.Count.{kind};
+ghost use Rattle.bitm.specs.Answers.{ToldEach};
+ghost use Rattle.bitm.specs.Many.{AreSearches, IsSearch};
+ghost use Rattle.bitm.specs.Reads.{OnlyReads, ReadsAtMost};
+ghost use Rattle.bitm.specs.Search.{entries_from, sought_in, IsLastEntry};
+ghost use Rattle.bitm.specs.Tables.{HasSizes, HasTables};
+
+use crate::sampled::sampled_entry;
+use crate::samples::LentSamples;
+use bitm::building::{SIDE_BY_SIDE, last_entry, part_of_rank, tell_entries};
+use bitm::{L2_ENTRIES_PER_L1_ENTRY, TableSource};
+
+/// The last entry of a part with no more than `rank` of the kind before it in the part, where the tables are those of
+/// the words; else some entry of the part. Where the samples do not lead to it, it is sought without them.
+#[inline(always)]
+fn entry_of<const ONE: u8, T: TableSource>(
+    source: &mut T,
+    lent: &LentSamples<'_>,
+    part: usize,
+    rank: usize,
+) -> usize
+    requires sized { HasSizes (T.lists source.old) }
+    requires inside { part < length (T.lists source.old).upper }
+    ensures inside { result < entries_from (length (T.lists source.old).lower) part }
+    ensures last { HasTables (T.lists source.old)
+        → IsLastEntry (sought_in ONE (T.lists source.old).words)
+        (length (T.lists source.old).lower) part rank result }
+    ensures reads { ReadsAtMost (T.reads source.old) (T.reads source.new) 0 46 0 }
+    ensures same { T.lists source.new ≡ T.lists source.old }
+{
+    match sampled_entry::<ONE, T>(source, lent, part, rank) {
+        Some((entry, _)) => entry,
+        None => last_entry::<ONE, T>(source, part, rank).0,
+    }
+}
+
+/// The entry of a rank, and how many are left in its part, where the tables are those of the words; else some entry.
+#[inline(always)]
+fn begin<const ONE: u8, T: TableSource>(
+    source: &mut T,
+    lent: &LentSamples<'_>,
+    rank: usize,
+) -> (usize, usize)
+    requires sized { HasSizes (T.lists source.old) }
+    requires some { 0 < length (T.lists source.old).upper }
+    ensures search { IsSearch ONE (T.lists source.old) rank result.1 result.0 0 }
+    ensures reads { ReadsAtMost (T.reads source.old) (T.reads source.new)
+        (digit_count (length (T.lists source.old).upper) + 1) 46 0 }
+    ensures same { T.lists source.new ≡ T.lists source.old }
+{
+    let (part, rest) = part_of_rank::<ONE, T>(source, rank);
+    let entry = entry_of::<ONE, T>(source, lent, part, rest);
+    (part * L2_ENTRIES_PER_L1_ENTRY + entry, rest)
+}
+
+/// Finds the entry of each rank.
+#[inline(always)]
+fn begin_each<const ONE: u8, T: TableSource>(
+    source: &mut T,
+    lent: &LentSamples<'_>,
+    ranks: &[usize],
+    rests: &mut [usize],
+    entries: &mut [usize],
+)
+    requires sized { HasSizes (T.lists source.old) }
+    requires some { 0 < length (T.lists source.old).upper }
+    requires rests { length ranks.now ≤ length rests.old }
+    requires entries { length ranks.now ≤ length entries.old }
+    ensures searches { AreSearches ONE (T.lists source.old) ranks.now rests.new entries.new 0 }
+    ensures reads { ReadsAtMost (T.reads source.old) (T.reads source.new)
+        (length ranks.now * (digit_count (length (T.lists source.old).upper) + 1))
+        (46 * length ranks.now) 0 }
+    ensures same { T.lists source.new ≡ T.lists source.old }
+{
+    for k in 0..ranks.len() {
+        let (entry, rest) = begin::<ONE, T>(source, lent, ranks[k]);
+        entries[k] = entry;
+        rests[k] = rest;
+    }
+}
+
+/// Selections of no more ranks than go side by side.
+fn select_block<const ONE: u8, T: TableSource>(
+    source: &mut T,
+    lent: &LentSamples<'_>,
+    ranks: &[usize],
+    places: &mut [usize],
+)
+    requires sized { HasSizes (T.lists source.old) }
+    requires part { 0 < length (T.lists source.old).upper }
+    requires few { length ranks.now ≤ 16 }
+    requires same_length { length ranks.now ≡ length places.old }
+    ensures told { ToldEach (kind ONE) (T.lists source.old) ranks.now places.new }
+    ensures reads { ReadsAtMost (T.reads source.old) (T.reads source.new)
+        (length ranks.now * (digit_count (length (T.lists source.old).upper) + 1))
+        (47 * length ranks.now) (8 * length ranks.now) }
+    ensures same { T.lists source.new ≡ T.lists source.old }
+{
+    let mut rests = [0; SIDE_BY_SIDE];
+    begin_each::<ONE, T>(source, lent, ranks, &mut rests, places);
+    tell_entries::<ONE, T>(source, ranks, &mut rests, places);
+}
+
+/// For each rank what `total_select_many_on` tells, by samples of the ones; of the zeros where `ONE` is 0.
+///
+/// Whatever the tables and samples hold, a place is inside and has such a bit. Where the tables are those of the words
+/// it is the right one, `NO_ANSWER` is told exactly where there is none, and `WRONG_TABLES` never: a rank that the
+/// samples do not lead to is sought without them.
+///
+/// # Conditions
+/// Those of `total_select_many_on`. Nothing is asked of what the samples hold.
+/// # Cost
+/// For each rank at most as many upper entries as their number has binary digits and one more, 47 lower entries and
+/// eight words are read, whatever the tables and samples hold; where these are those of the words, three lower entries
+/// and one for each halving from the sample to the next.
+pub fn sampled_select_many_on<const ONE: u8, T: TableSource>(
+    source: &mut T,
+    lent: &LentSamples<'_>,
+    ranks: &[usize],
+    places: &mut [usize],
+)
+    requires sized { HasSizes (T.lists source.old) }
+    requires part { 0 < length (T.lists source.old).upper }
+    requires same_length { length ranks.now ≡ length places.old }
+    ensures told { ToldEach (kind ONE) (T.lists source.old) ranks.now places.new }
+    ensures reads { OnlyReads T.lists T.reads source.old source.new
+        (length ranks.now * (digit_count (length (T.lists source.old).upper) + 1))
+        (47 * length ranks.now) (8 * length ranks.now) }
+{
+    let mut from = 0;
+    while from < ranks.len() {
+        let to = from + (ranks.len() - from).min(SIDE_BY_SIDE);
+        select_block::<ONE, T>(source, lent, &ranks[from..to], &mut places[from..to]);
+        from = to;
+    }
+}
