@@ -201,6 +201,12 @@ impl<S: SelectForRank101111, S0: Select0ForRank101111, BV: AsSlice<u64>> RankSel
 impl<S: SelectForRank101111, S0: Select0ForRank101111, BV: AsSlice<u64>> HasBits
     for RankSelect101111<S, S0, BV> {
     ghost bits = { λ i. bits_of (BV.items i.content) };
+
+    #[tactic(auto, using(bitm_bits::proofs::Callers::bits_counted))]
+    #[inline(always)]
+    fn len(&self) -> usize {
+        self.content.as_slice().len() * 64
+    }
 }
 
 impl<S: SelectForRank101111, S0: Select0ForRank101111, BV: AsSlice<u64>> Rank

@@ -19,6 +19,7 @@ mod index;
 pub mod index_laws;
 mod levels;
 mod queries;
+pub mod ranges;
 mod search;
 mod simple;
 mod source;

@@ -7,6 +7,10 @@ ghost use Rattle.bitm_bits.specs.Count.{IsRank, IsRank0, IsSelect, Picks};
 pub trait HasBits {
     /// The bits of the value.
     ghost bits: { Self → List Bool };
+
+    /// How many bits there are. They fit `usize`, so a place that is inside has a next one, `place + 1`.
+    fn len(&self) -> usize
+        ensures { result ≡ length (Self.bits self.now) };
 }
 
 /// Answers how many ones, and how many zeros, stand before a place of a value's bits, or before their end.

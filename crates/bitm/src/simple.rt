@@ -161,6 +161,12 @@ impl<BV: AsSlice<u64>> RankSimple<BV> {
 
 impl<BV: AsSlice<u64>> HasBits for RankSimple<BV> {
     ghost bits = { λ s. bits_of (BV.items s) };
+
+    #[tactic(auto, using(bitm_bits::proofs::Callers::bits_counted))]
+    #[inline(always)]
+    fn len(&self) -> usize {
+        self.content.as_slice().len() * 64
+    }
 }
 
 impl<BV: AsSlice<u64>> Rank for RankSimple<BV> {

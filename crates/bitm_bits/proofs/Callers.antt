@@ -3,14 +3,14 @@
 use Rattle.std.proofs.Common.{◌≡◌, ℕ, ◌+◌, ◌*◌, ◌<◌, ◌≤◌, Bool, true, false, if◌then◌else◌, List, [], ◌∷◌, length, replicate, Option, ap, sym, ◌∙◌, arith}
 use Rattle.bitm_bits.specs.Bits.{bits_of, digit, item}
 use Rattle.bitm_bits.specs.Coming.{all_bits_left, bits_left}
-use Rattle.bitm_bits.specs.Count.{ones_before, ones_of, zeros_of, Picks, IsSelect, MatchesFirstOne, places}
+use Rattle.bitm_bits.specs.Count.{ones_before, zeros_before, ones_of, zeros_of, Picks, IsSelect, IsSelectFrom, IsLastTo, MatchesFirstOne, MatchesFirstZero, places}
 use Rattle.bitm_bits.specs.Number.{with_number}
 use Rattle.bitm_bits.proofs.lemmas.BesideLemmas.{item-zeros}
 use Rattle.bitm_bits.proofs.lemmas.BitsLemmas.{length-bits_of}
 use Rattle.bitm_bits.proofs.lemmas.ComingLemmas.{bits_coming_all}
-use Rattle.bitm_bits.proofs.lemmas.CountLemmas.{count_before-none, few_ones as fewer_ones}
+use Rattle.bitm_bits.proofs.lemmas.CountLemmas.{count_before-none, count_before-le, ones_before-add-zeros_before, few_ones as fewer_ones}
 use Rattle.bitm_bits.proofs.lemmas.NumberLemmas.{length-with_number, item-with_number_below, item-with_number_inside, item-with_number_above, number_at-with_number}
-use Rattle.bitm_bits.proofs.lemmas.PickLemmas.{count_before_after, length-places, rank_below, Picks-rank, same_from_Picks, MatchesFirstOne-selected}
+use Rattle.bitm_bits.proofs.lemmas.PickLemmas.{count_before_after, length-places, rank_below, Picks-rank, same_from_Picks, MatchesFirstOne-selected, MatchesFirstZero-selected, IsLastTo-Picks, none_to, IsSelectFrom-selected}
 
 -- there are no more ones than bits: how a caller meets the condition of `RankSimple::build` for few words
 pub few_ones : (words : List ℕ) → ones_of (bits_of words) ≤ 64 * length words
@@ -34,6 +34,10 @@ bit_written b i v h =
 pub picked_by_its_rank : (b : List Bool) (p : ℕ) → p < length b → item b p ≡ true → Picks b true (ones_before b p) p
 picked_by_its_rank b = Picks-rank b true
 
+-- and so is a zero
+pub zero_picked_by_its_rank : (b : List Bool) (p : ℕ) → p < length b → item b p ≡ false → Picks b false (zeros_before b p) p
+zero_picked_by_its_rank b p = Picks-rank b false p
+
 -- there are as many places of ones as ones
 pub places_counted : (b : List Bool) → length (places true 0 b) ≡ ones_of b
 places_counted b = length-places true 0 b
@@ -45,6 +49,54 @@ same_picked = same_from_Picks
 -- the rank of a place selects the first one from there on
 pub next_one : (b : List Bool) (s : ℕ) (o : Option ℕ) → s ≤ length b → IsSelect b true (ones_before b s) o → MatchesFirstOne b s o
 next_one = MatchesFirstOne-selected
+
+-- and the first zero
+pub next_zero : (b : List Bool) (s : ℕ) (o : Option ℕ) → IsSelect b false (zeros_before b s) o → MatchesFirstZero b s o
+next_zero = MatchesFirstZero-selected
+
+-- one less than the rank after a place picks the last one up to it
+pub last_one : (b : List Bool) (s r p : ℕ) → s < length b → ones_before b (s + 1) ≡ r + 1 → Picks b true r p → IsLastTo b true s p
+last_one b = IsLastTo-Picks b true
+
+-- and so of zeros
+pub last_zero : (b : List Bool) (s r p : ℕ) → s < length b → zeros_before b (s + 1) ≡ r + 1 → Picks b false r p → IsLastTo b false s p
+last_zero b = IsLastTo-Picks b false
+
+-- no ones before the next place: none up to this one
+pub no_one_to : (b : List Bool) (s i : ℕ) → s < length b → ones_before b (s + 1) ≡ 0 → i ≤ s → item b i ≡ false
+no_one_to b = none_to b true
+
+-- and so of zeros
+pub no_zero_to : (b : List Bool) (s i : ℕ) → s < length b → zeros_before b (s + 1) ≡ 0 → i ≤ s → item b i ≡ true
+no_zero_to b = none_to b false
+
+-- the rank of a place and k more select the one with k between
+pub one_from : (b : List Bool) (s k : ℕ) (o : Option ℕ) → IsSelect b true (ones_before b s + k) o → IsSelectFrom b true s k o
+one_from b = IsSelectFrom-selected b true
+
+-- and so of zeros
+pub zero_from : (b : List Bool) (s k : ℕ) (o : Option ℕ) → IsSelect b false (zeros_before b s + k) o → IsSelectFrom b false s k o
+zero_from b = IsSelectFrom-selected b false
+
+-- no fewer ones stand before a later place
+pub ones_grow : (b : List Bool) (i j : ℕ) → i ≤ j → ones_before b i ≤ ones_before b j
+ones_grow b = count_before-le b true
+
+-- and no fewer zeros
+pub zeros_grow : (b : List Bool) (i j : ℕ) → i ≤ j → zeros_before b i ≤ zeros_before b j
+zeros_grow b = count_before-le b false
+
+-- each of the first bits is a one or a zero
+pub ones_and_zeros : (b : List Bool) (i : ℕ) → i ≤ length b → ones_before b i + zeros_before b i ≡ i
+ones_and_zeros = ones_before-add-zeros_before
+
+-- no more ones than bits
+pub ones_are_bits : (b : List Bool) → ones_of b ≤ length b
+ones_are_bits b = omega (arith, ones_before-add-zeros_before b (length b) (omega arith))
+
+-- and no more zeros
+pub zeros_are_bits : (b : List Bool) → zeros_of b ≤ length b
+zeros_are_bits b = omega (arith, ones_before-add-zeros_before b (length b) (omega arith))
 
 -- as many bits as 64 for each word
 pub bits_counted : (words : List ℕ) → length (bits_of words) ≡ 64 * length words

@@ -60,12 +60,16 @@ abbrev pub kind : ℕ → Bool
 kind zero = false
 kind (suc n) = true
 
--- p is the least place from s on whose item is true
-pub record IsFirstOneFrom (b : List Bool) (s p : ℕ) : Type 0 where
+-- p is the least place from s on whose item is v
+pub record IsFirstFrom (b : List Bool) (v : Bool) (s p : ℕ) : Type 0 where
   pub from : s ≤ p
   pub inside : p < length b
-  pub one : item b p ≡ true
-  pub least : (i : ℕ) → s ≤ i → i < p → item b i ≡ false
+  pub is : item b p ≡ v
+  pub least : (i : ℕ) → s ≤ i → i < p → item b i ≡ not v
+
+-- p is the least place from s on whose item is true
+abbrev pub IsFirstOneFrom : List Bool → ℕ → ℕ → Type 0
+IsFirstOneFrom b s p = IsFirstFrom b true s p
 
 -- p is the place of the first true item, or the length where no item is true
 pub record IsFirstOneOrEnd (b : List Bool) (p : ℕ) : Type 0 where
@@ -85,9 +89,26 @@ HasOneTo b s = (p : ℕ) × (p ≤ s) × (item b p ≡ true)
 abbrev pub MatchesFirstOne : List Bool → ℕ → Option ℕ → Type 0
 MatchesFirstOne b s o = MatchOption o ((p : ℕ) → s ≤ p → item b p ≡ false) (IsFirstOneFrom b s)
 
--- p is the greatest place up to s whose item is true
-pub record IsLastOneTo (b : List Bool) (s p : ℕ) : Type 0 where
+-- the least place from s on whose item is false, and None exactly where all items from there on are true
+abbrev pub MatchesFirstZero : List Bool → ℕ → Option ℕ → Type 0
+MatchesFirstZero b s o = MatchOption o ((p : ℕ) → s ≤ p → p < length b → item b p ≡ true) (IsFirstFrom b false s)
+
+-- p is the greatest place up to s whose item is v
+pub record IsLastTo (b : List Bool) (v : Bool) (s p : ℕ) : Type 0 where
   pub to : p ≤ s
   pub inside : p < length b
-  pub one : item b p ≡ true
-  pub greatest : (i : ℕ) → p < i → i ≤ s → item b i ≡ false
+  pub is : item b p ≡ v
+  pub greatest : (i : ℕ) → p < i → i ≤ s → item b i ≡ not v
+
+-- p is the greatest place up to s whose item is true
+abbrev pub IsLastOneTo : List Bool → ℕ → ℕ → Type 0
+IsLastOneTo b s p = IsLastTo b true s p
+
+-- the greatest place up to s whose item is v, and None exactly where no item up to there is v
+abbrev pub MatchesLast : List Bool → Bool → ℕ → Option ℕ → Type 0
+MatchesLast b v s o = MatchOption o ((p : ℕ) → p ≤ s → item b p ≡ not v) (IsLastTo b v s)
+
+-- the place from s on with bit v and k such bits between s and it, and None exactly where there are not so many
+abbrev pub IsSelectFrom : List Bool → Bool → ℕ → ℕ → Option ℕ → Type 0
+IsSelectFrom b v s k o =
+    MatchOption o (count_of b v ≤ count_before b v s + k) (λ p. (s ≤ p) × Picks b v (count_before b v s + k) p)

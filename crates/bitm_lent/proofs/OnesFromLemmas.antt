@@ -29,10 +29,10 @@ first_counts b s p f =
     omega (arith, none, ap (ones_before b) e)
 
 pub first_picked : (b : List Bool) (s p r : ℕ) → IsFirstOneFrom b s p → ones_before b s ≡ r → Picks b true r p
-first_picked b s p r f is = record { inside = f.inside; item = f.one; before = first_counts b s p f ∙ is }
+first_picked b s p r f is = record { inside = f.inside; item = f.is; before = first_counts b s p f ∙ is }
 
 pub next_counts : (b : List Bool) (s p : ℕ) → IsFirstOneFrom b s p → ones_before b (p + 1) ≡ ones_before b s + 1
-next_counts b s p f = omega (arith, ones_before_more b p f.inside, ap truth f.one, first_counts b s p f)
+next_counts b s p f = omega (arith, ones_before_more b p f.inside, ap truth f.is, first_counts b s p f)
 
 -- where none follows, all are before
 pub none_follows : (b : List Bool) (s : ℕ) → ((i : ℕ) → s ≤ i → item b i ≡ false) → ones_of b ≡ ones_before b s

@@ -1,20 +1,66 @@
 //! Rank and selection undo each other, in code that is generic over the index.
-ghost use Rattle.std.specs.Prelude.{◌≡◌, ◌+◌, ◌-◌, ◌<◌, ◌≤◌, length, true};
+ghost use Rattle.std.specs.Prelude.{◌≡◌, ◌-◌, ◌<◌, ◌≤◌, length, true, false};
 ghost use Rattle.bitm_bits.specs.Bits.{item};
-ghost use Rattle.bitm_bits.specs.Count.{ones_before, ones_of, MatchesFirstOne};
+ghost use Rattle.bitm_bits.specs.Count.{ones_of, zeros_of};
 
-use bitm::{Rank, Select, index_laws};
+use bitm::{Rank, Select, Select0};
 
-/// The first one at `place` or after it; `None` exactly where there is none.
+/// The ones before the one of this rank: as many as the rank says.
 ///
 /// # Conditions
-/// The place is inside or the length.
-#[tactic(auto, using(bitm_bits::proofs::Callers::next_one))]
-pub fn next_one<I: Rank + Select>(index: &I, place: usize) -> Option<usize>
-    requires { place ≤ length (I.bits index.now) }
-    ensures { MatchesFirstOne (I.bits index.now) place result }
+/// There are more than `rank` ones.
+pub fn rank_of_selected<I: Rank + Select>(index: &I, rank: usize) -> usize
+    requires { rank < ones_of (I.bits index.now) }
+    ensures { result ≡ rank }
 {
-    index.try_select(index.rank(place))
+    index.rank(index.select(rank))
+}
+
+/// The zeros before the zero of this rank: as many as the rank says.
+///
+/// # Conditions
+/// There are more than `rank` zeros.
+pub fn rank0_of_selected<I: Rank + Select0>(index: &I, rank: usize) -> usize
+    requires { rank < zeros_of (I.bits index.now) }
+    ensures { result ≡ rank }
+{
+    index.rank0(index.select0(rank))
+}
+
+/// The one selected by the rank of a one: that one.
+///
+/// # Conditions
+/// There is a one at `place`.
+pub fn select_of_rank<I: Rank + Select>(index: &I, place: usize) -> usize
+    requires inside { place < length (I.bits index.now) }
+    requires one { item (I.bits index.now) place ≡ true }
+    ensures { result ≡ place }
+{
+    index.select(index.rank(place))
+}
+
+/// The zero selected by the rank of a zero: that zero.
+///
+/// # Conditions
+/// There is a zero at `place`.
+pub fn select0_of_rank<I: Rank + Select0>(index: &I, place: usize) -> usize
+    requires inside { place < length (I.bits index.now) }
+    requires zero { item (I.bits index.now) place ≡ false }
+    ensures { result ≡ place }
+{
+    index.select0(index.rank0(place))
+}
+
+/// The ones and the zeros among the first `index` bits: together as many as these bits, at the exact length too.
+///
+/// # Conditions
+/// There are no fewer than `index` bits.
+#[tactic(auto, using(bitm_bits::proofs::Callers::ones_and_zeros))]
+pub fn ranks_add_up<I: Rank>(bits: &I, index: usize) -> usize
+    requires { index ≤ length (I.bits bits.now) }
+    ensures { result ≡ index }
+{
+    bits.rank(index) + bits.rank0(index)
 }
 
 /// How many ones there are from the place of the one of this rank on.
@@ -26,5 +72,5 @@ pub fn ones_from<I: Rank + Select>(index: &I, rank: usize, total: usize) -> usiz
     requires total { total ≡ ones_of (I.bits index.now) }
     ensures { result ≡ total - rank }
 {
-    total - index_laws::rank_of_selected(index, rank)
+    total - rank_of_selected(index, rank)
 }

@@ -103,7 +103,7 @@ last_left words s q rest h some =
     record {
       to = early;
       inside = omega (arith, length-bits_of words, h.within);
-      one = item-bits_of_at words (q * 64 + t) q t (omega arith) low h.within ∙ ap (λ d. eqb d 1) at;
+      is = item-bits_of_at words (q * 64 + t) q t (omega arith) low h.within ∙ ap (λ d. eqb d 1) at;
       greatest = λ i from to.
           ⊎_elim
           (λ here.

@@ -118,7 +118,7 @@ first_left words s q rest h some =
     record {
       from = late;
       inside = omega (arith, length-bits_of words, h.within);
-      one = item-bits_of_at words (q * 64 + t) q t (omega arith) low h.within ∙ ap (λ d. eqb d 1) at;
+      is = item-bits_of_at words (q * 64 + t) q t (omega arith) low h.within ∙ ap (λ d. eqb d 1) at;
       least = λ i from before.
           ⊎_elim
           (λ earlier. h.passed i from earlier)

@@ -7,7 +7,7 @@ use Rattle.std.specs.List.Sorted.{IsStrictlyIncreasing}
 use Rattle.bitm_bits.proofs.lemmas.CountLemmas.{count_before_more, count_before_grows, count_before-le, count_before-none}
 use Rattle.bitm_bits.proofs.lemmas.WordLemmas.{truth}
 use Rattle.bitm_bits.specs.Bits.{item}
-use Rattle.bitm_bits.specs.Count.{ones_before, zeros_before, count_before, Picks, IsSelect, MatchesFirstOne, is_same, places}
+use Rattle.bitm_bits.specs.Count.{ones_before, zeros_before, count_before, Picks, IsSelect, IsSelectFrom, IsFirstFrom, IsLastTo, MatchesFirstOne, MatchesFirstZero, is_same, places}
 
 -- ---- one place for each rank
 
@@ -145,42 +145,77 @@ places-rise b v k l =
     absurd (omega (arith, here.before, there.before, more, ap (count_before b v) at)))
     (cases_lt p q)
 
--- ---- the first one from a place on
+-- ---- the first from a place on, and the last up to one
 
-not_one : (x : Bool) → truth x ≡ 0 → x ≡ false
-not_one true h = absurd (omega arith)
-not_one false h = refl
+not_same : (v x : Bool) → truth (is_same v x) ≡ 0 → x ≡ not v
+not_same true true h = absurd (omega arith)
+not_same true false h = refl
+not_same false true h = refl
+not_same false false h = absurd (omega arith)
 
--- where no more ones are counted there are none
-none_between : (b : List Bool) (s e i : ℕ) → ones_before b e ≡ ones_before b s → s ≤ i → i < e → i < length b → item b i ≡ false
-none_between b s e i same from to inside =
-    not_one (item b i)
-    (omega (arith, same, count_before_more true b i inside, count_before-le b true (i + 1) e (omega arith), count_before-le b true s i from))
+-- where no more are counted there are none
+none_between : (b : List Bool) (v : Bool) (s e i : ℕ) → count_before b v e ≡ count_before b v s → s ≤ i → i < e → i < length b
+    → item b i ≡ not v
+none_between b v s e i same from to inside =
+    not_same v (item b i)
+    (omega (arith, same, count_before_more v b i inside, count_before-le b v (i + 1) e (omega arith), count_before-le b v s i from))
+
+-- where all of a kind stand before a place there are none from it on
+none_from : (b : List Bool) (v : Bool) (s p : ℕ) → count_before b v (length b) ≤ count_before b v s → s ≤ p → p < length b
+    → item b p ≡ not v
+none_from b v s p none from inside =
+    none_between b v s (length b) p (omega (arith, none, count_before-le b v s (length b) (omega arith))) from inside inside
+
+-- what is picked by a rank that is no less than that of a place is not before it
+pub from-Picks : (b : List Bool) (v : Bool) (s r p : ℕ) → count_before b v s ≤ r → Picks b v r p → s ≤ p
+from-Picks b v s r p enough picked =
+    let one : truth (is_same v (item b p)) ≡ 1 = ap (λ x. truth (is_same v x)) picked.item ∙ is_same_self v in
+    ⊎_elim
+    (λ before.
+    absurd
+    (omega (arith, enough, one, picked.before, count_before_more v b p picked.inside, count_before-le b v (p + 1) s (omega arith))))
+    (λ from. from)
+    (cases_lt p s)
+
+-- the rank of a place picks the first of the kind from there on
+pub IsFirstFrom-Picks : (b : List Bool) (v : Bool) (s p : ℕ) → Picks b v (count_before b v s) p → IsFirstFrom b v s p
+IsFirstFrom-Picks b v s p picked = record {
+  from = from-Picks b v s (count_before b v s) p (omega arith) picked;
+  inside = picked.inside;
+  is = picked.item;
+  least = λ i from to. none_between b v s p i picked.before from to (omega (arith, picked.inside));
+}
 
 -- the rank of a place selects the first one from there on
 pub MatchesFirstOne-selected : (b : List Bool) (s : ℕ) (o : Option ℕ) → s ≤ length b → IsSelect b true (ones_before b s) o → MatchesFirstOne b s o
 MatchesFirstOne-selected b s None l none =
-    λ p from.
-    ⊎_elim
-    (λ inside. none_between b s (length b) p (omega (arith, none, count_before-le b true s (length b) l)) from inside inside)
-    (λ past. get_or_past b p false past)
-    (cases_lt p (length b))
-MatchesFirstOne-selected b s (Some p) l picked =
+    λ p from. ⊎_elim (λ inside. none_from b true s p none from inside) (λ past. get_or_past b p false past) (cases_lt p (length b))
+MatchesFirstOne-selected b s (Some p) l picked = IsFirstFrom-Picks b true s p picked
+
+-- and so of zeros
+pub MatchesFirstZero-selected : (b : List Bool) (s : ℕ) (o : Option ℕ) → IsSelect b false (zeros_before b s) o → MatchesFirstZero b s o
+MatchesFirstZero-selected b s None none = λ p from inside. none_from b false s p none from inside
+MatchesFirstZero-selected b s (Some p) picked = IsFirstFrom-Picks b false s p picked
+
+-- the last of the kind up to a place is picked by one less than the rank after that place
+pub IsLastTo-Picks : (b : List Bool) (v : Bool) (s r p : ℕ) → s < length b → count_before b v (s + 1) ≡ r + 1 → Picks b v r p
+    → IsLastTo b v s p
+IsLastTo-Picks b v s r p inside count picked =
+    let one : truth (is_same v (item b p)) ≡ 1 = ap (λ x. truth (is_same v x)) picked.item ∙ is_same_self v in
+    let after : count_before b v (p + 1) ≡ r + 1 = omega (arith, one, picked.before, count_before_more v b p picked.inside) in
     record {
-      from =
-          ⊎_elim
-          (λ before.
-          absurd
-          (omega (
-            arith,
-            picked.before,
-            count_before_more true b p picked.inside,
-            ap truth picked.item,
-            count_before-le b true (p + 1) s (omega arith),
-          )))
-          (λ from. from)
-          (cases_lt p s);
+      to = ⊎_elim (λ past. absurd (omega (arith, count, picked.before, count_before-le b v (s + 1) p (omega arith)))) (λ to. to) (cases_lt s p);
       inside = picked.inside;
-      one = picked.item;
-      least = λ i from to. none_between b s p i picked.before from to (omega (arith, picked.inside));
+      is = picked.item;
+      greatest = λ i past to. none_between b v (p + 1) (s + 1) i (omega (arith, count, after)) (omega arith) (omega arith) (omega arith);
     }
+
+-- where none stand before the next place there are none up to it
+pub none_to : (b : List Bool) (v : Bool) (s i : ℕ) → s < length b → count_before b v (s + 1) ≡ 0 → i ≤ s → item b i ≡ not v
+none_to b v s i inside none to =
+    none_between b v 0 (s + 1) i (omega (arith, none, count_before-none b v)) (omega arith) (omega arith) (omega arith)
+
+-- the rank of a place and k more select the one with k of its kind between
+pub IsSelectFrom-selected : (b : List Bool) (v : Bool) (s k : ℕ) (o : Option ℕ) → IsSelect b v (count_before b v s + k) o → IsSelectFrom b v s k o
+IsSelectFrom-selected b v s k None none = none
+IsSelectFrom-selected b v s k (Some p) picked = (from-Picks b v s _ p (omega arith) picked, picked)

@@ -75,7 +75,7 @@ module _ (laws : BitLaws) (xs : List ℕ) (n l : ℕ) (low upper : List ℕ) (st
   -- the first one from bit first on is that of the first item left
   pub first-is : (p : ℕ) → IsFirstOneFrom (bits_of upper) first p → p ≡ upper_place xs l start
   first-is p found =
-      let j = item_of laws xs l upper h.parts.upper_is p found.inside found.one in
+      let j = item_of laws xs l upper h.parts.upper_is p found.inside found.is in
       let not_before : start ≤ j.0 =
       ⊎_elim (λ early. absurd (omega (arith, h.before j.0 early, j.2, found.from))) (λ from. from) (cases_lt j.0 start) in
       let from : upper_place xs l start ≤ p =
@@ -90,7 +90,7 @@ module _ (laws : BitLaws) (xs : List ℕ) (n l : ℕ) (low upper : List ℕ) (st
   -- the last one before bit limit is that of the last item left
   pub last-is : (p : ℕ) → IsLastOneTo (bits_of upper) (limit - 1) p → p ≡ upper_place xs l (end - 1)
   last-is p found =
-      let j = item_of laws xs l upper h.parts.upper_is p found.inside found.one in
+      let j = item_of laws xs l upper h.parts.upper_is p found.inside found.is in
       let bound : 0 < limit = omega (arith, h.left start) in
       let not_after : j.0 ≤ end - 1 =
       ⊎_elim (λ before. omega arith) (λ late. absurd (omega (arith, h.after j.0 late, j.1, j.2, found.to, h.parts.count))) (cases_lt j.0 end) in

@@ -19,7 +19,7 @@ returns-then-word-ne0 c =
     let q = c.loop-word_index.word_index in
     let fits : get_or words q 0 < 2 ^ 64 = search rules in
     let first = first_of_word words q (omega arith) fits (omega arith) c.loop-word_index.invariant in
-    record { within = omega (arith, first.inside); zeros = λ i l. first.least i (omega arith) l; one = λ _. first.one }
+    record { within = omega (arith, first.inside); zeros = λ i l. first.least i (omega arith) l; one = λ _. first.is }
 
 pub returns : goal.returns
 returns c =
