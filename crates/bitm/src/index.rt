@@ -205,7 +205,7 @@ impl<S: SelectForRank101111, S0: Select0ForRank101111, BV: AsSlice<u64>> HasBits
     #[tactic(auto, using(bitm_bits::proofs::Callers::bits_counted))]
     #[inline(always)]
     fn len(&self) -> usize {
-        self.content.as_slice().len() * 64
+        64 * self.content.as_slice().len()
     }
 }
 

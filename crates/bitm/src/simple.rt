@@ -165,7 +165,7 @@ impl<BV: AsSlice<u64>> HasBits for RankSimple<BV> {
     #[tactic(auto, using(bitm_bits::proofs::Callers::bits_counted))]
     #[inline(always)]
     fn len(&self) -> usize {
-        self.content.as_slice().len() * 64
+        64 * self.content.as_slice().len()
     }
 }
 
