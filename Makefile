@@ -1,5 +1,12 @@
 PREFIX = /usr/local
+VERSION = $(shell cat VERSION)
 ARCHIVE = crates/bitm_c/out/libbitm_c.a
+TO = $(DESTDIR)$(PREFIX)
+SHARED = libbitm_c.so.$(VERSION)
+SONAME = libbitm_c.so.0
+# What `make install` lays below PREFIX, and `make uninstall` takes away.
+LAID = include/bitm.h include/bitm.hpp lib/libbitm_c.a lib/$(SHARED) lib/$(SONAME) lib/libbitm_c.so \
+    lib/pkgconfig/bitm.pc lib/cmake/bitm/bitm-config.cmake lib/cmake/bitm/bitm-config-version.cmake
 check:
 	rt all check
 test:
@@ -9,13 +16,22 @@ ci:
 # The proved archive; rt proves what has changed, and else takes some seconds.
 archive:
 	cd crates/bitm_c && rt lib
-# The archive, a shared object of it, the header and a file for pkg-config. Run `make archive` first.
+# Headers, the archive, a shared object of it, and files for pkg-config and CMake. Run `make archive` first.
 install:
 	test -f $(ARCHIVE)
-	mkdir -p $(DESTDIR)$(PREFIX)/include $(DESTDIR)$(PREFIX)/lib/pkgconfig
-	install -m 644 include/bitm.h $(DESTDIR)$(PREFIX)/include/bitm.h
-	install -m 644 $(ARCHIVE) $(DESTDIR)$(PREFIX)/lib/libbitm_c.a
-	$(CC) -shared -nostdlib -o $(DESTDIR)$(PREFIX)/lib/libbitm_c.so -Wl,--whole-archive $(ARCHIVE) -Wl,--no-whole-archive
-	printf 'prefix=%s\nName: bitm\nDescription: rank and select over lent words, proved\nVersion: 1\nCflags: -I$${prefix}/include\nLibs: -L$${prefix}/lib -lbitm_c\n' \
-	    '$(PREFIX)' > $(DESTDIR)$(PREFIX)/lib/pkgconfig/bitm.pc
-.PHONY: check test ci archive install
+	mkdir -p $(TO)/include $(TO)/lib/pkgconfig $(TO)/lib/cmake/bitm
+	install -m 644 include/bitm.h include/bitm.hpp $(TO)/include
+	install -m 644 $(ARCHIVE) $(TO)/lib/libbitm_c.a
+	$(CC) -shared -nostdlib -o $(TO)/lib/$(SHARED) -Wl,-soname,$(SONAME) -Wl,--whole-archive $(ARCHIVE) -Wl,--no-whole-archive
+	ln -sf $(SHARED) $(TO)/lib/$(SONAME)
+	ln -sf $(SONAME) $(TO)/lib/libbitm_c.so
+	sed 's|@PREFIX@|$(PREFIX)|; s|@VERSION@|$(VERSION)|' install/bitm.pc.in > $(TO)/lib/pkgconfig/bitm.pc
+	install -m 644 install/bitm-config.cmake $(TO)/lib/cmake/bitm
+	sed 's|@VERSION@|$(VERSION)|' install/bitm-config-version.cmake.in > $(TO)/lib/cmake/bitm/bitm-config-version.cmake
+uninstall:
+	rm -f $(addprefix $(TO)/,$(LAID))
+	-rmdir $(TO)/lib/cmake/bitm $(TO)/lib/cmake $(TO)/lib/pkgconfig 2> /dev/null
+# The Python package. Run `make archive` first.
+install-python:
+	python3 -m pip install ./python
+.PHONY: check test ci archive install uninstall install-python

@@ -45,6 +45,10 @@ extern "C" {
 /* The archive is of a machine with addresses of 64 bits. */
 typedef char bitm_sizes_are_64_bits[sizeof(size_t) == 8 ? 1 : -1];
 
+/* The version of this header; `make install` names the shared object by it. */
+#define BITM_VERSION "0.2.0"
+#define BITM_VERSION_NUMBER 200 /* 10000 * major + 100 * minor + patch */
+
 /* What a call answers. */
 enum bitm_status {
     BITM_OK = 0,       /* the answer was written */

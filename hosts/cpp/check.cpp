@@ -1,119 +1,12 @@
-// The header in C++: classes that keep words and tables, and sequences, in vectors; compared with a plain loop.
-#include "../../include/bitm.h"
+// bitm.hpp against plain loops: an index and a sequence, owned and as views, their ranges, errors, copies and moves.
+#include "bitm.hpp"
 
 #include <algorithm>
 #include <cstdio>
 #include <cstdlib>
-#include <optional>
 #include <random>
-#include <vector>
 
 namespace {
-
-// Samples of one kind of bits, kept in vectors.
-struct Samples {
-    std::vector<std::uint32_t> samples;
-    std::vector<std::uint64_t> starts;
-    std::uint32_t log2;
-
-    bitm_samples lent() const { return {samples.data(), samples.size(), starts.data(), starts.size(), log2}; }
-};
-
-// A content with its tables, which the constructor makes.
-class Index {
-public:
-    explicit Index(std::vector<std::uint64_t> content)
-        : words_(std::move(content)), upper_(bitm_upper_len(words_.size())), lower_(bitm_lower_len(words_.size()))
-    {
-        if (bitm_build(words_.data(), words_.size(), upper_.data(), upper_.size(), lower_.data(), lower_.size(),
-                       &ones_) != BITM_OK)
-            std::abort();
-    }
-
-    std::uint64_t ones() const { return ones_; }
-    std::optional<std::uint64_t> rank(std::size_t index) const { return ask(bitm_rank, index); }
-    std::optional<std::uint64_t> select(std::size_t rank) const { return ask(bitm_select, rank); }
-    std::optional<std::uint64_t> select0(std::size_t rank) const { return ask(bitm_select0, rank); }
-
-    // The samples of ones, one for each 2^log2.
-    Samples samples(std::uint32_t log2) const
-    {
-        Samples made{std::vector<std::uint32_t>(bitm_samples_len(words_.size(), log2)),
-                     std::vector<std::uint64_t>(upper_.size()), log2};
-        const bitm_view lent = view();
-        std::uint64_t used;
-        if (bitm_build_samples(&lent, log2, made.samples.data(), made.samples.size(), made.starts.data(),
-                               made.starts.size(), &used) != BITM_OK)
-            std::abort();
-        made.samples.resize(used);
-        return made;
-    }
-
-    std::optional<std::uint64_t> select(const Samples &by, std::size_t rank) const
-    {
-        const bitm_samples samples = by.lent();
-        return ask([&](auto view, auto r, auto out) { return bitm_sampled_select(view, &samples, r, out); }, rank);
-    }
-
-private:
-    bitm_view view() const
-    {
-        return {words_.data(), words_.size(), upper_.data(), upper_.size(), lower_.data(), lower_.size()};
-    }
-
-    template <class Call> std::optional<std::uint64_t> ask(Call call, std::size_t query) const
-    {
-        const bitm_view lent = view();
-        std::uint64_t out;
-        return call(&lent, query, &out) == BITM_OK ? std::optional(out) : std::nullopt;
-    }
-
-    std::vector<std::uint64_t> words_, upper_, lower_;
-    std::uint64_t ones_ = 0;
-};
-
-// Numbers that never fall, of which the constructor makes the parts.
-class Sequence {
-public:
-    explicit Sequence(const std::vector<std::uint64_t> &items) : len_(items.size())
-    {
-        bitm_sequence_lens of;
-        if (bitm_sequence_sizes(len_, items.empty() ? 0 : items.back(), &of) != BITM_OK) std::abort();
-        low_.resize(of.low_len), words_.resize(of.words_len), upper_.resize(of.upper_len), lower_.resize(of.lower_len);
-        if (bitm_sequence_build(items.data(), len_, low_.data(), low_.size(), words_.data(), words_.size(),
-                                upper_.data(), upper_.size(), lower_.data(), lower_.size(), &width_) != BITM_OK)
-            std::abort();
-    }
-
-    bool check() const
-    {
-        const bitm_sequence_view lent = view();
-        return bitm_sequence_check(&lent) == BITM_OK;
-    }
-    std::optional<std::uint64_t> get(std::size_t index) const { return ask(bitm_sequence_get, index); }
-    std::optional<std::uint64_t> first_at_least(std::uint64_t value) const
-    {
-        return ask(bitm_sequence_first_at_least, value);
-    }
-
-private:
-    bitm_sequence_view view() const
-    {
-        return {len_,          width_,        low_.data(),   low_.size(),   words_.data(),
-                words_.size(), upper_.data(), upper_.size(), lower_.data(), lower_.size()};
-    }
-
-    template <class Call> std::optional<std::uint64_t> ask(Call call, std::uint64_t query) const
-    {
-        const bitm_sequence_view lent = view();
-        std::uint64_t out;
-        return call(&lent, query, &out) == BITM_OK ? std::optional(out) : std::nullopt;
-    }
-
-    std::size_t len_;
-    std::uint64_t width_ = 0;
-    std::vector<std::uint64_t> low_, words_, upper_, lower_;
-};
 
 void must(bool so, const char *what)
 {
@@ -122,41 +15,119 @@ void must(bool so, const char *what)
     std::exit(1);
 }
 
+template <class Error, class Call> void throws(Call call, const char *what)
+{
+    try {
+        call();
+    } catch (const Error &) {
+        return;
+    }
+    must(false, what);
+}
+
+std::mt19937_64 draw(7);
+
+bitm::place item(const std::vector<std::uint64_t> &places, std::size_t at)
+{
+    if (at < places.size()) return places[at];
+    return {};
+}
+
+template <class Bits> void as_a_loop(const Bits &bits, const std::vector<bool> &plain)
+{
+    std::vector<std::uint64_t> places[2], asked, ranks;
+    for (std::size_t i = 0; i <= plain.size(); i++) {
+        asked.push_back(i), ranks.push_back(places[1].size());
+        must(bits.rank(i) == places[1].size() && bits.rank0(i) == places[0].size(), "rank");
+        must(bits.previous_one(i) == bits.previous_one(std::min<std::size_t>(i, plain.size())), "previous at the end");
+        if (i < plain.size()) {
+            must(bits[i] == plain[i] && bits.at(i) == plain[i], "a bit");
+            places[plain[i]].push_back(i);
+            must(bits.previous_one(i) == (places[1].empty() ? bitm::place() : places[1].back()), "previous_one");
+            must(bits.previous_zero(i) == (places[0].empty() ? bitm::place() : places[0].back()), "previous_zero");
+        }
+    }
+    must(bits.rank(asked) == ranks, "a list of ranks");
+    const auto ones = bits.select(asked), zeros = bits.select0(asked);
+    for (std::size_t r = 0; r <= plain.size(); r++) {
+        must(bits.select(r) == item(places[1], r) && ones[r] == item(places[1], r), "select");
+        must(bits.select0(r) == item(places[0], r) && zeros[r] == item(places[0], r), "select0");
+        const auto next = std::lower_bound(places[1].begin(), places[1].end(), r) - places[1].begin();
+        must(bits.next_one(r) == item(places[1], std::size_t(next)), "next_one");
+        const auto next0 = std::lower_bound(places[0].begin(), places[0].end(), r) - places[0].begin();
+        must(bits.next_zero(r) == item(places[0], std::size_t(next0)), "next_zero");
+    }
+    const auto all = bits.ones();
+    must(std::equal(all.begin(), all.end(), places[1].begin(), places[1].end()), "the places of ones");
+    must(bits.check() && bits.size() == plain.size() && bits.empty() == plain.empty(), "check and size");
+    throws<std::out_of_range>([&] { bits.rank(plain.size() + 1); }, "a rank past the end");
+    throws<std::out_of_range>([&] { bits.at(plain.size()); }, "a bit past the end");
+}
+
+void indexes()
+{
+    for (std::size_t n : {0u, 1u, 8u, 32u, 33u, 100u})
+        for (std::size_t cut : {0u, 1u, 63u}) {
+            if (n == 0 && cut) continue;
+            std::vector<std::uint64_t> words(n);
+            std::vector<bool> plain;
+            for (auto &word : words) {
+                word = draw() & draw();
+                for (int i = 0; i < 64; i++) plain.push_back(word >> i & 1);
+            }
+            plain.resize(64 * n - cut);
+            bitm::index made(words, plain.size());
+            as_a_loop(made, plain);
+            as_a_loop(bitm::index_view(made.view(), made.size()), plain);
+            bitm::index copied(made), moved(std::move(made));
+            as_a_loop(copied, plain), as_a_loop(moved, plain);
+            must(made.size() == 0 && made.rank(0) == 0 && !made.select(0), "what was moved is empty");
+            made = copied;
+            as_a_loop(made, plain);
+        }
+    throws<std::invalid_argument>([] { bitm::index({1, 2}, 129); }, "more bits than there are");
+    const bitm::index two{1, 2};
+    bitm_view short_of = two.view();
+    short_of.lower_len = 0;
+    throws<std::invalid_argument>([&] { bitm::index_view wrong(short_of); }, "a table too short");
+    const std::uint64_t wrong[] = {UINT64_MAX};
+    bitm_view of_others = two.view();
+    of_others.lower = wrong;
+    throws<bitm::wrong_tables>([&] { bitm::index_view(of_others).select(1); }, "wrong tables");
+}
+
+void sequences()
+{
+    for (std::size_t n : {0u, 1u, 7u, 300u}) {
+        std::vector<std::uint64_t> items(n);
+        for (auto &item : items) item = draw() >> 50;
+        std::sort(items.begin(), items.end());
+        bitm::elias_fano made(items);
+        const bitm::elias_fano copied(made), moved(std::move(made));
+        must(made.empty(), "what was moved is empty");
+        for (const bitm::elias_fano_view &sequence : {bitm::elias_fano_view(copied.view()), bitm::elias_fano_view(moved.view())}) {
+            must(std::equal(sequence.begin(), sequence.end(), items.begin(), items.end()), "the numbers");
+            must(sequence.check() && sequence.size() == n, "check and size");
+            throws<std::out_of_range>([&] { sequence[n]; }, "a number past the end");
+            for (std::uint64_t value = 0; value < 1 << 14; value++) {
+                const auto least = std::lower_bound(items.begin(), items.end(), value) - items.begin();
+                const auto past = std::upper_bound(items.begin(), items.end(), value) - items.begin();
+                must(sequence.rank(value) == std::uint64_t(least), "rank of a value");
+                must(sequence.first_at_least(value).has_value() == (std::size_t(least) < n), "first_at_least");
+                must(sequence.last_at_most(value) == (past ? bitm::place(past - 1) : bitm::place()), "last_at_most");
+                must(sequence.contains(value) == (least != past), "contains");
+            }
+            must(sequence.last_at_most(UINT64_MAX) == (n ? bitm::place(n - 1) : bitm::place()), "the greatest value");
+        }
+    }
+    throws<std::invalid_argument>([] { bitm::elias_fano({2, 1}); }, "numbers that fall");
+}
+
 } // namespace
 
 int main()
 {
-    std::mt19937_64 draw(7);
-    for (std::size_t n : {0, 1, 8, 32, 33, 300}) {
-        std::vector<std::uint64_t> words(n);
-        for (auto &word : words) word = draw() & draw();
-        const Index index(words);
-        const Samples samples = index.samples(7);
-        std::uint64_t ones = 0, zeros = 0;
-        for (std::size_t i = 0; i < n * 64; i++) {
-            must(index.rank(i) == ones, "rank");
-            if (words[i / 64] >> (i % 64) & 1) {
-                must(index.select(samples, ones) == i, "select by samples");
-                must(index.select(ones++) == i, "select");
-            } else {
-                must(index.select0(zeros++) == i, "select0");
-            }
-        }
-        must(index.ones() == ones && index.rank(n * 64) == ones && !index.rank(n * 64 + 1), "the end");
-        must(!index.select(ones) && !index.select0(zeros) && !index.select(samples, ones), "none left");
-    }
-    for (std::size_t n : {0, 1, 7, 300}) {
-        std::vector<std::uint64_t> items(n);
-        for (auto &item : items) item = draw() >> 50;
-        std::sort(items.begin(), items.end());
-        const Sequence sequence(items);
-        for (std::size_t i = 0; i < n; i++) must(sequence.get(i) == items[i], "get");
-        must(sequence.check() && !sequence.get(n), "no number");
-        for (std::uint64_t value = 0; value < 1 << 14; value++) {
-            const auto place = std::lower_bound(items.begin(), items.end(), value) - items.begin();
-            const auto found = sequence.first_at_least(value);
-            must(found ? *found == std::uint64_t(place) : std::size_t(place) == n, "first_at_least");
-        }
-    }
-    std::puts("C++ host: all answers as the plain loop's");
+    indexes();
+    sequences();
+    std::puts("C++ host: all answers as the plain loop's, and each error an exception");
 }

@@ -1,0 +1,21 @@
+"""Bit vectors with rank and select, and monotone sequences (Elias-Fano), by a library whose answers are proved.
+
+>>> import bitm
+>>> bits = bitm.BitVector.from_indices([1, 3, 4, 6], 7)
+>>> index = bitm.Index(bits)
+>>> index.rank(4), index.select(2), index.select0(1)
+(2, 4, 2)
+>>> primes = bitm.EliasFano([2, 3, 5, 7, 11, 13])
+>>> primes.first_at_least(8), primes[4]
+(4, 11)
+
+The answers are those of the C library; that they are plain counting is proved there. What this package adds, the tests
+of arguments and the manners of Python, is tested.
+"""
+from ._bits import BitVector
+from ._buffers import WrongTables
+from ._index import Index, build, tables_of
+from ._sequence import EliasFano
+
+__version__ = "0.2.0"
+__all__ = ["BitVector", "EliasFano", "Index", "WrongTables", "build", "tables_of"]

@@ -1,0 +1,196 @@
+"""Rank and selection over bits."""
+import array
+import ctypes
+from typing import Any, Iterator, Optional, Tuple
+
+from ._bits import BitVector, calls
+from ._buffers import Lent, WrongTables, apart, as_asked, number, words_of, zeros
+from ._lending import Lending
+from ._library import BAD_SIZE, NO_ANSWER, OK, U64, Samples, View
+
+
+def tables_of(words: Any) -> Tuple["array.array[int]", "array.array[int]", int]:
+    """Both tables of a buffer of words, in two new arrays, and the number of ones."""
+    lent = Lent(words)
+    upper, lower = zeros(calls.bitm_upper_len(lent.len)), zeros(calls.bitm_lower_len(lent.len))
+    return upper, lower, build(words, upper, lower)
+
+
+def build(words: Any, upper: Any, lower: Any) -> int:
+    """Writes both tables of the words into two buffers, and answers the number of ones."""
+    lent, rooms, ones = Lent(words), (Lent(upper, True), Lent(lower, True)), U64()
+    apart(lent, *rooms)
+    if calls.bitm_build(*lent.part, *rooms[0].part, *rooms[1].part, ctypes.byref(ones)) != OK:
+        raise ValueError("a table is not as long as that of the words")
+    return ones.value
+
+
+class Index(Lending):
+    """Rank and selection over bits, which stay where they are: a `BitVector`, or a buffer of words (`array`, NumPy,
+    `mmap`) or of bytes. Two tables beside them take 3.2 % of the bits' room.
+
+    >>> index = Index(BitVector.from_bits("0101101"))
+    >>> index.rank(4), index.select(2), index.select0(1)
+    (2, 4, 2)
+    >>> index.rank(7), index.select(4), index.next_one(2), index.previous_one(2)
+    (4, None, 3, 1)
+    >>> index.select_list([0, 1, 4])
+    [1, 3, None]
+    """
+
+    __slots__ = ("_len", "_ones", "_samples")
+
+    def __init__(self, bits: Any, length: Optional[int] = None, *, sample_log2: Optional[int] = None) -> None:
+        """Makes the tables of the bits; with `sample_log2`, samples for one of each 2^sample_log2 ones and zeros too,
+        by which selection is faster.
+
+        While the index is in use the bits must not change: `check` says whether they have."""
+        words, length = self._words(bits, length)
+        upper, lower, _ = tables_of(words)
+        self._make(words, upper, lower, length)
+        if sample_log2 is not None:
+            self._samples = tuple(self._sampled(kind, number(sample_log2, "sample_log2")) for kind in (0, 1))
+
+    @classmethod
+    def over(cls, words: Any, upper: Any, lower: Any, length: Optional[int] = None) -> "Index":
+        """An index over tables that are there, as in a mapped file. What they hold is not looked at: where they are
+        not those of the words, an answer may be `WrongTables`, and a place still has the bit that was asked."""
+        made = cls.__new__(cls)
+        words, length = cls._words(words, length)
+        made._make(words, upper, lower, length)
+        return made
+
+    @staticmethod
+    def _words(bits: Any, length: Optional[int]) -> Tuple[Any, int]:
+        if isinstance(bits, BitVector):
+            words, most = bits.words, len(bits)
+        else:
+            words, most = words_of(bits)
+        length = most if length is None else number(length, "the length")
+        if length > most:
+            raise ValueError(f"there are {most} bits, and not {length}")
+        return words, length
+
+    def _make(self, words: Any, upper: Any, lower: Any, length: int) -> None:
+        self._len, self._samples = length, None
+        lent = Lent(words), Lent(upper), Lent(lower)
+        view = View(*(part for it in lent for part in it.part))
+        out = U64()
+        if calls.bitm_rank(ctypes.byref(view), length, ctypes.byref(out)) == BAD_SIZE:
+            raise ValueError("a table is not as long as that of the words")
+        self._ones = out.value
+        self._lend(view, lent)
+
+    def _sampled(self, kind: int, log2: int) -> Tuple[Any, ...]:
+        view, _ = self._open()
+        most, used = calls.bitm_samples_len(view.words_len, log2), U64()
+        samples, starts = array.array("I", bytes(4 * most)), zeros(view.upper_len)
+        rooms = Lent(samples, True, 4), Lent(starts, True)
+        make = calls.bitm_build_samples if kind else calls.bitm_build_samples0
+        if make(ctypes.byref(view), log2, *rooms[0].part, *rooms[1].part, ctypes.byref(used)) != OK:
+            raise ValueError("no samples could be made")
+        return Samples(rooms[0].address, used.value, *rooms[1].part, log2), rooms
+
+    def check(self) -> bool:
+        """Whether the tables are those of the words. Reads each word once."""
+        view, _held = self._open()
+        return calls.bitm_check(ctypes.byref(view)) == OK
+
+    def __len__(self) -> int:
+        return self._len
+
+    def __getitem__(self, place: int) -> bool:
+        view, _held = self._open()
+        at = place.__index__()
+        at += self._len if at < 0 else 0
+        if not 0 <= at < self._len:
+            raise IndexError(f"place {place} of {self._len} bits")
+        out = U64()
+        calls.bitm_get_bit(view.words, view.words_len, at, ctypes.byref(out))
+        return bool(out.value)
+
+    def __iter__(self) -> Iterator[bool]:
+        return (self[at] for at in range(self._len))
+
+    def __repr__(self) -> str:
+        return "<Index, closed>" if self.closed else f"<Index of {self._len} bits, {self._ones} ones>"
+
+    def count(self, bit: Any = 1) -> int:
+        """How many bits are ones; with 0, how many are zeros."""
+        self._open()
+        return self._ones if bit else self._len - self._ones
+
+    def _place(self, index: Any) -> int:
+        if number(index, "a place") > self._len:
+            raise IndexError(f"rank of the first {index} of {self._len} bits")
+        return index
+
+    def rank(self, index: int) -> int:
+        """How many of the first `index` bits are ones. IndexError where there are fewer bits."""
+        return self._ask(calls.bitm_rank, self._place(index), "a place") or 0
+
+    def rank0(self, index: int) -> int:
+        """How many of the first `index` bits are zeros. IndexError where there are fewer bits."""
+        return index - self.rank(index)
+
+    def _select(self, kind: int, rank: Any) -> Optional[int]:
+        samples = self._samples
+        if samples is None:
+            place = self._ask(calls.bitm_select if kind else calls.bitm_select0, rank, "a rank")
+        else:
+            call, by = calls.bitm_sampled_select if kind else calls.bitm_sampled_select0, samples[kind][0]
+            place = self._ask(lambda view, *rest: call(view, ctypes.byref(by), *rest), rank, "a rank")
+        return place if place is not None and place < self._len else None
+
+    def select(self, rank: int) -> Optional[int]:
+        """The place of the one with exactly `rank` ones before it; None where there is none."""
+        return self._select(1, rank)
+
+    def select0(self, rank: int) -> Optional[int]:
+        """The place of the zero with exactly `rank` zeros before it; None where there is none."""
+        return self._select(0, rank)
+
+    def next_one(self, place: int) -> Optional[int]:
+        """The first one at a place or after it; None where there is none."""
+        return self.select(self.rank(place)) if number(place, "a place") < self._len else None
+
+    def next_zero(self, place: int) -> Optional[int]:
+        """The first zero at a place or after it; None where there is none."""
+        return self.select0(self.rank0(place)) if number(place, "a place") < self._len else None
+
+    def previous_one(self, place: int) -> Optional[int]:
+        """The last one at a place or before it; None where there is none."""
+        before = self.rank(min(number(place, "a place") + 1, self._len))
+        return self.select(before - 1) if before else None
+
+    def previous_zero(self, place: int) -> Optional[int]:
+        """The last zero at a place or before it; None where there is none."""
+        before = self.rank0(min(number(place, "a place") + 1, self._len))
+        return self.select0(before - 1) if before else None
+
+    def rank_list(self, places: Any) -> Any:
+        """Ranks of many places, in one call: an array of NumPy's for one of uint64, else a list. IndexError where one
+        of them is past the end."""
+        found = self._ask_list(calls.bitm_rank_list, places)
+        if NO_ANSWER in found or (self._len % 64 and max(places, default=0) > self._len):
+            raise IndexError(f"a place is past the end of {self._len} bits")
+        return as_asked(found, (), places)
+
+    def _select_list(self, kind: int, ranks: Any) -> Any:
+        samples = self._samples
+        if samples is None:
+            found = self._ask_list(calls.bitm_select_list if kind else calls.bitm_select0_list, ranks)
+        else:
+            call, by = calls.bitm_sampled_select_list if kind else calls.bitm_sampled_select0_list, samples[kind][0]
+            found = self._ask_list(lambda view, *rest: call(view, ctypes.byref(by), *rest), ranks)
+        past = {it for it in found if it >= self._len} if self._len % 64 or NO_ANSWER in found else ()
+        return as_asked(found, past, ranks)
+
+    def select_list(self, ranks: Any) -> Any:
+        """Places of many ranks, in one call: a masked array of NumPy's for an array of uint64, else a list in which
+        None stands where there is no place."""
+        return self._select_list(1, ranks)
+
+    def select0_list(self, ranks: Any) -> Any:
+        """As `select_list`, of zeros."""
+        return self._select_list(0, ranks)

@@ -1,0 +1,93 @@
+"""The exports of the shared object, with their types. `scripts/headers` compares them with the library's own."""
+import ctypes
+import pathlib
+
+OK, NONE, BAD_SIZE, WRONG, UNSORTED = range(5)
+NO_ANSWER, WRONG_TABLES = 2**64 - 1, 2**64 - 2
+
+STATUS, SIZE, U32, U64, BOOL = ctypes.c_uint32, ctypes.c_size_t, ctypes.c_uint32, ctypes.c_uint64, ctypes.c_bool
+IN = OUT = ctypes.c_void_p  # a number, or the first of some
+
+
+class View(ctypes.Structure):
+    """`struct bitm_view`."""
+
+    _fields_ = [("words", IN), ("words_len", SIZE), ("upper", IN), ("upper_len", SIZE), ("lower", IN), ("lower_len", SIZE)]
+
+
+class Header(ctypes.Structure):
+    """`struct bitm_header`."""
+
+    _fields_ = [("mark", U64), ("words_len", U64), ("upper_len", U64), ("lower_len", U64)]
+
+
+class SequenceView(ctypes.Structure):
+    """`struct bitm_sequence_view`."""
+
+    _fields_ = [("len", SIZE), ("width", U64), ("low", IN), ("low_len", SIZE)] + View._fields_
+
+
+class SequenceLens(ctypes.Structure):
+    """`struct bitm_sequence_lens`."""
+
+    _fields_ = [("width", U64), ("low_len", U64), ("words_len", U64), ("upper_len", U64), ("lower_len", U64)]
+
+
+class Samples(ctypes.Structure):
+    """`struct bitm_samples`."""
+
+    _fields_ = [("samples", IN), ("samples_len", SIZE), ("starts", IN), ("starts_len", SIZE), ("log2", U32)]
+
+
+VIEW, HEADER, SAMPLES = ctypes.POINTER(View), ctypes.POINTER(Header), ctypes.POINTER(Samples)
+SEQUENCE, SIZES = ctypes.POINTER(SequenceView), ctypes.POINTER(SequenceLens)
+WORDS, LIST, ROOM = [IN, SIZE], [IN, SIZE], [OUT, SIZE]
+
+# What each export answers and takes.
+DECLARATIONS = {
+    "bitm_upper_len": (SIZE, [SIZE]),
+    "bitm_lower_len": (SIZE, [SIZE]),
+    "bitm_build": (STATUS, WORDS + ROOM + ROOM + [OUT]),
+    "bitm_check": (STATUS, [VIEW]),
+    "bitm_rank": (STATUS, [VIEW, SIZE, OUT]),
+    "bitm_rank0": (STATUS, [VIEW, SIZE, OUT]),
+    "bitm_select": (STATUS, [VIEW, SIZE, OUT]),
+    "bitm_select0": (STATUS, [VIEW, SIZE, OUT]),
+    "bitm_rank_list": (STATUS, [VIEW] + LIST + ROOM),
+    "bitm_rank0_list": (STATUS, [VIEW] + LIST + ROOM),
+    "bitm_select_list": (STATUS, [VIEW] + LIST + ROOM),
+    "bitm_select0_list": (STATUS, [VIEW] + LIST + ROOM),
+    "bitm_samples_len": (SIZE, [SIZE, U32]),
+    "bitm_build_samples": (STATUS, [VIEW, U32] + ROOM + ROOM + [OUT]),
+    "bitm_build_samples0": (STATUS, [VIEW, U32] + ROOM + ROOM + [OUT]),
+    "bitm_sampled_select": (STATUS, [VIEW, SAMPLES, SIZE, OUT]),
+    "bitm_sampled_select0": (STATUS, [VIEW, SAMPLES, SIZE, OUT]),
+    "bitm_sampled_select_list": (STATUS, [VIEW, SAMPLES] + LIST + ROOM),
+    "bitm_sampled_select0_list": (STATUS, [VIEW, SAMPLES] + LIST + ROOM),
+    "bitm_count": (STATUS, WORDS + [OUT]),
+    "bitm_ones": (STATUS, WORDS + [SIZE] + ROOM + [OUT]),
+    "bitm_get_bit": (STATUS, WORDS + [SIZE, OUT]),
+    "bitm_set_bit": (STATUS, WORDS + [SIZE, BOOL]),
+    "bitm_get_bits": (STATUS, WORDS + [SIZE, U32, OUT]),
+    "bitm_set_bits": (STATUS, WORDS + [SIZE, U32, U64]),
+    "bitm_get_fragment": (STATUS, WORDS + [SIZE, U32, OUT]),
+    "bitm_set_fragment": (STATUS, WORDS + [SIZE, U32, U64]),
+    "bitm_sequence_sizes": (STATUS, [SIZE, U64, SIZES]),
+    "bitm_sequence_build": (STATUS, LIST + ROOM + ROOM + ROOM + ROOM + [OUT]),
+    "bitm_sequence_check": (STATUS, [SEQUENCE]),
+    "bitm_sequence_get": (STATUS, [SEQUENCE, SIZE, OUT]),
+    "bitm_sequence_first_at_least": (STATUS, [SEQUENCE, U64, OUT]),
+    "bitm_sequence_first_at_least_list": (STATUS, [SEQUENCE] + LIST + ROOM),
+    "bitm_sequence_get_list": (STATUS, [SEQUENCE] + LIST + ROOM + [OUT]),
+    "bitm_write_header": (STATUS, [SIZE, HEADER]),
+    "bitm_read_header": (STATUS, [HEADER, OUT]),
+}
+
+
+def load():
+    """The shared object beside this file, with the types of its calls."""
+    calls = ctypes.CDLL(str(pathlib.Path(__file__).with_name("libbitm_c.so")))
+    for name, (result, arguments) in DECLARATIONS.items():
+        call = getattr(calls, name)
+        call.restype, call.argtypes = result, arguments
+    return calls
