@@ -1,14 +1,20 @@
-"""Rank, select and sequences of the proved archive, over any buffers without a copy: `array`, `mmap`, NumPy, `bytes`.
+"""Rank, select and Elias-Fano sequences of the proved archive, over any buffer (`array`, `mmap`, NumPy) without a copy.
 
-    library = bitm.Library("libbitm.so")            # a shared object of the archive, as `make install` makes it
-    upper, lower = library.tables(words)            # two arrays, filled
-    with library.over(words, upper, lower) as index:
-        index.rank(100), index.select(17), index.select_list([1, 2, 3])
-    parts = library.sequence_parts(numbers)         # numbers that never fall: a width and four arrays
-    with library.sequence(len(numbers), *parts) as sequence:
-        sequence.get(4), sequence.first_at_least(8), sequence.get_list([1, 2, 3])
+    >>> import array, bitm
+    >>> library = bitm.Library(path)                # path: of libbitm_c.so, which `make install` installs
+    >>> words = array.array("Q", [0b1101, 0b110])   # bits 0, 2, 3, 65 and 66 are ones
+    >>> upper, lower = library.tables(words)        # two new arrays
+    >>> with library.over(words, upper, lower) as index:
+    ...     index.rank(66), index.select(4), index.select(5), list(index.select_list([1, 2, 3]))
+    (4, 66, None, [2, 3, 65])
+    >>> numbers = array.array("Q", [2, 3, 5, 7, 11, 13, 24])
+    >>> parts = library.sequence_parts(numbers)     # a width and four new arrays; the numbers must not fall
+    >>> with library.sequence(len(numbers), *parts) as sequence:
+    ...     sequence.get(4), sequence.first_at_least(8), sequence.first_at_least(25), list(sequence.get_list([1, 2, 3]))
+    (11, 4, None, [3, 5, 7])
 
-A buffer is read as numbers of 8 bytes in this machine's order. Only ctypes is needed.
+A buffer is read as numbers of 8 bytes in this machine's byte order. The module needs only ctypes. host.py runs the
+lines above.
 """
 import array
 import ctypes
@@ -241,7 +247,7 @@ class _Lending:
 
 
 class Index(_Lending):
-    """Words and tables in buffers that stay in place until the context ends."""
+    """An index whose words and tables lie in buffers that stay in place until the context ends."""
 
     def __init__(self, library, words, upper, lower):
         self._library = library
@@ -316,7 +322,7 @@ class Sampled(_Lending):
 
 
 class Sequence(_Lending):
-    """Numbers that never fall, in parts in buffers that stay in place until the context ends."""
+    """A monotone integer sequence (Elias-Fano); the buffers of its parts stay in place until the context ends."""
 
     def __init__(self, library, length, width, low, words, upper, lower):
         self._library = library

@@ -3,6 +3,7 @@
 The argument is the shared object of the archive."""
 import array
 import bisect
+import doctest
 import mmap
 import random
 import sys
@@ -11,6 +12,8 @@ import tempfile
 import bitm
 
 library = bitm.Library(sys.argv[1])
+# the lines of the module's docstring
+assert doctest.testmod(bitm, extraglobs={"path": sys.argv[1]}).failed == 0
 random.seed(7)
 
 
