@@ -22,7 +22,8 @@ pub struct LentSamples<'a> {
 }
 
 /// How many samples of one kind so many words have at most: one for each begun 2^(`log2` - 6) words. The logarithm is
-/// brought to the nearer end of 7 to 31.
+/// brought to the nearer end of 7 to 31. The exact number is a sum over the parts, which `build_samples` answers: memory
+/// can be taken before, and the rest given back.
 #[inline(always)]
 pub fn samples_len(words: usize, log2: u8) -> usize
     ensures { result ≡ enough_samples words log2 }

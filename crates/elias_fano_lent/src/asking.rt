@@ -1,4 +1,7 @@
 //! Reads over a source with any tables and low digits of any numbers.
+//!
+//! The search between the two selections is that of `elias_fano` a second time, since each selection may answer here that
+//! the tables are wrong.
 ghost use Rattle.std.specs.Prelude.{◌≡◌, ◌+◌, ◌*◌, ◌^◌, ◌≤◌, ℕ, List, length, IfSome, MatchOption};
 ghost use Rattle.bitm_bits.specs.Bits.{digit_count};
 ghost use Rattle.bitm.specs.Reads.{OnlyReads, ReadsAtMost};
