@@ -9,7 +9,7 @@ pub(crate) type Density = AdaptiveCombinedSamplingDensity<31>;
 
 /// Samples of one kind of bits, all lent: one for each 2^`log2` ones, or zeros, of a part of 2^32 bits.
 ///
-/// What they hold, and how many there are, is anybody's: a call says what it answers where they are those of the words,
+/// They may hold anything, and be any number: a call says what it answers where they are those of the words,
 /// and what it answers else.
 #[derive(Clone, Copy)]
 pub struct LentSamples<'a> {
