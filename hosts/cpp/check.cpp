@@ -72,7 +72,7 @@ private:
     std::uint64_t ones_ = 0;
 };
 
-// A monotone integer sequence, of which the constructor makes the parts.
+// Numbers that never fall, of which the constructor makes the parts.
 class Sequence {
 public:
     explicit Sequence(const std::vector<std::uint64_t> &items) : len_(items.size())
