@@ -1,45 +1,103 @@
 #!/usr/bin/env python3
-"""plot.py FILE.csv FOLDER: the table of the rows, and a plot for each kind of content: ns a call over the size, as SVG."""
-import csv, os, sys
+"""plot.py FILE.csv FOLDER [CAPTION]: prints the table of the rows, and draws for each kind of content one SVG: on the left
+the times over the size, on the right their quotients to the original crate or to sdsl-lite, all axes logarithmic.
 
-rows = {}
-for r in csv.reader(open(sys.argv[1])):
-    if len(r) == 7:
-        unit = '' if r[5] == 'ns' else f', {r[5]}'
-        rows[(f'{r[0]} ({r[1]}{unit})', int(r[2]), r[3])] = float(r[4])
-names = list(dict.fromkeys(k[0] for k in rows))
-sizes = sorted({k[1] for k in rows})
-kinds = list(dict.fromkeys(k[2] for k in rows))
-for kind in kinds:
-    print(f'\n### {kind}, ns\n\n| row | ' + ' | '.join(f'2^{s}' for s in sizes) + ' |\n|---' + '|--:' * len(sizes) + '|')
-    for n in names:
-        cells = [rows.get((n, s, kind)) for s in sizes]
-        if any(c is not None for c in cells):
-            print(f'| {n} | ' + ' | '.join('' if c is None else f'{c:.2f}' if c < 100 else f'{c:.0f}' for c in cells) + ' |')
+The plots need matplotlib (Debian: python3-matplotlib); without it the table alone is printed. Each SVG names the sum of
+its rows, by which scripts/documents sees that the plot was drawn from them."""
+import csv
+import hashlib
+import os
+import sys
 
-W, H, LEFT, TOP = 640, 360, 60, 20
-COLOURS = ['#1b6ca8', '#c8553d', '#2a9d55', '#8e44ad', '#b8860b', '#555555', '#d1495b', '#00798c', '#6a994e', '#bc6c25']
-drawn = ['rank (binary)', 'select (binary)', 'select0 (binary)', 'select_many (binary)', 'select (sampled)', 'select0 (sampled)', 'rank (sdsl)', 'select (sdsl)']
-for kind in kinds:
-    lines = [(n, [(s, rows[(n, s, kind)]) for s in sizes if (n, s, kind) in rows]) for n in drawn]
-    lines = [(n, p) for n, p in lines if p]
-    if not lines:
-        continue
-    most = max(v for _, p in lines for _, v in p) * 1.05
-    x = lambda s: LEFT + (s - sizes[0]) / max(1, sizes[-1] - sizes[0]) * (W - LEFT - 170)
-    y = lambda v: TOP + (1 - v / most) * (H - TOP - 40)
-    svg = [f'<svg xmlns="http://www.w3.org/2000/svg" width="{W}" height="{H}" font-family="sans-serif" font-size="12">',
-           f'<rect width="{W}" height="{H}" fill="white"/>',
-           f'<text x="{LEFT}" y="14">ns a call, {kind}</text>']
-    for k in range(6):
-        v = most * k / 5
-        svg.append(f'<line x1="{LEFT}" x2="{x(sizes[-1])}" y1="{y(v):.1f}" y2="{y(v):.1f}" stroke="#ddd"/>'
-                   f'<text x="{LEFT - 6}" y="{y(v) + 4:.1f}" text-anchor="end">{v:.0f}</text>')
-    for s in sizes:
-        svg.append(f'<text x="{x(s):.1f}" y="{H - 18}" text-anchor="middle">2^{s}</text>')
-    for i, (n, p) in enumerate(lines):
-        c = COLOURS[i % len(COLOURS)]
-        svg.append(f'<polyline fill="none" stroke="{c}" stroke-width="2" points="' + ' '.join(f'{x(s):.1f},{y(v):.1f}' for s, v in p) + '"/>')
-        svg.append(f'<text x="{W - 160}" y="{TOP + 14 + 18 * i}" fill="{c}">{n}</text>')
-    svg.append('</svg>')
-    open(os.path.join(sys.argv[2], f'{kind}.svg'), 'w').write('\n'.join(svg) + '\n')
+COLOURS = ["#1b6ca8", "#c8553d", "#2a9d55", "#8e44ad", "#b8860b", "#555555", "#d1495b", "#00798c", "#6a994e", "#bc6c25"]
+MARKERS = "osD^vP*Xdp"
+# What is drawn of a table's rows; the others are in the table alone.
+DRAWN = ["rank", "rank of a simple index", "select", "select0", "select, binary", "select0, binary", "select, sampled",
+         "select0, sampled", "select_many", "select0_many", "building the tables", "building with both samples"]
+BASES = {"original": "the original crate", "sdsl": "sdsl-lite"}
+
+
+def rows_of(path):
+    """The value and the unit of each row, by its name, what answers it, the kind of content and the size."""
+    with open(path, encoding="utf-8") as it:
+        return {(r[0], r[1], r[3], int(r[2])): (float(r[4]), r[5]) for r in csv.reader(it) if len(r) == 7 and r[2].isdigit()}
+
+
+def table(rows, kind, sizes):
+    lines = [f"\n### {kind}\n", "| row | " + " | ".join(f"2^{s}" for s in sizes) + " |", "|---" + "|--:" * len(sizes) + "|"]
+    for name, by in dict.fromkeys((r[0], r[1]) for r in rows if r[2] == kind):
+        cells = [rows.get((name, by, kind, s)) for s in sizes]
+        unit = next(c[1] for c in cells if c)
+        texts = ["" if c is None else f"{c[0]:.2f}" if c[0] < 100 else f"{c[0]:.0f}" for c in cells]
+        lines.append(f"| {name} ({by}, {unit}) | " + " | ".join(texts) + " |")
+    return "\n".join(lines)
+
+
+def draw(rows, kind, base, caption, total, path):
+    import matplotlib
+
+    matplotlib.use("svg")
+    matplotlib.rcParams.update({"svg.fonttype": "none", "svg.hashsalt": "bitm", "font.size": 9})
+    from matplotlib import pyplot, ticker
+
+    def line(name, by, of):
+        return [(2**s, of(v[0], s)) for (n, b, k, s), v in sorted(rows.items(), key=lambda it: it[0][3]) if (n, b, k) == (name, by, kind)]
+
+    series = [it for it in dict.fromkeys((r[0], r[1]) for r in rows if r[2] == kind) if it[0] in DRAWN]
+    mine = [it for it in series if it[1] not in BASES]
+    figure, (times, quotients) = pyplot.subplots(1, 2, figsize=(11, 5))
+    for k, (name, by) in enumerate(mine):
+        look = {"color": COLOURS[k % 10], "marker": MARKERS[k % 10], "markersize": 5, "linewidth": 1.3}
+        label = name if by == "library" else f"{name}, {by}"
+        timed = next(v[1] for r, v in rows.items() if r[:2] == (name, by)) == "ns"
+        if timed:
+            times.plot(*zip(*line(name, by, lambda v, _: v)), label=label, **look)
+        if (name, base) in series:
+            if timed and ([n for n, _ in mine].index(name) == k):
+                times.plot(*zip(*line(name, base, lambda v, _: v)), linestyle=":", **look)
+            over = {s: v[0] for (n, b, c, s), v in rows.items() if (n, b, c) == (name, base, kind)}
+            quotients.plot(*zip(*line(name, by, lambda v, s: v / over[s])), label=label, **look)
+    for axes, title in ((times, "ns a query" + (f"; dotted: {BASES[base]}" if base else "")), (quotients, f"time / time of {BASES.get(base)}")):
+        axes.set_xscale("log", base=2)
+        axes.set_yscale("log")
+        axes.set_title(title)
+        axes.set_xlabel("bits of the content")
+        axes.set_xticks(sorted({2 ** r[3] for r in rows if r[2] == kind}))
+        axes.grid(True, which="both", color="#e4e4e4", linewidth=0.6)
+        axes.yaxis.set_major_formatter(ticker.FormatStrFormatter("%g"))
+        axes.yaxis.set_minor_formatter(ticker.NullFormatter())
+    if base:
+        quotients.axhline(1, color="#222222", linewidth=0.9)
+        marks = [0.2, 0.25, 0.33, 0.5, 0.7, 1, 1.4]
+        quotients.yaxis.set_major_locator(ticker.FixedLocator(marks))
+        quotients.legend(fontsize=7, loc="upper left", bbox_to_anchor=(1.01, 1))
+    else:
+        quotients.set_visible(False)
+        times.legend(fontsize=7, loc="upper left", bbox_to_anchor=(1.01, 1))
+    figure.text(0.01, 0.01, caption, fontsize=8)
+    figure.tight_layout(rect=(0, 0.03, 1, 1))
+    figure.savefig(path, metadata={"Date": None, "Description": f"rows {total}"})
+    pyplot.close(figure)
+
+
+def main(path, folder, caption=""):
+    rows = rows_of(path)
+    with open(path, "rb") as it:
+        total = hashlib.sha256(it.read()).hexdigest()
+    kinds = list(dict.fromkeys(r[2] for r in rows))
+    for kind in kinds:
+        print(table(rows, kind, sorted({r[3] for r in rows if r[2] == kind})))
+    try:
+        import matplotlib  # noqa: F401
+    except ImportError:
+        print("plot.py: matplotlib is not installed (Debian: python3-matplotlib), so nothing is drawn", file=sys.stderr)
+        return
+    for kind in kinds:
+        base = next((b for b in BASES if any(r[1] == b and r[2] == kind for r in rows)), None)
+        stem = os.path.splitext(os.path.basename(path))[0]
+        name = stem if len(kinds) == 1 else f"{stem}-{kind}"
+        draw(rows, kind, base, caption, total, os.path.join(folder, f"{name}.svg"))
+
+
+if __name__ == "__main__":
+    main(*sys.argv[1:])

@@ -6,7 +6,8 @@
 //     COUNTS=FILE   at the end of the program FILE is made, with a line 'REQUESTS BLOCKS READS WRITES': how many
 //                   requests, reads and writes there were, and how many blocks of memory were not given back
 //
-// It is built without headers and libraries, so that the toolchain's own compiler suffices.
+// It is built without headers and libraries, so that the toolchain's own compiler suffices. `rt try --fail-alloc N` would
+// build the program anew for each N and count no blocks.
 typedef unsigned long size;
 
 extern void *__libc_malloc(size);

@@ -1,4 +1,4 @@
-/* Builds sequences of numbers that never fall, asks them, and compares every answer with the numbers. Then asks with
+/* Builds monotone integer sequences, asks them, and compares every answer with the numbers. Then asks with
  * wrong lengths and with each part spoilt. Each block has the exact size, so that the sanitizers see a read or write of
  * one number too far. */
 #include "common.h"

@@ -1,4 +1,4 @@
--- The numbers of docs/LAYOUT.md, and entries that were worked out by hand.
+-- The numbers that the doc of RankSelect101111 names, and entries that were worked out by hand.
 use Rattle.std.proofs.Common.{◌≡◌, ◌+◌, ◌-◌, ◌*◌, ◌^◌, [], ◌∷◌, refl}
 use Rattle.bitm_bits.specs.Bits.{bits_of}
 use Rattle.bitm_bits.specs.Count.{ones_before}

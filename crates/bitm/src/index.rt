@@ -25,19 +25,25 @@ use std::marker::Model;
 /// A content that lends words, with two tables of counts and a strategy for each kind of bit: rank reads one entry of
 /// each table and at most eight words, and selection is what the strategies make of the tables.
 ///
-/// The upper table has one number for each begun part of 2^32 bits: the ones before it. The lower table has one packed
-/// entry for each begun 2048 bits, which are four records of 512:
+/// The upper table has one number for each begun part (superblock) of 2^32 bits: the ones before it. The lower table has
+/// one packed entry for each begun 2048 bits (32 words), which are four records of 512 bits (8 words, one cache line).
+/// `docs/layout.svg` shows all levels; an entry is
 ///
 /// ```text
 ///  63        54 53         43 42         32 31                    0
 /// +------------+-------------+-------------+-----------------------+
 /// |  r1 : 10   |   r2 : 11   |   r3 : 11   |        r0 : 32        |
 /// +------------+-------------+-------------+-----------------------+
-///  r0  ones from the start of the entry's part to the entry
-///  r1  ones in the first record of the entry
-///  r2  ones in the first two records
-///  r3  ones in the first three records
+///  r0  ones from the start of the entry's part to the entry, at most 2^32 - 2048
+///  r1  ones in the first record of the entry, at most 512
+///  r2  ones in the first two records, at most 1024
+///  r3  ones in the first three records, at most 1536
 /// ```
+///
+/// The ones before record `k` (0 to 3) in the entry are the entry shifted down by `11 * (3 - k)`, then by 32, and the
+/// low 11 bits of that: r3, r2, r1, and 0 for record 0, without a branch. In a partial last entry a missing record adds
+/// nothing, so the last sum repeats: the content `[0b1101]` has 3, 3, 3, and its entry is `0x00C0_1803_0000_0000`. The
+/// entry of the negated bits is one subtraction away (`complement_entry`). `proofs/Examples.antt` computes these numbers.
 ///
 /// So the lower table takes 64 bits for each 2048, the upper one 64 bits for each 2^32. A contract sees an index as its
 /// content and its two strategies; the tables are those of the content.

@@ -24,14 +24,8 @@ pub(crate) struct Tables {
     pub(crate) l2ranks: BoxedSlice<u64, Global>,
 }
 
-/// Four counts in one number: the ones before an entry in its part, and those in its first one, two and three records.
-///
-/// ```text
-///  63        54 53         43 42         32 31                    0
-/// +------------+-------------+-------------+-----------------------+
-/// |  r1 : 10   |   r2 : 11   |   r3 : 11   |        r0 : 32        |
-/// +------------+-------------+-------------+-----------------------+
-/// ```
+/// Four counts in one number, as `RankSelect101111` shows them: the ones before an entry in its part, and those in its
+/// first one, two and three records.
 #[inline(always)]
 fn pack(before: usize, one: usize, two: usize, three: usize) -> u64
     requires before { before < 2 ^ 32 }

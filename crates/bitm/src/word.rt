@@ -72,6 +72,7 @@ fn first_bytes_at_most(sums: u64, r: u8) -> u8
 }
 
 /// The place of the one of `byte` with `rank` ones before it, of which `before` stand before the byte.
+// Each bit is spread to a byte of its own, and eight sums are compared at once, as the bytes of a word are: no branch.
 #[inline(always)]
 fn select_in_byte(byte: u8, before: u8, rank: u8) -> u8
     requires order { before ≤ rank }

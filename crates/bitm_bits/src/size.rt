@@ -10,11 +10,13 @@ use std::mem::size_of;
 ///
 /// A lent slice keeps none, since its owner does. A value made of parts keeps the sum of what they keep, or
 /// `usize::MAX` where that is less.
+// No body in the trait: one that answers 0 could not be proved against each type's own number of bytes.
 pub trait GetSize {
     /// How many bytes a value keeps on the heap: none, unless the type says otherwise.
     ghost dyn_bytes: { Self → ℕ } = { λ _. 0 };
 
     /// Whether a value of this type may keep bytes on the heap; `false`, unless the type says otherwise.
+    // No clause can speak of a constant that has a value in its trait, so tests show it for each type.
     const USES_DYN_MEM: bool = false;
 
     /// How many bytes the value keeps on the heap.

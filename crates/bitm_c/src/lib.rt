@@ -1,5 +1,5 @@
-//! Rank and select for C: words and tables lie in memory of the caller's, and no call allocates, keeps a pointer or
-//! has a state. Each call is defined for any numbers: what it needs it tests, and it answers by a status.
+//! Rank, select and Elias-Fano sequences for C: the caller owns the memory of words and tables, and no call allocates,
+//! keeps a pointer or has state. Each call is defined for all numbers: it tests what it needs, and answers by a status.
 //!
 //! `include/bitm.h` declares the exports for C and C++ and says what each one answers.
 #![tactic(auto)]

@@ -1,4 +1,4 @@
-//! Sequences of numbers that never fall, whose parts lie in the caller's memory.
+//! Monotone integer sequences (Elias-Fano), whose parts lie in the caller's memory.
 ghost use Rattle.std.specs.Prelude.{◌≡◌, ◌≢◌, ◌<◌, ◌≤◌, ◌↔◌, ◌⊎◌, ℕ, List, MatchOption, length, slice_index};
 ghost use Rattle.bitm_lent.specs.Sizes.{listed};
 ghost use Rattle.elias_fano.specs.Parts.{width_of};

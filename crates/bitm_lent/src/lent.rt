@@ -42,7 +42,7 @@ pub(crate) fn has_sizes(words: &[u64], upper: &[usize], lower: &[u64]) -> bool
 
 /// Words and two tables, all lent, of which the lengths are right.
 ///
-/// Contracts see the three lists. What the tables hold is anybody's: a call says what it answers where they are those
+/// Contracts see the three lists. The tables may hold anything: a call says what it answers where they are those
 /// of the words, and what it answers else.
 #[derive(Drop)]
 pub struct Lent<'a> {

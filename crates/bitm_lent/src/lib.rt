@@ -1,8 +1,8 @@
-//! Rank and select over words and tables that are lent, as a mapped file lends them: nothing is allocated or copied,
-//! and no call has a condition on what the tables hold.
+//! Rank and select over borrowed words and tables, such as a mapped file: nothing is allocated or copied, and no call has
+//! a condition on what the tables hold.
 //!
-//! With the tables of the words the answers are plain counting. With any other numbers in them a call returns as well,
-//! reads no more than its bound says, and a place that it answers is inside and has the bit that was asked.
+//! With the tables of the words the answers are plain counting. If the tables are stale or hostile, every call still
+//! terminates within its read bound, and any place that it returns is inside and holds the requested bit.
 //!
 //! ```
 //! let (mut upper, mut lower) = ([0], [0; 2]);         // upper_len(40) and lower_len(40) entries

@@ -9,7 +9,7 @@ pub(crate) type Density = AdaptiveCombinedSamplingDensity<31>;
 
 /// Samples of one kind of bits, all lent: one for each 2^`log2` ones, or zeros, of a part of 2^32 bits.
 ///
-/// What they hold, and how many there are, is anybody's: a call says what it answers where they are those of the words,
+/// They may hold anything, and be any number: a call says what it answers where they are those of the words,
 /// and what it answers else.
 #[derive(Clone, Copy)]
 pub struct LentSamples<'a> {
@@ -22,7 +22,8 @@ pub struct LentSamples<'a> {
 }
 
 /// How many samples of one kind so many words have at most: one for each begun 2^(`log2` - 6) words. The logarithm is
-/// brought to the nearer end of 7 to 31.
+/// brought to the nearer end of 7 to 31. The exact number is a sum over the parts, which `build_samples` answers: memory
+/// can be taken before, and the rest given back.
 #[inline(always)]
 pub fn samples_len(words: usize, log2: u8) -> usize
     ensures { result ≡ enough_samples words log2 }

@@ -31,6 +31,8 @@ mod lent_sequences;
 #[cfg(test)]
 mod logarithms;
 #[cfg(test)]
+mod readme;
+#[cfg(test)]
 mod samples;
 #[cfg(test)]
 mod sequences;

@@ -22,11 +22,31 @@ use std::boxed::BoxedSlice;
 use std::convert::AsSlice;
 use std::marker::Model;
 
-/// A sequence of numbers, each at least the one before it.
+/// A monotone integer sequence (Elias-Fano): numbers, each at least the one before it.
 ///
-/// Of each number its low digits are kept side by side, as many as make the rest small, and the rest as the place of a
-/// one: item `i` is a one after as many zeros as its upper digits say. So `n` numbers with `l` low digits take at most
-/// `n * (l + 3) + 126` bits and the index over the upper vector.
+/// The `l` lowest binary digits of the numbers lie side by side in the low words, those of number `i` as fragment `i`. The
+/// rest of number `i`, `x >> l`, is how many zeros stand before its one in the upper words, so that one is at
+/// `(x >> l) + i`. With `n` numbers and `u` the largest, `l` is the number of digits of `u / n` less one, 0 where there is
+/// none; the upper vector has `n + (u >> l) + 1` bits, fewer than `3 n + 2`. Both have as few words as hold them, and all
+/// other bits are zeros. So a sequence takes at most `n * (l + 3) + 126` bits and the index over the upper vector.
+///
+/// For 2, 3, 5, 7, 11, 13, 24 the width `l` is 1, since 24 / 7 is 3, and there are 7 + 12 + 1 = 20 upper bits:
+///
+/// ```text
+/// number         2  3  5  7 11 13 24
+/// its low digit  0  1  1  1  1  1  0        the low vector
+/// the rest       1  1  2  3  5  6 12
+///
+/// place          0  1  2  3  4  5  6  7  8  9 10 11 12 13 14 15 16 17 18 19
+/// upper bit      0  1  1  0  1  0  1  0  0  1  0  1  0  0  0  0  0  0  1  0
+/// number            2  3     5     7       11    13                   24
+/// ```
+///
+/// Number 4 is at the one with four ones before it, place 9: 9 - 4 = 5 zeros stand before it, its low digit is 1, and
+/// 5 * 2 + 1 = 11. The first number that is at least 8 has a rest of at least 8 >> 1 = 4. The zero with three zeros
+/// before it is at 7, so 7 - 3 = 4 numbers have a rest of at most 3; the next zero is at 8, and 8 - 4 = 4 have one of at
+/// most 4. So no number has the rest 4, and the first one with more, number 4, is the answer. `specs/Parts.antt` has the
+/// definitions.
 ///
 /// # Source
 /// Elias, 'Efficient storage and retrieval by content and address of static files' (1974), and Fano, 'On the number of

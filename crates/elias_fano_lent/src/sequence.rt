@@ -35,8 +35,9 @@ fn item_of(low: &[u64], width: u8, n: usize, place: usize, one: usize) -> Sought
 
 /// The parts of a sequence, all lent, of which the lengths are right.
 ///
-/// Contracts see how many numbers there are, how many of their digits are low ones, and the lists. What the lists hold
-/// is anybody's: a call says what it answers where they are the parts of a sequence, and what it answers else.
+/// Contracts see how many numbers there are, how many of their digits are low ones, and the lists. The lists may hold
+/// anything: a call says what it answers where they are the parts of a sequence, and what it answers else. The width
+/// is kept, and no largest number, since to find the width each call would divide anew.
 #[derive(Drop)]
 pub struct LentSequence<'a> {
     len: usize,

@@ -161,7 +161,8 @@ pub fn total_rank_on<T: TableSource>(source: &mut T, index: usize) -> Option<usi
         → IsRank (bits_in (T.lists source.old)) index result }
     ensures reads { OnlyReads T.lists T.reads source.old source.new 1 1 8 }
 {
-    // The last bit that counts. Where none does this is above every place, so one test tells both.
+    // The last bit that counts: at the exact length too it has a word, a record and an entry of each table, which the
+    // place itself may lack. Where no bit counts this is above every place, so one test tells both.
     let last = index.wrapping_sub(1);
     if last / 64 >= source.words_len() {
         return if index == 0 { Some(0) } else { None };

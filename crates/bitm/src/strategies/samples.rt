@@ -1,5 +1,19 @@
 //! Samples made from the tables alone: no word is read.
 //!
+//! In each part the items of a kind (ones or zeros) are counted from 0 and cut into intervals of `2^d`. Each begun
+//! interval has one sample of 32 bits:
+//!
+//! ```text
+//!  31          21 20            0
+//! +--------------+--------------+
+//! | distance: 11 |  entry: 21   |
+//! +--------------+--------------+
+//!  entry     the entry of the interval's first item, counted from the part's start
+//!  distance  in entries from there to the item 2^(d-1) later, at most 2047; 0 where there is no such item
+//! ```
+//!
+//! Beside the samples stand how many come before each part, and the density. `specs/Samples.antt` defines them.
+//!
 //! The tables may hold anything: where they are not those of some bits, the samples are some numbers.
 ghost use Rattle.std.specs.Prelude.{◌≡◌, ◌+◌, ◌-◌, ◌*◌, ◌^◌, ◌<◌, ◌≤◌, ◌++◌, Bool, List, length, min, IfOk};
 ghost use Rattle.std.specs.Box.{boxed_slice_items};

@@ -1,4 +1,6 @@
 //! What a value that lends words can be told to change: the trait `BitAccessMut`.
+//!
+//! A trait cannot be cut into files, and a reader wants its 33 calls side by side: hence the length of this file.
 ghost use Rattle.std.specs.Prelude.{◌≡◌, ◌+◌, ◌*◌, ◌^◌, ◌<◌, ◌≤◌, ℕ, length, if◌then◌else◌, Some, MatchOption};
 ghost use Rattle.bitm_bits.specs.Bits.{bits_of, IsShort};
 ghost use Rattle.bitm_bits.specs.Lending.{LendsSame, Replaces, ReplacesIf, Negates};
