@@ -1,6 +1,6 @@
 //! The rows: what is built, what is asked, and how long it took.
 ghost use Rattle.std.specs.Prelude.{◌<◌, ◌^◌, length};
-ghost use Rattle.bitm_bits.specs.Bits.{IsShort};
+ghost use Rattle.bitm.specs.Bits.{IsShort};
 ghost use Rattle.bitm.specs.Simple.{HasFewOnes};
 
 use crate::content::{Kind, content};

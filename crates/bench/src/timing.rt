@@ -1,5 +1,5 @@
 //! Batches of calls, each in a function of its own, so that nothing but the calls is timed.
-ghost use Rattle.bitm_bits.specs.Bits.{IsShort};
+ghost use Rattle.bitm.specs.Bits.{IsShort};
 
 use bitm::{
     Rank, RankSelect101111, Select, Select0, Select0ForRank101111, SelectForRank101111, select64,

@@ -1,6 +1,6 @@
 -- How dense samples are: the logarithm of how many items one sample stands for.
 use Rattle.std.specs.Prelude.{ℕ, ◌-◌, ◌*◌, ◌/◌, min, max, if◌then◌else◌, nat_le, nat_lt, nat_eq}
-use Rattle.bitm_bits.specs.Bits.{digit_count}
+use Rattle.bit_lists.specs.Bits.{digit_count}
 
 -- the greatest k with 2 ^ k at most n, for a positive n
 abbrev pub log2 : ℕ → ℕ

@@ -1,9 +1,9 @@
 -- What the definitions of tables and words say of one another. Each law is the contract of a function of `index_laws`.
 use Rattle.std.specs.Prelude.{◌≡◌, ℕ, ◌^◌, ◌<◌, Bool, List, count_ones}
-use Rattle.bitm_bits.specs.Bits.{low_digits, IsShort}
-use Rattle.bitm_bits.specs.Count.{ones_before}
-use Rattle.bitm.specs.Entry.{FieldsFit, lower_entry}
-use Rattle.bitm.specs.Tables.{HasSizes, HasTables, Lists}
+use Rattle.bit_lists.specs.Bits.{low_digits, IsShort}
+use Rattle.bit_lists.specs.Count.{ones_before}
+use Rattle.bitm_search.specs.Entry.{FieldsFit, lower_entry}
+use Rattle.bitm_search.specs.Tables.{HasSizes, HasTables, Lists}
 
 -- an entry of a lower table fits the fields' greatest numbers
 abbrev pub EntriesFit : Type 0

@@ -2,11 +2,11 @@
 use Rattle.std.specs.Prelude.{◌≡◌, ℕ, ◌+◌, ◌-◌, ◌*◌, ◌/◌, ◌%◌, ◌^◌, ◌<◌, ◌≤◌, Bool, List, map, flat_map, sum_by, length, take, drop, min, slice_index_or, Option, MatchOption, if◌then◌else◌, nat_lt}
 use Rattle.std.specs.Int.{div_ceil}
 use Rattle.std.specs.List.{range_with_len}
-use Rattle.bitm_bits.specs.Bits.{bits_of, digit, digit_count, IsShort}
-use Rattle.bitm_bits.specs.Count.{ones_of, count_before, count_of, places}
-use Rattle.bitm.specs.Reads.{ReadsAtMost}
-use Rattle.bitm.specs.Tables.{AreTablesOf}
-use Rattle.bitm.specs.declared.source.counts.ReadCounts.{ReadCounts}
+use Rattle.bit_lists.specs.Bits.{bits_of, digit, digit_count, IsShort}
+use Rattle.bit_lists.specs.Count.{ones_of, count_before, count_of, places}
+use Rattle.bitm_search.specs.Reads.{ReadsAtMost}
+use Rattle.bitm_search.specs.Tables.{AreTablesOf}
+use Rattle.bitm_search.specs.declared.source.counts.ReadCounts.{ReadCounts}
 use Rattle.bitm.specs.declared.strategies.samples.Summary.{Summary}
 
 -- ---- parts

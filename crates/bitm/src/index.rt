@@ -2,20 +2,20 @@
 ghost use Rattle.std.specs.Prelude.{◌≡◌, ◌+◌, ◌*◌, ◌^◌, length, IfOk, IfErr};
 ghost use Rattle.std.specs.Box.{boxed_slice_items};
 ghost use Rattle.std.specs.Int.{div_ceil};
-ghost use Rattle.bitm_bits.specs.Bits.{bits_of, IsShort};
-ghost use Rattle.bitm_bits.specs.Count.{ones_of};
+ghost use Rattle.bit_lists.specs.Bits.{bits_of, IsShort};
+ghost use Rattle.bit_lists.specs.Count.{ones_of};
 ghost use Rattle.bitm_bits.specs.Size.{saturated};
-ghost use Rattle.bitm.specs.Reads.{none_read};
-ghost use Rattle.bitm.specs.Tables.{AreTablesOf, IsIndexed, upper_of, lower_of};
+ghost use Rattle.bitm_search.specs.Reads.{none_read};
+ghost use Rattle.bitm_search.specs.Tables.{AreTablesOf, IsIndexed, upper_of, lower_of};
 
 mod many;
 
 use crate::queries::{HasBits, Rank, Select, Select0};
-use crate::search::ranking::rank_on;
-use crate::source::Probe;
+use bitm_search::search::ranking::rank_on;
+use bitm_search::source::Probe;
 use crate::strategies::binary::BinaryRankSearch;
 use crate::strategies::traits::{Select0ForRank101111, SelectForRank101111};
-use crate::tables::{self, Tables};
+use bitm_search::tables::{self, Tables};
 use bitm_bits::{CloneWords, GetSize};
 use std::alloc::{AllocError, Global};
 use std::boxed::BoxedSlice;
@@ -62,9 +62,9 @@ pub struct RankSelect101111<S: SelectForRank101111, S0: Select0ForRank101111, BV
 impl<S: SelectForRank101111, S0: Select0ForRank101111, BV: AsSlice<u64>> Model
     for RankSelect101111<S, S0, BV> {
     ghost use Rattle.std.specs.Box.{boxed_slice_items};
-    ghost use Rattle.bitm_bits.specs.Bits.{bits_of, IsShort};
+    ghost use Rattle.bit_lists.specs.Bits.{bits_of, IsShort};
     ghost use Rattle.bitm.specs.IndexValue.{IndexValue};
-    ghost use Rattle.bitm.specs.Tables.{AreTablesOf};
+    ghost use Rattle.bitm_search.specs.Tables.{AreTablesOf};
 
     ghost Value = { IndexValue BV S S0 };
 

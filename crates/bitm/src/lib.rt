@@ -13,19 +13,13 @@
 //! The crate `uses` proves this and more of a caller's code; `CALLING.md` says which call tells what.
 #![tactic(auto)]
 
-pub mod building;
-mod entry;
 mod index;
 pub mod index_laws;
-mod levels;
 mod queries;
 pub mod ranges;
-mod search;
+pub mod samples;
 mod simple;
-mod source;
 mod strategies;
-mod tables;
-mod word;
 
 pub use bitm_bits::{
     BitAccess, BitAccessMut, BitBIterator, BitIterator, BitOnesIterator, BitVec, BitZerosIterator,
@@ -33,20 +27,21 @@ pub use bitm_bits::{
     init_bits57, laws, n_lowest_bits, n_lowest_bits_0_64, n_lowest_bits_1_64, set_bits25,
     set_bits57, words,
 };
-pub use entry::complement_entry;
-pub use index::{ArrayWithRank101111, RankSelect101111};
-pub use levels::{
+pub use bitm_search::entry::complement_entry;
+pub use bitm_search::levels::{
     BITS_PER_L1_ENTRY, BITS_PER_L2_ENTRY, BITS_PER_L2_RECORDS, L2_ENTRIES_PER_L1_ENTRY,
     U64_PER_L1_ENTRY, U64_PER_L2_ENTRY, U64_PER_L2_RECORDS,
 };
+pub use bitm_search::search::many::{rank_many_on, select_many_on, total_select_many_on};
+pub use bitm_search::search::ranking::{rank_on, total_rank_on};
+pub use bitm_search::search::selected::{NO_ANSWER, Selected, WRONG_TABLES};
+pub use bitm_search::search::selecting::{binary_select_on, total_select_on};
+pub use bitm_search::source::{Probe, TableSource};
+pub use bitm_search::source::counts::ReadCounts;
+pub use broadword::{byte_sums, bytes_at_most, select64};
+pub use index::{ArrayWithRank101111, RankSelect101111};
 pub use queries::{HasBits, Rank, Select, Select0};
-pub use search::many::{rank_many_on, select_many_on, total_select_many_on};
-pub use search::ranking::{rank_on, total_rank_on};
-pub use search::selected::{NO_ANSWER, Selected, WRONG_TABLES};
-pub use search::selecting::{binary_select_on, total_select_on};
 pub use simple::{ArrayWithRankSimple, RankSimple};
-pub use source::counts::ReadCounts;
-pub use source::{Probe, TableSource};
 pub use strategies::binary::BinaryRankSearch;
 pub use strategies::combined::CombinedSampling;
 pub use strategies::density::{
@@ -54,4 +49,3 @@ pub use strategies::density::{
 };
 pub use strategies::optimal::optimal_combined_sampling;
 pub use strategies::traits::{Select0ForRank101111, SelectForRank101111};
-pub use word::{byte_sums, bytes_at_most, select64};

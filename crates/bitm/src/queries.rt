@@ -1,7 +1,7 @@
 //! The queries of a value's bits: how many of a kind stand before a place, and where the one of a rank is.
 ghost use Rattle.std.specs.Prelude.{◌≡◌, ◌<◌, ◌≤◌, List, Bool, length, true, false};
-ghost use Rattle.bitm_bits.specs.Count.{ones_before, zeros_before, ones_of, zeros_of};
-ghost use Rattle.bitm_bits.specs.Count.{IsRank, IsRank0, IsSelect, Picks};
+ghost use Rattle.bit_lists.specs.Count.{ones_before, zeros_before, ones_of, zeros_of};
+ghost use Rattle.bit_lists.specs.Count.{IsRank, IsRank0, IsSelect, Picks};
 
 /// A value that rank and selection see as a list of bits.
 pub trait HasBits {

@@ -1,8 +1,8 @@
 //! What follows from rank and selection, for any value that has them: counts of a stretch, the neighbours of a place, and
 //! selection from a place on.
 ghost use Rattle.std.specs.Prelude.{◌≡◌, ◌+◌, ◌<◌, ◌≤◌, length, true, false};
-ghost use Rattle.bitm_bits.specs.Count.{ones_before, zeros_before};
-ghost use Rattle.bitm_bits.specs.Count.{IsSelectFrom, MatchesFirstOne, MatchesFirstZero, MatchesLast};
+ghost use Rattle.bit_lists.specs.Count.{ones_before, zeros_before};
+ghost use Rattle.bit_lists.specs.Count.{IsSelectFrom, MatchesFirstOne, MatchesFirstZero, MatchesLast};
 
 use crate::queries::{Rank, Select, Select0};
 

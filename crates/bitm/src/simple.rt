@@ -3,15 +3,15 @@ ghost use Rattle.std.specs.Prelude.{◌≡◌, ◌<◌, ◌≤◌, ◌+◌, ◌*
 ghost use Rattle.std.specs.Box.{boxed_slice_items};
 ghost use Rattle.std.specs.Int.{div_ceil};
 ghost use Rattle.bitm_bits.specs.Size.{saturated};
-ghost use Rattle.bitm_bits.specs.Bits.{bits_of, IsShort};
-ghost use Rattle.bitm_bits.specs.Count.{ones_before, ones_of, IsRank};
+ghost use Rattle.bit_lists.specs.Bits.{bits_of, IsShort};
+ghost use Rattle.bit_lists.specs.Count.{ones_before, ones_of, IsRank};
 ghost use Rattle.bitm.specs.Simple.{HasFewOnes, simple_table_of};
 
 use crate::queries::{HasBits, Rank};
-use crate::search::ranking::ones_in_record;
-use crate::source::Probe;
-use crate::tables::ones_of_record;
-use crate::word::ones_through;
+use bitm_search::search::ranking::ones_in_record;
+use bitm_search::source::Probe;
+use bitm_search::tables::ones_of_record;
+use broadword::ones_through;
 use bitm_bits::{CloneWords, GetSize};
 use std::alloc::{AllocError, Global};
 use std::boxed::BoxedSlice;
@@ -39,7 +39,7 @@ pub type ArrayWithRankSimple = RankSimple<BoxedSlice<u64, Global>>;
 impl<BV: AsSlice<u64>> Model for RankSimple<BV> {
     ghost use Rattle.std.specs.Prelude.{◌≡◌};
     ghost use Rattle.std.specs.Box.{boxed_slice_items};
-    ghost use Rattle.bitm_bits.specs.Bits.{bits_of, IsShort};
+    ghost use Rattle.bit_lists.specs.Bits.{bits_of, IsShort};
     ghost use Rattle.bitm.specs.Simple.{HasFewOnes, simple_table_of};
 
     ghost Value = { BV };

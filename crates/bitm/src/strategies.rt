@@ -7,3 +7,4 @@ pub(crate) mod optimal;
 pub(crate) mod sampled;
 pub(crate) mod samples;
 pub(crate) mod traits;
+pub(crate) mod walking;

@@ -1,8 +1,8 @@
 -- What a write makes of a value that lends words: the name of the borrow and the words, before it and after it.
 use Rattle.std.specs.Prelude.{◌≡◌, ℕ, Bool, List, length}
-use Rattle.bitm_bits.specs.Bits.{bits_of}
-use Rattle.bitm_bits.specs.Number.{with_number, with_number_if}
-use Rattle.bitm_bits.specs.Window.{with_flips}
+use Rattle.bit_lists.specs.Bits.{bits_of}
+use Rattle.bit_lists.specs.Number.{with_number, with_number_if}
+use Rattle.bit_lists.specs.Window.{with_flips}
 
 -- the same slice is lent, and it has as many words
 abbrev pub LendsSame : {A : Type 0} → (A → ℕ) → (A → List ℕ) → A → A → Type 0

@@ -13,22 +13,21 @@
 //! The crate `uses` proves this and more of a caller's code; `CALLING.md` says which form of call tells what.
 #![tactic(auto)]
 
-mod bitvec;
-mod bytes;
+mod access;
+mod access_mut;
 mod clone_words;
-pub mod laws;
-mod masks;
+mod lent;
+mod making;
 mod size;
-pub mod words;
 
-pub use bitvec::access::BitAccess;
-pub use bitvec::access_mut::BitAccessMut;
-pub use bitvec::each_bit::BitIterator;
-pub use bitvec::making::BitVec;
-pub use bitvec::places::{BitBIterator, BitOnesIterator, BitZerosIterator};
-pub use bytes::{get_bits25, get_bits57, init_bits25, init_bits57, set_bits25, set_bits57};
-pub use clone_words::CloneWords;
-pub use masks::{
-    bits_to_store, ceiling_div, n_lowest_bits, n_lowest_bits_0_64, n_lowest_bits_1_64,
+pub use access::BitAccess;
+pub use access_mut::BitAccessMut;
+pub use bit_lists::laws;
+pub use bit_words::{
+    BitBIterator, BitIterator, BitOnesIterator, BitZerosIterator, bits_to_store, ceiling_div,
+    get_bits25, get_bits57, init_bits25, init_bits57, n_lowest_bits, n_lowest_bits_0_64,
+    n_lowest_bits_1_64, set_bits25, set_bits57, words,
 };
+pub use clone_words::CloneWords;
+pub use making::BitVec;
 pub use size::GetSize;

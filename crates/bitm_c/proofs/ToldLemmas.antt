@@ -1,12 +1,12 @@
 -- What was found is what is told.
 use Rattle.std.proofs.Common.{◌≡◌, ℕ, ◌<◌, Bool, length, sym, subst, arith}
-use Rattle.bitm_bits.proofs.lemmas.PickLemmas.{rank_below}
-use Rattle.bitm_bits.specs.Bits.{item}
-use Rattle.bitm_bits.specs.Count.{Picks}
+use Rattle.bitm.proofs.Callers.{rank_below}
+use Rattle.bitm.specs.Bits.{item}
+use Rattle.bitm.specs.Count.{Picks}
 use Rattle.bitm.specs.Tables.{HasSizes, HasTables, Lists, bits_in}
 use Rattle.bitm_lent.specs.Answers.{HasBit, IsSelected}
-use Rattle.bitm.specs.declared.search.selected.Selected.{Selected}
-use Rattle.bitm.specs.declared.search.selected.Selected.TheVariants.{Found, Absent, WrongTables}
+use Rattle.bitm.specs.Selected.{Selected}
+use Rattle.bitm.specs.Selected.TheVariants.{Found, Absent, WrongTables}
 use Rattle.bitm_c.specs.Status.{IsTold, SelectAnswered}
 
 module _ (v : Bool) (lists : Lists) (sized : HasSizes lists) (rank status old new : ℕ) where

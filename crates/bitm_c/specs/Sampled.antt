@@ -1,7 +1,7 @@
 -- What the exported calls answer by samples.
 use Rattle.std.specs.Prelude.{◌≡◌, ◌≢◌, ℕ, ◌<◌, ◌≤◌, Bool, length, min}
-use Rattle.bitm_bits.specs.Bits.{item}
-use Rattle.bitm_bits.specs.Count.{count_of, Picks}
+use Rattle.bitm.specs.Bits.{item}
+use Rattle.bitm.specs.Count.{count_of, Picks}
 use Rattle.bitm.specs.Tables.{HasSizes, HasTables, Lists, bits_in}
 use Rattle.bitm_lent.specs.Samples.{AreSamplesOf}
 use Rattle.bitm_lent.specs.declared.samples.LentSamples.{LentSamples}

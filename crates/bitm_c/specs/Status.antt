@@ -1,12 +1,12 @@
 -- What the exported calls answer: a status, and a number written where the caller says.
 use Rattle.std.specs.Prelude.{◌≡◌, ◌≢◌, ℕ, ◌^◌, ◌<◌, ◌≤◌, Bool, length}
 use Rattle.std.specs.Int.{div_ceil}
-use Rattle.bitm_bits.specs.Bits.{item}
-use Rattle.bitm_bits.specs.Count.{count_before, count_of, Picks}
+use Rattle.bitm.specs.Bits.{item}
+use Rattle.bitm.specs.Count.{count_before, count_of, Picks}
 use Rattle.bitm.specs.Tables.{HasSizes, HasTables, Lists, bits_in}
 use Rattle.bitm_lent.specs.Sizes.{listed}
-use Rattle.bitm.specs.declared.search.selected.Selected.{Selected}
-use Rattle.bitm.specs.declared.search.selected.Selected.TheVariants.{Found, Absent, WrongTables}
+use Rattle.bitm.specs.Selected.{Selected}
+use Rattle.bitm.specs.Selected.TheVariants.{Found, Absent, WrongTables}
 use Rattle.bitm_c.specs.declared.header.Header.{Header}
 use Rattle.bitm_c.specs.declared.view.View.{View}
 

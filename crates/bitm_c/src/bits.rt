@@ -1,8 +1,8 @@
 //! Bits, and numbers in bits, of words of the caller's.
 ghost use Rattle.std.specs.Prelude.{◌≡◌, ◌≢◌, ◌*◌, ◌%◌, ◌^◌, ◌<◌, ◌≤◌, ◌↔◌, length, if◌then◌else◌};
-ghost use Rattle.bitm_bits.specs.Bits.{bits_of, item, IsShort};
-ghost use Rattle.bitm_bits.specs.Count.{ones_of};
-ghost use Rattle.bitm_bits.specs.Number.{number_at, with_number, IsFragmentInRange, IsInRange};
+ghost use Rattle.bitm.specs.Bits.{bits_of, item, IsShort};
+ghost use Rattle.bitm.specs.Count.{ones_of};
+ghost use Rattle.bitm.specs.Number.{number_at, with_number, IsFragmentInRange, IsInRange};
 
 use crate::answer::{BAD_SIZE, NONE, OK, tell};
 use bitm::words as slices;

@@ -1,7 +1,7 @@
 //! The places of ones, written into memory of the caller's.
 ghost use Rattle.std.specs.Prelude.{◌≡◌, ◌≢◌, ◌+◌, ◌-◌, ◌<◌, ◌≤◌, ◌↔◌, ℕ, length, min, slice_index, true};
-ghost use Rattle.bitm_bits.specs.Bits.{bits_of, IsShort};
-ghost use Rattle.bitm_bits.specs.Count.{ones_before, ones_of, Picks};
+ghost use Rattle.bitm.specs.Bits.{bits_of, IsShort};
+ghost use Rattle.bitm.specs.Count.{ones_before, ones_of, Picks};
 
 use crate::answer::{BAD_SIZE, OK};
 use bitm_lent::ones_from;

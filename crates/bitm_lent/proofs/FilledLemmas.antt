@@ -3,13 +3,13 @@ use Rattle.std.proofs.Common.{◌≡◌, ◌≢◌, ℕ, ◌+◌, ◌*◌, ◌^�
 use Rattle.std.proofs.lemmas.Bool.{cases_lt}
 use Rattle.std.proofs.lemmas.List.{ext_get_or, get_or-set_other}
 use Rattle.std.proofs.lemmas.Grind.{get_or-set_at}
-use Rattle.bitm_bits.proofs.lemmas.BitsLemmas.{length-bits_of}
-use Rattle.bitm_bits.specs.Bits.{bits_of}
-use Rattle.bitm_bits.specs.Count.{ones_before}
-use Rattle.bitm.specs.Entry.{lower_entry}
-use Rattle.bitm.specs.Tables.{AreTablesOf, HasSizes, lower_of, upper_of}
-use Rattle.bitm.proofs.lemmas.TableLemmas.{length-upper_of, length-lower_of, get_or-upper_of, get_or-lower_of}
-use Rattle.bitm.proofs.lemmas.TableMakingLemmas.{parts_of_words, entries_of_words}
+use Rattle.bit_lists.proofs.lemmas.BitsLemmas.{length-bits_of}
+use Rattle.bit_lists.specs.Bits.{bits_of}
+use Rattle.bit_lists.specs.Count.{ones_before}
+use Rattle.bitm_search.specs.Entry.{lower_entry}
+use Rattle.bitm_search.specs.Tables.{AreTablesOf, HasSizes, lower_of, upper_of}
+use Rattle.bitm_search.proofs.lemmas.TableLemmas.{length-upper_of, length-lower_of, get_or-upper_of, get_or-lower_of}
+use Rattle.bitm_search.proofs.lemmas.TableMakingLemmas.{parts_of_words, entries_of_words}
 use Rattle.bitm_lent.specs.Sizes.{IsFilled, listed}
 
 -- one more item

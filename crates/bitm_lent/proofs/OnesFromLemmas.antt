@@ -1,10 +1,10 @@
 -- Ones one after the other: none stands between a place and the first one from there on.
 use Rattle.std.proofs.Common.{◌≡◌, ℕ, zero, suc, ◌+◌, ◌-◌, ◌<◌, ◌≤◌, Bool, true, false, List, length, ap, ◌∙◌, inl, inr, arith}
 use Rattle.std.proofs.lemmas.Bool.{cases_lt}
-use Rattle.bitm_bits.proofs.lemmas.CountLemmas.{ones_before_more, ones_before_past}
-use Rattle.bitm_bits.proofs.lemmas.WordLemmas.{truth}
-use Rattle.bitm_bits.specs.Bits.{item}
-use Rattle.bitm_bits.specs.Count.{ones_before, ones_of, Picks, IsFirstOneFrom}
+use Rattle.bit_lists.proofs.lemmas.CountLemmas.{ones_before_more, ones_before_past}
+use Rattle.bit_lists.proofs.lemmas.WordLemmas.{truth}
+use Rattle.bit_lists.specs.Bits.{item}
+use Rattle.bit_lists.specs.Count.{ones_before, ones_of, Picks, IsFirstOneFrom}
 
 -- zeros add nothing
 none_between : (b : List Bool) (s d : ℕ) → s + d ≤ length b → ((i : ℕ) → s ≤ i → i < s + d → item b i ≡ false)

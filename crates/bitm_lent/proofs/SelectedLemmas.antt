@@ -1,12 +1,12 @@
 -- A place that a selection found, as a number in a list of answers.
 use Rattle.std.proofs.Common.{ℕ, ◌^◌, ◌<◌, ◌-◌, Bool, arith, inl, inr}
 use Rattle.std.proofs.lemmas.Bool.{cases_lt}
-use Rattle.bitm_bits.proofs.lemmas.BitsLemmas.{length-bits_of}
-use Rattle.bitm_bits.specs.Count.{count_of}
-use Rattle.bitm.specs.Answers.{told_in, HasBit, IsSelected, SelectTold}
-use Rattle.bitm.specs.Tables.{HasSizes, HasTables, Lists, bits_in}
-use Rattle.bitm.specs.declared.search.selected.Selected.{Selected}
-use Rattle.bitm.specs.declared.search.selected.Selected.TheVariants.{Found, Absent, WrongTables}
+use Rattle.bit_lists.proofs.lemmas.BitsLemmas.{length-bits_of}
+use Rattle.bit_lists.specs.Count.{count_of}
+use Rattle.bitm_search.specs.Answers.{told_in, HasBit, IsSelected, SelectTold}
+use Rattle.bitm_search.specs.Tables.{HasSizes, HasTables, Lists, bits_in}
+use Rattle.bitm_search.specs.declared.search.selected.Selected.{Selected}
+use Rattle.bitm_search.specs.declared.search.selected.Selected.TheVariants.{Found, Absent, WrongTables}
 use Rattle.bitm_lent.specs.Samples.{AreSamplesOf, IsSelectedIfTold, SampledTold}
 use Rattle.bitm_lent.specs.declared.samples.LentSamples.{LentSamples}
 

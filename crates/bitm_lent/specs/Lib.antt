@@ -1,3 +1,11 @@
-pub use Rattle.bitm.specs.Answers
 pub mod Samples
 pub mod Sizes
+pub use Rattle.bit_lists.specs.Bits
+pub use Rattle.bit_lists.specs.Count
+pub use Rattle.bitm.specs.Density
+pub use Rattle.bitm_search.specs.Answers
+pub use Rattle.bitm_search.specs.Entry
+pub use Rattle.bitm_search.specs.Many
+pub use Rattle.bitm_search.specs.Reads
+pub use Rattle.bitm_search.specs.Search
+pub use Rattle.bitm_search.specs.Tables

@@ -1,14 +1,14 @@
 -- Samples that are lent, and what selection by them answers.
 use Rattle.std.specs.Prelude.{◌≡◌, ◌≢◌, ⊤, ℕ, ◌-◌, ◌*◌, ◌^◌, ◌<◌, ◌≤◌, Bool, List, length, slice_index}
 use Rattle.std.specs.Int.{div_ceil}
-use Rattle.bitm_bits.specs.Bits.{item}
-use Rattle.bitm_bits.specs.Count.{count_before, count_of, Picks}
+use Rattle.bit_lists.specs.Bits.{item}
+use Rattle.bit_lists.specs.Count.{count_before, count_of, Picks}
 use Rattle.bitm.specs.Density.{within}
 use Rattle.bitm.specs.Samples.{samples_of, sample_starts_of}
-use Rattle.bitm.specs.Tables.{HasTables, Lists, bits_in}
+use Rattle.bitm_search.specs.Tables.{HasTables, Lists, bits_in}
 use Rattle.bitm_lent.specs.declared.samples.LentSamples.{LentSamples}
-use Rattle.bitm.specs.declared.search.selected.Selected.{Selected}
-use Rattle.bitm.specs.declared.search.selected.Selected.TheVariants.{Found, Absent, WrongTables}
+use Rattle.bitm_search.specs.declared.search.selected.Selected.{Selected}
+use Rattle.bitm_search.specs.declared.search.selected.Selected.TheVariants.{Found, Absent, WrongTables}
 
 -- the two lists are the samples of the items v of the bits b at logarithm d, and how many there are before each part
 pub record AreSamples (b : List Bool) (v : Bool) (d : ℕ) (samples starts : List ℕ) : Type 0 where

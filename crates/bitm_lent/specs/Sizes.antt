@@ -1,6 +1,6 @@
 -- Words and two tables that are lent, and how far a list is filled.
 use Rattle.std.specs.Prelude.{◌≡◌, ℕ, ◌<◌, List, slice_index}
-use Rattle.bitm.specs.Tables.{Lists}
+use Rattle.bitm_search.specs.Tables.{Lists}
 
 -- words and two tables
 abbrev pub listed : List ℕ → List ℕ → List ℕ → Lists

@@ -1,14 +1,14 @@
 //! Whether tables are those of the words.
 ghost use Rattle.std.specs.Prelude.{◌≡◌, ◌+◌, ◌*◌, ◌^◌, ◌<◌, ◌↔◌, length, min, IsTrue, IsNone, IfSome};
 ghost use Rattle.std.specs.Int.{div_ceil};
-ghost use Rattle.bitm_bits.specs.Bits.{bits_of};
-ghost use Rattle.bitm_bits.specs.Count.{ones_before};
-ghost use Rattle.bitm.specs.Entry.{lower_entry};
-ghost use Rattle.bitm.specs.Tables.{HasSizes, HasTables};
+ghost use Rattle.bit_lists.specs.Bits.{bits_of};
+ghost use Rattle.bit_lists.specs.Count.{ones_before};
+ghost use Rattle.bitm_search.specs.Entry.{lower_entry};
+ghost use Rattle.bitm_search.specs.Tables.{HasSizes, HasTables};
 ghost use Rattle.bitm_lent.specs.Sizes.{IsFilled, listed};
 
-use bitm::L2_ENTRIES_PER_L1_ENTRY;
-use bitm::building::make_entry;
+use bitm_search::levels::L2_ENTRIES_PER_L1_ENTRY;
+use bitm_search::tables::make_entry;
 
 /// How many ones a part has, if its lower entries are right.
 fn ones_of_part(words: &[u64], upper: &[usize], lower: &[u64], part: usize) -> Option<usize>

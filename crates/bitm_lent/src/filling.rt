@@ -1,15 +1,15 @@
 //! The two tables, made into memory that is lent, in one pass over the words.
 ghost use Rattle.std.specs.Prelude.{◌≡◌, ◌+◌, ◌*◌, ◌^◌, ◌<◌, length, min, IsNone, IfSome, MatchOption};
 ghost use Rattle.std.specs.Int.{div_ceil};
-ghost use Rattle.bitm_bits.specs.Bits.{bits_of, IsShort};
-ghost use Rattle.bitm_bits.specs.Count.{ones_before, ones_of};
-ghost use Rattle.bitm.specs.Entry.{lower_entry};
-ghost use Rattle.bitm.specs.Tables.{HasSizes, HasTables};
+ghost use Rattle.bit_lists.specs.Bits.{bits_of, IsShort};
+ghost use Rattle.bit_lists.specs.Count.{ones_before, ones_of};
+ghost use Rattle.bitm_search.specs.Entry.{lower_entry};
+ghost use Rattle.bitm_search.specs.Tables.{HasSizes, HasTables};
 ghost use Rattle.bitm_lent.specs.Sizes.{IsFilled, listed};
 
 use crate::lent::has_sizes;
-use bitm::L2_ENTRIES_PER_L1_ENTRY;
-use bitm::building::make_entry;
+use bitm_search::levels::L2_ENTRIES_PER_L1_ENTRY;
+use bitm_search::tables::make_entry;
 
 /// Writes the lower entries of a part, and answers the number of ones in it.
 fn fill_part(words: &[u64], part: usize, lower: &mut [u64]) -> usize

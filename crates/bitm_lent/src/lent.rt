@@ -1,17 +1,21 @@
 //! Words and tables that are lent, and how long the tables are.
 ghost use Rattle.std.specs.Prelude.{◌≡◌, ◌^◌, ◌↔◌, ◌<◌, ◌≤◌, IsTrue, MatchOption, length, true, false};
 ghost use Rattle.std.specs.Int.{div_ceil};
-ghost use Rattle.bitm_bits.specs.Bits.{bits_of, IsShort};
-ghost use Rattle.bitm_bits.specs.Count.{kind, IsRank, IsRank0};
-ghost use Rattle.bitm.specs.Reads.{none_read};
-ghost use Rattle.bitm.specs.Tables.{HasSizes, HasTables, bits_in};
-ghost use Rattle.bitm.specs.Answers.{HasBit, IsSelected};
+ghost use Rattle.bit_lists.specs.Bits.{bits_of, IsShort};
+ghost use Rattle.bit_lists.specs.Count.{kind, IsRank, IsRank0};
+ghost use Rattle.bitm_search.specs.Reads.{none_read};
+ghost use Rattle.bitm_search.specs.Tables.{HasSizes, HasTables, bits_in};
+ghost use Rattle.bitm_search.specs.Answers.{HasBit, IsSelected};
 ghost use Rattle.bitm_lent.specs.Sizes.{listed};
 
 mod by_samples;
 
 use crate::checking::are_tables;
-use bitm::{Probe, Selected, U64_PER_L1_ENTRY, U64_PER_L2_ENTRY, total_rank_on, total_select_on};
+use bitm_search::levels::{U64_PER_L1_ENTRY, U64_PER_L2_ENTRY};
+use bitm_search::search::ranking::total_rank_on;
+use bitm_search::search::selected::Selected;
+use bitm_search::search::selecting::total_select_on;
+use bitm_search::source::Probe;
 use std::marker::Model;
 
 /// How many upper entries so many words have: one for each begun 2^26 words.
@@ -52,7 +56,7 @@ pub struct Lent<'a> {
 }
 
 impl<'a> Model for Lent<'a> {
-    ghost use Rattle.bitm.specs.Tables.{HasSizes, Lists};
+    ghost use Rattle.bitm_search.specs.Tables.{HasSizes, Lists};
     ghost use Rattle.bitm_lent.specs.Sizes.{listed};
 
     ghost Value = { Lists };

@@ -28,7 +28,9 @@ mod sampled_many;
 mod samples;
 mod sampling;
 
-pub use bitm::{NO_ANSWER, Selected, WRONG_TABLES, total_rank_on, total_select_on};
+pub use bitm_search::search::ranking::total_rank_on;
+pub use bitm_search::search::selected::{NO_ANSWER, Selected, WRONG_TABLES};
+pub use bitm_search::search::selecting::total_select_on;
 pub use filling::build;
 pub use lent::{Lent, lower_len, upper_len};
 pub use places::ones_from;

@@ -1,11 +1,12 @@
 //! Answers to lists of queries.
 ghost use Rattle.std.specs.Prelude.{◌≡◌, ◌<◌, ◌↔◌, ℕ, IsTrue, length, slice_index, true, false};
-ghost use Rattle.bitm_bits.specs.Count.{kind};
-ghost use Rattle.bitm.specs.Answers.{RankTold, SelectTold};
+ghost use Rattle.bit_lists.specs.Count.{kind};
+ghost use Rattle.bitm_search.specs.Answers.{RankTold, SelectTold};
 
 use crate::lent::Lent;
-use bitm::building::told;
-use bitm::{NO_ANSWER, Probe, total_select_many_on};
+use bitm_search::search::many::total_select_many_on;
+use bitm_search::search::selected::{NO_ANSWER, told};
+use bitm_search::source::Probe;
 
 /// The rank of one place, or `NO_ANSWER`; of zeros where `ONE` is 0.
 #[inline(always)]

@@ -2,23 +2,27 @@
 //! of a part the rank is, two entries are asked whether that is so, and a search by halves finds the entry.
 ghost use Rattle.std.specs.Prelude.{◌≡◌, ℕ, ◌+◌, ◌-◌, ◌*◌, ◌%◌, ◌^◌, ◌<◌, ◌≤◌, ◌↔◌, Bool, List, length, slice_index, IfSome, IsNone, IsTrue, MatchOption};
 ghost use Rattle.std.specs.Int.{div_ceil};
-ghost use Rattle.bitm_bits.specs.Bits.{digit_count};
-ghost use Rattle.bitm_bits.specs.Count.{ones_before, kind};
+ghost use Rattle.bit_lists.specs.Bits.{digit_count};
+ghost use Rattle.bit_lists.specs.Count.{ones_before, kind};
 ghost use Rattle.bitm.specs.Density.{within};
-ghost use Rattle.bitm.specs.Entry.{before_in_part, lower_entry};
-ghost use Rattle.bitm.specs.Reads.{OnlyReads, ReadsAtMost};
+ghost use Rattle.bitm_search.specs.Entry.{before_in_part, lower_entry};
+ghost use Rattle.bitm_search.specs.Reads.{OnlyReads, ReadsAtMost};
 ghost use Rattle.bitm.specs.Samples.{part_of, parts, sample_count_before};
-ghost use Rattle.bitm.specs.Search.{entries_from, entry_in, sought_in, IsLastEntry, IsLastPart};
-ghost use Rattle.bitm.specs.Tables.{HasSizes, HasTables, bits_in};
-ghost use Rattle.bitm.specs.Answers.{HasBit, IsSelected};
+ghost use Rattle.bitm_search.specs.Search.{entries_from, entry_in, sought_in, IsLastEntry, IsLastPart};
+ghost use Rattle.bitm_search.specs.Tables.{HasSizes, HasTables, bits_in};
+ghost use Rattle.bitm_search.specs.Answers.{HasBit, IsSelected};
 ghost use Rattle.bitm_lent.specs.Samples.{AreSamplesOf, IsBounded, IsSelectedIfTold};
 
 use crate::samples::{Density, LentSamples};
-use bitm::building::{
-    EntryRange, entries_of_part, first_entry, in_packed, last_in_range, ones_to_entry,
-    part_of_rank, sought_entry,
-};
-use bitm::{CombinedSamplingDensity, L2_ENTRIES_PER_L1_ENTRY, Selected, TableSource};
+use bitm::CombinedSamplingDensity;
+use bitm::samples::first_entry;
+use bitm_search::entry::{entries_of_part, ones_to_entry};
+use bitm_search::levels::L2_ENTRIES_PER_L1_ENTRY;
+use bitm_search::search::entries::{EntryRange, last_in_range, sought_entry};
+use bitm_search::search::record::in_packed;
+use bitm_search::search::selected::Selected;
+use bitm_search::search::selecting::part_of_rank;
+use bitm_search::source::TableSource;
 
 /// How many samples there are before a part, or in all where there is no such part.
 #[inline(always)]

@@ -1,13 +1,13 @@
 //! Answers to lists of queries, by samples.
 ghost use Rattle.std.specs.Prelude.{◌≡◌, ◌<◌, ◌↔◌, ℕ, IsTrue, length, slice_index, true, false};
-ghost use Rattle.bitm_bits.specs.Count.{kind};
+ghost use Rattle.bit_lists.specs.Count.{kind};
 ghost use Rattle.bitm_lent.specs.Samples.{SampledTold};
 
 use crate::lent::Lent;
 use crate::sampled_many::sampled_select_many_on;
 use crate::samples::LentSamples;
-use bitm::Probe;
-use bitm::building::told;
+use bitm_search::search::selected::told;
+use bitm_search::source::Probe;
 
 /// The place with one rank, `NO_ANSWER` or `WRONG_TABLES`; of a zero where `ONE` is 0.
 #[inline(always)]

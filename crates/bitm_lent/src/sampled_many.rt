@@ -1,17 +1,20 @@
 //! Selections by samples side by side, over a source with any tables and samples.
 ghost use Rattle.std.specs.Prelude.{◌≡◌, ◌+◌, ◌*◌, ◌<◌, ◌≤◌, length};
-ghost use Rattle.bitm_bits.specs.Bits.{digit_count};
-ghost use Rattle.bitm_bits.specs.Count.{kind};
-ghost use Rattle.bitm.specs.Answers.{ToldEach};
-ghost use Rattle.bitm.specs.Many.{AreSearches, IsSearch};
-ghost use Rattle.bitm.specs.Reads.{OnlyReads, ReadsAtMost};
-ghost use Rattle.bitm.specs.Search.{entries_from, sought_in, IsLastEntry};
-ghost use Rattle.bitm.specs.Tables.{HasSizes, HasTables};
+ghost use Rattle.bit_lists.specs.Bits.{digit_count};
+ghost use Rattle.bit_lists.specs.Count.{kind};
+ghost use Rattle.bitm_search.specs.Answers.{ToldEach};
+ghost use Rattle.bitm_search.specs.Many.{AreSearches, IsSearch};
+ghost use Rattle.bitm_search.specs.Reads.{OnlyReads, ReadsAtMost};
+ghost use Rattle.bitm_search.specs.Search.{entries_from, sought_in, IsLastEntry};
+ghost use Rattle.bitm_search.specs.Tables.{HasSizes, HasTables};
 
 use crate::sampled::sampled_entry;
 use crate::samples::LentSamples;
-use bitm::building::{SIDE_BY_SIDE, last_entry, part_of_rank, tell_entries};
-use bitm::{L2_ENTRIES_PER_L1_ENTRY, TableSource};
+use bitm_search::levels::L2_ENTRIES_PER_L1_ENTRY;
+use bitm_search::search::entries::last_entry;
+use bitm_search::search::many::{SIDE_BY_SIDE, tell_entries};
+use bitm_search::search::selecting::part_of_rank;
+use bitm_search::source::TableSource;
 
 /// The last entry of a part with no more than `rank` of the kind before it in the part, where the tables are those of
 /// the words; else some entry of the part. Where the samples do not lead to it, it is sought without them.

@@ -1,11 +1,11 @@
 //! Samples of tables that may hold anything, written into memory that is lent.
 ghost use Rattle.std.specs.Prelude.{◌≡◌, ℕ, ◌+◌, ◌*◌, ◌^◌, ◌<◌, ◌≤◌, Bool, List, length, slice_index, take};
-ghost use Rattle.bitm_bits.specs.Count.{kind};
+ghost use Rattle.bit_lists.specs.Count.{kind};
 ghost use Rattle.bitm.specs.Samples.{IsSized, IsSummaryOf, sample_count_before};
 ghost use Rattle.bitm_lent.specs.Samples.{AreSamples, sample_number};
 ghost use Rattle.bitm_lent.specs.Sizes.{IsFilled};
 
-use bitm::building::{Summary, items_in, sample_from};
+use bitm::samples::{Summary, items_in, sample_from};
 
 /// Writes the samples of a part from place `first` on, and answers how many.
 fn fill_samples<const ONE: u8>(

@@ -86,7 +86,7 @@ pub fn expect_rank<I: Rank>(rt: &impl Abort, index: &I, place: usize, ones: Opti
 }
 
 /// Compares the calls of select at one rank with the place of that one.
-#[tactic(auto, using(bitm_bits::proofs::Callers::one_below))]
+#[tactic(auto, using(bitm::proofs::Callers::one_below))]
 pub fn expect_one<I: Select>(rt: &impl Abort, index: &I, rank: usize, place: Option<usize>) {
     let found = index.try_select(rank);
     assert_eq!(rt; found, place, "the one of rank {rank}");
@@ -97,7 +97,7 @@ pub fn expect_one<I: Select>(rt: &impl Abort, index: &I, rank: usize, place: Opt
 }
 
 /// Compares the calls of select0 at one rank with the place of that zero.
-#[tactic(auto, using(bitm_bits::proofs::Callers::zero_below))]
+#[tactic(auto, using(bitm::proofs::Callers::zero_below))]
 pub fn expect_zero<I: Select0>(rt: &impl Abort, index: &I, rank: usize, place: Option<usize>) {
     let found = index.try_select0(rank);
     assert_eq!(rt; found, place, "the zero of rank {rank}");

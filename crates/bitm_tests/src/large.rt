@@ -46,7 +46,7 @@ fn expect_places<S: SelectForRank101111, S0: Select0ForRank101111>(
 }
 
 #[test]
-#[tactic(auto, using(bitm_bits::proofs::Callers::few_ones))]
+#[tactic(auto, using(bitm::proofs::Callers::few_ones))]
 fn simple_rank_is_half_of_each_even_place(rt: HostRuntime) -> Result<(), Fail> {
     let content = even_ones(rt.alloc())?;
     assert!(rt; content.as_slice().len() < 2_000_000);

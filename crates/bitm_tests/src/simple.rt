@@ -27,7 +27,7 @@ fn expect_narrow(rt: &impl Abort, index: &ArrayWithRankSimple, place: usize, one
 }
 
 /// The simple rank over words that it owns, and the number of ones.
-#[tactic(auto, using(bitm_bits::proofs::Callers::few_ones))]
+#[tactic(auto, using(bitm::proofs::Callers::few_ones))]
 fn owned(
     rt: &impl Abort,
     alloc: Global,

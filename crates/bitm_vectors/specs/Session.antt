@@ -3,9 +3,9 @@ use Rattle.std.specs.Prelude.{◌≡◌, ◌≤◌, ℕ, ◌+◌, ◌&&◌, nat_
 use Rattle.std.specs.List.{list_all}
 use Rattle.std.specs.Io.KnownBytes.{Appends}
 use Rattle.bitm_vectors.specs.Answer.{text_of, is_good}
-use Rattle.bitm_bits.specs.Bits.{bits_of}
-use Rattle.bitm_bits.specs.Count.{ones_before, zeros_before, count_before, Picks}
-use Rattle.bitm_bits.specs.Number.{number_at}
+use Rattle.bitm.specs.Bits.{bits_of}
+use Rattle.bitm.specs.Count.{ones_before, zeros_before, count_before, Picks}
+use Rattle.bitm.specs.Number.{number_at}
 use Rattle.bitm_vectors.specs.Request.{Request, Words, Set, Clear, Build, Rank, Rank0, Select, Select0, Bits, request_of}
 use Rattle.bitm_vectors.specs.declared.answer.Answer.{Answer}
 use Rattle.bitm_vectors.specs.declared.answer.Answer.TheVariants.{Accepted, Ones, Number, Absent, NotBuilt, NoMemory, BadCommand}

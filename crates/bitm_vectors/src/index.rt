@@ -1,8 +1,8 @@
 //! An index over a copy of the vector.
 ghost use Rattle.std.specs.Prelude.{◌≡◌, ◌≤◌, length, IfOk, Some, true, false};
 ghost use Rattle.std.specs.Box.{boxed_slice_items, boxed_slice_len};
-ghost use Rattle.bitm_bits.specs.Bits.{bits_of};
-ghost use Rattle.bitm_bits.specs.Count.{ones_before, IsRank, IsRank0};
+ghost use Rattle.bitm.specs.Bits.{bits_of};
+ghost use Rattle.bitm.specs.Count.{ones_before, IsRank, IsRank0};
 
 use crate::answer::Answer;
 use crate::command::Kind;

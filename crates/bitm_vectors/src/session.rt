@@ -1,7 +1,7 @@
 //! The vector, the index that is built over a copy of it, and what a line does to them.
 ghost use Rattle.std.specs.Prelude.{◌≡◌, ◌≤◌, vec_len, IfSome, option_map, Some};
 ghost use Rattle.std.specs.Box.{boxed_slice_items, boxed_slice_len};
-ghost use Rattle.bitm_bits.specs.Bits.{bits_of};
+ghost use Rattle.bitm.specs.Bits.{bits_of};
 ghost use Rattle.bitm_vectors.specs.Index.{indexed, kind_of_index};
 ghost use Rattle.bitm_vectors.specs.Request.{Request, Words, Build, Rank, Rank0, Select, Select0, Bits};
 ghost use Rattle.bitm_vectors.specs.Request.{request, request_of, IsWithinLimits};

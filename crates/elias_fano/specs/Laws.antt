@@ -1,12 +1,12 @@
 -- What the definitions say of one another. Each law is the contract of a function of `laws`.
 use Rattle.std.specs.Prelude.{◌≡◌, ℕ, ◌+◌, ◌*◌, ◌<◌, ◌≤◌, ◌↔◌, true, List, length, slice_index}
 use Rattle.std.specs.List.Sorted.{IsNonDecreasing}
-use Rattle.bitm_bits.specs.Bits.{bits_of}
-use Rattle.bitm_bits.specs.Count.{ones_before, Picks}
-use Rattle.bitm_bits.specs.Laws.{ReadAfterWrite, DigitsBoundPowers, OnesAndZeros, CountsGrow, CountAfterItem}
-use Rattle.bitm_bits.specs.Laws.{AtMostOnePicked, PlacesArePicked, PlacesAreCounted}
-use Rattle.bitm_bits.specs.WriteLaws.{BitsAreCounted, ZerosHaveNoOnes, ZerosAreCounted, ZerosAreZero, NoItemsAreZero}
-use Rattle.bitm_bits.specs.WriteLaws.{ItemBesideIsKept, NumberBesideIsKept, LastOneIsSet}
+use Rattle.bitm.specs.Bits.{bits_of}
+use Rattle.bitm.specs.Count.{ones_before, Picks}
+use Rattle.bitm.specs.Laws.{ReadAfterWrite, DigitsBoundPowers, OnesAndZeros, CountsGrow, CountAfterItem}
+use Rattle.bitm.specs.Laws.{AtMostOnePicked, PlacesArePicked, PlacesAreCounted}
+use Rattle.bitm.specs.WriteLaws.{BitsAreCounted, ZerosHaveNoOnes, ZerosAreCounted, ZerosAreZero, NoItemsAreZero}
+use Rattle.bitm.specs.WriteLaws.{ItemBesideIsKept, NumberBesideIsKept, LastOneIsSet}
 use Rattle.elias_fano.specs.Parts.{upper_place, width_of, low_words_of, upper_words_of, IsUpper, ArePartsOf, items_of}
 use Rattle.elias_fano.specs.Sequence.{Reaches}
 

@@ -2,8 +2,8 @@
 //! anything: the calls on a sequence's own are those on any parts.
 ghost use Rattle.std.specs.Prelude.{◌≡◌, ◌+◌, ◌-◌, ◌*◌, ◌/◌, ◌^◌, ◌<◌, ◌≤◌, ℕ, List};
 ghost use Rattle.std.specs.Prelude.{length, slice_index, IfSome, MatchOption};
-ghost use Rattle.bitm_bits.specs.Bits.{bits_of, digit_count};
-ghost use Rattle.bitm_bits.specs.Number.{number_at};
+ghost use Rattle.bitm.specs.Bits.{bits_of, digit_count};
+ghost use Rattle.bitm.specs.Number.{number_at};
 ghost use Rattle.bitm.specs.Reads.{OnlyReads, ReadsAtMost};
 ghost use Rattle.bitm.specs.Tables.{HasSizes, HasTables};
 ghost use Rattle.elias_fano.specs.Answers.{IsFirst, IsItem, IsOfPlace, IsPlaceOf};
@@ -14,8 +14,8 @@ ghost use Rattle.elias_fano.specs.Sequence.{IsFirstAtLeast};
 
 use crate::answer::Sought;
 use crate::laws;
-use bitm::building::search_on;
 use bitm::{Selected, TableSource, index_laws, n_lowest_bits, total_select_on, words};
+use bitm_search::search::selecting::search_on;
 
 /// The number whose part above its low digits is `above`: the low digits are fragment `at`.
 ///
@@ -171,7 +171,7 @@ pub fn split_low(low: &[u64], width: u8, first: usize, end: usize, rest: u64) ->
 }
 
 /// What `total_first_at_least_on` answers. Where `TESTS` is 0 its selections look for no wrong tables but by the words,
-/// as in `bitm::building::search_on`.
+/// as in `search_on` of `bitm_search`.
 #[inline(always)]
 fn first_on<const TESTS: u8, T: TableSource>(
     source: &mut T,

@@ -2,8 +2,8 @@
 ghost use Rattle.std.specs.Prelude.{◌≡◌, ◌+◌, ◌*◌, ◌^◌, ◌<◌, ◌≤◌, ◌↔◌, IsErrOf, SomeIff, length, slice_index};
 ghost use Rattle.std.specs.Prelude.{drop, IfOk};
 ghost use Rattle.std.specs.Int.{div_ceil};
-ghost use Rattle.bitm_bits.specs.Bits.{IsShort};
-ghost use Rattle.bitm_bits.specs.Size.{saturated};
+ghost use Rattle.bitm.specs.Bits.{IsShort};
+ghost use Rattle.bitm.specs.Size.{saturated};
 ghost use Rattle.bitm.specs.Reads.{none_read};
 ghost use Rattle.bitm.specs.Tables.{HasTables};
 ghost use Rattle.elias_fano.specs.Numbers.{StandFrom};

@@ -6,11 +6,10 @@ use Rattle.std.proofs.lemmas.List.FromFn.{length-map-range_with_len, get_or-map-
 use Rattle.std.proofs.lemmas.Nat.{div-mul-add, mod-mul-add, pow-add, mul-add-lt}
 use Rattle.std.proofs.Math.Nat.{mul-le-mul_right}
 use Rattle.std.specs.Int.{div_ceil}
-use Rattle.bitm_bits.proofs.lemmas.NumberLemmas.{number_at-lt}
-use Rattle.bitm_bits.proofs.lemmas.PickLemmas.{rank_below}
-use Rattle.bitm_bits.specs.Bits.{bits_of, item}
-use Rattle.bitm_bits.specs.Count.{ones_of, places, Picks}
-use Rattle.bitm_bits.specs.Number.{number_at}
+use Rattle.bitm.proofs.Callers.{number_at-lt, rank_below}
+use Rattle.bitm.specs.Bits.{bits_of, item}
+use Rattle.bitm.specs.Count.{ones_of, places, Picks}
+use Rattle.bitm.specs.Number.{number_at}
 use Rattle.elias_fano.proofs.lemmas.ItemLemmas.{held-is}
 use Rattle.elias_fano.proofs.lemmas.UpperLemmas.{places_are}
 use Rattle.elias_fano.specs.Laws.{BitLaws}

@@ -3,7 +3,7 @@ use Rattle.std.proofs.Common.{◌≡◌, ℕ, ◌+◌, ◌*◌, ◌/◌, ◌^◌
 use Rattle.std.proofs.Math.Nat.{div-le_self}
 use Rattle.std.proofs.lemmas.Bool.{cases_eq}
 use Rattle.std.specs.Int.{div_ceil}
-use Rattle.bitm_bits.specs.Laws.{DigitsBoundPowers}
+use Rattle.bitm.specs.Laws.{DigitsBoundPowers}
 use Rattle.bitm.specs.Tables.{HasSizes}
 use Rattle.bitm_lent.specs.Sizes.{listed}
 use Rattle.elias_fano.proofs.lemmas.SizeLemmas.{few_of_some, upper_few_at}

@@ -1,8 +1,8 @@
 -- The numbers that two vectors hold, as a walk over the ones finds them.
 use Rattle.std.specs.Prelude.{◌≡◌, ℕ, ◌+◌, ◌-◌, ◌*◌, ◌^◌, ◌<◌, ◌≤◌, true, List, length, slice_index}
-use Rattle.bitm_bits.specs.Bits.{bits_of}
-use Rattle.bitm_bits.specs.Count.{places}
-use Rattle.bitm_bits.specs.Number.{number_at}
+use Rattle.bitm.specs.Bits.{bits_of}
+use Rattle.bitm.specs.Count.{places}
+use Rattle.bitm.specs.Number.{number_at}
 
 -- the words have n fragments of l bits, whatever they hold
 pub record HasFragments (low : List ℕ) (n l : ℕ) : Type 0 where

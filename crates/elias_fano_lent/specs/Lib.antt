@@ -1,6 +1,12 @@
-pub use Rattle.elias_fano.specs.Answers
 pub mod Checks
 pub mod Error
-pub use Rattle.elias_fano.specs.Held
 pub mod Lists
 pub mod Sizes
+pub use Rattle.bitm.specs.Bits
+pub use Rattle.bitm.specs.Count
+pub use Rattle.bitm.specs.Number
+pub use Rattle.bitm.specs.Tables
+pub use Rattle.elias_fano.specs.Answers
+pub use Rattle.elias_fano.specs.Held
+pub use Rattle.elias_fano.specs.Parts
+pub use Rattle.elias_fano.specs.Sequence

@@ -4,7 +4,7 @@ ghost use Rattle.elias_fano_lent.specs.Held.{Holds};
 ghost use Rattle.elias_fano_lent.specs.Lists.{written, AreItems, IsKeptFrom, IsListed, IsNeverWrong, PlaceTold};
 
 use crate::sequence::LentSequence;
-use bitm::building::SIDE_BY_SIDE;
+use bitm_search::search::many::SIDE_BY_SIDE;
 use bitm_lent::{NO_ANSWER, WRONG_TABLES};
 use elias_fano::Sought;
 

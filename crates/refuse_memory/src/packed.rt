@@ -1,5 +1,5 @@
 //! The calls of the packed index and of its strategies that take memory.
-ghost use Rattle.bitm_bits.specs.Bits.{IsShort};
+ghost use Rattle.bitm.specs.Bits.{IsShort};
 
 use crate::outcome::{Outcome, WORDS, answered, refused};
 use crate::uncopied::Uncopied;

@@ -16,7 +16,7 @@ fn is_right<BV: AsSlice<u64>>(index: &RankSimple<BV>) -> bool {
 }
 
 /// A simple rank over the content, which has the words of `WORDS`.
-#[tactic(auto, using(bitm_bits::proofs::Callers::few_ones))]
+#[tactic(auto, using(bitm::proofs::Callers::few_ones))]
 fn over<BV: AsSlice<u64> + Drop>(alloc: Global, content: BV) -> Outcome {
     if content.as_slice().len() != WORDS.len() {
         return Outcome::Wrong;
@@ -41,7 +41,7 @@ pub fn owned(alloc: Global) -> Outcome {
 }
 
 /// A clone of one over words that it owns.
-#[tactic(auto, using(bitm_bits::proofs::Callers::few_ones))]
+#[tactic(auto, using(bitm::proofs::Callers::few_ones))]
 pub fn cloned(alloc: Global) -> Outcome {
     let Ok(content) = BoxedSlice::from_slice(alloc, WORDS.as_slice()) else {
         return Outcome::Unready;
@@ -56,7 +56,7 @@ pub fn cloned(alloc: Global) -> Outcome {
 }
 
 /// A clone of one over a content of which there are no copies.
-#[tactic(auto, using(bitm_bits::proofs::Callers::few_ones))]
+#[tactic(auto, using(bitm::proofs::Callers::few_ones))]
 pub fn uncopied(alloc: Global) -> Outcome {
     let words = WORDS.as_slice();
     match RankSimple::build(alloc, Uncopied { words }) {

@@ -1,7 +1,7 @@
 //! The conditions of our calls, tested when the program runs.
 ghost use Rattle.std.specs.Prelude.{◌≡◌, ◌^◌, ◌<◌, ◌≤◌, ◌↔◌, IsTrue};
-ghost use Rattle.bitm_bits.specs.Bits.{bits_of, IsShort};
-ghost use Rattle.bitm_bits.specs.Number.{number_at, IsInRange, IsFragmentInRange};
+ghost use Rattle.bitm.specs.Bits.{bits_of, IsShort};
+ghost use Rattle.bitm.specs.Number.{number_at, IsInRange, IsFragmentInRange};
 
 use bitm::words;
 

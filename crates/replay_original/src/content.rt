@@ -1,6 +1,6 @@
 //! The content and the bytes that the lines speak of.
 ghost use Rattle.std.specs.Prelude.{IfOk};
-ghost use Rattle.bitm_bits.specs.Bits.{IsShort};
+ghost use Rattle.bitm.specs.Bits.{IsShort};
 
 use crate::fault::Fault;
 use crate::found::Found;

@@ -1,5 +1,5 @@
 //! The nearest one: the kinds `find`, `rfind` and `trail`.
-ghost use Rattle.bitm_bits.specs.Bits.{IsShort};
+ghost use Rattle.bitm.specs.Bits.{IsShort};
 
 use crate::content::State;
 use crate::fault::Fault;

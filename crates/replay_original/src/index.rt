@@ -1,7 +1,7 @@
 //! The index over a content, by which tables, selection and samples are replayed.
 ghost use Rattle.std.specs.Prelude.{◌≡◌, IfOk};
-ghost use Rattle.bitm_bits.specs.Bits.{bits_of, IsShort};
-ghost use Rattle.bitm_bits.specs.Count.{ones_of};
+ghost use Rattle.bitm.specs.Bits.{bits_of, IsShort};
+ghost use Rattle.bitm.specs.Count.{ones_of};
 
 use crate::fault::Fault;
 use bitm::{RankSelect101111, Select0ForRank101111, SelectForRank101111};

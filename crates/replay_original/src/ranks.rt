@@ -1,6 +1,6 @@
 //! Ranks: the kinds `ones`, `simple`, `rank` and `rank0`.
 ghost use Rattle.std.specs.Prelude.{◌≡◌, IfOk, IfSome};
-ghost use Rattle.bitm_bits.specs.Bits.{IsShort};
+ghost use Rattle.bitm.specs.Bits.{IsShort};
 
 use crate::content::State;
 use crate::fault::Fault;

@@ -1,5 +1,5 @@
 //! The samples, how many there are before each part, and how dense they are: the kinds `samples`, `samplesat` and `ocs`.
-ghost use Rattle.bitm_bits.specs.Bits.{IsShort};
+ghost use Rattle.bitm.specs.Bits.{IsShort};
 
 use crate::content::State;
 use crate::fault::Fault;

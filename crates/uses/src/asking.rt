@@ -1,7 +1,7 @@
 //! A call whose condition the caller tests first, as a user of the library writes it.
 ghost use Rattle.std.specs.Prelude.{◌<◌, true, count_ones, IfSome, IsSome};
-ghost use Rattle.bitm_bits.specs.Bits.{low_digits};
-ghost use Rattle.bitm_bits.specs.Count.{IsRank, Picks};
+ghost use Rattle.bitm.specs.Bits.{low_digits};
+ghost use Rattle.bitm.specs.Count.{IsRank, Picks};
 
 use bitm::{Rank, select64};
 

@@ -1,7 +1,7 @@
 //! Answers of an index with the reads that they took, as a user of the library writes them.
 ghost use Rattle.std.specs.Prelude.{◌+◌, length, true};
-ghost use Rattle.bitm_bits.specs.Bits.{bits_of, digit_count};
-ghost use Rattle.bitm_bits.specs.Count.{IsRank, IsSelect};
+ghost use Rattle.bitm.specs.Bits.{bits_of, digit_count};
+ghost use Rattle.bitm.specs.Count.{IsRank, IsSelect};
 ghost use Rattle.bitm.specs.Reads.{none_read, ReadsAtMost};
 ghost use Rattle.bitm.specs.Tables.{upper_of};
 

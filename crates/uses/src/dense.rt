@@ -2,8 +2,8 @@
 //!
 //! So rank is a minimal perfect hash of the members, which keeps their order, and selection is its inverse.
 ghost use Rattle.std.specs.Prelude.{◌≡◌, ◌<◌, length, true};
-ghost use Rattle.bitm_bits.specs.Bits.{item};
-ghost use Rattle.bitm_bits.specs.Count.{ones_of, Picks};
+ghost use Rattle.bitm.specs.Bits.{item};
+ghost use Rattle.bitm.specs.Count.{ones_of, Picks};
 
 use bitm::{Rank, Select};
 
@@ -11,7 +11,7 @@ use bitm::{Rank, Select};
 ///
 /// # Conditions
 /// The member is in the set.
-#[tactic(auto, using(bitm_bits::proofs::Callers::picked_by_its_rank))]
+#[tactic(auto, using(bitm::proofs::Callers::picked_by_its_rank))]
 pub fn number_of<I: Rank>(set: &I, member: usize) -> usize
     requires inside { member < length (I.bits set.now) }
     requires member { item (I.bits set.now) member ≡ true }
@@ -35,7 +35,7 @@ pub fn member_of<I: Select>(set: &I, number: usize) -> usize
 ///
 /// # Conditions
 /// The member is in the set.
-#[tactic(auto, using(bitm_bits::proofs::Callers::one_below, bitm_bits::proofs::Callers::same_picked))]
+#[tactic(auto, using(bitm::proofs::Callers::one_below, bitm::proofs::Callers::same_picked))]
 pub fn again<I: Rank + Select>(set: &I, member: usize) -> usize
     requires inside { member < length (I.bits set.now) }
     requires member { item (I.bits set.now) member ≡ true }

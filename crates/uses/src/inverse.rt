@@ -1,7 +1,7 @@
 //! Rank and selection undo each other, in code that is generic over the index.
 ghost use Rattle.std.specs.Prelude.{◌≡◌, ◌-◌, ◌<◌, ◌≤◌, length, true, false};
-ghost use Rattle.bitm_bits.specs.Bits.{item};
-ghost use Rattle.bitm_bits.specs.Count.{ones_of, zeros_of};
+ghost use Rattle.bitm.specs.Bits.{item};
+ghost use Rattle.bitm.specs.Count.{ones_of, zeros_of};
 
 use bitm::{Rank, Select, Select0};
 
@@ -55,7 +55,7 @@ pub fn select0_of_rank<I: Rank + Select0>(index: &I, place: usize) -> usize
 ///
 /// # Conditions
 /// There are no fewer than `index` bits.
-#[tactic(auto, using(bitm_bits::proofs::Callers::ones_and_zeros))]
+#[tactic(auto, using(bitm::proofs::Callers::ones_and_zeros))]
 pub fn ranks_add_up<I: Rank>(bits: &I, index: usize) -> usize
     requires { index ≤ length (I.bits bits.now) }
     ensures { result ≡ index }

@@ -3,8 +3,8 @@
 //! `BitOnesIterator::new(words)` borrows the slice, and so outlives a reference to it; `slice.bit_ones()` borrows the
 //! reference `slice`.
 ghost use Rattle.std.specs.Prelude.{◌≡◌, true, IfOk};
-ghost use Rattle.bitm_bits.specs.Bits.{bits_of, IsShort};
-ghost use Rattle.bitm_bits.specs.Count.{ones_of, places};
+ghost use Rattle.bitm.specs.Bits.{bits_of, IsShort};
+ghost use Rattle.bitm.specs.Count.{ones_of, places};
 
 use bitm::{BitIterator, BitOnesIterator};
 use std::alloc::{AllocError, Global};
@@ -14,7 +14,7 @@ use std::iter::Iterator;
 ///
 /// # Conditions
 /// There are fewer than 2^58 words.
-#[tactic(auto, using(bitm_bits::proofs::Callers::counts))]
+#[tactic(auto, using(bitm::proofs::Callers::counts))]
 pub fn ones_by_their_places(words: &[u64]) -> usize
     requires { IsShort words.now }
     ensures { result ≡ ones_of (bits_of words.now) }
@@ -43,7 +43,7 @@ pub fn places_of_ones(alloc: Global, words: &[u64]) -> Result<Vec<usize>, AllocE
 ///
 /// # Conditions
 /// There are fewer than 2^58 words.
-#[tactic(auto, using(bitm_bits::proofs::Callers::bit_by_bit))]
+#[tactic(auto, using(bitm::proofs::Callers::bit_by_bit))]
 pub fn ones_by_their_bits(words: &[u64]) -> usize
     requires { IsShort words.now }
     ensures { result ≡ ones_of (bits_of words.now) }

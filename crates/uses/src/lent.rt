@@ -1,7 +1,7 @@
 //! Tables that came with the words and may be wrong: tried, made anew where they are, and asked.
 ghost use Rattle.std.specs.Prelude.{◌≡◌, ◌↔◌, true, false, IsNone, IsTrue};
-ghost use Rattle.bitm_bits.specs.Bits.{bits_of};
-ghost use Rattle.bitm_bits.specs.Count.{IsSelect};
+ghost use Rattle.bitm.specs.Bits.{bits_of};
+ghost use Rattle.bitm.specs.Count.{IsSelect};
 ghost use Rattle.bitm.specs.Tables.{HasSizes, HasTables};
 ghost use Rattle.bitm_lent.specs.Sizes.{listed};
 

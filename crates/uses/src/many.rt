@@ -1,7 +1,7 @@
 //! Many selections at once, with their condition tested first.
 ghost use Rattle.std.specs.Prelude.{◌≡◌, ◌<◌, ◌↔◌, true, All, IsTrue, length};
-ghost use Rattle.bitm_bits.specs.Bits.{bits_of};
-ghost use Rattle.bitm_bits.specs.Count.{ones_of};
+ghost use Rattle.bitm.specs.Bits.{bits_of};
+ghost use Rattle.bitm.specs.Count.{ones_of};
 ghost use Rattle.bitm.specs.Many.{PicksEach};
 
 use bitm::{Rank, RankSelect101111, Select0ForRank101111, SelectForRank101111};
@@ -20,7 +20,7 @@ fn all_below(ranks: &[usize], ones: usize) -> bool
 
 /// Writes the places of the ones with these ranks, and says whether each of them has one; where one has none, `places`
 /// stays as it is.
-#[tactic(auto, using(bitm_bits::proofs::Callers::bits_counted))]
+#[tactic(auto, using(bitm::proofs::Callers::bits_counted))]
 pub fn try_select_many<S: SelectForRank101111, S0: Select0ForRank101111>(
     index: &RankSelect101111<S, S0, &[u64]>,
     ranks: &[usize],

@@ -1,6 +1,6 @@
 //! Code that is generic over the vector: what `BitVec` makes is what `AsSlice` lends.
 ghost use Rattle.std.specs.Prelude.{◌≡◌, ◌<◌, false, IfOk};
-ghost use Rattle.bitm_bits.specs.Bits.{bits_of, item};
+ghost use Rattle.bitm.specs.Bits.{bits_of, item};
 
 use bitm::{BitVec, words};
 use std::alloc::AllocError;
@@ -11,7 +11,7 @@ use std::alloc::AllocError;
 /// The place is below the length.
 /// # Errors
 /// `AllocError` where no memory was found.
-#[tactic(auto, using(bitm_bits::proofs::Callers::zeros_are_clear))]
+#[tactic(auto, using(bitm::proofs::Callers::zeros_are_clear))]
 pub fn bit_of_zeros<V: BitVec + Drop>(
     alloc: V::Alloc,
     len: usize,

@@ -1,9 +1,9 @@
 //! An index over a vector of its own: built, and asked for a rank and a selection.
 ghost use Rattle.std.specs.Prelude.{◌≡◌, ◌*◌, ◌<◌, true, length, replicate, IfOk};
 ghost use Rattle.std.specs.Box.{boxed_slice_items};
-ghost use Rattle.bitm_bits.specs.Bits.{bits_of};
-ghost use Rattle.bitm_bits.specs.Count.{IsRank, IsSelect};
-ghost use Rattle.bitm_bits.specs.Number.{with_number};
+ghost use Rattle.bitm.specs.Bits.{bits_of};
+ghost use Rattle.bitm.specs.Count.{IsRank, IsSelect};
+ghost use Rattle.bitm.specs.Number.{with_number};
 
 use bitm::{ArrayWithRank101111, BitVec, Rank, Select, words};
 use std::alloc::{AllocError, Global};

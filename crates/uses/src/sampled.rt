@@ -1,7 +1,7 @@
 //! Samples that lie beside right tables and may be stale: made into memory of one's own, asked, and passed over where
 //! they are of other words.
 ghost use Rattle.std.specs.Prelude.{◌≡◌, true};
-ghost use Rattle.bitm_bits.specs.Count.{IsSelect};
+ghost use Rattle.bitm.specs.Count.{IsSelect};
 ghost use Rattle.bitm.specs.Tables.{HasTables, bits_in};
 ghost use Rattle.bitm_lent.specs.Answers.{IsSelected};
 ghost use Rattle.bitm_lent.specs.Samples.{HasRoom};

@@ -1,8 +1,8 @@
 //! Words and tables that a user keeps, as a source whose reads are counted: rank and selection over it, with their
 //! reads.
 ghost use Rattle.std.specs.Prelude.{◌≡◌, ◌+◌, false, length};
-ghost use Rattle.bitm_bits.specs.Bits.{digit_count};
-ghost use Rattle.bitm_bits.specs.Count.{IsRank, IsSelect};
+ghost use Rattle.bitm.specs.Bits.{digit_count};
+ghost use Rattle.bitm.specs.Count.{IsRank, IsSelect};
 ghost use Rattle.bitm.specs.Reads.{ReadsAtMost};
 ghost use Rattle.bitm.specs.Tables.{IsIndexed, bits_in};
 

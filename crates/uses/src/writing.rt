@@ -3,15 +3,15 @@
 //! The functions of `words` take a slice, so a caller knows what its owner holds afterwards.
 ghost use Rattle.std.specs.Prelude.{◌≡◌, ◌+◌, ◌*◌, ◌^◌, ◌<◌, ◌≤◌, length, true, false, vec_len};
 ghost use Rattle.std.specs.Box.{boxed_slice_items};
-ghost use Rattle.bitm_bits.specs.Bits.{bits_of, item};
-ghost use Rattle.bitm_bits.specs.Number.{with_number};
+ghost use Rattle.bitm.specs.Bits.{bits_of, item};
+ghost use Rattle.bitm.specs.Number.{with_number};
 
 use bitm::words;
 use std::alloc::Global;
 use std::boxed::BoxedSlice;
 
 /// In an array: the bit that was set is one.
-#[tactic(auto, using(bitm_bits::proofs::Callers::after_writes))]
+#[tactic(auto, using(bitm::proofs::Callers::after_writes))]
 pub fn in_an_array() -> bool
     ensures { result ≡ true }
 {
@@ -24,7 +24,7 @@ pub fn in_an_array() -> bool
 ///
 /// # Conditions
 /// There are two words, and the number is below 2^10.
-#[tactic(auto, using(bitm_bits::proofs::Callers::after_writes))]
+#[tactic(auto, using(bitm::proofs::Callers::after_writes))]
 pub fn in_a_boxed_slice(boxed: &mut BoxedSlice<u64, Global>, number: u64) -> u64
     requires words { 2 ≤ length (boxed_slice_items boxed.old) }
     requires fits { number < 2 ^ 10 }
@@ -41,7 +41,7 @@ pub fn in_a_boxed_slice(boxed: &mut BoxedSlice<u64, Global>, number: u64) -> u64
 ///
 /// # Conditions
 /// The bit that is cleared is inside, and the other stands before it.
-#[tactic(auto, using(bitm_bits::proofs::Callers::after_writes))]
+#[tactic(auto, using(bitm::proofs::Callers::after_writes))]
 pub fn in_a_vector(vector: &mut Vec<u64>, cleared: usize, other: usize) -> bool
     requires cleared { cleared < 64 * vec_len vector.old }
     requires other { other < cleared }

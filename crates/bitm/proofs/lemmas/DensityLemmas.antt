@@ -6,7 +6,7 @@ use Rattle.std.proofs.lemmas.Nat.{pow-add}
 use Rattle.std.proofs.lemmas.Bool.{cases_lt}
 use Rattle.std.proofs.lemmas.Bool.Decides.{nat_tests}
 use Rattle.bitm.specs.Density.{log2, optimal, optimal_rare}
-use Rattle.bitm_bits.proofs.lemmas.DigitLemmas.{digit_count_least, digit_count_most}
+use Rattle.bit_lists.proofs.lemmas.DigitLemmas.{digit_count_least, digit_count_most}
 
 -- the logarithm by its two powers
 pub log2_is : (k n : ℕ) → 2 ^ k ≤ n → n < 2 * 2 ^ k → k ≡ log2 n

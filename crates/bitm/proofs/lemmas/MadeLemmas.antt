@@ -6,18 +6,18 @@ use Rattle.std.proofs.lemmas.Nat.{pow_pos, one_shl}
 use Rattle.std.proofs.lemmas.List.FromFn.{map-range_with_len_more}
 use Rattle.std.specs.List.{range_with_len}
 use Rattle.std.specs.Int.{div_ceil}
-use Rattle.bitm_bits.proofs.lemmas.CountLemmas.{ones_before-add-zeros_before}
-use Rattle.bitm_bits.specs.Count.{count_of, ones_before, count_before, kind}
-use Rattle.bitm.specs.Entry.{before_in_part, lower_entry, greatest, FieldsFit}
+use Rattle.bit_lists.proofs.lemmas.CountLemmas.{ones_before-add-zeros_before}
+use Rattle.bit_lists.specs.Count.{count_of, ones_before, count_before, kind}
+use Rattle.bitm_search.specs.Entry.{before_in_part, lower_entry, greatest, FieldsFit}
 use Rattle.bitm.specs.Samples.{Summarizes, part_of, entry_of, sample}
-use Rattle.bitm.specs.Search.{IsLast, IsLastEntry, entries_from, sought}
-use Rattle.bitm.proofs.lemmas.EntryLemmas.{entry-complement, entry-fits}
-use Rattle.bitm.proofs.lemmas.MarkLemmas.{kind_other}
+use Rattle.bitm_search.specs.Search.{IsLast, IsLastEntry, entries_from, sought}
+use Rattle.bitm_search.proofs.lemmas.EntryLemmas.{entry-complement, entry-fits}
+use Rattle.bitm_search.proofs.lemmas.MarkLemmas.{kind_other}
 use Rattle.bitm.proofs.lemmas.PartLemmas.{length-part_of, count_of-part_of, last_same, last_alike, entry_last, count_before-between, count_in_part}
 use Rattle.bitm.proofs.lemmas.SampleLemmas.{ceil_less}
-use Rattle.bitm.proofs.lemmas.SoughtLemmas.{entry_ones, entry_zeros}
-use Rattle.bitm.proofs.lemmas.StretchLemmas.{ones_before-between}
-use Rattle.bitm.proofs.lemmas.TableLemmas.{HasEntries, entries}
+use Rattle.bitm_search.proofs.lemmas.SoughtLemmas.{entry_ones, entry_zeros}
+use Rattle.bitm_search.proofs.lemmas.StretchLemmas.{ones_before-between}
+use Rattle.bitm_search.proofs.lemmas.TableLemmas.{HasEntries, entries}
 
 -- ---- zeros and ones
 

@@ -4,17 +4,17 @@ use Rattle.std.proofs.lemmas.Bool.{cases_lt}
 use Rattle.std.proofs.lemmas.List.{take-take}
 use Rattle.std.proofs.lemmas.List.Sums.{sum_by-append}
 use Rattle.std.specs.Int.{div_ceil}
-use Rattle.bitm_bits.proofs.lemmas.CountLemmas.{ones_before_more, zeros_before_more}
-use Rattle.bitm_bits.proofs.lemmas.PickLemmas.{Picks-places, length-places}
-use Rattle.bitm_bits.proofs.lemmas.WordLemmas.{truth}
-use Rattle.bitm_bits.specs.Bits.{item}
-use Rattle.bitm_bits.specs.Count.{count_of, ones_before, zeros_before, count_before, Picks}
-use Rattle.bitm.specs.Entry.{before_in_part}
+use Rattle.bit_lists.proofs.lemmas.CountLemmas.{ones_before_more, zeros_before_more}
+use Rattle.bit_lists.proofs.lemmas.PickLemmas.{Picks-places, length-places}
+use Rattle.bit_lists.proofs.lemmas.WordLemmas.{truth}
+use Rattle.bit_lists.specs.Bits.{item}
+use Rattle.bit_lists.specs.Count.{count_of, ones_before, zeros_before, count_before, Picks}
+use Rattle.bitm_search.specs.Entry.{before_in_part}
 use Rattle.bitm.specs.Samples.{part_of, place, entry_of}
-use Rattle.bitm.specs.Search.{IsLast, sought, negated}
-use Rattle.bitm.proofs.lemmas.EntryLemmas.{ones_before-negated}
-use Rattle.bitm.proofs.lemmas.MarkLemmas.{count_before-sought}
-use Rattle.bitm.proofs.lemmas.StretchLemmas.{ones_before-between}
+use Rattle.bitm_search.specs.Search.{IsLast, sought, negated}
+use Rattle.bitm_search.proofs.lemmas.EntryLemmas.{ones_before-negated}
+use Rattle.bitm_search.proofs.lemmas.MarkLemmas.{count_before-sought}
+use Rattle.bitm_search.proofs.lemmas.StretchLemmas.{ones_before-between}
 
 -- ---- counting
 

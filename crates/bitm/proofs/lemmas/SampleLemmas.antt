@@ -10,7 +10,7 @@ use Rattle.std.proofs.lemmas.Bool.{cases_lt, eqb-true}
 use borrow.Author.Tests.{ltb-true}
 use Rattle.std.specs.Int.{div_ceil}
 use Rattle.std.specs.List.{range_with_len}
-use Rattle.bitm_bits.specs.Count.{count_of, count_before}
+use Rattle.bit_lists.specs.Count.{count_of, count_before}
 use Rattle.bitm.specs.Samples.{part_of, parts, entry_of, distance, sample, intervals, part_samples, first_item, walk_start, samples_of_parts, sample_count_before, samples_of, sample_starts_of}
 use Rattle.bitm.proofs.lemmas.PartLemmas.{entry_last, last_least, count_before-between}
 

@@ -1,11 +1,11 @@
 //! Many queries of an index at once.
 ghost use Rattle.std.specs.Prelude.{◌≡◌, ◌<◌, ◌≤◌, true, false, All, length};
-ghost use Rattle.bitm_bits.specs.Bits.{bits_of};
-ghost use Rattle.bitm_bits.specs.Count.{ones_of, zeros_of};
-ghost use Rattle.bitm.specs.Many.{RanksEach, PicksEach};
+ghost use Rattle.bit_lists.specs.Bits.{bits_of};
+ghost use Rattle.bit_lists.specs.Count.{ones_of, zeros_of};
+ghost use Rattle.bitm_search.specs.Many.{RanksEach, PicksEach};
 
 use crate::index::RankSelect101111;
-use crate::search::many::{rank_many_on, select_many_on};
+use bitm_search::search::many::{rank_many_on, select_many_on};
 use crate::strategies::traits::{Select0ForRank101111, SelectForRank101111};
 use std::convert::AsSlice;
 

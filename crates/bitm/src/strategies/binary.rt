@@ -1,12 +1,12 @@
 //! Selection by binary search in the two tables, with nothing kept beside them.
 ghost use Rattle.std.specs.Prelude.{◌≡◌, ◌+◌, length, true, false, IsOk, IfOk};
-ghost use Rattle.bitm_bits.specs.Bits.{bits_of, digit_count, IsShort};
-ghost use Rattle.bitm_bits.specs.Count.{ones_of, IsSelect};
-ghost use Rattle.bitm.specs.Reads.{OnlyReads};
-ghost use Rattle.bitm.specs.Tables.{AreTablesOf, IsIndexed, bits_in};
+ghost use Rattle.bit_lists.specs.Bits.{bits_of, digit_count, IsShort};
+ghost use Rattle.bit_lists.specs.Count.{ones_of, IsSelect};
+ghost use Rattle.bitm_search.specs.Reads.{OnlyReads};
+ghost use Rattle.bitm_search.specs.Tables.{AreTablesOf, IsIndexed, bits_in};
 
-use crate::search::selecting::binary_select_on;
-use crate::source::{Probe, TableSource};
+use bitm_search::search::selecting::binary_select_on;
+use bitm_search::source::{Probe, TableSource};
 use crate::strategies::traits::{Select0ForRank101111, SelectForRank101111};
 use bitm_bits::GetSize;
 use std::alloc::{AllocError, Global};

@@ -1,12 +1,12 @@
 //! Selection by samples: what is kept, how it is made, and the strategy of both kinds.
 ghost use Rattle.std.specs.Prelude.{◌≡◌, ◌+◌, ◌*◌, ℕ, Bool, List, length, true, false, IfOk};
-ghost use Rattle.bitm_bits.specs.Bits.{bits_of, IsShort};
-ghost use Rattle.bitm_bits.specs.Count.{ones_of, kind, IsSelect};
+ghost use Rattle.bit_lists.specs.Bits.{bits_of, IsShort};
+ghost use Rattle.bit_lists.specs.Count.{ones_of, kind, IsSelect};
 ghost use Rattle.bitm_bits.specs.Size.{saturated};
 ghost use Rattle.bitm.specs.Samples.{SampledReads, Supported, IsSampleCount};
-ghost use Rattle.bitm.specs.Tables.{AreTablesOf, HasTables, bits_in};
+ghost use Rattle.bitm_search.specs.Tables.{AreTablesOf, HasTables, bits_in};
 
-use crate::source::{Probe, TableSource};
+use bitm_search::source::{Probe, TableSource};
 use crate::strategies::density::CombinedSamplingDensity;
 use crate::strategies::sampled::sampled_select_on;
 use crate::strategies::samples::{Summary, items_among, make_samples};

@@ -1,6 +1,6 @@
 //! How many items one sample stands for.
 ghost use Rattle.std.specs.Prelude.{◌≡◌, ℕ, ◌-◌, ◌/◌, ◌^◌, ◌≤◌};
-ghost use Rattle.bitm_bits.specs.Bits.{digit};
+ghost use Rattle.bit_lists.specs.Bits.{digit};
 ghost use Rattle.bitm.specs.Density.{optimal, within};
 ghost use Rattle.std.proofs.Common.{rules};
 

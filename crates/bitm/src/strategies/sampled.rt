@@ -1,18 +1,18 @@
 //! Selection that starts at a sample, over a source, with a bound on its reads.
 ghost use Rattle.std.specs.Prelude.{◌≡◌, ◌+◌, ◌-◌, ◌*◌, ◌/◌, ◌%◌, ◌^◌, ◌<◌, ◌≤◌, length, if◌then◌else◌};
-ghost use Rattle.bitm_bits.specs.Bits.{bits_of, digit, digit_count, IsShort};
-ghost use Rattle.bitm_bits.specs.Count.{kind, ones_before, IsSelect};
-ghost use Rattle.bitm.specs.Reads.{ReadsAtMost};
+ghost use Rattle.bit_lists.specs.Bits.{bits_of, digit, digit_count, IsShort};
+ghost use Rattle.bit_lists.specs.Count.{kind, ones_before, IsSelect};
+ghost use Rattle.bitm_search.specs.Reads.{ReadsAtMost};
 ghost use Rattle.bitm.specs.Samples.{parts, samples_of, sample_count_before, sample_starts_of, SampledReads};
-ghost use Rattle.bitm.specs.Search.{sought_in, IsLastPart};
-ghost use Rattle.bitm.specs.Tables.{HasTables};
-ghost use Rattle.bitm.specs.declared.source.counts.ReadCounts.{ReadCounts};
+ghost use Rattle.bitm_search.specs.Search.{sought_in, IsLastPart};
+ghost use Rattle.bitm_search.specs.Tables.{HasTables};
+ghost use Rattle.bitm_search.specs.declared.source.counts.ReadCounts.{ReadCounts};
 
-use crate::search::record::in_packed;
-use crate::search::selected::found;
-use crate::search::selecting::{before_part, last_part};
-use crate::search::walking::walk;
-use crate::source::TableSource;
+use bitm_search::search::record::in_packed;
+use bitm_search::search::selected::found;
+use bitm_search::search::selecting::{before_part, last_part};
+use crate::strategies::walking::walk;
+use bitm_search::source::TableSource;
 
 /// The entry at which a sample lets the selection of this rank begin, counted in its part, where a sample stands for
 /// 2^`log2` items.

@@ -17,14 +17,14 @@
 //! The tables may hold anything: where they are not those of some bits, the samples are some numbers.
 ghost use Rattle.std.specs.Prelude.{◌≡◌, ◌+◌, ◌-◌, ◌*◌, ◌^◌, ◌<◌, ◌≤◌, ◌++◌, Bool, List, length, min, IfOk};
 ghost use Rattle.std.specs.Box.{boxed_slice_items};
-ghost use Rattle.bitm_bits.specs.Count.{count_of, ones_before, ones_of, kind};
-ghost use Rattle.bitm.specs.Entry.{lower_entry};
+ghost use Rattle.bit_lists.specs.Count.{count_of, ones_before, ones_of, kind};
+ghost use Rattle.bitm_search.specs.Entry.{lower_entry};
 ghost use Rattle.bitm.specs.Samples.{IsSized, IsSummaryOf, part_of, sample};
 ghost use Rattle.bitm.specs.Samples.{intervals, part_samples, samples_of, sample_starts_of};
-ghost use Rattle.bitm.specs.Search.{IsLastEntry, entries_from, items_to, sought};
+ghost use Rattle.bitm_search.specs.Search.{IsLastEntry, entries_from, items_to, sought};
 
-use crate::entry::{entries_of_part, negated_entry, ones_to_entry};
-use crate::levels::L2_ENTRIES_PER_L1_ENTRY;
+use bitm_search::entry::{entries_of_part, negated_entry, ones_to_entry};
+use bitm_search::levels::L2_ENTRIES_PER_L1_ENTRY;
 use std::alloc::{AllocError, Global};
 use std::boxed::BoxedSlice;
 

@@ -5,12 +5,12 @@ use Rattle.std.proofs.lemmas.List.{length-replicate, get_or-replicate, get_or_pa
 use Rattle.std.proofs.lemmas.Nat.{pow_pos}
 use Rattle.std.proofs.lemmas.Nat.Bits.{same_from_bits_below, bit_at-zero}
 use Rattle.std.specs.Int.{div_ceil}
-use Rattle.bitm_bits.proofs.lemmas.BitsLemmas.{length-bits_of, item-bits_of_at}
-use Rattle.bitm_bits.proofs.lemmas.NumberLemmas.{number_at-lt, bit_at-number_at, item-with_number_above, number_at-with_number}
-use Rattle.bitm_bits.proofs.lemmas.SwapLemmas.{number_at-with_number_apart}
-use Rattle.bitm_bits.proofs.lemmas.WordLemmas.{truth}
-use Rattle.bitm_bits.specs.Bits.{digit, bits_of, item}
-use Rattle.bitm_bits.specs.Number.{number_at, with_number}
+use Rattle.bit_lists.proofs.lemmas.BitsLemmas.{length-bits_of, item-bits_of_at}
+use Rattle.bit_lists.proofs.lemmas.NumberLemmas.{number_at-lt, bit_at-number_at, item-with_number_above, number_at-with_number}
+use Rattle.bit_lists.proofs.lemmas.SwapLemmas.{number_at-with_number_apart}
+use Rattle.bit_lists.proofs.lemmas.WordLemmas.{truth}
+use Rattle.bit_lists.specs.Bits.{digit, bits_of, item}
+use Rattle.bit_lists.specs.Number.{number_at, with_number}
 
 -- the first i fragments of width s are word, and the bits after them are zeros
 pub record IsRun (words : List ℕ) (word s i : ℕ) : Type 0 where

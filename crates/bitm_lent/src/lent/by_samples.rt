@@ -1,17 +1,19 @@
 //! Samples of lent words, and selection by them.
 ghost use Rattle.std.specs.Prelude.{◌≡◌, ◌<◌, ◌≤◌, ℕ, length, slice_index, take, IfSome, IsNone, MatchOption, true, false};
-ghost use Rattle.bitm_bits.specs.Count.{kind};
+ghost use Rattle.bit_lists.specs.Count.{kind};
 ghost use Rattle.bitm.specs.Density.{within};
-ghost use Rattle.bitm.specs.Tables.{HasSizes, HasTables, bits_in};
-ghost use Rattle.bitm.specs.Answers.{HasBit, IsSelected};
+ghost use Rattle.bitm_search.specs.Tables.{HasSizes, HasTables, bits_in};
+ghost use Rattle.bitm_search.specs.Answers.{HasBit, IsSelected};
 ghost use Rattle.bitm_lent.specs.Samples.{AreSamples, AreSamplesOf, HasRoom, IsSelectedIfTold};
 
 use crate::lent::Lent;
 use crate::sampled::sampled_select_on;
 use crate::samples::{Density, LentSamples, samples_len};
 use crate::sampling::fill_all;
-use bitm::building::Summary;
-use bitm::{CombinedSamplingDensity, Probe, Selected};
+use bitm::CombinedSamplingDensity;
+use bitm::samples::Summary;
+use bitm_search::search::selected::Selected;
+use bitm_search::source::Probe;
 
 impl<'a> Lent<'a> {
     /// Writes the samples of ones, one for each 2^`log2` of a part, and how many there are before each part, and

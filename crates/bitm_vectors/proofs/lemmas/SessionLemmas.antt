@@ -6,8 +6,8 @@ use Rattle.std.proofs.lemmas.Grind.{flat_map-append}
 use Rattle.std.proofs.lemmas.List.Folds.{list_all-append}
 use Rattle.std.specs.Io.KnownBytes.{Appends}
 use Rattle.std.specs.List.{list_all}
-use Rattle.bitm_bits.proofs.lemmas.BitsLemmas.{length-bits_of, bits_of-nil}
-use Rattle.bitm_bits.specs.Bits.{bits_of}
+use Rattle.bitm.proofs.Callers.{length-bits_of, bits_of-nil}
+use Rattle.bitm.specs.Bits.{bits_of}
 use Rattle.bitm_vectors.specs.Answer.{answer_text, text_of, is_good}
 use Rattle.bitm_vectors.specs.Request.{request_of}
 use Rattle.bitm_vectors.specs.Session.{State, start, Step, Answers, Wrote, changed}

@@ -6,10 +6,10 @@ use Rattle.std.proofs.lemmas.Nat.{div-add-mod', pow_pos}
 use Rattle.std.proofs.Math.Nat.{mul-le-mul_right, mod-lt}
 use Rattle.std.specs.List.{All}
 use Rattle.std.specs.List.Sorted.{IsNonDecreasing}
-use Rattle.bitm_bits.specs.Bits.{bits_of, item}
-use Rattle.bitm_bits.specs.Count.{ones_before, zeros_before, is_same, Picks}
-use Rattle.bitm_bits.specs.Laws.{OnesAndZeros}
-use Rattle.bitm_bits.specs.Number.{number_at}
+use Rattle.bitm.specs.Bits.{bits_of, item}
+use Rattle.bitm.specs.Count.{ones_before, zeros_before, is_same, Picks}
+use Rattle.bitm.specs.Laws.{OnesAndZeros}
+use Rattle.bitm.specs.Number.{number_at}
 use Rattle.elias_fano.proofs.lemmas.SplitLemmas.{Splits-same}
 use Rattle.elias_fano.proofs.lemmas.UpperLemmas.{one_is, ones_are}
 use Rattle.elias_fano.specs.Buckets.{CountsTo, CountsBelow, Splits}

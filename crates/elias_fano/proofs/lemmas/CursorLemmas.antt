@@ -4,8 +4,8 @@ use Rattle.std.proofs.Math.Seq.{drop-cons, take-add}
 use Rattle.std.proofs.lemmas.Bool.{cases_lt, false≢true}
 use Rattle.std.proofs.lemmas.List.{get_or-drop}
 use Rattle.std.specs.List.Sorted.{IsNonDecreasing}
-use Rattle.bitm_bits.specs.Bits.{bits_of, item}
-use Rattle.bitm_bits.specs.Count.{ones_before, is_same, Picks, IsFirstOneFrom, IsLastOneTo}
+use Rattle.bitm.specs.Bits.{bits_of, item}
+use Rattle.bitm.specs.Count.{ones_before, is_same, Picks, IsFirstOneFrom, IsLastOneTo}
 use Rattle.elias_fano.proofs.lemmas.ItemLemmas.{items_of-is}
 use Rattle.elias_fano.proofs.lemmas.UpperLemmas.{one_is, place_is, ones_are, upper_place-le, upper_place-rises, upper_place-inside}
 use Rattle.elias_fano.specs.Laws.{BitLaws}

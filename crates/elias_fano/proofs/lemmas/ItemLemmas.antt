@@ -4,11 +4,11 @@ use Rattle.std.proofs.lemmas.Grind.{same_number_lists}
 use Rattle.std.proofs.lemmas.List.FromFn.{length-map-range_with_len, get_or-map-range_with_len}
 use Rattle.std.proofs.lemmas.Nat.{div-add-mod'}
 use Rattle.std.specs.Int.{div_ceil}
-use Rattle.bitm_bits.specs.Bits.{bits_of, IsShort}
-use Rattle.bitm_bits.specs.Count.{places, Picks}
-use Rattle.bitm_bits.specs.Laws.{DigitsBoundPowers}
-use Rattle.bitm_bits.specs.Number.{number_at}
-use Rattle.bitm_bits.specs.WriteLaws.{NoItemsAreZero}
+use Rattle.bitm.specs.Bits.{bits_of, IsShort}
+use Rattle.bitm.specs.Count.{places, Picks}
+use Rattle.bitm.specs.Laws.{DigitsBoundPowers}
+use Rattle.bitm.specs.Number.{number_at}
+use Rattle.bitm.specs.WriteLaws.{NoItemsAreZero}
 use Rattle.bitm.specs.Tables.{Lists}
 use Rattle.elias_fano.specs.Held.{held, HasLengths}
 use Rattle.elias_fano.specs.Laws.{BitLaws}

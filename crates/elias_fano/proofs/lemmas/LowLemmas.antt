@@ -3,8 +3,8 @@ use Rattle.std.proofs.Common.{◌≡◌, ℕ, ◌+◌, ◌*◌, ◌%◌, ◌^◌
 use Rattle.std.proofs.lemmas.List.{length-replicate}
 use Rattle.std.proofs.lemmas.Bool.{cases_lt}
 use Rattle.std.proofs.lemmas.Nat.{pow_pos}
-use Rattle.bitm_bits.specs.Bits.{bits_of, item}
-use Rattle.bitm_bits.specs.Number.{number_at, with_number}
+use Rattle.bitm.specs.Bits.{bits_of, item}
+use Rattle.bitm.specs.Number.{number_at, with_number}
 use Rattle.elias_fano.specs.Laws.{BitLaws}
 use Rattle.elias_fano.specs.Parts.{low_words_of, IsLow}
 

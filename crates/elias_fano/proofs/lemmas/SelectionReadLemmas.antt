@@ -2,9 +2,9 @@
 use Rattle.std.proofs.Common.{◌≡◌, ℕ, ◌*◌, ◌/◌, ◌<◌, ◌≤◌, arith}
 use Rattle.std.proofs.Math.Nat.{mul-le-mul_right}
 use Rattle.bitm.specs.Reads.{ReadsAtMost}
-use Rattle.bitm.specs.declared.source.counts.ReadCounts.{ReadCounts}
-use Rattle.bitm_bits.specs.Bits.{digit_count}
-use Rattle.bitm_bits.specs.Laws.{DigitsBoundPowers}
+use Rattle.bitm.specs.ReadCounts.{ReadCounts}
+use Rattle.bitm.specs.Bits.{digit_count}
+use Rattle.bitm.specs.Laws.{DigitsBoundPowers}
 use Rattle.elias_fano.proofs.lemmas.SizeLemmas.{digit_count-half}
 
 -- one selection is no more than two

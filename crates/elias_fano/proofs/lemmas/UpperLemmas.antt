@@ -5,10 +5,10 @@ use Rattle.std.proofs.lemmas.List.FromFn.{map-range_with_len_more, length-map-ra
 use Rattle.std.proofs.lemmas.List.{length-replicate}
 use Rattle.std.proofs.lemmas.Nat.{pow_pos, le-div}
 use Rattle.std.specs.List.Sorted.{IsNonDecreasing}
-use Rattle.bitm_bits.specs.Bits.{bits_of, item}
-use Rattle.bitm_bits.specs.Count.{ones_before, Picks, places}
-use Rattle.bitm_bits.specs.Laws.{AtMostOnePicked, PlacesArePicked, PlacesAreCounted}
-use Rattle.bitm_bits.specs.Number.{with_number}
+use Rattle.bitm.specs.Bits.{bits_of, item}
+use Rattle.bitm.specs.Count.{ones_before, Picks, places}
+use Rattle.bitm.specs.Laws.{AtMostOnePicked, PlacesArePicked, PlacesAreCounted}
+use Rattle.bitm.specs.Number.{with_number}
 use Rattle.elias_fano.specs.Laws.{BitLaws}
 use Rattle.elias_fano.specs.Parts.{upper_place, upper_places, upper_words_of, IsUpper}
 

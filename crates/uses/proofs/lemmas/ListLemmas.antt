@@ -3,8 +3,8 @@ use Rattle.std.proofs.Common.{◌≡◌, ℕ, Bool, Option, Some, None, List, su
 use Rattle.std.specs.List.{slice_get}
 use Rattle.std.specs.Option.{option_map}
 use Rattle.std.proofs.lemmas.Option.{slice_get_within, slice_get_cases, get_or_from_slice_get}
-use Rattle.bitm_bits.proofs.lemmas.PickLemmas.{Picks-places, length-places}
-use Rattle.bitm_bits.specs.Count.{places, Picks, IsSelect}
+use Rattle.bitm.proofs.Callers.{Picks-places, length-places}
+use Rattle.bitm.specs.Count.{places, Picks, IsSelect}
 
 -- item r of the places is what rank r picks
 pub IsSelect-item : (b : List Bool) (v : Bool) (r : ℕ) (o : Option ℕ) → option_map (λ x. x) o ≡ slice_get (places v 0 b) r → IsSelect b v r o

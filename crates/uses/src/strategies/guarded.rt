@@ -1,7 +1,7 @@
 //! Selection by another strategy, which is asked only where there is an answer, with a count of the questions.
 ghost use Rattle.std.specs.Prelude.{◌≡◌, length};
-ghost use Rattle.bitm_bits.specs.Bits.{bits_of};
-ghost use Rattle.bitm_bits.specs.Count.{ones_before, zeros_before};
+ghost use Rattle.bitm.specs.Bits.{bits_of};
+ghost use Rattle.bitm.specs.Count.{ones_before, zeros_before};
 
 use bitm::{Select0ForRank101111, SelectForRank101111};
 use std::alloc::{AllocError, Global};

@@ -1,7 +1,7 @@
 //! Selection by a list of all places.
 ghost use Rattle.std.specs.Prelude.{◌≡◌, Bool, List, true, false, IfOk};
-ghost use Rattle.bitm_bits.specs.Bits.{bits_of, IsShort};
-ghost use Rattle.bitm_bits.specs.Count.{kind, places, IsSelect};
+ghost use Rattle.bitm.specs.Bits.{bits_of, IsShort};
+ghost use Rattle.bitm.specs.Count.{kind, places, IsSelect};
 
 use bitm::{BitBIterator, Select0ForRank101111, SelectForRank101111};
 use std::alloc::{AllocError, Global};

@@ -1,7 +1,7 @@
 //! Selection by a walk over the content.
 ghost use Rattle.std.specs.Prelude.{true, false};
-ghost use Rattle.bitm_bits.specs.Bits.{bits_of, IsShort};
-ghost use Rattle.bitm_bits.specs.Count.{kind, IsSelect};
+ghost use Rattle.bitm.specs.Bits.{bits_of, IsShort};
+ghost use Rattle.bitm.specs.Count.{kind, IsSelect};
 
 use bitm::{BitBIterator, Select0ForRank101111, SelectForRank101111};
 use std::alloc::{AllocError, Global};

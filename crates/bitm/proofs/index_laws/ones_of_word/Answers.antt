@@ -1,4 +1,4 @@
-use Rattle.bitm.proofs.lemmas.InWordLemmas.{ones_of_word}
+use Rattle.broadword.proofs.lemmas.InWordLemmas.{ones_of_word}
 use Rattle.bitm.proofs.index_laws.ones_of_word.Goals as goal
 
 pub returns : goal.returns

@@ -1,7 +1,7 @@
 use Rattle.std.proofs.Common.{◌≡◌, ◌*◌, map}
 use Rattle.std.specs.List.{range_with_len}
-use Rattle.bitm_bits.specs.Bits.{bits_of}
-use Rattle.bitm_bits.specs.Count.{ones_before}
+use Rattle.bit_lists.specs.Bits.{bits_of}
+use Rattle.bit_lists.specs.Count.{ones_before}
 use Rattle.bitm.proofs.simple.make.Given as goal
 
 -- the entries up to this run, and the ones before it

@@ -1,7 +1,7 @@
 -- A run is a record of eight words.
 use Rattle.std.proofs.Common.{◌≡◌, ◌+◌, ◌*◌, ap, arith}
-use Rattle.bitm_bits.specs.Bits.{bits_of}
-use Rattle.bitm_bits.specs.Count.{ones_before}
+use Rattle.bit_lists.specs.Bits.{bits_of}
+use Rattle.bit_lists.specs.Count.{ones_before}
 use Rattle.bitm.proofs.simple.ones_of_run.Goals as goal
 
 pub returns : goal.returns

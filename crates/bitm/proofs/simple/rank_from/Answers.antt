@@ -1,8 +1,8 @@
 -- What is counted on the way to the place is at most all ones, which fit.
 use Rattle.std.proofs.Common.{◌≡◌, ℕ, ◌+◌, ◌*◌, ◌/◌, subst, arith, rules}
-use Rattle.bitm_bits.specs.Bits.{bits_of}
-use Rattle.bitm_bits.specs.Count.{ones_before}
-use Rattle.bitm.specs.Tables.{Lists}
+use Rattle.bit_lists.specs.Bits.{bits_of}
+use Rattle.bit_lists.specs.Count.{ones_before}
+use Rattle.bitm_search.specs.Tables.{Lists}
 use Rattle.bitm.proofs.lemmas.SimpleLemmas.{counts_through}
 use Rattle.bitm.proofs.simple.rank_from.Goals as goal
 

@@ -1,10 +1,10 @@
 -- Each part is made anew and compared; whole tables are those of the words.
 use Rattle.std.proofs.Common.{◌≡◌, ◌+◌, ◌*◌, ◌^◌, length, min, sym, ◌∙◌, arith, rules}
 use Rattle.std.specs.Int.{div_ceil}
-use Rattle.bitm_bits.proofs.lemmas.CountLemmas.{ones_before_none, few_ones, ones_before-at_most_all}
-use Rattle.bitm_bits.specs.Bits.{bits_of}
-use Rattle.bitm.proofs.lemmas.TableLemmas.{entries}
-use Rattle.bitm.proofs.lemmas.TableMakingLemmas.{all_entries_made}
+use Rattle.bit_lists.proofs.lemmas.CountLemmas.{ones_before_none, few_ones, ones_before-at_most_all}
+use Rattle.bit_lists.specs.Bits.{bits_of}
+use Rattle.bitm_search.proofs.lemmas.TableLemmas.{entries}
+use Rattle.bitm_search.proofs.lemmas.TableMakingLemmas.{all_entries_made}
 use Rattle.bitm_lent.proofs.FilledLemmas.{tables_filled}
 use Rattle.bitm_lent.proofs.checking.are_tables.Goals as goal
 

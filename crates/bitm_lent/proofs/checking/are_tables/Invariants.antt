@@ -1,8 +1,8 @@
 use Rattle.std.proofs.Common.{◌≡◌, ◌*◌, ◌^◌, length, min}
 use Rattle.std.specs.Int.{div_ceil}
-use Rattle.bitm_bits.specs.Bits.{bits_of}
-use Rattle.bitm_bits.specs.Count.{ones_before}
-use Rattle.bitm.specs.Entry.{lower_entry}
+use Rattle.bit_lists.specs.Bits.{bits_of}
+use Rattle.bit_lists.specs.Count.{ones_before}
+use Rattle.bitm_search.specs.Entry.{lower_entry}
 use Rattle.bitm_lent.specs.Sizes.{IsFilled}
 use Rattle.bitm_lent.proofs.checking.are_tables.Given as goal
 

@@ -1,10 +1,10 @@
 -- The entries of the part are made anew, and the first one that differs is wrong.
 use Rattle.std.proofs.Common.{◌≡◌, ◌+◌, ◌*◌, ◌^◌, length, min, sym, ◌∙◌, arith}
 use Rattle.std.specs.Int.{div_ceil}
-use Rattle.bitm_bits.specs.Bits.{bits_of}
-use Rattle.bitm_bits.proofs.lemmas.CountLemmas.{few_ones, ones_before-at_most_all}
-use Rattle.bitm.proofs.lemmas.TableLemmas.{entries}
-use Rattle.bitm.proofs.lemmas.TableMakingLemmas.{part_ended, part_begun}
+use Rattle.bit_lists.specs.Bits.{bits_of}
+use Rattle.bit_lists.proofs.lemmas.CountLemmas.{few_ones, ones_before-at_most_all}
+use Rattle.bitm_search.proofs.lemmas.TableLemmas.{entries}
+use Rattle.bitm_search.proofs.lemmas.TableMakingLemmas.{part_ended, part_begun}
 use Rattle.bitm_lent.proofs.checking.ones_of_part.Goals as goal
 
 pub returns-then-lower-at-clause-wrong : goal.returns-then-lower-at-clause-wrong

@@ -1,10 +1,10 @@
 -- The parts follow one another: each has its upper entry, its lower entries and its ones.
 use Rattle.std.proofs.Common.{◌≡◌, ◌+◌, ◌*◌, ◌^◌, length, min, sym, ◌∙◌, arith}
 use Rattle.std.specs.Int.{div_ceil}
-use Rattle.bitm_bits.proofs.lemmas.BitsLemmas.{length-bits_of}
-use Rattle.bitm_bits.proofs.lemmas.CountLemmas.{ones_before_none, ones_before_past, few_ones, ones_before-at_most_all}
-use Rattle.bitm_bits.specs.Bits.{bits_of}
-use Rattle.bitm.proofs.lemmas.TableMakingLemmas.{all_parts, all_entries_made}
+use Rattle.bit_lists.proofs.lemmas.BitsLemmas.{length-bits_of}
+use Rattle.bit_lists.proofs.lemmas.CountLemmas.{ones_before_none, ones_before_past, few_ones, ones_before-at_most_all}
+use Rattle.bit_lists.specs.Bits.{bits_of}
+use Rattle.bitm_search.proofs.lemmas.TableMakingLemmas.{all_parts, all_entries_made}
 use Rattle.bitm_lent.proofs.FilledLemmas.{tables_filled}
 use Rattle.bitm_lent.proofs.filling.fill.Goals as goal
 

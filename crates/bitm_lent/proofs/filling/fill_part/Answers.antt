@@ -1,9 +1,9 @@
 -- Each entry begins where the one before it ends, and the last one ends with the part or with the words.
 use Rattle.std.proofs.Common.{◌≡◌, ◌+◌, ◌*◌, ◌^◌, length, min, ◌∙◌, arith}
 use Rattle.std.specs.Int.{div_ceil}
-use Rattle.bitm_bits.specs.Bits.{bits_of}
-use Rattle.bitm_bits.proofs.lemmas.CountLemmas.{few_ones, ones_before-at_most_all}
-use Rattle.bitm.proofs.lemmas.TableMakingLemmas.{part_ended, part_begun}
+use Rattle.bit_lists.specs.Bits.{bits_of}
+use Rattle.bit_lists.proofs.lemmas.CountLemmas.{few_ones, ones_before-at_most_all}
+use Rattle.bitm_search.proofs.lemmas.TableMakingLemmas.{part_ended, part_begun}
 use Rattle.bitm_lent.proofs.filling.fill_part.Goals as goal
 
 pub overflow_add-in_part : goal.overflow_add-in_part

@@ -1,6 +1,6 @@
 use Rattle.std.proofs.Common.{ℕ, ◌<◌, slice_index}
-use Rattle.bitm_bits.specs.Count.{kind}
-use Rattle.bitm.specs.Answers.{SelectTold}
+use Rattle.bit_lists.specs.Count.{kind}
+use Rattle.bitm_search.specs.Answers.{SelectTold}
 use Rattle.bitm_lent.proofs.lists.select_each.Given as goal
 
 -- the answers so far

@@ -1,5 +1,5 @@
 -- What is told of the selection.
-use Rattle.bitm.proofs.lemmas.SelectedLemmas.{told_is}
+use Rattle.bitm_search.proofs.lemmas.SelectedLemmas.{told_is}
 use Rattle.bitm_lent.proofs.lists.selected.Goals as goal
 
 pub returns : goal.returns

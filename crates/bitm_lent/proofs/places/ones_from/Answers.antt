@@ -1,10 +1,10 @@
 -- Each search goes on behind the place that was found, and finds the next one.
 use Rattle.std.proofs.Common.{◌≢◌, ◌+◌, true, ◌∙◌, arith}
 use Rattle.std.proofs.lemmas.List.{get_or-set_other}
-use Rattle.bitm_bits.proofs.lemmas.BitsLemmas.{length-bits_of}
-use Rattle.bitm_bits.proofs.lemmas.CountLemmas.{ones_before-at_most_all}
-use Rattle.bitm_bits.specs.Bits.{bits_of}
-use Rattle.bitm_bits.specs.Count.{ones_before, Picks}
+use Rattle.bit_lists.proofs.lemmas.BitsLemmas.{length-bits_of}
+use Rattle.bit_lists.proofs.lemmas.CountLemmas.{ones_before-at_most_all}
+use Rattle.bit_lists.specs.Bits.{bits_of}
+use Rattle.bit_lists.specs.Count.{ones_before, Picks}
 use Rattle.bitm_lent.proofs.FilledLemmas.{placed_more}
 use Rattle.bitm_lent.proofs.OnesFromLemmas.{first_picked, next_counts, none_follows}
 use Rattle.bitm_lent.proofs.places.ones_from.Goals as goal

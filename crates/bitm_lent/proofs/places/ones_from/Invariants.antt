@@ -1,6 +1,6 @@
 use Rattle.std.proofs.Common.{ℕ, ◌≡◌, ◌+◌, ◌<◌, ◌≤◌, slice_index, true}
-use Rattle.bitm_bits.specs.Bits.{bits_of}
-use Rattle.bitm_bits.specs.Count.{ones_before, Picks}
+use Rattle.bit_lists.specs.Bits.{bits_of}
+use Rattle.bit_lists.specs.Count.{ones_before, Picks}
 use Rattle.bitm_lent.proofs.places.ones_from.Given as goal
 
 -- the places so far, and as many ones before the next search

@@ -1,7 +1,7 @@
 -- What the entry packs counts what stands before it.
 use Rattle.std.proofs.Common.{◌+◌, ◌*◌, ◌^◌, arith}
-use Rattle.bitm.specs.Search.{sought_in}
-use Rattle.bitm.proofs.lemmas.SoughtLemmas.{low_is}
+use Rattle.bitm_search.specs.Search.{sought_in}
+use Rattle.bitm_search.proofs.lemmas.SoughtLemmas.{low_is}
 use Rattle.bitm_lent.proofs.sampled.begun_by.Goals as goal
 
 pub returns-then-ones_to_entry-rank-clause-begun : goal.returns-then-ones_to_entry-rank-clause-begun

@@ -1,7 +1,7 @@
 -- The samples of the rank's interval and of the next one say between which entries it is.
 use Rattle.std.proofs.Common.{◌≡◌, ℕ, ◌+◌, ◌-◌, ◌/◌, ◌%◌, ◌^◌, ◌<◌, Bool, List, if◌then◌else◌, length, ap, subst, sym, ◌∙◌, arith}
 use Rattle.std.specs.Int.{div_ceil}
-use Rattle.bitm_bits.specs.Bits.{digit}
+use Rattle.bit_lists.specs.Bits.{digit}
 use Rattle.bitm.specs.Density.{within}
 use Rattle.bitm.specs.Samples.{part_of, parts}
 use Rattle.bitm_lent.specs.Samples.{AreSamplesOf, IsBounded}

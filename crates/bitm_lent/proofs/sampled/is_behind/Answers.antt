@@ -1,8 +1,8 @@
 -- What the entry packs counts what stands before it.
 use Rattle.std.proofs.Common.{◌≡◌, ◌+◌, ◌*◌, ◌^◌, ◌<◌, ◌∙◌, length, arith, lt-ltb}
-use Rattle.bitm.specs.Entry.{before_in_part}
-use Rattle.bitm.specs.Search.{entries_from, sought_in}
-use Rattle.bitm.proofs.lemmas.SoughtLemmas.{low_is}
+use Rattle.bitm_search.specs.Entry.{before_in_part}
+use Rattle.bitm_search.specs.Search.{entries_from, sought_in}
+use Rattle.bitm_search.proofs.lemmas.SoughtLemmas.{low_is}
 use borrow.Author.Tests.{ltb-true}
 use Rattle.bitm_lent.proofs.sampled.is_behind.Goals as goal
 

@@ -1,11 +1,11 @@
 -- Where the samples are those of the words, both entries that are asked agree with them.
 use Rattle.std.proofs.Common.{◌≡◌, ◌+◌, ◌*◌, ◌^◌, ◌≤◌, length, arith}
-use Rattle.bitm_bits.specs.Bits.{bits_of}
-use Rattle.bitm_bits.specs.Count.{kind}
-use Rattle.bitm.specs.Entry.{before_in_part}
-use Rattle.bitm.specs.Search.{entries_from, sought_in}
+use Rattle.bit_lists.specs.Bits.{bits_of}
+use Rattle.bit_lists.specs.Count.{kind}
+use Rattle.bitm_search.specs.Entry.{before_in_part}
+use Rattle.bitm_search.specs.Search.{entries_from, sought_in}
 use Rattle.bitm.proofs.lemmas.PartLemmas.{count_in_part}
-use Rattle.bitm.proofs.lemmas.TableLemmas.{entries}
+use Rattle.bitm_search.proofs.lemmas.TableLemmas.{entries}
 use Rattle.bitm_lent.proofs.BoundsLemmas.{part_size}
 use Rattle.bitm_lent.proofs.sampled.sampled_entry.Goals as goal
 

@@ -1,13 +1,13 @@
 -- The rank is what stands before the part, and the rank in the part.
 use Rattle.std.proofs.Common.{ℕ, ◌+◌, ◌*◌, ◌^◌, length, sym, subst, arith}
-use Rattle.bitm_bits.proofs.lemmas.BitsLemmas.{length-bits_of}
-use Rattle.bitm_bits.specs.Bits.{bits_of}
-use Rattle.bitm_bits.specs.Count.{kind, ones_before}
-use Rattle.bitm.specs.Answers.{IsSelected}
-use Rattle.bitm.specs.Search.{sought_in, IsLastPart}
-use Rattle.bitm.specs.Tables.{HasTables, Lists}
+use Rattle.bit_lists.proofs.lemmas.BitsLemmas.{length-bits_of}
+use Rattle.bit_lists.specs.Bits.{bits_of}
+use Rattle.bit_lists.specs.Count.{kind, ones_before}
+use Rattle.bitm_search.specs.Answers.{IsSelected}
+use Rattle.bitm_search.specs.Search.{sought_in, IsLastPart}
+use Rattle.bitm_search.specs.Tables.{HasTables, Lists}
 use Rattle.bitm_lent.specs.Samples.{AreSamplesOf, IsSelectedIfTold}
-use Rattle.bitm.proofs.lemmas.MarkLemmas.{none_in_nothing}
+use Rattle.bitm_search.proofs.lemmas.MarkLemmas.{none_in_nothing}
 use Rattle.bitm_lent.proofs.sampled.sampled_select_on.Goals as goal
 
 pub returns-then-upper_len-eq0-clause-told : goal.returns-then-upper_len-eq0-clause-told

@@ -1,7 +1,7 @@
 -- What is told without samples may be told by them.
 use Rattle.std.proofs.Common.{slice_index, subst}
-use Rattle.bitm.specs.Tables.{Lists}
-use Rattle.bitm_bits.specs.Count.{kind}
+use Rattle.bitm_search.specs.Tables.{Lists}
+use Rattle.bit_lists.specs.Count.{kind}
 use Rattle.bitm_lent.specs.Samples.{SampledTold}
 use Rattle.bitm_lent.proofs.SelectedLemmas.{sampled_of_told}
 use Rattle.bitm_lent.proofs.sampled_lists.select_each.Goals as goal

@@ -1,5 +1,5 @@
 use Rattle.std.proofs.Common.{ℕ, ◌<◌, slice_index}
-use Rattle.bitm_bits.specs.Count.{kind}
+use Rattle.bit_lists.specs.Count.{kind}
 use Rattle.bitm_lent.specs.Samples.{SampledTold}
 use Rattle.bitm_lent.proofs.sampled_lists.select_each.Given as goal
 

@@ -1,9 +1,9 @@
 -- The entry is the last one of the part with no more before it, whoever found it.
 use Rattle.std.proofs.Common.{◌≡◌, ◌+◌, ◌*◌, ◌^◌, ◌<◌, ◌≤◌, length, ap, sym, subst, arith}
-use Rattle.bitm.proofs.lemmas.LengthLemmas.{few_entries, first_of_part}
-use Rattle.bitm.proofs.lemmas.ManyLemmas.{near_found}
-use Rattle.bitm.specs.Search.{entries_from, sought_in, IsLastEntry}
-use Rattle.bitm.specs.Tables.{HasTables, Lists}
+use Rattle.bitm_search.proofs.lemmas.LengthLemmas.{few_entries, first_of_part}
+use Rattle.bitm_search.proofs.lemmas.ManyLemmas.{near_found}
+use Rattle.bitm_search.specs.Search.{entries_from, sought_in, IsLastEntry}
+use Rattle.bitm_search.specs.Tables.{HasTables, Lists}
 use Rattle.bitm_lent.proofs.sampled_many.begin.Goals as goal
 use Rattle.bitm_lent.proofs.sampled_many.begin.Goals.{After-entry_of-entry}
 

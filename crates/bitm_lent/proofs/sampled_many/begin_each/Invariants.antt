@@ -1,6 +1,6 @@
 use Rattle.std.proofs.Common.{◌≡◌, ℕ, ◌+◌, ◌*◌, ◌<◌, ◌≤◌, length, slice_index}
-use Rattle.bitm_bits.specs.Bits.{digit_count}
-use Rattle.bitm.specs.Many.{IsSearch}
+use Rattle.bit_lists.specs.Bits.{digit_count}
+use Rattle.bitm_search.specs.Many.{IsSearch}
 use Rattle.bitm_lent.proofs.sampled_many.begin_each.Given as goal
 
 -- the searches that were begun, and the reads of each

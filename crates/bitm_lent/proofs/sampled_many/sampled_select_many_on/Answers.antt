@@ -1,10 +1,10 @@
 -- The answers of each block are those of its ranks, and the others stay.
 use Rattle.std.proofs.Common.{◌≡◌, ℕ, ◌+◌, ◌-◌, ◌*◌, ◌≤◌, length, slice_index, take, drop, ap, ◌∙◌, subst, arith}
-use Rattle.bitm_bits.specs.Bits.{digit_count}
-use Rattle.bitm_bits.specs.Count.{kind}
-use Rattle.bitm.specs.Answers.{SelectTold}
-use Rattle.bitm.specs.Tables.{Lists}
-use Rattle.bitm.proofs.lemmas.ManyLemmas.{answers_follow, part_long, put_long}
+use Rattle.bit_lists.specs.Bits.{digit_count}
+use Rattle.bit_lists.specs.Count.{kind}
+use Rattle.bitm_search.specs.Answers.{SelectTold}
+use Rattle.bitm_search.specs.Tables.{Lists}
+use Rattle.bitm_search.proofs.lemmas.ManyLemmas.{answers_follow, part_long, put_long}
 use Rattle.bitm_lent.proofs.sampled_many.sampled_select_many_on.Goals as goal
 
 pub select_block-requires-clause-part : goal.select_block-requires-clause-part

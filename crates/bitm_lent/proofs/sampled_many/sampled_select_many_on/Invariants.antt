@@ -1,7 +1,7 @@
 use Rattle.std.proofs.Common.{◌≡◌, ℕ, ◌+◌, ◌-◌, ◌*◌, ◌<◌, ◌≤◌, length, slice_index}
-use Rattle.bitm_bits.specs.Bits.{digit_count}
-use Rattle.bitm_bits.specs.Count.{kind}
-use Rattle.bitm.specs.Answers.{SelectTold}
+use Rattle.bit_lists.specs.Bits.{digit_count}
+use Rattle.bit_lists.specs.Count.{kind}
+use Rattle.bitm_search.specs.Answers.{SelectTold}
 use Rattle.bitm_lent.proofs.sampled_many.sampled_select_many_on.Given as goal
 
 -- the answers so far, and the reads of each

@@ -1,9 +1,9 @@
 -- The answers are those of the entries.
 use Rattle.std.proofs.Common.{slice_index, subst}
-use Rattle.bitm_bits.specs.Count.{kind}
-use Rattle.bitm.specs.Answers.{SelectTold}
-use Rattle.bitm.specs.Many.{AreSearches}
-use Rattle.bitm.specs.Tables.{Lists}
+use Rattle.bit_lists.specs.Count.{kind}
+use Rattle.bitm_search.specs.Answers.{SelectTold}
+use Rattle.bitm_search.specs.Many.{AreSearches}
+use Rattle.bitm_search.specs.Tables.{Lists}
 use Rattle.bitm_lent.proofs.sampled_many.select_block.Goals as goal
 
 pub returns-clause-told : goal.returns-clause-told

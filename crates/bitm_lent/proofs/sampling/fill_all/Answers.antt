@@ -1,8 +1,8 @@
 -- The parts follow one another: each has its start and its samples.
 use Rattle.std.proofs.Common.{◌≡◌, ◌∙◌, length, ap, arith}
-use Rattle.bitm_bits.specs.Count.{kind}
+use Rattle.bit_lists.specs.Count.{kind}
 use Rattle.bitm.specs.Samples.{parts, sample_count_before}
-use Rattle.bitm.proofs.lemmas.TableLemmas.{entries}
+use Rattle.bitm_search.proofs.lemmas.TableLemmas.{entries}
 use Rattle.bitm_lent.proofs.SamplingLemmas.{all_made}
 use Rattle.bitm_lent.proofs.sampling.fill_all.Goals as goal
 

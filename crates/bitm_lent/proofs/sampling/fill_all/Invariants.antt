@@ -1,5 +1,5 @@
 use Rattle.std.proofs.Common.{◌≡◌, ℕ, ◌*◌, ◌^◌, ◌≤◌, List, Bool, length, slice_index}
-use Rattle.bitm_bits.specs.Count.{kind}
+use Rattle.bit_lists.specs.Count.{kind}
 use Rattle.bitm.specs.Samples.{IsSummaryOf, sample_count_before}
 use Rattle.bitm_lent.specs.Samples.{sample_number}
 use Rattle.bitm_lent.specs.Sizes.{IsFilled}

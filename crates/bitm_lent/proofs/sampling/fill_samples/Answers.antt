@@ -3,12 +3,12 @@ use Rattle.std.proofs.Common.{◌≡◌, ◌≢◌, ℕ, ◌+◌, ◌*◌, ◌%�
 use Rattle.std.proofs.lemmas.List.{get_or-set_other}
 use Rattle.std.proofs.lemmas.Nat.{one_shl}
 use Rattle.std.specs.Int.{div_ceil}
-use Rattle.bitm_bits.specs.Count.{kind}
+use Rattle.bit_lists.specs.Count.{kind}
 use Rattle.bitm.specs.Samples.{IsSummaryOf, intervals, part_of, parts, sample}
-use Rattle.bitm.specs.Search.{items_to}
+use Rattle.bitm_search.specs.Search.{items_to}
 use Rattle.bitm.proofs.lemmas.MadeLemmas.{half_within, interval_item}
 use Rattle.bitm.proofs.lemmas.SampleLemmas.{before_more, sample_at}
-use Rattle.bitm.proofs.lemmas.TableLemmas.{entries}
+use Rattle.bitm_search.proofs.lemmas.TableLemmas.{entries}
 use Rattle.bitm_lent.specs.Samples.{sample_number}
 use Rattle.bitm_lent.proofs.FilledLemmas.{filled_more}
 use Rattle.bitm_lent.proofs.SamplingLemmas.{samples_after, samples_fit}

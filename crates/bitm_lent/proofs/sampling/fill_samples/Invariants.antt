@@ -1,7 +1,7 @@
 use Rattle.std.proofs.Common.{◌≡◌, ℕ, ◌+◌, ◌*◌, ◌^◌, ◌<◌, ◌≤◌, List, Bool, length, slice_index}
-use Rattle.bitm_bits.specs.Count.{kind}
+use Rattle.bit_lists.specs.Count.{kind}
 use Rattle.bitm.specs.Samples.{IsSummaryOf, sample_count_before}
-use Rattle.bitm.specs.Search.{entries_from, items_to}
+use Rattle.bitm_search.specs.Search.{entries_from, items_to}
 use Rattle.bitm_lent.specs.Samples.{sample_number}
 use Rattle.bitm_lent.specs.Sizes.{IsFilled}
 use Rattle.bitm_lent.proofs.sampling.fill_samples.Given as goal

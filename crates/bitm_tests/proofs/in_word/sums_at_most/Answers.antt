@@ -1,6 +1,5 @@
 -- The sums of a word's bytes are at most 64.
-use Rattle.bitm.proofs.lemmas.LeBytesLemmas.{sums_at, small_le}
-use Rattle.bitm.proofs.lemmas.SelectLemmas.{sums_small}
+use Rattle.bitm.proofs.Callers.{sums_at, small_le, sums_small}
 use Rattle.bitm_tests.proofs.in_word.sums_at_most.Goals as goal
 
 pub bytes_at_most-requires-clause-small : goal.bytes_at_most-requires-clause-small

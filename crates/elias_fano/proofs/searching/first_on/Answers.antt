@@ -2,8 +2,8 @@
 use Rattle.std.proofs.Common.{◌≡◌, ℕ, ◌*◌, ◌/◌, ◌%◌, ◌^◌, List, ap, sym, ◌∙◌, subst, bit_and, arith}
 use Rattle.std.proofs.lemmas.Nat.{and_mask}
 use Rattle.bitm.specs.Tables.{HasTables, Lists}
-use Rattle.bitm_bits.specs.Bits.{bits_of}
-use Rattle.bitm_bits.specs.Number.{number_at}
+use Rattle.bitm.specs.Bits.{bits_of}
+use Rattle.bitm.specs.Number.{number_at}
 use Rattle.elias_fano.proofs.lemmas.BucketLemmas.{IsBucket, bucket-reaches, bucket-none, bucket-order, fragments-rise}
 use Rattle.elias_fano.specs.Buckets.{CountsTo, LowsRise, Splits}
 use Rattle.elias_fano.specs.Parts.{IsUpper}

@@ -1,7 +1,7 @@
 -- As many zeros are before the place as the item says above its low digits, so these two are the item.
 use Rattle.std.proofs.Common.{◌≡◌, ℕ, ◌+◌, ◌-◌, ◌*◌, ◌%◌, ◌^◌, ap, ◌∙◌, arith}
-use Rattle.bitm_bits.specs.Bits.{bits_of}
-use Rattle.bitm_bits.specs.Number.{number_at}
+use Rattle.bitm.specs.Bits.{bits_of}
+use Rattle.bitm.specs.Number.{number_at}
 use Rattle.elias_fano.proofs.lemmas.ItemLemmas.{place-after, held-is, held-fits}
 use Rattle.elias_fano.proofs.searching.item_at_one.Goals as goal
 

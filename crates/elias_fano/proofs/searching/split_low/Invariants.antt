@@ -1,6 +1,6 @@
 use Rattle.std.proofs.Common.{◌+◌, ◌*◌, ◌≤◌}
-use Rattle.bitm_bits.specs.Bits.{bits_of}
-use Rattle.bitm_bits.specs.Number.{number_at}
+use Rattle.bitm.specs.Bits.{bits_of}
+use Rattle.bitm.specs.Number.{number_at}
 use Rattle.elias_fano.proofs.lemmas.SplitLemmas.{Parting}
 use Rattle.elias_fano.specs.Buckets.{LowsRise}
 use Rattle.elias_fano.proofs.searching.split_low.Given as goal

@@ -1,8 +1,7 @@
 -- Each one is that of the next number; where a test fails, no sequence has these parts.
 use Rattle.std.proofs.Common.{◌≡◌, ℕ, ◌+◌, ◌<◌, true, sym, ap, subst, ◌∙◌, arith}
-use Rattle.bitm_bits.proofs.lemmas.BitsLemmas.{length-bits_of}
-use Rattle.bitm_bits.proofs.lemmas.PickLemmas.{rank_below}
-use Rattle.bitm_bits.specs.Bits.{bits_of}
+use Rattle.bitm.proofs.Callers.{length-bits_of, rank_below}
+use Rattle.bitm.specs.Bits.{bits_of}
 use Rattle.bitm_lent.proofs.OnesFromLemmas.{first_picked, next_counts, none_follows}
 use Rattle.elias_fano_lent.proofs.CheckLemmas.{AreNumbers-more, held_of_pick, held_is, ones-all, last-at_most}
 use Rattle.elias_fano_lent.specs.Checks.{AreNumbers}

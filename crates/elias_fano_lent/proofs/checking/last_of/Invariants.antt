@@ -1,6 +1,6 @@
 use Rattle.std.proofs.Common.{◌≡◌, ◌*◌, ◌≤◌, length}
-use Rattle.bitm_bits.specs.Bits.{bits_of}
-use Rattle.bitm_bits.specs.Count.{ones_before}
+use Rattle.bitm.specs.Bits.{bits_of}
+use Rattle.bitm.specs.Count.{ones_before}
 use Rattle.elias_fano_lent.specs.Checks.{AreNumbers}
 use Rattle.elias_fano_lent.proofs.checking.last_of.Given as goal
 

@@ -2,9 +2,8 @@
 use Rattle.std.proofs.Common.{◌≡◌, ◌+◌, ◌-◌, ◌*◌, ◌/◌, ◌^◌, ◌<◌, ap, arith}
 use Rattle.std.proofs.Math.Nat.{div-eq_of_lt, lt-div-mul-add}
 use Rattle.std.proofs.lemmas.Nat.{pow_pos}
-use Rattle.bitm_bits.proofs.lemmas.BitsLemmas.{length-bits_of}
-use Rattle.bitm_bits.proofs.lemmas.NumberLemmas.{number_at-lt}
-use Rattle.bitm_bits.specs.Bits.{bits_of}
+use Rattle.bitm.proofs.Callers.{length-bits_of, number_at-lt}
+use Rattle.bitm.specs.Bits.{bits_of}
 use Rattle.elias_fano_lent.proofs.CheckLemmas.{joined-fits, joined-small}
 use Rattle.elias_fano_lent.proofs.checking.number_of.Goals as goal
 use Rattle.elias_fano_lent.proofs.checking.number_of.Goals.{else-width-gt0-via-then-width-gt0+else-above-width-ne0, else-width-gt0-via-else-width-gt0}

@@ -1,8 +1,8 @@
 -- Where the parts are those of a sequence each of its places has a one.
 use Rattle.std.proofs.Common.{ℕ, ◌*◌, ◌^◌, ◌<◌, List, length, true, arith}
-use Rattle.bitm_bits.proofs.lemmas.BitsLemmas.{length-bits_of}
-use Rattle.bitm_bits.specs.Bits.{bits_of}
-use Rattle.bitm_bits.specs.Count.{count_of}
+use Rattle.bitm.proofs.Callers.{length-bits_of}
+use Rattle.bitm.specs.Bits.{bits_of}
+use Rattle.bitm.specs.Count.{count_of}
 use Rattle.elias_fano.proofs.lemmas.ItemLemmas.{upper-short}
 use Rattle.elias_fano.proofs.lemmas.UpperLemmas.{ones_are}
 use Rattle.elias_fano_lent.proofs.sequence.item_of.Goals as goal

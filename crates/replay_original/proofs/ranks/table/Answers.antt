@@ -1,6 +1,6 @@
 -- A run that is begun has a first bit.
 use Rattle.std.proofs.Common.{length, ap, arith}
-use Rattle.bitm_bits.proofs.lemmas.BitsLemmas.{length-bits_of}
+use Rattle.bitm.proofs.Callers.{length-bits_of}
 use Rattle.replay_original.proofs.ranks.table.Goals as goal
 
 pub rank-requires : goal.rank-requires

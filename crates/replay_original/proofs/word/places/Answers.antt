@@ -1,6 +1,6 @@
 -- Each rank below the number of ones picks a place.
 use Rattle.std.proofs.Common.{arith}
-use Rattle.bitm.proofs.lemmas.InWordLemmas.{rank_in_word}
+use Rattle.bitm.proofs.Callers.{rank_in_word}
 use Rattle.replay_original.proofs.word.places.Goals as goal
 
 pub select64-requires : goal.select64-requires

@@ -1,5 +1,5 @@
 -- One place is picked for the number: the member, and what was found.
-use Rattle.bitm_bits.proofs.Callers.{same_picked}
+use Rattle.bitm.proofs.Callers.{same_picked}
 use Rattle.uses.proofs.dense.again.Goals as goal
 
 pub returns : goal.returns

@@ -1,7 +1,7 @@
 -- The place itself is picked by its rank, and no other place is.
 use Rattle.std.proofs.Common.{ℕ, ◌<◌, false, subst, sym}
-use Rattle.bitm_bits.proofs.Callers.{zero_picked_by_its_rank, zero_below, same_picked}
-use Rattle.bitm_bits.specs.Count.{Picks, count_of}
+use Rattle.bitm.proofs.Callers.{zero_picked_by_its_rank, zero_below, same_picked}
+use Rattle.bitm.specs.Count.{Picks, count_of}
 use Rattle.uses.proofs.inverse.select0_of_rank.Goals as goal
 
 pub select0-requires : goal.select0-requires

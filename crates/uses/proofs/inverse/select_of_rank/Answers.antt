@@ -1,7 +1,7 @@
 -- The place itself is picked by its rank, and no other place is.
 use Rattle.std.proofs.Common.{ℕ, ◌<◌, true, subst, sym}
-use Rattle.bitm_bits.proofs.Callers.{picked_by_its_rank, one_below, same_picked}
-use Rattle.bitm_bits.specs.Count.{Picks, count_of}
+use Rattle.bitm.proofs.Callers.{picked_by_its_rank, one_below, same_picked}
+use Rattle.bitm.specs.Count.{Picks, count_of}
 use Rattle.uses.proofs.inverse.select_of_rank.Goals as goal
 
 pub select-requires : goal.select-requires

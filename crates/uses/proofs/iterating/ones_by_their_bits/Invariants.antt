@@ -1,7 +1,7 @@
 use Rattle.std.proofs.Common.{◌≡◌, ◌+◌}
-use Rattle.bitm_bits.specs.Bits.{bits_of}
-use Rattle.bitm_bits.specs.Coming.{bits_left}
-use Rattle.bitm_bits.specs.Count.{ones_of}
+use Rattle.bitm.specs.Bits.{bits_of}
+use Rattle.bitm.specs.Coming.{bits_left}
+use Rattle.bitm.specs.Count.{ones_of}
 use Rattle.uses.proofs.iterating.ones_by_their_bits.Given as goal
 
 -- the ones counted and the ones among the bits to come are all ones

@@ -1,6 +1,6 @@
 use Rattle.std.proofs.Common.{◌≡◌, ◌+◌, length}
-use Rattle.bitm_bits.specs.Bits.{bits_of}
-use Rattle.bitm_bits.specs.Count.{ones_of}
+use Rattle.bitm.specs.Bits.{bits_of}
+use Rattle.bitm.specs.Count.{ones_of}
 use Rattle.uses.proofs.iterating.ones_by_their_places.Given as goal
 
 -- those counted and those to come are all ones

@@ -1,6 +1,6 @@
 -- The ones before a place and the zeros before it are all that stands before it.
 use Rattle.std.proofs.Common.{arith}
-use Rattle.bitm_bits.proofs.lemmas.CountLemmas.{ones_before-add-zeros_before}
+use Rattle.bit_lists.proofs.lemmas.CountLemmas.{ones_before-add-zeros_before}
 use Rattle.bitm.proofs.queries.Rank.rank0.Goals as goal
 
 pub overflow_sub-result : goal.overflow_sub-result

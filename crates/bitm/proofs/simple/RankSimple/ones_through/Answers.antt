@@ -1,8 +1,8 @@
 -- The table is that of the content, which a contract sees as the whole value.
 use Rattle.std.proofs.Common.{◌≡◌, ◌*◌, ◌/◌, length, get_or, sym, ap, ◌∙◌, arith}
-use Rattle.bitm_bits.proofs.lemmas.BitsLemmas.{length-bits_of}
-use Rattle.bitm_bits.specs.Bits.{bits_of}
-use Rattle.bitm_bits.specs.Count.{ones_before}
+use Rattle.bit_lists.proofs.lemmas.BitsLemmas.{length-bits_of}
+use Rattle.bit_lists.specs.Bits.{bits_of}
+use Rattle.bit_lists.specs.Count.{ones_before}
 use Rattle.bitm.specs.Simple.{simple_table_of}
 use Rattle.bitm.proofs.lemmas.SimpleLemmas.{length-simple_table_of, get_or-simple_table_of, run_begun}
 use Rattle.bitm.proofs.simple.RankSimple.ones_through.Goals as goal

@@ -1,9 +1,9 @@
 -- The last bit that counts is inside exactly where its word is, and where none counts the answer is 0.
 use Rattle.std.proofs.Common.{length, ap, ◌∙◌, arith}
-use Rattle.bitm_bits.proofs.lemmas.BitsLemmas.{length-bits_of}
-use Rattle.bitm_bits.specs.Bits.{bits_of}
-use Rattle.bitm_bits.specs.Count.{ones_before}
-use Rattle.bitm.proofs.lemmas.RankLemmas.{rank_inside, rank_outside, rank_of_none}
+use Rattle.bit_lists.proofs.lemmas.BitsLemmas.{length-bits_of}
+use Rattle.bit_lists.specs.Bits.{bits_of}
+use Rattle.bit_lists.specs.Count.{ones_before}
+use Rattle.bitm_search.proofs.lemmas.RankLemmas.{rank_inside, rank_outside, rank_of_none}
 use Rattle.bitm.proofs.simple.RankSimple.try_rank.Goals as goal
 
 pub ones_through-requires : goal.ones_through-requires

@@ -2,8 +2,8 @@
 use Rattle.std.proofs.Common.{◌≡◌, length, ap, arith}
 use Rattle.std.specs.Box.{boxed_slice_len}
 use Rattle.std.specs.Int.{div_ceil}
-use Rattle.bitm_bits.proofs.lemmas.BitsLemmas.{length-bits_of}
-use Rattle.bitm_bits.specs.Bits.{bits_of}
+use Rattle.bit_lists.proofs.lemmas.BitsLemmas.{length-bits_of}
+use Rattle.bit_lists.specs.Bits.{bits_of}
 use Rattle.bitm.proofs.lemmas.SimpleLemmas.{length-simple_table_of, runs_of_words}
 use Rattle.bitm.proofs.simple.RankSimpleGetSize.size_bytes_dyn.Goals as goal
 

@@ -1,14 +1,14 @@
 -- The sample of the rank lets the walk begin no later than the answer's entry; where there is none, nothing is picked.
 use Rattle.std.proofs.Common.{◌≡◌, ℕ, List, Option, ◌+◌, ◌-◌, ◌*◌, ◌/◌, ◌^◌, ◌%◌, ◌<◌, ◌≤◌, length, get_or, slice_index_or, nat_eq, if◌then◌else◌, refl, sym, ap, ap₂, ◌∙◌, subst, arith}
-use Rattle.bitm_bits.proofs.lemmas.BitsLemmas.{length-bits_of}
-use Rattle.bitm_bits.specs.Bits.{bits_of, digit_count}
-use Rattle.bitm_bits.specs.Count.{ones_before, kind, IsSelect}
+use Rattle.bit_lists.proofs.lemmas.BitsLemmas.{length-bits_of}
+use Rattle.bit_lists.specs.Bits.{bits_of, digit_count}
+use Rattle.bit_lists.specs.Count.{ones_before, kind, IsSelect}
 use Rattle.bitm.specs.Samples.{part_of, parts, walk_start, samples_of, sample_count_before, rank_in}
-use Rattle.bitm.specs.Search.{IsLastEntry, entries_from, items_to, sought_in}
-use Rattle.bitm.specs.Tables.{Lists, HasSizes, HasTables}
-use Rattle.bitm.proofs.lemmas.TableLemmas.{HasEntries, entries}
-use Rattle.bitm.proofs.lemmas.LengthLemmas.{sizes_of}
-use Rattle.bitm.proofs.lemmas.SelectedLemmas.{in_entry, is_select}
+use Rattle.bitm_search.specs.Search.{IsLastEntry, entries_from, items_to, sought_in}
+use Rattle.bitm_search.specs.Tables.{Lists, HasSizes, HasTables}
+use Rattle.bitm_search.proofs.lemmas.TableLemmas.{HasEntries, entries}
+use Rattle.bitm_search.proofs.lemmas.LengthLemmas.{sizes_of}
+use Rattle.bitm_search.proofs.lemmas.SelectedLemmas.{in_entry, is_select}
 use Rattle.bitm.proofs.lemmas.WalkLemmas.{count_is, outside_none, outside_reads, start_from, start_in, start_below, sampled_reads, interval_inside, first_inside, place_fits}
 use Rattle.bitm.proofs.strategies.sampled.sampled_in_part.Goals as goal
 use Rattle.bitm.proofs.strategies.sampled.sampled_in_part.Goals.{Start, After-first_entry-from}

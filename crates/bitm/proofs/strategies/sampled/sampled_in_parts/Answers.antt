@@ -1,13 +1,13 @@
 -- Of more parts the tables and the starts tell what stands before them.
 use Rattle.std.proofs.Common.{ℕ, List, length, get_or, sym, ap, ◌∙◌, subst, arith}
-use Rattle.bitm_bits.proofs.lemmas.BitsLemmas.{length-bits_of}
-use Rattle.bitm_bits.specs.Bits.{bits_of, digit_count}
-use Rattle.bitm_bits.specs.Count.{kind}
+use Rattle.bit_lists.proofs.lemmas.BitsLemmas.{length-bits_of}
+use Rattle.bit_lists.specs.Bits.{bits_of, digit_count}
+use Rattle.bit_lists.specs.Count.{kind}
 use Rattle.bitm.specs.Samples.{parts, sample_count_before, SampledReads}
-use Rattle.bitm.specs.Tables.{Lists, HasTables}
-use Rattle.bitm.specs.declared.source.counts.ReadCounts.{ReadCounts}
+use Rattle.bitm_search.specs.Tables.{Lists, HasTables}
+use Rattle.bitm_search.specs.declared.source.counts.ReadCounts.{ReadCounts}
 use Rattle.bitm.proofs.lemmas.SampleLemmas.{length-starts, start_at}
-use Rattle.bitm.proofs.lemmas.TableLemmas.{HasEntries, entries}
+use Rattle.bitm_search.proofs.lemmas.TableLemmas.{HasEntries, entries}
 use Rattle.bitm.proofs.strategies.sampled.sampled_in_parts.Goals as goal
 
 at : (l : Lists) → HasTables l → HasEntries (bits_of l.words) l.upper l.lower

@@ -1,12 +1,12 @@
 -- Nothing stands before the only part.
 use Rattle.std.proofs.Common.{sym, arith}
-use Rattle.bitm_bits.proofs.lemmas.CountLemmas.{ones_before_none}
-use Rattle.bitm_bits.specs.Bits.{bits_of}
-use Rattle.bitm_bits.specs.Count.{kind}
-use Rattle.bitm.specs.Search.{sought_in}
-use Rattle.bitm.specs.Tables.{Lists, HasTables}
-use Rattle.bitm.proofs.lemmas.MarkLemmas.{none_in_nothing}
-use Rattle.bitm.proofs.lemmas.TableLemmas.{HasEntries, entries}
+use Rattle.bit_lists.proofs.lemmas.CountLemmas.{ones_before_none}
+use Rattle.bit_lists.specs.Bits.{bits_of}
+use Rattle.bit_lists.specs.Count.{kind}
+use Rattle.bitm_search.specs.Search.{sought_in}
+use Rattle.bitm_search.specs.Tables.{Lists, HasTables}
+use Rattle.bitm_search.proofs.lemmas.MarkLemmas.{none_in_nothing}
+use Rattle.bitm_search.proofs.lemmas.TableLemmas.{HasEntries, entries}
 use Rattle.bitm.proofs.lemmas.WalkLemmas.{empty_reads}
 use Rattle.bitm.proofs.strategies.sampled.sampled_select_on.Goals as goal
 

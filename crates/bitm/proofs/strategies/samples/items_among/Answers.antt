@@ -1,6 +1,6 @@
 -- What is no one is a zero.
 use Rattle.std.proofs.Common.{length, sym, ◌∙◌, arith}
-use Rattle.bitm_bits.proofs.lemmas.CountLemmas.{ones_before-add-zeros_before}
+use Rattle.bit_lists.proofs.lemmas.CountLemmas.{ones_before-add-zeros_before}
 use Rattle.bitm.proofs.lemmas.MadeLemmas.{items_zero, items_other}
 use Rattle.bitm.proofs.strategies.samples.items_among.Goals as goal
 

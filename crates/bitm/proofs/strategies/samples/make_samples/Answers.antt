@@ -1,9 +1,9 @@
 -- Each part adds its samples.
 use Rattle.std.proofs.Common.{◌≡◌, ℕ, ◌++◌, List, sym, ap, ◌∙◌, arith}
-use Rattle.bitm_bits.specs.Count.{kind}
+use Rattle.bit_lists.specs.Count.{kind}
 use Rattle.bitm.specs.Samples.{parts, samples_of_parts, part_of, part_samples}
 use Rattle.bitm.proofs.lemmas.SampleLemmas.{samples_more}
-use Rattle.bitm.proofs.lemmas.TableLemmas.{entries}
+use Rattle.bitm_search.proofs.lemmas.TableLemmas.{entries}
 use Rattle.bitm.proofs.strategies.samples.make_samples.Goals as goal
 
 pub loop-part-preserved : goal.loop-part-preserved

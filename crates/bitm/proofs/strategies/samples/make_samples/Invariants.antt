@@ -1,5 +1,5 @@
 use Rattle.std.proofs.Common.{◌≡◌, List, Bool}
-use Rattle.bitm_bits.specs.Count.{kind}
+use Rattle.bit_lists.specs.Count.{kind}
 use Rattle.bitm.specs.Samples.{IsSummaryOf, samples_of_parts}
 use Rattle.bitm.proofs.strategies.samples.make_samples.Given as goal
 

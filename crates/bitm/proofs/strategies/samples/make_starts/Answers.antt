@@ -1,11 +1,11 @@
 -- Each part adds how many samples it has, and before that how many there are.
 use Rattle.std.proofs.Common.{◌≡◌, ℕ, [], map, ap, ◌∙◌, arith}
 use Rattle.std.specs.List.{range_with_len}
-use Rattle.bitm_bits.specs.Count.{kind}
+use Rattle.bit_lists.specs.Count.{kind}
 use Rattle.bitm.specs.Samples.{parts, sample_count_before}
 use Rattle.bitm.proofs.lemmas.MadeLemmas.{one_more}
 use Rattle.bitm.proofs.lemmas.SampleLemmas.{before_more}
-use Rattle.bitm.proofs.lemmas.TableLemmas.{entries}
+use Rattle.bitm_search.proofs.lemmas.TableLemmas.{entries}
 use Rattle.bitm.proofs.strategies.samples.make_starts.Goals as goal
 
 pub overflow_add-count : goal.overflow_add-count

@@ -1,6 +1,6 @@
 use Rattle.std.proofs.Common.{◌≡◌, ◌*◌, ◌^◌, ◌≤◌, List, Bool, map}
 use Rattle.std.specs.List.{range_with_len}
-use Rattle.bitm_bits.specs.Count.{kind}
+use Rattle.bit_lists.specs.Count.{kind}
 use Rattle.bitm.specs.Samples.{IsSummaryOf, sample_count_before}
 use Rattle.bitm.proofs.strategies.samples.make_starts.Given as goal
 

@@ -3,11 +3,11 @@ use Rattle.std.proofs.Common.{◌≡◌, ℕ, ◌*◌, ◌%◌, ◌^◌, ◌≤�
 use Rattle.std.proofs.lemmas.Nat.{one_shl}
 use Rattle.std.specs.Int.{div_ceil}
 use Rattle.std.specs.List.{range_with_len}
-use Rattle.bitm_bits.specs.Count.{kind}
+use Rattle.bit_lists.specs.Count.{kind}
 use Rattle.bitm.specs.Samples.{intervals, part_of, sample}
-use Rattle.bitm.specs.Search.{items_to, sought}
+use Rattle.bitm_search.specs.Search.{items_to, sought}
 use Rattle.bitm.proofs.lemmas.MadeLemmas.{sized_first, interval_item, half_within, one_more}
-use Rattle.bitm.proofs.lemmas.SoughtLemmas.{first_none}
+use Rattle.bitm_search.proofs.lemmas.SoughtLemmas.{first_none}
 use Rattle.bitm.proofs.strategies.samples.push_samples.Goals as goal
 
 pub sample_from-sample-requires-clause-item : goal.sample_from-sample-requires-clause-item

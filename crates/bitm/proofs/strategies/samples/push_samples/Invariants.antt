@@ -1,8 +1,8 @@
 use Rattle.std.proofs.Common.{◌≡◌, ◌*◌, ◌^◌, ◌<◌, ◌≤◌, ◌++◌, List, Bool, map, length}
 use Rattle.std.specs.List.{range_with_len}
-use Rattle.bitm_bits.specs.Count.{kind}
+use Rattle.bit_lists.specs.Count.{kind}
 use Rattle.bitm.specs.Samples.{IsSummaryOf, part_of, sample}
-use Rattle.bitm.specs.Search.{entries_from, items_to}
+use Rattle.bitm_search.specs.Search.{entries_from, items_to}
 use Rattle.bitm.proofs.strategies.samples.push_samples.Given as goal
 
 -- the samples so far, and an entry no later than the next one's

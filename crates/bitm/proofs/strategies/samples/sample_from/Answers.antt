@@ -1,9 +1,9 @@
 -- The distance is that from the entry of the interval's first item to the entry of the one half an interval later.
 use Rattle.std.proofs.Common.{◌≡◌, ℕ, ◌+◌, ◌*◌, ◌-◌, ◌%◌, ◌^◌, ◌<◌, ◌≤◌, List, Bool, min, length, ◌∙◌, subst, arith}
 use Rattle.std.proofs.lemmas.Nat.{one_shl}
-use Rattle.bitm_bits.specs.Count.{count_of, kind}
+use Rattle.bit_lists.specs.Count.{count_of, kind}
 use Rattle.bitm.specs.Samples.{IsSummaryOf, part_of}
-use Rattle.bitm.specs.Search.{IsLastEntry, items_to, sought}
+use Rattle.bitm_search.specs.Search.{IsLastEntry, items_to, sought}
 use Rattle.bitm.proofs.lemmas.MadeLemmas.{advanced, sample_middle, sample_alone}
 use Rattle.bitm.proofs.strategies.samples.sample_from.Goals as goal
 use Rattle.bitm.proofs.strategies.samples.sample_from.Goals.{After-min-distance}

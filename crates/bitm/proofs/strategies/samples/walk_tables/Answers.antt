@@ -1,9 +1,9 @@
 -- The first entry with more before it ends the walk; its predecessor is the last with no more.
 use Rattle.std.proofs.Common.{◌≡◌, ℕ, ◌+◌, ◌*◌, ◌-◌, ◌^◌, ◌<◌, ◌≤◌, List, Bool, sym, ◌∙◌, subst, arith}
-use Rattle.bitm_bits.specs.Count.{kind}
+use Rattle.bit_lists.specs.Count.{kind}
 use Rattle.bitm.specs.Samples.{IsSummaryOf}
-use Rattle.bitm.specs.Search.{items_to, sought}
-use Rattle.bitm.proofs.lemmas.SoughtLemmas.{low_is}
+use Rattle.bitm_search.specs.Search.{items_to, sought}
+use Rattle.bitm_search.proofs.lemmas.SoughtLemmas.{low_is}
 use Rattle.bitm.proofs.strategies.samples.walk_tables.Goals as goal
 use Rattle.bitm.proofs.strategies.samples.walk_tables.Goals.{After-ones_to_entry}
 

@@ -1,6 +1,6 @@
 use Rattle.std.proofs.Common.{◌-◌, ◌<◌, ◌≤◌, List, Bool}
 use Rattle.bitm.specs.Samples.{IsSummaryOf}
-use Rattle.bitm.specs.Search.{items_to}
+use Rattle.bitm_search.specs.Search.{items_to}
 use Rattle.bitm.proofs.strategies.samples.walk_tables.Given as goal
 
 -- the entry before this one has no more than the item's number before it

@@ -1,9 +1,9 @@
 -- The summary is that of the tables, with the rank of all bits as the number of ones.
 use Rattle.std.proofs.Common.{◌≡◌, ℕ, ◌*◌, ◌^◌, ◌≤◌, length, take, ap, subst, sym, ◌∙◌, arith}
-use Rattle.bitm_bits.proofs.lemmas.BitsLemmas.{length-bits_of}
-use Rattle.bitm_bits.specs.Count.{kind, ones_before}
+use Rattle.bit_lists.proofs.lemmas.BitsLemmas.{length-bits_of}
+use Rattle.bit_lists.specs.Count.{kind, ones_before}
 use Rattle.bitm.specs.Density.{within}
-use Rattle.bitm.specs.Tables.{AreTablesOf, Lists, bits_in}
+use Rattle.bitm_search.specs.Tables.{AreTablesOf, Lists, bits_in}
 use Rattle.bitm_lent.specs.Samples.{AreSamples}
 use Rattle.bitm_lent.proofs.SamplingLemmas.{room_for}
 use Rattle.bitm_lent.proofs.lent.Lent.build_kind.Goals as goal

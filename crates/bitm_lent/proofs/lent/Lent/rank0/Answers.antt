@@ -1,7 +1,7 @@
 -- The bits before a place are ones and zeros.
 use Rattle.std.proofs.Common.{arith}
-use Rattle.bitm_bits.proofs.lemmas.CountLemmas.{ones_before-add-zeros_before}
-use Rattle.bitm.specs.Tables.{bits_in}
+use Rattle.bit_lists.proofs.lemmas.CountLemmas.{ones_before-add-zeros_before}
+use Rattle.bitm_search.specs.Tables.{bits_in}
 use Rattle.bitm_lent.proofs.lent.Lent.rank0.Goals as goal
 
 pub returns-in-Some-clause-answer : goal.returns-in-Some-clause-answer

@@ -1,9 +1,8 @@
 -- There are no more ones than bits, and few bits.
 use Rattle.std.proofs.Common.{length, ap, arith}
 use Rattle.std.specs.Box.{boxed_slice_items}
-use Rattle.bitm_bits.proofs.lemmas.BitsLemmas.{length-bits_of}
-use Rattle.bitm_bits.proofs.lemmas.CountLemmas.{ones_before-add-zeros_before}
-use Rattle.bitm_bits.specs.Bits.{bits_of}
+use Rattle.bitm.proofs.Callers.{length-bits_of, ones_before-add-zeros_before}
+use Rattle.bitm.specs.Bits.{bits_of}
 use Rattle.bitm_vectors.proofs.index.Index.build.Goals as goal
 
 pub build-requires-clause-few : goal.build-requires-clause-few

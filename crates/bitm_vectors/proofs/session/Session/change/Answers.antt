@@ -2,9 +2,8 @@ use Rattle.std.proofs.Common.{◌≡◌, ◌<◌, length, set, arith, ap, sym, �
 use Rattle.std.proofs.lemmas.List.{take_at}
 use Rattle.std.specs.Box.{boxed_slice_items, boxed_slice_len, boxed_slice_with_items}
 use Rattle.bitm_vectors.specs.Session.{State}
-use Rattle.bitm_bits.specs.Bits.{bits_of}
-use Rattle.bitm_bits.proofs.lemmas.BitsLemmas.{length-bits_of}
-use Rattle.bitm_bits.proofs.lemmas.NumberLemmas.{with_number-one}
+use Rattle.bitm.specs.Bits.{bits_of}
+use Rattle.bitm.proofs.Callers.{length-bits_of, with_number-one}
 use Rattle.bitm_vectors.proofs.lemmas.SessionLemmas.{changed_inside}
 use Rattle.bitm_vectors.proofs.session.Session.change.Goals as goal
 

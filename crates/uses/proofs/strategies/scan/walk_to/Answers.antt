@@ -1,7 +1,7 @@
 -- The walk gives the item of the places at the rank.
 use Rattle.std.proofs.lemmas.Iterator.Consumers.{nth_from_yields_List, YieldsList-from_first}
-use Rattle.bitm_bits.specs.Bits.{bits_of}
-use Rattle.bitm_bits.specs.Count.{kind}
+use Rattle.bitm.specs.Bits.{bits_of}
+use Rattle.bitm.specs.Count.{kind}
 use Rattle.uses.proofs.lemmas.ListLemmas.{IsSelect-item}
 use Rattle.uses.proofs.strategies.scan.walk_to.Goals as goal
 

@@ -1,11 +1,11 @@
 -- The tables are those of the content, and so the samples are its own.
 use Rattle.std.proofs.Common.{◌≡◌, ◌*◌, length, ap, ap₂, ◌∙◌, arith}
-use Rattle.bitm_bits.proofs.lemmas.BitsLemmas.{length-bits_of}
-use Rattle.bitm_bits.specs.Bits.{bits_of}
-use Rattle.bitm_bits.specs.Count.{count_of, kind}
+use Rattle.bit_lists.proofs.lemmas.BitsLemmas.{length-bits_of}
+use Rattle.bit_lists.specs.Bits.{bits_of}
+use Rattle.bit_lists.specs.Count.{count_of, kind}
 use Rattle.bitm.specs.Samples.{samples_of, sample_starts_of, Summarizes}
-use Rattle.bitm.proofs.lemmas.StretchLemmas.{ones_before-self}
-use Rattle.bitm.proofs.lemmas.TableLemmas.{entries}
+use Rattle.bitm_search.proofs.lemmas.StretchLemmas.{ones_before-self}
+use Rattle.bitm_search.proofs.lemmas.TableLemmas.{entries}
 use Rattle.bitm.proofs.strategies.combined.CombinedSampling.make.Goals as goal
 use Rattle.bitm.proofs.strategies.combined.CombinedSampling.make.Goals.{Start}
 

@@ -1,6 +1,6 @@
 -- The value keeps the samples of the words that it supports.
 use Rattle.std.proofs.Common.{refl, length, ap, arith}
-use Rattle.bitm_bits.specs.Bits.{bits_of}
+use Rattle.bit_lists.specs.Bits.{bits_of}
 use Rattle.bitm.specs.Samples.{Sampled}
 use Rattle.bitm.proofs.lemmas.WalkLemmas.{count_is_total}
 use Rattle.bitm.proofs.strategies.combined.CombinedSampling.sample_count.Goals as goal

@@ -1,8 +1,7 @@
 -- What is no one is a zero.
 use Rattle.std.proofs.Common.{length, arith}
-use Rattle.bitm_bits.proofs.lemmas.BitsLemmas.{length-bits_of}
-use Rattle.bitm_bits.proofs.lemmas.CountLemmas.{ones_before-add-zeros_before}
-use Rattle.bitm_bits.specs.Bits.{bits_of}
+use Rattle.bitm.proofs.Callers.{length-bits_of, ones_before-add-zeros_before}
+use Rattle.bitm.specs.Bits.{bits_of}
 use Rattle.uses.proofs.strategies.guarded.GuardedSelect0ForRank101111.new0.Goals as goal
 
 pub overflow_sub-result : goal.overflow_sub-result

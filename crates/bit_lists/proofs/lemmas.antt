@@ -1,0 +1,13 @@
+pub mod BesideLemmas
+pub mod BitsLemmas
+pub mod ComingLemmas
+pub mod CountLemmas
+pub mod DigitLemmas
+pub mod FlipLemmas
+pub mod NumberLemmas
+pub mod PickLemmas
+pub mod PlaceLemmas
+pub mod ReadLemmas
+pub mod SetLemmas
+pub mod SwapLemmas
+pub mod WordLemmas

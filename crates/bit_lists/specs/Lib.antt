@@ -1,0 +1,7 @@
+pub mod Bits
+pub mod Coming
+pub mod Count
+pub mod Laws
+pub mod Number
+pub mod Window
+pub mod WriteLaws

@@ -1,0 +1,86 @@
+//! Laws of words, of zeros and of what a write leaves, for items, numbers and counts.
+ghost use Rattle.bit_lists.specs.WriteLaws.{BitsAreCounted, PlaceIsInside, WordIsItsBits};
+ghost use Rattle.bit_lists.specs.WriteLaws.{ZerosHaveNoOnes, ZerosAreCounted, ZerosAreZero, NoItemsAreZero};
+ghost use Rattle.bit_lists.specs.WriteLaws.{LengthIsKept, OneBitIsSet, ItemIsWritten, ItemBesideIsKept};
+ghost use Rattle.bit_lists.specs.WriteLaws.{NumberBesideIsKept, CountBeforeIsKept};
+ghost use Rattle.bit_lists.specs.WriteLaws.{OneMoreIsSet, OneMoreIsCleared, LastOneIsSet};
+
+/// Words have 64 bits each.
+pub fn bits_are_counted()
+    ensures { BitsAreCounted }
+{}
+
+/// A place is inside exactly where its word is.
+pub fn place_is_inside()
+    ensures { PlaceIsInside }
+{}
+
+/// A word is the number of its 64 bits.
+pub fn word_is_its_bits()
+    ensures { WordIsItsBits }
+{}
+
+/// Words that are 0 have no ones.
+pub fn zeros_have_no_ones()
+    ensures { ZerosHaveNoOnes }
+{}
+
+/// In words that are 0 no ones are counted, and as many zeros before a place as there are places.
+pub fn zeros_are_counted()
+    ensures { ZerosAreCounted }
+{}
+
+/// Items that are zeros are the number 0.
+pub fn zeros_are_zero()
+    ensures { ZerosAreZero }
+{}
+
+/// No items are the number 0.
+pub fn no_items_are_zero()
+    ensures { NoItemsAreZero }
+{}
+
+/// A write leaves as many items as there were.
+pub fn length_is_kept()
+    ensures { LengthIsKept }
+{}
+
+/// One bit that is written is that item set, and nothing else.
+pub fn one_bit_is_set()
+    ensures { OneBitIsSet }
+{}
+
+/// An item that was written is the digit of the number at its place there.
+pub fn item_is_written()
+    ensures { ItemIsWritten }
+{}
+
+/// An item beside what was written is as it was.
+pub fn item_beside_is_kept()
+    ensures { ItemBesideIsKept }
+{}
+
+/// A number beside what was written is as it was.
+pub fn number_beside_is_kept()
+    ensures { NumberBesideIsKept }
+{}
+
+/// A count up to the place where a write begins is as it was.
+pub fn count_before_is_kept()
+    ensures { CountBeforeIsKept }
+{}
+
+/// After a zero that was made a one there is one one more, and one zero less.
+pub fn one_more_is_set()
+    ensures { OneMoreIsSet }
+{}
+
+/// After a one that was made a zero there is one one less, and one zero more.
+pub fn one_more_is_cleared()
+    ensures { OneMoreIsCleared }
+{}
+
+/// A one that was written after all ones is the last of their places.
+pub fn last_one_is_set()
+    ensures { LastOneIsSet }
+{}

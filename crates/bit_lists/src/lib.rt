@@ -1,0 +1,4 @@
+//! Lists of bits: what bits, counts, places and numbers in them are, and what that means for one another. No code runs.
+#![tactic(auto)]
+
+pub mod laws;

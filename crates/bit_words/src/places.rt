@@ -1,0 +1,115 @@
+//! The places of the ones, and of the zeros, as iterators.
+ghost use Rattle.std.specs.Prelude.{◌≡◌, ℕ, ◌+◌, ◌*◌, ◌^◌, ◌<◌, List, length, Some, IfSome};
+ghost use Rattle.std.specs.Iterator.{YieldsFirst, item_count, UpTo, at_most};
+ghost use Rattle.std.specs.Iterator.SizeHint.{IsWithinCount};
+ghost use Rattle.bit_lists.specs.Bits.{bits_of, IsShort};
+ghost use Rattle.bit_lists.specs.Coming.{word_of, coming};
+ghost use Rattle.bit_lists.specs.Count.{places, kind};
+
+use crate::counting::{count_bit_ones, count_bit_zeros};
+use std::iter::{ExactSizeIterator, FusedIterator, Iterator};
+use std::marker::Model;
+
+/// The places of the zeros where `B` is 0, and otherwise of the ones, rising, seen as the list of those still to come.
+#[derive(Drop)]
+pub struct BitBIterator<'a, const B: u8> {
+    // The words after the current one.
+    rest: &'a [u64],
+    // The place of the first bit of the current word.
+    first: usize,
+    // What is left of the current word, with ones for the bits of this kind.
+    current: u64,
+}
+
+/// The places of the ones.
+pub type BitOnesIterator<'a> = BitBIterator<'a, 1>;
+
+/// The places of the zeros.
+pub type BitZerosIterator<'a> = BitBIterator<'a, 0>;
+
+impl<'a, const B: u8> Model for BitBIterator<'a, B> {
+    ghost Value = { List ℕ };
+
+    ghost view = { λ it. coming B it.first it.current it.rest.now };
+
+    ghost invariant = { λ it. it.first + 64 * length it.rest.now + 64 < 2 ^ 64 };
+}
+
+// The word with ones for the bits of this kind.
+#[inline(always)]
+fn word_of<const B: u8>(word: u64) -> u64
+    ensures { result ≡ word_of B word }
+{
+    if B == 0 { !word } else { word }
+}
+
+impl<'a, const B: u8> BitBIterator<'a, B> {
+    /// All places of this kind of bit; none where there are no words.
+    ///
+    /// # Conditions
+    /// There are fewer than 2^58 words.
+    #[inline]
+    pub fn new(words: &'a [u64]) -> Self
+        requires { IsShort words.now }
+        ensures { result ≡ places (kind B) 0 (bits_of words.now) }
+    {
+        match words.split_first() {
+            Some((word, rest)) => BitBIterator {
+                rest,
+                first: 0,
+                current: word_of::<B>(*word),
+            },
+            // Without a word there is no place, of zeros neither.
+            None => BitBIterator {
+                rest: words,
+                first: 0,
+                current: 0,
+            },
+        }
+    }
+}
+
+impl<'a, const B: u8> Iterator for BitBIterator<'a, B> {
+    type Item = usize;
+
+    ghost next_gives = { YieldsFirst (λ coming. coming) };
+
+    ghost remaining = { item_count (λ coming. coming) };
+
+    #[inline]
+    fn next(&mut self) -> Option<usize> {
+        while self.current == 0 {
+            let (word, rest) = self.rest.split_first()?;
+            self.current = word_of::<B>(*word);
+            self.rest = rest;
+            self.first += 64;
+        }
+        let place = self.current.trailing_zeros();
+        self.current &= self.current - 1;
+        Some(self.first + place as usize)
+    }
+
+    #[inline]
+    fn size_hint(&self) -> (usize, Option<usize>)
+        ensures lower { IsWithinCount result.0 (at_most (length self.now)) }
+        ensures upper { IfSome result.1 (UpTo (at_most (length self.now))) }
+        ensures exact { (result.0 ≡ length self.now) × (result.1 ≡ Some (length self.now)) }
+    {
+        let len = self.len();
+        (len, Some(len))
+    }
+}
+
+impl<'a, const B: u8> ExactSizeIterator for BitBIterator<'a, B> {
+    #[inline]
+    fn len(&self) -> usize {
+        let rest = if B == 0 {
+            count_bit_zeros(self.rest)
+        } else {
+            count_bit_ones(self.rest)
+        };
+        self.current.count_ones() as usize + rest
+    }
+}
+
+impl<'a, const B: u8> FusedIterator for BitBIterator<'a, B> {}

@@ -1,0 +1,135 @@
+//! Reads of bits of words.
+ghost use Rattle.std.specs.Prelude.{◌≡◌, ◌*◌, ◌^◌, ◌<◌, ◌≤◌, ◌↔◌, IsTrue, length, SomeIff};
+ghost use Rattle.bit_lists.specs.Bits.{bits_of, item};
+ghost use Rattle.bit_lists.specs.Number.{number_at, IsInRange};
+ghost use Rattle.bit_lists.specs.Window.{reach_of};
+
+use crate::masks::{n_lowest_bits, n_lowest_bits_0_64};
+
+/// The bit at `place`.
+///
+/// # Conditions
+/// The place is inside.
+#[inline(always)]
+pub fn get_bit(words: &[u64], place: usize) -> bool
+    requires { place < 64 * length words.now }
+    ensures { result ≡ item (bits_of words.now) place }
+{
+    words[place / 64] & (1u64 << (place % 64)) != 0
+}
+
+/// The bit at `place`; `None` exactly where that place is outside.
+#[inline(always)]
+pub fn try_get_bit(words: &[u64], place: usize) -> Option<bool>
+    ensures { SomeIff result (place < 64 * length words.now) (item (bits_of words.now) place) }
+{
+    if place / 64 < words.len() {
+        Some(get_bit(words, place))
+    } else {
+        None
+    }
+}
+
+/// The bits from `begin` to the end of the word, or 64 of them where `len` bits cross that end, as a number, lowest
+/// first.
+///
+/// # Conditions
+/// The `len` bits from `begin` on are in range; `len` is 0 to 64.
+#[inline(always)]
+pub fn get_bits_unmasked(words: &[u64], begin: usize, len: u8) -> u64
+    requires in_range { IsInRange words.now begin len }
+    requires width { len ≤ 64 }
+    ensures { result ≡ number_at (bits_of words.now) begin (reach_of begin len) }
+{
+    let (segment, offset) = (begin / 64, (begin % 64) as u8);
+    let low = words[segment] >> offset;
+    if offset + len > 64 {
+        low | (words[segment + 1] << (64 - offset))
+    } else {
+        low
+    }
+}
+
+/// The `len` bits from `begin` on as a number, lowest first.
+///
+/// # Conditions
+/// They are in range; `len` is 0 to 63.
+#[inline(always)]
+pub fn get_bits(words: &[u64], begin: usize, len: u8) -> u64
+    requires in_range { IsInRange words.now begin len }
+    requires width { len ≤ 63 }
+    ensures value { result ≡ number_at (bits_of words.now) begin len }
+    ensures bound { result < 2 ^ len }
+{
+    get_bits_unmasked(words, begin, len) & n_lowest_bits(len)
+}
+
+/// What `get_bits_unmasked` reads; `None` exactly where the `len` bits from `begin` on are not in range.
+///
+/// # Conditions
+/// `len` is 0 to 64.
+#[inline(always)]
+pub fn try_get_bits_unmasked(words: &[u64], begin: usize, len: u8) -> Option<u64>
+    requires { len ≤ 64 }
+    ensures { SomeIff result (IsInRange words.now begin len)
+        (number_at (bits_of words.now) begin (reach_of begin len)) }
+{
+    let (segment, offset) = (begin / 64, (begin % 64) as u8);
+    if segment >= words.len() {
+        return None;
+    }
+    let low = words[segment] >> offset;
+    if offset + len <= 64 {
+        return Some(low);
+    }
+    // Only a range that crosses the word's end asks for the next word.
+    if segment + 1 < words.len() {
+        Some(low | (words[segment + 1] << (64 - offset)))
+    } else {
+        None
+    }
+}
+
+/// The `len` bits from `begin` on as a number, lowest first; `None` exactly where they are not in range.
+///
+/// # Conditions
+/// `len` is 0 to 63.
+#[inline(always)]
+pub fn try_get_bits(words: &[u64], begin: usize, len: u8) -> Option<u64>
+    requires { len ≤ 63 }
+    ensures { SomeIff result (IsInRange words.now begin len)
+        (number_at (bits_of words.now) begin len) }
+{
+    let wide = try_get_bits_unmasked(words, begin, len)?;
+    Some(wide & n_lowest_bits(len))
+}
+
+/// Whether there is a bit at `begin`, and there are `len` bits from there on.
+///
+/// # Conditions
+/// `len` is 0 to 64.
+#[inline(always)]
+pub(crate) fn is_in_range(words: &[u64], begin: usize, len: u8) -> bool
+    requires { len ≤ 64 }
+    ensures { IsTrue result ↔ IsInRange words.now begin len }
+{
+    let (segment, offset) = (begin / 64, (begin % 64) as u8);
+    if offset + len <= 64 {
+        return segment < words.len();
+    }
+    segment + 1 < words.len()
+}
+
+/// The `len` bits from `begin` on as a number, lowest first, up to 64 of them; `None` exactly where they are not in
+/// range, or `len` is above 64.
+#[inline(always)]
+pub fn try_get_bits_0_64(words: &[u64], begin: usize, len: u8) -> Option<u64>
+    ensures { SomeIff result ((len ≤ 64) × IsInRange words.now begin len)
+        (number_at (bits_of words.now) begin len) }
+{
+    if len > 64 {
+        return None;
+    }
+    let wide = try_get_bits_unmasked(words, begin, len)?;
+    Some(wide & n_lowest_bits_0_64(len))
+}

@@ -1,7 +1,0 @@
--- The masks count the ones of each byte, and the product sums them up.
-use Rattle.bitm.proofs.lemmas.ByteSumLemmas.{byte_sums_are}
-use Rattle.bitm.proofs.lemmas.LeBytesLemmas.{sums_are}
-use Rattle.bitm.proofs.word.byte_sums.Goals as goal
-
-pub returns : goal.returns
-returns c = sums_are c.args.n _ (λ k inside. byte_sums_are c.args.n k c.ranges.n.fits inside)

@@ -1,0 +1,48 @@
+//! The search for an entry of a part by a walk from an earlier one.
+ghost use Rattle.std.specs.Prelude.{◌≡◌, ◌+◌, ◌-◌, ◌*◌, ◌/◌, ◌<◌, ◌≤◌, length};
+ghost use Rattle.bit_lists.specs.Bits.{bits_of, IsShort};
+ghost use Rattle.bitm_search.specs.Entry.{lower_entry};
+ghost use Rattle.bitm_search.specs.Reads.{ReadsAtMost};
+ghost use Rattle.bitm_search.specs.Search.{entry_in, IsLastEntry, entries_from, items_to, sought_in};
+ghost use Rattle.bitm_search.specs.Tables.{HasTables};
+
+use bitm_search::entry::{entries_of_part, ones_to_entry};
+use bitm_search::levels::L2_ENTRIES_PER_L1_ENTRY;
+use bitm_search::search::entries::sought_entry;
+use bitm_search::source::TableSource;
+
+/// The last entry of a part, from entry `from` on, with no more than `rank` of the kind before it in the part: its
+/// place in the part, and what it packs.
+#[inline(always)]
+pub(crate) fn walk<const ONE: u8, T: TableSource>(
+    source: &mut T,
+    part: usize,
+    from: usize,
+    rank: usize,
+) -> (usize, u64)
+    requires tables { HasTables (T.lists source.old) }
+    requires short { IsShort (T.lists source.old).words }
+    requires inside { part < length (T.lists source.old).upper }
+    requires from { from < entries_from (length (T.lists source.old).lower) part }
+    requires at_most { items_to ONE (bits_of (T.lists source.old).words) part from ≤ rank }
+    ensures last { IsLastEntry (sought_in ONE (T.lists source.old).words)
+        (length (T.lists source.old).lower) part rank result.0 }
+    ensures entry { result.1
+        ≡ lower_entry (sought_in ONE (T.lists source.old).words) (entry_in part result.0) }
+    ensures order { from ≤ result.0 }
+    ensures reads { ReadsAtMost (T.reads source.old) (T.reads source.new)
+        0 (result.0 - from + 2) 0 }
+    ensures same { T.lists source.new ≡ T.lists source.old }
+{
+    let first = part * L2_ENTRIES_PER_L1_ENTRY;
+    let end = entries_of_part(source.lower_len(), part);
+    let mut packed = sought_entry::<ONE, T>(source, first + from);
+    for next in from + 1..end {
+        let entry = sought_entry::<ONE, T>(source, first + next);
+        if rank < ones_to_entry(entry) {
+            return (next - 1, packed);
+        }
+        packed = entry;
+    }
+    (end - 1, packed)
+}

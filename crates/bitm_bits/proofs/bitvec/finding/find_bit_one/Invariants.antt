@@ -1,9 +1,0 @@
-use Rattle.std.proofs.Common.{◌-◌, ◌*◌, ◌+◌, ◌<◌, length}
-use Rattle.bitm_bits.proofs.lemmas.FindLemmas.{IsRestFrom}
-use Rattle.bitm_bits.proofs.bitvec.finding.find_bit_one.Given as goal
-
-abbrev pub invariant-loop-rest : goal.invariant-loop-rest
-invariant-loop-rest l = record { left : IsRestFrom l.words l.start l.word_index l.rest; near : l.start < 64 * (l.word_index + 1) }
-
-abbrev pub decreases-loop-rest : goal.decreases-loop-rest
-decreases-loop-rest l = length l.words - l.word_index

@@ -1,6 +1,0 @@
-use Rattle.std.proofs.Common.{◌≡◌, ℕ, ◌*◌, ◌<◌, false}
-use Rattle.bitm_bits.specs.Bits.{bits_of, item}
-use Rattle.bitm_bits.proofs.bitvec.finding.trailing_zero_bits.Given as goal
-
-abbrev pub invariant-loop-word_index : goal.invariant-loop-word_index
-invariant-loop-word_index l = (i : ℕ) → i < 64 * l.word_index → item (bits_of l.words) i ≡ false

@@ -1,5 +1,0 @@
-use Rattle.bitm_bits.proofs.lemmas.WriteLemmas.{bit_set}
-use Rattle.bitm_bits.proofs.bitvec.writing.set_bit.Goals as goal
-
-pub returns : goal.returns
-returns c = bit_set c.args.words.now c.args.place c.requires

@@ -1,5 +1,0 @@
-use Rattle.bitm_bits.proofs.lemmas.ComingLemmas.{bits_coming_none}
-use Rattle.bitm_bits.proofs.laws.no_bits_come.Goals as goal
-
-pub returns : goal.returns
-returns c = bits_coming_none

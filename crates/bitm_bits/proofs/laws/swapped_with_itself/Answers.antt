@@ -1,5 +1,0 @@
-use Rattle.bitm_bits.proofs.lemmas.SwapLemmas.{with_swapped-itself}
-use Rattle.bitm_bits.proofs.laws.swapped_with_itself.Goals as goal
-
-pub returns : goal.returns
-returns c = with_swapped-itself

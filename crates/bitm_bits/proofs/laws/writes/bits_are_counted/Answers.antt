@@ -1,5 +1,0 @@
-use Rattle.bitm_bits.proofs.lemmas.BitsLemmas.{length-bits_of}
-use Rattle.bitm_bits.proofs.laws.writes.bits_are_counted.Goals as goal
-
-pub returns : goal.returns
-returns c = length-bits_of

@@ -1,0 +1,11 @@
+pub mod EntryLemmas
+pub mod LengthLemmas
+pub mod ManyLemmas
+pub mod MarkLemmas
+pub mod RankLemmas
+pub mod SearchLemmas
+pub mod SelectedLemmas
+pub mod SoughtLemmas
+pub mod StretchLemmas
+pub mod TableLemmas
+pub mod TableMakingLemmas

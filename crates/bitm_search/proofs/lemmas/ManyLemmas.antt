@@ -1,0 +1,286 @@
+-- Many queries at once: a search by powers of two, and the record that it ends at.
+use Rattle.std.proofs.Common.{◌≡◌, ◌≢◌, ℕ, ◌+◌, ◌-◌, ◌*◌, ◌^◌, ◌<◌, ◌≤◌, List, ◌++◌, take, drop, length, slice_index, slice_set, subst, sym, ap, ◌∙◌, arith, rules, inl, inr}
+use Rattle.std.proofs.lemmas.Bool.{cases_lt}
+use Rattle.std.proofs.lemmas.List.{get_or-set_same, get_or-set_other, get_or-take, get_or-drop, length-append, length-take, length-drop, places}
+use Rattle.std.proofs.Math.Pow.{pow_mono}
+use Rattle.std.proofs.lemmas.Nat.{pow-add}
+use Rattle.bit_lists.specs.Bits.{bits_of, IsShort}
+use Rattle.bit_lists.specs.Count.{ones_before, count_of, kind}
+use Rattle.bitm_search.specs.Entry.{before_in_part, field_0, lower_entry, record_field}
+use Rattle.bitm_search.specs.Answers.{told_in, IsSelectedFrom, SelectTold}
+use Rattle.bitm_search.specs.Many.{IsNear, IsInRecord}
+use Rattle.bitm_search.specs.Search.{sought_in, IsLastPart, IsLastEntry, IsPartOf, IsWord}
+use Rattle.bitm_search.specs.Tables.{Lists, HasTables}
+use Rattle.bitm_search.specs.declared.search.selected.Selected.{Selected}
+use Rattle.bitm_search.proofs.lemmas.MarkLemmas.{none_in_nothing}
+use Rattle.bitm_search.proofs.lemmas.LengthLemmas.{few_entries, first_of_part, sizes_of}
+use Rattle.bitm_search.proofs.lemmas.SelectedLemmas.{has_bit, selected, told_is}
+use Rattle.bitm_search.proofs.lemmas.SoughtLemmas.{first_none, next_is, rank_is}
+use Rattle.bitm_search.proofs.lemmas.TableLemmas.{entries}
+use borrow.Rule.Slice.PartMut.{put_mid}
+
+module _ (one : ℕ) (lists : Lists) (rank rest : ℕ) where
+  -- a search begins at the part's first entry
+  pub near_begins : (part : ℕ) → HasTables lists → IsShort lists.words → IsPartOf one lists rank part rest
+      → IsNear one lists rank rest (part * 2 ^ 21) 21
+  near_begins part t short is =
+      record {
+        part = part;
+        low = 0;
+        place = omega arith;
+        last = subst (λ (n : ℕ). IsLastPart (sought_in one lists.words) (length lists.upper) n part) is.total is.last;
+        total = sym is.total;
+        inside = omega (arith, first_of_part lists (sizes_of lists t short) part is.last.inside);
+        at_most = omega (arith, first_none (sought_in one lists.words) part);
+        next = λ h. absurd (omega (arith, h));
+        room = omega arith;
+      }
+
+  module _ (at size : ℕ) (near : IsNear one lists rank rest at (size + 1)) where
+    doubled : 2 ^ (size + 1) ≡ 2 ^ size + 2 ^ size
+    doubled = omega (arith, pow-add 2 size 1)
+
+    -- where no more stand before the entry in the middle it is that one or a later one
+    pub near_up : at + 2 ^ size < length lists.lower → before_in_part (sought_in one lists.words) (at + 2 ^ size) ≤ rest
+        → IsNear one lists rank rest (at + 2 ^ size) size
+    near_up inside at_most =
+        let there : near.part * 2 ^ 21 + (near.low + 2 ^ size) ≡ at + 2 ^ size = omega (arith, near.place) in
+        let end : near.low + 2 ^ (size + 1) ≡ near.low + 2 ^ size + 2 ^ size = omega (arith, doubled) in
+        record {
+          part = near.part;
+          low = near.low + 2 ^ size;
+          place = sym there;
+          last = near.last;
+          total = near.total;
+          inside = omega (arith, inside, near.place, near.room, doubled);
+          at_most = subst (λ (n : ℕ). before_in_part (sought_in one lists.words) n ≤ rest) (sym there) at_most;
+          next =
+              λ h.
+              subst (λ (n : ℕ). rest < before_in_part (sought_in one lists.words) (near.part * 2 ^ 21 + n)) end
+              (near.next (omega (arith, h, end)));
+          room = omega (arith, near.room, end);
+        }
+
+    -- where more stand before it, or there is no such entry, it is an earlier one
+    pub near_stays : (at + 2 ^ size < length lists.lower → rest < before_in_part (sought_in one lists.words) (at + 2 ^ size))
+        → IsNear one lists rank rest at size
+    near_stays above =
+        let there : near.part * 2 ^ 21 + (near.low + 2 ^ size) ≡ at + 2 ^ size = omega (arith, near.place) in
+        record {
+          part = near.part;
+          low = near.low;
+          place = near.place;
+          last = near.last;
+          total = near.total;
+          inside = near.inside;
+          at_most = near.at_most;
+          next =
+              λ h.
+              subst (λ (n : ℕ). rest < before_in_part (sought_in one lists.words) n) (sym there) (above (omega (arith, h, there)));
+          room = omega (arith, near.room, doubled);
+        }
+
+-- where there are no more entries than so many, as many halvings are enough
+pub near_enough : (one : ℕ) (lists : Lists) (rank rest at size : ℕ) → IsNear one lists rank rest at 21 → size ≤ 21
+    → (size < 21 → length lists.lower ≤ 2 ^ size) → IsNear one lists rank rest at size
+near_enough one lists rank rest at size near most enough =
+    let first : near.low ≡ 0 = omega (arith, near.room) in
+    let small : 2 ^ size ≤ 2 ^ 21 = pow_mono most in
+    record {
+      part = near.part;
+      low = near.low;
+      place = near.place;
+      last = near.last;
+      total = near.total;
+      inside = near.inside;
+      at_most = near.at_most;
+      next =
+          λ h.
+          elim (cases_lt size 21) [
+            | inl below ↦ absurd (omega (arith, h, enough below))
+            | inr all ↦
+                let same : size ≡ 21 = omega (arith, all, most) in
+                absurd (omega (arith, h, ap (λ (n : ℕ). 2 ^ n) same))
+          ];
+      room = omega (arith, first, small);
+    }
+
+-- the search ends at the last entry
+pub near_ends : (one : ℕ) (lists : Lists) (rank rest at : ℕ) → (near : IsNear one lists rank rest at 0)
+    → IsLastEntry (sought_in one lists.words) (length lists.lower) near.part rest near.low
+near_ends one lists rank rest at near = record { inside = near.inside; at_most = near.at_most; next = near.next }
+
+-- a search that finds the last entry of the part ends there
+pub near_found : (one : ℕ) (lists : Lists) (rank rest part low : ℕ) → IsPartOf one lists rank part rest
+    → IsLastEntry (sought_in one lists.words) (length lists.lower) part rest low
+    → IsNear one lists rank rest (part * 2 ^ 21 + low) 0
+near_found one lists rank rest part low is last =
+    record {
+      part = part;
+      low = low;
+      place = omega arith;
+      last = subst (λ (n : ℕ). IsLastPart (sought_in one lists.words) (length lists.upper) n part) is.total is.last;
+      total = sym is.total;
+      inside = last.inside;
+      at_most = last.at_most;
+      next = last.next;
+      room = omega (arith, last.inside);
+    }
+
+-- the entry that the search ends at is one of few
+pub near_few : (one : ℕ) (lists : Lists) (rank rest at : ℕ) → HasTables lists → IsShort lists.words → IsNear one lists rank rest at 0
+    → at * 32 + 32 < 2 ^ 60
+near_few one lists rank rest at t short near =
+    omega (arith, near.place, near.inside, few_entries lists (sizes_of lists t short))
+
+-- the record that is chosen in the entry where the search ends
+module _ (one : ℕ) (lists : Lists) (rank rest at packed count place before word : ℕ) (t : HasTables lists) (short : IsShort lists.words)
+    (near : IsNear one lists rank rest at 0) (packed_is : packed ≡ lower_entry (sought_in one lists.words) at)
+    (count_is : count ≡ field_0 packed) (small : place < 4) (before_is : before ≡ record_field packed place)
+    (at_most : before ≤ rest - count) (next : place < 3 → rest - count < record_field packed (place + 1))
+    (word_is : at * 32 + place * 8 < length lists.words → IsWord (sought_in one lists.words) (at * 32 + place * 8) word) where
+  there : ℕ
+  there = near.part * 2 ^ 21 + near.low
+
+  packed_there : packed ≡ lower_entry (sought_in one lists.words) (near.part * 2 ^ 21 + near.low)
+  packed_there = packed_is ∙ ap (lower_entry (sought_in one lists.words)) near.place
+
+  part : IsLastPart (sought_in one lists.words) (length lists.upper)
+      (ones_before (sought_in one lists.words) (near.part * 2 ^ 32) + rest) near.part
+  part =
+      subst (λ (r : ℕ). IsLastPart (sought_in one lists.words) (length lists.upper) r near.part) near.total near.last
+
+  total : ones_before (sought_in one lists.words) (64 * ((near.part * 2 ^ 21 + near.low) * 32 + place * 8)) + (rest - count - before)
+      ≡ ones_before (sought_in one lists.words) (near.part * 2 ^ 32) + rest
+  total =
+      rank_is lists.words lists.upper lists.lower t (sought_in one lists.words) near.part rest near.low place packed count before
+      part (near_ends one lists rank rest at near) packed_there count_is small before_is at_most next
+
+  after : (near.part * 2 ^ 21 + near.low) * 32 + place * 8 + 8 < length lists.words
+      → ones_before (sought_in one lists.words) (64 * ((near.part * 2 ^ 21 + near.low) * 32 + place * 8)) + (rest - count - before)
+      < ones_before (sought_in one lists.words) (64 * ((near.part * 2 ^ 21 + near.low) * 32 + place * 8 + 8))
+  after =
+      next_is lists.words lists.upper lists.lower t (sought_in one lists.words) near.part rest near.low place packed count before
+      part (near_ends one lists rank rest at near) packed_there count_is small before_is at_most next
+
+  pub near_loads : IsInRecord one lists rank (rest - count - before) (at * 32 + place * 8) word
+  near_loads =
+      let same : (near.part * 2 ^ 21 + near.low) * 32 + place * 8 ≡ at * 32 + place * 8 = omega (arith, near.place) in
+      let here = ap (λ (n : ℕ). ones_before (sought_in one lists.words) (64 * n)) same in
+      let end = ap (λ (n : ℕ). ones_before (sought_in one lists.words) (64 * (n + 8))) same in
+      record {
+        fits = omega (arith, near_few one lists rank rest at t short near, small);
+        total = λ _. omega (arith, near.total, total, here);
+        next = λ _ h. omega (arith, near.total, total, after (omega (arith, h, same)), end);
+        word_is = word_is;
+      }
+
+-- what is told of a selection in the record
+pub told_record : (one : ℕ) (lists : Lists) (rank rest first word : ℕ) → IsInRecord one lists rank rest first word → (s : Selected)
+    → IsSelectedFrom lists.words (kind one) first (ones_before (sought_in one lists.words) (64 * first) + rest) s
+    → SelectTold (kind one) lists rank (told_in s)
+told_record one lists rank rest first word there s is =
+    let R = ones_before (sought_in one lists.words) (64 * first) + rest in
+    told_is (kind one) lists rank s (has_bit lists.words (kind one) first R s is)
+    (λ t.
+    selected lists.words (kind one) first rank s (there.next t)
+    (subst (λ (n : ℕ). IsSelectedFrom lists.words (kind one) first n s) (sym (there.total t)) is))
+
+-- ---- lists that are written item by item: what holds of the items so far, and of those that are left
+
+at_once : (k : ℕ) (Q : ℕ → Type 0) → Q k → ((j : ℕ) → j < k → Q j) → (j : ℕ) → j < k + 1 → Q j
+at_once k Q new old j h =
+    elim (cases_lt j k) [
+      | inl below ↦ old j below
+      | inr over ↦ let e : k ≡ j = omega (arith, over, h) in subst Q e new
+    ]
+
+module _ (P : ℕ → ℕ → Type 0) (xs : List ℕ) (k v : ℕ) (inside : k < length xs) where
+  pub written : P k v → ((j : ℕ) → j < k → P j (slice_index xs j)) → (j : ℕ) → j < k + 1 → P j (slice_index (slice_set xs k v) j)
+  written new old =
+      at_once k (λ j. P j (slice_index (slice_set xs k v) j)) (subst (P k) (sym (get_or-set_same xs k v 0 inside)) new)
+      (λ j h. subst (P j) (sym (get_or-set_other xs k j v 0 (λ e. omega (arith, e, h)))) (old j h))
+
+  pub unwritten : (n : ℕ) → ((j : ℕ) → k ≤ j → j < n → P j (slice_index xs j)) → (j : ℕ) → k + 1 ≤ j → j < n
+      → P j (slice_index (slice_set xs k v) j)
+  unwritten n old j h l =
+      subst (P j) (sym (get_or-set_other xs k j v 0 (λ e. omega (arith, e, h)))) (old j (omega (arith, h)) l)
+
+-- the same of three lists at once, and of two
+module _ (xs ys zs : List ℕ) (k u v w : ℕ) where
+  pub written_three : (P : ℕ → ℕ → ℕ → ℕ → Type 0) → k < length xs → k < length ys → k < length zs → P k u v w
+      → ((j : ℕ) → j < k → P j (slice_index xs j) (slice_index ys j) (slice_index zs j)) → (j : ℕ) → j < k + 1
+      → P j (slice_index (slice_set xs k u) j) (slice_index (slice_set ys k v) j) (slice_index (slice_set zs k w) j)
+  written_three P in_xs in_ys in_zs new old =
+      at_once k (λ j. P j (slice_index (slice_set xs k u) j) (slice_index (slice_set ys k v) j) (slice_index (slice_set zs k w) j))
+      (rw (get_or-set_same xs k u 0 in_xs, get_or-set_same ys k v 0 in_ys, get_or-set_same zs k w 0 in_zs) new)
+      (λ j h.
+      let other : j ≢ k = λ e. omega (arith, e, h) in
+      rw (get_or-set_other xs k j u 0 other, get_or-set_other ys k j v 0 other, get_or-set_other zs k j w 0 other) (old j h))
+
+  pub unwritten_two : (P : ℕ → ℕ → ℕ → Type 0) (n : ℕ) → ((j : ℕ) → k ≤ j → j < n → P j (slice_index xs j) (slice_index ys j))
+      → (j : ℕ) → k + 1 ≤ j → j < n → P j (slice_index (slice_set xs k u) j) (slice_index (slice_set ys k v) j)
+  unwritten_two P n old j h l =
+      let other : j ≢ k = λ e. omega (arith, e, h) in
+      rw (get_or-set_other xs k j u 0 other, get_or-set_other ys k j v 0 other) (old j (omega (arith, h)) l)
+
+-- ---- a part of a list that is written at once
+
+pub put_below : (a k : ℕ) (xs ys : List ℕ) (j : ℕ) → j < a → a ≤ length xs → slice_index (put_mid a k xs ys) j ≡ slice_index xs j
+put_below a k xs ys j h inside = search (rules, places)
+
+pub put_inside : (a k : ℕ) (xs ys : List ℕ) (j : ℕ) → j < length ys → a ≤ length xs
+    → slice_index (put_mid a k xs ys) (a + j) ≡ slice_index ys j
+put_inside a k xs ys j h inside = search (rules, places)
+
+pub put_long : (a n : ℕ) (xs ys : List ℕ) → a + n ≤ length xs → length ys ≡ n → length (put_mid a (a + n - a) xs ys) ≡ length xs
+put_long a n xs ys inside long =
+    omega (
+      arith,
+      long,
+      length-append (take a xs) (ys ++ drop (a + n - a) (drop a xs)),
+      length-append ys (drop (a + n - a) (drop a xs)),
+      length-take a xs,
+      length-drop (a + n - a) (drop a xs),
+      length-drop a xs,
+    )
+
+-- a part of a list has so many items
+pub part_long : (xs : List ℕ) (a n : ℕ) → a + n ≤ length xs → length (take (a + n - a) (drop a xs)) ≡ n
+part_long xs a n h = omega (arith, length-take (a + n - a) (drop a xs), length-drop a xs)
+
+-- an item of a part
+pub part_item : (xs : List ℕ) (a n j : ℕ) → j < n → slice_index (take (a + n - a) (drop a xs)) j ≡ slice_index xs (a + j)
+part_item xs a n j h = get_or-take (a + n - a) (drop a xs) j 0 (omega arith) ∙ get_or-drop a xs j 0
+
+-- what is written at once are the answers of a part, after those that stand
+pub answers_follow : (P : ℕ → ℕ → Type 0) (from n : ℕ) (ranks places new : List ℕ) → from + n ≤ length places → length new ≡ n
+    → ((j : ℕ) → j < from → P (slice_index ranks j) (slice_index places j))
+    → ((j : ℕ) → j < n → P (slice_index (take (from + n - from) (drop from ranks)) j) (slice_index new j))
+    → (j : ℕ) → j < from + n → P (slice_index ranks j) (slice_index (put_mid from (from + n - from) places new) j)
+answers_follow P from n ranks places new inside long old added j h =
+    let after = put_mid from (from + n - from) places new in
+    elim (cases_lt j from) [
+      | inl below ↦
+          subst (P (slice_index ranks j)) (sym (put_below from (from + n - from) places new j below (omega (arith, inside)))) (old j below)
+      | inr over ↦
+          let at : from + (j - from) ≡ j = omega (arith, over) in
+          let k : j - from < n = omega (arith, over, h) in
+          let there : slice_index after j ≡ slice_index new (j - from) =
+          ap (slice_index after) (sym at)
+          ∙ put_inside from (from + n - from) places new (j - from) (omega (arith, k, long)) (omega (arith, inside)) in
+          let rank : slice_index (take (from + n - from) (drop from ranks)) (j - from) ≡ slice_index ranks j =
+          part_item ranks from n (j - from) k ∙ ap (slice_index ranks) at in
+          subst (P (slice_index ranks j)) (sym there) (subst (λ (r : ℕ). P r (slice_index new (j - from))) rank (added (j - from) k))
+    ]
+
+-- a content that has an item of the kind has a part
+pub some_part : (one : ℕ) (lists : Lists) (rank : ℕ) → HasTables lists → rank < count_of (bits_of lists.words) (kind one)
+    → 0 < length lists.upper
+some_part one lists rank t some =
+    let e = entries (bits_of lists.words) lists.upper lists.lower t in
+    elim (cases_lt 0 (length (bits_of lists.words))) [
+      | inl long ↦ omega (arith, e.upper_length, long)
+      | inr none ↦
+          absurd (omega (arith, some, none_in_nothing (bits_of lists.words) (kind one) rank (omega (arith, none))))
+    ]

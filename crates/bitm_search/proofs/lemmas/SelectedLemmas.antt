@@ -1,0 +1,70 @@
+-- What a selection among eight words says where the tables are right, and where they may hold anything.
+use Rattle.std.proofs.Common.{◌≡◌, ℕ, ◌+◌, ◌*◌, ◌<◌, ◌≤◌, ◌-◌, ◌/◌, Bool, List, IfSome, length, refl, arith}
+use Rattle.bit_lists.proofs.lemmas.BitsLemmas.{length-bits_of}
+use Rattle.bit_lists.proofs.lemmas.PickLemmas.{rank_below}
+use Rattle.bit_lists.specs.Bits.{bits_of}
+use Rattle.bit_lists.specs.Count.{ones_before, count_of, IsSelect}
+use Rattle.bitm_search.specs.Answers.{place_in, told_in, HasBit, IsFoundFrom, IsSelected, IsSelectedFrom, SelectTold}
+use Rattle.bitm_search.specs.Search.{sought}
+use Rattle.bitm_search.specs.Tables.{HasTables, Lists, bits_in}
+use Rattle.bitm_search.specs.declared.search.selected.Selected.{Selected}
+use Rattle.bitm_search.specs.declared.search.selected.Selected.TheVariants.{Found, Absent, WrongTables}
+use Rattle.bitm_search.proofs.lemmas.MarkLemmas.{none_counted}
+
+module _ (words : List ℕ) (v : Bool) (k r : ℕ) where
+  -- a place that is picked has the bit
+  pub has_bit : (s : Selected) → IsSelectedFrom words v k r s → HasBit (bits_of words) v s
+  has_bit (Found p) is = (is.inside, is.item)
+  has_bit Absent is = tt
+  has_bit WrongTables is = tt
+
+  -- where the rank stands before the words that follow, the tables are not called wrong
+  pub selected : (s : Selected) → (k + 8 < length words → r < ones_before (sought v (bits_of words)) (64 * (k + 8)))
+      → IsSelectedFrom words v k r s → IsSelected (bits_of words) v r s
+  selected (Found p) next is = is
+  selected Absent next is = is
+  selected WrongTables next is = absurd (omega (arith, next is.0, is.1))
+
+  -- nothing is left where the words end
+  pub absent : (count : ℕ) → length words ≤ k + 8 → count ≡ length words - k
+      → ones_before (sought v (bits_of words)) (64 * (k + count)) ≤ r → count_of (bits_of words) v ≤ r
+  absent count ends is le =
+      none_counted (bits_of words) v r (64 * (k + count)) (omega (arith, length-bits_of words, is, ends)) le
+
+module _ (b : List Bool) (v : Bool) (r : ℕ) where
+  -- where the tables are right the place that is found is the one that is sought
+  pub is_select : (s : Selected) → IsSelected b v r s → IsSelect b v r (place_in s)
+  is_select (Found p) is = is
+  is_select Absent is = is
+  is_select WrongTables is = absurd is
+
+-- a place that is found between two others is between those around them
+pub found_within : (i j i' j' : ℕ) → i' ≤ i → j ≤ j' → (s : Selected) → IsFoundFrom i j s → IsFoundFrom i' j' s
+found_within i j i' j' low high (Found p) is = (omega (arith, is.0, low), omega (arith, is.1, high))
+found_within i j i' j' low high Absent is = tt
+found_within i j i' j' low high WrongTables is = tt
+
+-- a place from the entry's first bit on and before the next entry is in the entry
+pub in_entry : (k : ℕ) (s : Selected) → IsFoundFrom (2048 * k) (2048 * (k + 1)) s → IfSome (place_in s) (λ p. p / 2048 ≡ k)
+in_entry k (Found p) is = omega (arith, is.0, is.1)
+in_entry k Absent is = tt
+in_entry k WrongTables is = tt
+
+-- what a list of answers says of a selection
+pub told_is : (v : Bool) (lists : Lists) (r : ℕ) (s : Selected) → HasBit (bits_in lists) v s
+    → (HasTables lists → IsSelected (bits_in lists) v r s) → SelectTold v lists r (told_in s)
+told_is v lists r (Found p) bit answer = record {
+  bit = λ _. bit;
+  some = λ t _. answer t;
+  none = λ t past. absurd (omega (arith, past, rank_below (bits_in lists) v r p (answer t)));
+}
+told_is v lists r Absent bit answer = record {
+  bit = λ h. absurd (omega (arith, h));
+  some = λ t some. absurd (omega (arith, some, answer t));
+  none = λ _ _. refl {A = ℕ};
+}
+told_is v lists r WrongTables bit answer = record {
+  bit = λ h. absurd (omega (arith, h));
+  some = λ t. absurd (answer t);
+  none = λ t. absurd (answer t);
+}

@@ -1,0 +1,61 @@
+-- What calls over tables that may hold anything answer: of any tables, and of those of the words.
+use Rattle.std.specs.Prelude.{◌≡◌, ⊤, ℕ, ◌+◌, ◌-◌, ◌*◌, ◌^◌, ◌<◌, ◌≤◌, Bool, List, Option, Some, None, length, slice_index}
+use Rattle.bit_lists.specs.Bits.{bits_of, item}
+use Rattle.bit_lists.specs.Count.{ones_before, count_before, count_of, Picks}
+use Rattle.bitm_search.specs.Search.{sought}
+use Rattle.bitm_search.specs.Tables.{HasTables, Lists, bits_in}
+use Rattle.bitm_search.specs.declared.search.selected.Selected.{Selected}
+use Rattle.bitm_search.specs.declared.search.selected.Selected.TheVariants.{Found, Absent, WrongTables}
+
+-- a place that is found is inside, and bit v stands there
+abbrev pub HasBit : List Bool → Bool → Selected → Type 0
+HasBit b v (Found p) = (p < length b) × (item b p ≡ v)
+HasBit b v Absent = ⊤
+HasBit b v WrongTables = ⊤
+
+-- a place that is found is from place i on and before place j
+abbrev pub IsFoundFrom : ℕ → ℕ → Selected → Type 0
+IsFoundFrom i j (Found p) = (i ≤ p) × (p < j)
+IsFoundFrom i j Absent = ⊤
+IsFoundFrom i j WrongTables = ⊤
+
+-- the place that is found, if one is
+abbrev pub place_in : Selected → Option ℕ
+place_in (Found p) = Some p
+place_in Absent = None
+place_in WrongTables = None
+
+-- what a list of answers says of it
+abbrev pub told_in : Selected → ℕ
+told_in (Found p) = p
+told_in Absent = 2 ^ 64 - 1
+told_in WrongTables = 2 ^ 64 - 2
+
+-- the place with bit v and r such bits before it, and Absent exactly where there are no more than r of them
+abbrev pub IsSelected : List Bool → Bool → ℕ → Selected → Type 0
+IsSelected b v r (Found p) = Picks b v r p
+IsSelected b v r Absent = count_of b v ≤ r
+IsSelected b v r WrongTables = ⊥
+
+-- the same by rank r among the eight words from word k on, of which some may miss: WrongTables where more words follow and no
+-- more than r bits v stand before them
+abbrev pub IsSelectedFrom : List ℕ → Bool → ℕ → ℕ → Selected → Type 0
+IsSelectedFrom words v k r (Found p) = Picks (bits_of words) v r p
+IsSelectedFrom words v k r Absent = count_of (bits_of words) v ≤ r
+IsSelectedFrom words v k r WrongTables = (k + 8 < length words) × (ones_before (sought v (bits_of words)) (64 * (k + 8)) ≤ r)
+
+-- n tells how many of the first i bits are v: the greatest number where there are not so many bits, whatever the tables hold
+pub record RankTold (v : Bool) (lists : Lists) (i n : ℕ) : Type 0 where
+  pub none : length (bits_in lists) < i → n ≡ 2 ^ 64 - 1
+  pub some : i ≤ length (bits_in lists) → HasTables lists → n ≡ count_before (bits_in lists) v i
+
+-- n tells the place with bit v and r such bits before it: below 2^64 - 2 it is a place with bit v, whatever the tables hold, and
+-- it is 2^64 - 1 where they are right and there is none
+pub record SelectTold (v : Bool) (lists : Lists) (r n : ℕ) : Type 0 where
+  pub bit : n < 2 ^ 64 - 2 → (n < length (bits_in lists)) × (item (bits_in lists) n ≡ v)
+  pub some : HasTables lists → r < count_of (bits_in lists) v → Picks (bits_in lists) v r n
+  pub none : HasTables lists → count_of (bits_in lists) v ≤ r → n ≡ 2 ^ 64 - 1
+
+-- number k tells the place with rank k
+abbrev pub ToldEach : Bool → Lists → List ℕ → List ℕ → Type 0
+ToldEach v lists ranks places = (k : ℕ) → k < length ranks → SelectTold v lists (slice_index ranks k) (slice_index places k)

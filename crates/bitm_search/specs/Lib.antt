@@ -1,0 +1,9 @@
+pub mod Answers
+pub mod Entry
+pub mod Many
+pub mod Reads
+pub mod Search
+pub mod Tables
+pub use Rattle.bit_lists.specs.Bits
+pub use Rattle.bit_lists.specs.Count
+pub use Rattle.bit_lists.specs.Number

@@ -1,0 +1,55 @@
+-- Many queries at once: each answer by its query, and how far the queries of a block have come.
+use Rattle.std.specs.Prelude.{◌≡◌, ℕ, ◌+◌, ◌*◌, ◌^◌, ◌<◌, ◌≤◌, Bool, List, length, slice_index}
+use Rattle.bit_lists.specs.Count.{ones_before, Picks}
+use Rattle.bitm_search.specs.Entry.{before_in_part}
+use Rattle.bitm_search.specs.Search.{entries_from, entry_in, sought_in, IsLastPart, IsWord}
+use Rattle.bitm_search.specs.Tables.{HasTables, Lists}
+
+-- rank k is the number of ones before index k
+abbrev pub RanksEach : List Bool → List ℕ → List ℕ → Type 0
+RanksEach b indices ranks = (k : ℕ) → k < length indices → slice_index ranks k ≡ ones_before b (slice_index indices k)
+
+-- place k is that of the bit v with rank k
+abbrev pub PicksEach : List Bool → Bool → List ℕ → List ℕ → Type 0
+PicksEach b v ranks places = (k : ℕ) → k < length ranks → Picks b v (slice_index ranks k) (slice_index places k)
+
+-- of the items that are sought, the one of this rank is in the last part with no more before it, where rest of them stand before
+-- it, and the last entry of the part with no more before it than that is among the 2^size from entry `at` on
+pub record IsNear (one : ℕ) (lists : Lists) (rank rest at size : ℕ) : Type 0 where
+  pub part : ℕ
+  pub low : ℕ
+  pub place : at ≡ entry_in part low
+  pub last : IsLastPart (sought_in one lists.words) (length lists.upper) rank part
+  pub total : rank ≡ ones_before (sought_in one lists.words) (part * 2 ^ 32) + rest
+  pub inside : low < entries_from (length lists.lower) part
+  pub at_most : before_in_part (sought_in one lists.words) (entry_in part low) ≤ rest
+  pub next : low + 2 ^ size < entries_from (length lists.lower) part
+      → rest < before_in_part (sought_in one lists.words) (entry_in part (low + 2 ^ size))
+  pub room : low + 2 ^ size ≤ 2 ^ 21
+
+-- a search is at an entry, and where the tables are those of the words it is on its way to the item of the rank
+pub record IsSearch (one : ℕ) (lists : Lists) (rank rest at size : ℕ) : Type 0 where
+  pub entry : at < length lists.lower
+  pub near : HasTables lists → IsNear one lists rank rest at size
+
+-- query k has its rest and its entry in the two lists
+pub record AreSearches (one : ℕ) (lists : Lists) (ranks rests entries : List ℕ) (size : ℕ) : Type 0 where
+  pub rests_enough : length ranks ≤ length rests
+  pub entries_enough : length ranks ≤ length entries
+  pub each : (k : ℕ) → k < length ranks → IsSearch one lists (slice_index ranks k) (slice_index rests k) (slice_index entries k) size
+
+-- of the items that are sought, the one of this rank, if there is one, is in the record that begins at word first, where rest of
+-- them stand before it, if the tables are those of the words; word is the first of the record
+pub record IsInRecord (one : ℕ) (lists : Lists) (rank rest first word : ℕ) : Type 0 where
+  pub fits : first < 2 ^ 60
+  pub word_is : first < length lists.words → IsWord (sought_in one lists.words) first word
+  pub total : HasTables lists → rank ≡ ones_before (sought_in one lists.words) (64 * first) + rest
+  pub next : HasTables lists → first + 8 < length lists.words → rank < ones_before (sought_in one lists.words) (64 * (first + 8))
+
+-- query k has its rest, its record and that one's first word in the three lists
+pub record AreInRecords (one : ℕ) (lists : Lists) (ranks rests firsts words : List ℕ) : Type 0 where
+  pub rests_enough : length ranks ≤ length rests
+  pub firsts_enough : length ranks ≤ length firsts
+  pub words_enough : length ranks ≤ length words
+  pub each : (k : ℕ) → k < length ranks
+      → IsInRecord one lists (slice_index ranks k) (slice_index rests k) (slice_index firsts k) (slice_index words k)

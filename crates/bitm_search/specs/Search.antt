@@ -1,0 +1,82 @@
+-- The bits in which ones are sought, and where the tables tell that one of a rank is.
+use Rattle.std.specs.Prelude.{◌≡◌, ℕ, ◌+◌, ◌-◌, ◌*◌, ◌^◌, ◌<◌, ◌≤◌, Bool, false, not, if◌then◌else◌, List, ◌++◌, length, map, min, replicate}
+use Rattle.std.specs.Int.{div_ceil}
+use Rattle.bit_lists.specs.Bits.{bits_of}
+use Rattle.bit_lists.specs.Count.{ones_before, kind}
+use Rattle.bit_lists.specs.Number.{number_at}
+use Rattle.bitm_search.specs.Entry.{before_in_part, lower_entry}
+use Rattle.bitm_search.specs.Tables.{HasTables, Lists}
+use Rattle.bitm_search.specs.declared.search.entries.EntryRange.{EntryRange}
+
+-- the bits, and falses up to a multiple of 2048
+abbrev pub padded : List Bool → List Bool
+padded b = b ++ replicate (div_ceil (length b) 2048 * 2048 - length b) false
+
+-- each item negated
+abbrev pub negated : List Bool → List Bool
+negated b = map not b
+
+-- the bits in which ones are sought: the padded bits, all negated where v is false, so that a missing bit of the last
+-- entry counts as a zero
+abbrev pub sought : Bool → List Bool → List Bool
+sought v b = if v then padded b else negated (padded b)
+
+-- the bits of words in which ones are sought, where 0 stands for zeros and each other number for ones
+abbrev pub sought_in : ℕ → List ℕ → List Bool
+sought_in one words = sought (kind one) (bits_of words)
+
+-- k is the last of n places whose count is at most r, as far as the next one tells
+pub record IsLast (count : ℕ → ℕ) (n r k : ℕ) : Type 0 where
+  pub inside : k < n
+  pub at_most : count k ≤ r
+  pub next : k + 1 < n → r < count (k + 1)
+
+-- a search, among n counts that rise, for the last one that is at most r: it is among those from low on, of which so
+-- many are left
+pub record Between (count : ℕ → ℕ) (n r low left : ℕ) : Type 0 where
+  pub some : 0 < left
+  pub bound : low + left ≤ n
+  pub at_most : count low ≤ r
+  pub above : low + left < n → r < count (low + left)
+
+-- the last part with no more than r ones before it
+abbrev pub IsLastPart : List Bool → ℕ → ℕ → ℕ → Type 0
+IsLastPart m parts r part = IsLast (λ k. ones_before m (k * 2 ^ 32)) parts r part
+
+-- the last part with no more than r of the kind before it, of which rest are left there
+pub record IsPartOf (one : ℕ) (lists : Lists) (r part rest : ℕ) : Type 0 where
+  pub last : IsLastPart (sought_in one lists.words) (length lists.upper) (ones_before (sought_in one lists.words) (part * 2 ^ 32) + rest) part
+  pub total : ones_before (sought_in one lists.words) (part * 2 ^ 32) + rest ≡ r
+
+-- how many entries a part has, of so many entries in all
+abbrev pub entries_from : ℕ → ℕ → ℕ
+entries_from entries part = min (entries - part * 2 ^ 21) (2 ^ 21)
+
+-- entry j of a part, counted from the first entry of all
+abbrev pub entry_in : ℕ → ℕ → ℕ
+entry_in part j = part * 2 ^ 21 + j
+
+-- the last entry of a part with no more than r ones before it in the part
+abbrev pub IsLastEntry : List Bool → ℕ → ℕ → ℕ → ℕ → Type 0
+IsLastEntry m entries part r e = IsLast (λ j. before_in_part m (entry_in part j)) (entries_from entries part) r e
+
+-- the last entry of a part with no more than r ones before it in the part is among those from low on, of which so many
+-- are left
+abbrev pub IsAmong : List Bool → ℕ → ℕ → ℕ → ℕ → ℕ → Type 0
+IsAmong m entries part r low left = Between (λ j. before_in_part m (part * 2 ^ 21 + j)) (entries_from entries part) r low left
+
+-- a range of the entries of a part, and, where the tables are those of the words, that the last entry of the part with no more
+-- than r ones before it is in the range, and what the range's first entry packs, unless it is the part's first
+pub record IsRange (one : ℕ) (lists : Lists) (part r : ℕ) (range : EntryRange) : Type 0 where
+  pub some : 0 < range.left
+  pub within : range.low + range.left ≤ entries_from (length lists.lower) part
+  pub among : HasTables lists → IsAmong (sought_in one lists.words) (length lists.lower) part r range.low range.left
+  pub packed : HasTables lists → 0 < range.low → range.packed ≡ lower_entry (sought_in one lists.words) (entry_in part range.low)
+
+-- how many of the bits that are sought stand in a part before its entry j
+abbrev pub items_to : ℕ → List Bool → ℕ → ℕ → ℕ
+items_to one b part j = before_in_part (sought (kind one) b) (entry_in part j)
+
+-- w is word k of the bits: the number that 64 of them are, lowest first
+abbrev pub IsWord : List Bool → ℕ → ℕ → Type 0
+IsWord m k w = w ≡ number_at m (64 * k) 64

@@ -1,0 +1,8 @@
+//! Rank and selection over a source of words and tables, with a bound on the reads of each.
+
+pub mod entries;
+pub mod many;
+pub mod ranking;
+pub mod record;
+pub mod selected;
+pub mod selecting;

@@ -1,0 +1,174 @@
+//! Selection in an entry that was found: the record of the entry, the word of the record, the bit of the word. The
+//! entry may be any: where it is not that of the rank, the words decide.
+ghost use Rattle.std.specs.Prelude.{◌≡◌, ◌+◌, ◌-◌, ◌*◌, ◌/◌, ◌%◌, ◌^◌, ◌<◌, ◌≤◌};
+ghost use Rattle.std.specs.Prelude.{length, count_ones, IfSome, MatchOption};
+ghost use Rattle.bit_lists.specs.Bits.{bits_of, IsShort};
+ghost use Rattle.bit_lists.specs.Count.{ones_before, kind, Picks};
+ghost use Rattle.bitm_search.specs.Answers.{HasBit, IsFoundFrom, IsSelected, IsSelectedFrom};
+ghost use Rattle.bitm_search.specs.Entry.{field_1, field_2, field_3, lower_entry, record_field};
+ghost use Rattle.bitm_search.specs.Reads.{word_read, ReadsAtMost};
+ghost use Rattle.bitm_search.specs.Search.{entries_from, entry_in, sought_in, IsLastPart, IsLastEntry, IsWord};
+ghost use Rattle.bitm_search.specs.Tables.{HasSizes, HasTables, bits_in};
+
+use crate::entry::{ones_to_entry, ones_to_record};
+use crate::levels::{L2_ENTRIES_PER_L1_ENTRY, U64_PER_L2_ENTRY, U64_PER_L2_RECORDS};
+use crate::search::selected::Selected;
+use crate::source::TableSource;
+use broadword::select64;
+
+/// 1 where no more than `rank` were counted, else 0.
+#[inline(always)]
+pub fn is_at_most(count: usize, rank: usize) -> usize
+    ensures yes { count ≤ rank → result ≡ 1 }
+    ensures no { rank < count → result ≡ 0 }
+{
+    (count <= rank) as usize
+}
+
+/// The record of an entry that has the one with this rank, and the ones of the entry before that record: by three
+/// comparisons, and no branch.
+///
+/// Where the entry's counts fall from record to record, as in no entry of a right table, it is some record of it.
+#[inline(always)]
+pub fn record_of(entry: u64, rank: usize) -> (usize, usize)
+    ensures inside { result.0 < 4 }
+    ensures before { result.1 ≡ record_field entry result.0 }
+    ensures at_most { field_1 entry ≤ field_2 entry → field_2 entry ≤ field_3 entry
+        → result.1 ≤ rank }
+    ensures next { field_1 entry ≤ field_2 entry → field_2 entry ≤ field_3 entry
+        → result.0 < 3 → rank < record_field entry (result.0 + 1) }
+{
+    let one = (entry >> 54) as usize;
+    let two = (entry >> 43 & 0x7FF) as usize;
+    let three = (entry >> 32 & 0x7FF) as usize;
+    let place = is_at_most(one, rank) + is_at_most(two, rank) + is_at_most(three, rank);
+    (place, ones_to_record(entry, place))
+}
+
+/// The place of the one in a word with so many ones before it.
+///
+/// # Conditions
+/// The word has more than `rank` ones.
+#[inline(always)]
+pub fn select_in_word(word: u64, rank: usize) -> usize
+    requires { rank < count_ones word }
+    ensures inside { result < 64 }
+    ensures before { count_ones (word % 2 ^ result) ≡ rank }
+    ensures after { count_ones (word % 2 ^ (result + 1)) ≡ rank + 1 }
+{
+    select64(word, rank as u8) as usize
+}
+
+/// Word `at` of the bits in which ones are sought: negated where `ONE` is 0.
+///
+/// # Conditions
+/// There is such a word. Nothing is asked of the tables.
+#[inline(always)]
+pub fn sought_word<const ONE: u8, T: TableSource>(source: &mut T, at: usize) -> u64
+    requires { at < length (T.lists source.old).words }
+    ensures word { IsWord (sought_in ONE (T.lists source.old).words) at result }
+    ensures counted { T.reads source.new ≡ word_read (T.reads source.old) }
+    ensures same { T.lists source.new ≡ T.lists source.old }
+{
+    let word = source.word(at);
+    if ONE == 0 { !word } else { word }
+}
+
+/// Selection among `count` words from `first` on; the rank counts from there.
+#[inline(always)]
+pub fn among<const ONE: u8, T: TableSource>(
+    source: &mut T,
+    first: usize,
+    count: usize,
+    rank: usize,
+) -> Option<usize>
+    requires short { IsShort (T.lists source.old).words }
+    requires first { first < 2 ^ 60 }
+    requires most { count ≤ 8 }
+    requires inside { count ≤ length (T.lists source.old).words - first }
+    ensures answer { let m = sought_in ONE (T.lists source.old).words in
+        MatchOption result
+        (ones_before m (64 * (first + count)) ≤ ones_before m (64 * first) + rank)
+        (Picks (bits_in (T.lists source.old)) (kind ONE) (ones_before m (64 * first) + rank)) }
+    ensures inside { IfSome result (λ p. (64 * first ≤ p) × (p < 64 * (first + count))) }
+    ensures reads { ReadsAtMost (T.reads source.old) (T.reads source.new) 0 0 count }
+    ensures same { T.lists source.new ≡ T.lists source.old }
+{
+    let mut rest = rank;
+    for k in 0..count {
+        let word = sought_word::<ONE, T>(source, first + k);
+        let ones = word.count_ones() as usize;
+        if rest < ones {
+            return Some((first + k) * 64 + select_in_word(word, rest));
+        }
+        rest -= ones;
+    }
+    None
+}
+
+/// Selection among the eight words from `first` on, of which some may miss; the rank counts from there.
+#[inline(always)]
+fn in_record<const ONE: u8, T: TableSource>(source: &mut T, first: usize, rank: usize) -> Selected
+    requires short { IsShort (T.lists source.old).words }
+    requires first { first < 2 ^ 60 }
+    ensures answer { IsSelectedFrom (T.lists source.old).words (kind ONE) first
+        (ones_before (sought_in ONE (T.lists source.old).words) (64 * first) + rank) result }
+    ensures inside { IsFoundFrom (64 * first) (64 * (first + 8)) result }
+    ensures reads { ReadsAtMost (T.reads source.old) (T.reads source.new) 0 0 8 }
+    ensures same { T.lists source.new ≡ T.lists source.old }
+{
+    let len = source.words_len();
+    if first + U64_PER_L2_RECORDS < len {
+        // The number of words is fixed here, so that no loop is left.
+        return match among::<ONE, T>(source, first, U64_PER_L2_RECORDS, rank) {
+            Some(place) => Selected::Found(place),
+            None => Selected::WrongTables,
+        };
+    }
+    match among::<ONE, T>(source, first, len.saturating_sub(first), rank) {
+        Some(place) => Selected::Found(place),
+        None => Selected::Absent,
+    }
+}
+
+/// Selection in entry `entry` of a part, which packs `packed`: the last one with no more than `rank` of the kind
+/// before it in the part, if the tables are right. `TESTS` as in `search_on`.
+#[inline(always)]
+pub fn in_packed<const ONE: u8, const TESTS: u8, T: TableSource>(
+    source: &mut T,
+    part: usize,
+    entry: usize,
+    packed: u64,
+    rank: usize,
+) -> Selected
+    requires sized { HasSizes (T.lists source.old) }
+    requires inside { entry < entries_from (length (T.lists source.old).lower) part }
+    requires part { HasTables (T.lists source.old) →
+        let m = sought_in ONE (T.lists source.old).words in
+        IsLastPart m (length (T.lists source.old).upper)
+        (ones_before m (part * 2 ^ 32) + rank) part }
+    requires entry { HasTables (T.lists source.old)
+        → IsLastEntry (sought_in ONE (T.lists source.old).words)
+        (length (T.lists source.old).lower) part rank entry }
+    requires packed { HasTables (T.lists source.old) → packed
+        ≡ lower_entry (sought_in ONE (T.lists source.old).words) (entry_in part entry) }
+    ensures bit { HasBit (bits_in (T.lists source.old)) (kind ONE) result }
+    ensures answer { HasTables (T.lists source.old) →
+        let m = sought_in ONE (T.lists source.old).words in
+        IsSelected (bits_in (T.lists source.old)) (kind ONE)
+        (ones_before m (part * 2 ^ 32) + rank) result }
+    ensures inside { IsFoundFrom
+        (2048 * entry_in part entry) (2048 * (entry_in part entry + 1)) result }
+    ensures reads { ReadsAtMost (T.reads source.old) (T.reads source.new) 0 0 8 }
+    ensures same { T.lists source.new ≡ T.lists source.old }
+{
+    let in_entry = rank.wrapping_sub(ones_to_entry(packed));
+    let (place, before) = record_of(packed, in_entry);
+    let at = part * L2_ENTRIES_PER_L1_ENTRY + entry;
+    let first = at * U64_PER_L2_ENTRY + place * U64_PER_L2_RECORDS;
+    let left = in_entry.wrapping_sub(before);
+    if TESTS != 0 && left > rank {
+        return Selected::WrongTables;
+    }
+    in_record::<ONE, T>(source, first, left)
+}

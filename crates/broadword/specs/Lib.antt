@@ -1,0 +1,2 @@
+pub use Rattle.bit_lists.specs.Bits
+pub use Rattle.bit_lists.specs.Count
