@@ -6,8 +6,8 @@ ghost use Rattle.bit_lists.specs.Bits.{bits_of};
 ghost use Rattle.bit_lists.specs.Number.{with_number, IsClearOrAlready, IsFalseOrAlready, IsInRange};
 ghost use Rattle.bit_lists.specs.Window.{with_flips};
 
-use crate::reading::is_in_range;
 use crate::masks::{n_lowest_bits, n_lowest_bits_0_64};
+use crate::reading::is_in_range;
 
 /// Replaces the bits of `mask` by those of `value`.
 #[inline(always)]

@@ -11,12 +11,12 @@ ghost use Rattle.bitm_search.specs.Tables.{AreTablesOf, IsIndexed, upper_of, low
 mod many;
 
 use crate::queries::{HasBits, Rank, Select, Select0};
-use bitm_search::search::ranking::rank_on;
-use bitm_search::source::Probe;
 use crate::strategies::binary::BinaryRankSearch;
 use crate::strategies::traits::{Select0ForRank101111, SelectForRank101111};
-use bitm_search::tables::{self, Tables};
 use bitm_bits::{CloneWords, GetSize};
+use bitm_search::search::ranking::rank_on;
+use bitm_search::source::Probe;
+use bitm_search::tables::{self, Tables};
 use std::alloc::{AllocError, Global};
 use std::boxed::BoxedSlice;
 use std::convert::AsSlice;

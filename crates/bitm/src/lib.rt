@@ -36,8 +36,8 @@ pub use bitm_search::search::many::{rank_many_on, select_many_on, total_select_m
 pub use bitm_search::search::ranking::{rank_on, total_rank_on};
 pub use bitm_search::search::selected::{NO_ANSWER, Selected, WRONG_TABLES};
 pub use bitm_search::search::selecting::{binary_select_on, total_select_on};
-pub use bitm_search::source::{Probe, TableSource};
 pub use bitm_search::source::counts::ReadCounts;
+pub use bitm_search::source::{Probe, TableSource};
 pub use broadword::{byte_sums, bytes_at_most, select64};
 pub use index::{ArrayWithRank101111, RankSelect101111};
 pub use queries::{HasBits, Rank, Select, Select0};

@@ -8,11 +8,11 @@ ghost use Rattle.bit_lists.specs.Count.{ones_before, ones_of, IsRank};
 ghost use Rattle.bitm.specs.Simple.{HasFewOnes, simple_table_of};
 
 use crate::queries::{HasBits, Rank};
+use bitm_bits::{CloneWords, GetSize};
 use bitm_search::search::ranking::ones_in_record;
 use bitm_search::source::Probe;
 use bitm_search::tables::ones_of_record;
 use broadword::ones_through;
-use bitm_bits::{CloneWords, GetSize};
 use std::alloc::{AllocError, Global};
 use std::boxed::BoxedSlice;
 use std::convert::AsSlice;

@@ -7,8 +7,7 @@ ghost use Rattle.bit_lists.specs.Count.{IsFirstOneFrom, IsFirstOneOrEnd, IsLastO
 ghost use Rattle.bit_lists.specs.Number.{number_at, IsInRange, IsFragmentInRange};
 ghost use Rattle.bit_lists.specs.Window.{reach_of};
 
-use bit_words::BitIterator;
-use bit_words::{BitOnesIterator, BitZerosIterator};
+use bit_words::{BitIterator, BitOnesIterator, BitZerosIterator};
 use std::ops::Range;
 
 /// Reads the bits of the words that a value lends: of a slice of `u64`, shared or mutable.

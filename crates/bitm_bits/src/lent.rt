@@ -2,9 +2,7 @@
 
 use crate::access::BitAccess;
 use crate::access_mut::BitAccessMut;
-use bit_words::BitIterator;
-use bit_words::{BitOnesIterator, BitZerosIterator};
-use bit_words::words;
+use bit_words::{BitIterator, BitOnesIterator, BitZerosIterator, words};
 use std::ops::Range;
 
 impl BitAccess for &[u64] {

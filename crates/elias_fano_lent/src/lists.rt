@@ -4,8 +4,8 @@ ghost use Rattle.elias_fano_lent.specs.Held.{Holds};
 ghost use Rattle.elias_fano_lent.specs.Lists.{written, AreItems, IsKeptFrom, IsListed, IsNeverWrong, PlaceTold};
 
 use crate::sequence::LentSequence;
-use bitm_search::search::many::SIDE_BY_SIDE;
 use bitm_lent::{NO_ANSWER, WRONG_TABLES};
+use bitm_search::search::many::SIDE_BY_SIDE;
 use elias_fano::Sought;
 
 /// How far a list of places was answered.

@@ -9,8 +9,8 @@ ghost use Rattle.elias_fano_lent.specs.Held.{held, HasLengths, Holds};
 ghost use Rattle.elias_fano_lent.specs.Lists.{AreAhead};
 
 use crate::checking::are_parts;
-use bitm_search::search::many::SIDE_BY_SIDE;
 use bitm_lent::{Lent, WRONG_TABLES};
+use bitm_search::search::many::SIDE_BY_SIDE;
 use elias_fano::building::item_at_one;
 use elias_fano::{Sought, laws, total_first_at_least_on, total_item_on};
 use std::marker::Model;

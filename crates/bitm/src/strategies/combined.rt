@@ -6,12 +6,12 @@ ghost use Rattle.bitm_bits.specs.Size.{saturated};
 ghost use Rattle.bitm.specs.Samples.{SampledReads, Supported, IsSampleCount};
 ghost use Rattle.bitm_search.specs.Tables.{AreTablesOf, HasTables, bits_in};
 
-use bitm_search::source::{Probe, TableSource};
 use crate::strategies::density::CombinedSamplingDensity;
 use crate::strategies::sampled::sampled_select_on;
 use crate::strategies::samples::{Summary, items_among, make_samples};
 use crate::strategies::traits::{Select0ForRank101111, SelectForRank101111};
 use bitm_bits::GetSize;
+use bitm_search::source::{Probe, TableSource};
 use std::alloc::{AllocError, Global};
 use std::boxed::BoxedSlice;
 use std::marker::Model;

@@ -8,10 +8,10 @@ ghost use Rattle.bitm_search.specs.Search.{sought_in, IsLastPart};
 ghost use Rattle.bitm_search.specs.Tables.{HasTables};
 ghost use Rattle.bitm_search.specs.declared.source.counts.ReadCounts.{ReadCounts};
 
+use crate::strategies::walking::walk;
 use bitm_search::search::record::in_packed;
 use bitm_search::search::selected::found;
 use bitm_search::search::selecting::{before_part, last_part};
-use crate::strategies::walking::walk;
 use bitm_search::source::TableSource;
 
 /// The entry at which a sample lets the selection of this rank begin, counted in its part, where a sample stands for
