@@ -1,5 +1,6 @@
 //! Selection by samples, which may hold anything.
-use super::*;
+use crate::ffi::*;
+use crate::lent::{told, Lent, WrongTables};
 
 /// How many samples of one kind so many words have at most, one for each 2^`log2` bits of it.
 pub fn samples_len(words_len: usize, log2: u32) -> usize {

@@ -1,7 +1,7 @@
 //! Builds an index over a vector's words, with samples, and sequences of numbers, asks them through the safe wrapper, and
 //! compares every answer with a plain loop.
-use bitm_host::{build, build_sequence, ones, samples_len, sequence_sizes, table_lens};
-use bitm_host::{Lent, LentSamples, Sequence, Unbuilt, WrongParts, WrongTables};
+use bitm_proved::lent::{build, build_sequence, ones, samples_len, sequence_sizes, table_lens};
+use bitm_proved::lent::{Lent, LentSamples, Sequence, Unbuilt, WrongParts, WrongTables};
 
 fn drawn(seed: &mut u64) -> u64 {
     *seed ^= *seed << 13;
@@ -118,7 +118,8 @@ fn sequence_against_a_loop(items: &[u64]) {
     }
 }
 
-fn main() {
+#[test]
+fn all_answers_over_lent_words_are_the_plain_loops() {
     let mut seed = 0x2545F4914F6CDD1D;
     let mut contents = 0;
     for n in [0usize, 1, 8, 31, 32, 33, 500, 1024] {
@@ -153,5 +154,14 @@ fn main() {
         items.sort_unstable();
         sequence_against_a_loop(&items);
     }
-    println!("rust host: {contents} contents, all answers as the plain loop's");
+    assert_eq!(contents, 8);
+    let zeros: Vec<u64> = (0..64)
+        .filter(|place| 0x5555_0000_u64 >> place & 1 == 0)
+        .collect();
+    let (words, mut upper, mut lower) = ([0x5555_0000_u64], [0], [0]);
+    build(&words, &mut upper, &mut lower).expect("as long as asked");
+    let queries: Vec<u64> = (0..zeros.len() as u64).collect();
+    let mut out = vec![0; zeros.len()];
+    let lent = Lent::over(&words, &upper, &lower).expect("the lengths are right");
+    assert!(lent.select_list(false, &queries, &mut out) && out == zeros);
 }
