@@ -1,0 +1,148 @@
+/* Every array ends where a page begins that may not be touched, so a read or write of one number too far ends the
+ * program, inside the archive too, into which sanitizers do not see. Words, tables, samples and parts hold random
+ * numbers, rightly built or not; asked is whether each status is one of the header's, whether nothing is written where
+ * it is not BITM_OK, and whether a place that is found indexes an array of the caller's. */
+#define _DEFAULT_SOURCE
+#include "common.h"
+
+#include <string.h>
+#include <sys/mman.h>
+#include <unistd.h>
+
+enum { MOST = 40 }; /* words of a content */
+
+/* A block of size bytes that ends at a page that may not be touched; each is mapped once and used again. */
+struct guarded {
+    unsigned char *page;
+    size_t room;
+};
+
+static struct guarded guard(size_t room)
+{
+    size_t page = (size_t)sysconf(_SC_PAGESIZE), pages = (room + page - 1) / page;
+    unsigned char *at = mmap(NULL, (pages + 1) * page, PROT_READ | PROT_WRITE, MAP_PRIVATE | MAP_ANONYMOUS, -1, 0);
+    MUST(at != MAP_FAILED && mprotect(at + pages * page, page, PROT_NONE) == 0);
+    return (struct guarded){at, pages * page};
+}
+
+static void *ends_at_the_guard(const struct guarded *block, size_t size)
+{
+    MUST(size <= block->room);
+    return block->page + block->room - size;
+}
+
+static struct guarded words_of, upper_of, lower_of, samples_of, starts_of, queries_of, out_of, low_of;
+
+static uint64_t *numbers(const struct guarded *block, size_t count, bool fill)
+{
+    uint64_t *at = ends_at_the_guard(block, 8 * count);
+    for (size_t i = 0; fill && i < count; i++) at[i] = draw() % 3 ? draw() >> draw() % 64 : UINT64_MAX - draw() % 3;
+    return at;
+}
+
+/* One answer: a status of the header's, and the output as it was unless it is BITM_OK. */
+static bool answered(uint32_t status, uint64_t out)
+{
+    MUST(status <= BITM_UNSORTED);
+    MUST(status == BITM_OK || out == UNTOUCHED);
+    return status == BITM_OK;
+}
+
+typedef uint32_t one_query(const struct bitm_view *, size_t, uint64_t *);
+
+/* Asks an index over random words, whose tables are right or random; an answer indexes an array of the caller's. */
+static unsigned long ask_an_index(void)
+{
+    size_t n = draw() % (MOST + 1), bits = 64 * n;
+    uint64_t *words = numbers(&words_of, n, true), ones;
+    size_t uppers = bitm_upper_len(n), lowers = bitm_lower_len(n);
+    uint64_t *upper = numbers(&upper_of, uppers, true), *lower = numbers(&lower_of, lowers, true);
+    const bool right = draw() % 4 == 0;
+    if (right) MUST(bitm_build(words, n, upper, uppers, lower, lowers, &ones) == BITM_OK);
+    const struct bitm_view view = {words, n, upper, uppers, lower, lowers};
+    MUST(!right || bitm_check(&view) == BITM_OK);
+
+    uint32_t log2 = (uint32_t)(draw() % 12);
+    size_t room = bitm_samples_len(n, log2);
+    uint32_t *samples = ends_at_the_guard(&samples_of, 4 * room);
+    for (size_t i = 0; i < room; i++) samples[i] = (uint32_t)draw();
+    uint64_t *starts = numbers(&starts_of, uppers, true), used = room;
+    if (draw() % 2)
+        MUST(bitm_build_samples(&view, log2, samples, room, starts, uppers, &used) == BITM_OK && used <= room);
+    const struct bitm_samples by = {samples, used, starts, uppers, log2};
+
+    unsigned char *mine = ends_at_the_guard(&low_of, bits + 1); /* one byte for each place, and the end */
+    for (unsigned turn = 0; turn < 40; turn++) {
+        size_t query = draw() % 4 ? draw() % (bits + 3) : draw();
+        uint64_t out = UNTOUCHED;
+        if (answered(bitm_rank(&view, query, &out), out) && right) mine[out] = 1;
+        one_query *const calls[] = {bitm_select, bitm_select0};
+        for (unsigned kind = 0; kind < 4; kind++) {
+            out = UNTOUCHED;
+            uint32_t status = kind < 2    ? calls[kind](&view, query, &out)
+                              : kind == 2 ? bitm_sampled_select(&view, &by, query, &out)
+                                          : bitm_sampled_select0(&view, &by, query, &out);
+            if (!answered(status, out)) continue;
+            mine[out] = (unsigned char)bit_of(words, out);
+            MUST(mine[out] == !(kind & 1));
+        }
+        out = UNTOUCHED;
+        if (answered(bitm_get_bits(words, n, query, (uint32_t)(draw() % 70), &out), out)) MUST(query < bits);
+        MUST(bitm_set_bits(words, n, bits + draw() % 9, 1, 1) == BITM_NONE);
+    }
+
+    size_t asked = draw() % 40;
+    uint64_t *queries = numbers(&queries_of, asked, true), *out = numbers(&out_of, asked, false);
+    for (size_t i = 0; i < asked; i++)
+        if (draw() % 2) queries[i] %= bits + 3;
+    MUST(bitm_rank_list(&view, queries, asked, out, asked) == BITM_OK);
+    MUST(bitm_select0_list(&view, queries, asked, out, asked) == BITM_OK);
+    MUST(bitm_sampled_select0_list(&view, &by, queries, asked, out, asked) == BITM_OK);
+    MUST(bitm_sampled_select_list(&view, &by, queries, asked, out, asked) == BITM_OK);
+    MUST(bitm_select_list(&view, queries, asked, out, asked) == BITM_OK);
+    for (size_t i = 0; i < asked; i++)
+        if (out[i] < BITM_WRONG_TABLES) MUST(out[i] < bits && bit_of(words, out[i]));
+    uint64_t written = UNTOUCHED;
+    MUST(bitm_ones(words, n, draw() % (bits + 2), out, asked, &written) == BITM_OK && written <= asked);
+    return 40 * 7 + 6;
+}
+
+/* Asks a sequence whose parts are those of numbers, or random. */
+static unsigned long ask_a_sequence(void)
+{
+    size_t n = draw() % 60;
+    uint64_t *items = numbers(&queries_of, n, false), last = 0;
+    for (size_t i = 0; i < n; i++) items[i] = last += draw() >> (40 + draw() % 20);
+    struct bitm_sequence_lens lens;
+    MUST(bitm_sequence_sizes(n, last, &lens) == BITM_OK);
+    uint64_t *low = numbers(&low_of, lens.low_len, true), *words = numbers(&words_of, lens.words_len, true);
+    uint64_t *upper = numbers(&upper_of, lens.upper_len, true), *lower = numbers(&lower_of, lens.lower_len, true);
+    uint64_t width = lens.width;
+    if (draw() % 2)
+        MUST(bitm_sequence_build(items, n, low, lens.low_len, words, lens.words_len, upper, lens.upper_len, lower,
+                                 lens.lower_len, &width) == BITM_OK);
+    const struct bitm_sequence_view view = {n,     width,          low,   lens.low_len,   words, lens.words_len,
+                                            upper, lens.upper_len, lower, lens.lower_len};
+    for (unsigned turn = 0; turn < 40; turn++) {
+        size_t place = draw() % 4 ? draw() % (n + 2) : draw();
+        uint64_t out = UNTOUCHED;
+        if (answered(bitm_sequence_get(&view, place, &out), out)) MUST(place < n);
+        out = UNTOUCHED;
+        uint64_t value = draw() >> draw() % 64;
+        if (!answered(bitm_sequence_first_at_least(&view, value, &out), out)) continue;
+        MUST(out < n);
+        items[out] = value;
+    }
+    return 80;
+}
+
+int main(int argc, char **argv)
+{
+    take_seed(argc, argv);
+    struct guarded *const blocks[] = {&words_of, &upper_of, &lower_of, &samples_of, &starts_of, &queries_of, &out_of, &low_of};
+    for (size_t i = 0; i < sizeof blocks / sizeof *blocks; i++) *blocks[i] = guard(1 << 16);
+    unsigned long calls = 0;
+    while (calls < 10000000) calls += ask_an_index() + ask_a_sequence();
+    puts("C host: ten million calls over random tables and parts, each array against a page that may not be touched");
+    return 0;
+}
