@@ -10,26 +10,32 @@
  *     struct bitm_view view = {words, n, upper, m, lower, k};
  *     if (bitm_select(&view, 17, &place) == BITM_OK) ..
  *
+ * LENGTHS ARE IN WORDS. Bits of the last word behind the end of your data are bits like others: keep them 0, so that
+ * they are no ones, and compare the places of zeros with your own length.
+ *
  * Proved of each call, for all arguments that keep the duties below:
  *   - it returns, and reads and writes only memory that it is lent, WHATEVER the tables hold;
  *   - a status other than BITM_OK leaves everything that it could have written unchanged;
- *   - if the tables are stale or hostile, rank is still BITM_OK exactly where there are so many bits, and any place
- *     that selection returns is inside and holds the requested bit;
+ *   - if the tables are stale or hostile, rank is still BITM_OK exactly where there are so many bits, but its number
+ *     may be any: compare it with index before you index anything by it. Any place that selection returns is inside
+ *     and holds the requested bit;
  *   - if the tables are those of the words, the answer is plain counting, and no call on words and tables alone returns
  *     BITM_WRONG. They are if bitm_build made them or bitm_check passes them, as long as neither words nor tables
- *     change afterwards;
+ *     change afterwards. (A sampled call returns BITM_WRONG if the samples are wrong: ask bitm_select then);
  *   - sequences likewise: with parts that bitm_sequence_build made or bitm_sequence_check passes, the answers are
  *     those of one sequence of numbers.
  *
  * Cost: the reads named below are upper bounds for all tables, right or wrong. They are proved of the library calls
- * that these exports make (crates/bitm_lent, crates/elias_fano_lent). Time is not proved.
+ * that these exports make (crates/bitm_search, crates/bitm_lent, crates/elias_fano). Time is not proved.
  *
  * Your duties, as for any C function that takes pointers (nothing here can test them):
  *   - a pointer to n numbers is aligned to 8 bytes (samples: to 4) and n numbers can be read there; it may be NULL if
- *     n is 0;
+ *     n is 0. Pointers to one number (out, ones, written, used, width) and to structs are never NULL;
+ *   - what a view or samples point to counts as passed;
  *   - memory that a call writes (no const) overlaps nothing else that is passed, and nobody else reads or writes it
  *     during the call;
- *   - memory that a call reads (const) is not written during the call;
+ *   - memory that a call reads (const) is not written during the call, and a mapped file is not truncated: that would
+ *     end the process;
  *   - memory that a call writes may hold any bytes before, but is allocated;
  *   - a bool is 0 or 1, as a C compiler ensures; the processor counts ones in hardware (x86-64-v2). */
 #ifndef BITM_H
