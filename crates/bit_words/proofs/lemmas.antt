@@ -1,5 +1,6 @@
 pub mod ByteNumberLemmas
 pub mod ByteWindowLemmas
+pub mod CombineLemmas
 pub mod FindBackLemmas
 pub mod FindLemmas
 pub mod InitLemmas

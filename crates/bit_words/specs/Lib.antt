@@ -1,4 +1,5 @@
 pub mod Bytes
+pub mod Combined
 pub use Rattle.bit_lists.specs.Bits
 pub use Rattle.bit_lists.specs.Coming
 pub use Rattle.bit_lists.specs.Count

@@ -4,6 +4,7 @@
 
 mod bytes;
 mod closures;
+mod combining;
 mod counting;
 mod each_bit;
 mod finding;

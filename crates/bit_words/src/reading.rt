@@ -11,6 +11,7 @@ use crate::masks::{n_lowest_bits, n_lowest_bits_0_64};
 /// # Conditions
 /// The place is inside.
 #[inline(always)]
+#[tactic(auto, using(bit_lists::proofs::lemmas::BitsLemmas::item_tested))]
 pub fn get_bit(words: &[u64], place: usize) -> bool
     requires { place < 64 * length words.now }
     ensures { result ≡ item (bits_of words.now) place }

@@ -40,6 +40,7 @@ pub fn set_bit_to(words: &mut [u64], place: usize, value: bool)
 /// # Conditions
 /// The place is inside.
 #[inline(always)]
+#[tactic(auto, using(crate::proofs::lemmas::WriteLemmas::bit_set))]
 pub fn set_bit(words: &mut [u64], place: usize)
     requires { place < 64 * length words.old }
     ensures { bits_of words.new ≡ with_number (bits_of words.old) place 1 1 }
@@ -52,6 +53,7 @@ pub fn set_bit(words: &mut [u64], place: usize)
 /// # Conditions
 /// The place is inside.
 #[inline(always)]
+#[tactic(auto, using(crate::proofs::lemmas::WriteLemmas::bit_cleared))]
 pub fn clear_bit(words: &mut [u64], place: usize)
     requires { place < 64 * length words.old }
     ensures { bits_of words.new ≡ with_number (bits_of words.old) place 1 0 }
@@ -59,11 +61,50 @@ pub fn clear_bit(words: &mut [u64], place: usize)
     words[place / 64] &= !(1u64 << (place % 64));
 }
 
+/// Makes the bit at `place` equal to `value`, as `set_bit_to` does. Answers false exactly where the place is past the
+/// end, and nothing is written then.
+#[inline(always)]
+pub fn try_set_bit_to(words: &mut [u64], place: usize, value: bool) -> bool
+    ensures done { IsTrue result ↔ (place < 64 * length words.old) }
+    ensures value { IsTrue result → bits_of words.new
+        ≡ with_number (bits_of words.old) place 1 (if value then 1 else 0) }
+    ensures kept { result ≡ false → words.new ≡ words.old }
+{
+    if place / 64 >= words.len() {
+        return false;
+    }
+    set_bit_to(words, place, value);
+    true
+}
+
+/// Makes the bit at `place` one. Answers false exactly where the place is past the end, and nothing is written then.
+#[inline(always)]
+pub fn try_set_bit(words: &mut [u64], place: usize) -> bool
+    ensures done { IsTrue result ↔ (place < 64 * length words.old) }
+    ensures value { IsTrue result
+        → bits_of words.new ≡ with_number (bits_of words.old) place 1 1 }
+    ensures kept { result ≡ false → words.new ≡ words.old }
+{
+    try_set_bit_to(words, place, true)
+}
+
+/// Makes the bit at `place` zero. Answers false exactly where the place is past the end, and nothing is written then.
+#[inline(always)]
+pub fn try_clear_bit(words: &mut [u64], place: usize) -> bool
+    ensures done { IsTrue result ↔ (place < 64 * length words.old) }
+    ensures value { IsTrue result
+        → bits_of words.new ≡ with_number (bits_of words.old) place 1 0 }
+    ensures kept { result ≡ false → words.new ≡ words.old }
+{
+    try_set_bit_to(words, place, false)
+}
+
 /// Makes the bit at `place`, which is zero or already `value`, equal to `value`.
 ///
 /// # Conditions
 /// The place is inside; its bit is zero or already `value`.
 #[inline(always)]
+#[tactic(auto, using(crate::proofs::lemmas::InitLemmas::bit_joined))]
 pub fn init_bit(words: &mut [u64], place: usize, value: bool)
     requires inside { place < 64 * length words.old }
     requires clear { IsFalseOrAlready (bits_of words.old) place value }

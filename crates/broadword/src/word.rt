@@ -10,6 +10,7 @@ ghost use Rattle.bit_lists.specs.Count.{ones_before, Picks};
 ///
 /// # Conditions
 /// `last` is below 64.
+#[tactic(auto, using(crate::proofs::lemmas::InWordLemmas::ones_shifted))]
 #[inline(always)]
 pub fn ones_through(word: u64, last: usize) -> u32
     requires { last < 64 }

@@ -1,0 +1,9 @@
+-- What a bitwise operation makes of two items.
+use Rattle.std.specs.Prelude.{ℕ, zero, suc, Bool, not, ◌&&◌, ◌||◌, if◌then◌else◌}
+
+-- both for operation 0, either for 1, one alone for 2, and the first without the second for each other number
+abbrev pub combined : ℕ → Bool → Bool → Bool
+combined zero x y = x && y
+combined (suc zero) x y = x || y
+combined (suc (suc zero)) x y = if y then not x else x
+combined (suc (suc (suc op))) x y = x && not y

@@ -1,0 +1,106 @@
+//! Bitwise operations of two contents of one length, word by word: and, or, exclusive or, and one without the other.
+ghost use Rattle.std.specs.Prelude.{◌≡◌, ◌*◌, ◌<◌, ◌&&◌, ◌||◌, ℕ, not, if◌then◌else◌, length};
+ghost use Rattle.bit_lists.specs.Bits.{bits_of, digit, item};
+ghost use Rattle.bit_words.specs.Combined.{combined};
+
+const AND: u8 = 0;
+
+const OR: u8 = 1;
+
+const XOR: u8 = 2;
+
+const AND_NOT: u8 = 3;
+
+/// Two words, combined digit by digit.
+#[inline(always)]
+fn combined<const OP: u8>(a: u64, b: u64) -> u64
+    ensures { (j : ℕ) → j < 64 → digit result j ≡ combined OP (digit a j) (digit b j) }
+{
+    if OP == AND {
+        a & b
+    } else if OP == OR {
+        a | b
+    } else if OP == XOR {
+        a ^ b
+    } else {
+        a & !b
+    }
+}
+
+/// Combines each word with the other at its place.
+#[inline(always)]
+fn combine<const OP: u8>(words: &mut [u64], other: &[u64])
+    requires { length words.old ≡ length other.now }
+    ensures bits { (i : ℕ) → i < 64 * length words.old → item (bits_of words.new) i
+        ≡ combined OP (item (bits_of words.old) i) (item (bits_of other.now) i) }
+    ensures len { length words.new ≡ length words.old }
+{
+    for k in 0..words.len() {
+        words[k] = combined::<OP>(words[k], other[k]);
+    }
+}
+
+/// Leaves a bit one exactly where the other content has a one too.
+///
+/// # Conditions
+/// Both have the same number of words.
+/// # Cost
+/// Each word of both is read once, and each of the first written once.
+#[inline]
+pub fn and(words: &mut [u64], other: &[u64])
+    requires { length words.old ≡ length other.now }
+    ensures bits { (i : ℕ) → i < 64 * length words.old → item (bits_of words.new) i
+        ≡ (item (bits_of words.old) i && item (bits_of other.now) i) }
+    ensures len { length words.new ≡ length words.old }
+{
+    combine::<AND>(words, other);
+}
+
+/// Makes a bit one where the other content has a one.
+///
+/// # Conditions
+/// Both have the same number of words.
+/// # Cost
+/// As `and`.
+#[inline]
+pub fn or(words: &mut [u64], other: &[u64])
+    requires { length words.old ≡ length other.now }
+    ensures bits { (i : ℕ) → i < 64 * length words.old → item (bits_of words.new) i
+        ≡ (item (bits_of words.old) i || item (bits_of other.now) i) }
+    ensures len { length words.new ≡ length words.old }
+{
+    combine::<OR>(words, other);
+}
+
+/// Negates a bit where the other content has a one.
+///
+/// # Conditions
+/// Both have the same number of words.
+/// # Cost
+/// As `and`.
+#[inline]
+pub fn xor(words: &mut [u64], other: &[u64])
+    requires { length words.old ≡ length other.now }
+    ensures bits { (i : ℕ) → i < 64 * length words.old → item (bits_of words.new) i
+        ≡ (if item (bits_of other.now) i then not (item (bits_of words.old) i)
+        else item (bits_of words.old) i) }
+    ensures len { length words.new ≡ length words.old }
+{
+    combine::<XOR>(words, other);
+}
+
+/// Makes a bit zero where the other content has a one.
+///
+/// # Conditions
+/// Both have the same number of words.
+/// # Cost
+/// As `and`.
+#[inline]
+pub fn and_not(words: &mut [u64], other: &[u64])
+    requires { length words.old ≡ length other.now }
+    ensures bits { (i : ℕ) → i < 64 * length words.old → item (bits_of words.new) i
+        ≡ (item (bits_of words.old) i && not (item (bits_of other.now) i)) }
+    ensures len { length words.new ≡ length words.old }
+{
+    combine::<AND_NOT>(words, other);
+}
