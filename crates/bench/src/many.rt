@@ -53,7 +53,7 @@ fn sum(answers: &[usize]) -> usize {
 /// Asks a batch of an index, and adds up its answers; 0 where some of them has none. The numbers are tested first, and
 /// the time of that is the batch's too.
 #[inline(never)]
-#[tactic(auto, using(bitm::proofs::Callers::bits_counted))]
+#[tactic(auto, using(bitm::proofs::BitLaws::bits_are_counted))]
 pub(crate) fn over_index<S: SelectForRank101111, S0: Select0ForRank101111>(
     batch: ManyBatch,
     index: &RankSelect101111<S, S0, &[u64]>,

@@ -1,12 +1,11 @@
 -- What callers name in an attribute, as `#[tactic(auto, using(bitm::proofs::Callers::after_writes))]`: lemmas whose names
 -- Rust can write, and sets of them. The lemmas that are handed on here with a hyphen in their names are for answers.
-use Rattle.std.proofs.Common.{◌≡◌, ℕ, ◌+◌, ◌*◌, ◌<◌, ◌≤◌, Bool, true, false, if◌then◌else◌, List, [], ◌∷◌, length, replicate, Option, ap, sym, ◌∙◌, arith}
+use Rattle.std.proofs.Common.{◌≡◌, ℕ, ◌+◌, ◌*◌, ◌<◌, ◌≤◌, Bool, true, false, if◌then◌else◌, List, [], ◌∷◌, length, Option, ap, sym, ◌∙◌, arith}
 use Rattle.bit_lists.specs.Bits.{bits_of, digit, item}
 use Rattle.bit_lists.specs.Coming.{all_bits_left, bits_left}
-use Rattle.bit_lists.specs.Count.{ones_before, zeros_before, ones_of, zeros_of, Picks, IsSelect, IsSelectFrom, IsLastTo, MatchesFirstOne, MatchesFirstZero, places}
+use Rattle.bit_lists.specs.Count.{ones_before, zeros_before, ones_of, zeros_of, Picks, IsSelect, IsSelectFrom, IsLastTo, MatchesFirstZero, places}
 use Rattle.bit_lists.specs.Number.{with_number}
 pub use Rattle.bit_lists.proofs.lemmas.BesideLemmas.{item-with_number_beside}
-use Rattle.bit_lists.proofs.lemmas.BesideLemmas.{item-zeros}
 pub use Rattle.bit_lists.proofs.lemmas.BitsLemmas.{bits_of-nil, item-bits_of, length-bits_of}
 use Rattle.bit_lists.proofs.lemmas.ComingLemmas.{bits_coming_all}
 pub use Rattle.bit_lists.proofs.lemmas.CountLemmas.{few_ones, ones_before-add-zeros_before}
@@ -14,7 +13,7 @@ use Rattle.bit_lists.proofs.lemmas.CountLemmas.{count_before-none, count_before-
 pub use Rattle.bit_lists.proofs.lemmas.NumberLemmas.{length-with_number, number_at-lt, with_number-one}
 use Rattle.bit_lists.proofs.lemmas.NumberLemmas.{item-with_number_below, item-with_number_inside, item-with_number_above, number_at-with_number}
 pub use Rattle.bit_lists.proofs.lemmas.PickLemmas.{Picks-places, length-places, rank_below}
-use Rattle.bit_lists.proofs.lemmas.PickLemmas.{count_before_after, Picks-rank, same_from_Picks, MatchesFirstOne-selected, MatchesFirstZero-selected, IsLastTo-Picks, none_to, IsSelectFrom-selected}
+use Rattle.bit_lists.proofs.lemmas.PickLemmas.{count_before_after, Picks-rank, MatchesFirstZero-selected, IsLastTo-Picks, none_to, IsSelectFrom-selected}
 
 -- a rank that picked a one is below the number of ones: the condition of `select` after an answer of `try_select`
 pub one_below : (b : List Bool) (r p : ℕ) → Picks b true r p → r < ones_of b
@@ -41,14 +40,6 @@ zero_picked_by_its_rank b p = Picks-rank b false p
 -- there are as many places of ones as ones
 pub places_counted : (b : List Bool) → length (places true 0 b) ≡ ones_of b
 places_counted b = length-places true 0 b
-
--- one place is picked for a rank
-pub same_picked : (b : List Bool) (v : Bool) (r p q : ℕ) → Picks b v r p → Picks b v r q → p ≡ q
-same_picked = same_from_Picks
-
--- the rank of a place selects the first one from there on
-pub next_one : (b : List Bool) (s : ℕ) (o : Option ℕ) → s ≤ length b → IsSelect b true (ones_before b s) o → MatchesFirstOne b s o
-next_one = MatchesFirstOne-selected
 
 -- and the first zero
 pub next_zero : (b : List Bool) (s : ℕ) (o : Option ℕ) → IsSelect b false (zeros_before b s) o → MatchesFirstZero b s o
@@ -86,10 +77,6 @@ ones_grow b = count_before-le b true
 pub zeros_grow : (b : List Bool) (i j : ℕ) → i ≤ j → zeros_before b i ≤ zeros_before b j
 zeros_grow b = count_before-le b false
 
--- each of the first bits is a one or a zero
-pub ones_and_zeros : (b : List Bool) (i : ℕ) → i ≤ length b → ones_before b i + zeros_before b i ≡ i
-ones_and_zeros = ones_before-add-zeros_before
-
 -- no more ones than bits
 pub ones_are_bits : (b : List Bool) → ones_of b ≤ length b
 ones_are_bits b = omega (arith, ones_before-add-zeros_before b (length b) (omega arith))
@@ -97,14 +84,6 @@ ones_are_bits b = omega (arith, ones_before-add-zeros_before b (length b) (omega
 -- and no more zeros
 pub zeros_are_bits : (b : List Bool) → zeros_of b ≤ length b
 zeros_are_bits b = omega (arith, ones_before-add-zeros_before b (length b) (omega arith))
-
--- as many bits as 64 for each word
-pub bits_counted : (words : List ℕ) → length (bits_of words) ≡ 64 * length words
-bits_counted = length-bits_of
-
--- words that are 0 have no ones
-pub zeros_are_clear : (count i : ℕ) → item (bits_of (replicate count 0)) i ≡ false
-zeros_are_clear = item-zeros
 
 -- one more where the first item is true
 pub ones_of_first : (x : Bool) (b : List Bool) → ones_of (x ∷ b) ≡ (if x then 1 else 0) + ones_of b

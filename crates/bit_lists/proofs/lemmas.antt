@@ -2,6 +2,7 @@ pub mod BesideLemmas
 pub mod BitsLemmas
 pub mod ComingLemmas
 pub mod CountLemmas
+pub mod CutLemmas
 pub mod DigitLemmas
 pub mod FlipLemmas
 pub mod NumberLemmas

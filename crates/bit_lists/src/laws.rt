@@ -9,70 +9,89 @@ ghost use Rattle.bit_lists.specs.Laws.{RankOfPicked, PickedByRank, NextOneIsSele
 ghost use Rattle.bit_lists.specs.Laws.{PlacesRise, PlacesArePicked, PlacesAreCounted};
 ghost use Rattle.bit_lists.specs.Laws.{AllBitsCome, NoBitsCome, BitsComeFromTheFront, BitsComeFromTheBack, EachBitOnce};
 
+mod stretches;
 mod writes;
 
+pub use stretches::{
+    bit_is_digit, bits_are_joined, count_in_stretch, counts_agree, equal_items_count,
+    equal_items_count_for_one, item_after_write, item_of_stretch, picked_between,
+    picked_in_stretch,
+};
 pub use writes::{
     bits_are_counted, count_before_is_kept, item_beside_is_kept, item_is_written, last_one_is_set,
-    length_is_kept, no_items_are_zero, number_beside_is_kept, one_more_is_cleared, one_more_is_set,
-    place_is_inside, word_is_its_bits, zeros_are_counted, zeros_are_zero, zeros_have_no_ones,
+    length_is_kept, no_items_are_zero, number_beside_is_kept, one_bit_is_set, one_more_is_cleared,
+    one_more_is_set, place_is_inside, word_is_its_bits, zeros_are_counted, zeros_are_zero,
+    zeros_have_no_ones,
 };
 
 /// A number that was written, and fits its width, is the number that is read there.
+#[tactic(auto, using(crate::proofs::BitLaws::read_after_write))]
 pub fn read_after_write()
     ensures { ReadAfterWrite }
 {}
 
 /// To negate bits twice by one number leaves all bits as they were.
+#[tactic(auto, using(crate::proofs::BitLaws::negated_twice))]
 pub fn negated_twice()
     ensures { NegatedTwice }
 {}
 
 /// To swap two fragments twice leaves all bits as they were.
+#[tactic(auto, using(crate::proofs::BitLaws::swapped_twice))]
 pub fn swapped_twice()
     ensures { SwappedTwice }
 {}
 
 /// To swap a fragment with itself leaves all bits as they were.
+#[tactic(auto, using(crate::proofs::BitLaws::swapped_with_itself))]
 pub fn swapped_with_itself()
     ensures { SwappedWithItself }
 {}
 
 /// A number has at most `k` binary digits exactly where it is below two to the power of `k`.
+#[tactic(auto, using(crate::proofs::BitLaws::digits_bound_powers))]
 pub fn digits_bound_powers()
     ensures { DigitsBoundPowers }
 {}
 
 /// The ones and the zeros before a place are together as many as the places before it.
+#[tactic(auto, using(crate::proofs::BitLaws::ones_and_zeros))]
 pub fn ones_and_zeros()
     ensures { OnesAndZeros }
 {}
 
 /// The ones and the zeros of words are together as many as their bits.
+#[tactic(auto, using(crate::proofs::BitLaws::ones_and_zeros_of_content))]
 pub fn ones_and_zeros_of_content()
     ensures { OnesAndZerosOfContent }
 {}
 
 /// No fewer items of a kind stand before a later place.
+#[tactic(auto, using(crate::proofs::BitLaws::counts_grow))]
 pub fn counts_grow()
     ensures { CountsGrow }
 {}
 
 /// After an item there is one more of its kind, and no more of the other.
+#[tactic(auto, using(crate::proofs::BitLaws::count_after_item))]
 pub fn count_after_item()
     ensures { CountAfterItem }
 {}
 
 /// No items stand before the first place.
+#[tactic(auto, using(crate::proofs::BitLaws::none_before_the_first))]
 pub fn none_before_the_first()
     ensures { NoneBeforeTheFirst }
 {}
 
 /// At most one place has a given bit and a given rank.
+#[tactic(auto, using(crate::proofs::BitLaws::at_most_one_picked))]
 pub fn at_most_one_picked()
     ensures { AtMostOnePicked }
 {}
 
 /// For each rank below the count of a bit, some place has that bit and that rank.
+#[tactic(auto, using(crate::proofs::BitLaws::one_picked_for_each_rank))]
 pub fn one_picked_for_each_rank()
     ensures { OnePickedForEachRank }
 {}
@@ -83,56 +102,67 @@ pub fn none_picked_from_the_count_on()
 {}
 
 /// The rank of the place that was selected by a rank is that rank.
+#[tactic(auto, using(crate::proofs::BitLaws::rank_of_picked))]
 pub fn rank_of_picked()
     ensures { RankOfPicked }
 {}
 
 /// The place selected by the rank of a place, for its own bit, is that place.
+#[tactic(auto, using(crate::proofs::BitLaws::picked_by_rank))]
 pub fn picked_by_rank()
     ensures { PickedByRank }
 {}
 
 /// The rank of a place selects the first one from that place on.
+#[tactic(auto, using(crate::proofs::BitLaws::next_one_is_selected))]
 pub fn next_one_is_selected()
     ensures { NextOneIsSelected }
 {}
 
 /// The places of a bit rise strictly.
+#[tactic(auto, using(crate::proofs::BitLaws::places_rise))]
 pub fn places_rise()
     ensures { PlacesRise }
 {}
 
 /// Item `k` of the places of a bit is the place that is selected by rank `k`.
+#[tactic(auto, using(crate::proofs::BitLaws::places_are_picked))]
 pub fn places_are_picked()
     ensures { PlacesArePicked }
 {}
 
 /// There are as many places of a bit as the count of that bit.
+#[tactic(auto, using(crate::proofs::BitLaws::places_are_counted))]
 pub fn places_are_counted()
     ensures { PlacesAreCounted }
 {}
 
 /// The bits of the range of all places are all bits.
+#[tactic(auto, using(crate::proofs::BitLaws::all_bits_come))]
 pub fn all_bits_come()
     ensures { AllBitsCome }
 {}
 
 /// A range that ends where it starts, or before, has no bits.
+#[tactic(auto, using(crate::proofs::BitLaws::no_bits_come))]
 pub fn no_bits_come()
     ensures { NoBitsCome }
 {}
 
 /// The bits of a range are the bit at its start and then those of the range after it.
+#[tactic(auto, using(crate::proofs::BitLaws::bits_come_from_the_front))]
 pub fn bits_come_from_the_front()
     ensures { BitsComeFromTheFront }
 {}
 
 /// The bits of a range are those of the range before its last place and then the bit there.
+#[tactic(auto, using(crate::proofs::BitLaws::bits_come_from_the_back))]
 pub fn bits_come_from_the_back()
     ensures { BitsComeFromTheBack }
 {}
 
 /// What came from the front, what is left, and what came from the back are the bits of the range, each once.
+#[tactic(auto, using(crate::proofs::BitLaws::each_bit_once))]
 pub fn each_bit_once()
     ensures { EachBitOnce }
 {}

@@ -1,6 +1,1 @@
-pub mod DensityLemmas
-pub mod MadeLemmas
-pub mod PartLemmas
-pub mod SampleLemmas
 pub mod SimpleLemmas
-pub mod WalkLemmas

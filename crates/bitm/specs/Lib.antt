@@ -1,7 +1,5 @@
-pub mod Density
 pub mod IndexLaws
 pub mod IndexValue
-pub mod Samples
 pub mod Simple
 pub use Rattle.bit_lists.specs.Bits
 pub use Rattle.bit_lists.specs.Coming
@@ -9,6 +7,7 @@ pub use Rattle.bit_lists.specs.Count
 pub use Rattle.bit_lists.specs.Laws
 pub use Rattle.bit_lists.specs.Number
 pub use Rattle.bit_lists.specs.Window
+pub use Rattle.bit_lists.specs.StretchLaws
 pub use Rattle.bit_lists.specs.WriteLaws
 pub use Rattle.bit_words.specs.Bytes
 pub use Rattle.bitm_bits.specs.Lending
@@ -21,3 +20,5 @@ pub use Rattle.bitm_search.specs.Search
 pub use Rattle.bitm_search.specs.Tables
 pub use Rattle.bitm_search.specs.declared.search.selected.Selected
 pub use Rattle.bitm_search.specs.declared.source.counts.ReadCounts
+pub use Rattle.bitm_strategies.specs.Density
+pub use Rattle.bitm_strategies.specs.Samples

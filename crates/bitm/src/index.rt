@@ -10,13 +10,12 @@ ghost use Rattle.bitm_search.specs.Tables.{AreTablesOf, IsIndexed, upper_of, low
 
 mod many;
 
-use crate::queries::{HasBits, Rank, Select, Select0};
-use crate::strategies::binary::BinaryRankSearch;
-use crate::strategies::traits::{Select0ForRank101111, SelectForRank101111};
-use bitm_bits::{CloneWords, GetSize};
+use crate::queries::{Access, HasBits, Rank, Select, Select0};
+use bitm_bits::{CloneWords, GetSize, words};
 use bitm_search::search::ranking::rank_on;
 use bitm_search::source::Probe;
 use bitm_search::tables::{self, Tables};
+use bitm_strategies::{BinaryRankSearch, Select0ForRank101111, SelectForRank101111};
 use std::alloc::{AllocError, Global};
 use std::boxed::BoxedSlice;
 use std::convert::AsSlice;
@@ -208,7 +207,7 @@ impl<S: SelectForRank101111, S0: Select0ForRank101111, BV: AsSlice<u64>> HasBits
     for RankSelect101111<S, S0, BV> {
     ghost bits = { λ i. bits_of (BV.items i.content) };
 
-    #[tactic(auto, using(bitm_bits::proofs::Callers::bits_counted))]
+    #[tactic(auto, using(bitm_bits::proofs::BitLaws::bits_are_counted))]
     #[inline(always)]
     fn len(&self) -> usize {
         64 * self.content.as_slice().len()
@@ -220,6 +219,15 @@ impl<S: SelectForRank101111, S0: Select0ForRank101111, BV: AsSlice<u64>> Rank
     #[inline(always)]
     fn try_rank(&self, index: usize) -> Option<usize> {
         rank_on(&mut self.probe(), index)
+    }
+}
+
+impl<S: SelectForRank101111, S0: Select0ForRank101111, BV: AsSlice<u64>> Access
+    for RankSelect101111<S, S0, BV> {
+    #[tactic(auto, using(bitm_bits::proofs::BitLaws::bits_are_counted))]
+    #[inline(always)]
+    fn try_get_bit(&self, place: usize) -> Option<bool> {
+        words::try_get_bit(self.content.as_slice(), place)
     }
 }
 

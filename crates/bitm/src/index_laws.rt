@@ -10,12 +10,14 @@ pub fn entries_fit()
 {}
 
 /// The tables of words, of which there are few enough for an index, are as long as calls on any tables want.
+#[tactic(auto, using(bitm_search::proofs::lemmas::LengthLemmas::sizes_of))]
 pub fn tables_have_sizes()
     ensures { TablesHaveSizes }
 {}
 
 /// `count_ones` of a word counts the ones among its bits: so a test `rank < word.count_ones()` meets the condition of
 /// `select64`.
+#[tactic(auto, using(broadword::proofs::lemmas::InWordLemmas::ones_of_word))]
 pub fn ones_of_word()
     ensures { OnesOfWord }
 {}

@@ -19,7 +19,6 @@ mod queries;
 pub mod ranges;
 pub mod samples;
 mod simple;
-mod strategies;
 
 pub use bitm_bits::{
     BitAccess, BitAccessMut, BitBIterator, BitIterator, BitOnesIterator, BitVec, BitZerosIterator,
@@ -38,14 +37,12 @@ pub use bitm_search::search::selected::{NO_ANSWER, Selected, WRONG_TABLES};
 pub use bitm_search::search::selecting::{binary_select_on, total_select_on};
 pub use bitm_search::source::counts::ReadCounts;
 pub use bitm_search::source::{Probe, TableSource};
+pub use bitm_strategies::{
+    AdaptiveCombinedSamplingDensity, BinaryRankSearch, CombinedSampling, CombinedSamplingDensity,
+    ConstCombinedSamplingDensity, Select0ForRank101111, SelectForRank101111,
+    optimal_combined_sampling,
+};
 pub use broadword::{byte_sums, bytes_at_most, select64};
 pub use index::{ArrayWithRank101111, RankSelect101111};
-pub use queries::{HasBits, Rank, Select, Select0};
+pub use queries::{Access, HasBits, Rank, Select, Select0};
 pub use simple::{ArrayWithRankSimple, RankSimple};
-pub use strategies::binary::BinaryRankSearch;
-pub use strategies::combined::CombinedSampling;
-pub use strategies::density::{
-    AdaptiveCombinedSamplingDensity, CombinedSamplingDensity, ConstCombinedSamplingDensity,
-};
-pub use strategies::optimal::optimal_combined_sampling;
-pub use strategies::traits::{Select0ForRank101111, SelectForRank101111};

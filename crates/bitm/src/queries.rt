@@ -1,5 +1,6 @@
 //! The queries of a value's bits: how many of a kind stand before a place, and where the one of a rank is.
-ghost use Rattle.std.specs.Prelude.{◌≡◌, ◌<◌, ◌≤◌, List, Bool, length, true, false};
+ghost use Rattle.std.specs.Prelude.{◌≡◌, ◌<◌, ◌≤◌, List, Bool, length, SomeIff, true, false};
+ghost use Rattle.bit_lists.specs.Bits.{item};
 ghost use Rattle.bit_lists.specs.Count.{ones_before, zeros_before, ones_of, zeros_of};
 ghost use Rattle.bit_lists.specs.Count.{IsRank, IsRank0, IsSelect, Picks};
 
@@ -84,6 +85,56 @@ pub trait Rank: HasBits {
     /// Does nothing: it stands for a hint to load what `rank` of `index` reads.
     #[inline(always)]
     fn prefetch(&self, _index: usize) {}
+}
+
+/// Answers what a bit is beside how many stand before it: access, which with rank and selection a structure asks for.
+pub trait Access: Rank {
+    /// The bit at `place`; `None` exactly where the place is past the end.
+    fn try_get_bit(&self, place: usize) -> Option<bool>
+        ensures { SomeIff result (place < length (Self.bits self.now))
+            (item (Self.bits self.now) place) };
+
+    /// The bit at `place`.
+    ///
+    /// # Conditions
+    /// The place is inside.
+    #[inline(always)]
+    fn get_bit(&self, place: usize) -> bool
+        requires { place < length (Self.bits self.now) }
+        ensures { result ≡ item (Self.bits self.now) place }
+    {
+        match self.try_get_bit(place) {
+            Some(bit) => bit,
+            None => unreachable!(),
+        }
+    }
+
+    /// The bit at `place`, and how many ones stand before it: both are in one record of 512 bits.
+    ///
+    /// # Conditions
+    /// The place is inside.
+    #[inline(always)]
+    fn bit_and_rank(&self, place: usize) -> (bool, usize)
+        requires { place < length (Self.bits self.now) }
+        ensures bit { result.0 ≡ item (Self.bits self.now) place }
+        ensures rank { result.1 ≡ ones_before (Self.bits self.now) place }
+    {
+        (self.get_bit(place), self.rank(place))
+    }
+
+    /// How many of the first `from` bits are ones, and how many of the first `to`.
+    ///
+    /// # Conditions
+    /// There are no fewer than `from` bits, and no fewer than `to`.
+    #[inline(always)]
+    fn rank_pair(&self, from: usize, to: usize) -> (usize, usize)
+        requires from { from ≤ length (Self.bits self.now) }
+        requires to { to ≤ length (Self.bits self.now) }
+        ensures from { result.0 ≡ ones_before (Self.bits self.now) from }
+        ensures to { result.1 ≡ ones_before (Self.bits self.now) to }
+    {
+        (self.rank(from), self.rank(to))
+    }
 }
 
 /// Answers where the one of a rank stands in a value's bits.

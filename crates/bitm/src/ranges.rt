@@ -44,7 +44,7 @@ pub fn zeros_between<I: Rank>(index: &I, start: usize, end: usize) -> usize
 /// There are no fewer than `place` bits.
 /// # Cost
 /// A rank and a selection.
-#[tactic(auto, using(bitm_bits::proofs::Callers::next_one))]
+#[tactic(auto, using(bitm_bits::proofs::BitLaws::next_one_is_selected))]
 #[inline(always)]
 pub fn next_one<I: Rank + Select>(index: &I, place: usize) -> Option<usize>
     requires { place ≤ length (I.bits index.now) }

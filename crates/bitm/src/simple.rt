@@ -7,8 +7,8 @@ ghost use Rattle.bit_lists.specs.Bits.{bits_of, IsShort};
 ghost use Rattle.bit_lists.specs.Count.{ones_before, ones_of, IsRank};
 ghost use Rattle.bitm.specs.Simple.{HasFewOnes, simple_table_of};
 
-use crate::queries::{HasBits, Rank};
-use bitm_bits::{CloneWords, GetSize};
+use crate::queries::{Access, HasBits, Rank};
+use bitm_bits::{CloneWords, GetSize, words};
 use bitm_search::search::ranking::ones_in_record;
 use bitm_search::source::Probe;
 use bitm_search::tables::ones_of_record;
@@ -162,7 +162,7 @@ impl<BV: AsSlice<u64>> RankSimple<BV> {
 impl<BV: AsSlice<u64>> HasBits for RankSimple<BV> {
     ghost bits = { λ s. bits_of (BV.items s) };
 
-    #[tactic(auto, using(bitm_bits::proofs::Callers::bits_counted))]
+    #[tactic(auto, using(bitm_bits::proofs::BitLaws::bits_are_counted))]
     #[inline(always)]
     fn len(&self) -> usize {
         64 * self.content.as_slice().len()
@@ -176,6 +176,14 @@ impl<BV: AsSlice<u64>> Rank for RankSimple<BV> {
             Some(count) => Some(count as usize),
             None => None,
         }
+    }
+}
+
+impl<BV: AsSlice<u64>> Access for RankSimple<BV> {
+    #[tactic(auto, using(bitm_bits::proofs::BitLaws::bits_are_counted))]
+    #[inline(always)]
+    fn try_get_bit(&self, place: usize) -> Option<bool> {
+        words::try_get_bit(self.content.as_slice(), place)
     }
 }
 

@@ -6,5 +6,6 @@ pub use Rattle.bit_lists.specs.Count
 pub use Rattle.bit_lists.specs.Laws
 pub use Rattle.bit_lists.specs.Number
 pub use Rattle.bit_lists.specs.Window
+pub use Rattle.bit_lists.specs.StretchLaws
 pub use Rattle.bit_lists.specs.WriteLaws
 pub use Rattle.bit_words.specs.Bytes

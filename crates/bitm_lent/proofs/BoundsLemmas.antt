@@ -5,8 +5,8 @@ use Rattle.std.proofs.lemmas.Nat.{pow_pos}
 use Rattle.std.specs.Int.{div_ceil}
 use Rattle.bit_lists.specs.Count.{count_of, count_before}
 use Rattle.bitm.specs.Samples.{part_of, parts, entry_of, sample, intervals, first_item, walk_start, sample_count_before, samples_of}
-use Rattle.bitm.proofs.lemmas.PartLemmas.{count_before-between, entry_last, entry-small, last_least, length-part_of}
-use Rattle.bitm.proofs.lemmas.SampleLemmas.{before_more, ceil_less, ceil_more, decoded, first_item_is, sample_at, start_at_most, start_inside}
+use Rattle.bitm_strategies.proofs.lemmas.PartLemmas.{count_before-between, entry_last, entry-small, last_least, length-part_of}
+use Rattle.bitm_strategies.proofs.lemmas.SampleLemmas.{before_more, ceil_less, ceil_more, decoded, first_item_is, sample_at, start_at_most, start_inside}
 use Rattle.bitm_search.proofs.lemmas.TableLemmas.{HasEntries}
 use Rattle.bitm_search.specs.Search.{entries_from}
 use Rattle.bitm_lent.specs.Samples.{IsBounded}

@@ -35,7 +35,7 @@ pub fn member_of<I: Select>(set: &I, number: usize) -> usize
 ///
 /// # Conditions
 /// The member is in the set.
-#[tactic(auto, using(bitm::proofs::Callers::one_below, bitm::proofs::Callers::same_picked))]
+#[tactic(auto, using(bitm::proofs::Callers::one_below, bitm::proofs::BitLaws::at_most_one_picked))]
 pub fn again<I: Rank + Select>(set: &I, member: usize) -> usize
     requires inside { member < length (I.bits set.now) }
     requires member { item (I.bits set.now) member ≡ true }

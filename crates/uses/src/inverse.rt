@@ -55,7 +55,7 @@ pub fn select0_of_rank<I: Rank + Select0>(index: &I, place: usize) -> usize
 ///
 /// # Conditions
 /// There are no fewer than `index` bits.
-#[tactic(auto, using(bitm::proofs::Callers::ones_and_zeros))]
+#[tactic(auto, using(bitm::proofs::BitLaws::ones_and_zeros))]
 pub fn ranks_add_up<I: Rank>(bits: &I, index: usize) -> usize
     requires { index ≤ length (I.bits bits.now) }
     ensures { result ≡ index }

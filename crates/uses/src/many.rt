@@ -20,7 +20,7 @@ fn all_below(ranks: &[usize], ones: usize) -> bool
 
 /// Writes the places of the ones with these ranks, and says whether each of them has one; where one has none, `places`
 /// stays as it is.
-#[tactic(auto, using(bitm::proofs::Callers::bits_counted))]
+#[tactic(auto, using(bitm::proofs::BitLaws::bits_are_counted))]
 pub fn try_select_many<S: SelectForRank101111, S0: Select0ForRank101111>(
     index: &RankSelect101111<S, S0, &[u64]>,
     ranks: &[usize],

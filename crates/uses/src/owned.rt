@@ -11,7 +11,7 @@ use std::alloc::AllocError;
 /// The place is below the length.
 /// # Errors
 /// `AllocError` where no memory was found.
-#[tactic(auto, using(bitm::proofs::Callers::zeros_are_clear))]
+#[tactic(auto, using(bitm::proofs::BitLaws::zeros_have_no_ones))]
 pub fn bit_of_zeros<V: BitVec + Drop>(
     alloc: V::Alloc,
     len: usize,

@@ -6,21 +6,25 @@ ghost use Rattle.bit_lists.specs.WriteLaws.{NumberBesideIsKept, CountBeforeIsKep
 ghost use Rattle.bit_lists.specs.WriteLaws.{OneMoreIsSet, OneMoreIsCleared, LastOneIsSet};
 
 /// Words have 64 bits each.
+#[tactic(auto, using(crate::proofs::BitLaws::bits_are_counted))]
 pub fn bits_are_counted()
     ensures { BitsAreCounted }
 {}
 
 /// A place is inside exactly where its word is.
+#[tactic(auto, using(crate::proofs::BitLaws::place_is_inside))]
 pub fn place_is_inside()
     ensures { PlaceIsInside }
 {}
 
 /// A word is the number of its 64 bits.
+#[tactic(auto, using(crate::proofs::BitLaws::word_is_its_bits))]
 pub fn word_is_its_bits()
     ensures { WordIsItsBits }
 {}
 
 /// Words that are 0 have no ones.
+#[tactic(auto, using(crate::proofs::BitLaws::zeros_have_no_ones))]
 pub fn zeros_have_no_ones()
     ensures { ZerosHaveNoOnes }
 {}
@@ -31,41 +35,49 @@ pub fn zeros_are_counted()
 {}
 
 /// Items that are zeros are the number 0.
+#[tactic(auto, using(crate::proofs::BitLaws::zeros_are_zero))]
 pub fn zeros_are_zero()
     ensures { ZerosAreZero }
 {}
 
 /// No items are the number 0.
+#[tactic(auto, using(crate::proofs::BitLaws::no_items_are_zero))]
 pub fn no_items_are_zero()
     ensures { NoItemsAreZero }
 {}
 
 /// A write leaves as many items as there were.
+#[tactic(auto, using(crate::proofs::BitLaws::length_is_kept))]
 pub fn length_is_kept()
     ensures { LengthIsKept }
 {}
 
 /// One bit that is written is that item set, and nothing else.
+#[tactic(auto, using(crate::proofs::BitLaws::one_bit_is_set))]
 pub fn one_bit_is_set()
     ensures { OneBitIsSet }
 {}
 
 /// An item that was written is the digit of the number at its place there.
+#[tactic(auto, using(crate::proofs::BitLaws::item_is_written))]
 pub fn item_is_written()
     ensures { ItemIsWritten }
 {}
 
 /// An item beside what was written is as it was.
+#[tactic(auto, using(crate::proofs::BitLaws::item_beside_is_kept))]
 pub fn item_beside_is_kept()
     ensures { ItemBesideIsKept }
 {}
 
 /// A number beside what was written is as it was.
+#[tactic(auto, using(crate::proofs::BitLaws::number_beside_is_kept))]
 pub fn number_beside_is_kept()
     ensures { NumberBesideIsKept }
 {}
 
 /// A count up to the place where a write begins is as it was.
+#[tactic(auto, using(crate::proofs::BitLaws::count_before_is_kept))]
 pub fn count_before_is_kept()
     ensures { CountBeforeIsKept }
 {}
@@ -81,6 +93,7 @@ pub fn one_more_is_cleared()
 {}
 
 /// A one that was written after all ones is the last of their places.
+#[tactic(auto, using(crate::proofs::BitLaws::last_one_is_set))]
 pub fn last_one_is_set()
     ensures { LastOneIsSet }
 {}

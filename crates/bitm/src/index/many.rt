@@ -5,8 +5,8 @@ ghost use Rattle.bit_lists.specs.Count.{ones_of, zeros_of};
 ghost use Rattle.bitm_search.specs.Many.{RanksEach, PicksEach};
 
 use crate::index::RankSelect101111;
-use crate::strategies::traits::{Select0ForRank101111, SelectForRank101111};
 use bitm_search::search::many::{rank_many_on, select_many_on};
+use bitm_strategies::{Select0ForRank101111, SelectForRank101111};
 use std::convert::AsSlice;
 
 impl<S: SelectForRank101111, S0: Select0ForRank101111, BV: AsSlice<u64>> RankSelect101111<

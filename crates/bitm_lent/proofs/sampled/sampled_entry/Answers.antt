@@ -4,7 +4,7 @@ use Rattle.bit_lists.specs.Bits.{bits_of}
 use Rattle.bit_lists.specs.Count.{kind}
 use Rattle.bitm_search.specs.Entry.{before_in_part}
 use Rattle.bitm_search.specs.Search.{entries_from, sought_in}
-use Rattle.bitm.proofs.lemmas.PartLemmas.{count_in_part}
+use Rattle.bitm_strategies.proofs.lemmas.PartLemmas.{count_in_part}
 use Rattle.bitm_search.proofs.lemmas.TableLemmas.{entries}
 use Rattle.bitm_lent.proofs.BoundsLemmas.{part_size}
 use Rattle.bitm_lent.proofs.sampled.sampled_entry.Goals as goal

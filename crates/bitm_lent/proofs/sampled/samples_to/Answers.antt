@@ -2,7 +2,7 @@
 use Rattle.std.proofs.Common.{◌≡◌, ℕ, ◌<◌, List, get_or, length, ap, sym, ◌∙◌, arith}
 use Rattle.bitm.specs.Density.{within}
 use Rattle.bitm.specs.Samples.{parts, sample_count_before}
-use Rattle.bitm.proofs.lemmas.SampleLemmas.{before_le, length-samples, length-starts, start_at}
+use Rattle.bitm_strategies.proofs.lemmas.SampleLemmas.{before_le, length-samples, length-starts, start_at}
 use Rattle.bitm_lent.proofs.sampled.samples_to.Goals as goal
 
 pub returns-in-Some-clause-own : goal.returns-in-Some-clause-own

@@ -6,8 +6,8 @@ use Rattle.std.specs.Int.{div_ceil}
 use Rattle.bit_lists.specs.Count.{kind}
 use Rattle.bitm.specs.Samples.{IsSummaryOf, intervals, part_of, parts, sample}
 use Rattle.bitm_search.specs.Search.{items_to}
-use Rattle.bitm.proofs.lemmas.MadeLemmas.{half_within, interval_item}
-use Rattle.bitm.proofs.lemmas.SampleLemmas.{before_more, sample_at}
+use Rattle.bitm_strategies.proofs.lemmas.MadeLemmas.{half_within, interval_item}
+use Rattle.bitm_strategies.proofs.lemmas.SampleLemmas.{before_more, sample_at}
 use Rattle.bitm_search.proofs.lemmas.TableLemmas.{entries}
 use Rattle.bitm_lent.specs.Samples.{sample_number}
 use Rattle.bitm_lent.proofs.FilledLemmas.{filled_more}

@@ -1,6 +1,7 @@
 -- The place itself is picked by its rank, and no other place is.
 use Rattle.std.proofs.Common.{ℕ, ◌<◌, true, subst, sym}
-use Rattle.bitm.proofs.Callers.{picked_by_its_rank, one_below, same_picked}
+use Rattle.bitm.proofs.BitLaws.{at_most_one_picked}
+use Rattle.bitm.proofs.Callers.{picked_by_its_rank, one_below}
 use Rattle.bitm.specs.Count.{Picks, count_of}
 use Rattle.uses.proofs.inverse.select_of_rank.Goals as goal
 
@@ -14,5 +15,5 @@ pub returns : goal.returns
 returns g c =
     let b = g.I.HasBits.bits c.args.index.now in
     let here = picked_by_its_rank b c.args.place c.requires.inside c.requires.one in
-    same_picked b true _ c.select.result c.args.place c.select.ensures
+    at_most_one_picked b true _ c.select.result c.args.place c.select.ensures
     (subst (λ (r : ℕ). Picks b true r c.args.place) (sym c.rank.ensures) here)

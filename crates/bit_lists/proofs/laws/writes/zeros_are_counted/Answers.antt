@@ -1,5 +1,5 @@
-use Rattle.bit_lists.proofs.lemmas.BesideLemmas.{zeros-counted}
+use Rattle.bit_lists.proofs.BitLaws.{zeros_are_counted}
 use Rattle.bit_lists.proofs.laws.writes.zeros_are_counted.Goals as goal
 
 pub returns : goal.returns
-returns c = zeros-counted
+returns c = zeros_are_counted

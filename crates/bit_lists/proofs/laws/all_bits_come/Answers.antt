@@ -1,5 +1,0 @@
-use Rattle.bit_lists.proofs.lemmas.ComingLemmas.{bits_coming_all}
-use Rattle.bit_lists.proofs.laws.all_bits_come.Goals as goal
-
-pub returns : goal.returns
-returns c = bits_coming_all

@@ -1,0 +1,5 @@
+pub mod DensityLemmas
+pub mod MadeLemmas
+pub mod PartLemmas
+pub mod SampleLemmas
+pub mod WalkLemmas

@@ -1,0 +1,41 @@
+-- Nothing stands before the only part.
+use Rattle.std.proofs.Common.{sym, arith}
+use Rattle.bit_lists.proofs.lemmas.CountLemmas.{ones_before_none}
+use Rattle.bit_lists.specs.Bits.{bits_of}
+use Rattle.bit_lists.specs.Count.{kind}
+use Rattle.bitm_search.specs.Search.{sought_in}
+use Rattle.bitm_search.specs.Tables.{Lists, HasTables}
+use Rattle.bitm_search.proofs.lemmas.MarkLemmas.{none_in_nothing}
+use Rattle.bitm_search.proofs.lemmas.TableLemmas.{HasEntries, entries}
+use Rattle.bitm_strategies.proofs.lemmas.WalkLemmas.{empty_reads}
+use Rattle.bitm_strategies.proofs.sampled.sampled_select_on.Goals as goal
+
+at : (l : Lists) → HasTables l → HasEntries (bits_of l.words) l.upper l.lower
+at l t = entries (bits_of l.words) l.upper l.lower t
+
+pub returns-in-0-clause-answer : goal.returns-in-0-clause-answer
+returns-in-0-clause-answer g c =
+    let t = at (g.T.TableSource.lists c.args.source.now) c.requires.tables in
+    none_in_nothing _ (kind g.row.ONE) c.args.rank (omega (arith, t.upper_length, c.upper_len.ensures, c.in-0.is))
+
+pub returns-in-0-clause-reads : goal.returns-in-0-clause-reads
+returns-in-0-clause-reads g c =
+    let l = g.T.TableSource.lists c.args.source.now in
+    let t = at l c.requires.tables in
+    empty_reads (bits_of l.words) (kind g.row.ONE) c.args.log2 c.args.rank
+    (g.T.TableSource.reads c.args.source.now) (omega (arith, t.upper_length, c.upper_len.ensures, c.in-0.is))
+
+-- ---- one part
+
+pub sampled_in_part-requires-clause-part : goal.sampled_in_part-requires-clause-part
+sampled_in_part-requires-clause-part g c =
+    let m = sought_in g.row.ONE (g.T.TableSource.lists c.args.source.now).words in
+    record {
+      inside = omega (arith, c.upper_len.ensures, c.in-1.is);
+      at_most = omega (arith, ones_before_none m);
+      next = λ h. absurd (omega (arith, h, c.upper_len.ensures, c.in-1.is));
+    }
+
+pub sampled_in_part-requires-clause-before : goal.sampled_in_part-requires-clause-before
+sampled_in_part-requires-clause-before g c =
+    sym (ones_before_none (sought_in g.row.ONE (g.T.TableSource.lists c.args.source.now).words))

@@ -1,0 +1,9 @@
+pub mod Density
+pub mod Samples
+pub use Rattle.bit_lists.specs.Bits
+pub use Rattle.bit_lists.specs.Count
+pub use Rattle.bitm_bits.specs.Size
+pub use Rattle.bitm_search.specs.Entry
+pub use Rattle.bitm_search.specs.Reads
+pub use Rattle.bitm_search.specs.Search
+pub use Rattle.bitm_search.specs.Tables

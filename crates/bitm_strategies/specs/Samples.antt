@@ -1,0 +1,149 @@
+-- The samples of a content, where selection by them begins, and what it reads.
+use Rattle.std.specs.Prelude.{◌≡◌, ℕ, ◌+◌, ◌-◌, ◌*◌, ◌/◌, ◌%◌, ◌^◌, ◌<◌, ◌≤◌, Bool, List, map, flat_map, sum_by, length, take, drop, min, slice_index_or, Option, MatchOption, if◌then◌else◌, nat_lt}
+use Rattle.std.specs.Int.{div_ceil}
+use Rattle.std.specs.List.{range_with_len}
+use Rattle.bit_lists.specs.Bits.{bits_of, digit, digit_count, IsShort}
+use Rattle.bit_lists.specs.Count.{ones_of, count_before, count_of, places}
+use Rattle.bitm_search.specs.Reads.{ReadsAtMost}
+use Rattle.bitm_search.specs.Tables.{AreTablesOf}
+use Rattle.bitm_search.specs.declared.source.counts.ReadCounts.{ReadCounts}
+use Rattle.bitm_strategies.specs.declared.samples.Summary.{Summary}
+
+-- ---- parts
+
+-- how many parts of 2^32 bits the list has, a begun one included
+abbrev pub parts : List Bool → ℕ
+parts b = div_ceil (length b) (2 ^ 32)
+
+-- the bits of part k
+unfoldable pub part_of : List Bool → ℕ → List Bool
+part_of b k = take (2 ^ 32) (drop (k * 2 ^ 32) b)
+
+-- the rank inside part k
+abbrev pub rank_in : List Bool → Bool → ℕ → ℕ → ℕ
+rank_in b v rank k = rank - count_before b v (k * 2 ^ 32)
+
+-- the part of place p
+abbrev pub part_at : ℕ → ℕ
+part_at p = p / 2 ^ 32
+
+-- the entry of place p, counted from the start of its part
+abbrev pub entry_at : ℕ → ℕ
+entry_at p = p % 2 ^ 32 / 2048
+
+-- ---- samples of one part c
+
+-- the place of item v number t, or the length where there are no so many
+unfoldable pub place : List Bool → Bool → ℕ → ℕ
+place c v t = slice_index_or (places v 0 c) t (length c)
+
+-- the entry of 2048 bits that has item number t
+abbrev pub entry_of : List Bool → Bool → ℕ → ℕ
+entry_of c v t = place c v t / 2048
+
+-- the distance in entries from item number t to item number q, kept as at most 2047, and 0 where there is no item q
+abbrev pub distance : List Bool → Bool → ℕ → ℕ → ℕ
+distance c v t q = if nat_lt q (count_of c v) then min 2047 (entry_of c v q - entry_of c v t) else 0
+
+-- the sample of the interval that begins at item t: the entry, and above it the distance to the item half an interval
+-- later
+abbrev pub sample : List Bool → Bool → ℕ → ℕ → ℕ
+sample c v d t = entry_of c v t + distance c v t (t + 2 ^ (d - 1)) * 2 ^ 21
+
+-- how many intervals of 2^d items are begun
+abbrev pub intervals : List Bool → Bool → ℕ → ℕ
+intervals c v d = div_ceil (count_of c v) (2 ^ d)
+
+-- one sample for each begun interval
+abbrev pub part_samples : List Bool → Bool → ℕ → List ℕ
+part_samples c v d = map (λ i. sample c v d (i * 2 ^ d)) (range_with_len 0 (intervals c v d))
+
+-- the first item of the interval of item r
+abbrev pub first_item : ℕ → ℕ → ℕ
+first_item d r = r - r % 2 ^ d
+
+-- where selection of rank r inside the part begins: at the entry of the first item of r's interval, and in the
+-- interval's second half as many entries later as its sample keeps
+abbrev pub walk_start : List Bool → Bool → ℕ → ℕ → ℕ
+walk_start c v d r =
+    entry_of c v (first_item d r)
+    + (if digit r (d - 1) then distance c v (first_item d r) (first_item (d - 1) r) else 0)
+
+-- ---- samples of all parts
+
+-- the samples of the first k parts
+abbrev pub samples_of_parts : List Bool → Bool → ℕ → ℕ → List ℕ
+samples_of_parts b v d k = flat_map (λ p. part_samples (part_of b p) v d) (range_with_len 0 k)
+
+-- how many samples the first k parts have
+abbrev pub sample_count_before : List Bool → Bool → ℕ → ℕ → ℕ
+sample_count_before b v d k = sum_by (λ p. intervals (part_of b p) v d) (range_with_len 0 k)
+
+-- the samples, part after part
+abbrev pub samples_of : List Bool → Bool → ℕ → List ℕ
+samples_of b v d = samples_of_parts b v d (parts b)
+
+-- how many there are
+abbrev pub sample_count_of : List Bool → Bool → ℕ → ℕ
+sample_count_of b v d = sample_count_before b v d (parts b)
+
+-- how many there are before each part
+abbrev pub sample_starts_of : List Bool → Bool → ℕ → List ℕ
+sample_starts_of b v d = map (sample_count_before b v d) (range_with_len 0 (parts b))
+
+-- how many samples of items v a content has at logarithm d, exactly and at most
+pub record IsSampleCount (b : List Bool) (v : Bool) (d count : ℕ) : Type 0 where
+  pub total : count ≡ sample_count_of b v d
+  pub bound : (m : ℕ) → count_of b v * 2 ^ (m + 1) ≤ 3 * length b * 2 ^ d → count * 2 ^ (m + 1) ≤ 3 * length b + parts b * 2 ^ (m + 1)
+
+-- ---- what samples are made of
+
+-- the tables of the bits b, and how many ones and bits there are
+pub record Summarizes (b : List Bool) (upper lower : List ℕ) (total len : ℕ) : Type 0 where
+  pub tables : AreTablesOf b upper lower
+  pub ones_are : total ≡ ones_of b
+  pub bits_are : len ≡ length b
+
+-- the tables and numbers are those of the bits b
+abbrev pub IsSummaryOf : List Bool → Summary → Type 0
+IsSummaryOf b summary = Summarizes b summary.upper.now summary.lower.now summary.total summary.len
+
+-- the tables are as long as those of so many bits: nothing is said of what they hold
+pub record IsSized (summary : Summary) : Type 0 where
+  pub upper_len : length summary.upper.now ≡ div_ceil summary.len (2 ^ 32)
+  pub lower_len : length summary.lower.now ≡ div_ceil summary.len 2048
+
+-- what a value that selects by samples shows: its density, the samples, and how many there are before each part
+pub record Sampled (S : Type 0) : Type 0 where
+  pub density : S
+  pub samples : List ℕ
+  pub starts : List ℕ
+
+-- the density is the one chosen for the items v of the words, and the samples and starts are the words' own at it
+pub record Supported {S : Type 0} (log : S → ℕ) (chosen : ℕ → ℕ → S) (v : Bool) (words : List ℕ) (kept : Sampled S) : Type 0 where
+  pub short : IsShort words
+  pub density_is : kept.density ≡ chosen (count_of (bits_of words) v) (length (bits_of words))
+  pub samples_are : kept.samples ≡ samples_of (bits_of words) v (log kept.density)
+  pub starts_are : kept.starts ≡ sample_starts_of (bits_of words) v (log kept.density)
+
+-- ---- reads of selection by samples
+
+-- a walk from the start for rank r to entry e of the part c, after so many reads of upper entries
+pub record WalkedTo (c : List Bool) (v : Bool) (d r e uppers : ℕ) (early late : ReadCounts) : Type 0 where
+  pub order : walk_start c v d r ≤ e
+  pub reads : ReadsAtMost early late uppers (e - walk_start c v d r + 2) 8
+
+-- nothing was found from rank r of the last part: a walk to the last entry where the interval of r has items, otherwise
+-- only upper entries were read
+pub record WalkedOut (c : List Bool) (v : Bool) (d r uppers : ℕ) (early late : ReadCounts) : Type 0 where
+  pub walked : first_item d r < count_of c v → WalkedTo c v d r (div_ceil (length c) 2048 - 1) uppers early late
+  pub nothing : count_of c v ≤ first_item d r → ReadsAtMost early late uppers 0 0
+
+-- the reads of a selection by rank that found a place, or none
+abbrev pub SampledReads : List Bool → Bool → ℕ → ℕ → Option ℕ → ReadCounts → ReadCounts → Type 0
+SampledReads b v d rank result early late =
+    let uppers = digit_count (parts b) + 1 in
+    let last = parts b - 1 in
+    MatchOption result
+    (WalkedOut (part_of b last) v d (rank_in b v rank last) uppers early late)
+    (λ p. WalkedTo (part_of b (part_at p)) v d (rank_in b v rank (part_at p)) (entry_at p) uppers early late)

@@ -1,0 +1,136 @@
+//! Selection that starts at a sample, over a source, with a bound on its reads.
+ghost use Rattle.std.specs.Prelude.{◌≡◌, ◌+◌, ◌-◌, ◌*◌, ◌/◌, ◌%◌, ◌^◌, ◌<◌, ◌≤◌, length, if◌then◌else◌};
+ghost use Rattle.bit_lists.specs.Bits.{bits_of, digit, digit_count, IsShort};
+ghost use Rattle.bit_lists.specs.Count.{kind, ones_before, IsSelect};
+ghost use Rattle.bitm_search.specs.Reads.{ReadsAtMost};
+ghost use Rattle.bitm_strategies.specs.Samples.{parts, samples_of, sample_count_before, sample_starts_of, SampledReads};
+ghost use Rattle.bitm_search.specs.Search.{sought_in, IsLastPart};
+ghost use Rattle.bitm_search.specs.Tables.{HasTables};
+ghost use Rattle.bitm_search.specs.declared.source.counts.ReadCounts.{ReadCounts};
+
+use crate::walking::walk;
+use bitm_search::search::record::in_packed;
+use bitm_search::search::selected::found;
+use bitm_search::search::selecting::{before_part, last_part};
+use bitm_search::source::TableSource;
+
+/// The entry at which a sample lets the selection of this rank begin, counted in its part, where a sample stands for
+/// 2^`log2` items.
+///
+/// # Conditions
+/// The logarithm is 7 to 31. Nothing is asked of the sample.
+#[inline(always)]
+pub fn first_entry(sample: u32, rank: usize, log2: u8) -> usize
+    requires low { 7 ≤ log2 }
+    requires high { log2 ≤ 31 }
+    ensures { result ≡ sample % 2 ^ 21 + (if digit rank (log2 - 1) then sample / 2 ^ 21 else 0) }
+{
+    let first = (sample & 0x1F_FFFF) as usize;
+    if rank >> (log2 - 1) & 1 == 1 {
+        first + (sample >> 21) as usize
+    } else {
+        first
+    }
+}
+
+/// Selection by the samples of the source's words, of which one stands for 2^`log2` items, in a part that is known and
+/// has `start` samples and `before` items before it: a walk over the lower entries from the sample on.
+#[inline(always)]
+fn sampled_in_part<const ONE: u8, T: TableSource>(
+    sampled: &[u32],
+    log2: u8,
+    source: &mut T,
+    part: usize,
+    start: usize,
+    before: usize,
+    rank: usize,
+) -> Option<usize>
+    requires tables { HasTables (T.lists source.old) }
+    requires short { IsShort (T.lists source.old).words }
+    requires low { 7 ≤ log2 }
+    requires high { log2 ≤ 31 }
+    requires samples { sampled.now
+        ≡ samples_of (bits_of (T.lists source.old).words) (kind ONE) log2 }
+    requires part { IsLastPart (sought_in ONE (T.lists source.old).words)
+        (length (T.lists source.old).upper) rank part }
+    requires start { start
+        ≡ sample_count_before (bits_of (T.lists source.old).words) (kind ONE) log2 part }
+    requires before { before
+        ≡ ones_before (sought_in ONE (T.lists source.old).words) (part * 2 ^ 32) }
+    ensures answer { IsSelect (bits_of (T.lists source.old).words) (kind ONE) rank result }
+    ensures reads { (early : ReadCounts)
+        → ReadsAtMost early (T.reads source.old)
+        (digit_count (parts (bits_of (T.lists source.old).words)) + 1) 0 0
+        → SampledReads (bits_of (T.lists source.old).words) (kind ONE) log2 rank result
+        early (T.reads source.new) }
+    ensures same { T.lists source.new ≡ T.lists source.old }
+{
+    let in_part = rank - before;
+    let at = start + (in_part >> log2);
+    if at >= sampled.len() {
+        return None;
+    }
+    let from = first_entry(sampled[at], in_part, log2);
+    let (entry, packed) = walk::<ONE, T>(source, part, from, in_part);
+    found(in_packed::<ONE, 0, T>(source, part, entry, packed, in_part))
+}
+
+/// Selection by the samples of the source's words where there are more parts than one: one read of an upper entry for
+/// each halving and one more, and a walk over the lower entries from the sample on.
+#[inline(never)]
+fn sampled_in_parts<const ONE: u8, T: TableSource>(
+    sampled: &[u32],
+    starts: &[usize],
+    log2: u8,
+    source: &mut T,
+    rank: usize,
+) -> Option<usize>
+    requires tables { HasTables (T.lists source.old) }
+    requires short { IsShort (T.lists source.old).words }
+    requires low { 7 ≤ log2 }
+    requires high { log2 ≤ 31 }
+    requires some { 0 < length (T.lists source.old).upper }
+    requires samples { sampled.now
+        ≡ samples_of (bits_of (T.lists source.old).words) (kind ONE) log2 }
+    requires starts { starts.now
+        ≡ sample_starts_of (bits_of (T.lists source.old).words) (kind ONE) log2 }
+    ensures answer { IsSelect (bits_of (T.lists source.old).words) (kind ONE) rank result }
+    ensures reads { SampledReads (bits_of (T.lists source.old).words) (kind ONE) log2
+        rank result (T.reads source.old) (T.reads source.new) }
+    ensures same { T.lists source.new ≡ T.lists source.old }
+{
+    let part = last_part::<ONE, T>(source, rank);
+    let before = before_part::<ONE, T>(source, part);
+    sampled_in_part::<ONE, T>(sampled, log2, source, part, starts[part], before, rank)
+}
+
+/// Selection by the samples of the source's words, of which one stands for 2^`log2` items: where there is one part no
+/// upper entry is read. More parts have a call of their own, so that the one for one part stands where it is asked.
+#[inline(always)]
+pub(crate) fn sampled_select_on<const ONE: u8, T: TableSource>(
+    sampled: &[u32],
+    starts: &[usize],
+    log2: u8,
+    source: &mut T,
+    rank: usize,
+) -> Option<usize>
+    requires tables { HasTables (T.lists source.old) }
+    requires short { IsShort (T.lists source.old).words }
+    requires low { 7 ≤ log2 }
+    requires high { log2 ≤ 31 }
+    requires samples { sampled.now
+        ≡ samples_of (bits_of (T.lists source.old).words) (kind ONE) log2 }
+    requires starts { starts.now
+        ≡ sample_starts_of (bits_of (T.lists source.old).words) (kind ONE) log2 }
+    ensures answer { IsSelect (bits_of (T.lists source.old).words) (kind ONE) rank result }
+    ensures reads { SampledReads (bits_of (T.lists source.old).words) (kind ONE) log2
+        rank result (T.reads source.old) (T.reads source.new) }
+    ensures same { T.lists source.new ≡ T.lists source.old }
+{
+    match source.upper_len() {
+        0 => None,
+        // Nothing stands before the only part.
+        1 => sampled_in_part::<ONE, T>(sampled, log2, source, 0, 0, 0, rank),
+        _ => sampled_in_parts::<ONE, T>(sampled, starts, log2, source, rank),
+    }
+}
