@@ -39,6 +39,15 @@ pub record AreSearches (one : ℕ) (lists : Lists) (ranks : List ℕ) (queries :
   pub enough : length ranks ≤ length queries
   pub each : (k : ℕ) (d : Query) → k < length ranks → IsSearch one lists (slice_index ranks k) (slice_index_or queries k d) size
 
+-- the same where all the entries that are left are there, whatever the tables hold
+pub record IsInside (one : ℕ) (lists : Lists) (rank : ℕ) (query : Query) (size : ℕ) : Type 0 where
+  pub search : IsSearch one lists rank query size
+  pub inside : query.entry + 2 ^ size < length lists.lower
+
+pub record AreInside (one : ℕ) (lists : Lists) (ranks : List ℕ) (queries : List Query) (size : ℕ) : Type 0 where
+  pub enough : length ranks ≤ length queries
+  pub each : (k : ℕ) (d : Query) → k < length ranks → IsInside one lists (slice_index ranks k) (slice_index_or queries k d) size
+
 -- of the items that are sought, the one of this rank, if there is one, is in the record that begins at word first, where rest of
 -- them stand before it, if the tables are those of the words; word is the first of the record
 pub record IsInRecord (one : ℕ) (lists : Lists) (rank : ℕ) (at : InRecord) : Type 0 where

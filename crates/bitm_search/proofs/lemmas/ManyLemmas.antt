@@ -102,6 +102,10 @@ near_between one lists rank rest at low size t near one_part few inside room at_
       room = room;
     }
 
+-- a step of the search is over no more than half of a part
+pub step_few : (size : ℕ) → size < 21 → 2 ^ size ≤ 2 ^ 20
+step_few size h = let le : size ≤ 20 = omega (arith, h) in pow_mono le
+
 -- where there are no more entries than so many, as many halvings are enough
 pub near_enough : (one : ℕ) (lists : Lists) (rank rest at size : ℕ) → IsNear one lists rank rest at 21 → size ≤ 21
     → (size < 21 → length lists.lower ≤ 2 ^ size) → IsNear one lists rank rest at size

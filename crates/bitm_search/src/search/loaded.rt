@@ -1,18 +1,18 @@
 //! Queries of a block whose entries are found: the record of each, whose first word is read at once, and what is told.
-ghost use Rattle.std.specs.Prelude.{◌≡◌, ◌+◌, ◌*◌, ◌^◌, ◌<◌, ◌≤◌, ℕ, length};
+ghost use Rattle.std.specs.Prelude.{◌≡◌, ◌+◌, ◌-◌, ◌*◌, ◌^◌, ◌<◌, ◌≤◌, ℕ, length, MatchOption};
 ghost use Rattle.bit_lists.specs.Bits.{IsShort};
-ghost use Rattle.bit_lists.specs.Count.{kind, ones_before};
+ghost use Rattle.bit_lists.specs.Count.{kind, ones_before, Picks};
 ghost use Rattle.bitm_search.specs.Answers.{IsSelectedFrom, ToldEach};
 ghost use Rattle.bitm_search.specs.Many.{IsSearch, AreSearches, IsInRecord, AreInRecords};
-ghost use Rattle.bitm_search.specs.Reads.{ReadsAtMost};
+ghost use Rattle.bitm_search.specs.Reads.{word_read, ReadsAtMost};
 ghost use Rattle.bitm_search.specs.Search.{sought_in, IsWord};
-ghost use Rattle.bitm_search.specs.Tables.{HasSizes};
+ghost use Rattle.bitm_search.specs.Tables.{HasSizes, bits_in};
 
 use crate::entry::ones_to_entry;
 use crate::levels::{U64_PER_L2_ENTRY, U64_PER_L2_RECORDS};
 use crate::search::entries::sought_entry;
 use crate::search::query::{Query, SIDE_BY_SIDE};
-use crate::search::record::{among, record_of, select_in_word, sought_word};
+use crate::search::record::{among, is_at_most, record_of, select_in_word, sought_word};
 use crate::search::selected::{Selected, told};
 use crate::source::TableSource;
 
@@ -62,6 +62,100 @@ fn load<const ONE: u8, T: TableSource>(source: &mut T, rest: usize, entry: usize
     }
 }
 
+/// How many items word `at` has.
+#[inline(always)]
+fn items_of_word<const ONE: u8, T: TableSource>(source: &mut T, at: usize) -> usize
+    requires at { at < length (T.lists source.old).words }
+    ensures count { let m = sought_in ONE (T.lists source.old).words in
+        ones_before m (64 * at) + result ≡ ones_before m (64 * (at + 1)) }
+    ensures few { result ≤ 64 }
+    ensures counted { T.reads source.new ≡ word_read (T.reads source.old) }
+    ensures same { T.lists source.new ≡ T.lists source.old }
+{
+    sought_word::<ONE, T>(source, at).count_ones() as usize
+}
+
+/// Where one is after so many words, and what is left of `rest`, where these have no more than `rest` items; else
+/// where one was.
+///
+/// The sums have no branch on the count.
+#[inline(always)]
+fn pass(at: usize, rest: usize, words: usize, count: usize) -> (usize, usize)
+    requires at { at < 2 ^ 60 }
+    requires words { words ≤ 4 }
+    ensures passed { count ≤ rest → (result.0 ≡ at + words) × (result.1 ≡ rest - count) }
+    ensures stays { rest < count → (result.0 ≡ at) × (result.1 ≡ rest) }
+{
+    let moves = is_at_most(count, rest);
+    (at + moves * words, rest - moves * count)
+}
+
+/// Selection among the eight words of a record whose first was read, by halves; the rank counts from there.
+#[inline(always)]
+fn in_whole<const ONE: u8, T: TableSource>(
+    source: &mut T,
+    rest: usize,
+    first: usize,
+    word: u64,
+) -> Option<usize>
+    requires short { IsShort (T.lists source.old).words }
+    requires inside { first + 8 ≤ length (T.lists source.old).words }
+    requires word { IsWord (sought_in ONE (T.lists source.old).words) first word }
+    ensures answer { let m = sought_in ONE (T.lists source.old).words in
+        MatchOption result (ones_before m (64 * (first + 8)) ≤ ones_before m (64 * first) + rest)
+        (Picks (bits_in (T.lists source.old)) (kind ONE) (ones_before m (64 * first) + rest)) }
+    ensures reads { ReadsAtMost (T.reads source.old) (T.reads source.new) 0 0 7 }
+    ensures same { T.lists source.new ≡ T.lists source.old }
+{
+    let four = word.count_ones() as usize
+        + items_of_word::<ONE, T>(source, first + 1)
+        + items_of_word::<ONE, T>(source, first + 2)
+        + items_of_word::<ONE, T>(source, first + 3);
+    let (half, of_half) = pass(first, rest, 4, four);
+    let two = items_of_word::<ONE, T>(source, half) + items_of_word::<ONE, T>(source, half + 1);
+    let (pair, of_pair) = pass(half, of_half, 2, two);
+    let one = items_of_word::<ONE, T>(source, pair);
+    let (at, left) = pass(pair, of_pair, 1, one);
+    let last = sought_word::<ONE, T>(source, at);
+    if left < last.count_ones() as usize {
+        Some(at * 64 + select_in_word(last, left))
+    } else {
+        None
+    }
+}
+
+/// Selection in the last record that has words, of which one was read; the rank counts from there.
+#[inline(always)]
+fn in_last<const ONE: u8, T: TableSource>(
+    source: &mut T,
+    rest: usize,
+    first: usize,
+    word: u64,
+) -> Selected
+    requires short { IsShort (T.lists source.old).words }
+    requires first { first < 2 ^ 60 }
+    requires last { length (T.lists source.old).words ≤ first + 8 }
+    requires word { first < length (T.lists source.old).words
+        → IsWord (sought_in ONE (T.lists source.old).words) first word }
+    ensures answer { IsSelectedFrom (T.lists source.old).words (kind ONE) first
+        (ones_before (sought_in ONE (T.lists source.old).words) (64 * first) + rest) result }
+    ensures reads { ReadsAtMost (T.reads source.old) (T.reads source.new) 0 0 7 }
+    ensures same { T.lists source.new ≡ T.lists source.old }
+{
+    let len = source.words_len();
+    if first >= len {
+        return Selected::Absent;
+    }
+    let count = word.count_ones() as usize;
+    if rest < count {
+        return Selected::Found(first * 64 + select_in_word(word, rest));
+    }
+    match among::<ONE, T>(source, first + 1, len - (first + 1), rest - count) {
+        Some(place) => Selected::Found(place),
+        None => Selected::Absent,
+    }
+}
+
 /// Selection in a record whose first word was read; the rank counts from there.
 #[inline(always)]
 fn finish<const ONE: u8, T: TableSource>(
@@ -79,24 +173,12 @@ fn finish<const ONE: u8, T: TableSource>(
     ensures reads { ReadsAtMost (T.reads source.old) (T.reads source.new) 0 0 7 }
     ensures same { T.lists source.new ≡ T.lists source.old }
 {
-    let len = source.words_len();
-    if first >= len {
-        return Selected::Absent;
+    if first + U64_PER_L2_RECORDS >= source.words_len() {
+        return in_last::<ONE, T>(source, rest, first, word);
     }
-    let count = word.count_ones() as usize;
-    if rest < count {
-        return Selected::Found(first * 64 + select_in_word(word, rest));
-    }
-    let end = len.min(first + U64_PER_L2_RECORDS);
-    match among::<ONE, T>(source, first + 1, end - (first + 1), rest - count) {
+    match in_whole::<ONE, T>(source, rest, first, word) {
         Some(place) => Selected::Found(place),
-        None => {
-            if first + U64_PER_L2_RECORDS < len {
-                Selected::WrongTables
-            } else {
-                Selected::Absent
-            }
-        }
+        None => Selected::WrongTables,
     }
 }
 

@@ -131,8 +131,9 @@ pub fn tell_many_on<const ONE: u8, T: TableSource, F: FindsEntries<ONE, T>>(
 /// of ones where `ONE` is 0.
 ///
 /// Whatever the tables hold, a place is inside and has such a bit. Where they are those of the words it is the right
-/// one, `NO_ANSWER` is told exactly where there is none, and `WRONG_TABLES` never. Sixteen searches go side by side,
-/// each by halves: so the misses of one overlap with those of the others.
+/// one, `NO_ANSWER` is told exactly where there is none, and `WRONG_TABLES` never. Sixteen searches go side by side, so
+/// that the misses of one overlap with those of the others: by halves, and from a guess on where the entries are
+/// neither few nor many.
 ///
 /// # Conditions
 /// There are fewer than 2^58 words and at least one, and the tables are as long as theirs. Nothing is asked of what

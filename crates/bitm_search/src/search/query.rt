@@ -2,7 +2,7 @@
 //! there are few entries.
 ghost use Rattle.std.specs.Prelude.{◌≡◌, ◌+◌, ◌*◌, ◌^◌, ◌<◌, ◌≤◌, ℕ, IfSome, IsTrue, length};
 ghost use Rattle.bit_lists.specs.Bits.{digit_count};
-ghost use Rattle.bitm_search.specs.Many.{AreSearches, IsSearch};
+ghost use Rattle.bitm_search.specs.Many.{AreInside, AreSearches, IsInside, IsSearch};
 ghost use Rattle.bitm_search.specs.Reads.{ReadsAtMost};
 ghost use Rattle.bitm_search.specs.Tables.{HasSizes};
 
@@ -56,10 +56,30 @@ fn begin<const ONE: u8, T: TableSource>(source: &mut T, rank: usize) -> Query
     }
 }
 
-/// The entry 2^`size` after the query's, where no more than its rest of the kind stand before that in the part, else
-/// its entry.
+/// The query at the entry 2^`size` after its own, where no more than its rest of the kind stand before that in the
+/// part, else as it is.
 ///
 /// The sum has no branch on the count.
+#[inline(always)]
+fn step<const ONE: u8, T: TableSource>(source: &mut T, query: Query, size: u32) -> Query
+    requires sized { HasSizes (T.lists source.old) }
+    requires size { size < 21 }
+    requires next { query.entry + 2 ^ size < length (T.lists source.old).lower }
+    ensures search { (rank : ℕ) → IsSearch ONE (T.lists source.old) rank query (size + 1)
+        → IsSearch ONE (T.lists source.old) rank result size }
+    ensures near { result.entry ≤ query.entry + 2 ^ size }
+    ensures reads { ReadsAtMost (T.reads source.old) (T.reads source.new) 0 1 0 }
+    ensures same { T.lists source.new ≡ T.lists source.old }
+{
+    let Query { rest, entry } = query;
+    let count = ones_to_entry(sought_entry::<ONE, T>(source, entry + (1 << size)));
+    Query {
+        rest,
+        entry: entry + (is_at_most(count, rest) << size),
+    }
+}
+
+/// The same where there may be no such entry.
 #[inline(always)]
 fn halve<const ONE: u8, T: TableSource>(source: &mut T, query: Query, size: u32) -> Query
     requires sized { HasSizes (T.lists source.old) }
@@ -70,16 +90,11 @@ fn halve<const ONE: u8, T: TableSource>(source: &mut T, query: Query, size: u32)
     ensures reads { ReadsAtMost (T.reads source.old) (T.reads source.new) 0 1 0 }
     ensures same { T.lists source.new ≡ T.lists source.old }
 {
-    let Query { rest, entry } = query;
-    let next = entry + (1 << size);
+    let next = query.entry + (1 << size);
     if next >= source.lower_len() {
         return query;
     }
-    let count = ones_to_entry(sought_entry::<ONE, T>(source, next));
-    Query {
-        rest,
-        entry: entry + (is_at_most(count, rest) << size),
-    }
+    step::<ONE, T>(source, query, size)
 }
 
 /// Begins the search of each rank.
@@ -115,6 +130,26 @@ fn halve_each<const ONE: u8, T: TableSource>(
 {
     for k in 0..ranks.len() {
         queries[k] = halve::<ONE, T>(source, queries[k], size);
+    }
+}
+
+/// Halves the entries of each search that is near its entry: 2^`size` of them are left.
+#[inline(always)]
+fn step_each<const ONE: u8, T: TableSource>(
+    source: &mut T,
+    ranks: &[usize],
+    queries: &mut [Query],
+    size: u32,
+)
+    requires sized { HasSizes (T.lists source.old) }
+    requires size { size < 21 }
+    requires near { AreInside ONE (T.lists source.old) ranks.now queries.old (size + 1) }
+    ensures near { AreInside ONE (T.lists source.old) ranks.now queries.new size }
+    ensures reads { ReadsAtMost (T.reads source.old) (T.reads source.new) 0 (length ranks.now) 0 }
+    ensures same { T.lists source.new ≡ T.lists source.old }
+{
+    for k in 0..ranks.len() {
+        queries[k] = step::<ONE, T>(source, queries[k], size);
     }
 }
 
@@ -156,8 +191,9 @@ fn guess<const ONE: u8, T: TableSource>(
     requires one_part { length (T.lists source.old).upper ≡ 1 }
     requires many { 2 ^ 9 ≤ length (T.lists source.old).lower }
     requires few { length (T.lists source.old).lower ≤ 2 ^ 18 }
-    ensures search { IfSome result (λ near. (rank : ℕ) → IsSearch ONE (T.lists source.old) rank query 21
-        → IsSearch ONE (T.lists source.old) rank near 5) }
+    ensures search { IfSome result (λ near. (rank : ℕ)
+        → IsSearch ONE (T.lists source.old) rank query 21
+        → IsInside ONE (T.lists source.old) rank near 5) }
     ensures reads { ReadsAtMost (T.reads source.old) (T.reads source.new) 0 2 0 }
     ensures same { T.lists source.new ≡ T.lists source.old }
 {
@@ -188,8 +224,8 @@ fn guess_each<const ONE: u8, T: TableSource>(
     requires few { length (T.lists source.old).lower ≤ 2 ^ 18 }
     requires searches { AreSearches ONE (T.lists source.old) ranks.now begun.now 21 }
     requires enough { length ranks.now ≤ length queries.old }
-    ensures searches { IsTrue result
-        → AreSearches ONE (T.lists source.old) ranks.now queries.new 5 }
+    ensures near { IsTrue result
+        → AreInside ONE (T.lists source.old) ranks.now queries.new 5 }
     ensures reads { ReadsAtMost (T.reads source.old) (T.reads source.new)
         0 (2 * length ranks.now + 1) 0 }
     ensures same { T.lists source.new ≡ T.lists source.old }
@@ -215,35 +251,44 @@ fn guesses<T: TableSource>(source: &T) -> bool
     source.upper_len() == 1 && entries >= FEWEST_TO_GUESS && entries <= MOST_TO_GUESS
 }
 
-/// Brings each query near its entry, by a guess where there are neither few entries nor many, and answers how many
-/// halvings are left: as many as without a guess where one was wrong.
+/// Finds the entries of queries that are near them: the entries that are asked are there, so no test asks whether.
 #[inline(always)]
-fn narrow<const ONE: u8, T: TableSource>(
-    source: &mut T,
-    ranks: &[usize],
-    begun: &[Query],
-    queries: &mut [Query],
-) -> u32
+fn close_each<const ONE: u8, T: TableSource>(source: &mut T, ranks: &[usize], queries: &mut [Query])
     requires sized { HasSizes (T.lists source.old) }
-    requires some { 0 < length ranks.now }
-    requires searches { AreSearches ONE (T.lists source.old) ranks.now begun.now 21 }
-    requires same_length { length begun.now ≡ length queries.old }
-    ensures most { result ≤ 21 }
-    ensures searches { AreSearches ONE (T.lists source.old) ranks.now queries.new result }
-    ensures upper { (T.reads source.new).upper ≤ (T.reads source.old).upper }
-    ensures lower { (T.reads source.new).lower + result * length ranks.now
-        ≤ (T.reads source.old).lower + 21 * length ranks.now }
-    ensures words { (T.reads source.new).words ≤ (T.reads source.old).words }
+    requires near { AreInside ONE (T.lists source.old) ranks.now queries.old 5 }
+    ensures searches { AreSearches ONE (T.lists source.old) ranks.now queries.new 0 }
+    ensures reads { ReadsAtMost (T.reads source.old) (T.reads source.new)
+        0 (5 * length ranks.now) 0 }
     ensures same { T.lists source.new ≡ T.lists source.old }
 {
-    if guesses(source) && guess_each::<ONE, T>(source, ranks, begun, queries) {
-        return NEAR;
+    let mut size = NEAR;
+    while size > 0 {
+        size -= 1;
+        step_each::<ONE, T>(source, ranks, queries, size);
     }
-    queries.copy_from_slice(begun);
-    halvings(source.lower_len())
 }
 
-/// Finds the entry of each rank by halves, sixteen searches at once.
+/// Finds the entries of queries that were begun, by all halvings.
+#[inline(always)]
+fn halve_all<const ONE: u8, T: TableSource>(source: &mut T, ranks: &[usize], queries: &mut [Query])
+    requires sized { HasSizes (T.lists source.old) }
+    requires searches { AreSearches ONE (T.lists source.old) ranks.now queries.old 21 }
+    ensures searches { AreSearches ONE (T.lists source.old) ranks.now queries.new 0 }
+    ensures reads { ReadsAtMost (T.reads source.old) (T.reads source.new)
+        0 (21 * length ranks.now) 0 }
+    ensures reads_few { length (T.lists source.old).lower ≤ 2 ^ 18
+        → ReadsAtMost (T.reads source.old) (T.reads source.new) 0 (18 * length ranks.now) 0 }
+    ensures same { T.lists source.new ≡ T.lists source.old }
+{
+    let mut size = halvings(source.lower_len());
+    while size > 0 {
+        size -= 1;
+        halve_each::<ONE, T>(source, ranks, queries, size);
+    }
+}
+
+/// Finds the entry of each rank, sixteen searches at once: near a guess where there are neither few entries nor many and
+/// every guess is right, else by halves of all.
 #[inline(always)]
 pub fn find_by_halves<const ONE: u8, T: TableSource>(
     source: &mut T,
@@ -263,9 +308,10 @@ pub fn find_by_halves<const ONE: u8, T: TableSource>(
 {
     let mut begun = [NO_QUERY; SIDE_BY_SIDE];
     begin_each::<ONE, T>(source, ranks, &mut begun);
-    let mut size = narrow::<ONE, T>(source, ranks, &begun, queries);
-    while size > 0 {
-        size -= 1;
-        halve_each::<ONE, T>(source, ranks, queries, size);
+    if guesses(source) && guess_each::<ONE, T>(source, ranks, &begun, queries) {
+        close_each::<ONE, T>(source, ranks, queries);
+        return;
     }
+    queries.copy_from_slice(&begun);
+    halve_all::<ONE, T>(source, ranks, queries);
 }

@@ -33,9 +33,13 @@ returns-then-rest-above-clause-search g c rank search_is =
           (c.sought_entry-2.ensures.entry (subst HasTables (sym same) t))),
     ) in
     record {
-      entry = omega (arith, inside);
-      near =
-          λ t.
-          near_between g.row.ONE lists rank c.args.query.rest c.args.query.entry at 5 t (search_is.near t) c.requires.one_part
-          (omega (arith, inside, c.requires.few)) inside (omega (arith, inside, c.requires.few)) (below t) (above t);
+      search =
+          record {
+            entry = omega (arith, inside);
+            near =
+                λ t.
+                near_between g.row.ONE lists rank c.args.query.rest c.args.query.entry at 5 t (search_is.near t) c.requires.one_part
+                (omega (arith, inside, c.requires.few)) inside (omega (arith, inside, c.requires.few)) (below t) (above t);
+          };
+      inside = inside;
     }

@@ -1,7 +1,6 @@
-use Rattle.std.proofs.Common.{◌≡◌, ◌+◌, ◌*◌, ◌≤◌, length}
-use Rattle.bit_lists.specs.Bits.{digit_count}
+use Rattle.std.proofs.Common.{◌≡◌, ◌+◌, ◌*◌, ◌^◌, ◌≤◌, length}
 use Rattle.bitm_search.specs.Many.{AreSearches}
-use Rattle.bitm_search.proofs.search.query.find_by_halves.Given as goal
+use Rattle.bitm_search.proofs.search.query.halve_all.Given as goal
 
 -- where each search is, and one read of each for each halving
 abbrev pub invariant-loop-size : goal.invariant-loop-size
@@ -12,8 +11,9 @@ invariant-loop-size g l =
     record {
       size : l.size ≤ 21;
       searches : AreSearches g.row.ONE lists l.ranks l.queries l.size;
-      upper : (T.reads l.source).upper ≤ (T.reads l.fn.source).upper + n * (digit_count (length lists.upper) + 1);
+      upper : (T.reads l.source).upper ≤ (T.reads l.fn.source).upper;
       lower : (T.reads l.source).lower + l.size * n ≤ (T.reads l.fn.source).lower + 21 * n;
+      few : length lists.lower ≤ 2 ^ 18 → (T.reads l.source).lower + l.size * n ≤ (T.reads l.fn.source).lower + 18 * n;
       words : (T.reads l.source).words ≤ (T.reads l.fn.source).words;
       same : T.lists l.source ≡ lists;
     }

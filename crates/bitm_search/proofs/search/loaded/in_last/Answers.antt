@@ -6,8 +6,8 @@ use Rattle.bit_lists.specs.Count.{kind, ones_before, Picks}
 use Rattle.bitm_search.specs.Search.{sought_in, IsWord}
 use Rattle.bitm_search.proofs.lemmas.MarkLemmas.{CountsWord, sought-long, word_counts, picked_in_word, word_passed, none_counted}
 use Rattle.bitm_search.proofs.lemmas.SelectedLemmas.{absent}
-use Rattle.bitm_search.proofs.search.loaded.finish.Goals as goal
-use Rattle.bitm_search.proofs.search.loaded.finish.Goals.{Else-rest-count}
+use Rattle.bitm_search.proofs.search.loaded.in_last.Goals as goal
+use Rattle.bitm_search.proofs.search.loaded.in_last.Goals.{Else-rest-count}
 
 pub returns-then-first-len-clause-answer : goal.returns-then-first-len-clause-answer
 returns-then-first-len-clause-answer g c =
@@ -47,27 +47,17 @@ returns-in-Some-clause-answer g c =
     subst (λ (n : ℕ). Picks (bits_of words) (kind g.row.ONE) n c.in-Some.place)
     (sym (passed g (goal.at.returns-in-Some-clause-answer g c).Else-rest-count)) c.in-Some.ensures.answer
 
-pub returns-then-first-len-2-clause-answer : goal.returns-then-first-len-2-clause-answer
-returns-then-first-len-2-clause-answer g c =
-    let m = sought_in g.row.ONE (g.T.TableSource.lists c.args.source.now).words in
-    let first = c.args.first in
-    let end = c.min-end.result in
-    let all : first + 1 + (end - (first + 1)) ≡ first + 8 = omega (arith, c.min-end.ensures, c.if-first-len-2.true) in (
-      omega (arith, c.words_len-len.ensures, c.if-first-len-2.true),
-      omega (
-        arith,
-        c.in-None.ensures.answer,
-        passed g (goal.at.returns-then-first-len-2-clause-answer g c).Else-rest-count,
-        ap (λ n. ones_before m (64 * n)) all,
-      ),
-    )
-
-pub returns-else-first-len-2-clause-answer : goal.returns-else-first-len-2-clause-answer
-returns-else-first-len-2-clause-answer g c =
+pub returns-in-None-clause-answer : goal.returns-in-None-clause-answer
+returns-in-None-clause-answer g c =
     let words = (g.T.TableSource.lists c.args.source.now).words in
     let first = c.args.first in
-    let count = c.min-end.result - (first + 1) in
+    let count = length words - (first + 1) in
     let R = ones_before (sought_in g.row.ONE words) (64 * first) + c.args.rest in
-    let is : count ≡ length words - (first + 1) = omega (arith, c.words_len-len.ensures, c.min-end.ensures, c.if-first-len-2.false) in
-    absent words (kind g.row.ONE) (first + 1) R count (omega (arith, c.words_len-len.ensures, c.if-first-len-2.false)) is
-    (omega (arith, c.in-None.ensures.answer, passed g (goal.at.returns-else-first-len-2-clause-answer g c).Else-rest-count))
+    let same : c.words_len-len.result - (first + 1) ≡ count = omega (arith, c.words_len-len.ensures) in
+    absent words (kind g.row.ONE) (first + 1) R count (omega (arith, c.words_len-len.ensures, c.requires.last)) (refl {A = ℕ})
+    (omega (
+      arith,
+      c.in-None.ensures.answer,
+      passed g (goal.at.returns-in-None-clause-answer g c).Else-rest-count,
+      ap (λ (n : ℕ). ones_before (sought_in g.row.ONE words) (64 * (first + 1 + n))) same,
+    ))
