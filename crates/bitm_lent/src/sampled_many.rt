@@ -3,7 +3,7 @@ ghost use Rattle.std.specs.Prelude.{◌≡◌, ◌+◌, ◌*◌, ◌<◌, ◌≤
 ghost use Rattle.bit_lists.specs.Bits.{digit_count};
 ghost use Rattle.bit_lists.specs.Count.{kind};
 ghost use Rattle.bitm_search.specs.Answers.{ToldEach};
-ghost use Rattle.bitm_search.specs.Many.{AreSearches, IsSearch};
+ghost use Rattle.bitm_search.specs.Many.{IsSearch};
 ghost use Rattle.bitm_search.specs.Reads.{OnlyReads, ReadsAtMost};
 ghost use Rattle.bitm_search.specs.Search.{entries_from, sought_in, IsLastEntry};
 ghost use Rattle.bitm_search.specs.Tables.{HasSizes, HasTables};
@@ -12,7 +12,8 @@ use crate::sampled::sampled_entry;
 use crate::samples::LentSamples;
 use bitm_search::levels::L2_ENTRIES_PER_L1_ENTRY;
 use bitm_search::search::entries::last_entry;
-use bitm_search::search::many::{SIDE_BY_SIDE, tell_entries};
+use bitm_search::search::many::{FindsEntries, tell_many_on};
+use bitm_search::search::query::Query;
 use bitm_search::search::selecting::part_of_rank;
 use bitm_search::source::TableSource;
 
@@ -40,71 +41,34 @@ fn entry_of<const ONE: u8, T: TableSource>(
     }
 }
 
-/// The entry of a rank, and how many are left in its part, where the tables are those of the words; else some entry.
+/// The query of a rank, whose entry is found, where the tables are those of the words; else with some entry.
 #[inline(always)]
 fn begin<const ONE: u8, T: TableSource>(
     source: &mut T,
     lent: &LentSamples<'_>,
     rank: usize,
-) -> (usize, usize)
+) -> Query
     requires sized { HasSizes (T.lists source.old) }
     requires some { 0 < length (T.lists source.old).upper }
-    ensures search { IsSearch ONE (T.lists source.old) rank result.1 result.0 0 }
+    ensures search { IsSearch ONE (T.lists source.old) rank result 0 }
     ensures reads { ReadsAtMost (T.reads source.old) (T.reads source.new)
         (digit_count (length (T.lists source.old).upper) + 1) 46 0 }
     ensures same { T.lists source.new ≡ T.lists source.old }
 {
     let (part, rest) = part_of_rank::<ONE, T>(source, rank);
-    let entry = entry_of::<ONE, T>(source, lent, part, rest);
-    (part * L2_ENTRIES_PER_L1_ENTRY + entry, rest)
+    let entry = part * L2_ENTRIES_PER_L1_ENTRY + entry_of::<ONE, T>(source, lent, part, rest);
+    Query { rest, entry }
 }
 
-/// Finds the entry of each rank.
-#[inline(always)]
-fn begin_each<const ONE: u8, T: TableSource>(
-    source: &mut T,
-    lent: &LentSamples<'_>,
-    ranks: &[usize],
-    rests: &mut [usize],
-    entries: &mut [usize],
-)
-    requires sized { HasSizes (T.lists source.old) }
-    requires some { 0 < length (T.lists source.old).upper }
-    requires rests { length ranks.now ≤ length rests.old }
-    requires entries { length ranks.now ≤ length entries.old }
-    ensures searches { AreSearches ONE (T.lists source.old) ranks.now rests.new entries.new 0 }
-    ensures reads { ReadsAtMost (T.reads source.old) (T.reads source.new)
-        (length ranks.now * (digit_count (length (T.lists source.old).upper) + 1))
-        (46 * length ranks.now) 0 }
-    ensures same { T.lists source.new ≡ T.lists source.old }
-{
-    for k in 0..ranks.len() {
-        let (entry, rest) = begin::<ONE, T>(source, lent, ranks[k]);
-        entries[k] = entry;
-        rests[k] = rest;
+impl<'a, const ONE: u8, T: TableSource> FindsEntries<ONE, T> for LentSamples<'a> {
+    ghost lowers = { 46 };
+
+    #[inline(always)]
+    fn find(&self, source: &mut T, ranks: &[usize], queries: &mut [Query]) {
+        for k in 0..ranks.len() {
+            queries[k] = begin::<ONE, T>(source, self, ranks[k]);
+        }
     }
-}
-
-/// Selections of no more ranks than go side by side.
-fn select_block<const ONE: u8, T: TableSource>(
-    source: &mut T,
-    lent: &LentSamples<'_>,
-    ranks: &[usize],
-    places: &mut [usize],
-)
-    requires sized { HasSizes (T.lists source.old) }
-    requires part { 0 < length (T.lists source.old).upper }
-    requires few { length ranks.now ≤ 16 }
-    requires same_length { length ranks.now ≡ length places.old }
-    ensures told { ToldEach (kind ONE) (T.lists source.old) ranks.now places.new }
-    ensures reads { ReadsAtMost (T.reads source.old) (T.reads source.new)
-        (length ranks.now * (digit_count (length (T.lists source.old).upper) + 1))
-        (47 * length ranks.now) (8 * length ranks.now) }
-    ensures same { T.lists source.new ≡ T.lists source.old }
-{
-    let mut rests = [0; SIDE_BY_SIDE];
-    begin_each::<ONE, T>(source, lent, ranks, &mut rests, places);
-    tell_entries::<ONE, T>(source, ranks, &mut rests, places);
 }
 
 /// For each rank what `total_select_many_on` tells, by samples of the ones; of the zeros where `ONE` is 0.
@@ -133,10 +97,5 @@ pub fn sampled_select_many_on<const ONE: u8, T: TableSource>(
         (length ranks.now * (digit_count (length (T.lists source.old).upper) + 1))
         (47 * length ranks.now) (8 * length ranks.now) }
 {
-    let mut from = 0;
-    while from < ranks.len() {
-        let to = from + (ranks.len() - from).min(SIDE_BY_SIDE);
-        select_block::<ONE, T>(source, lent, &ranks[from..to], &mut places[from..to]);
-        from = to;
-    }
+    tell_many_on::<ONE, T, LentSamples<'_>>(source, lent, ranks, places);
 }

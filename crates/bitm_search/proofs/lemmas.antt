@@ -1,4 +1,5 @@
 pub mod EntryLemmas
+pub mod HalfLemmas
 pub mod LengthLemmas
 pub mod ManyLemmas
 pub mod MarkLemmas

@@ -1,9 +1,11 @@
 -- Many queries at once: each answer by its query, and how far the queries of a block have come.
-use Rattle.std.specs.Prelude.{◌≡◌, ℕ, ◌+◌, ◌*◌, ◌^◌, ◌<◌, ◌≤◌, Bool, List, length, slice_index}
+use Rattle.std.specs.Prelude.{◌≡◌, ℕ, ◌+◌, ◌*◌, ◌^◌, ◌<◌, ◌≤◌, Bool, List, length, slice_index, slice_index_or}
 use Rattle.bit_lists.specs.Count.{ones_before, Picks}
 use Rattle.bitm_search.specs.Entry.{before_in_part}
 use Rattle.bitm_search.specs.Search.{entries_from, entry_in, sought_in, IsLastPart, IsWord}
 use Rattle.bitm_search.specs.Tables.{HasTables, Lists}
+use Rattle.bitm_search.specs.declared.search.loaded.InRecord.{InRecord}
+use Rattle.bitm_search.specs.declared.search.query.Query.{Query}
 
 -- rank k is the number of ones before index k
 abbrev pub RanksEach : List Bool → List ℕ → List ℕ → Type 0
@@ -27,29 +29,34 @@ pub record IsNear (one : ℕ) (lists : Lists) (rank rest at size : ℕ) : Type 0
       → rest < before_in_part (sought_in one lists.words) (entry_in part (low + 2 ^ size))
   pub room : low + 2 ^ size ≤ 2 ^ 21
 
--- a search is at an entry, and where the tables are those of the words it is on its way to the item of the rank
-pub record IsSearch (one : ℕ) (lists : Lists) (rank rest at size : ℕ) : Type 0 where
-  pub entry : at < length lists.lower
-  pub near : HasTables lists → IsNear one lists rank rest at size
+-- a query is at an entry, and where the tables are those of the words it is on its way to the item of the rank
+pub record IsSearch (one : ℕ) (lists : Lists) (rank : ℕ) (query : Query) (size : ℕ) : Type 0 where
+  pub entry : query.entry < length lists.lower
+  pub near : HasTables lists → IsNear one lists rank query.rest query.entry size
 
--- query k has its rest and its entry in the two lists
-pub record AreSearches (one : ℕ) (lists : Lists) (ranks rests entries : List ℕ) (size : ℕ) : Type 0 where
-  pub rests_enough : length ranks ≤ length rests
-  pub entries_enough : length ranks ≤ length entries
-  pub each : (k : ℕ) → k < length ranks → IsSearch one lists (slice_index ranks k) (slice_index rests k) (slice_index entries k) size
+-- query k is that of rank k
+pub record AreSearches (one : ℕ) (lists : Lists) (ranks : List ℕ) (queries : List Query) (size : ℕ) : Type 0 where
+  pub enough : length ranks ≤ length queries
+  pub each : (k : ℕ) (d : Query) → k < length ranks → IsSearch one lists (slice_index ranks k) (slice_index_or queries k d) size
+
+-- the same where all the entries that are left are there, whatever the tables hold
+pub record IsInside (one : ℕ) (lists : Lists) (rank : ℕ) (query : Query) (size : ℕ) : Type 0 where
+  pub search : IsSearch one lists rank query size
+  pub inside : query.entry + 2 ^ size < length lists.lower
+
+pub record AreInside (one : ℕ) (lists : Lists) (ranks : List ℕ) (queries : List Query) (size : ℕ) : Type 0 where
+  pub enough : length ranks ≤ length queries
+  pub each : (k : ℕ) (d : Query) → k < length ranks → IsInside one lists (slice_index ranks k) (slice_index_or queries k d) size
 
 -- of the items that are sought, the one of this rank, if there is one, is in the record that begins at word first, where rest of
 -- them stand before it, if the tables are those of the words; word is the first of the record
-pub record IsInRecord (one : ℕ) (lists : Lists) (rank rest first word : ℕ) : Type 0 where
-  pub fits : first < 2 ^ 60
-  pub word_is : first < length lists.words → IsWord (sought_in one lists.words) first word
-  pub total : HasTables lists → rank ≡ ones_before (sought_in one lists.words) (64 * first) + rest
-  pub next : HasTables lists → first + 8 < length lists.words → rank < ones_before (sought_in one lists.words) (64 * (first + 8))
+pub record IsInRecord (one : ℕ) (lists : Lists) (rank : ℕ) (at : InRecord) : Type 0 where
+  pub fits : at.first < 2 ^ 60
+  pub word_is : at.first < length lists.words → IsWord (sought_in one lists.words) at.first at.word
+  pub total : HasTables lists → rank ≡ ones_before (sought_in one lists.words) (64 * at.first) + at.rest
+  pub next : HasTables lists → at.first + 8 < length lists.words → rank < ones_before (sought_in one lists.words) (64 * (at.first + 8))
 
--- query k has its rest, its record and that one's first word in the three lists
-pub record AreInRecords (one : ℕ) (lists : Lists) (ranks rests firsts words : List ℕ) : Type 0 where
-  pub rests_enough : length ranks ≤ length rests
-  pub firsts_enough : length ranks ≤ length firsts
-  pub words_enough : length ranks ≤ length words
-  pub each : (k : ℕ) → k < length ranks
-      → IsInRecord one lists (slice_index ranks k) (slice_index rests k) (slice_index firsts k) (slice_index words k)
+-- record k is that of rank k
+pub record AreInRecords (one : ℕ) (lists : Lists) (ranks : List ℕ) (records : List InRecord) : Type 0 where
+  pub enough : length ranks ≤ length records
+  pub each : (k : ℕ) (d : InRecord) → k < length ranks → IsInRecord one lists (slice_index ranks k) (slice_index_or records k d)

@@ -1,7 +1,9 @@
 //! Rank and selection over a source of words and tables, with a bound on the reads of each.
 
 pub mod entries;
+pub mod loaded;
 pub mod many;
+pub mod query;
 pub mod ranking;
 pub mod record;
 pub mod selected;

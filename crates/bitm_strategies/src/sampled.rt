@@ -1,10 +1,9 @@
 //! Selection that starts at a sample, over a source, with a bound on its reads.
 ghost use Rattle.std.specs.Prelude.{◌≡◌, ◌+◌, ◌-◌, ◌*◌, ◌/◌, ◌%◌, ◌^◌, ◌<◌, ◌≤◌, length, if◌then◌else◌};
 ghost use Rattle.bit_lists.specs.Bits.{bits_of, digit, digit_count, IsShort};
-ghost use Rattle.bit_lists.specs.Count.{kind, ones_before, IsSelect};
+ghost use Rattle.bit_lists.specs.Count.{kind, IsSelect};
 ghost use Rattle.bitm_search.specs.Reads.{ReadsAtMost};
-ghost use Rattle.bitm_strategies.specs.Samples.{parts, samples_of, sample_count_before, sample_starts_of, SampledReads};
-ghost use Rattle.bitm_search.specs.Search.{sought_in, IsLastPart};
+ghost use Rattle.bitm_strategies.specs.Samples.{parts, samples_of, sample_starts_of, IsSampledPart, SampledReads};
 ghost use Rattle.bitm_search.specs.Tables.{HasTables};
 ghost use Rattle.bitm_search.specs.declared.source.counts.ReadCounts.{ReadCounts};
 
@@ -47,16 +46,8 @@ fn sampled_in_part<const ONE: u8, T: TableSource>(
 ) -> Option<usize>
     requires tables { HasTables (T.lists source.old) }
     requires short { IsShort (T.lists source.old).words }
-    requires low { 7 ≤ log2 }
-    requires high { log2 ≤ 31 }
-    requires samples { sampled.now
-        ≡ samples_of (bits_of (T.lists source.old).words) (kind ONE) log2 }
-    requires part { IsLastPart (sought_in ONE (T.lists source.old).words)
-        (length (T.lists source.old).upper) rank part }
-    requires start { start
-        ≡ sample_count_before (bits_of (T.lists source.old).words) (kind ONE) log2 part }
-    requires before { before
-        ≡ ones_before (sought_in ONE (T.lists source.old).words) (part * 2 ^ 32) }
+    requires sampled { IsSampledPart ONE (T.lists source.old)
+        sampled.now log2 part start before rank }
     ensures answer { IsSelect (bits_of (T.lists source.old).words) (kind ONE) rank result }
     ensures reads { (early : ReadCounts)
         → ReadsAtMost early (T.reads source.old)

@@ -1,5 +1,5 @@
 -- Many queries at once: a search by powers of two, and the record that it ends at.
-use Rattle.std.proofs.Common.{◌≡◌, ◌≢◌, ℕ, ◌+◌, ◌-◌, ◌*◌, ◌^◌, ◌<◌, ◌≤◌, List, ◌++◌, take, drop, length, slice_index, slice_set, subst, sym, ap, ◌∙◌, arith, rules, inl, inr}
+use Rattle.std.proofs.Common.{◌≡◌, ℕ, ◌+◌, ◌-◌, ◌*◌, ◌^◌, ◌<◌, ◌≤◌, List, ◌++◌, take, drop, length, slice_index, slice_index_or, slice_set, subst, sym, ap, ◌∙◌, arith, rules, inl, inr}
 use Rattle.std.proofs.lemmas.Bool.{cases_lt}
 use Rattle.std.proofs.lemmas.List.{get_or-set_same, get_or-set_other, get_or-take, get_or-drop, length-append, length-take, length-drop, places}
 use Rattle.std.proofs.Math.Pow.{pow_mono}
@@ -11,6 +11,7 @@ use Rattle.bitm_search.specs.Answers.{told_in, IsSelectedFrom, SelectTold}
 use Rattle.bitm_search.specs.Many.{IsNear, IsInRecord}
 use Rattle.bitm_search.specs.Search.{sought_in, IsLastPart, IsLastEntry, IsPartOf, IsWord}
 use Rattle.bitm_search.specs.Tables.{Lists, HasTables}
+use Rattle.bitm_search.specs.declared.search.loaded.InRecord.{InRecord}
 use Rattle.bitm_search.specs.declared.search.selected.Selected.{Selected}
 use Rattle.bitm_search.proofs.lemmas.MarkLemmas.{none_in_nothing}
 use Rattle.bitm_search.proofs.lemmas.LengthLemmas.{few_entries, first_of_part, sizes_of}
@@ -79,6 +80,31 @@ module _ (one : ℕ) (lists : Lists) (rank rest : ℕ) where
               subst (λ (n : ℕ). rest < before_in_part (sought_in one lists.words) n) (sym there) (above (omega (arith, h, there)));
           room = omega (arith, near.room, doubled);
         }
+
+-- in one part, an entry with no more before it, and one 2^size after it with more, have it between them
+pub near_between : (one : ℕ) (lists : Lists) (rank rest at low size : ℕ) → HasTables lists → IsNear one lists rank rest at 21
+    → length lists.upper ≡ 1 → low < 2 ^ 21 → low + 2 ^ size < length lists.lower → low + 2 ^ size ≤ 2 ^ 21
+    → before_in_part (sought_in one lists.words) low ≤ rest → rest < before_in_part (sought_in one lists.words) (low + 2 ^ size)
+    → IsNear one lists rank rest low size
+near_between one lists rank rest at low size t near one_part few inside room at_most next =
+    let first : near.part ≡ 0 = omega (arith, near.last.inside, one_part) in
+    let here : near.part * 2 ^ 21 + low ≡ low = omega (arith, first) in
+    let there : near.part * 2 ^ 21 + (low + 2 ^ size) ≡ low + 2 ^ size = omega (arith, first) in
+    record {
+      part = near.part;
+      low = low;
+      place = sym here;
+      last = near.last;
+      total = near.total;
+      inside = omega (arith, first, few, inside);
+      at_most = subst (λ (n : ℕ). before_in_part (sought_in one lists.words) n ≤ rest) (sym here) at_most;
+      next = λ _. subst (λ (n : ℕ). rest < before_in_part (sought_in one lists.words) n) (sym there) next;
+      room = room;
+    }
+
+-- a step of the search is over no more than half of a part
+pub step_few : (size : ℕ) → size < 21 → 2 ^ size ≤ 2 ^ 20
+step_few size h = let le : size ≤ 20 = omega (arith, h) in pow_mono le
 
 -- where there are no more entries than so many, as many halvings are enough
 pub near_enough : (one : ℕ) (lists : Lists) (rank rest at size : ℕ) → IsNear one lists rank rest at 21 → size ≤ 21
@@ -163,7 +189,7 @@ module _ (one : ℕ) (lists : Lists) (rank rest at packed count place before wor
       next_is lists.words lists.upper lists.lower t (sought_in one lists.words) near.part rest near.low place packed count before
       part (near_ends one lists rank rest at near) packed_there count_is small before_is at_most next
 
-  pub near_loads : IsInRecord one lists rank (rest - count - before) (at * 32 + place * 8) word
+  pub near_loads : IsInRecord one lists rank (record { rest = rest - count - before; first = at * 32 + place * 8; word = word })
   near_loads =
       let same : (near.part * 2 ^ 21 + near.low) * 32 + place * 8 ≡ at * 32 + place * 8 = omega (arith, near.place) in
       let here = ap (λ (n : ℕ). ones_before (sought_in one lists.words) (64 * n)) same in
@@ -176,15 +202,15 @@ module _ (one : ℕ) (lists : Lists) (rank rest at packed count place before wor
       }
 
 -- what is told of a selection in the record
-pub told_record : (one : ℕ) (lists : Lists) (rank rest first word : ℕ) → IsInRecord one lists rank rest first word → (s : Selected)
-    → IsSelectedFrom lists.words (kind one) first (ones_before (sought_in one lists.words) (64 * first) + rest) s
+pub told_record : (one : ℕ) (lists : Lists) (rank : ℕ) (at : InRecord) → IsInRecord one lists rank at → (s : Selected)
+    → IsSelectedFrom lists.words (kind one) at.first (ones_before (sought_in one lists.words) (64 * at.first) + at.rest) s
     → SelectTold (kind one) lists rank (told_in s)
-told_record one lists rank rest first word there s is =
-    let R = ones_before (sought_in one lists.words) (64 * first) + rest in
-    told_is (kind one) lists rank s (has_bit lists.words (kind one) first R s is)
+told_record one lists rank at there s is =
+    let R = ones_before (sought_in one lists.words) (64 * at.first) + at.rest in
+    told_is (kind one) lists rank s (has_bit lists.words (kind one) at.first R s is)
     (λ t.
-    selected lists.words (kind one) first rank s (there.next t)
-    (subst (λ (n : ℕ). IsSelectedFrom lists.words (kind one) first n s) (sym (there.total t)) is))
+    selected lists.words (kind one) at.first rank s (there.next t)
+    (subst (λ (n : ℕ). IsSelectedFrom lists.words (kind one) at.first n s) (sym (there.total t)) is))
 
 -- ---- lists that are written item by item: what holds of the items so far, and of those that are left
 
@@ -195,34 +221,17 @@ at_once k Q new old j h =
       | inr over ↦ let e : k ≡ j = omega (arith, over, h) in subst Q e new
     ]
 
-module _ (P : ℕ → ℕ → Type 0) (xs : List ℕ) (k v : ℕ) (inside : k < length xs) where
-  pub written : P k v → ((j : ℕ) → j < k → P j (slice_index xs j)) → (j : ℕ) → j < k + 1 → P j (slice_index (slice_set xs k v) j)
-  written new old =
-      at_once k (λ j. P j (slice_index (slice_set xs k v) j)) (subst (P k) (sym (get_or-set_same xs k v 0 inside)) new)
-      (λ j h. subst (P j) (sym (get_or-set_other xs k j v 0 (λ e. omega (arith, e, h)))) (old j h))
+module _ {A : Type 0} (P : ℕ → A → Type 0) (xs : List A) (k : ℕ) (v : A) (inside : k < length xs) where
+  pub written : P k v → ((j : ℕ) (d : A) → j < k → P j (slice_index_or xs j d)) → (j : ℕ) (d : A) → j < k + 1
+      → P j (slice_index_or (slice_set xs k v) j d)
+  written new old j d =
+      at_once k (λ j. P j (slice_index_or (slice_set xs k v) j d)) (subst (P k) (sym (get_or-set_same xs k v d inside)) new)
+      (λ j h. subst (P j) (sym (get_or-set_other xs k j v d (λ e. omega (arith, e, h)))) (old j d h)) j
 
-  pub unwritten : (n : ℕ) → ((j : ℕ) → k ≤ j → j < n → P j (slice_index xs j)) → (j : ℕ) → k + 1 ≤ j → j < n
-      → P j (slice_index (slice_set xs k v) j)
-  unwritten n old j h l =
-      subst (P j) (sym (get_or-set_other xs k j v 0 (λ e. omega (arith, e, h)))) (old j (omega (arith, h)) l)
-
--- the same of three lists at once, and of two
-module _ (xs ys zs : List ℕ) (k u v w : ℕ) where
-  pub written_three : (P : ℕ → ℕ → ℕ → ℕ → Type 0) → k < length xs → k < length ys → k < length zs → P k u v w
-      → ((j : ℕ) → j < k → P j (slice_index xs j) (slice_index ys j) (slice_index zs j)) → (j : ℕ) → j < k + 1
-      → P j (slice_index (slice_set xs k u) j) (slice_index (slice_set ys k v) j) (slice_index (slice_set zs k w) j)
-  written_three P in_xs in_ys in_zs new old =
-      at_once k (λ j. P j (slice_index (slice_set xs k u) j) (slice_index (slice_set ys k v) j) (slice_index (slice_set zs k w) j))
-      (rw (get_or-set_same xs k u 0 in_xs, get_or-set_same ys k v 0 in_ys, get_or-set_same zs k w 0 in_zs) new)
-      (λ j h.
-      let other : j ≢ k = λ e. omega (arith, e, h) in
-      rw (get_or-set_other xs k j u 0 other, get_or-set_other ys k j v 0 other, get_or-set_other zs k j w 0 other) (old j h))
-
-  pub unwritten_two : (P : ℕ → ℕ → ℕ → Type 0) (n : ℕ) → ((j : ℕ) → k ≤ j → j < n → P j (slice_index xs j) (slice_index ys j))
-      → (j : ℕ) → k + 1 ≤ j → j < n → P j (slice_index (slice_set xs k u) j) (slice_index (slice_set ys k v) j)
-  unwritten_two P n old j h l =
-      let other : j ≢ k = λ e. omega (arith, e, h) in
-      rw (get_or-set_other xs k j u 0 other, get_or-set_other ys k j v 0 other) (old j (omega (arith, h)) l)
+  pub unwritten : (n : ℕ) → ((j : ℕ) (d : A) → k ≤ j → j < n → P j (slice_index_or xs j d)) → (j : ℕ) (d : A) → k + 1 ≤ j → j < n
+      → P j (slice_index_or (slice_set xs k v) j d)
+  unwritten n old j d h l =
+      subst (P j) (sym (get_or-set_other xs k j v d (λ e. omega (arith, e, h)))) (old j d (omega (arith, h)) l)
 
 -- ---- a part of a list that is written at once
 

@@ -1,20 +1,20 @@
 -- The entry is the last one of the part with no more before it, whoever found it.
-use Rattle.std.proofs.Common.{◌≡◌, ◌+◌, ◌*◌, ◌^◌, ◌<◌, ◌≤◌, length, ap, sym, subst, arith}
+use Rattle.std.proofs.Common.{◌<◌, length, sym, subst, arith}
 use Rattle.bitm_search.proofs.lemmas.LengthLemmas.{few_entries, first_of_part}
 use Rattle.bitm_search.proofs.lemmas.ManyLemmas.{near_found}
 use Rattle.bitm_search.specs.Search.{entries_from, sought_in, IsLastEntry}
 use Rattle.bitm_search.specs.Tables.{HasTables, Lists}
 use Rattle.bitm_lent.proofs.sampled_many.begin.Goals as goal
-use Rattle.bitm_lent.proofs.sampled_many.begin.Goals.{After-entry_of-entry}
+use Rattle.bitm_lent.proofs.sampled_many.begin.Goals.{After-entry_of}
 
-inside : (g : _) (c : After-entry_of-entry g)
-    → c.entry_of-entry.result < entries_from (length (g.T.TableSource.lists c.args.source.now).lower) c.part_of_rank-part.result.0
+inside : (g : _) (c : After-entry_of g)
+    → c.entry_of.result < entries_from (length (g.T.TableSource.lists c.args.source.now).lower) c.part_of_rank-part.result.0
 inside g c =
-    subst (λ (l : Lists). c.entry_of-entry.result < entries_from (length l.lower) c.part_of_rank-part.result.0)
-    c.part_of_rank-part.ensures.same c.entry_of-entry.ensures.inside
+    subst (λ (l : Lists). c.entry_of.result < entries_from (length l.lower) c.part_of_rank-part.result.0)
+    c.part_of_rank-part.ensures.same c.entry_of.ensures.inside
 
-pub overflow_mul-result : goal.overflow_mul-result
-overflow_mul-result g c =
+pub overflow_mul-entry : goal.overflow_mul-entry
+overflow_mul-entry g c =
     record {
       fits =
           omega (
@@ -24,9 +24,9 @@ overflow_mul-result g c =
           );
     }
 
-pub overflow_add-result : goal.overflow_add-result
-overflow_add-result g c =
-    let d = (goal.at.overflow_add-result g c).After-entry_of-entry in
+pub overflow_add-entry : goal.overflow_add-entry
+overflow_add-entry g c =
+    let d = (goal.at.overflow_add-entry g c).After-entry_of in
     record {
       fits =
           omega (
@@ -39,11 +39,11 @@ overflow_add-result g c =
 
 pub returns-clause-search : goal.returns-clause-search
 returns-clause-search g c =
-    let d = (goal.at.returns-clause-search g c).After-entry_of-entry in
+    let d = (goal.at.returns-clause-search g c).After-entry_of in
     let lists = g.T.TableSource.lists c.args.source.now in
     let part = c.part_of_rank-part.result.0 in
     let rest = c.part_of_rank-part.result.1 in
-    let entry = c.entry_of-entry.result in
+    let entry = c.entry_of.result in
     let same = c.part_of_rank-part.ensures.same in
     record {
       entry = omega (arith, inside g d, first_of_part lists c.requires.sized part c.part_of_rank-part.ensures.inside);
@@ -52,5 +52,5 @@ returns-clause-search g c =
           near_found g.row.ONE lists c.args.rank rest part entry
           (c.part_of_rank-part.ensures.part (record { tables = t; short = c.requires.sized.short }))
           (subst (λ (l : Lists). IsLastEntry (sought_in g.row.ONE l.words) (length l.lower) part rest entry) same
-          (c.entry_of-entry.ensures.last (subst HasTables (sym same) t)));
+          (c.entry_of.ensures.last (subst HasTables (sym same) t)));
     }

@@ -1,7 +1,7 @@
 -- Samples that do not lead to the entry leave the tables as they were.
-use Rattle.std.proofs.Common.{length, sym, subst, ap, arith}
+use Rattle.std.proofs.Common.{length, sym, subst}
 use Rattle.bitm_search.specs.Search.{sought_in, IsLastEntry}
-use Rattle.bitm_search.specs.Tables.{HasSizes, HasTables, Lists}
+use Rattle.bitm_search.specs.Tables.{HasTables, Lists}
 use Rattle.bitm_lent.proofs.sampled_many.entry_of.Goals as goal
 
 pub returns-in-None-clause-last : goal.returns-in-None-clause-last

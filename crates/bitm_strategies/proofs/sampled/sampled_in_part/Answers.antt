@@ -29,20 +29,20 @@ module _ (g : _) (c : Start g) where
   in_part =
       let l = g.T.TableSource.lists c.args.source.now in
       ap (λ (n : ℕ). c.args.rank - n)
-      (c.requires.before
+      (c.requires.sampled.before_is
       ∙ count_is (bits_of l.words) l.upper l.lower (at l c.requires.tables) (kind g.row.ONE) c.args.rank c.args.part
-      c.requires.part)
+      c.requires.sampled.part)
 
   inside : c.args.part < parts (bits_of (g.T.TableSource.lists c.args.source.now).words)
   inside =
       let t = at (g.T.TableSource.lists c.args.source.now) c.requires.tables in
-      omega (arith, c.requires.part.inside, t.upper_length)
+      omega (arith, c.requires.sampled.part.inside, t.upper_length)
 
   number_is : c.args.start + (c.args.rank - c.args.before) / 2 ^ c.args.log2
       ≡ number_of g.row.ONE (g.T.TableSource.lists c.args.source.now) c.args.log2 c.args.rank
       c.args.part
   number_is =
-      ap₂ ◌+◌ c.requires.start (ap (λ (n : ℕ). n / 2 ^ c.args.log2) in_part)
+      ap₂ ◌+◌ c.requires.sampled.start_is (ap (λ (n : ℕ). n / 2 ^ c.args.log2) in_part)
 
 pub overflow_add-at : goal.overflow_add-at
 overflow_add-at g c =
@@ -51,7 +51,7 @@ overflow_add-at g c =
     let d = c.args.log2 in
     let r = rank_of g.row.ONE l c.args.rank c.args.part in
     let fits : r < 2 ^ 64 = omega arith in
-    let low = c.requires.low in
+    let low = c.requires.sampled.low in
     let short : length (bits_of l.words) < 2 ^ 64 = omega (arith, length-bits_of l.words, c.requires.short) in
     let sum = place_fits (bits_of l.words) (kind g.row.ONE) d r (r / 2 ^ d) c.args.part low short (inside g a) fits refl in
     record { fits = omega (arith, number_is g a, sum) }
@@ -65,13 +65,13 @@ over : (g : _) (c : goal.Then-at-sampled g)
     c.args.part
 over g c =
     let a = (goal.at.returns-then-at-sampled-clause-answer g c).Start in
-    omega (arith, number_is g a, c.if-at-sampled.true, ap length c.requires.samples)
+    omega (arith, number_is g a, c.if-at-sampled.true, ap length c.requires.sampled.samples)
 
 pub returns-then-at-sampled-clause-answer : goal.returns-then-at-sampled-clause-answer
 returns-then-at-sampled-clause-answer g c =
     let l = g.T.TableSource.lists c.args.source.now in
     outside_none (bits_of l.words) l.upper l.lower (at l c.requires.tables) (kind g.row.ONE) c.args.rank c.args.part
-    c.requires.part c.args.log2 (over g c)
+    c.requires.sampled.part c.args.log2 (over g c)
 
 pub returns-then-at-sampled-clause-reads : goal.returns-then-at-sampled-clause-reads
 returns-then-at-sampled-clause-reads g c =
@@ -80,7 +80,7 @@ returns-then-at-sampled-clause-reads g c =
     let t = at l c.requires.tables in
     λ early reads.
     outside_reads (bits_of l.words) l.upper l.lower t (kind g.row.ONE) c.args.rank c.args.part
-    c.requires.part c.args.log2 (over g c) (digit_count (parts (bits_of l.words)) + 1) early (T.reads c.args.source.now) reads
+    c.requires.sampled.part c.args.log2 (over g c) (digit_count (parts (bits_of l.words)) + 1) early (T.reads c.args.source.now) reads
 
 -- ---- the walk from a sample
 
@@ -91,13 +91,13 @@ module _ (g : _) (c : After-first_entry-from g)
     ≡ number_of g.row.ONE (g.T.TableSource.lists c.args.source.now) c.args.log2 c.args.rank
     c.args.part) where
   pos : 1 ≤ c.args.log2
-  pos = omega (arith, c.requires.low)
+  pos = omega (arith, c.requires.sampled.low)
 
   there : number_of g.row.ONE (g.T.TableSource.lists c.args.source.now) c.args.log2 c.args.rank
       c.args.part
       < length (samples_of (bits_of (g.T.TableSource.lists c.args.source.now).words) (kind g.row.ONE)
       c.args.log2)
-  there = omega (arith, place_is, c.if-at-sampled.false, ap length c.requires.samples)
+  there = omega (arith, place_is, c.if-at-sampled.false, ap length c.requires.sampled.samples)
 
   from_is : c.first_entry-from.result
       ≡ walk_start (part_of (bits_of (g.T.TableSource.lists c.args.source.now).words) c.args.part) (kind g.row.ONE)
@@ -110,7 +110,7 @@ module _ (g : _) (c : After-first_entry-from g)
       c.first_entry-from.ensures
       ∙ ap (λ (r : ℕ). s % 2 ^ 21 + (if nat_eq (r / 2 ^ (d - 1) % 2) 1 then s / 2 ^ 21 else 0)) in_part_is
       ∙ start_from (bits_of l.words) l.upper l.lower (at l c.requires.tables) (kind g.row.ONE) c.args.rank c.args.part
-      c.requires.part d pos s there (ap₂ (λ (xs : List ℕ) (i : ℕ). get_or xs i 0) c.requires.samples place_is)
+      c.requires.sampled.part d pos s there (ap₂ (λ (xs : List ℕ) (i : ℕ). get_or xs i 0) c.requires.sampled.samples place_is)
 
 pub walk-entry-requires-clause-from : goal.walk-entry-requires-clause-from
 walk-entry-requires-clause-from g c =
@@ -120,7 +120,7 @@ walk-entry-requires-clause-from g c =
     let k = c.args.part in
     let d = c.args.log2 in
     let starts =
-    start_in (bits_of l.words) l.upper l.lower (at l c.requires.tables) (kind g.row.ONE) c.args.rank k c.requires.part d
+    start_in (bits_of l.words) l.upper l.lower (at l c.requires.tables) (kind g.row.ONE) c.args.rank k c.requires.sampled.part d
     (pos g f (in_part g a) (number_is g a)) (there g f (in_part g a) (number_is g a)) in
     subst (λ (x : ℕ). x < entries_from (length l.lower) k) (sym (from_is g f (in_part g a) (number_is g a))) starts
 
@@ -133,7 +133,7 @@ walk-entry-requires-clause-at_most g c =
     let d = c.args.log2 in
     let from = c.first_entry-from.result in
     let below =
-    start_below (bits_of l.words) l.upper l.lower (at l c.requires.tables) (kind g.row.ONE) c.args.rank k c.requires.part d
+    start_below (bits_of l.words) l.upper l.lower (at l c.requires.tables) (kind g.row.ONE) c.args.rank k c.requires.sampled.part d
     (pos g f (in_part g a) (number_is g a)) (there g f (in_part g a) (number_is g a)) in
     subst (λ (x : ℕ). items_to g.row.ONE (bits_of l.words) k from ≤ x) (sym (in_part g a))
     (subst (λ (x : ℕ). items_to g.row.ONE (bits_of l.words) k x ≤ rank_of g.row.ONE l c.args.rank k)
@@ -162,12 +162,12 @@ returns-clause-reads g c =
     let r = rank_of g.row.ONE l c.args.rank k in
     let w = c.walk-entry.ensures in
     let e = c.in_packed.ensures in
-    let p = c.requires.part in
+    let p = c.requires.sampled.part in
     let from = from_is g f (in_part g a) (number_is g a) in
     let left = c.args.rank - c.args.before in
     let low = subst (λ (x : ℕ). IsLastEntry (sought_in g.row.ONE l.words) (length l.lower) k x c.walk-entry.result.0) (in_part g a) w.last in
     let order : walk_start (part_of b k) v d r ≤ c.walk-entry.result.0 = subst (λ (x : ℕ). x ≤ c.walk-entry.result.0) from w.order in
-    let total : ones_before (sought_in g.row.ONE l.words) (k * 2 ^ 32) + left ≡ c.args.rank = omega (arith, c.requires.before, p.at_most) in
+    let total : ones_before (sought_in g.row.ONE l.words) (k * 2 ^ 32) + left ≡ c.args.rank = omega (arith, c.requires.sampled.before_is, p.at_most) in
     let told = is_select _ _ _ c.in_packed.result (e.answer (subst HasTables (sym w.same) c.requires.tables)) in
     let selected = selected_there g.row.ONE k left c.args.rank l _ c.found.result w.same total (rw c.found.ensures told) in
     let some =

@@ -1,10 +1,11 @@
 -- Of more parts the tables and the starts tell what stands before them.
-use Rattle.std.proofs.Common.{ℕ, List, length, get_or, sym, ap, ◌∙◌, subst, arith}
+use Rattle.std.proofs.Common.{◌≡◌, ℕ, ◌*◌, ◌^◌, List, length, get_or, slice_index, sym, ap, ◌∙◌, subst, arith}
 use Rattle.bit_lists.proofs.lemmas.BitsLemmas.{length-bits_of}
 use Rattle.bit_lists.specs.Bits.{bits_of, digit_count}
-use Rattle.bit_lists.specs.Count.{kind}
-use Rattle.bitm_strategies.specs.Samples.{parts, sample_count_before, SampledReads}
-use Rattle.bitm_search.specs.Tables.{Lists, HasTables}
+use Rattle.bit_lists.specs.Count.{kind, ones_before}
+use Rattle.bitm_strategies.specs.Samples.{parts, IsSampledPart, SampledReads}
+use Rattle.bitm_search.specs.Search.{sought_in}
+use Rattle.bitm_search.specs.Tables.{Lists, HasTables, IsIndexed}
 use Rattle.bitm_search.specs.declared.source.counts.ReadCounts.{ReadCounts}
 use Rattle.bitm_strategies.proofs.lemmas.SampleLemmas.{length-starts, start_at}
 use Rattle.bitm_search.proofs.lemmas.TableLemmas.{HasEntries, entries}
@@ -26,16 +27,30 @@ bounds-starts-part g c =
     let long = length-starts (bits_of l.words) (kind g.row.ONE) c.args.log2 in
     omega (arith, c.last_part-part.ensures.inside, t.upper_length, long, ap length c.requires.starts)
 
-pub sampled_in_part-requires-clause-start : goal.sampled_in_part-requires-clause-start
-sampled_in_part-requires-clause-start g c =
+pub sampled_in_part-requires-clause-sampled : goal.sampled_in_part-requires-clause-sampled
+sampled_in_part-requires-clause-sampled g c =
     let l = g.T.TableSource.lists c.args.source.now in
+    let one = g.row.ONE in
     let t = at l c.requires.tables in
     let k = c.last_part-part.result in
-    let v = kind g.row.ONE in
-    let same = c.before_part-before.ensures.same ∙ c.last_part-part.ensures.same in
-    ap (λ (xs : List ℕ). get_or xs k 0) c.requires.starts
-    ∙ start_at (bits_of l.words) v c.args.log2 k (omega (arith, c.last_part-part.ensures.inside, t.upper_length))
-    ∙ ap (λ (x : Lists). sample_count_before (bits_of x.words) v c.args.log2 k) (sym same)
+    let last = c.last_part-part.ensures in
+    let indexed : IsIndexed l = record { tables = c.requires.tables; short = c.requires.short } in
+    subst
+    (λ (x : Lists).
+    IsSampledPart one x c.args.sampled.now c.args.log2 k (slice_index c.args.starts.now k) c.before_part-before.result c.args.rank)
+    (sym (c.before_part-before.ensures.same ∙ last.same))
+    (record {
+      low = c.requires.low;
+      high = c.requires.high;
+      samples = c.requires.samples;
+      part = last.last indexed;
+      start_is =
+          ap (λ (xs : List ℕ). get_or xs k 0) c.requires.starts
+          ∙ start_at (bits_of l.words) (kind one) c.args.log2 k (omega (arith, last.inside, t.upper_length));
+      before_is =
+          subst (λ (x : Lists). IsIndexed x → c.before_part-before.result ≡ ones_before (sought_in one x.words) (k * 2 ^ 32)) last.same
+          c.before_part-before.ensures.count indexed;
+    })
 
 pub returns-clause-reads : goal.returns-clause-reads
 returns-clause-reads g c =

@@ -1,5 +1,5 @@
 -- Nothing stands before the only part.
-use Rattle.std.proofs.Common.{sym, arith}
+use Rattle.std.proofs.Common.{rules, sym, arith}
 use Rattle.bit_lists.proofs.lemmas.CountLemmas.{ones_before_none}
 use Rattle.bit_lists.specs.Bits.{bits_of}
 use Rattle.bit_lists.specs.Count.{kind}
@@ -27,15 +27,19 @@ returns-in-0-clause-reads g c =
 
 -- ---- one part
 
-pub sampled_in_part-requires-clause-part : goal.sampled_in_part-requires-clause-part
-sampled_in_part-requires-clause-part g c =
+pub sampled_in_part-requires-clause-sampled : goal.sampled_in_part-requires-clause-sampled
+sampled_in_part-requires-clause-sampled g c =
     let m = sought_in g.row.ONE (g.T.TableSource.lists c.args.source.now).words in
     record {
-      inside = omega (arith, c.upper_len.ensures, c.in-1.is);
-      at_most = omega (arith, ones_before_none m);
-      next = λ h. absurd (omega (arith, h, c.upper_len.ensures, c.in-1.is));
+      low = c.requires.low;
+      high = c.requires.high;
+      samples = c.requires.samples;
+      part =
+          record {
+            inside = omega (arith, c.upper_len.ensures, c.in-1.is);
+            at_most = omega (arith, ones_before_none m);
+            next = λ h. absurd (omega (arith, h, c.upper_len.ensures, c.in-1.is));
+          };
+      start_is = search rules;
+      before_is = sym (ones_before_none m);
     }
-
-pub sampled_in_part-requires-clause-before : goal.sampled_in_part-requires-clause-before
-sampled_in_part-requires-clause-before g c =
-    sym (ones_before_none (sought_in g.row.ONE (g.T.TableSource.lists c.args.source.now).words))

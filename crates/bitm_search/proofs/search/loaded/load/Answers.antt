@@ -1,0 +1,70 @@
+-- The record is chosen by the fields of the entry; what is left of the rank counts from there.
+use Rattle.std.proofs.Common.{◌≡◌, ℕ, ◌+◌, ◌-◌, ◌*◌, ◌%◌, ◌^◌, ◌<◌, ◌≤◌, length, ap, sym, subst, arith}
+use Rattle.bitm_search.specs.Entry.{before_in_part}
+use Rattle.bitm_search.specs.Many.{IsInRecord}
+use Rattle.bitm_search.specs.Search.{IsWord, sought_in}
+use Rattle.bitm_search.specs.Tables.{HasTables, Lists}
+use Rattle.bitm_search.proofs.lemmas.LengthLemmas.{few_entries}
+use Rattle.bitm_search.proofs.lemmas.ManyLemmas.{near_loads}
+use Rattle.bitm_search.proofs.lemmas.SoughtLemmas.{low_is, record_fields_rise}
+use Rattle.bitm_search.proofs.search.loaded.load.Goals as goal
+use Rattle.bitm_search.proofs.search.loaded.load.Goals.{then-first-words_len, else-first-words_len}
+
+pub overflow_mul-first : goal.overflow_mul-first
+overflow_mul-first g c = record { fits = omega (arith, c.requires.entry, few_entries _ c.requires.sized) }
+
+pub overflow_add-first : goal.overflow_add-first
+overflow_add-first g c =
+    record { fits = omega (arith, c.requires.entry, few_entries _ c.requires.sized, c.record_of-place.ensures.inside) }
+
+pub returns-clause-in_record : goal.returns-clause-in_record
+returns-clause-in_record g c rank search_is =
+    let lists = g.T.TableSource.lists c.args.source.now in
+    let m = sought_in g.row.ONE lists.words in
+    let r = c.record_of-place.ensures in
+    let first = c.args.entry * 32 + c.record_of-place.result.0 * 8 in
+    let word : first < length lists.words → IsWord (sought_in g.row.ONE lists.words) first c.if-first-words_len.word =
+    elim c.if-first-words_len.branch [
+      | then-first-words_len w ↦ λ _.
+          subst (λ (v : ℕ). IsWord m first v) (sym w.word-is)
+          (subst (λ (l : Lists). IsWord (sought_in g.row.ONE l.words) first w.sought_word-word.result) c.sought_entry-packed.ensures.same
+          w.sought_word-word.ensures.word)
+      | else-first-words_len w ↦ λ h.
+          absurd
+          (omega (
+            arith,
+            h,
+            w.if-first-words_len.false,
+            c.words_len.ensures,
+            ap (λ (l : Lists). length l.words) c.sought_entry-packed.ensures.same,
+          ))
+    ] in
+    let packed = c.sought_entry-packed.result in
+    let at = c.args.entry in
+    let place = c.record_of-place.result.0 in
+    let before = c.record_of-place.result.1 in
+    let count = c.ones_to_entry.result in
+    let in_entry = (c.args.rest + (2 ^ 64 - count)) % 2 ^ 64 in
+    let left = (in_entry + (2 ^ 64 - before)) % 2 ^ 64 in
+    let loaded : (t : HasTables lists) → (left ≡ c.args.rest - count - before)
+    × IsInRecord g.row.ONE lists rank
+    (record { rest = c.args.rest - count - before; first = first; word = c.if-first-words_len.word }) =
+    λ t.
+    let is = c.sought_entry-packed.ensures.entry t in
+    let near = search_is.near t in
+    let most : before_in_part m at ≤ c.args.rest = rw near.place near.at_most in
+    let same : in_entry ≡ c.args.rest - count =
+    omega (arith, most, low_is m packed at is, c.ones_to_entry.ensures, c.ranges.rest.fits) in
+    let one = record_fields_rise m packed at 1 is (omega arith) in
+    let two = record_fields_rise m packed at 2 is (omega arith) in
+    let at_most : before ≤ c.args.rest - count = omega (arith, r.at_most one two, same) in (
+      omega (arith, same, at_most, c.ranges.rest.fits),
+      near_loads g.row.ONE lists rank c.args.rest at packed count place before c.if-first-words_len.word t c.requires.sized.short near
+          is c.ones_to_entry.ensures r.inside r.before at_most (λ h. omega (arith, r.next one two h, same)) word,
+    ) in
+    record {
+      fits = omega (arith, c.requires.entry, few_entries lists c.requires.sized, r.inside);
+      word_is = word;
+      total = λ t. omega (arith, (loaded t).1.total t, (loaded t).0);
+      next = λ t. (loaded t).1.next t;
+    }

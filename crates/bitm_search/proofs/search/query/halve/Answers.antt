@@ -1,0 +1,20 @@
+-- Where there is no entry in the middle the search stays.
+use Rattle.std.proofs.Common.{arith}
+use Rattle.bitm_search.proofs.lemmas.ManyLemmas.{near_stays, step_few}
+use Rattle.bitm_search.proofs.search.query.halve.Goals as goal
+
+pub step-requires-clause-next : goal.step-requires-clause-next
+step-requires-clause-next g c =
+    omega (arith, step_few c.args.size c.requires.size, c.lower_len.ensures, c.if-next-lower_len.false)
+
+pub returns-then-next-lower_len-clause-search : goal.returns-then-next-lower_len-clause-search
+returns-then-next-lower_len-clause-search g c rank search_is =
+    let lists = g.T.TableSource.lists c.args.source.now in
+    let small = step_few c.args.size c.requires.size in
+    record {
+      entry = search_is.entry;
+      near =
+          λ t.
+          near_stays g.row.ONE lists rank c.args.query.rest c.args.query.entry c.args.size (search_is.near t)
+          (λ h. absurd (omega (arith, h, small, c.lower_len.ensures, c.if-next-lower_len.true)));
+    }
