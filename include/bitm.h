@@ -241,22 +241,23 @@ uint32_t bitm_sequence_build(const uint64_t *items, size_t items_len, uint64_t *
                              uint64_t *width);
 
 /* Whether the parts are those of some sequence, as bitm_sequence_build writes them: BITM_OK, BITM_WRONG or
- * BITM_BAD_SIZE. Passes twice over the words, and reads one fragment of low for each number. */
+ * BITM_BAD_SIZE. Passes twice over the words, and reads at most one fragment of low for each number. */
 uint32_t bitm_sequence_check(const struct bitm_sequence_view *view);
 
 /* Number index, counted from 0. BITM_NONE exactly if index is len or more, whatever the parts hold; BITM_WRONG if the
- * parts turn out not to be those of a sequence. Reads what a selection reads, and one fragment of low. */
+ * parts turn out not to be those of a sequence. Reads what a selection reads, and at most one fragment of low. */
 uint32_t bitm_sequence_get(const struct bitm_sequence_view *view, size_t index, uint64_t *out);
 
 /* The successor: the least place whose number is at least value. BITM_NONE if every number is less, BITM_WRONG if the
  * parts turn out not to be those of a sequence; any place returned is below len, whatever the parts hold. Reads what
- * two selections read, and one fragment of low for each binary digit of how many numbers share the upper bits of
- * value. */
+ * two selections read, and at most one fragment of low for each binary digit of how many numbers share the upper bits
+ * of value, in parts of no sequence for each of len. */
 uint32_t bitm_sequence_first_at_least(const struct bitm_sequence_view *view, uint64_t value, uint64_t *out);
 
 /* out[i] answers queries[i] as bitm_sequence_first_at_least does, or is BITM_NO_ANSWER for BITM_NONE and
- * BITM_WRONG_TABLES for BITM_WRONG. Returns BITM_OK, or BITM_BAD_SIZE (also if out_len is not queries_len), and then
- * writes nothing. */
+ * BITM_WRONG_TABLES for BITM_WRONG. Zeros are selected side by side, so in parts of no sequence it may be another place
+ * than bitm_sequence_first_at_least answers. Returns BITM_OK, or BITM_BAD_SIZE (also if out_len is not queries_len),
+ * and then writes nothing. */
 uint32_t bitm_sequence_first_at_least_list(const struct bitm_sequence_view *view, const uint64_t *queries,
                                            size_t queries_len, uint64_t *out, size_t out_len);
 

@@ -2,13 +2,29 @@
 //! parts are those of `EliasFano`, word by word. Of 2, 3, 5, 7, 11, 13 and 24 each number keeps one low digit (0, 1, 1,
 //! 1, 1, 1, 0), and its upper one stands at the rest of it, halved, and its place more: 1, 1 + 1, 2 + 2, 3 + 3, 5 + 4,
 //! 6 + 5 and 12 + 6. The name of a test is the sentence that it shows.
-use bitm_lent::Lent;
+use bitm_lent::{Lent, NO_ANSWER};
 use elias_fano::EliasFano;
 use elias_fano_lent::{BuildError, LentSequence, Listed, Sizes, Sought, build};
 use std::process::Abort;
 use std::test::Fail;
 
 const ITEMS: [u64; 7] = [2, 3, 5, 7, 11, 13, 24];
+
+/// Asks what first is at least each of more values than are sought side by side.
+fn lists_agree(rt: &impl Abort, primes: &LentSequence<'_>) {
+    let asked = [
+        0u64, 1, 2, 3, 4, 5, 6, 7, 8, 9, 10, 11, 12, 13, 14, 15, 24, 25,
+    ];
+    let mut out = [0usize; 18];
+    assert_eq!(rt;
+        primes.first_at_least_list(asked.as_slice(), out.as_mut_slice()),
+        true
+    );
+    assert_eq!(rt;
+        out,
+        [0, 0, 0, 1, 2, 2, 3, 3, 4, 4, 4, 4, 5, 5, 6, 6, 6, NO_ANSWER]
+    );
+}
 
 /// Asks each number, each place, and what first is at least some values.
 fn agrees(rt: &impl Abort, primes: &LentSequence<'_>) {
@@ -61,6 +77,7 @@ fn what_was_written_is_read_and_found(rt: HostRuntime) -> Result<(), Fail> {
         panic!(&rt; "lengths")
     };
     agrees(&rt, &primes);
+    lists_agree(&rt, &primes);
     Ok(())
 }
 

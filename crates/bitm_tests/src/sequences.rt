@@ -210,6 +210,52 @@ fn each_of_many_numbers_is_found_at_its_place(rt: HostRuntime) -> Result<(), Fai
     Ok(())
 }
 
+/// So many numbers, three of each from 0 on, and the greatest but one.
+fn crowd(alloc: Global, count: u32) -> Result<Vec<u64>, AllocError> {
+    let mut items = Vec::new(alloc);
+    for i in 0..count {
+        items.push(u64::from(i) / 3)?;
+    }
+    items.push(u64::MAX - 1)?;
+    Ok(items)
+}
+
+/// The first place whose item is at least `v`, one item after another.
+fn first_from(items: &[u64], v: u64) -> Option<usize> {
+    for (i, x) in items.iter().enumerate() {
+        if *x >= v {
+            return Some(i);
+        }
+    }
+    None
+}
+
+#[test]
+fn numbers_are_found_where_all_but_one_share_their_upper_digits(
+    rt: HostRuntime,
+) -> Result<(), Fail> {
+    let items = crowd(rt.alloc(), 1 << 17)?;
+    let made = EliasFano::build(rt.alloc(), items.as_slice())?;
+    assert_eq!(rt; made.low_width(), 46);
+    let asked = [
+        0u64,
+        1,
+        2,
+        21845,
+        32767,
+        43689,
+        43690,
+        43691,
+        1 << 46,
+        u64::MAX - 1,
+        u64::MAX,
+    ];
+    for v in asked {
+        assert_eq!(rt; made.first_at_least(v), first_from(items.as_slice(), v));
+    }
+    Ok(())
+}
+
 #[test]
 fn refused_memory_is_said(rt: HostRuntime) {
     let items = [2u64, 3, 5, 7, 11, 13, 24];

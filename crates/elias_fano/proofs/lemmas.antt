@@ -1,5 +1,6 @@
 pub mod BucketLemmas
 pub mod CursorLemmas
+pub mod FragmentLemmas
 pub mod ItemLemmas
 pub mod LowLemmas
 pub mod SelectionReadLemmas

@@ -2,6 +2,7 @@
 use Rattle.std.specs.Prelude.{◌≡◌, ℕ, ◌*◌, ◌^◌, ◌<◌, ◌≤◌, List, length}
 use Rattle.std.specs.Int.{div_ceil}
 use Rattle.bitm.specs.Tables.{HasTables, Lists}
+use Rattle.elias_fano.specs.Low.{Lows}
 use Rattle.elias_fano.specs.Parts.{ArePartsOf}
 
 -- a number of items, how many of their digits are low ones, words of these digits, and the upper words with their tables
@@ -14,6 +15,10 @@ pub record Held : Type 0 where
 -- these four
 abbrev pub held : ℕ → ℕ → List ℕ → Lists → Held
 held n l low upper = record { len = n; width = l; low = low; upper = upper }
+
+-- n items, of which these are the low digits
+abbrev pub held_by : ℕ → Lows → Lists → Held
+held_by n low upper = held n low.width low.words upper
 
 -- few enough items, no more low digits than a shift passes over, and as many words as these take
 pub record HasLengths (parts : Held) : Type 0 where

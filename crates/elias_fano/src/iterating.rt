@@ -6,6 +6,7 @@ ghost use Rattle.elias_fano.specs.Numbers.{StandFrom};
 ghost use Rattle.elias_fano.specs.Parts.{ArePartsOf};
 
 use crate::laws;
+use crate::low::LowDigits;
 use crate::searching::item_at_one;
 use bitm::words;
 use std::iter::{DoubleEndedIterator, ExactSizeIterator, FusedIterator, Iterator};
@@ -86,7 +87,7 @@ impl<'a> Iterator for Numbers<'a> {
             return None;
         }
         let place = words::find_bit_one_unchecked(self.upper, self.first);
-        let number = item_at_one(place, self.low, self.start, self.width);
+        let number = item_at_one(place, &mut LowDigits::new(self.low, self.width), self.start);
         self.start += 1;
         self.first = place + 1;
         Some(number)
@@ -114,7 +115,7 @@ impl<'a> DoubleEndedIterator for Numbers<'a> {
         }
         let at = self.end - 1;
         let place = words::rfind_bit_one_unchecked(self.upper, self.limit - 1);
-        let number = item_at_one(place, self.low, at, self.width);
+        let number = item_at_one(place, &mut LowDigits::new(self.low, self.width), at);
         self.end = at;
         self.limit = place;
         Some(number)

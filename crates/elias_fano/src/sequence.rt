@@ -14,6 +14,7 @@ use crate::checking::check;
 use crate::error::EfError;
 use crate::iterating::Numbers;
 use crate::laws;
+use crate::low::LowDigits;
 use crate::making::{make_low, make_upper, width_for};
 use crate::searching::item_at_one;
 use bitm::{ArrayWithRank101111, CloneWords, GetSize, Probe, Select};
@@ -129,14 +130,19 @@ impl EliasFano {
     /// # Conditions
     /// There is such a number.
     /// # Cost
-    /// One selection in the upper vector, and one fragment of the low one.
+    /// One selection in the upper vector, and at most one fragment of the low one, as `item_at_one` says.
     #[inline(always)]
     pub fn get(&self, i: usize) -> u64
         requires { i < length self.now }
         ensures { result ≡ slice_index self.now i }
     {
         laws::bit_laws();
-        item_at_one(self.upper.select(i), self.low.as_slice(), i, self.width)
+        let place = self.upper.select(i);
+        item_at_one(
+            place,
+            &mut LowDigits::new(self.low.as_slice(), self.width),
+            i,
+        )
     }
 
     /// Number `i`; `None` exactly where there is none.
@@ -165,6 +171,16 @@ impl EliasFano {
         ensures { IsUpper self.now (width_of self.now) result.now }
     {
         self.upper.as_slice()
+    }
+
+    /// The low digits of each number, of which nothing was read.
+    #[inline(always)]
+    pub fn low_digits(&self) -> LowDigits<'_>
+        ensures words { IsLow self.now (width_of self.now) result.words }
+        ensures width { result.width ≡ width_of self.now }
+        ensures read { result.read ≡ 0 }
+    {
+        LowDigits::new(self.low_words(), self.low_width())
     }
 
     /// A source over the upper words and the tables of their index, of which nothing was read.

@@ -13,9 +13,10 @@ use Rattle.bitm.specs.Number.{number_at}
 use Rattle.elias_fano.proofs.lemmas.ItemLemmas.{held-is}
 use Rattle.elias_fano.proofs.lemmas.UpperLemmas.{places_are}
 use Rattle.elias_fano.specs.Laws.{BitLaws}
+use Rattle.elias_fano.specs.Low.{unread, HasFragments}
 use Rattle.elias_fano.specs.Parts.{width_at, upper_place, upper_places, items_of, ArePartsOf}
 use Rattle.elias_fano.specs.Sequence.{largest, IsSequence}
-use Rattle.elias_fano_lent.specs.Checks.{held_item, AreNumbers, HasFragments}
+use Rattle.elias_fano_lent.specs.Checks.{held_item, AreNumbers}
 use Rattle.elias_fano_lent.specs.Sizes.{upper_words_at}
 
 -- ---- a number below 2^64
@@ -118,7 +119,7 @@ module _ (laws : BitLaws) (xs : List ℕ) (n l : ℕ) (low words : List ℕ) (h 
 
 -- ---- what is held is a sequence
 
-module _ (laws : BitLaws) (n l last : ℕ) (low words : List ℕ) (fragments : HasFragments low n l) (a : AreNumbers l low words n last)
+module _ (laws : BitLaws) (n l last : ℕ) (low words : List ℕ) (fragments : HasFragments (unread low l) n) (a : AreNumbers l low words n last)
     (ones : ones_of (bits_of words) ≡ n) where
   ys : List ℕ
   ys = items_of n l low words

@@ -1,14 +1,8 @@
 -- The numbers that two vectors hold, as a walk over the ones finds them.
-use Rattle.std.specs.Prelude.{◌≡◌, ℕ, ◌+◌, ◌-◌, ◌*◌, ◌^◌, ◌<◌, ◌≤◌, true, List, length, slice_index}
+use Rattle.std.specs.Prelude.{◌≡◌, ℕ, ◌+◌, ◌-◌, ◌*◌, ◌^◌, ◌<◌, ◌≤◌, true, List, slice_index}
 use Rattle.bitm.specs.Bits.{bits_of}
 use Rattle.bitm.specs.Count.{places}
 use Rattle.bitm.specs.Number.{number_at}
-
--- the words have n fragments of l bits, whatever they hold
-pub record HasFragments (low : List ℕ) (n l : ℕ) : Type 0 where
-  pub width : l ≤ 63
-  pub short : n < 2 ^ 56
-  pub inside : n * l ≤ 64 * length low
 
 -- number j: what stands above its low digits, with these
 abbrev pub held_item : ℕ → List ℕ → List ℕ → ℕ → ℕ

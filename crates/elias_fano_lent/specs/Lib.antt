@@ -8,5 +8,6 @@ pub use Rattle.bitm.specs.Number
 pub use Rattle.bitm.specs.Tables
 pub use Rattle.elias_fano.specs.Answers
 pub use Rattle.elias_fano.specs.Held
+pub use Rattle.elias_fano.specs.Low
 pub use Rattle.elias_fano.specs.Parts
 pub use Rattle.elias_fano.specs.Sequence

@@ -1,5 +1,5 @@
 -- What is answered to a list of places.
-use Rattle.std.specs.Prelude.{◌≡◌, ◌≢◌, ⊤, ℕ, ◌-◌, ◌%◌, ◌^◌, ◌<◌, ◌≤◌, ◌⊎◌, true, List, length, slice_index}
+use Rattle.std.specs.Prelude.{◌≡◌, ◌≢◌, ⊤, ℕ, ◌-◌, ◌/◌, ◌%◌, ◌^◌, ◌<◌, ◌≤◌, ◌⊎◌, true, false, List, length, slice_index}
 use Rattle.bitm.specs.Answers.{SelectTold}
 use Rattle.bitm.specs.Tables.{Lists}
 use Rattle.elias_fano.specs.Sequence.{Reaches}
@@ -27,6 +27,20 @@ IsListed n places room WrongLength = room ≢ length places
 abbrev pub AreAhead : Lists → List ℕ → ℕ → ℕ → List ℕ → Type 0
 AreAhead upper places k end ones =
     (j : ℕ) → k ≤ j → j < end → j < length places → SelectTold true upper (slice_index places j) (slice_index ones (j % 16))
+
+-- the bucket of v are the items with its upper digits: n tells the zero after it, and the one before it where less is 1
+abbrev pub ZeroTold : Held → ℕ → ℕ → ℕ → Type 0
+ZeroTold parts less v n = SelectTold false parts.upper (v / 2 ^ parts.width - less) n
+
+-- begin and end tell the zeros at the ends of the bucket of v; the one at the end where there are low digits
+pub record EndsTold (parts : Held) (v begin end : ℕ) : Type 0 where
+  pub begins : ZeroTold parts 1 v begin
+  pub ends : 0 < parts.width → ZeroTold parts 0 v end
+
+-- of the values from value k of the list on and before value end, sixteen numbers tell those zeros
+abbrev pub AreZerosAhead : Held → ℕ → List ℕ → ℕ → ℕ → List ℕ → Type 0
+AreZerosAhead parts less values k end zeros =
+    (j : ℕ) → k ≤ j → j < end → j < length values → ZeroTold parts less (slice_index values j) (slice_index zeros (j % 16))
 
 -- right parts are not called wrong
 abbrev pub IsNeverWrong : Listed → Type 0

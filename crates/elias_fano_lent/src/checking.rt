@@ -1,41 +1,45 @@
 //! Whether parts are those of a sequence.
-ghost use Rattle.std.specs.Prelude.{◌≡◌, ◌+◌, ◌-◌, ◌*◌, ◌^◌, ◌<◌, ◌≤◌, ◌↔◌, ℕ, IsTrue, List, length};
+ghost use Rattle.std.specs.Prelude.{◌≡◌, ◌-◌, ◌*◌, ◌^◌, ◌<◌, ◌≤◌, ◌↔◌, ℕ, IsTrue, List, length};
 ghost use Rattle.std.specs.Prelude.{MatchOption, SomeIff};
 ghost use Rattle.std.specs.Int.{div_ceil};
 ghost use Rattle.bitm.specs.Bits.{bits_of, IsShort};
 ghost use Rattle.bitm.specs.Count.{ones_of};
-ghost use Rattle.bitm.specs.Number.{number_at};
+ghost use Rattle.elias_fano.specs.Low.{joined_item, unread, HasFragments, ReadsFragments};
 ghost use Rattle.elias_fano.specs.Parts.{ArePartsOf, HasFragment};
-ghost use Rattle.elias_fano_lent.specs.Checks.{AreNumbers, HasFragments};
+ghost use Rattle.elias_fano_lent.specs.Checks.{AreNumbers};
 
 use crate::sizes::Sizes;
 use bitm::words as slices;
 use elias_fano::building::joined;
-use elias_fano::laws;
+use elias_fano::{LowDigits, laws};
 
 /// Number `at`, whose one stands at `place`, if it is below 2^64.
 #[inline(always)]
-fn number_of(place: usize, low: &[u64], at: usize, width: u8) -> Option<u64>
-    requires fragment { HasFragment low.now at width }
+fn number_of(place: usize, low: &mut LowDigits<'_>, at: usize) -> Option<u64>
+    requires fragment { HasFragment low.old.words at low.old.width }
     requires order { at ≤ place }
-    ensures { let number =
-        (place - at) * 2 ^ width + number_at (bits_of low.now) (at * width) width in
+    ensures number { let number = joined_item (place - at) low.old at in
         SomeIff result (number < 2 ^ 64) number }
+    ensures fragments { ReadsFragments low.old low.new 1 }
 {
+    let width = low.width();
     let above = place - at;
     if width > 0 && (above as u64) >> (64 - width) != 0 {
         return None;
     }
-    Some(joined(above, low, at, width))
+    Some(joined(above, low, at))
 }
 
 /// The last of `n` numbers, 0 where there is none, if the ones of the words and the low digits are those of `n` numbers
-/// that never fall.
-fn last_of(words: &[u64], low: &[u64], width: u8, n: usize) -> Option<u64>
+/// that never fall: at most one fragment of the low digits for each number.
+fn last_of(words: &[u64], low: &mut LowDigits<'_>, n: usize) -> Option<u64>
     requires short { IsShort words.now }
-    requires fragments { HasFragments low.now n width }
-    ensures { MatchOption result ((xs : List ℕ) → ArePartsOf xs n width low.now words.now → ⊥)
-        (λ last. AreNumbers width low.now words.now n last × (ones_of (bits_of words.now) ≡ n)) }
+    requires some { HasFragments low.old n }
+    ensures last { MatchOption result
+        ((xs : List ℕ) → ArePartsOf xs n low.old.width low.old.words words.now → ⊥)
+        (λ last. AreNumbers low.old.width low.old.words words.now n last
+        × (ones_of (bits_of words.now) ≡ n)) }
+    ensures fragments { ReadsFragments low.old low.new n }
 {
     laws::bit_laws();
     let mut from = 0;
@@ -45,7 +49,7 @@ fn last_of(words: &[u64], low: &[u64], width: u8, n: usize) -> Option<u64>
             Some(place) => place,
             None => return None,
         };
-        let number = match number_of(place, low, at, width) {
+        let number = match number_of(place, &mut *low, at) {
             Some(number) => number,
             None => return None,
         };
@@ -64,12 +68,12 @@ fn last_of(words: &[u64], low: &[u64], width: u8, n: usize) -> Option<u64>
 /// Whether these are the parts of some sequence: one pass over the upper words.
 pub(crate) fn are_parts(words: &[u64], low: &[u64], width: u8, n: usize) -> bool
     requires short { IsShort words.now }
-    requires fragments { HasFragments low.now n width }
+    requires some { HasFragments (unread low.now width) n }
     requires low { length low.now ≡ div_ceil (n * width) 64 }
     ensures { IsTrue result ↔ ((xs : List ℕ) × ArePartsOf xs n width low.now words.now) }
 {
     laws::bit_laws();
-    let Some(last) = last_of(words, low, width, n) else {
+    let Some(last) = last_of(words, &mut LowDigits::new(low, width), n) else {
         return false;
     };
     let Some(sizes) = Sizes::of(n, last) else {

@@ -18,6 +18,7 @@
 //! ```
 #![tactic(auto)]
 
+mod bucket;
 mod checking;
 mod error;
 mod filling;

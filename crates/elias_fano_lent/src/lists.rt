@@ -1,7 +1,8 @@
 //! The numbers of a list of places.
 ghost use Rattle.std.specs.Prelude.{◌≡◌, ◌<◌, ◌↔◌, ℕ, IsTrue, List, length, slice_index, false};
 ghost use Rattle.elias_fano_lent.specs.Held.{Holds};
-ghost use Rattle.elias_fano_lent.specs.Lists.{written, AreItems, IsKeptFrom, IsListed, IsNeverWrong, PlaceTold};
+ghost use Rattle.elias_fano_lent.specs.Lists.{written, AreItems, EndsTold, IsKeptFrom, IsListed, IsNeverWrong};
+ghost use Rattle.elias_fano_lent.specs.Lists.{PlaceTold};
 
 use crate::sequence::LentSequence;
 use bitm_lent::{NO_ANSWER, WRONG_TABLES};
@@ -47,8 +48,9 @@ impl<'a> LentSequence<'a> {
         Listed::All
     }
 
-    /// Writes the place of the first number that is at least each value, as `first_at_least` answers it, `NO_ANSWER` for
-    /// `Absent` and `WRONG_TABLES` for `WrongParts`; answers false exactly where there is not room for as many places as
+    /// Writes the place of the first number that is at least each value, as `first_at_least` answers it where the parts
+    /// are those of a sequence, `NO_ANSWER` for `Absent` and `WRONG_TABLES` for `WrongParts`. In other parts it may be
+    /// another place than `first_at_least` finds. Answers false exactly where there is not room for as many places as
     /// values, and nothing is written then.
     pub fn first_at_least_list(&self, values: &[u64], out: &mut [usize]) -> bool
         ensures room { IsTrue result ↔ length out.old ≡ length values.now }
@@ -59,19 +61,26 @@ impl<'a> LentSequence<'a> {
         if out.len() != values.len() {
             return false;
         }
+        let mut begins = [0; SIDE_BY_SIDE];
+        let mut ends = [0; SIDE_BY_SIDE];
         for at in 0..values.len() {
-            out[at] = self.first_told(values[at]);
+            self.zeros_ahead(values, at, 1, &mut begins);
+            self.ends_ahead(values, at, &mut ends);
+            let (begin, end) = (begins[at % SIDE_BY_SIDE], ends[at % SIDE_BY_SIDE]);
+            out[at] = self.first_told(values[at], begin, end);
         }
         true
     }
 
-    /// The place of the first number that is at least `v`, `NO_ANSWER` or `WRONG_TABLES`.
+    /// The place of the first number that is at least `v`, `NO_ANSWER` or `WRONG_TABLES`, of which lists of selections
+    /// tell the ends of the bucket.
     #[inline(always)]
-    fn first_told(&self, v: u64) -> usize
+    fn first_told(&self, v: u64, begin: usize, end: usize) -> usize
+        requires { EndsTold self.now v begin end }
         ensures { PlaceTold self.now v result }
     {
         let _ = self.len();
-        match self.first_at_least(v) {
+        match self.place_told(v, begin, end) {
             Sought::Found(place) => place,
             Sought::Absent => NO_ANSWER,
             Sought::WrongParts => WRONG_TABLES,

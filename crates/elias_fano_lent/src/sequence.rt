@@ -1,27 +1,30 @@
 //! A sequence whose parts are lent.
-ghost use Rattle.std.specs.Prelude.{◌≡◌, ◌+◌, ◌*◌, ◌/◌, ◌^◌, ◌<◌, ◌↔◌, ℕ};
-ghost use Rattle.std.specs.Prelude.{IsTrue, List, MatchOption, length, true};
+ghost use Rattle.std.specs.Prelude.{◌≡◌, ◌+◌, ◌*◌, ◌/◌, ◌^◌, ◌<◌, ◌≤◌, ◌↔◌, ℕ};
+ghost use Rattle.std.specs.Prelude.{IsTrue, List, MatchOption, length, slice_index, true};
 ghost use Rattle.bitm.specs.Answers.{SelectTold};
 ghost use Rattle.bitm.specs.Tables.{Lists};
 ghost use Rattle.elias_fano.specs.Parts.{HasFragment};
 ghost use Rattle.elias_fano_lent.specs.Answers.{IsFirst, IsItem, IsOfPlace, IsPlaceOf};
-ghost use Rattle.elias_fano_lent.specs.Held.{held, HasLengths, Holds};
-ghost use Rattle.elias_fano_lent.specs.Lists.{AreAhead};
+ghost use Rattle.elias_fano_lent.specs.Held.{held, held_by, HasLengths, Holds};
+ghost use Rattle.elias_fano_lent.specs.Lists.{AreAhead, AreZerosAhead, EndsTold, ZeroTold};
+ghost use Rattle.elias_fano_lent.specs.Low.{unread, ReadsFragments};
 
+use crate::bucket::{place_of, rank_each};
 use crate::checking::are_parts;
 use bitm_lent::{Lent, WRONG_TABLES};
 use bitm_search::search::many::SIDE_BY_SIDE;
 use elias_fano::building::item_at_one;
-use elias_fano::{Sought, laws, total_first_at_least_on, total_item_on};
+use elias_fano::{LowDigits, Sought, laws, total_first_at_least_on, total_item_on};
 use std::marker::Model;
 
-/// Number `place` of `n`, of which a list of selections tells the one.
+/// Number `place` of `n`, of which a list of selections tells the one: at most one fragment of the low digits.
 #[inline(always)]
-fn item_of(low: &[u64], width: u8, n: usize, place: usize, one: usize) -> Sought<u64>
-    requires { place < n → HasFragment low.now place width }
+fn item_of(low: &mut LowDigits<'_>, n: usize, place: usize, one: usize) -> Sought<u64>
+    requires { place < n → HasFragment low.old.words place low.old.width }
     ensures inside { IsOfPlace n place result }
-    ensures answer { (xs : List ℕ) (upper : Lists) → Holds xs (held n width low.now upper)
+    ensures answer { (xs : List ℕ) (upper : Lists) → Holds xs (held_by n low.old upper)
         → SelectTold true upper place one → IsItem xs place result }
+    ensures fragments { ReadsFragments low.old low.new 1 }
 {
     laws::bit_laws();
     if place >= n {
@@ -30,7 +33,7 @@ fn item_of(low: &[u64], width: u8, n: usize, place: usize, one: usize) -> Sought
     if one >= WRONG_TABLES {
         return Sought::WrongParts;
     }
-    Sought::Found(item_at_one(one, low, place, width))
+    Sought::Found(item_at_one(one, low, place))
 }
 
 /// The parts of a sequence, all lent, of which the lengths are right.
@@ -95,6 +98,14 @@ impl<'a> LentSequence<'a> {
         self.upper.check() && are_parts(self.upper.words(), self.low, self.width, self.len)
     }
 
+    /// The low digits, of which nothing was read.
+    #[inline(always)]
+    fn low_digits(&self) -> LowDigits<'_>
+        ensures { result ≡ unread self.now.low self.now.width }
+    {
+        LowDigits::new(self.low, self.width)
+    }
+
     /// At the first place of each sixteen, selects the ones of them all, side by side.
     #[inline(always)]
     pub(crate) fn select_ahead(&self, places: &[usize], at: usize, ones: &mut [usize])
@@ -112,6 +123,52 @@ impl<'a> LentSequence<'a> {
             .select_list(&places[at..at + count], &mut ones[0..count]);
     }
 
+    /// At the first place of each sixteen, selects the zeros before the buckets of them all side by side, where `less` is
+    /// 1, and those after them where it is 0.
+    #[inline(always)]
+    pub(crate) fn zeros_ahead(&self, values: &[u64], at: usize, less: usize, zeros: &mut [usize])
+        requires at { at < length values.now }
+        requires room { length zeros.old ≡ 16 }
+        requires told { AreZerosAhead self.now less values.now at ((at + 15) / 16 * 16) zeros.old }
+        ensures told { AreZerosAhead self.now less values.now at ((at + 16) / 16 * 16) zeros.new }
+        ensures room { length zeros.new ≡ 16 }
+    {
+        if at % SIDE_BY_SIDE != 0 {
+            return;
+        }
+        let count = (values.len() - at).min(SIDE_BY_SIDE);
+        self.select_zeros(&values[at..at + count], less, &mut zeros[0..count]);
+    }
+
+    /// The zeros after the buckets, as `zeros_ahead`; none where there are no low digits.
+    #[inline(always)]
+    pub(crate) fn ends_ahead(&self, values: &[u64], at: usize, ends: &mut [usize])
+        requires at { at < length values.now }
+        requires room { length ends.old ≡ 16 }
+        requires told { 0 < self.now.width
+            → AreZerosAhead self.now 0 values.now at ((at + 15) / 16 * 16) ends.old }
+        ensures told { 0 < self.now.width
+            → AreZerosAhead self.now 0 values.now at ((at + 16) / 16 * 16) ends.new }
+        ensures room { length ends.new ≡ 16 }
+    {
+        if self.width > 0 {
+            self.zeros_ahead(values, at, 0, ends);
+        }
+    }
+
+    /// Selects the zero before the bucket of each value, where `less` is 1, and the one after it where it is 0.
+    fn select_zeros(&self, values: &[u64], less: usize, zeros: &mut [usize])
+        requires few { length values.now ≤ 16 }
+        requires room { length zeros.old ≡ length values.now }
+        ensures told { (j : ℕ) → j < length values.now
+            → ZeroTold self.now less (slice_index values.now j) (slice_index zeros.new j) }
+        ensures room { length zeros.new ≡ length values.now }
+    {
+        let mut ranks = [0; SIDE_BY_SIDE];
+        rank_each(values, self.width, less, &mut ranks);
+        self.upper.select0_list(&ranks[0..values.len()], zeros);
+    }
+
     /// Number `place`, of which a list of selections tells the one.
     #[inline(always)]
     pub(crate) fn item_told(&self, place: usize, one: usize) -> Sought<u64>
@@ -119,19 +176,29 @@ impl<'a> LentSequence<'a> {
         ensures inside { IsOfPlace self.now.len place result }
         ensures answer { (xs : List ℕ) → Holds xs self.now → IsItem xs place result }
     {
-        item_of(self.low, self.width, self.len, place, one)
+        item_of(&mut self.low_digits(), self.len, place, one)
+    }
+
+    /// The least place whose number is at least `v`, of which lists of selections tell the ends of the bucket.
+    #[inline(always)]
+    pub(crate) fn place_told(&self, v: u64, begin: usize, end: usize) -> Sought<usize>
+        requires { EndsTold self.now v begin end }
+        ensures inside { IsPlaceOf self.now.len result }
+        ensures answer { (xs : List ℕ) → Holds xs self.now → IsFirst xs v result }
+    {
+        place_of(&mut self.low_digits(), self.len, v, begin, end)
     }
 
     /// Number `i`, where the parts are those of a sequence; `Absent` exactly where there is none, whatever they hold.
     ///
     /// # Cost
-    /// That of `total_item_on`.
+    /// That of `total_item_on`: one selection, and at most one fragment of the low digits.
     #[inline(always)]
     pub fn get(&self, i: usize) -> Sought<u64>
         ensures inside { IsOfPlace self.now.len i result }
         ensures answer { (xs : List ℕ) → Holds xs self.now → IsItem xs i result }
     {
-        total_item_on(&mut self.upper.probe(), self.low, self.width, self.len, i)
+        total_item_on(&mut self.upper.probe(), &mut self.low_digits(), self.len, i)
     }
 
     /// The least place whose number is at least `v`, where the parts are those of a sequence, and `Absent` exactly
@@ -144,6 +211,6 @@ impl<'a> LentSequence<'a> {
         ensures inside { IsPlaceOf self.now.len result }
         ensures answer { (xs : List ℕ) → Holds xs self.now → IsFirst xs v result }
     {
-        total_first_at_least_on(&mut self.upper.probe(), self.low, self.width, self.len, v)
+        total_first_at_least_on(&mut self.upper.probe(), &mut self.low_digits(), self.len, v)
     }
 }

@@ -9,11 +9,11 @@ use Rattle.std.specs.List.Sorted.{IsNonDecreasing}
 use Rattle.bitm.specs.Bits.{bits_of, item}
 use Rattle.bitm.specs.Count.{ones_before, zeros_before, is_same, Picks}
 use Rattle.bitm.specs.Laws.{OnesAndZeros}
-use Rattle.bitm.specs.Number.{number_at}
 use Rattle.elias_fano.proofs.lemmas.SplitLemmas.{Splits-same}
 use Rattle.elias_fano.proofs.lemmas.UpperLemmas.{one_is, ones_are}
-use Rattle.elias_fano.specs.Buckets.{CountsTo, CountsBelow, Splits}
+use Rattle.elias_fano.specs.Buckets.{CountsTo, CountsBelow, LowsRise, Splits}
 use Rattle.elias_fano.specs.Laws.{BitLaws}
+use Rattle.elias_fano.specs.Low.{fragment, Lows}
 use Rattle.elias_fano.specs.Parts.{upper_place, IsUpper, ArePartsOf}
 use Rattle.elias_fano.specs.Sequence.{Reaches}
 
@@ -117,7 +117,7 @@ module _ (laws : BitLaws) (xs : List ℕ) (l : ℕ) (upper : List ℕ) (h : IsUp
 -- ---- the first item that reaches a value is among those with the value's upper digits, or the next one
 
 -- more above the low digits is more
-less_above : (x v p : ℕ) → 0 < p → x / p < v / p → x < v
+pub less_above : (x v p : ℕ) → 0 < p → x / p < v / p → x < v
 less_above x v p some less =
     let next : x / p + 1 ≤ v / p = omega arith in
     let times : (x / p + 1) * p ≤ v / p * p = mul-le-mul_right p next in
@@ -189,44 +189,39 @@ lows-rise xs l h first end i j rising before to from order less =
 -- ---- the same of parts
 
 -- the two ends of the bucket of the value v, in a sequence with these parts, and where its low digits part
-pub record IsBucket (xs low : List ℕ) (l v first end k : ℕ) : Type 0 where
-  pub begins : CountsBelow xs l (v / 2 ^ l) first
-  pub ends : CountsTo xs l (v / 2 ^ l) end
-  pub splits : Splits (λ j. number_at (bits_of low) (j * l) l) first end (v % 2 ^ l) k
+pub record IsBucket (xs : List ℕ) (low : Lows) (v first end k : ℕ) : Type 0 where
+  pub begins : CountsBelow xs low.width (v / 2 ^ low.width) first
+  pub ends : CountsTo xs low.width (v / 2 ^ low.width) end
+  pub splits : Splits (fragment low) first end (v % 2 ^ low.width) k
 
-module _ (xs : List ℕ) (n l : ℕ) (low upper : List ℕ) (h : ArePartsOf xs n l low upper) where
-  splits-items : (v first end k : ℕ) → IsBucket xs low l v first end k → Splits (λ j. get_or xs j 0 % 2 ^ l) first end (v % 2 ^ l) k
+module _ (xs : List ℕ) (n : ℕ) (low : Lows) (upper : List ℕ) (h : ArePartsOf xs n low.width low.words upper) where
+  splits-items : (v first end k : ℕ) → IsBucket xs low v first end k
+      → Splits (λ j. get_or xs j 0 % 2 ^ low.width) first end (v % 2 ^ low.width) k
   splits-items v first end k b =
-      Splits-same (λ j. number_at (bits_of low) (j * l) l) (λ j. get_or xs j 0 % 2 ^ l) first end (v % 2 ^ l) k
+      Splits-same (fragment low) (λ j. get_or xs j 0 % 2 ^ low.width) first end (v % 2 ^ low.width) k
       (λ j less. h.low_is.fragments j (omega (arith, b.ends.bound))) b.splits
 
-  pub bucket-reaches : (v first end k : ℕ) → IsBucket xs low l v first end k → k < n → Reaches xs v k
+  pub bucket-reaches : (v first end k : ℕ) → IsBucket xs low v first end k → k < n → Reaches xs v k
   bucket-reaches v first end k b inside =
-      Reaches-bucket xs l v first end b.begins b.ends k (splits-items v first end k b) (omega (arith, h.count))
+      Reaches-bucket xs low.width v first end b.begins b.ends k (splits-items v first end k b) (omega (arith, h.count))
 
-  pub bucket-none : (v first end k : ℕ) → IsBucket xs low l v first end k → n ≤ k → All (λ x. x < v) xs
+  pub bucket-none : (v first end k : ℕ) → IsBucket xs low v first end k → n ≤ k → All (λ x. x < v) xs
   bucket-none v first end k b past j d inside =
       omega (
         arith,
         get_or_default xs j d 0 inside,
-        none-bucket xs l v first end b.begins b.ends k (splits-items v first end k b) (omega (arith, h.count)) j inside,
+        none-bucket xs low.width v first end b.begins b.ends k (splits-items v first end k b) (omega (arith, h.count)) j inside,
       )
 
   -- fragments do not fall in a bucket
-  pub fragments-rise : (above first end i j : ℕ) → CountsBelow xs l above first → CountsTo xs l above end
-      → first ≤ i → i ≤ j → j < end → number_at (bits_of low) (i * l) l ≤ number_at (bits_of low) (j * l) l
-  fragments-rise above first end i j before to from order less =
+  pub fragments-rise : (above first end : ℕ) → CountsBelow xs low.width above first → CountsTo xs low.width above end → LowsRise low first end
+  fragments-rise above first end before to i j from order less =
       omega (
         arith,
-        lows-rise xs l above first end i j h.sequence.rising before to from order less,
+        lows-rise xs low.width above first end i j h.sequence.rising before to from order less,
         h.low_is.fragments i (omega (arith, to.bound)),
         h.low_is.fragments j (omega (arith, to.bound)),
       )
-
-  pub fragments-inside : (above end : ℕ) → CountsTo xs l above end → end * l ≤ 64 * length low
-  fragments-inside above end to =
-      let room : end * l ≤ length xs * l = mul-le-mul_right l to.bound in
-      omega (arith, h.low_is.words)
 
 -- ---- no low digits: the items that begin with the upper digits are those that reach the value
 

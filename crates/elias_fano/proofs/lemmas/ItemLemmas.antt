@@ -12,6 +12,7 @@ use Rattle.bitm.specs.WriteLaws.{NoItemsAreZero}
 use Rattle.bitm.specs.Tables.{Lists}
 use Rattle.elias_fano.specs.Held.{held, HasLengths}
 use Rattle.elias_fano.specs.Laws.{BitLaws}
+use Rattle.elias_fano.specs.Low.{unread, Lows}
 use Rattle.elias_fano.specs.Parts.{upper_place, IsLow, ArePartsOf, HasFragment, HasOneAt, items_of}
 use Rattle.elias_fano.specs.Sequence.{largest}
 use Rattle.elias_fano.proofs.lemmas.LowLemmas.{fragment-inside}
@@ -81,6 +82,13 @@ pub lent-has : (xs : List ℕ) (n l : ℕ) (low lent upper : List ℕ) (i p : �
 lent-has xs n l low lent upper i p h inside one same =
     let P : List ℕ → Type 0 = λ w. HasOneAt xs n l w upper i p in
     subst P (sym same) record { parts = h; inside = inside; one = one }
+
+-- and in low digits of which nothing was read
+pub unread-has : (xs : List ℕ) (n l : ℕ) (words upper : List ℕ) (i p : ℕ) (low : Lows) → low ≡ unread words l
+    → HasOneAt xs n l words upper i p → HasOneAt xs n low.width low.words upper i p
+unread-has xs n l words upper i p low same h =
+    let P : Lows → Type 0 = λ digits. HasOneAt xs n digits.width digits.words upper i p in
+    subst P (sym same) h
 
 -- one item, from the place of its one
 module _ (laws : BitLaws) (xs : List ℕ) (n l : ℕ) (low upper : List ℕ) (i p : ℕ) (h : HasOneAt xs n l low upper i p) where

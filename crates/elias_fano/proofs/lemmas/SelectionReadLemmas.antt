@@ -26,7 +26,7 @@ two-selections early now late uppers selection first second same = record {
 }
 
 module _ (digits : DigitsBoundPowers) where
-  digits-some : (n : ℕ) → 0 < n → 1 ≤ digit_count n
+  pub digits-some : (n : ℕ) → 0 < n → 1 ≤ digit_count n
   digits-some n some = omega (arith, digit_count-half digits n some)
 
   digits-two : (n : ℕ) → 2 ≤ n → 2 ≤ digit_count n

@@ -1,9 +1,10 @@
 -- Numbers that were tested are a sequence, and what the first place that reaches a value parts.
-use Rattle.std.proofs.Common.{◌≡◌, ℕ, ◌^◌, ◌<◌, ◌≤◌, ◌↔◌, List, length, get_or, ⊎_elim, arith}
+use Rattle.std.proofs.Common.{◌≡◌, ℕ, ◌+◌, ◌-◌, ◌^◌, ◌<◌, ◌≤◌, ◌↔◌, List, length, get_or, sym, ◌∙◌, ⊎_elim, arith}
 use Rattle.std.proofs.lemmas.Bool.{cases_lt}
 use Rattle.std.proofs.lemmas.List.{get_or_default}
+use Rattle.std.specs.List.{All, Contains}
 use Rattle.std.specs.List.Sorted.{IsNonDecreasing}
-use Rattle.elias_fano.specs.Sequence.{IsSequence, Reaches}
+use Rattle.elias_fano.specs.Sequence.{IsSequence, Reaches, ReachesTo, StaysWithin}
 
 pub is_sequence : (xs : List ℕ) → length xs < 2 ^ 56 → IsNonDecreasing xs → ((k : ℕ) → get_or xs k 0 < 2 ^ 64) → IsSequence xs
 is_sequence xs short rising fits = record {
@@ -28,3 +29,40 @@ first-of-equal xs i k rising inside h =
       omega (arith, h.at_least, rising k i 0 before inside),
       λ j same within. (reached-from xs (get_or xs i 0) k j rising h within).0 (omega arith),
     )
+
+-- the first that reaches the next number comes after all that are at most this one
+pub reaches-next : (xs : List ℕ) (v i : ℕ) → IsNonDecreasing xs → Reaches xs (v + 1) i → ReachesTo xs v i
+reaches-next xs v i rising h = record {
+  bound = omega (arith, h.inside);
+  below = λ j less. omega (arith, h.before j less);
+  above = λ j from inside. omega (arith, h.at_least, rising i j 0 from inside);
+}
+
+-- and where none reaches it, all are
+pub reaches-none : (xs : List ℕ) (v n : ℕ) → n ≡ length xs → All (λ x. x < v + 1) xs → ReachesTo xs v n
+reaches-none xs v n count less = record {
+  bound = omega arith;
+  below = λ j before. omega (arith, less j 0 (omega arith));
+  above = λ j from inside. absurd (omega arith);
+}
+
+-- the last of those is the greatest place
+pub stays-before : (xs : List ℕ) (v c : ℕ) → ReachesTo xs v c → 0 < c → StaysWithin xs v (c - 1)
+stays-before xs v c h some = record {
+  inside = omega (arith, h.bound);
+  at_most = h.below (c - 1) (omega arith);
+  after = λ j from inside. h.above j (omega arith) inside;
+}
+
+-- a number is contained exactly where the first that reaches it is the number
+pub contains-first : (xs : List ℕ) (v i : ℕ) → IsNonDecreasing xs → Reaches xs v i → (get_or xs i 0 ≡ v) ↔ Contains xs v
+contains-first xs v i rising h = (
+  λ same. (i, h.inside, get_or_default xs i v 0 h.inside ∙ same),
+  λ held.
+      let there = sym (get_or_default xs held.0 v 0 held.1) ∙ held.2 in
+      let before = (reached-from xs v i held.0 rising h held.1).0 (omega (arith, there)) in
+      omega (arith, there, h.at_least, rising i held.0 0 before held.1),
+)
+
+pub contains-none : (xs : List ℕ) (v : ℕ) → All (λ x. x < v) xs → Contains xs v → ⊥
+contains-none xs v less held = omega (arith, less held.0 v held.1, held.2)

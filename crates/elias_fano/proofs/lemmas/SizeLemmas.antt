@@ -32,6 +32,10 @@ module _ (digits : DigitsBoundPowers) where
           let half : n / 2 < 2 ^ k = omega (arith, pow-suc 2 k) in
           omega (arith, (digits (n / 2) k).1 half)
 
+  -- a greater number has no fewer digits
+  pub digits-grow : (a b : ℕ) → a ≤ b → digit_count a ≤ digit_count b
+  digits-grow a b order = (digits a (digit_count b)).1 (omega (arith, below_power b))
+
   -- the largest item without its low digits is less than twice the number of items
   pub few_of_some : (u n : ℕ) → 0 < n → u / 2 ^ (digit_count (u / n) - 1) < 2 * n
   few_of_some u n some =

@@ -1,15 +1,14 @@
 -- As many zeros are before the place as the item says above its low digits, so these two are the item.
-use Rattle.std.proofs.Common.{◌≡◌, ℕ, ◌+◌, ◌-◌, ◌*◌, ◌%◌, ◌^◌, ap, ◌∙◌, arith}
-use Rattle.bitm.specs.Bits.{bits_of}
-use Rattle.bitm.specs.Number.{number_at}
+use Rattle.std.proofs.Common.{◌≡◌, ℕ, ◌+◌, ◌-◌, ◌%◌, ◌^◌, ap, ◌∙◌, arith}
 use Rattle.elias_fano.proofs.lemmas.ItemLemmas.{place-after, held-is, held-fits}
+use Rattle.elias_fano.specs.Low.{joined_item}
 use Rattle.elias_fano.proofs.searching.item_at_one.Goals as goal
 
-pub returns : goal.returns
-returns c = λ xs n upper h.
-    let item : ℕ → ℕ = λ k. k * 2 ^ c.args.width + number_at (bits_of c.args.low.now) (c.args.at * c.args.width) c.args.width in
+pub returns-clause-item : goal.returns-clause-item
+returns-clause-item c = λ xs n upper h.
+    let item : ℕ → ℕ = λ k. joined_item k c.args.low.now c.args.at in
     let after = place-after c.bit_laws.ensures xs n _ _ upper _ _ h in
     let above : (c.args.place + (2 ^ 64 - c.args.at)) % 2 ^ 64 ≡ c.args.place - c.args.at =
     omega (arith, after, c.ranges.place.fits, c.ranges.at.fits) in
-    c.joined.ensures (omega (arith, ap item above, held-fits c.bit_laws.ensures xs n _ _ upper _ _ h))
+    c.joined.ensures.number (omega (arith, ap item above, held-fits c.bit_laws.ensures xs n _ _ upper _ _ h))
     ∙ ap item above ∙ held-is c.bit_laws.ensures xs n _ _ upper _ _ h

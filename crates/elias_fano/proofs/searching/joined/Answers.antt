@@ -1,6 +1,9 @@
 -- without low digits the number is what stands above them
+use Rattle.std.proofs.Common.{sym, ◌∙◌}
 use Rattle.elias_fano.proofs.lemmas.ItemLemmas.{joined-none}
 use Rattle.elias_fano.proofs.searching.joined.Goals as goal
 
-pub returns-then-width-eq0 : goal.returns-then-width-eq0
-returns-then-width-eq0 c = λ _. joined-none c.no_items_are_zero.ensures c.args.above c.args.at c.args.width c.args.low.now c.if-width-eq0.true
+pub returns-then-width-eq0-clause-number : goal.returns-then-width-eq0-clause-number
+returns-then-width-eq0-clause-number c = λ _.
+    let low = c.args.low.now in
+    joined-none c.no_items_are_zero.ensures c.args.above c.args.at low.width low.words (sym c.width-width.ensures ∙ c.if-width-eq0.true)

@@ -7,7 +7,7 @@ pub returns-in-Found-clause-answer : goal.returns-in-Found-clause-answer
 returns-in-Found-clause-answer g c = λ xs h.
     let inside : c.args.at < length xs = omega (arith, c.if-at-n.false, h.are.count) in (
       inside,
-      c.item_at_one.ensures xs c.args.n _
+      c.item_at_one.ensures.item xs c.args.n _
           record { parts = h.are; inside = omega (arith, c.if-at-n.false); one = c.in-Found.ensures.answer h.tables },
     )
 
@@ -18,5 +18,5 @@ returns-in-Absent-clause-answer g c = λ xs h.
       c.if-at-n.false,
       h.are.count,
       c.in-Absent.ensures.answer h.tables,
-      ones_are c.bit_laws.ensures.places_are_counted xs c.args.width _ h.are.upper_is,
+      ones_are c.bit_laws.ensures.places_are_counted xs c.args.low.now.width _ h.are.upper_is,
     )

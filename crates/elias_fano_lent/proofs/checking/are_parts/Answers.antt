@@ -1,21 +1,34 @@
 -- The numbers that were found are a sequence exactly where the width, the lengths and the zeros behind fit.
-use Rattle.std.proofs.Common.{◌≡◌, length, refl, sym, ap, ◌∙◌, ⊎_elim, arith}
+use Rattle.std.proofs.Common.{◌≡◌, length, refl, sym, ap, subst, ◌∙◌, ⊎_elim, arith}
 use Rattle.std.proofs.lemmas.Bool.{false≢true}
 use Rattle.std.proofs.Math.Nat.{mul-le-mul_left}
+use Rattle.bitm.specs.Bits.{bits_of}
+use Rattle.bitm.specs.Count.{ones_of}
 use Rattle.elias_fano.specs.Parts.{items_of, width_at}
 use Rattle.elias_fano_lent.specs.Sizes.{upper_words_at}
 use Rattle.elias_fano_lent.specs.declared.sizes.Sizes.{Sizes}
 use Rattle.elias_fano_lent.proofs.CheckLemmas.{sizes-agree, parts}
+use Rattle.elias_fano_lent.specs.Checks.{AreNumbers}
+use Rattle.elias_fano_lent.specs.Low.{Lows}
 use Rattle.elias_fano_lent.proofs.checking.are_parts.Goals as goal
+use Rattle.elias_fano_lent.proofs.checking.are_parts.Goals.{In-Some}
 
 pub overflow_mul-n : goal.overflow_mul-n
-overflow_mul-n c = omega (arith, mul-le-mul_left c.args.n c.requires.fragments.width, c.requires.fragments.short)
+overflow_mul-n c = omega (arith, mul-le-mul_left c.args.n c.requires.some.width, c.requires.some.short)
+
+-- what was found in the digits of which nothing was read
+found : (c : In-Some) → AreNumbers c.args.width c.args.low.now c.args.words.now c.args.n c.in-Some.last
+    × (ones_of (bits_of c.args.words.now) ≡ c.args.n)
+found c =
+    let P : Lows → Type 0 = λ d. AreNumbers d.width d.words c.args.words.now c.args.n c.in-Some.last
+    × (ones_of (bits_of c.args.words.now) ≡ c.args.n) in
+    subst P c.new.ensures c.in-Some.ensures.last
 
 pub returns-then-sizes-width : goal.returns-then-sizes-width
 returns-then-sizes-width c = (
   λ e. absurd (false≢true e),
   λ some.
-      let agree = sizes-agree c.bit_laws.ensures some.0 c.args.n c.args.width c.args.low.now _ some.1 c.in-Some.last c.in-Some.ensures.0 in
+      let agree = sizes-agree c.bit_laws.ensures some.0 c.args.n c.args.width c.args.low.now _ some.1 c.in-Some.last (found (goal.at.returns-then-sizes-width c).In-Some).0 in
       let is = c.in-Some-of.ensures.sizes.1 in
       let width : c.in-Some-of.sizes.width ≡ c.args.width = ap (λ (s : Sizes). s.width) is ∙ agree.0 in
       let count : c.in-Some-of.sizes.words ≡ length c.args.words.now =
@@ -25,6 +38,7 @@ returns-then-sizes-width c = (
 
 pub returns-in-None : goal.returns-in-None
 returns-in-None c =
+    let held = found (goal.at.returns-in-None c).In-Some in
     let n = c.args.n in
     let is = c.in-Some-of.ensures.sizes.1 in
     let width : width_at n c.in-Some.last ≡ c.args.width = sym (ap (λ (s : Sizes). s.width) is) ∙ c.if-sizes-width.false in
@@ -32,7 +46,7 @@ returns-in-None c =
     ap (upper_words_at n c.in-Some.last) (sym width) ∙ sym (ap (λ (s : Sizes). s.words) is) ∙ c.if-sizes-words.false in (
       λ _. (
         items_of n c.args.width c.args.low.now c.args.words.now,
-        parts c.bit_laws.ensures n c.args.width c.in-Some.last _ _ c.requires.fragments c.in-Some.ensures.0 c.in-Some.ensures.1 width count
+        parts c.bit_laws.ensures n c.args.width c.in-Some.last _ _ c.requires.some held.0 held.1 width count
             c.requires.low c.in-None.ensures,
       ),
       λ _. refl,

@@ -1,5 +1,5 @@
 -- Where the parts are those of a sequence each of its places has a one.
-use Rattle.std.proofs.Common.{ℕ, ◌*◌, ◌^◌, ◌<◌, List, length, true, arith}
+use Rattle.std.proofs.Common.{◌<◌, length, true, arith}
 use Rattle.bitm.proofs.Callers.{length-bits_of}
 use Rattle.bitm.specs.Bits.{bits_of}
 use Rattle.bitm.specs.Count.{count_of}
@@ -9,7 +9,7 @@ use Rattle.elias_fano_lent.proofs.sequence.item_of.Goals as goal
 
 pub returns-then-one-ge-WRONG_TABLES-clause-answer : goal.returns-then-one-ge-WRONG_TABLES-clause-answer
 returns-then-one-ge-WRONG_TABLES-clause-answer c = λ xs upper h told.
-    let count = ones_are c.bit_laws.ensures.places_are_counted xs c.args.width _ h.are.upper_is in
+    let count = ones_are c.bit_laws.ensures.places_are_counted xs c.args.low.now.width _ h.are.upper_is in
     let some : c.args.place < count_of (bits_of upper.words) true = omega (arith, h.are.count, count, c.if-place-n.false) in
     omega (
       arith,
@@ -21,10 +21,10 @@ returns-then-one-ge-WRONG_TABLES-clause-answer c = λ xs upper h told.
 
 pub returns-clause-answer : goal.returns-clause-answer
 returns-clause-answer c = λ xs upper h told.
-    let count = ones_are c.bit_laws.ensures.places_are_counted xs c.args.width _ h.are.upper_is in
+    let count = ones_are c.bit_laws.ensures.places_are_counted xs c.args.low.now.width _ h.are.upper_is in
     let inside : c.args.place < length xs = omega (arith, h.are.count, c.if-place-n.false) in
     let some : c.args.place < count_of (bits_of upper.words) true = omega (arith, inside, count) in (
       inside,
-      c.item_at_one.ensures xs c.args.n _
+      c.item_at_one.ensures.item xs c.args.n _
           record { parts = h.are; inside = omega (arith, c.if-place-n.false); one = told.some h.tables some },
     )

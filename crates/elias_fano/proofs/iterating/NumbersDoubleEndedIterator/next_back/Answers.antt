@@ -1,7 +1,7 @@
 -- The last one before bit limit is that of the last number left.
 use Rattle.std.proofs.Common.{◌-◌, [], ◌∷◌, ◌++◌, sym, ap, ◌∙◌, arith}
 use Rattle.elias_fano.proofs.lemmas.CursorLemmas.{some-last, limit-some, last-has, IsCursor-last, items_left-none, items_left-last}
-use Rattle.elias_fano.proofs.lemmas.ItemLemmas.{upper-short, fragment-of}
+use Rattle.elias_fano.proofs.lemmas.ItemLemmas.{upper-short, fragment-of, unread-has}
 use Rattle.elias_fano.specs.Numbers.{items_left}
 use Rattle.elias_fano.specs.Parts.{items_of}
 use Rattle.elias_fano.proofs.iterating.NumbersDoubleEndedIterator.next_back.Goals as goal
@@ -24,7 +24,8 @@ rfind_bit_one_unchecked-place-requires-clause-short c =
 
 pub item_at_one-number-requires : goal.item_at_one-number-requires
 item_at_one-number-requires c =
-    fragment-of c.bit_laws.ensures _ _ _ _ _ _ _ (last-has c.bit_laws.ensures _ _ _ _ _ _ _ _ _ c.self.invariant c.if-self.false _ c.rfind_bit_one_unchecked-place.ensures)
+    fragment-of c.bit_laws.ensures _ _ _ _ _ _ _ (unread-has _ _ _ _ _ _ _ _ c.new.ensures
+    (last-has c.bit_laws.ensures _ _ _ _ _ _ _ _ _ c.self.invariant c.if-self.false _ c.rfind_bit_one_unchecked-place.ensures))
 
 pub invariant_of-self : goal.invariant_of-self
 invariant_of-self c =
@@ -36,7 +37,7 @@ returns-clause-steps c =
     let xs = items_of it.len it.width it.low.now it.upper.now in
     let h = c.self.invariant in
     let has = last-has c.bit_laws.ensures _ _ _ _ _ _ _ _ _ h c.if-self.false _ c.rfind_bit_one_unchecked-place.ensures in
-    let number = c.item_at_one-number.ensures _ _ _ has in
+    let number = c.item_at_one-number.ensures.item _ _ _ (unread-has _ _ _ _ _ _ _ _ c.new.ensures has) in
     sym c.self.view_is
     ∙ items_left-last xs it.start it.end c.if-self.false (omega (arith, h.within, h.parts.count))
     ∙ ap (λ x. items_left xs it.start (it.end - 1) ++ x ∷ []) (sym number)

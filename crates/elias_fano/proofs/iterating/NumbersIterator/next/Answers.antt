@@ -1,7 +1,7 @@
 -- The first one from bit first on is that of the number at the start.
 use Rattle.std.proofs.Common.{◌+◌, ◌∷◌, sym, ap, ◌∙◌, arith}
 use Rattle.elias_fano.proofs.lemmas.CursorLemmas.{some-first, first-has, IsCursor-first, items_left-none, items_left-first}
-use Rattle.elias_fano.proofs.lemmas.ItemLemmas.{upper-short, fragment-of}
+use Rattle.elias_fano.proofs.lemmas.ItemLemmas.{upper-short, fragment-of, unread-has}
 use Rattle.elias_fano.specs.Numbers.{items_left}
 use Rattle.elias_fano.specs.Parts.{items_of}
 use Rattle.elias_fano.proofs.iterating.NumbersIterator.next.Goals as goal
@@ -21,7 +21,8 @@ find_bit_one_unchecked-place-requires-clause-short c =
 
 pub item_at_one-number-requires : goal.item_at_one-number-requires
 item_at_one-number-requires c =
-    fragment-of c.bit_laws.ensures _ _ _ _ _ _ _ (first-has c.bit_laws.ensures _ _ _ _ _ _ _ _ _ c.self.invariant c.if-self.false _ c.find_bit_one_unchecked-place.ensures)
+    fragment-of c.bit_laws.ensures _ _ _ _ _ _ _ (unread-has _ _ _ _ _ _ _ _ c.new.ensures
+    (first-has c.bit_laws.ensures _ _ _ _ _ _ _ _ _ c.self.invariant c.if-self.false _ c.find_bit_one_unchecked-place.ensures))
 
 pub overflow_add-self-2 : goal.overflow_add-self-2
 overflow_add-self-2 c =
@@ -38,7 +39,7 @@ returns-clause-steps c =
     let xs = items_of it.len it.width it.low.now it.upper.now in
     let h = c.self.invariant in
     let has = first-has c.bit_laws.ensures _ _ _ _ _ _ _ _ _ h c.if-self.false _ c.find_bit_one_unchecked-place.ensures in
-    let number = c.item_at_one-number.ensures _ _ _ has in
+    let number = c.item_at_one-number.ensures.item _ _ _ (unread-has _ _ _ _ _ _ _ _ c.new.ensures has) in
     sym c.self.view_is
     ∙ items_left-first xs it.start it.end c.if-self.false (omega (arith, h.within, h.parts.count))
     ∙ ap (λ x. x ∷ items_left xs (it.start + 1) it.end) (sym number)

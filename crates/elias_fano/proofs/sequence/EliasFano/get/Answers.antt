@@ -1,15 +1,22 @@
 -- The value is what its parts hold, and the place that is selected is that of the number's one.
 use Rattle.std.proofs.Common.{ℕ, ◌<◌, List, length, get_or, ap, ◌∙◌, arith}
-use Rattle.elias_fano.proofs.lemmas.ItemLemmas.{lent-has, fragment-of}
+use Rattle.std.specs.Box.{boxed_slice_items}
+use Rattle.elias_fano.proofs.lemmas.ItemLemmas.{lent-has, unread-has, fragment-of}
+use Rattle.elias_fano.specs.Parts.{items_of, HasOneAt}
 use Rattle.elias_fano.proofs.sequence.EliasFano.get.Goals as goal
+use Rattle.elias_fano.proofs.sequence.EliasFano.get.Goals.{After-new}
+
+has : (c : After-new)
+    → let e = c.self.inside in let low = boxed_slice_items e.low in let upper = boxed_slice_items e.upper.content in
+    HasOneAt (items_of e.len e.width low upper) e.len c.new.result.width c.new.result.words upper c.args.i c.select-place.result
+has c =
+    let inside : c.args.i < c.self.inside.len = omega (arith, c.requires, ap length c.self.view_is, c.self.invariant.count) in
+    unread-has _ _ _ _ _ _ _ _ c.new.ensures
+    (lent-has _ _ _ _ _ _ _ _ c.self.invariant inside c.select-place.ensures c.as_slice.ensures.value)
 
 pub item_at_one-requires : goal.item_at_one-requires
-item_at_one-requires c =
-    let inside : c.args.i < c.self.inside.len = omega (arith, c.requires, ap length c.self.view_is, c.self.invariant.count) in
-    fragment-of c.bit_laws.ensures _ _ _ _ _ _ _ (lent-has _ _ _ _ _ _ _ _ c.self.invariant inside c.select.ensures c.as_slice.ensures.value)
+item_at_one-requires c = fragment-of c.bit_laws.ensures _ _ _ _ _ _ _ (has (goal.at.item_at_one-requires c).After-new)
 
 pub returns : goal.returns
 returns c =
-    let inside : c.args.i < c.self.inside.len = omega (arith, c.requires, ap length c.self.view_is, c.self.invariant.count) in
-    c.item_at_one.ensures _ _ _ (lent-has _ _ _ _ _ _ _ _ c.self.invariant inside c.select.ensures c.as_slice.ensures.value)
-    ∙ ap (λ (xs : List ℕ). get_or xs c.args.i 0) c.self.view_is
+    c.item_at_one.ensures.item _ _ _ (has (goal.at.returns c).After-new) ∙ ap (λ (xs : List ℕ). get_or xs c.args.i 0) c.self.view_is

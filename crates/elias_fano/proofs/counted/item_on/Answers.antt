@@ -1,17 +1,15 @@
 -- The parts are those of a sequence, which has the number.
-use Rattle.std.proofs.Common.{arith}
 use Rattle.elias_fano.proofs.lemmas.ItemLemmas.{parts-lengths, upper-short}
-use Rattle.elias_fano.proofs.searching.item_on.Goals as goal
+use Rattle.elias_fano.proofs.counted.item_on.Goals as goal
 
 pub total_item_on-requires-clause-lengths : goal.total_item_on-requires-clause-lengths
 total_item_on-requires-clause-lengths g c =
-    parts-lengths c.bit_laws.ensures.digits_bound_powers _ _ _ _ _ c.requires.parts.1 _
+    parts-lengths c.bit_laws.ensures.digits_bound_powers _ _ _ _ _ c.requires.parts.1.are _
 
 pub total_item_on-requires-clause-sized : goal.total_item_on-requires-clause-sized
 total_item_on-requires-clause-sized g c =
-    c.tables_have_sizes.ensures _ c.requires.tables
-    (upper-short c.bit_laws.ensures.digits_bound_powers _ _ _ _ _ c.requires.parts.1)
+    c.tables_have_sizes.ensures _ c.requires.parts.1.tables
+    (upper-short c.bit_laws.ensures.digits_bound_powers _ _ _ _ _ c.requires.parts.1.are)
 
 pub returns-clause-item : goal.returns-clause-item
-returns-clause-item g c = λ xs h.
-    (c.in-Found.ensures.answer xs record { are = h; tables = c.requires.tables }).1
+returns-clause-item g c = λ xs h. (c.in-Found.ensures.answer xs h).1

@@ -1,0 +1,86 @@
+-- The place is among the items with the upper digits of the value, or the one after them; without low digits it is the first.
+use Rattle.std.proofs.Common.{◌≡◌, ℕ, ◌-◌, ◌%◌, ◌^◌, ◌<◌, ◌≤◌, List, ap, sym, ◌∙◌, subst, ⊎_elim, bit_and, arith}
+use Rattle.std.proofs.lemmas.Bool.{cases_eq}
+use Rattle.std.proofs.lemmas.Nat.{and_mask}
+use Rattle.elias_fano.proofs.lemmas.BucketLemmas.{IsBucket, bucket-reaches, bucket-none, fragments-rise, whole-reaches, whole-none}
+use Rattle.elias_fano.proofs.lemmas.FragmentLemmas.{bucket-shared, fragments-more, fragments-none}
+use Rattle.elias_fano.proofs.lemmas.SizeLemmas.{digits-grow}
+use Rattle.bitm.specs.Bits.{digit_count}
+use Rattle.elias_fano.specs.Buckets.{HasEnds, Splits}
+use Rattle.elias_fano.specs.Low.{fragment, sharing, ReadsFragments}
+use Rattle.elias_fano.specs.Parts.{ArePartsOf}
+use Rattle.elias_fano.specs.Sequence.{Reaches}
+use Rattle.elias_fano.proofs.searching.place_in_bucket.Goals as goal
+use Rattle.elias_fano.proofs.searching.place_in_bucket.Goals.{After-split_low-place}
+
+-- the ends of the bucket, and where its low digits part
+bucket : (c : After-split_low-place) (xs upper : List ℕ)
+    → ArePartsOf xs c.args.n c.args.low.now.width c.args.low.now.words upper
+    → HasEnds xs c.args.low.now.width c.args.v c.args.first c.args.end → 0 < c.args.low.now.width
+    → IsBucket xs c.args.low.now c.args.v c.args.first c.args.end c.split_low-place.result
+bucket c xs upper h e some =
+    let low = c.args.low.now in
+    let mask : c.n_lowest_bits.result ≡ 2 ^ low.width - 1 = c.n_lowest_bits.ensures ∙ ap (λ w. 2 ^ w - 1) c.width.ensures in
+    let rest : bit_and c.args.v c.n_lowest_bits.result ≡ c.args.v % 2 ^ low.width =
+    ap (bit_and c.args.v) mask ∙ and_mask c.args.v low.width in
+    let ends = e.ends some in
+    let rise = fragments-rise xs c.args.n low upper h _ _ _ e.begins ends in
+    let P : ℕ → Type 0 = λ r. Splits (fragment low) c.args.first c.args.end r c.split_low-place.result in
+    record { begins = e.begins; ends = ends; splits = subst P rest (c.split_low-place.ensures.splits rise) }
+
+pub returns-then-end-first-clause-answer : goal.returns-then-end-first-clause-answer
+returns-then-end-first-clause-answer c = λ xs upper h e. omega (arith, e.order, c.if-end-first.true)
+
+-- ---- the place
+
+pub returns-then-place-n-clause-answer : goal.returns-then-place-n-clause-answer
+returns-then-place-n-clause-answer c = λ xs upper h e.
+    let d = (goal.at.returns-then-place-n-clause-answer c).After-split_low-place in
+    let w = c.args.low.now.width in
+    ⊎_elim
+    (λ none.
+    let same = (c.split_low-place.ensures.none none).0 in
+    let P : ℕ → Type 0 = λ k. Reaches xs c.args.v k in
+    subst P (sym same) (whole-reaches xs c.args.v w _ none e.begins (omega (arith, same, h.count, c.if-place-n.true))))
+    (λ apart. bucket-reaches xs _ _ _ h c.args.v _ _ _ (bucket d xs upper h e (omega arith)) c.if-place-n.true)
+    (cases_eq w 0)
+
+pub returns-else-place-n-clause-answer : goal.returns-else-place-n-clause-answer
+returns-else-place-n-clause-answer c = λ xs upper h e.
+    let d = (goal.at.returns-else-place-n-clause-answer c).After-split_low-place in
+    let w = c.args.low.now.width in
+    ⊎_elim
+    (λ none.
+    let same = (c.split_low-place.ensures.none none).0 in
+    whole-none xs c.args.v w _ none e.begins (omega (arith, same, h.count, c.if-place-n.false)))
+    (λ apart. bucket-none xs _ _ _ h c.args.v _ _ _ (bucket d xs upper h e (omega arith)) c.if-place-n.false)
+    (cases_eq w 0)
+
+-- ---- what is read
+
+few : (c : After-split_low-place) → ReadsFragments c.args.low.now c.split_low-place.new.low (digit_count c.args.n)
+few c =
+    let order : c.args.end - c.args.first ≤ c.args.n = omega (arith, c.requires.end) in
+    fragments-more _ _ _ _ c.split_low-place.ensures.fragments (digits-grow c.bit_laws.ensures.digits_bound_powers _ _ order)
+
+shared : (c : After-split_low-place) (xs : List ℕ) → HasEnds xs c.args.low.now.width c.args.v c.args.first c.args.end
+    → ReadsFragments c.args.low.now c.split_low-place.new.low (digit_count (sharing xs c.args.low.now.width c.args.v))
+shared c xs e =
+    let w = c.args.low.now.width in
+    ⊎_elim (λ none. fragments-none _ _ _ (c.split_low-place.ensures.none none).1)
+    (λ apart.
+    let order = bucket-shared xs w c.args.v _ _ e.begins (e.ends (omega arith)) in
+    fragments-more _ _ _ _ c.split_low-place.ensures.fragments (digits-grow c.bit_laws.ensures.digits_bound_powers _ _ order))
+    (cases_eq w 0)
+
+pub returns-then-place-n-clause-fragments : goal.returns-then-place-n-clause-fragments
+returns-then-place-n-clause-fragments c = few (goal.at.returns-then-place-n-clause-fragments c).After-split_low-place
+
+pub returns-then-place-n-clause-shared : goal.returns-then-place-n-clause-shared
+returns-then-place-n-clause-shared c = λ xs upper h e. shared (goal.at.returns-then-place-n-clause-shared c).After-split_low-place xs e
+
+pub returns-else-place-n-clause-fragments : goal.returns-else-place-n-clause-fragments
+returns-else-place-n-clause-fragments c = few (goal.at.returns-else-place-n-clause-fragments c).After-split_low-place
+
+pub returns-else-place-n-clause-shared : goal.returns-else-place-n-clause-shared
+returns-else-place-n-clause-shared c = λ xs upper h e. shared (goal.at.returns-else-place-n-clause-shared c).After-split_low-place xs e

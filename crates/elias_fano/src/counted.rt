@@ -1,0 +1,182 @@
+//! Calls on the parts of one sequence, over any source of its upper words: what they read is counted.
+ghost use Rattle.std.specs.Prelude.{◌≡◌, ◌+◌, ◌*◌, ◌<◌, ◌≤◌, ◌↔◌, ℕ, List, IsTrue, length, slice_index};
+ghost use Rattle.std.specs.List.{Contains};
+ghost use Rattle.bitm.specs.Bits.{digit_count};
+ghost use Rattle.bitm.specs.Reads.{OnlyReads, ReadsAtMost};
+ghost use Rattle.elias_fano.specs.Held.{held_by, Holds};
+ghost use Rattle.elias_fano.specs.Low.{sharing, ReadsFragments};
+ghost use Rattle.elias_fano.specs.Sequence.{IsFirstAtLeast, IsLastAtMost, ReachesTo};
+
+use crate::answer::Sought;
+use crate::laws;
+use crate::low::LowDigits;
+use crate::searching::{first_on, item_at_one, total_item_on};
+use bitm::{Selected, TableSource, index_laws, total_select_on};
+
+/// Number `at` of a sequence.
+#[inline(always)]
+fn item_on<T: TableSource>(source: &mut T, low: &mut LowDigits<'_>, n: usize, at: usize) -> u64
+    requires parts { (xs : List ℕ) × Holds xs (held_by n low.old (T.lists source.old)) }
+    requires inside { at < n }
+    ensures item { (xs : List ℕ) → Holds xs (held_by n low.old (T.lists source.old))
+        → result ≡ slice_index xs at }
+    ensures reads { OnlyReads T.lists T.reads source.old source.new
+        (digit_count (length (T.lists source.old).upper) + 1) 23 8 }
+    ensures fragments { ReadsFragments low.old low.new 1 }
+{
+    laws::bit_laws();
+    index_laws::tables_have_sizes();
+    match total_item_on(source, low, n, at) {
+        Sought::Found(item) => item,
+        Sought::Absent | Sought::WrongParts => unreachable!(),
+    }
+}
+
+/// Whether the only number of a sequence is at least `v`. Its low digits are read where it has the upper digits of `v`.
+#[inline(always)]
+fn only_reaches<T: TableSource>(source: &mut T, low: &mut LowDigits<'_>, v: u64) -> bool
+    requires parts { (xs : List ℕ) × Holds xs (held_by 1 low.old (T.lists source.old)) }
+    ensures reaches { (xs : List ℕ) → Holds xs (held_by 1 low.old (T.lists source.old))
+        → IsTrue result ↔ (v ≤ slice_index xs 0) }
+    ensures reads { OnlyReads T.lists T.reads source.old source.new
+        (digit_count (length (T.lists source.old).upper) + 1) 23 8 }
+    ensures shared { (xs : List ℕ) → Holds xs (held_by 1 low.old (T.lists source.old))
+        → ReadsFragments low.old low.new (digit_count (sharing xs low.old.width v)) }
+{
+    laws::bit_laws();
+    index_laws::tables_have_sizes();
+    let above = (v >> low.width()) as usize;
+    match total_select_on::<1, T>(source, 0) {
+        Selected::Found(place) => {
+            if place == above {
+                item_at_one(place, low, 0) >= v
+            } else {
+                place > above
+            }
+        }
+        Selected::Absent | Selected::WrongTables => unreachable!(),
+    }
+}
+
+/// The least place of a sequence whose number is at least `v`; `None` exactly where there is none.
+///
+/// The sequence is handed in by its parts: the low digits are those of `EliasFano::low_digits`, `n` is the number of its
+/// items, and the source has its `upper_words`.
+///
+/// # Conditions
+/// The parts are those of one sequence of fewer than 2^56 numbers; the source's tables are those of its words.
+/// # Cost
+/// Two selections of zeros in the source, one of them where no number has low digits, or one selection of a one where
+/// `n` is 1, and none where it is 0; then a search among the low digits of the items with the same upper digits as
+/// `v`, which reads nothing of the source. So at most `2 * (digits + 1)` upper entries, where the number of them has
+/// so many digits, 46 lower entries and 16 words, and at most as many selections as `n` has digits. The search reads at
+/// most one fragment of the low digits for each binary digit of how many items share the upper digits of `v`.
+pub fn first_at_least_counted<T: TableSource>(
+    source: &mut T,
+    low: &mut LowDigits<'_>,
+    n: usize,
+    v: u64,
+) -> Option<usize>
+    requires parts { (xs : List ℕ) × Holds xs (held_by n low.old (T.lists source.old)) }
+    ensures answer { (xs : List ℕ) → Holds xs (held_by n low.old (T.lists source.old))
+        → IsFirstAtLeast xs v result }
+    ensures reads { ReadsAtMost (T.reads source.old) (T.reads source.new)
+        (digit_count n * (digit_count (length (T.lists source.old).upper) + 1))
+        (digit_count n * 23) (digit_count n * 8) }
+    ensures two { ReadsAtMost (T.reads source.old) (T.reads source.new)
+        (2 * (digit_count (length (T.lists source.old).upper) + 1)) (2 * 23) (2 * 8) }
+    ensures same { T.lists source.new ≡ T.lists source.old }
+    ensures shared { (xs : List ℕ) → Holds xs (held_by n low.old (T.lists source.old))
+        → ReadsFragments low.old low.new (digit_count (sharing xs low.old.width v)) }
+{
+    laws::bit_laws();
+    index_laws::tables_have_sizes();
+    if n == 0 {
+        return None;
+    }
+    if n == 1 {
+        return if only_reaches(source, low, v) {
+            Some(0)
+        } else {
+            None
+        };
+    }
+    match first_on::<0, T>(source, low, n, v) {
+        Sought::Found(place) => Some(place),
+        Sought::Absent => None,
+        Sought::WrongParts => None,
+    }
+}
+
+/// How many numbers of a sequence are at most `v`: those before the first that is at least `v + 1`.
+#[inline(always)]
+fn count_at_most<T: TableSource>(source: &mut T, low: &mut LowDigits<'_>, n: usize, v: u64) -> usize
+    requires parts { (xs : List ℕ) × Holds xs (held_by n low.old (T.lists source.old)) }
+    ensures reaches { (xs : List ℕ) → Holds xs (held_by n low.old (T.lists source.old))
+        → ReachesTo xs v result }
+    ensures reads { OnlyReads T.lists T.reads source.old source.new
+        (2 * (digit_count (length (T.lists source.old).upper) + 1)) (2 * 23) (2 * 8) }
+    ensures shared { (xs : List ℕ) → Holds xs (held_by n low.old (T.lists source.old))
+        → ReadsFragments low.old low.new (digit_count (sharing xs low.old.width (v + 1))) }
+{
+    if v == u64::MAX {
+        return n;
+    }
+    match first_at_least_counted(source, low, n, v + 1) {
+        Some(place) => place,
+        None => n,
+    }
+}
+
+/// The greatest place of a sequence whose number is at most `v`; `None` exactly where there is none.
+///
+/// # Conditions
+/// As of `first_at_least_counted`.
+/// # Cost
+/// That of `first_at_least_counted` of `v + 1`, and nothing where `v` is 2^64 - 1.
+pub fn last_at_most_counted<T: TableSource>(
+    source: &mut T,
+    low: &mut LowDigits<'_>,
+    n: usize,
+    v: u64,
+) -> Option<usize>
+    requires parts { (xs : List ℕ) × Holds xs (held_by n low.old (T.lists source.old)) }
+    ensures answer { (xs : List ℕ) → Holds xs (held_by n low.old (T.lists source.old))
+        → IsLastAtMost xs v result }
+    ensures reads { OnlyReads T.lists T.reads source.old source.new
+        (2 * (digit_count (length (T.lists source.old).upper) + 1)) (2 * 23) (2 * 8) }
+    ensures shared { (xs : List ℕ) → Holds xs (held_by n low.old (T.lists source.old))
+        → ReadsFragments low.old low.new (digit_count (sharing xs low.old.width (v + 1))) }
+{
+    match count_at_most(source, low, n, v) {
+        0 => None,
+        count => Some(count - 1),
+    }
+}
+
+/// Whether `v` is one of the numbers of a sequence.
+///
+/// # Conditions
+/// As of `first_at_least_counted`.
+/// # Cost
+/// That of `first_at_least_counted`, and where some number is at least `v` one more selection, and one more fragment of
+/// the low digits.
+pub fn contains_counted<T: TableSource>(
+    source: &mut T,
+    low: &mut LowDigits<'_>,
+    n: usize,
+    v: u64,
+) -> bool
+    requires parts { (xs : List ℕ) × Holds xs (held_by n low.old (T.lists source.old)) }
+    ensures answer { (xs : List ℕ) → Holds xs (held_by n low.old (T.lists source.old))
+        → IsTrue result ↔ Contains xs v }
+    ensures reads { OnlyReads T.lists T.reads source.old source.new
+        (3 * (digit_count (length (T.lists source.old).upper) + 1)) (3 * 23) (3 * 8) }
+    ensures shared { (xs : List ℕ) → Holds xs (held_by n low.old (T.lists source.old))
+        → ReadsFragments low.old low.new (digit_count (sharing xs low.old.width v) + 1) }
+{
+    match first_at_least_counted(source, low, n, v) {
+        Some(place) => item_on(source, low, n, place) == v,
+        None => false,
+    }
+}

@@ -1,0 +1,64 @@
+//! The low digits of a sequence's numbers. A fragment is read by a call that counts it, and by no other.
+ghost use Rattle.std.specs.Prelude.{◌≡◌, ◌+◌, ◌<◌, ◌≤◌, ◌^◌};
+ghost use Rattle.bitm.specs.Number.{IsFragmentInRange};
+ghost use Rattle.elias_fano.specs.Low.{fragment, unread};
+
+use bitm::{ReadCounts, words};
+use std::marker::Model;
+
+/// Words of low digits, so many of each number, of which each fragment that is read is counted.
+///
+/// The words may hold anything. The count has no greatest number and takes no bytes at run time; only clauses see it.
+#[derive(Drop)]
+pub struct LowDigits<'a> {
+    words: &'a [u64],
+    width: u8,
+    // A fragment counts as a word.
+    reads: ReadCounts,
+}
+
+impl<'a> Model for LowDigits<'a> {
+    ghost use Rattle.elias_fano.specs.Low.{Lows};
+
+    ghost Value = { Lows };
+
+    ghost view = { λ d. record { words = d.words.now; width = d.width; read = d.reads.words } };
+}
+
+impl<'a> LowDigits<'a> {
+    /// The low digits in these words, `width` of each number, of which nothing was read.
+    #[inline(always)]
+    pub fn new(words: &'a [u64], width: u8) -> LowDigits<'a>
+        ensures { result ≡ unread words.now width }
+    {
+        LowDigits {
+            words,
+            width,
+            reads: ReadCounts::new(),
+        }
+    }
+
+    /// How many digits of each number are low ones.
+    #[inline(always)]
+    pub fn width(&self) -> u8
+        ensures { result ≡ self.now.width }
+    {
+        self.width
+    }
+
+    /// The low digits of number `at`; one more fragment is read.
+    ///
+    /// # Conditions
+    /// There is such a fragment, of at most 63 digits.
+    #[inline(always)]
+    pub fn fragment(&mut self, at: usize) -> u64
+        requires in_range { IsFragmentInRange self.old.words at self.old.width }
+        requires width { self.old.width ≤ 63 }
+        ensures item { result ≡ fragment self.old at }
+        ensures bound { result < 2 ^ self.old.width }
+        ensures counted { self.new ≡ record self.old { read = self.old.read + 1 } }
+    {
+        self.reads.read_word();
+        words::get_fragment(self.words, at, self.width)
+    }
+}
