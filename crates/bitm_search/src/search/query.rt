@@ -1,5 +1,5 @@
-//! Queries of a block under way side by side: where the entry of each is sought, by halves, and from a guess on where
-//! there are few entries.
+//! Queries of a block under way side by side: the entry of each is sought by halves, near a guess where there are neither
+//! few entries nor many.
 ghost use Rattle.std.specs.Prelude.{◌≡◌, ◌+◌, ◌*◌, ◌^◌, ◌<◌, ◌≤◌, ℕ, IfSome, IsTrue, length};
 ghost use Rattle.bit_lists.specs.Bits.{digit_count};
 ghost use Rattle.bitm_search.specs.Many.{AreInside, AreSearches, IsInside, IsSearch};
@@ -19,8 +19,8 @@ pub const SIDE_BY_SIDE: usize = 16;
 /// A guess is made where there are so many entries: in fewer, halving alone is as fast.
 const FEWEST_TO_GUESS: usize = 1 << 9;
 
-/// No guess is made where there are more entries: with one that fails, and all halvings, more would be read than
-/// without it.
+/// No guess is made where there are more entries: with one that is wrong and all halvings more of them would be read than
+/// is promised.
 const MOST_TO_GUESS: usize = 1 << 18;
 
 /// The entry is sought among so many after a guess, as a logarithm.
@@ -180,8 +180,8 @@ fn entries_per_item<const ONE: u8, T: TableSource>(source: &mut T) -> usize
     (last << 32) / items.max(1)
 }
 
-/// The query with its entry brought near the one that is sought, by a guess; `None` where that is not among the
-/// 2^`NEAR` from the guess on.
+/// The query with its entry brought near the one that is sought, by a guess and two entries that are asked whether it is
+/// right; `None` where it is not: the entry is not among the 2^`NEAR` from there on.
 #[inline(always)]
 fn guess<const ONE: u8, T: TableSource>(
     source: &mut T,
@@ -210,7 +210,7 @@ fn guess<const ONE: u8, T: TableSource>(
     }
 }
 
-/// Brings each query near its entry by a guess, and answers whether every guess was right. Where one was not,
+/// Writes each query, brought near its entry by a guess, and answers whether every guess was right. Where one was not,
 /// `queries` may hold anything.
 #[inline(always)]
 fn guess_each<const ONE: u8, T: TableSource>(
@@ -289,6 +289,13 @@ fn halve_all<const ONE: u8, T: TableSource>(source: &mut T, ranks: &[usize], que
 
 /// Finds the entry of each rank, sixteen searches at once: near a guess where there are neither few entries nor many and
 /// every guess is right, else by halves of all.
+///
+/// # Conditions
+/// There is a rank, and there are no more than sixteen; there is room for sixteen queries. Nothing is asked of what the
+/// tables hold.
+/// # Cost
+/// For each rank at most as many upper entries as their number has binary digits and one more, and 21 lower entries are
+/// read, whatever the tables hold.
 #[inline(always)]
 pub fn find_by_halves<const ONE: u8, T: TableSource>(
     source: &mut T,
