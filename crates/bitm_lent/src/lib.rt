@@ -18,10 +18,12 @@
 #![tactic(auto)]
 
 mod checking;
+mod clearing;
 mod filling;
 mod lent;
 mod lists;
 mod places;
+mod ranked;
 mod sampled;
 mod sampled_lists;
 mod sampled_many;
@@ -31,9 +33,11 @@ mod sampling;
 pub use bitm_search::search::ranking::total_rank_on;
 pub use bitm_search::search::selected::{NO_ANSWER, Selected, WRONG_TABLES};
 pub use bitm_search::search::selecting::total_select_on;
+pub use clearing::{clear, clear_from};
 pub use filling::build;
 pub use lent::{Lent, lower_len, upper_len};
 pub use places::ones_from;
+pub use ranked::Ranked;
 pub use sampled::sampled_select_on;
 pub use sampled_many::sampled_select_many_on;
 pub use samples::{LentSamples, samples_len};
