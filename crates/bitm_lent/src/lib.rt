@@ -2,7 +2,8 @@
 //! a condition on what the tables hold.
 //!
 //! With the tables of the words the answers are plain counting. If the tables are stale or hostile, every call still
-//! terminates within its read bound, and any place that it returns is inside and holds the requested bit.
+//! terminates within its read bound, a rank is at most its place, and any place that is returned is inside and holds the
+//! requested bit.
 //!
 //! ```
 //! let (mut upper, mut lower) = ([0], [0; 2]);         // upper_len(40) and lower_len(40) entries
