@@ -6,27 +6,34 @@
  *
  *     size_t m = bitm_upper_len(n), k = bitm_lower_len(n);
  *     uint64_t ones, place;
- *     bitm_build(words, n, upper, m, lower, k, &ones);
+ *     if (bitm_build(words, n, upper, m, lower, k, &ones) != BITM_OK) ..
  *     struct bitm_view view = {words, n, upper, m, lower, k};
  *     if (bitm_select(&view, 17, &place) == BITM_OK) ..
  *
- * LENGTHS ARE IN WORDS. Bits of the last word behind the end of your data are bits like others: keep them 0, so that
- * they are no ones, and compare the places of zeros with your own length.
+ * LENGTHS ARE IN WORDS. Bits of the last word behind the end of your data are bits like others, which are counted and
+ * found: bitm_clear_from makes them zeros, so that they are no ones, and places of zeros you compare with your length.
  *
  * Proved of each call, for all arguments that keep the duties below:
  *   - it returns, and reads and writes only memory that it is lent, WHATEVER the tables hold;
  *   - a status other than BITM_OK leaves everything that it could have written unchanged;
- *   - if the tables are stale or hostile, rank is still BITM_OK exactly where there are so many bits, but its number
- *     may be any: compare it with index before you index anything by it. Any place that selection returns is inside
- *     and holds the requested bit;
+ *   - if the tables are stale or hostile, a rank is still at most its index, and any place that selection returns is
+ *     inside and holds the requested bit: each answer may index an array of yours that has an item for each bit and
+ *     one more. BITM_WRONG says that the tables are not those of the words; BITM_OK does not say that they are;
  *   - if the tables are those of the words, the answer is plain counting, and no call on words and tables alone returns
  *     BITM_WRONG. They are if bitm_build made them or bitm_check passes them, as long as neither words nor tables
- *     change afterwards. (A sampled call returns BITM_WRONG if the samples are wrong: ask bitm_select then);
+ *     change afterwards. (A sampled call also returns BITM_WRONG where the samples are not those of the words: ask
+ *     bitm_select then, which does without);
  *   - sequences likewise: with parts that bitm_sequence_build made or bitm_sequence_check passes, the answers are
  *     those of one sequence of numbers.
  *
- * Cost: the reads named below are upper bounds for all tables, right or wrong. They are proved of the library calls
- * that these exports make (crates/bitm_search, crates/bitm_lent, crates/elias_fano). Time is not proved.
+ * Cost: the reads that single queries and lists of selections name below are upper bounds for all tables, right or
+ * wrong, and proved of the library calls that these exports make (crates/bitm_search, crates/bitm_lent,
+ * crates/elias_fano). That an export makes just this call, and the passes over words and items that builds and checks
+ * name, are read in the code. Time is not proved.
+ *
+ * Lengths: each call tests those that it needs. bitm_build, bitm_count, bitm_ones, bitm_write_header and the calls with
+ * a view return BITM_BAD_SIZE for 2^58 words or more; those that get, set or clear bits and fragments take any number
+ * of words, and bitm_upper_len, bitm_lower_len and bitm_samples_len answer for any.
  *
  * Your duties, as for any C function that takes pointers (nothing here can test them):
  *   - a pointer to n numbers is aligned to 8 bytes (samples: to 4) and n numbers can be read there; it may be NULL if
@@ -34,8 +41,10 @@
  *   - what a view or samples point to counts as passed;
  *   - memory that a call writes (no const) overlaps nothing else that is passed, and nobody else reads or writes it
  *     during the call;
- *   - memory that a call reads (const) is not written during the call, and a mapped file is not truncated: that would
- *     end the process;
+ *   - memory that a call reads (const) is not written during the call. If it is all the same, nothing above is proved;
+ *     bitm_sequence_build and bitm_build_samples test each place once more where they write it, and tests by a second
+ *     thread and by memory that overlaps saw them write nothing outside;
+ *   - a mapped file is not truncated while a call runs: the system would end the process;
  *   - memory that a call writes may hold any bytes before, but is allocated;
  *   - a bool is 0 or 1, as a C compiler ensures; the processor counts ones in hardware (x86-64-v2). */
 #ifndef BITM_H
@@ -56,7 +65,20 @@ typedef char bitm_sizes_are_64_bits[sizeof(size_t) == 8 ? 1 : -1];
 #define BITM_VERSION "0.2.0"
 #define BITM_VERSION_NUMBER 200 /* 10000 * major + 100 * minor + patch */
 
-/* What a call returns. */
+/* Before each call that returns a status: the compiler warns where it is not looked at. Define it as nothing before
+ * this file is included if you do not want that. */
+#ifndef BITM_MUST_USE
+#if defined __GNUC__
+#define BITM_MUST_USE __attribute__((warn_unused_result))
+#else
+#define BITM_MUST_USE
+#endif
+#endif
+
+/* The number of the library's version, to compare with BITM_VERSION_NUMBER of this header. */
+uint32_t bitm_version(void);
+
+/* What a call returns; each call names those that it may return. */
 enum bitm_status {
     BITM_OK = 0,       /* the answer was written */
     BITM_NONE = 1,     /* there is no such place or bit */
@@ -66,7 +88,21 @@ enum bitm_status {
     BITM_UNSORTED = 4  /* a number is less than the one before it */
 };
 
-/* In a list of answers: there is no such place or bit; the tables are not those of the words. */
+/* A status in words, in memory that stays. */
+static inline const char *bitm_status_text(uint32_t status)
+{
+    switch (status) {
+    case BITM_OK: return "ok";
+    case BITM_NONE: return "there is no such place or bit";
+    case BITM_BAD_SIZE: return "a length is not as it has to be";
+    case BITM_WRONG: return "the tables, samples, parts or header are not right";
+    case BITM_UNSORTED: return "a number is less than the one before it";
+    default: return "no status of this library";
+    }
+}
+
+/* In a list of answers: there is no such place or bit; the tables are not those of the words. No place, and no rank
+ * where the tables are right, is one of these. */
 #define BITM_NO_ANSWER UINT64_MAX
 #define BITM_WRONG_TABLES (UINT64_MAX - 1)
 
@@ -89,40 +125,41 @@ size_t bitm_upper_len(size_t words_len);
 size_t bitm_lower_len(size_t words_len);
 
 /* Writes both tables of the words, and the number of ones. Returns BITM_OK, or BITM_BAD_SIZE as for a view, and then
- * writes nothing. Reads each word once. */
-uint32_t bitm_build(const uint64_t *words, size_t words_len, uint64_t *upper, size_t upper_len, uint64_t *lower,
-                    size_t lower_len, uint64_t *ones);
+ * writes nothing. Neither table nor ones may overlap another of the four. Reads each word once. */
+BITM_MUST_USE uint32_t bitm_build(const uint64_t *words, size_t words_len, uint64_t *upper, size_t upper_len,
+                                  uint64_t *lower, size_t lower_len, uint64_t *ones);
 
 /* Whether the tables are those of the words: BITM_OK, BITM_WRONG or BITM_BAD_SIZE. Reads each word at most once. */
-uint32_t bitm_check(const struct bitm_view *view);
+BITM_MUST_USE uint32_t bitm_check(const struct bitm_view *view);
 
 /* ---- one query */
 
-/* How many of the first index bits are ones, or zeros. BITM_OK for index up to 64 * words_len (which gives the
- * total), BITM_NONE above. Reads at most one upper entry, one lower entry and eight words. */
-uint32_t bitm_rank(const struct bitm_view *view, size_t index, uint64_t *out);
-uint32_t bitm_rank0(const struct bitm_view *view, size_t index, uint64_t *out);
+/* How many of the first index bits are ones, or zeros: at most index. BITM_NONE exactly if index is above
+ * 64 * words_len (which gives the total), whatever the tables hold; BITM_WRONG if they turn out not to be those of the
+ * words. Reads at most one upper entry, one lower entry and eight words. */
+BITM_MUST_USE uint32_t bitm_rank(const struct bitm_view *view, size_t index, uint64_t *out);
+BITM_MUST_USE uint32_t bitm_rank0(const struct bitm_view *view, size_t index, uint64_t *out);
 
 /* The place of the one, or zero, with exactly rank ones, or zeros, before it. BITM_NONE if there is none, BITM_WRONG
  * if the tables turn out not to be those of the words. Reads at most D + 1 upper entries, where D is the number of
  * binary digits of how many there are, 23 lower entries and eight words. */
-uint32_t bitm_select(const struct bitm_view *view, size_t rank, uint64_t *out);
-uint32_t bitm_select0(const struct bitm_view *view, size_t rank, uint64_t *out);
+BITM_MUST_USE uint32_t bitm_select(const struct bitm_view *view, size_t rank, uint64_t *out);
+BITM_MUST_USE uint32_t bitm_select0(const struct bitm_view *view, size_t rank, uint64_t *out);
 
 /* ---- lists of queries */
 
 /* out[i] answers queries[i] as the call of one query does, or is BITM_NO_ANSWER for BITM_NONE and BITM_WRONG_TABLES
  * for BITM_WRONG. Selections are searched for side by side, so in tables that are not those of the words a list may
  * find another place with the bit than the call of one query, or none where that finds one. Returns BITM_OK, or
- * BITM_BAD_SIZE (also if out_len is not queries_len), and then writes nothing. */
-uint32_t bitm_rank_list(const struct bitm_view *view, const uint64_t *queries, size_t queries_len, uint64_t *out,
-                        size_t out_len);
-uint32_t bitm_rank0_list(const struct bitm_view *view, const uint64_t *queries, size_t queries_len, uint64_t *out,
-                         size_t out_len);
-uint32_t bitm_select_list(const struct bitm_view *view, const uint64_t *queries, size_t queries_len, uint64_t *out,
-                          size_t out_len);
-uint32_t bitm_select0_list(const struct bitm_view *view, const uint64_t *queries, size_t queries_len, uint64_t *out,
-                           size_t out_len);
+ * BITM_BAD_SIZE (also if out_len is not queries_len), and then writes nothing. out may not overlap the queries. */
+BITM_MUST_USE uint32_t bitm_rank_list(const struct bitm_view *view, const uint64_t *queries, size_t queries_len,
+                                      uint64_t *out, size_t out_len);
+BITM_MUST_USE uint32_t bitm_rank0_list(const struct bitm_view *view, const uint64_t *queries, size_t queries_len,
+                                       uint64_t *out, size_t out_len);
+BITM_MUST_USE uint32_t bitm_select_list(const struct bitm_view *view, const uint64_t *queries, size_t queries_len,
+                                        uint64_t *out, size_t out_len);
+BITM_MUST_USE uint32_t bitm_select0_list(const struct bitm_view *view, const uint64_t *queries, size_t queries_len,
+                                         uint64_t *out, size_t out_len);
 
 /* ---- selection by samples */
 
@@ -132,7 +169,7 @@ uint32_t bitm_select0_list(const struct bitm_view *view, const uint64_t *queries
  *
  *     size_t most = bitm_samples_len(n, 12);
  *     uint64_t used;
- *     bitm_build_samples(&view, 12, numbers, most, starts, m, &used);
+ *     if (bitm_build_samples(&view, 12, numbers, most, starts, m, &used) != BITM_OK) ..
  *     struct bitm_samples samples = {numbers, used, starts, m, 12};
  *     if (bitm_sampled_select(&view, &samples, 17, &place) == BITM_OK) ..
  *
@@ -153,52 +190,65 @@ size_t bitm_samples_len(size_t words_len, uint32_t log2);
 /* Writes the samples of ones, or zeros, for each part the number of samples before it, and to used how many there
  * are; items behind these stay as they were. If the tables are those of the words, so are the samples; else they are
  * arbitrary numbers. Returns BITM_OK, or BITM_BAD_SIZE as for a view, or if samples_len is less than bitm_samples_len
- * says or starts_len is not the length of the upper table, and then writes nothing. Reads both tables once, up to two
- * lower entries again for each sample, and at most eight words. */
-uint32_t bitm_build_samples(const struct bitm_view *view, uint32_t log2, uint32_t *samples, size_t samples_len,
-                            uint64_t *starts, size_t starts_len, uint64_t *used);
-uint32_t bitm_build_samples0(const struct bitm_view *view, uint32_t log2, uint32_t *samples, size_t samples_len,
-                             uint64_t *starts, size_t starts_len, uint64_t *used);
+ * says or starts_len is not the length of the upper table, and then writes nothing. samples, starts and used may not
+ * overlap one another, nor the words or tables. Reads both tables once, up to two lower entries again for each sample,
+ * and at most eight words. */
+BITM_MUST_USE uint32_t bitm_build_samples(const struct bitm_view *view, uint32_t log2, uint32_t *samples,
+                                          size_t samples_len, uint64_t *starts, size_t starts_len, uint64_t *used);
+BITM_MUST_USE uint32_t bitm_build_samples0(const struct bitm_view *view, uint32_t log2, uint32_t *samples,
+                                           size_t samples_len, uint64_t *starts, size_t starts_len, uint64_t *used);
 
 /* The place of the one, or zero, with exactly rank ones, or zeros, before it, by samples of the ones, or zeros. If
  * the tables are those of the words, any place returned is the right one and BITM_NONE means that there is none,
  * WHATEVER the samples hold; BITM_WRONG then means that the samples are not those of the words. If the tables are
  * not, any place returned is inside and holds the requested bit. Reads at most what bitm_select reads; with right
  * samples, two lower entries and one for each halving between the rank's sample and the next. */
-uint32_t bitm_sampled_select(const struct bitm_view *view, const struct bitm_samples *samples, size_t rank,
-                             uint64_t *out);
-uint32_t bitm_sampled_select0(const struct bitm_view *view, const struct bitm_samples *samples, size_t rank,
-                              uint64_t *out);
+BITM_MUST_USE uint32_t bitm_sampled_select(const struct bitm_view *view, const struct bitm_samples *samples,
+                                           size_t rank, uint64_t *out);
+BITM_MUST_USE uint32_t bitm_sampled_select0(const struct bitm_view *view, const struct bitm_samples *samples,
+                                            size_t rank, uint64_t *out);
 
 /* out[i] answers queries[i] as the call of one query does where tables and samples are those of the words; with other
- * samples and right tables it is what bitm_select_list writes. Else as the lists of queries above. */
-uint32_t bitm_sampled_select_list(const struct bitm_view *view, const struct bitm_samples *samples,
-                                  const uint64_t *queries, size_t queries_len, uint64_t *out, size_t out_len);
-uint32_t bitm_sampled_select0_list(const struct bitm_view *view, const struct bitm_samples *samples,
-                                   const uint64_t *queries, size_t queries_len, uint64_t *out, size_t out_len);
+ * samples and right tables it is what bitm_select_list writes. Else as the lists of queries above; out may overlap
+ * neither the queries nor the samples. */
+BITM_MUST_USE uint32_t bitm_sampled_select_list(const struct bitm_view *view, const struct bitm_samples *samples,
+                                                const uint64_t *queries, size_t queries_len, uint64_t *out,
+                                                size_t out_len);
+BITM_MUST_USE uint32_t bitm_sampled_select0_list(const struct bitm_view *view, const struct bitm_samples *samples,
+                                                 const uint64_t *queries, size_t queries_len, uint64_t *out,
+                                                 size_t out_len);
 
 /* ---- bits and numbers in bits, with no tables */
 
 /* How many ones. BITM_BAD_SIZE if words_len is 2^58 or more. Reads each word once. */
-uint32_t bitm_count(const uint64_t *words, size_t words_len, uint64_t *out);
+BITM_MUST_USE uint32_t bitm_count(const uint64_t *words, size_t words_len, uint64_t *out);
 
 /* Writes the places of the ones from place from on, in increasing order, as many as out has room for, and to written
- * how many these are; the rest of out stays as it was. BITM_BAD_SIZE if words_len is 2^58 or more. */
-uint32_t bitm_ones(const uint64_t *words, size_t words_len, size_t from, uint64_t *out, size_t out_len,
-                   uint64_t *written);
+ * how many these are; the rest of out stays as it was. BITM_BAD_SIZE if words_len is 2^58 or more. out and written may
+ * not overlap each other or the words. */
+BITM_MUST_USE uint32_t bitm_ones(const uint64_t *words, size_t words_len, size_t from, uint64_t *out, size_t out_len,
+                                 uint64_t *written);
 
-/* Bit index, as 0 or 1. BITM_NONE if there is none. */
-uint32_t bitm_get_bit(const uint64_t *words, size_t words_len, size_t index, uint64_t *out);
-uint32_t bitm_set_bit(uint64_t *words, size_t words_len, size_t index, bool value);
+/* Bit index, as 0 or 1. BITM_NONE if there is none. Where a bit, bits or a fragment are set, every other bit stays as
+ * it was; but their words are read and written whole, so other threads may not use them meanwhile. */
+BITM_MUST_USE uint32_t bitm_get_bit(const uint64_t *words, size_t words_len, size_t index, uint64_t *out);
+BITM_MUST_USE uint32_t bitm_set_bit(uint64_t *words, size_t words_len, size_t index, bool value);
+
+/* Makes the bits from place bit on zeros, and leaves those before it. bit may be any number: there is nothing to do if
+ * there are not so many bits. Writes each word from that place on once. */
+void bitm_clear_from(uint64_t *words, size_t words_len, size_t bit);
 
 /* The number that the len bits from begin on spell, lowest first; 0 to 64 bits. BITM_NONE if begin is no place, begin
  * + len is past the end, or len is above 64. Bits of value from len on are ignored. */
-uint32_t bitm_get_bits(const uint64_t *words, size_t words_len, size_t begin, uint32_t len, uint64_t *out);
-uint32_t bitm_set_bits(uint64_t *words, size_t words_len, size_t begin, uint32_t len, uint64_t value);
+BITM_MUST_USE uint32_t bitm_get_bits(const uint64_t *words, size_t words_len, size_t begin, uint32_t len,
+                                     uint64_t *out);
+BITM_MUST_USE uint32_t bitm_set_bits(uint64_t *words, size_t words_len, size_t begin, uint32_t len, uint64_t value);
 
 /* The same for the width bits from index * width on: fragment index of an array of numbers of width bits. */
-uint32_t bitm_get_fragment(const uint64_t *words, size_t words_len, size_t index, uint32_t width, uint64_t *out);
-uint32_t bitm_set_fragment(uint64_t *words, size_t words_len, size_t index, uint32_t width, uint64_t value);
+BITM_MUST_USE uint32_t bitm_get_fragment(const uint64_t *words, size_t words_len, size_t index, uint32_t width,
+                                         uint64_t *out);
+BITM_MUST_USE uint32_t bitm_set_fragment(uint64_t *words, size_t words_len, size_t index, uint32_t width,
+                                         uint64_t value);
 
 /* ---- monotone integer sequences (Elias-Fano) */
 
@@ -231,42 +281,44 @@ struct bitm_sequence_lens {
 /* The sizes for len numbers, of which the last, and so the largest, is largest (0 if there are none). BITM_BAD_SIZE
  * if len is 2^56 or more, or len is 0 and largest is not. low and words together have at most len * (width + 3) + 126
  * bits. */
-uint32_t bitm_sequence_sizes(size_t len, uint64_t largest, struct bitm_sequence_lens *out);
+BITM_MUST_USE uint32_t bitm_sequence_sizes(size_t len, uint64_t largest, struct bitm_sequence_lens *out);
 
 /* Writes the parts of a sequence of the items, and width. Returns BITM_OK; BITM_BAD_SIZE if a length is not what
  * bitm_sequence_sizes says for items_len and the last item; else BITM_UNSORTED if an item is less than the one before
- * it. Passes twice over the items and once over the words; what was in the parts' memory is not read. */
-uint32_t bitm_sequence_build(const uint64_t *items, size_t items_len, uint64_t *low, size_t low_len, uint64_t *words,
-                             size_t words_len, uint64_t *upper, size_t upper_len, uint64_t *lower, size_t lower_len,
-                             uint64_t *width);
+ * it; then writes nothing. None of the parts, nor width, may overlap another or the items. Passes three times over the
+ * items and once over the words; what was in the parts' memory is not read. */
+BITM_MUST_USE uint32_t bitm_sequence_build(const uint64_t *items, size_t items_len, uint64_t *low, size_t low_len,
+                                           uint64_t *words, size_t words_len, uint64_t *upper, size_t upper_len,
+                                           uint64_t *lower, size_t lower_len, uint64_t *width);
 
 /* Whether the parts are those of some sequence, as bitm_sequence_build writes them: BITM_OK, BITM_WRONG or
  * BITM_BAD_SIZE. Passes twice over the words, and reads at most one fragment of low for each number. */
-uint32_t bitm_sequence_check(const struct bitm_sequence_view *view);
+BITM_MUST_USE uint32_t bitm_sequence_check(const struct bitm_sequence_view *view);
 
 /* Number index, counted from 0. BITM_NONE exactly if index is len or more, whatever the parts hold; BITM_WRONG if the
  * parts turn out not to be those of a sequence. Reads what a selection reads, and at most one fragment of low. */
-uint32_t bitm_sequence_get(const struct bitm_sequence_view *view, size_t index, uint64_t *out);
+BITM_MUST_USE uint32_t bitm_sequence_get(const struct bitm_sequence_view *view, size_t index, uint64_t *out);
 
 /* The successor: the least place whose number is at least value. BITM_NONE if every number is less, BITM_WRONG if the
  * parts turn out not to be those of a sequence; any place returned is below len, whatever the parts hold. Reads what
  * two selections read, and at most one fragment of low for each binary digit of how many numbers share the upper bits
  * of value, in parts of no sequence for each of len. */
-uint32_t bitm_sequence_first_at_least(const struct bitm_sequence_view *view, uint64_t value, uint64_t *out);
+BITM_MUST_USE uint32_t bitm_sequence_first_at_least(const struct bitm_sequence_view *view, uint64_t value,
+                                                    uint64_t *out);
 
 /* out[i] answers queries[i] as bitm_sequence_first_at_least does, or is BITM_NO_ANSWER for BITM_NONE and
  * BITM_WRONG_TABLES for BITM_WRONG. Zeros are selected side by side, so in parts of no sequence it may be another place
  * than bitm_sequence_first_at_least answers. Returns BITM_OK, or BITM_BAD_SIZE (also if out_len is not queries_len),
- * and then writes nothing. */
-uint32_t bitm_sequence_first_at_least_list(const struct bitm_sequence_view *view, const uint64_t *queries,
-                                           size_t queries_len, uint64_t *out, size_t out_len);
+ * and then writes nothing. out may not overlap the queries. */
+BITM_MUST_USE uint32_t bitm_sequence_first_at_least_list(const struct bitm_sequence_view *view, const uint64_t *queries,
+                                                         size_t queries_len, uint64_t *out, size_t out_len);
 
 /* The numbers at a list of places, as bitm_sequence_get answers them, up to the first place for which it does not
- * return BITM_OK; written is how many these are, and the rest of out stays as it was. Ones are selected side by side, so
- * in parts of no sequence a number may be another than bitm_sequence_get answers. Returns BITM_OK, or BITM_BAD_SIZE
- * (also if out_len is not queries_len), and then writes nothing. */
-uint32_t bitm_sequence_get_list(const struct bitm_sequence_view *view, const uint64_t *queries, size_t queries_len,
-                                uint64_t *out, size_t out_len, uint64_t *written);
+ * return BITM_OK; written is how many these are, and the rest of out stays as it was. Ones are selected side by side,
+ * so in parts of no sequence a number may be another than bitm_sequence_get answers. Returns BITM_OK, or BITM_BAD_SIZE
+ * (also if out_len is not queries_len), and then writes nothing. out and written may not overlap the queries. */
+BITM_MUST_USE uint32_t bitm_sequence_get_list(const struct bitm_sequence_view *view, const uint64_t *queries,
+                                              size_t queries_len, uint64_t *out, size_t out_len, uint64_t *written);
 
 /* ---- a header for files */
 
@@ -280,11 +332,11 @@ struct bitm_header {
 };
 
 /* Writes the header for so many words. BITM_BAD_SIZE if words_len is 2^58 or more. */
-uint32_t bitm_write_header(size_t words_len, struct bitm_header *out);
+BITM_MUST_USE uint32_t bitm_write_header(size_t words_len, struct bitm_header *out);
 
 /* The number of words that the header announces. BITM_WRONG exactly if it is not what bitm_write_header writes on
  * this machine for any number of words: another format, version or byte order, or lengths that do not fit together. */
-uint32_t bitm_read_header(const struct bitm_header *header, uint64_t *words_len);
+BITM_MUST_USE uint32_t bitm_read_header(const struct bitm_header *header, uint64_t *words_len);
 
 #ifdef __cplusplus
 }

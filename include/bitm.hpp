@@ -149,12 +149,14 @@ public:
         return (*this)[at];
     }
 
-    // How many of the first `index` bits are ones, or zeros; std::out_of_range where there are fewer bits.
+    // How many of the first `index` bits are ones, or zeros: at most `index`, also of wrong tables that are not noticed.
+    // std::out_of_range where there are fewer bits.
     std::uint64_t rank(std::uint64_t index) const
     {
-        std::uint64_t out;
-        if (index > bits_ || bitm_rank(&view_, index, &out) != BITM_OK) detail::outside("rank", index, bits_);
-        return out;
+        std::uint64_t out = 0;
+        if (index > bits_) detail::outside("rank", index, bits_);
+        const std::uint32_t status = bitm_rank(&view_, index, &out);
+        return detail::answer(status, out).value();
     }
     std::uint64_t rank0(std::uint64_t index) const { return index - rank(index); }
 
@@ -181,7 +183,10 @@ public:
     {
         for (const std::uint64_t index : indices)
             if (index > bits_) detail::outside("rank", index, bits_);
-        return list(bitm_rank_list, indices);
+        std::vector<std::uint64_t> counts = list(bitm_rank_list, indices);
+        for (const std::uint64_t count : counts)
+            if (count == BITM_WRONG_TABLES) throw wrong_tables();
+        return counts;
     }
     std::vector<place> select(const std::vector<std::uint64_t> &ranks) const
     {

@@ -2,6 +2,7 @@
  * sequence, one call each and one for all. Argument: the number of bits as a power of two (20 where it is left out).
  * CPU time, best of 7 turns of 2^20 random queries. */
 #define _GNU_SOURCE
+#define BITM_MUST_USE /* a status that is looked at is timed too */
 #include "common.h"
 #include "sampled.h"
 

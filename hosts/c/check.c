@@ -36,8 +36,8 @@ static uint64_t single_queries(const struct bitm_view *view)
 typedef uint32_t one_call(const struct bitm_view *, size_t, uint64_t *);
 typedef uint32_t list_call(const struct bitm_view *, const uint64_t *, size_t, uint64_t *, size_t);
 
-/* A list of queries answers each as the call of one query does where the tables are right, and ranks any tables; a list
- * of selections in wrong tables finds bits of the kind that was asked. */
+/* A list of queries answers each as the call of one query does where the tables are right, and a list of ranks in any;
+ * a list of selections in wrong tables finds bits of the kind that was asked. */
 static void list_of_queries(const struct bitm_view *view, one_call *one, list_call *list, int same, uint64_t kind)
 {
     uint64_t queries[32], answers[32], bits = (uint64_t)view->words_len * 64;
@@ -128,16 +128,21 @@ static void in_a_file(size_t words_len, int kind)
     MUST(munmap((void *)(uintptr_t)read, bytes) == 0);
 }
 
-/* Any tables: rank tells what is inside, and a place that is found has the bit. Answers how often tables were called
- * wrong. */
+/* Any tables: a rank is at most its index, or the tables are called wrong, exactly where there are so many bits, and a
+ * place that is found has the bit. Answers how often tables were called wrong. */
 static unsigned any_tables(const struct bitm_view *view, unsigned queries)
 {
     uint64_t bits = (uint64_t)view->words_len * 64;
     unsigned wrong = 0;
     for (unsigned i = 0; i < queries; i++) {
         uint64_t query = i == 0 ? UINT64_MAX : i == 1 ? bits - 1 : draw() % (bits + 3), got = UNTOUCHED;
-        MUST(bitm_rank(view, query, &got) == (query <= bits ? BITM_OK : BITM_NONE));
-        MUST(query <= bits || got == UNTOUCHED);
+        for (uint64_t kind = 0; kind < 2; kind++) {
+            got = UNTOUCHED;
+            uint32_t status = (kind ? bitm_rank : bitm_rank0)(view, query, &got);
+            wrong += status == BITM_WRONG;
+            MUST(query <= bits ? status == BITM_OK || status == BITM_WRONG : status == BITM_NONE);
+            MUST(status == BITM_OK ? got <= query : got == UNTOUCHED);
+        }
         for (uint64_t kind = 0; kind < 2; kind++) {
             got = UNTOUCHED;
             uint32_t status = (kind ? bitm_select : bitm_select0)(view, query, &got);

@@ -1,35 +1,10 @@
-/* Every array ends where a page begins that may not be touched, so a read or write of one number too far ends the
- * program, inside the archive too, into which sanitizers do not see. Words, tables, samples and parts hold random
- * numbers, rightly built or not; asked is whether each status is one of the header's, whether nothing is written where
- * it is not BITM_OK, and whether a place that is found indexes an array of the caller's. */
+/* Every array ends at a page that may not be touched. Words, tables, samples and parts hold random numbers, rightly
+ * built or not; asked is whether each status is one of the header's, whether nothing is written where it is not
+ * BITM_OK, and whether a place or a rank that is answered indexes an array of the caller's. */
 #define _DEFAULT_SOURCE
-#include "common.h"
-
-#include <string.h>
-#include <sys/mman.h>
-#include <unistd.h>
+#include "guard.h"
 
 enum { MOST = 40 }; /* words of a content */
-
-/* A block of size bytes that ends at a page that may not be touched; each is mapped once and used again. */
-struct guarded {
-    unsigned char *page;
-    size_t room;
-};
-
-static struct guarded guard(size_t room)
-{
-    size_t page = (size_t)sysconf(_SC_PAGESIZE), pages = (room + page - 1) / page;
-    unsigned char *at = mmap(NULL, (pages + 1) * page, PROT_READ | PROT_WRITE, MAP_PRIVATE | MAP_ANONYMOUS, -1, 0);
-    MUST(at != MAP_FAILED && mprotect(at + pages * page, page, PROT_NONE) == 0);
-    return (struct guarded){at, pages * page};
-}
-
-static void *ends_at_the_guard(const struct guarded *block, size_t size)
-{
-    MUST(size <= block->room);
-    return block->page + block->room - size;
-}
 
 static struct guarded words_of, upper_of, lower_of, samples_of, starts_of, queries_of, out_of, low_of;
 
@@ -49,6 +24,19 @@ static bool answered(uint32_t status, uint64_t out)
 }
 
 typedef uint32_t one_query(const struct bitm_view *, size_t, uint64_t *);
+typedef uint32_t list_query(const struct bitm_view *, const uint64_t *, size_t, uint64_t *, size_t);
+
+/* A list of ranks or of places, each of which indexes an array of the caller's of an item for each bit and one more. */
+static void ask_a_list(const struct bitm_view *view, list_query *list, bool ranks, const uint64_t *queries,
+                       size_t asked, uint64_t *out, unsigned char *mine)
+{
+    MUST(list(view, queries, asked, out, asked) == BITM_OK);
+    for (size_t i = 0; i < asked; i++) {
+        if (out[i] >= BITM_WRONG_TABLES) continue;
+        MUST(ranks ? out[i] <= queries[i] : out[i] < 64 * view->words_len);
+        mine[out[i]] = 1;
+    }
+}
 
 /* Asks an index over random words, whose tables are right or random; an answer indexes an array of the caller's. */
 static unsigned long ask_an_index(void)
@@ -75,8 +63,15 @@ static unsigned long ask_an_index(void)
     for (unsigned turn = 0; turn < 40; turn++) {
         size_t query = draw() % 4 ? draw() % (bits + 3) : draw();
         uint64_t out = UNTOUCHED;
-        if (answered(bitm_rank(&view, query, &out), out) && right) mine[out] = 1;
-        one_query *const calls[] = {bitm_select, bitm_select0};
+        one_query *const ranks[] = {bitm_rank, bitm_rank0}, *const calls[] = {bitm_select, bitm_select0};
+        for (unsigned kind = 0; kind < 2; kind++) {
+            out = UNTOUCHED;
+            uint32_t status = ranks[kind](&view, query, &out);
+            MUST(query <= bits ? status == BITM_OK || (status == BITM_WRONG && !right) : status == BITM_NONE);
+            if (!answered(status, out)) continue;
+            MUST(out <= query);
+            mine[out] = 1;
+        }
         for (unsigned kind = 0; kind < 4; kind++) {
             out = UNTOUCHED;
             uint32_t status = kind < 2    ? calls[kind](&view, query, &out)
@@ -95,8 +90,12 @@ static unsigned long ask_an_index(void)
     uint64_t *queries = numbers(&queries_of, asked, true), *out = numbers(&out_of, asked, false);
     for (size_t i = 0; i < asked; i++)
         if (draw() % 2) queries[i] %= bits + 3;
-    MUST(bitm_rank_list(&view, queries, asked, out, asked) == BITM_OK);
-    MUST(bitm_select0_list(&view, queries, asked, out, asked) == BITM_OK);
+    ask_a_list(&view, bitm_rank_list, true, queries, asked, out, mine);
+    ask_a_list(&view, bitm_rank0_list, true, queries, asked, out, mine);
+    ask_a_list(&view, bitm_select_list, false, queries, asked, out, mine);
+    ask_a_list(&view, bitm_select0_list, false, queries, asked, out, mine);
+    for (size_t i = 0; i < asked; i++)
+        if (out[i] < BITM_WRONG_TABLES) MUST(!bit_of(words, out[i]));
     MUST(bitm_sampled_select0_list(&view, &by, queries, asked, out, asked) == BITM_OK);
     MUST(bitm_sampled_select_list(&view, &by, queries, asked, out, asked) == BITM_OK);
     MUST(bitm_select_list(&view, queries, asked, out, asked) == BITM_OK);
@@ -104,7 +103,7 @@ static unsigned long ask_an_index(void)
         if (out[i] < BITM_WRONG_TABLES) MUST(out[i] < bits && bit_of(words, out[i]));
     uint64_t written = UNTOUCHED;
     MUST(bitm_ones(words, n, draw() % (bits + 2), out, asked, &written) == BITM_OK && written <= asked);
-    return 40 * 7 + 6;
+    return 40 * 8 + 8;
 }
 
 /* Asks a sequence whose parts are those of numbers, or random. */

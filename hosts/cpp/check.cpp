@@ -94,6 +94,8 @@ void indexes()
     bitm_view of_others = two.view();
     of_others.lower = wrong;
     throws<bitm::wrong_tables>([&] { bitm::index_view(of_others).select(1); }, "wrong tables");
+    throws<bitm::wrong_tables>([&] { bitm::index_view(of_others).rank(1); }, "a rank of wrong tables");
+    throws<bitm::wrong_tables>([&] { bitm::index_view(of_others).rank({0, 1}); }, "ranks of wrong tables");
 }
 
 void sequences()

@@ -6,7 +6,7 @@ from typing import Any, Iterator, Optional, Tuple
 from ._bits import BitVector, calls
 from ._buffers import Lent, WrongTables, apart, as_asked, number, words_of, zeros
 from ._lending import Lending
-from ._library import BAD_SIZE, NO_ANSWER, OK, U64, Samples, View
+from ._library import BAD_SIZE, NO_ANSWER, OK, U64, WRONG, Samples, View
 
 
 def tables_of(words: Any) -> Tuple["array.array[int]", "array.array[int]", int]:
@@ -76,9 +76,10 @@ class Index(Lending):
         lent = Lent(words), Lent(upper), Lent(lower)
         view = View(*(part for it in lent for part in it.part))
         out = U64()
-        if calls.bitm_rank(ctypes.byref(view), length, ctypes.byref(out)) == BAD_SIZE:
+        status = calls.bitm_rank(ctypes.byref(view), length, ctypes.byref(out))
+        if status == BAD_SIZE:
             raise ValueError("a table is not as long as that of the words")
-        self._ones = out.value
+        self._ones: Optional[int] = None if status == WRONG else out.value
         self._lend(view, lent)
 
     def _sampled(self, kind: int, log2: int) -> Tuple[Any, ...]:
@@ -113,11 +114,15 @@ class Index(Lending):
         return (self[at] for at in range(self._len))
 
     def __repr__(self) -> str:
-        return "<Index, closed>" if self.closed else f"<Index of {self._len} bits, {self._ones} ones>"
+        if self.closed:
+            return "<Index, closed>"
+        return f"<Index of {self._len} bits, {'wrong tables' if self._ones is None else f'{self._ones} ones'}>"
 
     def count(self, bit: Any = 1) -> int:
         """How many bits are ones; with 0, how many are zeros."""
         self._open()
+        if self._ones is None:
+            raise WrongTables("the tables are not those of the words")
         return self._ones if bit else self._len - self._ones
 
     def _place(self, index: Any) -> int:
@@ -126,7 +131,7 @@ class Index(Lending):
         return index
 
     def rank(self, index: int) -> int:
-        """How many of the first `index` bits are ones. IndexError where there are fewer bits."""
+        """How many of the first `index` bits are ones, at most `index`. IndexError where there are fewer bits."""
         return self._ask(calls.bitm_rank, self._place(index), "a place") or 0
 
     def rank0(self, index: int) -> int:

@@ -45,6 +45,7 @@ WORDS, LIST, ROOM = [IN, SIZE], [IN, SIZE], [OUT, SIZE]
 
 # What each export answers and takes.
 DECLARATIONS = {
+    "bitm_version": (U32, []),
     "bitm_upper_len": (SIZE, [SIZE]),
     "bitm_lower_len": (SIZE, [SIZE]),
     "bitm_build": (STATUS, WORDS + ROOM + ROOM + [OUT]),
@@ -68,6 +69,7 @@ DECLARATIONS = {
     "bitm_ones": (STATUS, WORDS + [SIZE] + ROOM + [OUT]),
     "bitm_get_bit": (STATUS, WORDS + [SIZE, OUT]),
     "bitm_set_bit": (STATUS, WORDS + [SIZE, BOOL]),
+    "bitm_clear_from": (None, WORDS + [SIZE]),
     "bitm_get_bits": (STATUS, WORDS + [SIZE, U32, OUT]),
     "bitm_set_bits": (STATUS, WORDS + [SIZE, U32, U64]),
     "bitm_get_fragment": (STATUS, WORDS + [SIZE, U32, OUT]),

@@ -250,7 +250,16 @@ class Arguments(unittest.TestCase):
                     self.assertTrue(place is None or index[place])
                 except bitm.WrongTables:
                     told += 1
+                try:
+                    self.assertLessEqual(index.rank(2 * rank), 2 * rank)
+                except bitm.WrongTables:
+                    told += 1
         self.assertGreater(told, 0)
+        index = Index.over(array.array("Q", [0]), array.array("Q", [0]), array.array("Q", [99]))
+        calls = [lambda: index.rank(64), lambda: index.rank0(64), index.count, lambda: index.rank_list([64])]
+        for call in calls + [lambda: index.next_zero(3)]:
+            self.assertRaises(bitm.WrongTables, call)
+        self.assertEqual(repr(index), "<Index of 64 bits, wrong tables>")
 
 
 class Habits(unittest.TestCase):

@@ -45,7 +45,7 @@ module _ (view : SequenceView) (sized : IsSized view) (status old new : ℕ) whe
   place v (Found p) is inside answer = record {
     kept = λ not. absurd (not is.0);
     bad = λ no. absurd (no sized);
-    good = λ _ e. absurd (omega (arith, is.0, e));
+    good = λ _. inl is.0;
     place = λ _. omega (arith, is.1, inside);
     told = λ _ xs h. inl is.0;
     right = λ xs h _. subst (λ (n : ℕ). Reaches xs v n) (sym is.1) (answer xs h);
@@ -54,7 +54,7 @@ module _ (view : SequenceView) (sized : IsSized view) (status old new : ℕ) whe
   place v Absent is inside answer = record {
     kept = λ _. is.1;
     bad = λ no. absurd (no sized);
-    good = λ _ e. absurd (omega (arith, is.0, e));
+    good = λ _. inr (inl is.0);
     place = λ e. absurd (omega (arith, is.0, e));
     told = λ _ xs h. inr is.0;
     right = λ xs h e. absurd (omega (arith, is.0, e));
@@ -63,7 +63,7 @@ module _ (view : SequenceView) (sized : IsSized view) (status old new : ℕ) whe
   place v WrongParts is inside answer = record {
     kept = λ _. is.1;
     bad = λ no. absurd (no sized);
-    good = λ _ e. absurd (omega (arith, is.0, e));
+    good = λ _. inr (inr is.0);
     place = λ e. absurd (omega (arith, is.0, e));
     told = λ _ xs h. absurd (answer xs h);
     right = λ xs h _. absurd (answer xs h);

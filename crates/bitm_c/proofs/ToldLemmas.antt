@@ -1,5 +1,5 @@
 -- What was found is what is told.
-use Rattle.std.proofs.Common.{◌≡◌, ℕ, ◌<◌, Bool, length, sym, subst, arith}
+use Rattle.std.proofs.Common.{◌≡◌, ℕ, ◌<◌, Bool, length, inl, inr, sym, subst, arith}
 use Rattle.bitm.proofs.Callers.{rank_below}
 use Rattle.bitm.specs.Bits.{item}
 use Rattle.bitm.specs.Count.{Picks}
@@ -15,7 +15,7 @@ module _ (v : Bool) (lists : Lists) (sized : HasSizes lists) (rank status old ne
   told (Found p) is bit answer = record {
     kept = λ not. absurd (not is.0);
     bad = λ no. absurd (no sized);
-    good = λ _ e. absurd (omega (arith, is.0, e));
+    good = λ _. inl is.0;
     bit = λ _. subst (λ (n : ℕ). (n < length (bits_in lists)) × (item (bits_in lists) n ≡ v)) (sym is.1) bit;
     right = λ _ t _. (is.0, subst (λ (n : ℕ). Picks (bits_in lists) v rank n) (sym is.1) (answer t));
     none = λ _ t past. absurd (omega (arith, past, rank_below (bits_in lists) v rank p (answer t)));
@@ -23,7 +23,7 @@ module _ (v : Bool) (lists : Lists) (sized : HasSizes lists) (rank status old ne
   told Absent is bit answer = record {
     kept = λ _. is.1;
     bad = λ no. absurd (no sized);
-    good = λ _ e. absurd (omega (arith, is.0, e));
+    good = λ _. inr (inl is.0);
     bit = λ ok. absurd (omega (arith, is.0, ok));
     right = λ _ t below. absurd (omega (arith, answer t, below));
     none = λ _ _ _. is.0;
@@ -31,7 +31,7 @@ module _ (v : Bool) (lists : Lists) (sized : HasSizes lists) (rank status old ne
   told WrongTables is bit answer = record {
     kept = λ _. is.1;
     bad = λ no. absurd (no sized);
-    good = λ _ e. absurd (omega (arith, is.0, e));
+    good = λ _. inr (inr is.0);
     bit = λ ok. absurd (omega (arith, is.0, ok));
     right = λ _ t _. absurd (answer t);
     none = λ _ t _. absurd (answer t);

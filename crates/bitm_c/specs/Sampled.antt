@@ -1,5 +1,5 @@
 -- What the exported calls answer by samples.
-use Rattle.std.specs.Prelude.{◌≡◌, ◌≢◌, ℕ, ◌<◌, ◌≤◌, Bool, length, min}
+use Rattle.std.specs.Prelude.{◌≡◌, ◌≢◌, ℕ, ◌<◌, ◌≤◌, ◌⊎◌, Bool, length, min}
 use Rattle.bitm.specs.Bits.{item}
 use Rattle.bitm.specs.Count.{count_of, Picks}
 use Rattle.bitm.specs.Tables.{HasSizes, HasTables, Lists, bits_in}
@@ -15,7 +15,7 @@ lent_samples s = record { samples = s.samples; starts = s.starts; log2 = min s.l
 pub record SampledAnswered (v : Bool) (lists : Lists) (samples : Samples) (rank status old new : ℕ) : Type 0 where
   pub kept : status ≢ 0 → new ≡ old
   pub bad : (HasSizes lists → ⊥) → status ≡ 2
-  pub good : HasSizes lists → status ≢ 2
+  pub good : HasSizes lists → (status ≡ 0) ⊎ (status ≡ 1) ⊎ (status ≡ 3)
   pub bit : status ≡ 0 → (new < length (bits_in lists)) × (item (bits_in lists) new ≡ v)
   pub right : HasTables lists → status ≡ 0 → Picks (bits_in lists) v rank new
   pub none : HasTables lists → status ≡ 1 → count_of (bits_in lists) v ≤ rank

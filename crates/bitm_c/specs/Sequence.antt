@@ -53,7 +53,7 @@ pub record ItemAnswered (view : SequenceView) (index status old new : ℕ) : Typ
 pub record PlaceAnswered (view : SequenceView) (value status old new : ℕ) : Type 0 where
   pub kept : status ≢ 0 → new ≡ old
   pub bad : (IsSized view → ⊥) → status ≡ 2
-  pub good : IsSized view → status ≢ 2
+  pub good : IsSized view → (status ≡ 0) ⊎ (status ≡ 1) ⊎ (status ≡ 3)
   pub place : status ≡ 0 → new < view.len
   pub told : IsSized view → (xs : List ℕ) → Holds xs (held_by view) → (status ≡ 0) ⊎ (status ≡ 1)
   pub right : (xs : List ℕ) → Holds xs (held_by view) → status ≡ 0 → Reaches xs value new

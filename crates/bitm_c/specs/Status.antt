@@ -1,8 +1,8 @@
 -- What the exported calls answer: a status, and a number written where the caller says.
-use Rattle.std.specs.Prelude.{◌≡◌, ◌≢◌, ℕ, ◌^◌, ◌<◌, ◌≤◌, Bool, length}
+use Rattle.std.specs.Prelude.{◌≡◌, ◌≢◌, ℕ, ◌^◌, ◌<◌, ◌≤◌, ◌⊎◌, Bool, length}
 use Rattle.std.specs.Int.{div_ceil}
 use Rattle.bitm.specs.Bits.{item}
-use Rattle.bitm.specs.Count.{count_before, count_of, Picks}
+use Rattle.bitm.specs.Count.{count_of, Picks}
 use Rattle.bitm.specs.Tables.{HasSizes, HasTables, Lists, bits_in}
 use Rattle.bitm_lent.specs.Sizes.{listed}
 use Rattle.bitm.specs.Selected.{Selected}
@@ -23,19 +23,11 @@ IsTold (Found p) status old new = (status ≡ 0) × (new ≡ p)
 IsTold Absent status old new = (status ≡ 1) × (new ≡ old)
 IsTold WrongTables status old new = (status ≡ 3) × (new ≡ old)
 
--- of a rank of the first index bits, of kind v: the status, and the number before and after the call
-pub record RankAnswered (v : Bool) (lists : Lists) (index status old new : ℕ) : Type 0 where
-  pub kept : status ≢ 0 → new ≡ old
-  pub bad : (HasSizes lists → ⊥) → status ≡ 2
-  pub outside : HasSizes lists → length (bits_in lists) < index → status ≡ 1
-  pub inside : HasSizes lists → index ≤ length (bits_in lists) → status ≡ 0
-  pub right : HasSizes lists → HasTables lists → index ≤ length (bits_in lists) → new ≡ count_before (bits_in lists) v index
-
 -- of a selection of the bit v by rank: the status, and the number before and after the call
 pub record SelectAnswered (v : Bool) (lists : Lists) (rank status old new : ℕ) : Type 0 where
   pub kept : status ≢ 0 → new ≡ old
   pub bad : (HasSizes lists → ⊥) → status ≡ 2
-  pub good : HasSizes lists → status ≢ 2
+  pub good : HasSizes lists → (status ≡ 0) ⊎ (status ≡ 1) ⊎ (status ≡ 3)
   pub bit : status ≡ 0 → (new < length (bits_in lists)) × (item (bits_in lists) new ≡ v)
   pub right : HasSizes lists → HasTables lists → rank < count_of (bits_in lists) v → (status ≡ 0) × Picks (bits_in lists) v rank new
   pub none : HasSizes lists → HasTables lists → count_of (bits_in lists) v ≤ rank → status ≡ 1

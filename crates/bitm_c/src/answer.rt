@@ -1,8 +1,9 @@
 //! How an answer is told: by a status, and a number that is written only where the status is `OK`.
 ghost use Rattle.std.specs.Prelude.{◌≡◌, MatchOption};
+ghost use Rattle.bitm_c.specs.Rank.{IsCountTold};
 ghost use Rattle.bitm_c.specs.Status.{IsTold};
 
-use bitm_lent::Selected;
+use bitm_lent::{Ranked, Selected};
 
 /// The answer was written.
 pub(crate) const OK: u32 = 0;
@@ -31,6 +32,21 @@ pub(crate) fn tell<T: Copy>(found: Option<T>, out: &mut T) -> u32
             OK
         }
         None => NONE,
+    }
+}
+
+/// Writes the number that was counted.
+#[inline(always)]
+pub(crate) fn tell_count(ranked: Ranked, out: &mut usize) -> u32
+    ensures { IsCountTold ranked result out.old out.new }
+{
+    match ranked {
+        Ranked::Count(count) => {
+            *out = count;
+            OK
+        }
+        Ranked::Absent => NONE,
+        Ranked::WrongTables => WRONG,
     }
 }
 

@@ -1,11 +1,12 @@
 //! Bits, and numbers in bits, of words of the caller's.
-ghost use Rattle.std.specs.Prelude.{◌≡◌, ◌≢◌, ◌*◌, ◌%◌, ◌^◌, ◌<◌, ◌≤◌, ◌↔◌, length, if◌then◌else◌};
+ghost use Rattle.std.specs.Prelude.{◌≡◌, ◌≢◌, ◌*◌, ◌%◌, ◌^◌, ◌<◌, ◌≤◌, ◌↔◌, ℕ, false, length, if◌then◌else◌};
 ghost use Rattle.bitm.specs.Bits.{bits_of, item, IsShort};
 ghost use Rattle.bitm.specs.Count.{ones_of};
 ghost use Rattle.bitm.specs.Number.{number_at, with_number, IsFragmentInRange, IsInRange};
 
 use crate::answer::{BAD_SIZE, NONE, OK, tell};
 use bitm::words as slices;
+use bitm_lent::clear_from;
 
 /// How many ones the words have.
 #[unsafe(no_mangle)]
@@ -47,6 +48,16 @@ pub extern "C" fn bitm_set_bit(words: &mut [u64], index: usize, value: bool) -> 
     }
     slices::set_bit_to(words, index, value);
     OK
+}
+
+/// Makes the bits from place `bit` on zeros; nothing is changed where there are not so many bits.
+#[unsafe(no_mangle)]
+pub extern "C" fn bitm_clear_from(words: &mut [u64], bit: usize)
+    ensures before { (i : ℕ) → i < bit
+        → item (bits_of words.new) i ≡ item (bits_of words.old) i }
+    ensures from { (i : ℕ) → bit ≤ i → item (bits_of words.new) i ≡ false }
+{
+    clear_from(words, bit);
 }
 
 /// The number that `len` bits from `begin` on are, lowest first; 0 to 64 bits.

@@ -1,13 +1,14 @@
 //! Building, checking and asking an index whose tables lie in the caller's memory.
-ghost use Rattle.std.specs.Prelude.{◌≡◌, ◌≢◌, ◌^◌, ◌↔◌, true, false};
+ghost use Rattle.std.specs.Prelude.{◌≡◌, ◌≢◌, ◌^◌, ◌↔◌, ◌⊎◌, true, false};
 ghost use Rattle.std.specs.Int.{div_ceil};
 ghost use Rattle.bitm.specs.Bits.{bits_of};
 ghost use Rattle.bitm.specs.Count.{ones_of};
 ghost use Rattle.bitm.specs.Tables.{HasSizes, HasTables};
 ghost use Rattle.bitm_lent.specs.Sizes.{listed};
-ghost use Rattle.bitm_c.specs.Status.{lists_of, RankAnswered, SelectAnswered};
+ghost use Rattle.bitm_c.specs.Rank.{RankAnswered};
+ghost use Rattle.bitm_c.specs.Status.{lists_of, SelectAnswered};
 
-use crate::answer::{BAD_SIZE, OK, WRONG, tell, tell_place};
+use crate::answer::{BAD_SIZE, OK, WRONG, tell_count, tell_place};
 use crate::view::View;
 
 /// How many numbers the upper table of so many words has: one for each begun 2^26 words.
@@ -56,6 +57,7 @@ pub extern "C" fn bitm_build(
 pub extern "C" fn bitm_check(view: &View<'_>) -> u32
     ensures ok { (result ≡ 0) ↔ HasSizes (lists_of view.now) × HasTables (lists_of view.now) }
     ensures bad { (result ≡ 2) ↔ (HasSizes (lists_of view.now) → ⊥) }
+    ensures status { (result ≡ 0) ⊎ (result ≡ 2) ⊎ (result ≡ 3) }
 {
     match view.lent() {
         Some(lent) => { if lent.check() { OK } else { WRONG } }
@@ -69,7 +71,7 @@ pub extern "C" fn bitm_rank(view: &View<'_>, index: usize, out: &mut usize) -> u
     ensures { RankAnswered true (lists_of view.now) index result out.old out.new }
 {
     match view.lent() {
-        Some(lent) => tell(lent.rank(index), out),
+        Some(lent) => tell_count(lent.rank(index), out),
         None => BAD_SIZE,
     }
 }
@@ -80,7 +82,7 @@ pub extern "C" fn bitm_rank0(view: &View<'_>, index: usize, out: &mut usize) -> 
     ensures { RankAnswered false (lists_of view.now) index result out.old out.new }
 {
     match view.lent() {
-        Some(lent) => tell(lent.rank0(index), out),
+        Some(lent) => tell_count(lent.rank0(index), out),
         None => BAD_SIZE,
     }
 }

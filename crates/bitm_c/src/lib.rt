@@ -12,4 +12,5 @@ mod lists;
 mod places;
 mod sampled;
 mod sequence;
+mod version;
 mod view;

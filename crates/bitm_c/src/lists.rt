@@ -1,6 +1,7 @@
 //! The same questions for lists of queries: one call, and one test of the lengths.
 ghost use Rattle.std.specs.Prelude.{◌≡◌, ◌≢◌, ◌<◌, ◌↔◌, ℕ, length, slice_index, true, false, if◌then◌else◌};
-ghost use Rattle.bitm_lent.specs.Answers.{RankTold, SelectTold};
+ghost use Rattle.bitm_lent.specs.Answers.{SelectTold};
+ghost use Rattle.bitm_lent.specs.Ranks.{RankTold};
 ghost use Rattle.bitm.specs.Tables.{HasSizes};
 ghost use Rattle.bitm_c.specs.Status.{lists_of};
 

@@ -1,5 +1,7 @@
 pub mod BoundsLemmas
+pub mod ClearingLemmas
 pub mod FilledLemmas
 pub mod OnesFromLemmas
+pub mod RankedLemmas
 pub mod SamplingLemmas
 pub mod SelectedLemmas

@@ -1,3 +1,4 @@
+pub mod Ranks
 pub mod Samples
 pub mod Sizes
 pub use Rattle.bit_lists.specs.Bits

@@ -2,15 +2,17 @@
 ghost use Rattle.std.specs.Prelude.{◌≡◌, ◌^◌, ◌↔◌, ◌<◌, ◌≤◌, IsTrue, MatchOption, length, true, false};
 ghost use Rattle.std.specs.Int.{div_ceil};
 ghost use Rattle.bit_lists.specs.Bits.{bits_of, IsShort};
-ghost use Rattle.bit_lists.specs.Count.{kind, IsRank, IsRank0};
+ghost use Rattle.bit_lists.specs.Count.{kind, IsRank};
 ghost use Rattle.bitm_search.specs.Reads.{none_read};
 ghost use Rattle.bitm_search.specs.Tables.{HasSizes, HasTables, bits_in};
 ghost use Rattle.bitm_search.specs.Answers.{HasBit, IsSelected};
+ghost use Rattle.bitm_lent.specs.Ranks.{IsCountWithin, IsRanked};
 ghost use Rattle.bitm_lent.specs.Sizes.{listed};
 
 mod by_samples;
 
 use crate::checking::are_tables;
+use crate::ranked::Ranked;
 use bitm_search::levels::{U64_PER_L1_ENTRY, U64_PER_L2_ENTRY};
 use bitm_search::search::ranking::total_rank_on;
 use bitm_search::search::selected::Selected;
@@ -111,35 +113,59 @@ impl<'a> Lent<'a> {
         are_tables(self.words, self.upper, self.lower)
     }
 
-    /// How many of the first `index` bits are ones, where the tables are those of the words; `None` exactly where
-    /// there are fewer bits, whatever the tables hold.
+    /// How many of the first `index` bits are ones.
+    ///
+    /// Whatever the tables hold, `Absent` is answered exactly where there are fewer bits, and a count is at most `index`.
+    /// Where they are those of the words it is the right one, and `WrongTables` is never answered.
     ///
     /// # Cost
     /// At most one upper entry, one lower entry and eight words are read.
     #[inline(always)]
-    pub fn rank(&self, index: usize) -> Option<usize>
+    pub fn rank(&self, index: usize) -> Ranked
+        ensures inside { IsCountWithin (length (bits_in self.now)) index result }
+        ensures answer { HasTables self.now → IsRanked (bits_in self.now) true index result }
+    {
+        self.rank_kind::<1>(index)
+    }
+
+    /// How many of the first `index` bits are zeros, as `rank`.
+    ///
+    /// # Cost
+    /// As `rank`.
+    #[inline(always)]
+    pub fn rank0(&self, index: usize) -> Ranked
+        ensures inside { IsCountWithin (length (bits_in self.now)) index result }
+        ensures answer { HasTables self.now → IsRanked (bits_in self.now) false index result }
+    {
+        self.rank_kind::<0>(index)
+    }
+
+    /// How many of the first `index` bits are ones; zeros in place of ones where `ONE` is 0.
+    #[inline(always)]
+    pub(crate) fn rank_kind<const ONE: u8>(&self, index: usize) -> Ranked
+        ensures sized { HasSizes self.now }
+        ensures inside { IsCountWithin (length (bits_in self.now)) index result }
+        ensures answer { HasTables self.now → IsRanked (bits_in self.now) (kind ONE) index result }
+    {
+        let Some(ones) = self.told_ones(index) else {
+            return Ranked::Absent;
+        };
+        match index.checked_sub(ones) {
+            Some(zeros) => Ranked::Count(if ONE == 0 { zeros } else { ones }),
+            None => Ranked::WrongTables,
+        }
+    }
+
+    /// How many of the first `index` bits are ones, where the tables are those of the words, else any number; `None`
+    /// exactly where there are fewer bits.
+    #[inline(always)]
+    fn told_ones(&self, index: usize) -> Option<usize>
+        ensures sized { HasSizes self.now }
         ensures inside { MatchOption result (length (bits_in self.now) < index)
             (λ _. index ≤ length (bits_in self.now)) }
         ensures answer { HasTables self.now → IsRank (bits_in self.now) index result }
     {
         total_rank_on(&mut self.probe(), index)
-    }
-
-    /// How many of the first `index` bits are zeros, where the tables are those of the words; `None` exactly where
-    /// there are fewer bits, whatever the tables hold.
-    ///
-    /// # Cost
-    /// At most one upper entry, one lower entry and eight words are read.
-    #[inline(always)]
-    pub fn rank0(&self, index: usize) -> Option<usize>
-        ensures inside { MatchOption result (length (bits_in self.now) < index)
-            (λ _. index ≤ length (bits_in self.now)) }
-        ensures answer { HasTables self.now → IsRank0 (bits_in self.now) index result }
-    {
-        match self.rank(index) {
-            Some(ones) => Some(index.wrapping_sub(ones)),
-            None => None,
-        }
     }
 
     /// The place of the one with exactly `rank` ones before it.

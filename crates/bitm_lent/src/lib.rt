@@ -2,7 +2,8 @@
 //! a condition on what the tables hold.
 //!
 //! With the tables of the words the answers are plain counting. If the tables are stale or hostile, every call still
-//! terminates within its read bound, and any place that it returns is inside and holds the requested bit.
+//! terminates within its read bound, a rank is at most its place, and any place that is returned is inside and holds the
+//! requested bit.
 //!
 //! ```
 //! let (mut upper, mut lower) = ([0], [0; 2]);         // upper_len(40) and lower_len(40) entries
@@ -18,10 +19,12 @@
 #![tactic(auto)]
 
 mod checking;
+mod clearing;
 mod filling;
 mod lent;
 mod lists;
 mod places;
+mod ranked;
 mod sampled;
 mod sampled_lists;
 mod sampled_many;
@@ -31,9 +34,11 @@ mod sampling;
 pub use bitm_search::search::ranking::total_rank_on;
 pub use bitm_search::search::selected::{NO_ANSWER, Selected, WRONG_TABLES};
 pub use bitm_search::search::selecting::total_select_on;
+pub use clearing::{clear, clear_from};
 pub use filling::build;
 pub use lent::{Lent, lower_len, upper_len};
 pub use places::ones_from;
+pub use ranked::Ranked;
 pub use sampled::sampled_select_on;
 pub use sampled_many::sampled_select_many_on;
 pub use samples::{LentSamples, samples_len};

@@ -1,26 +1,24 @@
 //! Answers to lists of queries.
 ghost use Rattle.std.specs.Prelude.{◌≡◌, ◌<◌, ◌↔◌, ℕ, IsTrue, length, slice_index, true, false};
 ghost use Rattle.bit_lists.specs.Count.{kind};
-ghost use Rattle.bitm_search.specs.Answers.{RankTold, SelectTold};
+ghost use Rattle.bitm_search.specs.Answers.{SelectTold};
+ghost use Rattle.bitm_lent.specs.Ranks.{RankTold};
 
 use crate::lent::Lent;
+use crate::ranked::Ranked;
 use bitm_search::search::many::total_select_many_on;
-use bitm_search::search::selected::{NO_ANSWER, told};
+use bitm_search::search::selected::{NO_ANSWER, WRONG_TABLES, told};
 use bitm_search::source::Probe;
 
-/// The rank of one place, or `NO_ANSWER`; of zeros where `ONE` is 0.
+/// The rank of one place, `NO_ANSWER` or `WRONG_TABLES`; of zeros where `ONE` is 0.
 #[inline(always)]
 fn ranked<const ONE: u8>(lent: &Lent<'_>, place: usize) -> usize
     ensures { RankTold (kind ONE) lent.now place result }
 {
-    let found = if ONE == 0 {
-        lent.rank0(place)
-    } else {
-        lent.rank(place)
-    };
-    match found {
-        Some(count) => count,
-        None => NO_ANSWER,
+    match lent.rank_kind::<ONE>(place) {
+        Ranked::Count(count) => count,
+        Ranked::Absent => NO_ANSWER,
+        Ranked::WrongTables => WRONG_TABLES,
     }
 }
 
@@ -61,8 +59,9 @@ fn select_each<const ONE: u8>(lent: &Lent<'_>, ranks: &[usize], out: &mut [usize
 }
 
 impl<'a> Lent<'a> {
-    /// Writes the rank of each place, as `rank` answers it, and `NO_ANSWER` where there are not so many bits; answers
-    /// false exactly where there is not room for as many answers as places, and nothing is written then.
+    /// Writes the rank of each place, as `rank` answers it: `NO_ANSWER` for `Absent` and `WRONG_TABLES` for
+    /// `WrongTables`, and no count is one of these. Answers false exactly where there is not room for as many answers as
+    /// places, and nothing is written then.
     pub fn rank_list(&self, places: &[usize], out: &mut [usize]) -> bool
         ensures room { IsTrue result ↔ length out.old ≡ length places.now }
         ensures told { IsTrue result → (j : ℕ) → j < length places.now → RankTold true self.now

@@ -1,11 +1,25 @@
 //! Samples of tables that may hold anything, written into memory that is lent.
-ghost use Rattle.std.specs.Prelude.{◌≡◌, ℕ, ◌+◌, ◌*◌, ◌^◌, ◌<◌, ◌≤◌, Bool, List, length, slice_index, take};
+ghost use Rattle.std.specs.Prelude.{◌≡◌, ℕ, ◌+◌, ◌*◌, ◌^◌, ◌<◌, ◌≤◌, Bool, List, length, slice_index, slice_set, take};
 ghost use Rattle.bit_lists.specs.Count.{kind};
 ghost use Rattle.bitm.specs.Samples.{IsSized, IsSummaryOf, sample_count_before};
 ghost use Rattle.bitm_lent.specs.Samples.{AreSamples, sample_number};
 ghost use Rattle.bitm_lent.specs.Sizes.{IsFilled};
 
 use bitm::samples::{Summary, items_in, sample_from};
+
+/// Writes the sample at place `at`.
+///
+/// The place is tested once more where it is written: if the tables change meanwhile, as no caller may let them, since
+/// they overlap the samples or another thread writes them, nothing is written outside.
+#[inline(always)]
+fn put(samples: &mut [u32], at: usize, sample: u32)
+    requires { at < length samples.old }
+    ensures { samples.new ≡ slice_set samples.old at sample }
+{
+    if at < samples.len() {
+        samples[at] = sample;
+    }
+}
 
 /// Writes the samples of a part from place `first` on, and answers how many.
 fn fill_samples<const ONE: u8>(
@@ -40,7 +54,7 @@ fn fill_samples<const ONE: u8>(
     for interval in 0..count {
         let item = interval << log2;
         let (sample, next) = sample_from::<ONE>(summary, part, log2, entry, item, items);
-        samples[first + interval] = sample;
+        put(&mut *samples, first + interval, sample);
         entry = next;
     }
     count

@@ -1,38 +1,45 @@
 //! The parts of a sequence, made into memory that is lent.
-ghost use Rattle.std.specs.Prelude.{◌≡◌, ◌%◌, ◌≤◌, ◌↔◌, ℕ, IsErrOf, IfOk, IsErr, SomeIff, length};
-ghost use Rattle.std.specs.Prelude.{replicate, slice_index};
+ghost use Rattle.std.specs.Prelude.{◌≡◌, ◌^◌, ◌<◌, ◌≤◌, ◌↔◌, IsErrOf, IfOk, IsErr, IsTrue, SomeIff, length};
+ghost use Rattle.std.specs.Prelude.{replicate};
 ghost use Rattle.bitm_lent.specs.Sizes.{listed};
-ghost use Rattle.elias_fano.specs.Parts.{width_of};
+ghost use Rattle.std.specs.List.Sorted.{IsNonDecreasing};
+ghost use Rattle.elias_fano.specs.Parts.{width_of, upper_words_of, IsUpper};
 ghost use Rattle.elias_fano.specs.Sequence.{HasFall};
 ghost use Rattle.elias_fano_lent.specs.Held.{held, Holds};
 ghost use Rattle.elias_fano_lent.specs.Sizes.{HasRoom};
 
 use crate::error::BuildError;
 use crate::sizes::Sizes;
-use elias_fano::building::{is_rising, largest_of, write_low, write_upper};
+use bitm::words::set_bit;
+use bitm_lent::clear;
+use elias_fano::building::{is_rising, largest_of, write_low};
 use elias_fano::laws;
 
-/// Makes every second word a zero, from the first or the second on.
-#[inline(always)]
-fn clear_half(words: &mut [u64], first: usize)
-    requires { first ≤ 1 }
-    ensures zeros { (j : ℕ) → j % 2 ≡ first → slice_index words.new j ≡ 0 }
-    ensures kept { (j : ℕ) → slice_index words.old j ≡ 0 → slice_index words.new j ≡ 0 }
+/// Writes a one for each number, after as many zeros as it says without its `width` low digits, where all bits are
+/// zeros. Answers whether each had its place, as each has.
+///
+/// Each number is read once, and its place is tested before it is written: where another thread changes the numbers
+/// meanwhile, as no caller may let it, nothing is written outside.
+///
+/// # Conditions
+/// Those of `write_upper` of `elias_fano`.
+fn write_tested(words: &mut [u64], items: &[u64], width: u8) -> bool
+    requires width { width ≤ 63 }
+    requires rising { IsNonDecreasing items.now }
+    requires short { upper_words_of items.now width < 2 ^ 58 }
+    requires clear { words.old ≡ replicate (upper_words_of items.now width) 0 }
+    ensures upper { IsUpper items.now width words.new }
+    ensures all { IsTrue result }
 {
-    for k in 0..(words.len() / 2 + words.len() % 2) {
-        if 2 * k + first < words.len() {
-            words[2 * k + first] = 0;
+    laws::bit_laws();
+    for i in 0..items.len() {
+        let place = (items[i] >> width) as usize + i;
+        if place / 64 >= words.len() {
+            return false;
         }
+        set_bit(words, place);
     }
-}
-
-/// Makes all words zeros.
-fn clear(words: &mut [u64])
-    ensures { words.new ≡ replicate (length words.old) 0 }
-{
-    // A loop over all words would be compiled to a call of C's `memset`, and the archive for C calls nothing.
-    clear_half(&mut *words, 0);
-    clear_half(words, 1);
+    true
 }
 
 /// How many low digits each of the numbers has, if the parts have the lengths that theirs have.
@@ -93,7 +100,9 @@ pub fn build(
     clear(&mut *low);
     write_low(low, items, width);
     clear(&mut *words);
-    write_upper(&mut *words, items, width);
+    if !write_tested(&mut *words, items, width) {
+        return Err(BuildError::NotSorted);
+    }
     match bitm_lent::build(&*words, upper, lower) {
         Some(_) => Ok(width),
         None => unreachable!(),

@@ -15,6 +15,7 @@
 //! | know what a call reads | `counted` |
 //! | rank and select over tables of one's own | `source` |
 //! | ask tables that came with the words and may be wrong | `lent` |
+//! | index an array of one's own by ranks of such tables | `ranked` |
 //! | ask the parts of a sequence that came from elsewhere and may be wrong | `lent_sequence` |
 //! | select by samples that may be stale | `sampled` |
 //! | select by a strategy of one's own | `strategies` |
@@ -32,6 +33,7 @@ pub mod lent;
 pub mod lent_sequence;
 pub mod many;
 pub mod owned;
+pub mod ranked;
 pub mod readme;
 pub mod sampled;
 pub mod sieve;

@@ -216,7 +216,7 @@ impl<S: SelectionStrategy, S0: SelectionStrategy, BV: Deref<Target = [u64]>> Ran
     for RankSelect101111<S, S0, BV>
 {
     fn try_rank(&self, index: usize) -> Option<usize> {
-        Some(self.lent()?.rank(index)? as usize)
+        Some(self.lent()?.rank(index).unwrap_or(None)? as usize)
     }
 }
 

@@ -101,14 +101,14 @@ impl<'a> Lent<'a> {
         told(status, out)
     }
 
-    /// How many of the first `index` bits are ones; `None` where there are fewer bits.
-    pub fn rank(&self, index: usize) -> Option<u64> {
-        self.ask(bitm_rank, index).unwrap_or(None)
+    /// How many of the first `index` bits are ones, at most `index`; `None` exactly where there are fewer bits.
+    pub fn rank(&self, index: usize) -> Result<Option<u64>, WrongTables> {
+        self.ask(bitm_rank, index)
     }
 
-    /// How many of the first `index` bits are zeros; `None` where there are fewer bits.
-    pub fn rank0(&self, index: usize) -> Option<u64> {
-        self.ask(bitm_rank0, index).unwrap_or(None)
+    /// How many of the first `index` bits are zeros, as `rank`.
+    pub fn rank0(&self, index: usize) -> Result<Option<u64>, WrongTables> {
+        self.ask(bitm_rank0, index)
     }
 
     /// The place of the one with `rank` ones before it.

@@ -17,7 +17,7 @@ fn against_a_loop(words: &[u64], upper: &[u64], lower: &[u64], total: u64) {
     let (mut r1, mut r0) = (0u64, 0u64);
     let mut places = Vec::new();
     for i in 0..words.len() * 64 {
-        assert_eq!((lent.rank(i), lent.rank0(i)), (Some(r1), Some(r0)));
+        assert_eq!((lent.rank(i), lent.rank0(i)), (Ok(Some(r1)), Ok(Some(r0))));
         if words[i / 64] >> (i % 64) & 1 == 1 {
             assert_eq!(lent.select(r1 as usize), Ok(Some(i as u64)));
             places.push(i as u64);
@@ -30,7 +30,7 @@ fn against_a_loop(words: &[u64], upper: &[u64], lower: &[u64], total: u64) {
     let bits = words.len() * 64;
     assert_eq!(
         (r1, lent.rank(bits), lent.rank(bits + 1)),
-        (total, Some(total), None)
+        (total, Ok(Some(total)), Ok(None))
     );
     assert_eq!(
         (lent.select(r1 as usize), lent.select0(r0 as usize)),
@@ -141,6 +141,7 @@ fn all_answers_over_lent_words_are_the_plain_loops() {
             let lent = Lent::over(&words, &upper, &lower).expect("the lengths are right");
             assert!(!lent.check());
             for rank in 0..n * 64 {
+                assert!(lent.rank(rank).map_or(true, |count| count <= Some(rank as u64)));
                 match lent.select(rank) {
                     Ok(Some(place)) => assert!(words[place as usize / 64] >> (place % 64) & 1 == 1),
                     Ok(None) | Err(WrongTables) => {}

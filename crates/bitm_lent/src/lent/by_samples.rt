@@ -92,7 +92,7 @@ impl<'a> Lent<'a> {
         if samples.len() < samples_len(self.words.len(), log2) || starts.len() != self.upper.len() {
             return None;
         }
-        let Some(total) = self.rank(len) else {
+        let Some(total) = self.told_ones(len) else {
             return None;
         };
         let summary = Summary {

@@ -1,6 +1,6 @@
 use Rattle.std.proofs.Common.{ℕ, ◌<◌, slice_index}
 use Rattle.bit_lists.specs.Count.{kind}
-use Rattle.bitm_search.specs.Answers.{RankTold}
+use Rattle.bitm_lent.specs.Ranks.{RankTold}
 use Rattle.bitm_lent.proofs.lists.rank_each.Given as goal
 
 -- the answers so far

@@ -1,5 +1,5 @@
 -- Each interval has its sample, and the walk goes on from the entry that it found.
-use Rattle.std.proofs.Common.{◌≡◌, ◌≢◌, ℕ, ◌+◌, ◌*◌, ◌%◌, ◌^◌, ◌<◌, ◌≤◌, length, sym, ap, ◌∙◌, arith}
+use Rattle.std.proofs.Common.{◌≡◌, ◌≢◌, ℕ, ◌+◌, ◌*◌, ◌%◌, ◌^◌, ◌<◌, ◌≤◌, List, length, slice_index, sym, ap, ◌∙◌, arith}
 use Rattle.std.proofs.lemmas.List.{get_or-set_other}
 use Rattle.std.proofs.lemmas.Nat.{one_shl}
 use Rattle.std.specs.Int.{div_ceil}
@@ -28,9 +28,9 @@ module _ (g : _) (c : After-div_ceil-count g) where
       ∙ ap (div_ceil c.items_in-items.result) (one_shl c.args.log2 64 (omega (arith, c.requires.high)))
       ∙ ap (λ (n : ℕ). div_ceil n (2 ^ c.args.log2)) (c.items_in-items.ensures.items b t)
 
-pub bounds-samples-first : goal.bounds-samples-first
-bounds-samples-first g c =
-    let d = (goal.at.bounds-samples-first g c).After-div_ceil-count in
+pub put-requires : goal.put-requires
+put-requires g c =
+    let d = (goal.at.put-requires g c).After-div_ceil-count in
     omega (arith, room g d, c.loop-interval-test.true, c.loop-interval.auto.interval-end, c.loop-interval.auto.samples)
 
 pub returns-clause-fits : goal.returns-clause-fits
@@ -58,7 +58,7 @@ loop-interval-preserved g c =
     let d = c.args.log2 in
     let n = c.loop-interval.interval in
     let inv = c.loop-interval.invariant in
-    let fits = bounds-samples-first g c in
+    let fits : c.args.first + n < length c.loop-interval.samples = omega (arith, room g a, c.loop-interval-test.true, c.loop-interval.auto.interval-end, c.loop-interval.auto.samples) in
     let below : (b : _) → IsSummaryOf b c.args.summary.now → items_to g.row.ONE b k c.loop-interval.entry ≤ n * 2 ^ d % 2 ^ 64 =
     λ b t. omega (arith, inv.at_most b t, i.1) in
     record {
@@ -70,8 +70,9 @@ loop-interval-preserved g c =
           let here : n < intervals (part_of b k) v d = omega (arith, c.loop-interval-test.true, c.loop-interval.auto.interval-end, many g a b t) in
           let there = sym (sample_at b v d k n inside here) ∙ ap (λ (x : ℕ). sample_number b v d (x + n)) (sym is) in
           let more = filled_more (sample_number b v d) c.loop-interval.samples (c.args.first + n) c.sample_from-sample.result.0 (inv.samples b t is filled) fits (made ∙ there) in
-          λ j h. more j (omega (arith, h));
+          λ j h. ap (λ (xs : List ℕ). slice_index xs j) c.put.ensures ∙ more j (omega (arith, h));
       kept = λ j h.
           let other : j ≢ c.args.first + n = λ x. omega (arith, x, h) in
-          get_or-set_other c.loop-interval.samples (c.args.first + n) j c.sample_from-sample.result.0 0 other ∙ inv.kept j (omega (arith, h));
+          ap (λ (xs : List ℕ). slice_index xs j) c.put.ensures
+          ∙ (get_or-set_other c.loop-interval.samples (c.args.first + n) j c.sample_from-sample.result.0 0 other ∙ inv.kept j (omega (arith, h)));
     }

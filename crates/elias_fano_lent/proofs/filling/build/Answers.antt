@@ -15,20 +15,20 @@ write_low-requires-clause-width c =
     let xs = sequence c.args.items.now c.in-Some.ensures.0.short c.if-not-is_rising.ensures c.type_inv.items in
     omega (arith, width-small c.bit_laws.ensures.digits_bound_powers c.args.items.now xs.small, c.in-Some.ensures.1)
 
-pub write_upper-requires-clause-width : goal.write_upper-requires-clause-width
-write_upper-requires-clause-width c =
+pub write_tested-requires-clause-width : goal.write_tested-requires-clause-width
+write_tested-requires-clause-width c =
     let xs = sequence c.args.items.now c.in-Some.ensures.0.short c.if-not-is_rising.ensures c.type_inv.items in
     omega (arith, width-small c.bit_laws.ensures.digits_bound_powers c.args.items.now xs.small, c.in-Some.ensures.1)
 
-pub write_upper-requires-clause-short : goal.write_upper-requires-clause-short
-write_upper-requires-clause-short c =
+pub write_tested-requires-clause-short : goal.write_tested-requires-clause-short
+write_tested-requires-clause-short c =
     upper-words-few c.bit_laws.ensures.digits_bound_powers c.args.items.now _ _ _ _ c.in-Some.width c.in-Some.ensures.0 c.in-Some.ensures.1
 
 pub unreachable-requires : goal.unreachable-requires
 unreachable-requires c =
     c.in-None.ensures.ones
     (room-sizes c.bit_laws.ensures.digits_bound_powers c.args.items.now _ _ _ _ c.in-Some.width c.in-Some.ensures.0 c.in-Some.ensures.1
-    c.write_upper.new.upper c.write_upper.ensures)
+    c.write_tested.new.words c.write_tested.ensures.upper)
 
 pub returns-clause-parts : goal.returns-clause-parts
 returns-clause-parts c = record {
@@ -37,7 +37,7 @@ returns-clause-parts c = record {
     count = refl;
     width = c.in-Some.ensures.1;
     low_is = c.write_low.ensures;
-    upper_is = c.write_upper.ensures;
+    upper_is = c.write_tested.ensures.upper;
   };
   tables = c.in-Some-build.ensures.tables;
 }

@@ -1,0 +1,251 @@
+/* The statuses, call by call: which one each call returns where it cannot answer, and that all which it could have
+ * written is then as it was. And writes of bits, fragments and ends, against a loop over all bits. */
+#include "common.h"
+
+#include <string.h>
+
+enum { WORDS = 70, UPPERS = 1, LOWERS = 3, LIST = 5, ROOM = 40 };
+
+/* What the calls below may write: each is filled before a call, and looked at after it. */
+static struct {
+    uint64_t one, other, list[LIST], starts[LIST];
+    uint32_t samples[ROOM];
+    struct bitm_sequence_lens lens;
+    struct bitm_header header;
+} written, untouched;
+
+static uint64_t words[WORDS], upper[UPPERS], lower[LOWERS];
+static const uint64_t queries[LIST] = {0, 0, 0, 1, 2}, zeros[LIST] = {0, 0, 0, 0, 0};
+
+/* Whether a call returns this status and leaves everything as it was. */
+#define LEAVES(wanted, call)                                              \
+    do {                                                                  \
+        memset(&written, UNTOUCHED, sizeof written);                      \
+        MUST((call) == (wanted));                                         \
+        MUST(memcmp(&written, &untouched, sizeof written) == 0);          \
+        MUST(strcmp(bitm_status_text(wanted), bitm_status_text(99)) != 0); \
+    } while (0)
+
+/* Every call that takes a view, one by one. */
+static void refused_by_all(const struct bitm_view *view)
+{
+    const struct bitm_samples by = {NULL, 0, written.starts, 1, 7};
+    LEAVES(BITM_BAD_SIZE, bitm_check(view));
+    LEAVES(BITM_BAD_SIZE, bitm_rank(view, 0, &written.one));
+    LEAVES(BITM_BAD_SIZE, bitm_rank0(view, SIZE_MAX, &written.one));
+    LEAVES(BITM_BAD_SIZE, bitm_select(view, 0, &written.one));
+    LEAVES(BITM_BAD_SIZE, bitm_select0(view, SIZE_MAX, &written.one));
+    LEAVES(BITM_BAD_SIZE, bitm_rank_list(view, queries, LIST, written.list, LIST));
+    LEAVES(BITM_BAD_SIZE, bitm_rank0_list(view, queries, LIST, written.list, LIST));
+    LEAVES(BITM_BAD_SIZE, bitm_select_list(view, queries, LIST, written.list, LIST));
+    LEAVES(BITM_BAD_SIZE, bitm_select0_list(view, NULL, 0, NULL, 0));
+    LEAVES(BITM_BAD_SIZE, bitm_build_samples(view, 7, written.samples, ROOM, written.starts, 1, &written.one));
+    LEAVES(BITM_BAD_SIZE, bitm_build_samples0(view, 7, written.samples, ROOM, written.starts, 1, &written.one));
+    LEAVES(BITM_BAD_SIZE, bitm_sampled_select(view, &by, 0, &written.one));
+    LEAVES(BITM_BAD_SIZE, bitm_sampled_select0(view, &by, 0, &written.one));
+    LEAVES(BITM_BAD_SIZE, bitm_sampled_select_list(view, &by, queries, LIST, written.list, LIST));
+    LEAVES(BITM_BAD_SIZE, bitm_sampled_select0_list(view, &by, queries, LIST, written.list, LIST));
+}
+
+/* Lengths that differ by one either way, too many words, and tables of no words. */
+static void wrong_lengths(void)
+{
+    const size_t many = (size_t)1 << 58;
+    const struct bitm_view bad[] = {
+        {words, WORDS, upper, 0, lower, LOWERS},     {words, WORDS, upper, 2, lower, LOWERS},
+        {words, WORDS, upper, UPPERS, lower, 2},     {words, WORDS, upper, UPPERS, lower, 4},
+        {words, 64, upper, UPPERS, lower, LOWERS},   {words, 97, upper, UPPERS, lower, LOWERS},
+        {words, 0, upper, UPPERS, lower, LOWERS},    {NULL, 0, NULL, 0, lower, 1},
+        {words, many, upper, bitm_upper_len(many), lower, bitm_lower_len(many)},
+        {words, SIZE_MAX, upper, bitm_upper_len(SIZE_MAX), lower, bitm_lower_len(SIZE_MAX)},
+    };
+    for (size_t i = 0; i < sizeof bad / sizeof *bad; i++)
+        refused_by_all(&bad[i]);
+    LEAVES(BITM_BAD_SIZE, bitm_build(words, WORDS, written.list, 2, written.starts, LOWERS, &written.one));
+    LEAVES(BITM_BAD_SIZE, bitm_build(words, WORDS, written.list, 1, written.starts, 2, &written.one));
+    LEAVES(BITM_BAD_SIZE, bitm_build(words, many, written.list, bitm_upper_len(many), written.starts,
+                                     bitm_lower_len(many), &written.one));
+    LEAVES(BITM_BAD_SIZE, bitm_count(words, many, &written.one));
+    LEAVES(BITM_BAD_SIZE, bitm_ones(words, many, 0, written.list, LIST, &written.one));
+    LEAVES(BITM_BAD_SIZE, bitm_write_header(many, &written.header));
+    const struct bitm_header other = {1, 2, 3, 4};
+    LEAVES(BITM_WRONG, bitm_read_header(&other, &written.one));
+}
+
+/* One past the end, far past it, and lists without room: of a view that is right. */
+static void none_of_right_tables(const struct bitm_view *view, uint64_t ones)
+{
+    const size_t bits = 64 * WORDS;
+    uint64_t got;
+    MUST(bitm_rank(view, bits, &got) == BITM_OK && got == ones);
+    MUST(bitm_rank0(view, bits, &got) == BITM_OK && got == bits - ones);
+    for (int far = 0; far < 2; far++) {
+        LEAVES(BITM_NONE, bitm_rank(view, far ? SIZE_MAX : bits + 1, &written.one));
+        LEAVES(BITM_NONE, bitm_rank0(view, far ? SIZE_MAX : bits + 1, &written.one));
+        LEAVES(BITM_NONE, bitm_select(view, far ? SIZE_MAX : ones, &written.one));
+        LEAVES(BITM_NONE, bitm_select0(view, far ? SIZE_MAX : bits - ones, &written.one));
+        LEAVES(BITM_NONE, bitm_get_bit(words, WORDS, far ? SIZE_MAX : bits, &written.one));
+        LEAVES(BITM_NONE, bitm_get_bits(words, WORDS, far ? SIZE_MAX : bits - 3, 4, &written.one));
+        LEAVES(BITM_NONE, bitm_get_bits(words, WORDS, 0, far ? UINT32_MAX : 65, &written.one));
+        LEAVES(BITM_NONE, bitm_get_fragment(words, WORDS, far ? SIZE_MAX : bits / 7, 7, &written.one));
+        LEAVES(BITM_NONE, bitm_get_fragment(words, WORDS, 0, far ? UINT32_MAX : 65, &written.one));
+    }
+    LEAVES(BITM_BAD_SIZE, bitm_rank_list(view, queries, LIST, written.list, LIST - 1));
+    LEAVES(BITM_BAD_SIZE, bitm_rank0_list(view, queries, LIST - 1, written.list, LIST));
+    LEAVES(BITM_BAD_SIZE, bitm_select_list(view, queries, LIST, written.list, 0));
+    LEAVES(BITM_BAD_SIZE, bitm_select0_list(view, queries, 0, written.list, 1));
+    const size_t most = bitm_samples_len(WORDS, 7);
+    MUST(most == 35 && most <= ROOM);
+    LEAVES(BITM_BAD_SIZE, bitm_build_samples(view, 7, written.samples, most - 1, written.starts, 1, &written.one));
+    LEAVES(BITM_BAD_SIZE, bitm_build_samples0(view, 7, written.samples, most, written.starts, 2, &written.one));
+    LEAVES(BITM_BAD_SIZE, bitm_build_samples0(view, 7, written.samples, most, written.starts, 0, &written.one));
+    /* one sample, by which the first ones, and zeros, would stand in the last entry */
+    const uint32_t stale[] = {2};
+    const uint64_t start[] = {0};
+    const struct bitm_samples by = {stale, 1, start, 1, 7};
+    LEAVES(BITM_WRONG, bitm_sampled_select(view, &by, 0, &written.one));
+    LEAVES(BITM_WRONG, bitm_sampled_select0(view, &by, 0, &written.one));
+    LEAVES(BITM_BAD_SIZE, bitm_sampled_select_list(view, &by, queries, LIST, written.list, LIST + 1));
+    LEAVES(BITM_BAD_SIZE, bitm_sampled_select0_list(view, &by, queries, LIST, written.list, LIST - 1));
+}
+
+/* A list of zeros: the same query again and again, for ranks and for places. */
+static void lists_of_zeros(const struct bitm_view *view)
+{
+    uint64_t out[LIST], first_one, first_zero;
+    MUST(bitm_select(view, 0, &first_one) == BITM_OK && bitm_select0(view, 0, &first_zero) == BITM_OK);
+    MUST(bitm_rank_list(view, zeros, LIST, out, LIST) == BITM_OK);
+    for (int i = 0; i < LIST; i++) MUST(out[i] == 0);
+    MUST(bitm_rank0_list(view, zeros, LIST, out, LIST) == BITM_OK);
+    for (int i = 0; i < LIST; i++) MUST(out[i] == 0);
+    MUST(bitm_select_list(view, zeros, LIST, out, LIST) == BITM_OK);
+    for (int i = 0; i < LIST; i++) MUST(out[i] == first_one);
+    MUST(bitm_select0_list(view, zeros, LIST, out, LIST) == BITM_OK);
+    for (int i = 0; i < LIST; i++) MUST(out[i] == first_zero);
+}
+
+/* 64 zeros, of which the tables say that two ones stand before them: a rank is at most its index, or they are wrong. */
+static void ranks_of_wrong_tables(void)
+{
+    const uint64_t zero = 0, none = 0, two = 2, most = UINT64_MAX, asked[] = {0, 1, 2, 64, 65};
+    uint64_t got, out[5];
+    struct bitm_view view = {&zero, 1, &none, 1, &two, 1};
+    MUST(bitm_check(&view) == BITM_WRONG && bitm_rank(&view, 0, &got) == BITM_OK && got == 0);
+    LEAVES(BITM_WRONG, bitm_rank(&view, 1, &written.one));
+    LEAVES(BITM_WRONG, bitm_rank0(&view, 1, &written.one));
+    MUST(bitm_rank(&view, 2, &got) == BITM_OK && got == 2 && bitm_rank0(&view, 2, &got) == BITM_OK && got == 0);
+    MUST(bitm_rank_list(&view, asked, 5, out, 5) == BITM_OK && out[0] == 0 && out[1] == BITM_WRONG_TABLES);
+    MUST(out[2] == 2 && out[3] == 2 && out[4] == BITM_NO_ANSWER);
+    MUST(bitm_rank0_list(&view, asked, 5, out, 5) == BITM_OK && out[0] == 0 && out[1] == BITM_WRONG_TABLES);
+    MUST(out[2] == 0 && out[3] == 62 && out[4] == BITM_NO_ANSWER);
+    view.lower = &most;
+    LEAVES(BITM_WRONG, bitm_rank(&view, 64, &written.one));
+    LEAVES(BITM_WRONG, bitm_rank0(&view, 64, &written.one));
+    LEAVES(BITM_NONE, bitm_rank0(&view, 65, &written.one));
+    const uint64_t all[LOWERS] = {UINT64_MAX, UINT64_MAX, UINT64_MAX};
+    view = (struct bitm_view){words, WORDS, upper, UPPERS, all, LOWERS};
+    LEAVES(BITM_WRONG, bitm_select(&view, 0, &written.one));
+    LEAVES(BITM_WRONG, bitm_select0(&view, 0, &written.one));
+    LEAVES(BITM_WRONG, bitm_check(&view));
+}
+
+/* Sequences: lengths, numbers that fall, places past the end, and parts of no sequence. */
+static void sequences(void)
+{
+    const uint64_t rising[] = {2, 3, 5, 7, 11, 13, 24}, falling[] = {2, 3, 5, 7, 13, 11, 24}, far[] = {7, 0, 1, 2, 3};
+    uint64_t low, upper_vector, part, lower_part, width;
+    LEAVES(BITM_BAD_SIZE, bitm_sequence_sizes((size_t)1 << 56, 9, &written.lens));
+    LEAVES(BITM_BAD_SIZE, bitm_sequence_sizes(0, 1, &written.lens));
+#define BUILD(items, n)                                                                                              \
+    bitm_sequence_build(items, 7, written.list, n, written.list + 1, 1, written.list + 2, 1, written.list + 3, 1, \
+                        &written.one)
+    LEAVES(BITM_UNSORTED, BUILD(falling, 1));
+    LEAVES(BITM_BAD_SIZE, BUILD(falling, 0));
+    LEAVES(BITM_BAD_SIZE, BUILD(rising, 0));
+    MUST(bitm_sequence_build(rising, 7, &low, 1, &upper_vector, 1, &part, 1, &lower_part, 1, &width) == BITM_OK);
+    struct bitm_sequence_view view = {7, width, &low, 1, &upper_vector, 1, &part, 1, &lower_part, 1};
+    MUST(bitm_sequence_check(&view) == BITM_OK);
+    LEAVES(BITM_NONE, bitm_sequence_get(&view, 7, &written.one));
+    LEAVES(BITM_NONE, bitm_sequence_get(&view, SIZE_MAX, &written.one));
+    LEAVES(BITM_NONE, bitm_sequence_first_at_least(&view, 25, &written.one));
+    LEAVES(BITM_BAD_SIZE, bitm_sequence_get_list(&view, far, LIST, written.list, LIST - 1, &written.one));
+    LEAVES(BITM_BAD_SIZE, bitm_sequence_first_at_least_list(&view, far, LIST, written.list, LIST - 1));
+    MUST(bitm_sequence_get_list(&view, far, LIST, written.list, LIST, &width) == BITM_OK && width == 0);
+    view.width = 64;
+    LEAVES(BITM_BAD_SIZE, bitm_sequence_check(&view));
+    LEAVES(BITM_BAD_SIZE, bitm_sequence_get(&view, 0, &written.one));
+    LEAVES(BITM_BAD_SIZE, bitm_sequence_first_at_least(&view, 0, &written.one));
+    LEAVES(BITM_BAD_SIZE, bitm_sequence_get_list(&view, far, LIST, written.list, LIST, &written.one));
+    LEAVES(BITM_BAD_SIZE, bitm_sequence_first_at_least_list(&view, far, LIST, written.list, LIST));
+    view.width = 1, upper_vector = 0;
+    LEAVES(BITM_WRONG, bitm_sequence_check(&view));
+    LEAVES(BITM_WRONG, bitm_sequence_get(&view, 3, &written.one));
+}
+
+/* Whether the words are those before, but for the len bits from begin on: these are of the value. */
+static void others_are_kept(const uint64_t *before, uint64_t begin, uint64_t len, uint64_t value)
+{
+    for (uint64_t i = 0; i < 64 * WORDS; i++) {
+        bool inside = i >= begin && i - begin < len;
+        MUST(bit_of(words, i) == (inside ? i - begin < 64 ? value >> (i - begin) & 1 : 0 : bit_of(before, i)));
+    }
+}
+
+static void writes_spoil_nothing_else(void)
+{
+    uint64_t before[WORDS];
+    const uint64_t bits = 64 * WORDS;
+    for (uint64_t turn = 0; turn < 3000; turn++) {
+        for (size_t i = 0; i < WORDS; i++) words[i] = draw();
+        memcpy(before, words, sizeof words);
+        uint64_t value = draw(), at = turn < bits ? turn : draw() % bits;
+        uint32_t len = (uint32_t)(draw() % 65);
+        switch (turn % 4) {
+        case 0:
+            MUST(bitm_set_bit(words, WORDS, at, value & 1) == BITM_OK);
+            others_are_kept(before, at, 1, value);
+            break;
+        case 1:
+            at %= bits - 63;
+            MUST(bitm_set_bits(words, WORDS, at, len, value) == BITM_OK);
+            others_are_kept(before, at, len, value);
+            break;
+        case 2:
+            at %= len ? bits / len : 1;
+            MUST(bitm_set_fragment(words, WORDS, at, len, value) == BITM_OK);
+            others_are_kept(before, at * len, len, value);
+            break;
+        default:
+            at = turn % 8 == 7 ? at / 64 * 64 : at;
+            bitm_clear_from(words, WORDS, at);
+            others_are_kept(before, at, bits, 0);
+        }
+    }
+    memcpy(before, words, sizeof words);
+    bitm_clear_from(words, WORDS, bits), bitm_clear_from(words, WORDS, SIZE_MAX), bitm_clear_from(NULL, 0, 0);
+    MUST(bitm_set_bit(words, WORDS, bits, true) == BITM_NONE);
+    MUST(bitm_set_bit(words, WORDS, SIZE_MAX, true) == BITM_NONE);
+    MUST(bitm_set_bits(words, WORDS, bits - 3, 4, 9) == BITM_NONE);
+    MUST(bitm_set_bits(words, WORDS, 0, 65, 9) == BITM_NONE);
+    MUST(bitm_set_fragment(words, WORDS, bits / 7, 7, 9) == BITM_NONE);
+    MUST(bitm_set_fragment(words, WORDS, 0, 65, 9) == BITM_NONE && memcmp(words, before, sizeof words) == 0);
+}
+
+int main(int argc, char **argv)
+{
+    take_seed(argc, argv);
+    memset(&untouched, UNTOUCHED, sizeof untouched);
+    MUST(bitm_version() == BITM_VERSION_NUMBER);
+    uint64_t ones;
+    for (size_t i = 0; i < WORDS; i++) words[i] = draw() | (uint64_t)1 << 63;
+    MUST(bitm_build(words, WORDS, upper, UPPERS, lower, LOWERS, &ones) == BITM_OK);
+    const struct bitm_view view = {words, WORDS, upper, UPPERS, lower, LOWERS};
+    wrong_lengths();
+    none_of_right_tables(&view, ones);
+    lists_of_zeros(&view);
+    ranks_of_wrong_tables();
+    sequences();
+    writes_spoil_nothing_else();
+    puts("C host: each status is the header's, and leaves what it does not answer as it was");
+    return 0;
+}
