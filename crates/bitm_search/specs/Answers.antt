@@ -1,7 +1,7 @@
 -- What calls over tables that may hold anything answer: of any tables, and of those of the words.
 use Rattle.std.specs.Prelude.{◌≡◌, ⊤, ℕ, ◌+◌, ◌-◌, ◌*◌, ◌^◌, ◌<◌, ◌≤◌, Bool, List, Option, Some, None, length, slice_index}
 use Rattle.bit_lists.specs.Bits.{bits_of, item}
-use Rattle.bit_lists.specs.Count.{ones_before, count_before, count_of, Picks}
+use Rattle.bit_lists.specs.Count.{ones_before, count_of, Picks}
 use Rattle.bitm_search.specs.Search.{sought}
 use Rattle.bitm_search.specs.Tables.{HasTables, Lists, bits_in}
 use Rattle.bitm_search.specs.declared.search.selected.Selected.{Selected}
@@ -43,11 +43,6 @@ abbrev pub IsSelectedFrom : List ℕ → Bool → ℕ → ℕ → Selected → T
 IsSelectedFrom words v k r (Found p) = Picks (bits_of words) v r p
 IsSelectedFrom words v k r Absent = count_of (bits_of words) v ≤ r
 IsSelectedFrom words v k r WrongTables = (k + 8 < length words) × (ones_before (sought v (bits_of words)) (64 * (k + 8)) ≤ r)
-
--- n tells how many of the first i bits are v: the greatest number where there are not so many bits, whatever the tables hold
-pub record RankTold (v : Bool) (lists : Lists) (i n : ℕ) : Type 0 where
-  pub none : length (bits_in lists) < i → n ≡ 2 ^ 64 - 1
-  pub some : i ≤ length (bits_in lists) → HasTables lists → n ≡ count_before (bits_in lists) v i
 
 -- n tells the place with bit v and r such bits before it: below 2^64 - 2 it is a place with bit v, whatever the tables hold, and
 -- it is 2^64 - 1 where they are right and there is none
