@@ -6,7 +6,7 @@ use Rattle.bit_lists.specs.Laws.{OnesAndZeros, OnesAndZerosOfContent, CountsGrow
 use Rattle.bit_lists.specs.Laws.{AtMostOnePicked, OnePickedForEachRank, NonePickedFromTheCountOn, RankOfPicked}
 use Rattle.bit_lists.specs.Laws.{PickedByRank, NextOneIsSelected, PlacesRise, PlacesArePicked, PlacesAreCounted}
 use Rattle.bit_lists.specs.Laws.{AllBitsCome, NoBitsCome, BitsComeFromTheFront, BitsComeFromTheBack, EachBitOnce}
-use Rattle.bit_lists.specs.StretchLaws.{ItemOfStretch, CountInStretch, PickedInStretch, PickedBetween}
+use Rattle.bit_lists.specs.StretchLaws.{ItemOfStretch, CountInStretch, PickedInStretch, PickedBetween, CountIsOfSame}
 use Rattle.bit_lists.specs.StretchLaws.{EqualItemsCount, EqualItemsCountForOne, CountsAgree}
 use Rattle.bit_lists.specs.StretchLaws.{BitsAreJoined, BitIsDigit, ItemAfterWrite}
 use Rattle.bit_lists.specs.WriteLaws.{BitsAreCounted, PlaceIsInside, WordIsItsBits, ZerosHaveNoOnes, ZerosAreCounted}
@@ -22,7 +22,7 @@ use Rattle.bit_lists.proofs.lemmas.ComingLemmas.{bits_coming_all, bits_coming_fi
 use Rattle.bit_lists.proofs.lemmas.ComingLemmas.{bits_coming_none, bits_coming_parts}
 use Rattle.bit_lists.proofs.lemmas.CountLemmas.{count_before-le, count_before-none, count_before_more}
 use Rattle.bit_lists.proofs.lemmas.CountLemmas.{ones_before-add-zeros_before, ones_of-add-zeros_of}
-use Rattle.bit_lists.proofs.lemmas.CutLemmas.{item-stretch, cut_count, cut_pick, rank_between}
+use Rattle.bit_lists.proofs.lemmas.CutLemmas.{item-stretch, cut_count, cut_pick, rank_between, same_items}
 use Rattle.bit_lists.proofs.lemmas.CutLemmas.{run_count, run_count_other, same_count, bits_of-append, written_alone}
 use Rattle.bit_lists.proofs.lemmas.DigitLemmas.{digit_count-power}
 use Rattle.bit_lists.proofs.lemmas.FlipLemmas.{with_flips-with_flips}
@@ -206,6 +206,10 @@ count_in_stretch = cut_count
 pub picked_in_stretch : PickedInStretch
 picked_in_stretch = cut_pick
 
+-- ones and zeros are counted alike: the items that are the same as v
+pub count_is_of_same : CountIsOfSame
+count_is_of_same = same_items
+
 -- a rank between those of two places picks a place between them
 pub picked_between : PickedBetween
 picked_between = rank_between
@@ -236,4 +240,4 @@ item_after_write = written_alone
 
 -- all of them
 pub ruleset laws =
-    (read_after_write, negated_twice, swapped_twice, swapped_with_itself, digits_bound_powers, ones_and_zeros, ones_and_zeros_of_content, counts_grow, count_after_item, none_before_the_first, at_most_one_picked, one_picked_for_each_rank, none_picked_from_the_count_on, rank_of_picked, picked_by_rank, next_one_is_selected, places_rise, places_are_picked, places_are_counted, all_bits_come, no_bits_come, bits_come_from_the_front, bits_come_from_the_back, each_bit_once, bits_are_counted, place_is_inside, word_is_its_bits, zeros_have_no_ones, zeros_are_counted, zeros_are_zero, no_items_are_zero, length_is_kept, one_bit_is_set, item_is_written, item_beside_is_kept, number_beside_is_kept, count_before_is_kept, one_more_is_set, one_more_is_cleared, last_one_is_set, item_of_stretch, count_in_stretch, picked_in_stretch, picked_between, equal_items_count, equal_items_count_for_one, counts_agree, bits_are_joined, bit_is_digit, item_after_write)
+    (read_after_write, negated_twice, swapped_twice, swapped_with_itself, digits_bound_powers, ones_and_zeros, ones_and_zeros_of_content, counts_grow, count_after_item, none_before_the_first, at_most_one_picked, one_picked_for_each_rank, none_picked_from_the_count_on, rank_of_picked, picked_by_rank, next_one_is_selected, places_rise, places_are_picked, places_are_counted, all_bits_come, no_bits_come, bits_come_from_the_front, bits_come_from_the_back, each_bit_once, bits_are_counted, place_is_inside, word_is_its_bits, zeros_have_no_ones, zeros_are_counted, zeros_are_zero, no_items_are_zero, length_is_kept, one_bit_is_set, item_is_written, item_beside_is_kept, number_beside_is_kept, count_before_is_kept, one_more_is_set, one_more_is_cleared, last_one_is_set, item_of_stretch, count_in_stretch, picked_in_stretch, count_is_of_same, picked_between, equal_items_count, equal_items_count_for_one, counts_agree, bits_are_joined, bit_is_digit, item_after_write)

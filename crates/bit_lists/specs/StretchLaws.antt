@@ -1,8 +1,8 @@
 -- What the definitions say of a stretch of items, of two contents one behind the other, of equal items, and of lists that agree.
 -- Each law is the contract of a function of `laws`.
-use Rattle.std.specs.Prelude.{◌≡◌, ◌≢◌, ℕ, ◌+◌, ◌*◌, ◌/◌, ◌%◌, ◌<◌, ◌≤◌, ◌↔◌, Bool, not, List, ◌++◌, length, take, drop, slice_index}
+use Rattle.std.specs.Prelude.{◌≡◌, ◌≢◌, ℕ, ◌+◌, ◌*◌, ◌/◌, ◌%◌, ◌<◌, ◌≤◌, ◌↔◌, Bool, not, List, ◌++◌, length, take, drop, count_by, slice_index}
 use Rattle.bit_lists.specs.Bits.{bits_of, digit, item}
-use Rattle.bit_lists.specs.Count.{count_before, Picks}
+use Rattle.bit_lists.specs.Count.{count_before, is_same, Picks}
 use Rattle.bit_lists.specs.Number.{with_number}
 
 -- the n items from item k on
@@ -24,6 +24,10 @@ abbrev pub PickedInStretch : Type 0
 PickedInStretch =
     (b : List Bool) (v : Bool) (k n r p : ℕ) → k + n ≤ length b → p < n
     → Picks (stretch b k n) v r p ↔ Picks b v (count_before b v k + r) (k + p)
+
+-- ones and zeros are counted alike: the items that are the same as v
+abbrev pub CountIsOfSame : Type 0
+CountIsOfSame = (b : List Bool) (v : Bool) (i : ℕ) → count_before b v i ≡ count_by (is_same v) (take i b)
 
 -- a rank between those of two places picks a place between them
 abbrev pub PickedBetween : Type 0

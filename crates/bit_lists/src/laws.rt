@@ -13,9 +13,9 @@ mod stretches;
 mod writes;
 
 pub use stretches::{
-    bit_is_digit, bits_are_joined, count_in_stretch, counts_agree, equal_items_count,
-    equal_items_count_for_one, item_after_write, item_of_stretch, picked_between,
-    picked_in_stretch,
+    bit_is_digit, bits_are_joined, count_in_stretch, count_is_of_same, counts_agree,
+    equal_items_count, equal_items_count_for_one, item_after_write, item_of_stretch,
+    picked_between, picked_in_stretch,
 };
 pub use writes::{
     bits_are_counted, count_before_is_kept, item_beside_is_kept, item_is_written, last_one_is_set,

@@ -10,6 +10,6 @@ pub use Rattle.bit_lists.proofs.BitLaws.{word_is_its_bits, zeros_have_no_ones, z
 pub use Rattle.bit_lists.proofs.BitLaws.{no_items_are_zero, length_is_kept, one_bit_is_set, item_is_written}
 pub use Rattle.bit_lists.proofs.BitLaws.{item_beside_is_kept, number_beside_is_kept, count_before_is_kept}
 pub use Rattle.bit_lists.proofs.BitLaws.{one_more_is_set, one_more_is_cleared, last_one_is_set, item_of_stretch}
-pub use Rattle.bit_lists.proofs.BitLaws.{count_in_stretch, picked_in_stretch, picked_between, equal_items_count}
+pub use Rattle.bit_lists.proofs.BitLaws.{count_in_stretch, picked_in_stretch, picked_between, count_is_of_same, equal_items_count}
 pub use Rattle.bit_lists.proofs.BitLaws.{equal_items_count_for_one, counts_agree, bits_are_joined, bit_is_digit}
 pub use Rattle.bit_lists.proofs.BitLaws.{item_after_write, laws}

@@ -11,8 +11,8 @@ ghost use Rattle.bitm_search.specs.Tables.{AreTablesOf, IsIndexed, upper_of, low
 mod many;
 
 use crate::queries::{Access, HasBits, Rank, Select, Select0};
-use bitm_bits::{CloneWords, GetSize, words};
-use bitm_search::search::ranking::rank_on;
+use bitm_bits::{CloneWords, GetSize};
+use bitm_search::search::ranking::{bit_on, rank_on};
 use bitm_search::source::Probe;
 use bitm_search::tables::{self, Tables};
 use bitm_strategies::{BinaryRankSearch, Select0ForRank101111, SelectForRank101111};
@@ -224,10 +224,9 @@ impl<S: SelectForRank101111, S0: Select0ForRank101111, BV: AsSlice<u64>> Rank
 
 impl<S: SelectForRank101111, S0: Select0ForRank101111, BV: AsSlice<u64>> Access
     for RankSelect101111<S, S0, BV> {
-    #[tactic(auto, using(bitm_bits::proofs::BitLaws::bits_are_counted))]
     #[inline(always)]
     fn try_get_bit(&self, place: usize) -> Option<bool> {
-        words::try_get_bit(self.content.as_slice(), place)
+        bit_on(&mut self.probe(), place)
     }
 }
 

@@ -1,5 +1,5 @@
 -- Counts and picks in a stretch of items, in runs of equal ones, and in lists that agree; the bits of joined contents.
-use Rattle.std.proofs.Common.{◌≡◌, ◌≢◌, ℕ, zero, suc, ◌+◌, ◌-◌, ◌*◌, ◌/◌, ◌%◌, ◌<◌, ◌≤◌, ◌↔◌, Bool, true, false, not, List, [], ◌∷◌, ◌++◌, length, take, drop, refl, sym, ap, ◌∙◌, ⊎_elim, arith, length-take, length-drop, length-append, append_assoc, inl, inr}
+use Rattle.std.proofs.Common.{◌≡◌, ◌≢◌, ℕ, zero, suc, ◌+◌, ◌-◌, ◌*◌, ◌/◌, ◌%◌, ◌<◌, ◌≤◌, ◌↔◌, Bool, true, false, not, List, [], ◌∷◌, ◌++◌, length, take, drop, count_by, refl, sym, ap, ◌∙◌, ⊎_elim, arith, length-take, length-drop, length-append, append_assoc, inl, inr}
 use Rattle.std.proofs.lemmas.Bool.{cases_lt}
 use Rattle.std.proofs.lemmas.List.{get_or-take, get_or-drop}
 use Rattle.bit_lists.proofs.lemmas.BesideLemmas.{item-with_number_beside}
@@ -9,7 +9,7 @@ use Rattle.bit_lists.proofs.lemmas.NumberLemmas.{item-with_number_inside}
 use Rattle.bit_lists.proofs.lemmas.PickLemmas.{from-Picks}
 use Rattle.bit_lists.proofs.lemmas.WordLemmas.{truth}
 use Rattle.bit_lists.specs.Bits.{bits_of, digit, item, low_digits}
-use Rattle.bit_lists.specs.Count.{count_before, is_same, Picks}
+use Rattle.bit_lists.specs.Count.{ones_before, zeros_before, count_before, is_same, Picks}
 use Rattle.bit_lists.specs.Number.{with_number}
 use Rattle.bit_lists.specs.StretchLaws.{stretch}
 
@@ -63,6 +63,11 @@ cut_pick b v k n r p within inside =
         before = omega (arith, count, there.before);
       },
     )
+
+pub same_items : (b : List Bool) (v : Bool) (i : ℕ) → count_before b v i ≡ count_by (is_same v) (take i b)
+unfolding ones_before zeros_before
+same_items b true i = refl
+same_items b false i = refl
 
 pub rank_between : (b : List Bool) (v : Bool) (from to r p : ℕ) → count_before b v from ≤ r → r < count_before b v to → Picks b v r p
     → (from ≤ p) × (p < to)

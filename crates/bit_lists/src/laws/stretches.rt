@@ -1,7 +1,7 @@
 //! Laws of a stretch of items, of equal items, of lists that agree, and of single bits.
 ghost use Rattle.bit_lists.specs.StretchLaws.{ItemOfStretch, CountInStretch, PickedInStretch, PickedBetween};
 ghost use Rattle.bit_lists.specs.StretchLaws.{EqualItemsCount, EqualItemsCountForOne, CountsAgree};
-ghost use Rattle.bit_lists.specs.StretchLaws.{BitsAreJoined, BitIsDigit, ItemAfterWrite};
+ghost use Rattle.bit_lists.specs.StretchLaws.{BitsAreJoined, BitIsDigit, CountIsOfSame, ItemAfterWrite};
 
 /// Item `i` of the items from item `k` on is item `k + i` of all.
 #[tactic(auto, using(crate::proofs::BitLaws::item_of_stretch))]
@@ -18,6 +18,12 @@ pub fn count_in_stretch()
 /// A place is picked in a stretch exactly where it is picked in all, by its rank and those before the stretch.
 pub fn picked_in_stretch()
     ensures { PickedInStretch }
+{}
+
+/// Ones and zeros are counted alike: the items that are the same as one.
+#[tactic(auto, using(crate::proofs::BitLaws::count_is_of_same))]
+pub fn count_is_of_same()
+    ensures { CountIsOfSame }
 {}
 
 /// A rank between those of two places picks a place between them.

@@ -1,6 +1,6 @@
 //! Rank over a source, with a bound on its reads.
-ghost use Rattle.std.specs.Prelude.{◌≡◌, ◌+◌, ◌*◌, ◌^◌, ◌<◌, ◌≤◌, length, count_ones, MatchOption};
-ghost use Rattle.bit_lists.specs.Bits.{bits_of, IsShort};
+ghost use Rattle.std.specs.Prelude.{◌≡◌, ◌+◌, ◌*◌, ◌^◌, ◌<◌, ◌≤◌, length, count_ones, MatchOption, SomeIff};
+ghost use Rattle.bit_lists.specs.Bits.{bits_of, item, IsShort};
 ghost use Rattle.bit_lists.specs.Count.{ones_before, IsRank};
 ghost use Rattle.bitm_search.specs.Reads.{OnlyReads, ReadsAtMost};
 ghost use Rattle.bitm_search.specs.Tables.{HasSizes, HasTables, IsIndexed, bits_in};
@@ -124,6 +124,23 @@ pub fn ones_to_part<T: TableSource>(source: &mut T, part: usize) -> usize
     } else {
         source.upper(part)
     }
+}
+
+/// The bit at `place` of the source's words; `None` exactly where the place is past the end, whatever the tables hold.
+///
+/// # Cost
+/// At most one word is read.
+#[tactic(auto, using(bit_lists::proofs::BitLaws::bits_are_counted, bit_lists::proofs::lemmas::BitsLemmas::item_tested))]
+#[inline(always)]
+pub fn bit_on<T: TableSource>(source: &mut T, place: usize) -> Option<bool>
+    ensures answer { SomeIff result (place < length (bits_in (T.lists source.old)))
+        (item (bits_in (T.lists source.old)) place) }
+    ensures reads { OnlyReads T.lists T.reads source.old source.new 0 0 1 }
+{
+    if place / 64 >= source.words_len() {
+        return None;
+    }
+    Some(source.word(place / 64) & (1u64 << (place % 64)) != 0)
 }
 
 /// How many of the first `index` bits of the source's words are ones; `None` exactly where there are fewer bits.
