@@ -1,29 +1,11 @@
 -- Reads of one selection or of two, and how many selections a number of digits allows.
-use Rattle.std.proofs.Common.{◌≡◌, ℕ, ◌*◌, ◌/◌, ◌<◌, ◌≤◌, arith}
+use Rattle.std.proofs.Common.{ℕ, ◌*◌, ◌/◌, ◌<◌, ◌≤◌, arith}
 use Rattle.std.proofs.Math.Nat.{mul-le-mul_right}
 use Rattle.bitm.specs.Reads.{ReadsAtMost}
 use Rattle.bitm.specs.ReadCounts.{ReadCounts}
 use Rattle.bitm.specs.Bits.{digit_count}
 use Rattle.bitm.specs.Laws.{DigitsBoundPowers}
 use Rattle.elias_fano.proofs.lemmas.SizeLemmas.{digit_count-half}
-
--- one selection is no more than two
-pub one-selection : (early late : ReadCounts) (uppers : ℕ) → ReadsAtMost early late uppers 23 8
-    → ReadsAtMost early late (2 * uppers) (2 * 23) (2 * 8)
-one-selection early late uppers reads = record {
-  upper = omega (arith, reads.upper);
-  lower = omega (arith, reads.lower);
-  words = omega (arith, reads.words);
-}
-
--- one after another
-pub two-selections : (early now late : ReadCounts) (uppers selection : ℕ) → ReadsAtMost early now uppers 23 8
-    → ReadsAtMost now late selection 23 8 → selection ≡ uppers → ReadsAtMost early late (2 * uppers) (2 * 23) (2 * 8)
-two-selections early now late uppers selection first second same = record {
-  upper = omega (arith, first.upper, second.upper);
-  lower = omega (arith, first.lower, second.lower);
-  words = omega (arith, first.words, second.words);
-}
 
 module _ (digits : DigitsBoundPowers) where
   pub digits-some : (n : ℕ) → 0 < n → 1 ≤ digit_count n

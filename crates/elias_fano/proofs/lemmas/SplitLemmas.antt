@@ -1,5 +1,5 @@
 -- The search among the low digits of items with the same upper digits.
-use Rattle.std.proofs.Common.{◌≡◌, ℕ, ◌+◌, ◌-◌, ◌*◌, ◌/◌, ◌^◌, ◌<◌, ◌≤◌, List, length, ⊎_elim, arith}
+use Rattle.std.proofs.Common.{◌≡◌, ℕ, ◌+◌, ◌-◌, ◌*◌, ◌^◌, ◌<◌, ◌≤◌, List, length, ⊎_elim, arith}
 use Rattle.std.proofs.Math.Nat.{mul-le-mul_right, mul-le-mul_left}
 use Rattle.std.proofs.lemmas.Bool.{cases_eq}
 use Rattle.bitm.specs.Number.{IsFragmentInRange}
@@ -20,23 +20,23 @@ Parting-whole lows first end rest order = record {
   at_least = λ j from before. absurd (omega arith);
 }
 
--- one test more: the half that is left
+-- one test more, of any place among those that are left
 module _ (lows : ℕ → ℕ) (first end rest from left : ℕ) (rising : (i j : ℕ) → first ≤ i → i ≤ j → j < end → lows i ≤ lows j)
-    (h : Parting lows first end rest from left) (some : 0 < left) where
-  pub Parting-up : lows (from + left / 2) < rest → Parting lows first end rest (from + (left / 2 + 1)) (left - (left / 2 + 1))
+    (h : Parting lows first end rest from left) (tested : ℕ) (inside : tested < left) where
+  pub Parting-up : lows (from + tested) < rest → Parting lows first end rest (from + (tested + 1)) (left - (tested + 1))
   Parting-up below = record {
     begin = omega (arith, h.begin);
     bound = omega (arith, h.bound);
-    less = λ j at before. omega (arith, below, rising j (from + left / 2) at (omega arith) (omega (arith, h.bound)));
+    less = λ j at before. omega (arith, below, rising j (from + tested) at (omega arith) (omega (arith, h.bound)));
     at_least = λ j at before. h.at_least j (omega arith) before;
   }
 
-  pub Parting-down : rest ≤ lows (from + left / 2) → Parting lows first end rest from (left / 2)
+  pub Parting-down : rest ≤ lows (from + tested) → Parting lows first end rest from tested
   Parting-down reaches = record {
     begin = h.begin;
     bound = omega (arith, h.bound);
     less = h.less;
-    at_least = λ j at before. omega (arith, reaches, rising (from + left / 2) j (omega (arith, h.begin)) at before);
+    at_least = λ j at before. omega (arith, reaches, rising (from + tested) j (omega (arith, h.begin)) at before);
   }
 
 -- where nothing is left, the place is found

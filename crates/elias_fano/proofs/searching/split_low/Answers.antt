@@ -21,14 +21,14 @@ loop-left-preserved-then-fragment-rest c =
     let i = c.loop-left.invariant in
     let left = c.loop-left.left in
     let digits = c.bit_laws.ensures.digits_bound_powers in
-    let here = fragment-same c.args.low.now c.loop-left.low (c.loop-left.from + left / 2) i.words i.width in
+    let item = c.fragment.ensures.item ∙ fragment-same c.args.low.now c.loop-left.low _ i.words i.width in
     let order : left - (left / 2 + 1) ≤ left / 2 = omega arith in
     record {
       begin = omega (arith, i.begin);
       bound = omega (arith, i.bound, c.loop-left-test.true);
       parts = λ rise.
-          Parting-up _ _ _ _ _ _ rise (i.parts rise) c.loop-left-test.true
-          (omega (arith, here, c.fragment.ensures.item, c.if-fragment-rest.true));
+          Parting-up _ _ _ _ _ _ rise (i.parts rise) _ (omega (arith, c.loop-left-test.true))
+          (omega (arith, item, c.if-fragment-rest.true));
       words = ap (λ (low : Lows). low.words) c.fragment.ensures.counted ∙ i.words;
       width = ap (λ (low : Lows). low.width) c.fragment.ensures.counted ∙ i.width;
       read = omega (
@@ -44,13 +44,13 @@ pub loop-left-preserved : goal.loop-left-preserved
 loop-left-preserved c =
     let i = c.loop-left.invariant in
     let left = c.loop-left.left in
-    let here = fragment-same c.args.low.now c.loop-left.low (c.loop-left.from + left / 2) i.words i.width in
+    let item = c.fragment.ensures.item ∙ fragment-same c.args.low.now c.loop-left.low _ i.words i.width in
     record {
       begin = i.begin;
       bound = omega (arith, i.bound);
       parts = λ rise.
-          Parting-down _ _ _ _ _ _ rise (i.parts rise) c.loop-left-test.true
-          (omega (arith, here, c.fragment.ensures.item, c.if-fragment-rest.false));
+          Parting-down _ _ _ _ _ _ rise (i.parts rise) _ (omega (arith, c.loop-left-test.true))
+          (omega (arith, item, c.if-fragment-rest.false));
       words = ap (λ (low : Lows). low.words) c.fragment.ensures.counted ∙ i.words;
       width = ap (λ (low : Lows). low.width) c.fragment.ensures.counted ∙ i.width;
       read = omega (
