@@ -7,6 +7,8 @@ from typing import Any, Iterable, Optional, Tuple
 _WRITABLE, _SIMPLE = 1, 0
 # Formats of numbers without a sign in this machine's order. 'L' has 8 bytes where a C long has.
 _FORMATS = {8: ("Q", "@Q", "=Q", "<Q", "L", "@L", "N", "@N"), 4: ("I", "@I", "=I", "<I", "L", "@L")}
+# Numbers with a sign, NumPy's int64 among them: taken where none is below 0.
+_SIGNED = ("q", "@q", "l", "@l", "n", "@n")
 
 
 class WrongTables(Exception):
@@ -85,10 +87,16 @@ def is_buffer(value: Any) -> bool:
 
 
 def numbers_of(values: Any) -> Any:
-    """A buffer of numbers of 64 bits: the caller's own where it is one, else a copy of what it gives."""
-    if is_buffer(values):
-        return values
-    return array.array("Q", (number(it) for it in values))
+    """A buffer of numbers of 64 bits: the caller's own where it is one, else a copy of what it gives. OverflowError where
+    a number is below 0."""
+    if not is_buffer(values):
+        return array.array("Q", (number(it) for it in values))
+    with memoryview(values) as view:
+        if view.itemsize != 8 or view.format not in _SIGNED or view.ndim != 1 or not view.c_contiguous:
+            return values
+        if len(view):
+            number(values.min() if type(values).__module__ == "numpy" else min(view))
+    return memoryview(values).cast("B").cast("Q")
 
 
 def words_of(buffer: Any) -> Tuple[Any, int]:

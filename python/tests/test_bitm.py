@@ -151,9 +151,9 @@ class Arguments(unittest.TestCase):
                     call(value)
 
     def test_buffers_of_other_items_are_type_errors(self):
-        others = [array.array(code, [1, 2]) for code in "iIhHfdq"]
+        others = [array.array(code, [1, 2]) for code in "iIhHfd"]
         if numpy is not None:
-            kinds = ["int32", "int64", "uint32", "float64", "bool", ">u8"]
+            kinds = ["int32", "uint32", "float64", "bool", ">u8"]
             others += [numpy.array([1, 0], dtype=kind) for kind in kinds]
             others += [numpy.ones((2, 2), dtype="uint64"), numpy.ones(8, dtype="uint64")[::2]]
         for buffer in others:
@@ -163,6 +163,24 @@ class Arguments(unittest.TestCase):
             if memoryview(buffer).itemsize != 1:
                 with self.subTest(buffer=buffer), self.assertRaises(TypeError):
                     Index(buffer)
+
+    def test_numbers_with_a_sign_are_taken_where_none_is_below_0(self):
+        arrays = [array.array("q", [1, 3]), array.array("q")]
+        below = [array.array("q", [2, -1])]
+        if numpy is not None:
+            arrays += [numpy.array([1, 3]), numpy.array([], dtype="int64")]
+            below += [numpy.array([2, -1])]
+        for places in arrays:
+            with self.subTest(places=places):
+                self.assertEqual(list(self.index.rank_list(places)), [1, 2][: len(places)])
+                self.assertEqual(list(self.sequence.get_list(places)), [3, 7][: len(places)])
+                self.assertEqual(list(EliasFano(places)), list(places))
+                with self.assertRaises(TypeError):
+                    Index(places)
+        for places in below:
+            for call in (self.index.rank_list, self.index.select_list, self.sequence.get_list, EliasFano):
+                with self.subTest(call=call, places=places), self.assertRaises(OverflowError):
+                    call(places)
 
     def test_buffers_that_overlap_cannot_be_written(self):
         words, room = array.array("Q", [5]), array.array("Q", [0])
@@ -303,7 +321,7 @@ class Habits(unittest.TestCase):
         index = Index(words)
         ranks = index.rank_list(numpy.arange(193, dtype=numpy.uint64))
         self.assertEqual((ranks.dtype, int(ranks[192]), int(ranks[3])), (numpy.uint64, 4, 2))
-        places = index.select_list(numpy.arange(6, dtype=numpy.uint64))
+        places = index.select_list(numpy.arange(6))
         self.assertEqual((places.mask.tolist(), places.compressed().tolist()), ([False] * 4 + [True] * 2, [0, 1, 3, 191]))
         numbers = numpy.sort(numpy.random.default_rng(3).integers(0, 2**60, 500, dtype=numpy.uint64))
         sequence = EliasFano(numbers)
