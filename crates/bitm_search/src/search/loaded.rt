@@ -27,10 +27,10 @@ pub struct InRecord {
     pub word: u64,
 }
 
-/// What stands in a block before its records are found.
+/// What stands in a block before its records are found. Its numbers differ, as those of `NO_QUERY`.
 const NO_RECORD: InRecord = InRecord {
     rest: 0,
-    first: 0,
+    first: 1,
     word: 0,
 };
 

@@ -35,8 +35,9 @@ pub struct Query {
     pub entry: usize,
 }
 
-/// What stands in a block before its queries begin.
-pub(crate) const NO_QUERY: Query = Query { rest: 0, entry: 0 };
+/// What stands in a block before its queries begin. Its numbers differ: a block of zeros would be made by `memset`, which
+/// the archive for C does not have.
+pub(crate) const NO_QUERY: Query = Query { rest: 0, entry: 1 };
 
 /// A query whose entry is sought in all of the last part with no more than `rank` of the kind before it, where the
 /// tables are those of the words; else in some part.
@@ -287,6 +288,19 @@ fn halve_all<const ONE: u8, T: TableSource>(source: &mut T, ranks: &[usize], que
     }
 }
 
+/// Makes the queries those that were begun, number by number: a copy of whole queries would be made by `memcpy`, which
+/// the archive for C does not have.
+#[inline(always)]
+fn copy_each(begun: &[Query], queries: &mut [Query])
+    requires { length begun.now ≡ length queries.old }
+    ensures { queries.new ≡ begun.now }
+{
+    for k in 0..begun.len() {
+        let Query { rest, entry } = begun[k];
+        queries[k] = Query { rest, entry };
+    }
+}
+
 /// Finds the entry of each rank, sixteen searches at once: near a guess where there are neither few entries nor many and
 /// every guess is right, else by halves of all.
 ///
@@ -319,6 +333,6 @@ pub fn find_by_halves<const ONE: u8, T: TableSource>(
         close_each::<ONE, T>(source, ranks, queries);
         return;
     }
-    queries.copy_from_slice(&begun);
+    copy_each(&begun, queries);
     halve_all::<ONE, T>(source, ranks, queries);
 }
