@@ -21,10 +21,10 @@ pub mod samples;
 mod simple;
 
 pub use bitm_bits::{
-    BitAccess, BitAccessMut, BitBIterator, BitIterator, BitOnesIterator, BitVec, BitZerosIterator,
-    CloneWords, GetSize, bits_to_store, ceiling_div, get_bits25, get_bits57, init_bits25,
-    init_bits57, laws, n_lowest_bits, n_lowest_bits_0_64, n_lowest_bits_1_64, set_bits25,
-    set_bits57, words,
+    BitAccess, BitAccessMut, BitBIterator, BitIterator, BitOnesIterator, BitVec, BitWriter,
+    BitZerosIterator, CloneWords, GetSize, bits_to_store, ceiling_div, get_bits25, get_bits57,
+    init_bits25, init_bits57, laws, n_lowest_bits, n_lowest_bits_0_64, n_lowest_bits_1_64,
+    set_bits25, set_bits57, words,
 };
 pub use bitm_search::entry::complement_entry;
 pub use bitm_search::levels::{

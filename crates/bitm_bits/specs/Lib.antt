@@ -1,3 +1,4 @@
+pub mod Appending
 pub mod Lending
 pub mod Size
 pub use Rattle.bit_lists.specs.Bits

@@ -15,6 +15,7 @@
 
 mod access;
 mod access_mut;
+mod appending;
 mod clone_words;
 mod lent;
 mod making;
@@ -22,6 +23,7 @@ mod size;
 
 pub use access::BitAccess;
 pub use access_mut::BitAccessMut;
+pub use appending::BitWriter;
 pub use bit_lists::laws;
 pub use bit_words::{
     BitBIterator, BitIterator, BitOnesIterator, BitZerosIterator, bits_to_store, ceiling_div,

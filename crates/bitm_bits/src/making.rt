@@ -97,6 +97,20 @@ impl<A: Allocator> BitVec for BoxedSlice<u64, A> {
 
     #[inline]
     fn with_bitwords(alloc: A, word: u64, s: u8, n: usize) -> Result<Self, AllocError> {
+        Ok(Vec::with_bitwords(alloc, word, s, n)?.into_boxed_slice())
+    }
+}
+
+impl<A: Allocator> BitVec for Vec<u64, A> {
+    type Alloc = A;
+
+    #[inline]
+    fn with_64bit_segments(alloc: A, value: u64, n: usize) -> Result<Self, AllocError> {
+        vec![in alloc; value; n]
+    }
+
+    #[inline]
+    fn with_bitwords(alloc: A, word: u64, s: u8, n: usize) -> Result<Self, AllocError> {
         let mut made = Self::with_zeroed_bits(alloc, n * s as usize)?;
         init_fragments(made.as_mut_slice(), word, s, n);
         Ok(made)

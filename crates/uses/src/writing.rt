@@ -1,13 +1,14 @@
-//! Bits that are written and then read: in an array, a boxed slice and a vector.
+//! Bits that are written and then read: in an array, a boxed slice, a vector and a slice; and contents that grow.
 //!
 //! The functions of `words` take a slice, so a caller knows what its owner holds afterwards.
 ghost use Rattle.std.specs.Prelude.{◌≡◌, ◌+◌, ◌*◌, ◌^◌, ◌<◌, ◌≤◌, length, true, false, vec_len};
+ghost use Rattle.std.specs.Prelude.{◌∷◌, ◌++◌, IfOk, IfErr};
 ghost use Rattle.std.specs.Box.{boxed_slice_items};
-ghost use Rattle.bitm.specs.Bits.{bits_of, item};
+ghost use Rattle.bitm.specs.Bits.{bits_of, item, low_digits};
 ghost use Rattle.bitm.specs.Number.{with_number};
 
-use bitm::words;
-use std::alloc::Global;
+use bitm::{BitWriter, words};
+use std::alloc::{AllocError, Global};
 use std::boxed::BoxedSlice;
 
 /// In an array: the bit that was set is one.
@@ -32,9 +33,8 @@ pub fn in_a_boxed_slice(boxed: &mut BoxedSlice<u64, Global>, number: u64) -> u64
     ensures owner { bits_of (boxed_slice_items boxed.new)
         ≡ with_number (bits_of (boxed_slice_items boxed.old)) 60 10 number }
 {
-    let slice = boxed.as_mut_slice();
-    words::set_bits(slice, 60, number, 10);
-    words::get_bits(slice, 60, 10)
+    words::set_bits(boxed.as_mut_slice(), 60, number, 10);
+    words::get_bits(boxed.as_slice(), 60, 10)
 }
 
 /// In a vector: a bit before the one that was cleared is as it was.
@@ -49,7 +49,57 @@ pub fn in_a_vector(vector: &mut Vec<u64>, cleared: usize, other: usize) -> bool
     ensures owner { bits_of vector.new.items
         ≡ with_number (bits_of vector.old.items) cleared 1 0 }
 {
-    let slice = vector.as_mut_slice();
-    words::clear_bit(slice, cleared);
-    words::get_bit(slice, other)
+    words::clear_bit(vector.as_mut_slice(), cleared);
+    words::get_bit(vector.as_slice(), other)
+}
+
+/// In a slice: two bits are set, one after the other.
+///
+/// # Conditions
+/// There are two words.
+pub fn in_a_slice(slice: &mut [u64])
+    requires { 2 ≤ length slice.old }
+    ensures { bits_of slice.new
+        ≡ with_number (with_number (bits_of slice.old) 0 1 1) 127 1 1 }
+{
+    words::set_bit(slice, 0);
+    words::set_bit(slice, 127);
+}
+
+/// A vector that is lent once for both writes: it holds what they made.
+///
+/// # Conditions
+/// There are two words.
+pub fn lent_once(vector: &mut Vec<u64>)
+    requires { 2 ≤ vec_len vector.old }
+    ensures { bits_of vector.new.items
+        ≡ with_number (with_number (bits_of vector.old.items) 0 1 1) 127 1 1 }
+{
+    in_a_slice(vector.as_mut_slice());
+}
+
+/// Appends words to a vector: its bits are those that were there, and then those of the words.
+///
+/// # Errors
+/// `AllocError` where memory was refused; the vector is as it was.
+#[tactic(auto, using(bitm::proofs::BitLaws::bits_are_joined))]
+pub fn append(words: &mut Vec<u64>, more: &[u64]) -> Result<(), AllocError>
+    ensures ok { IfOk result (λ _. bits_of words.new.items
+        ≡ bits_of words.old.items ++ bits_of more.now) }
+    ensures err { IfErr result (λ _. words.new.items ≡ words.old.items) }
+{
+    words.extend_from_slice(more)
+}
+
+/// A content that is written piece by piece: a one, and then the ten lowest digits of a number.
+///
+/// # Errors
+/// `AllocError` where memory was refused.
+pub fn by_pieces(alloc: Global, number: u64) -> Result<BitWriter, AllocError>
+    ensures { IfOk result (λ made. made ≡ true ∷ low_digits 10 number) }
+{
+    let mut writer = BitWriter::new(alloc);
+    writer.push_bit(true)?;
+    writer.push_bits(number, 10)?;
+    Ok(writer)
 }
