@@ -1,5 +1,6 @@
 //! The samples that are kept: worked out by hand, and as one walk over the bits finds them. `replay_original` compares
 //! them with those of the original crate.
+use crate::expect::words_of;
 use bitm::{
     AdaptiveCombinedSamplingDensity, BitAccess, CombinedSampling, CombinedSamplingDensity,
     ConstCombinedSamplingDensity, RankSelect101111,
@@ -21,17 +22,6 @@ fn indexed<'a, D: CombinedSamplingDensity>(
         Ok((index, _)) => index,
         Err(_) => panic!(rt; "no memory"),
     }
-}
-
-/// The words of runs.
-fn words_of(alloc: Global, runs: &[(u64, usize)]) -> Result<Vec<u64>, AllocError> {
-    let mut words = Vec::new(alloc);
-    for (word, count) in runs {
-        for _ in 0..*count {
-            words.push(*word)?;
-        }
-    }
-    Ok(words)
 }
 
 /// 96001 words, of which the first and the last are full and the others empty.
