@@ -4,7 +4,10 @@
 ghost use Rattle.std.specs.Prelude.{◌<◌};
 
 use crate::expect::{Sampled, indexed};
-use bitm::{BinaryRankSearch, binary_select_on, rank_on};
+use bitm::{
+    BinaryRankSearch, RankSelect101111, Select0ForRank101111, SelectForRank101111,
+    binary_select_on, rank_on,
+};
 use std::process::Abort;
 use uses::counted::{rank_with_reads, select_with_reads};
 
@@ -81,27 +84,28 @@ fn counted_selection_by_samples_gives_the_places(rt: HostRuntime) {
     expect_zeros(&rt, |rank| zeros.select0_counted(&mut index.probe(), rank));
 }
 
+/// Compares binary search over an index's probe, for ones and for zeros, with the places worked out.
+fn expect_over_probe<S: SelectForRank101111, S0: Select0ForRank101111>(
+    rt: &impl Abort,
+    index: &RankSelect101111<S, S0, &[u64]>,
+) {
+    expect_ones(
+        rt,
+        |rank| binary_select_on::<1, _>(&mut index.probe(), rank),
+    );
+    expect_zeros(
+        rt,
+        |rank| binary_select_on::<0, _>(&mut index.probe(), rank),
+    );
+}
+
 #[test]
 fn binary_search_over_the_probe_of_sampled_ones_or_zeros_gives_the_places(rt: HostRuntime) {
     let words = WORDS;
     let (index, _) = indexed::<Sampled, BinaryRankSearch>(&rt, rt.alloc(), words.as_slice());
-    expect_ones(
-        &rt,
-        |rank| binary_select_on::<1, _>(&mut index.probe(), rank),
-    );
-    expect_zeros(
-        &rt,
-        |rank| binary_select_on::<0, _>(&mut index.probe(), rank),
-    );
+    expect_over_probe(&rt, &index);
     let (index, _) = indexed::<BinaryRankSearch, Sampled>(&rt, rt.alloc(), words.as_slice());
-    expect_ones(
-        &rt,
-        |rank| binary_select_on::<1, _>(&mut index.probe(), rank),
-    );
-    expect_zeros(
-        &rt,
-        |rank| binary_select_on::<0, _>(&mut index.probe(), rank),
-    );
+    expect_over_probe(&rt, &index);
 }
 
 /// Places in a word, each with the ones before it.

@@ -45,13 +45,24 @@ fn walk(rt: &impl Abort, alloc: Global, words: &[u64]) -> Result<Found, AllocErr
     Ok(found)
 }
 
+/// The words of runs.
+pub fn words_of(alloc: Global, runs: &[(u64, usize)]) -> Result<Vec<u64>, AllocError> {
+    let mut words = Vec::new(alloc);
+    for (word, count) in runs {
+        for _ in 0..*count {
+            words.push(*word)?;
+        }
+    }
+    Ok(words)
+}
+
 /// An index over the words, which are lent, and the number of ones.
 pub fn indexed<'a, S: SelectForRank101111, S0: Select0ForRank101111>(
     rt: &impl Abort,
     alloc: Global,
     words: &'a [u64],
 ) -> (RankSelect101111<S, S0, &'a [u64]>, usize) {
-    assert!(rt; words.len() < 1000);
+    assert!(rt; words.len() < 1_000_000);
     match RankSelect101111::build(alloc, words) {
         Ok(built) => built,
         Err(_) => panic!(rt; "no memory"),

@@ -1,5 +1,6 @@
 //! The samples that are kept: worked out by hand, and as one walk over the bits finds them. `replay_original` compares
 //! them with those of the original crate.
+use crate::expect::words_of;
 use bitm::{
     AdaptiveCombinedSamplingDensity, BitAccess, CombinedSampling, CombinedSamplingDensity,
     ConstCombinedSamplingDensity, RankSelect101111,
@@ -23,17 +24,6 @@ fn indexed<'a, D: CombinedSamplingDensity>(
     }
 }
 
-/// The words of runs.
-fn words_of(alloc: Global, runs: &[(u64, usize)]) -> Result<Vec<u64>, AllocError> {
-    let mut words = Vec::new(alloc);
-    for (word, count) in runs {
-        for _ in 0..*count {
-            words.push(*word)?;
-        }
-    }
-    Ok(words)
-}
-
 /// 96001 words, of which the first and the last are full and the others empty.
 fn full_ends(alloc: Global) -> Result<Vec<u64>, AllocError> {
     words_of(alloc, &[(u64::MAX, 1), (0, 95_999), (u64::MAX, 1)])
@@ -44,14 +34,16 @@ fn an_adaptive_density_is_sparse_where_items_are_many(rt: HostRuntime) -> Result
     let words = full_ends(rt.alloc())?;
     let index = indexed::<AdaptiveCombinedSamplingDensity<13>>(&rt, rt.alloc(), words.as_slice());
     let ones = [0xFFE0_0000];
-    assert_eq!(rt; index.select_support().samples(), ones.as_slice());
-    assert_eq!(rt; index.select_support().starts(), [0].as_slice());
-    assert_eq!(rt; index.select0_support().starts(), [0].as_slice());
-    let zeros = index.select0_support().samples();
-    assert_eq!(rt; zeros.len(), 750);
-    for number in 0..750u32 {
-        let sample = zeros.get(number as usize).copied();
-        assert_eq!(rt; sample, Some(0x40_0000 + 4 * number), "sample {number}");
+    let kept = index.select_support();
+    assert_eq!(rt; kept.samples(), ones.as_slice());
+    assert_eq!(rt; kept.starts(), [0].as_slice());
+    let kept = index.select0_support();
+    assert_eq!(rt; kept.starts(), [0].as_slice());
+    assert_eq!(rt; kept.samples().len(), 750);
+    let mut wanted = 0x40_0000u32;
+    for sample in kept.samples() {
+        assert_eq!(rt; *sample, wanted);
+        wanted = wanted.wrapping_add(4);
     }
     Ok(())
 }

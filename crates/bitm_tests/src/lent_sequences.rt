@@ -32,10 +32,14 @@ fn agrees(rt: &impl Abort, primes: &LentSequence<'_>) {
         assert_eq!(rt; primes.get(i), Sought::Found(*x));
         assert_eq!(rt; primes.first_at_least(*x), Sought::Found(i));
     }
-    assert_eq!(rt; primes.check(), true);
-    assert_eq!(rt; primes.get(7), Sought::Absent);
-    assert_eq!(rt; primes.first_at_least(8), Sought::Found(4));
-    assert_eq!(rt; primes.first_at_least(25), Sought::Absent);
+    assert_eq!(rt; (primes.check(), primes.get(7)), (true, Sought::Absent));
+    let found = (primes.first_at_least(8), primes.first_at_least(25));
+    assert_eq!(rt; found, (Sought::Found(4), Sought::Absent));
+    numbers_agree(rt, primes);
+}
+
+/// Asks the numbers at several places at once.
+fn numbers_agree(rt: &impl Abort, primes: &LentSequence<'_>) {
     let mut out = [0u64; 3];
     assert_eq!(rt;
         primes.get_list([6, 0, 3].as_slice(), out.as_mut_slice()),

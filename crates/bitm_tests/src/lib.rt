@@ -31,6 +31,8 @@ mod lent_sequences;
 #[cfg(test)]
 mod logarithms;
 #[cfg(test)]
+mod many;
+#[cfg(test)]
 mod readme;
 #[cfg(test)]
 mod samples;

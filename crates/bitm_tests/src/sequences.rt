@@ -3,6 +3,8 @@
 //! prints. The rows are worked out by hand. Of the first one, 2, 3, 5, 7, 11, 13 and 24, each number keeps one low
 //! digit (0, 1, 1, 1, 1, 1, 0), and its upper one stands at the rest of it, halved, and its place more: 1, 1 + 1, 2 +
 //! 2, 3 + 3, 5 + 4, 6 + 5 and 12 + 6. The name of a test is the sentence that it shows.
+ghost use Rattle.bitm.specs.Bits.{IsShort};
+
 use bitm::{BitAccess, GetSize};
 use elias_fano::{EfError, EliasFano};
 use std::alloc::{AllocError, Global};
@@ -20,24 +22,31 @@ fn agrees(
     asked: &[(u64, Option<usize>)],
 ) -> Result<(), EfError> {
     let made = EliasFano::build(alloc, items)?;
-    assert_eq!(rt; made.len(), items.len());
-    assert_eq!(rt; made.low_width(), width);
+    assert_eq!(rt; (made.len(), made.low_width()), (items.len(), width));
     for (i, x) in items.iter().enumerate() {
         assert_eq!(rt; made.try_get(i), Some(*x));
     }
-    assert_eq!(rt; made.try_get(items.len()), None);
-    assert_eq!(rt; made.try_get(usize::MAX), None);
-    let upper = made.upper_words();
-    let mut places = upper.bit_ones();
-    for one in ones {
-        assert_eq!(rt; places.next(), Some(*one));
-    }
-    assert_eq!(rt; places.next(), None);
+    assert_eq!(rt;
+        (made.try_get(items.len()), made.try_get(usize::MAX)),
+        (None, None)
+    );
+    ones_stand_at(rt, made.upper_words(), ones);
     for (v, place) in asked {
         assert_eq!(rt; made.first_at_least(*v), *place);
     }
     comes_in_order(rt, &made, items);
     Ok(())
+}
+
+/// Compares the places of the ones of words with these.
+fn ones_stand_at(rt: &impl Abort, words: &[u64], ones: &[usize])
+    requires { IsShort words.now }
+{
+    let mut places = words.bit_ones();
+    for one in ones {
+        assert_eq!(rt; places.next(), Some(*one));
+    }
+    assert_eq!(rt; places.next(), None);
 }
 
 /// Compares the numbers that come from either end with the items.
@@ -132,23 +141,27 @@ fn low_digits_stand_side_by_side_in_one_word(rt: HostRuntime) -> Result<(), Fail
 fn values_between_the_numbers_have_the_nearest_below_them(rt: HostRuntime) -> Result<(), Fail> {
     let made = EliasFano::build(rt.alloc(), [2u64, 3, 5, 7, 11, 13, 24].as_slice())?;
     let asked = [
-        (1u64, None),
-        (2, Some(0)),
-        (8, Some(3)),
-        (23, Some(5)),
-        (u64::MAX, Some(6)),
+        (1u64, None, false),
+        (2, Some(0), true),
+        (8, Some(3), false),
+        (13, Some(5), true),
+        (14, Some(5), false),
+        (23, Some(5), false),
+        (25, Some(6), false),
+        (u64::MAX, Some(6), false),
     ];
-    for (v, place) in asked {
-        assert_eq!(rt; made.last_at_most(v), place);
+    for (v, place, is_kept) in asked {
+        assert_eq!(rt; (made.last_at_most(v), made.contains(v)), (place, is_kept));
     }
-    assert_eq!(rt; made.contains(13), true);
-    assert_eq!(rt; made.contains(14), false);
-    assert_eq!(rt; made.contains(25), false);
+    Ok(())
+}
+
+#[test]
+fn numbers_from_a_place_on_come_from_either_end(rt: HostRuntime) -> Result<(), Fail> {
+    let made = EliasFano::build(rt.alloc(), [2u64, 3, 5, 7, 11, 13, 24].as_slice())?;
     let mut both = made.iter_from(4);
-    assert_eq!(rt; both.next(), Some(11));
-    assert_eq!(rt; both.next_back(), Some(24));
-    assert_eq!(rt; both.next(), Some(13));
-    assert_eq!(rt; both.next_back(), None);
+    let come = [both.next(), both.next_back(), both.next(), both.next_back()];
+    assert_eq!(rt; come, [Some(11), Some(24), Some(13), None]);
     assert_eq!(rt; made.iter_from(7).next(), None);
     Ok(())
 }

@@ -3,6 +3,7 @@ use crate::expect::Sampled;
 use bitm::{
     ArrayWithRank101111, ArrayWithRankSimple, BinaryRankSearch, BitVec, GetSize, RankSelect101111,
 };
+use elias_fano::EliasFano;
 use std::boxed::BoxedSlice;
 use std::convert::AsSlice;
 use std::process::Abort;
@@ -13,6 +14,7 @@ fn all_but_binary_search_may_use_the_heap(rt: HostRuntime) {
     assert!(rt; ArrayWithRank101111::USES_DYN_MEM);
     assert!(rt; ArrayWithRankSimple::USES_DYN_MEM);
     assert!(rt; Sampled::USES_DYN_MEM);
+    assert!(rt; EliasFano::USES_DYN_MEM);
     assert!(rt; !BinaryRankSearch::USES_DYN_MEM);
     assert_eq!(rt; BinaryRankSearch.size_bytes_dyn(), 0);
 }

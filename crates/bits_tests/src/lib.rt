@@ -21,3 +21,5 @@ mod lending;
 mod making;
 #[cfg(test)]
 mod single_bits;
+#[cfg(test)]
+mod successive;

@@ -1,8 +1,8 @@
-//! Many selections at once, with their condition tested first.
-ghost use Rattle.std.specs.Prelude.{◌≡◌, ◌<◌, ◌↔◌, true, All, IsTrue, length};
+//! Many queries at once, with their condition tested first.
+ghost use Rattle.std.specs.Prelude.{◌≡◌, ◌<◌, ◌≤◌, ◌↔◌, true, false, All, IsTrue, length};
 ghost use Rattle.bitm.specs.Bits.{bits_of};
-ghost use Rattle.bitm.specs.Count.{ones_of};
-ghost use Rattle.bitm.specs.Many.{PicksEach};
+ghost use Rattle.bitm.specs.Count.{ones_of, zeros_of};
+ghost use Rattle.bitm.specs.Many.{PicksEach, RanksEach};
 
 use bitm::{Rank, RankSelect101111, Select0ForRank101111, SelectForRank101111};
 
@@ -36,4 +36,44 @@ pub fn try_select_many<S: SelectForRank101111, S0: Select0ForRank101111>(
         index.select_many(ranks, places);
     }
     all
+}
+
+/// Writes the places of the zeros with these ranks, and says whether each of them has one; where one has none, `places`
+/// stays as it is.
+#[tactic(auto, using(bitm::proofs::BitLaws::bits_are_counted))]
+pub fn try_select0_many<S: SelectForRank101111, S0: Select0ForRank101111>(
+    index: &RankSelect101111<S, S0, &[u64]>,
+    ranks: &[usize],
+    places: &mut [usize],
+) -> bool
+    requires { length ranks.now ≡ length places.old }
+    ensures all { IsTrue result ↔ All (λ r. r < zeros_of (bits_of index.now.content.now)) ranks.now }
+    ensures picked { IsTrue result → PicksEach (bits_of index.now.content.now) false ranks.now places.new }
+{
+    let zeros = index.rank0(64 * index.content().len());
+    let each = all_below(ranks, zeros);
+    if each {
+        index.select0_many(ranks, places);
+    }
+    each
+}
+
+/// Writes how many of the first so many bits are ones, for each index, and says whether there are so many bits for each
+/// of them; where there are not for one, `ranks` stays as it is.
+#[tactic(auto, using(bitm::proofs::BitLaws::bits_are_counted))]
+pub fn try_rank_many<S: SelectForRank101111, S0: Select0ForRank101111>(
+    index: &RankSelect101111<S, S0, &[u64]>,
+    indices: &[usize],
+    ranks: &mut [usize],
+) -> bool
+    requires { length indices.now ≡ length ranks.old }
+    ensures all { IsTrue result ↔ All (λ i. i ≤ length (bits_of index.now.content.now)) indices.now }
+    ensures ranked { IsTrue result → RanksEach (bits_of index.now.content.now) indices.now ranks.new }
+{
+    let bits = 64 * index.content().len();
+    let inside = all_below(indices, bits + 1);
+    if inside {
+        index.rank_many(indices, ranks);
+    }
+    inside
 }
