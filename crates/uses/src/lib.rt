@@ -3,8 +3,8 @@
 //! | To do | File |
 //! |---|---|
 //! | build an index over words of one's own and ask it | `readme` |
-//! | write bits of an array, a boxed slice, a vector, and read them; append bits and words | `writing` |
-//! | make words in code that is generic over the vector | `owned` |
+//! | write bits of an array, a boxed slice, a vector, and read them; append words | `writing` |
+//! | make words in code that is generic over the vector, or piece by piece | `owned` |
 //! | go over the places of ones, or over bits, in a `for` | `iterating` |
 //! | clear bits in a loop, and keep a set of numbers | `sieve` |
 //! | relate rank and selection in code that is generic over the index | `inverse` |

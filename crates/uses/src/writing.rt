@@ -1,13 +1,13 @@
-//! Bits that are written and then read: in an array, a boxed slice, a vector and a slice; and contents that grow.
+//! Bits that are written and then read: in an array, a boxed slice, a vector and a slice; and words that are appended.
 //!
 //! The functions of `words` take a slice, so a caller knows what its owner holds afterwards.
 ghost use Rattle.std.specs.Prelude.{◌≡◌, ◌+◌, ◌*◌, ◌^◌, ◌<◌, ◌≤◌, length, true, false, vec_len};
-ghost use Rattle.std.specs.Prelude.{◌∷◌, ◌++◌, IfOk, IfErr};
+ghost use Rattle.std.specs.Prelude.{◌++◌, IfOk, IfErr};
 ghost use Rattle.std.specs.Box.{boxed_slice_items};
-ghost use Rattle.bitm.specs.Bits.{bits_of, item, low_digits};
+ghost use Rattle.bitm.specs.Bits.{bits_of, item};
 ghost use Rattle.bitm.specs.Number.{with_number};
 
-use bitm::{BitWriter, words};
+use bitm::words;
 use std::alloc::{AllocError, Global};
 use std::boxed::BoxedSlice;
 
@@ -89,17 +89,4 @@ pub fn append(words: &mut Vec<u64>, more: &[u64]) -> Result<(), AllocError>
     ensures err { IfErr result (λ _. words.new.items ≡ words.old.items) }
 {
     words.extend_from_slice(more)
-}
-
-/// A content that is written piece by piece: a one, and then the ten lowest digits of a number.
-///
-/// # Errors
-/// `AllocError` where memory was refused.
-pub fn by_pieces(alloc: Global, number: u64) -> Result<BitWriter, AllocError>
-    ensures { IfOk result (λ made. made ≡ true ∷ low_digits 10 number) }
-{
-    let mut writer = BitWriter::new(alloc);
-    writer.push_bit(true)?;
-    writer.push_bits(number, 10)?;
-    Ok(writer)
 }
