@@ -44,8 +44,6 @@ fn combine<const OP: u8>(words: &mut [u64], other: &[u64])
 ///
 /// # Conditions
 /// Both have the same number of words.
-/// # Cost
-/// Each word of both is read once, and each of the first written once.
 #[inline]
 pub fn and(words: &mut [u64], other: &[u64])
     requires { length words.old ≡ length other.now }
@@ -60,8 +58,6 @@ pub fn and(words: &mut [u64], other: &[u64])
 ///
 /// # Conditions
 /// Both have the same number of words.
-/// # Cost
-/// As `and`.
 #[inline]
 pub fn or(words: &mut [u64], other: &[u64])
     requires { length words.old ≡ length other.now }
@@ -76,8 +72,6 @@ pub fn or(words: &mut [u64], other: &[u64])
 ///
 /// # Conditions
 /// Both have the same number of words.
-/// # Cost
-/// As `and`.
 #[inline]
 pub fn xor(words: &mut [u64], other: &[u64])
     requires { length words.old ≡ length other.now }
@@ -93,8 +87,6 @@ pub fn xor(words: &mut [u64], other: &[u64])
 ///
 /// # Conditions
 /// Both have the same number of words.
-/// # Cost
-/// As `and`.
 #[inline]
 pub fn and_not(words: &mut [u64], other: &[u64])
     requires { length words.old ≡ length other.now }

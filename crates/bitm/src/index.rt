@@ -24,9 +24,9 @@ use std::marker::Model;
 /// A content that lends words, with two tables of counts and a strategy for each kind of bit: rank reads one entry of
 /// each table and at most eight words, and selection is what the strategies make of the tables.
 ///
-/// The upper table has one number for each begun part (superblock) of 2^32 bits: the ones before it. The lower table has
-/// one packed entry for each begun 2048 bits (32 words), which are four records of 512 bits (8 words, one cache line).
-/// `docs/layout.svg` shows all levels; an entry is
+/// The upper table has one number for each begun part (superblock) of 2^32 bits: the ones before it. The lower table
+/// has one packed entry for each begun 2048 bits (32 words), which are four records of 512 bits (8 words, one cache
+/// line). `docs/layout.svg` shows all levels; an entry is
 ///
 /// ```text
 ///  63        54 53         43 42         32 31                    0
@@ -40,12 +40,13 @@ use std::marker::Model;
 /// ```
 ///
 /// The ones before record `k` (0 to 3) in the entry are the entry shifted down by `11 * (3 - k)`, then by 32, and the
-/// low 11 bits of that: r3, r2, r1, and 0 for record 0, without a branch. In a partial last entry a missing record adds
-/// nothing, so the last sum repeats: the content `[0b1101]` has 3, 3, 3, and its entry is `0x00C0_1803_0000_0000`. The
-/// entry of the negated bits is one subtraction away (`complement_entry`). `proofs/Examples.antt` computes these numbers.
+/// low 11 bits of that: r3, r2, r1, and 0 for record 0, without a branch. In a partial last entry a missing record
+/// adds nothing, so the last sum repeats: the content `[0b1101]` has 3, 3, 3, and its entry is
+/// `0x00C0_1803_0000_0000`. The entry of the negated bits is one subtraction away (`complement_entry`).
+/// `proofs/Examples.antt` computes these numbers.
 ///
-/// So the lower table takes 64 bits for each 2048, the upper one 64 bits for each 2^32. A contract sees an index as its
-/// content and its two strategies; the tables are those of the content.
+/// So the lower table takes 64 bits for each 2048, the upper one 64 bits for each 2^32. A contract sees an index as
+/// its content and its two strategies; the tables are those of the content.
 ///
 /// # Source
 /// Zhou, Andersen and Kaminsky, 'Space-efficient, high-performance rank and select structures on uncompressed bit
@@ -207,7 +208,7 @@ impl<S: SelectForRank101111, S0: Select0ForRank101111, BV: AsSlice<u64>> HasBits
     for RankSelect101111<S, S0, BV> {
     ghost bits = { λ i. bits_of (BV.items i.content) };
 
-    #[tactic(auto, using(bitm_bits::proofs::BitLaws::bits_are_counted))]
+    #[tactic(auto, using(bit_lists::proofs::BitLaws::bits_are_counted))]
     #[inline(always)]
     fn len(&self) -> usize {
         64 * self.content.as_slice().len()

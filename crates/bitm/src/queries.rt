@@ -109,7 +109,7 @@ pub trait Access: Rank {
         }
     }
 
-    /// The bit at `place`, and how many ones stand before it: both are in one record of 512 bits.
+    /// The bit at `place`, and how many ones stand before it.
     ///
     /// # Conditions
     /// The place is inside.

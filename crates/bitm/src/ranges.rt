@@ -1,5 +1,5 @@
-//! What follows from rank and selection, for any value that has them: counts of a stretch, the neighbours of a place, and
-//! selection from a place on.
+//! What follows from rank and selection, for any value that has them: counts of a stretch, the neighbours of a place,
+//! and selection from a place on.
 ghost use Rattle.std.specs.Prelude.{◌≡◌, ◌+◌, ◌<◌, ◌≤◌, length, true, false};
 ghost use Rattle.bit_lists.specs.Count.{ones_before, zeros_before};
 ghost use Rattle.bit_lists.specs.Count.{IsSelectFrom, MatchesFirstOne, MatchesFirstZero, MatchesLast};
@@ -44,7 +44,7 @@ pub fn zeros_between<I: Rank>(index: &I, start: usize, end: usize) -> usize
 /// There are no fewer than `place` bits.
 /// # Cost
 /// A rank and a selection.
-#[tactic(auto, using(bitm_bits::proofs::BitLaws::next_one_is_selected))]
+#[tactic(auto, using(bit_lists::proofs::BitLaws::next_one_is_selected))]
 #[inline(always)]
 pub fn next_one<I: Rank + Select>(index: &I, place: usize) -> Option<usize>
     requires { place ≤ length (I.bits index.now) }
@@ -132,7 +132,8 @@ pub fn select_from<I: Rank + Select>(index: &I, place: usize, k: usize) -> Optio
     }
 }
 
-/// The zero from `place` on with exactly `k` zeros between `place` and it; `None` exactly where there are not so many.
+/// The zero from `place` on with exactly `k` zeros between `place` and it; `None` exactly where there are not so
+/// many.
 ///
 /// # Conditions
 /// There are no fewer than `place` bits.

@@ -162,7 +162,7 @@ impl<BV: AsSlice<u64>> RankSimple<BV> {
 impl<BV: AsSlice<u64>> HasBits for RankSimple<BV> {
     ghost bits = { λ s. bits_of (BV.items s) };
 
-    #[tactic(auto, using(bitm_bits::proofs::BitLaws::bits_are_counted))]
+    #[tactic(auto, using(bit_lists::proofs::BitLaws::bits_are_counted))]
     #[inline(always)]
     fn len(&self) -> usize {
         64 * self.content.as_slice().len()
@@ -180,7 +180,7 @@ impl<BV: AsSlice<u64>> Rank for RankSimple<BV> {
 }
 
 impl<BV: AsSlice<u64>> Access for RankSimple<BV> {
-    #[tactic(auto, using(bitm_bits::proofs::BitLaws::bits_are_counted))]
+    #[tactic(auto, using(bit_lists::proofs::BitLaws::bits_are_counted))]
     #[inline(always)]
     fn try_get_bit(&self, place: usize) -> Option<bool> {
         words::try_get_bit(self.content.as_slice(), place)

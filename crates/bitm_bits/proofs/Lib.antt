@@ -1,3 +1,2 @@
-pub mod BitLaws
 pub mod Callers
 pub mod lemmas

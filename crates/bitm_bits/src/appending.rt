@@ -71,8 +71,6 @@ impl BitWriter {
     /// `count` is 0 to 64.
     /// # Errors
     /// `AllocError` where memory was refused, or a `usize` would not count the bits. Nothing was written then.
-    /// # Cost
-    /// At most two words are written, and one that is new is appended as `Vec` does.
     #[inline]
     pub fn push_bits(&mut self, v: u64, count: u8) -> Result<(), AllocError>
         requires { count ≤ 64 }
