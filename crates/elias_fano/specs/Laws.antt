@@ -3,10 +3,6 @@ use Rattle.std.specs.Prelude.{◌≡◌, ℕ, ◌+◌, ◌*◌, ◌<◌, ◌≤�
 use Rattle.std.specs.List.Sorted.{IsNonDecreasing}
 use Rattle.bitm.specs.Bits.{bits_of}
 use Rattle.bitm.specs.Count.{ones_before, Picks}
-use Rattle.bitm.specs.Laws.{ReadAfterWrite, DigitsBoundPowers, OnesAndZeros, CountsGrow, CountAfterItem}
-use Rattle.bitm.specs.Laws.{AtMostOnePicked, PlacesArePicked, PlacesAreCounted}
-use Rattle.bitm.specs.WriteLaws.{BitsAreCounted, ZerosHaveNoOnes, ZerosAreCounted, ZerosAreZero, NoItemsAreZero}
-use Rattle.bitm.specs.WriteLaws.{ItemBesideIsKept, NumberBesideIsKept, LastOneIsSet}
 use Rattle.elias_fano.specs.Parts.{upper_place, width_of, low_words_of, upper_words_of, IsUpper, ArePartsOf, items_of}
 use Rattle.elias_fano.specs.Sequence.{Reaches}
 
@@ -44,24 +40,3 @@ PartsHoldItems = (xs : List ℕ) (n l : ℕ) (low upper : List ℕ) → AreParts
 abbrev pub PartsAreSmall : Type 0
 PartsAreSmall =
     (xs : List ℕ) → 64 * (low_words_of xs (width_of xs) + upper_words_of xs (width_of xs)) ≤ length xs * (width_of xs + 3) + 126
-
--- ---- what the proofs of this crate know of bits
-
--- the laws of bits that they cite: of words and zeros, of writes, of counts and picks, of digits
-pub record BitLaws : Type 0 where
-  pub bits_are_counted : BitsAreCounted
-  pub zeros_have_no_ones : ZerosHaveNoOnes
-  pub zeros_are_counted : ZerosAreCounted
-  pub zeros_are_zero : ZerosAreZero
-  pub no_items_are_zero : NoItemsAreZero
-  pub read_after_write : ReadAfterWrite
-  pub item_beside_is_kept : ItemBesideIsKept
-  pub number_beside_is_kept : NumberBesideIsKept
-  pub last_one_is_set : LastOneIsSet
-  pub ones_and_zeros : OnesAndZeros
-  pub counts_grow : CountsGrow
-  pub count_after_item : CountAfterItem
-  pub at_most_one_picked : AtMostOnePicked
-  pub places_are_picked : PlacesArePicked
-  pub places_are_counted : PlacesAreCounted
-  pub digits_bound_powers : DigitsBoundPowers

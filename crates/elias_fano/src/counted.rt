@@ -8,7 +8,6 @@ ghost use Rattle.elias_fano.specs.Low.{sharing, ReadsFragments};
 ghost use Rattle.elias_fano.specs.Sequence.{IsFirstAtLeast, IsLastAtMost, ReachesTo};
 
 use crate::answer::Sought;
-use crate::laws;
 use crate::low::LowDigits;
 use crate::searching::{first_on, item_at_one, total_item_on};
 use bitm::{Selected, TableSource, index_laws, total_select_on};
@@ -24,7 +23,6 @@ fn item_on<T: TableSource>(source: &mut T, low: &mut LowDigits<'_>, n: usize, at
         (digit_count (length (T.lists source.old).upper) + 1) 23 8 }
     ensures fragments { ReadsFragments low.old low.new 1 }
 {
-    laws::bit_laws();
     index_laws::tables_have_sizes();
     match total_item_on(source, low, n, at) {
         Sought::Found(item) => item,
@@ -43,7 +41,6 @@ fn only_reaches<T: TableSource>(source: &mut T, low: &mut LowDigits<'_>, v: u64)
     ensures shared { (xs : List ℕ) → Holds xs (held_by 1 low.old (T.lists source.old))
         → ReadsFragments low.old low.new (digit_count (sharing xs low.old.width v)) }
 {
-    laws::bit_laws();
     index_laws::tables_have_sizes();
     let above = (v >> low.width()) as usize;
     match total_select_on::<1, T>(source, 0) {
@@ -89,7 +86,6 @@ pub fn first_at_least_counted<T: TableSource>(
     ensures shared { (xs : List ℕ) → Holds xs (held_by n low.old (T.lists source.old))
         → ReadsFragments low.old low.new (digit_count (sharing xs low.old.width v)) }
 {
-    laws::bit_laws();
     index_laws::tables_have_sizes();
     if n == 0 {
         return None;

@@ -5,7 +5,6 @@ ghost use Rattle.std.specs.Iterator.SizeHint.{IsWithinCount};
 ghost use Rattle.elias_fano.specs.Numbers.{StandFrom};
 ghost use Rattle.elias_fano.specs.Parts.{ArePartsOf};
 
-use crate::laws;
 use crate::low::LowDigits;
 use crate::searching::item_at_one;
 use bitm::words;
@@ -59,7 +58,6 @@ impl<'a> Numbers<'a> {
         requires order { start ≤ len }
         ensures { (xs : List ℕ) → ArePartsOf xs len width low.now upper.now → result ≡ drop start xs }
     {
-        laws::bit_laws();
         Numbers {
             low,
             upper,
@@ -82,7 +80,6 @@ impl<'a> Iterator for Numbers<'a> {
 
     #[inline]
     fn next(&mut self) -> Option<u64> {
-        laws::bit_laws();
         if self.start >= self.end {
             return None;
         }
@@ -109,7 +106,6 @@ impl<'a> DoubleEndedIterator for Numbers<'a> {
 
     #[inline]
     fn next_back(&mut self) -> Option<u64> {
-        laws::bit_laws();
         if self.start >= self.end {
             return None;
         }

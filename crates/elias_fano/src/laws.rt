@@ -1,11 +1,10 @@
 //! Laws of the definitions that contracts cite. A function here does nothing: its contract is the law, and a caller
 //! that wants the law calls it.
 ghost use Rattle.elias_fano.specs.Laws.{ReachedFromThere, FirstOfEqual};
-ghost use Rattle.elias_fano.specs.Laws.{OneForEachItem, ItemsArePicked, PartsHoldItems, PartsAreSmall, BitLaws};
+ghost use Rattle.elias_fano.specs.Laws.{OneForEachItem, ItemsArePicked, PartsHoldItems, PartsAreSmall};
 ghost use Rattle.elias_fano.specs.Sequence.{IsSequence};
 
 use crate::sequence::EliasFano;
-use bitm::laws;
 
 /// The numbers of a sequence never fall; there are fewer than 2^56 of them, each below 2^64.
 #[inline(always)]
@@ -31,18 +30,13 @@ pub fn first_of_equal()
 #[inline(always)]
 pub fn one_for_each_item()
     ensures { OneForEachItem }
-{
-    laws::places_are_counted();
-}
+{}
 
 /// The one that rank `i` picks in the upper vector stands where number `i` says.
 #[inline(always)]
 pub fn items_are_picked()
     ensures { ItemsArePicked }
-{
-    laws::at_most_one_picked();
-    laws::places_are_picked();
-}
+{}
 
 /// The parts of a sequence hold its numbers and no others.
 #[inline(always)]
@@ -54,29 +48,4 @@ pub fn parts_hold_items()
 #[inline(always)]
 pub fn parts_are_small()
     ensures { PartsAreSmall }
-{
-    laws::digits_bound_powers();
-}
-
-/// The laws of bits that the proofs of this crate cite, and those of code that keeps the parts itself.
-#[inline(always)]
-pub fn bit_laws()
-    ensures { BitLaws }
-{
-    laws::bits_are_counted();
-    laws::zeros_have_no_ones();
-    laws::zeros_are_counted();
-    laws::zeros_are_zero();
-    laws::no_items_are_zero();
-    laws::read_after_write();
-    laws::item_beside_is_kept();
-    laws::number_beside_is_kept();
-    laws::last_one_is_set();
-    laws::ones_and_zeros();
-    laws::counts_grow();
-    laws::count_after_item();
-    laws::at_most_one_picked();
-    laws::places_are_picked();
-    laws::places_are_counted();
-    laws::digits_bound_powers();
-}
+{}

@@ -5,7 +5,6 @@ ghost use Rattle.std.specs.List.Sorted.{IsNonDecreasing};
 ghost use Rattle.elias_fano.specs.Parts.{width_at, width_of, low_words_of, upper_words_of, IsLow, IsUpper};
 ghost use Rattle.elias_fano.specs.Sequence.{largest, IsSequence};
 
-use crate::laws;
 use bitm::{BitVec, bits_to_store, n_lowest_bits, words};
 use std::alloc::{AllocError, Global};
 use std::boxed::BoxedSlice;
@@ -27,7 +26,6 @@ pub fn low_width(len: usize, largest: u64) -> u8
     ensures width { result ≡ width_at len largest }
     ensures most { result ≤ 63 }
 {
-    bitm::laws::digits_bound_powers();
     if len == 0 {
         return 0;
     }
@@ -38,7 +36,6 @@ pub fn low_width(len: usize, largest: u64) -> u8
 pub(crate) fn width_for(items: &[u64]) -> u8
     ensures { result ≡ width_of items.now }
 {
-    bitm::laws::digits_bound_powers();
     low_width(items.len(), largest_of(items))
 }
 
@@ -71,7 +68,6 @@ pub fn write_low(low: &mut [u64], items: &[u64], width: u8)
     requires clear { low.old ≡ replicate (low_words_of items.now width) 0 }
     ensures { IsLow items.now width low.new }
 {
-    laws::bit_laws();
     if width == 0 {
         return;
     }
@@ -94,7 +90,6 @@ pub(crate) fn make_upper(
     requires width { width ≡ width_of items.now }
     ensures { IfOk result (λ upper. IsUpper items.now width (boxed_slice_items upper)) }
 {
-    laws::bit_laws();
     let len = items.len() + (largest_of(items) >> width) as usize + 1;
     let mut upper = BoxedSlice::with_zeroed_bits(alloc, len)?;
     write_upper(upper.as_mut_slice(), items, width);
@@ -115,7 +110,6 @@ pub fn write_upper(upper: &mut [u64], items: &[u64], width: u8)
     requires clear { upper.old ≡ replicate (upper_words_of items.now width) 0 }
     ensures { IsUpper items.now width upper.new }
 {
-    laws::bit_laws();
     for i in 0..items.len() {
         words::set_bit(upper, (items[i] >> width) as usize + i);
     }

@@ -13,7 +13,6 @@ ghost use Rattle.elias_fano.specs.Low.{fragment, joined_item, sharing, HasFragme
 ghost use Rattle.elias_fano.specs.Parts.{ArePartsOf, HasFragment, HasOneAt, IsUpper};
 
 use crate::answer::Sought;
-use crate::laws;
 use crate::low::LowDigits;
 use bitm::{Selected, TableSource, n_lowest_bits, total_select_on};
 use bitm_search::search::selecting::search_on;
@@ -30,7 +29,6 @@ pub fn joined(above: usize, low: &mut LowDigits<'_>, at: usize) -> u64
     ensures number { joined_item above low.old at < 2 ^ 64 → result ≡ joined_item above low.old at }
     ensures fragments { ReadsFragments low.old low.new 1 }
 {
-    bitm::laws::no_items_are_zero();
     let width = low.width();
     if width == 0 {
         return above as u64;
@@ -53,7 +51,6 @@ pub fn item_at_one(place: usize, low: &mut LowDigits<'_>, at: usize) -> u64
         → HasOneAt xs n low.old.width low.old.words upper at place → result ≡ slice_index xs at }
     ensures fragments { ReadsFragments low.old low.new 1 }
 {
-    laws::bit_laws();
     joined(place.wrapping_sub(at), low, at)
 }
 
@@ -84,7 +81,6 @@ pub fn total_item_on<T: TableSource>(
         (digit_count (length (T.lists source.old).upper) + 1) 23 8 }
     ensures fragments { ReadsFragments low.old low.new 1 }
 {
-    laws::bit_laws();
     if at >= n {
         return Sought::Absent;
     }
@@ -103,7 +99,6 @@ pub fn count_at_zero(place: usize, above: usize, n: usize) -> Option<usize>
     ensures count { (xs : List ℕ) (l : ℕ) (upper : List ℕ) → IsUpper xs l upper → n ≡ length xs
         → Picks (bits_of upper) false above place → MatchOption result ⊥ (CountsTo xs l above) }
 {
-    laws::bit_laws();
     let count = place.wrapping_sub(above);
     if count <= n { Some(count) } else { None }
 }
@@ -124,7 +119,6 @@ fn count_to<const TESTS: u8, T: TableSource>(
     ensures reads { OnlyReads T.lists T.reads source.old source.new
         (digit_count (length (T.lists source.old).upper) + 1) 23 8 }
 {
-    laws::bit_laws();
     match search_on::<0, TESTS, T>(source, above) {
         Selected::Found(place) => count_at_zero(place, above, n),
         Selected::Absent => Some(n),
@@ -172,7 +166,6 @@ fn split_low(low: &mut LowDigits<'_>, first: usize, end: usize, rest: u64) -> us
     ensures none { low.old.width ≡ 0 → (result ≡ first) × (low.new ≡ low.old) }
     ensures fragments { ReadsFragments low.old low.new (digit_count (end - first)) }
 {
-    laws::bit_laws();
     if low.width() == 0 {
         return first;
     }
@@ -218,7 +211,6 @@ pub fn place_in_bucket(
         → HasEnds xs low.old.width v first end
         → ReadsFragments low.old low.new (digit_count (sharing xs low.old.width v)) }
 {
-    laws::bit_laws();
     if end < first {
         return Sought::WrongParts;
     }

@@ -13,7 +13,6 @@ ghost use Rattle.elias_fano.specs.Sequence.{IsSequence, HasFall};
 use crate::checking::check;
 use crate::error::EfError;
 use crate::iterating::Numbers;
-use crate::laws;
 use crate::low::LowDigits;
 use crate::making::{make_low, make_upper, width_for};
 use crate::searching::item_at_one;
@@ -92,7 +91,6 @@ impl EliasFano {
         ensures size { IfOk result (λ made. let l = width_of made in
             64 * (low_words_of made l + upper_words_of made l) ≤ length made * (l + 3) + 126) }
     {
-        laws::bit_laws();
         check(items)?;
         let width = width_for(items);
         let low = make_low(alloc, items, width)?;
@@ -136,7 +134,6 @@ impl EliasFano {
         requires { i < length self.now }
         ensures { result ≡ slice_index self.now i }
     {
-        laws::bit_laws();
         let place = self.upper.select(i);
         item_at_one(
             place,
@@ -245,7 +242,6 @@ impl EliasFano {
         requires { place ≤ length self.now }
         ensures { StandFrom self.now (width_of self.now) place (length self.now) result }
     {
-        laws::bit_laws();
         if place < self.len {
             self.upper.select(place)
         } else {

@@ -6,13 +6,13 @@ use Rattle.std.proofs.lemmas.List.FromFn.{length-map-range_with_len, get_or-map-
 use Rattle.std.proofs.lemmas.Nat.{div-mul-add, mod-mul-add, pow-add, mul-add-lt}
 use Rattle.std.proofs.Math.Nat.{mul-le-mul_right}
 use Rattle.std.specs.Int.{div_ceil}
+use Rattle.bitm.proofs.BitLaws.{bits_are_counted, ones_and_zeros, at_most_one_picked, places_are_picked, places_are_counted}
 use Rattle.bitm.proofs.Callers.{number_at-lt, rank_below}
 use Rattle.bitm.specs.Bits.{bits_of, item}
 use Rattle.bitm.specs.Count.{ones_of, places, Picks}
 use Rattle.bitm.specs.Number.{number_at}
 use Rattle.elias_fano.proofs.lemmas.ItemLemmas.{held-is}
 use Rattle.elias_fano.proofs.lemmas.UpperLemmas.{places_are}
-use Rattle.elias_fano.specs.Laws.{BitLaws}
 use Rattle.elias_fano.specs.Low.{unread, HasFragments}
 use Rattle.elias_fano.specs.Parts.{width_at, upper_place, upper_places, items_of, ArePartsOf}
 use Rattle.elias_fano.specs.Sequence.{largest, IsSequence}
@@ -40,13 +40,13 @@ module _ (a w f : ℕ) (narrow : w ≤ 63) (low : f < 2 ^ w) where
 
 -- ---- one number more
 
-module _ (laws : BitLaws) (l : ℕ) (low words : List ℕ) where
+module _ (l : ℕ) (low words : List ℕ) where
   -- item i of the places is what rank i picks
   pub place_of_pick : (i p : ℕ) → Picks (bits_of words) true i p → get_or (places true 0 (bits_of words)) i 0 ≡ p
   place_of_pick i p one =
       let b = bits_of words in
-      let some : i < length (places true 0 b) = omega (arith, laws.places_are_counted b true, rank_below b true i p one) in
-      laws.at_most_one_picked b true i _ p (laws.places_are_picked b true i some) one
+      let some : i < length (places true 0 b) = omega (arith, places_are_counted b true, rank_below b true i p one) in
+      at_most_one_picked b true i _ p (places_are_picked b true i some) one
 
   pub held_of_pick : (i p : ℕ) → Picks (bits_of words) true i p
       → held_item l low words i ≡ (p - i) * 2 ^ l + number_at (bits_of low) (i * l) l
@@ -72,18 +72,18 @@ module _ (laws : BitLaws) (l : ℕ) (low words : List ℕ) where
 
 -- ---- what is held of a sequence
 
-module _ (laws : BitLaws) (xs : List ℕ) (n l : ℕ) (low words : List ℕ) (h : ArePartsOf xs n l low words) where
+module _ (xs : List ℕ) (n l : ℕ) (low words : List ℕ) (h : ArePartsOf xs n l low words) where
   pub held_is : (i : ℕ) → i < n → held_item l low words i ≡ get_or xs i 0
   held_is i less =
       let some : i < length (places true 0 (bits_of words)) = omega (arith, places_are xs l words h.upper_is, h.count) in
-      held-is laws xs n l low words i _ record {
+      held-is xs n l low words i _ record {
         parts = h;
         inside = less;
-        one = laws.places_are_picked (bits_of words) true i some;
+        one = places_are_picked (bits_of words) true i some;
       }
 
   pub ones-all : ones_of (bits_of words) ≡ n
-  ones-all = omega (arith, laws.places_are_counted (bits_of words) true, places_are xs l words h.upper_is, h.count)
+  ones-all = omega (arith, places_are_counted (bits_of words) true, places_are xs l words h.upper_is, h.count)
 
   -- the last number is the largest
   pub last-largest : (last : ℕ) → AreNumbers l low words n last → last ≡ largest xs
@@ -119,7 +119,7 @@ module _ (laws : BitLaws) (xs : List ℕ) (n l : ℕ) (low words : List ℕ) (h 
 
 -- ---- what is held is a sequence
 
-module _ (laws : BitLaws) (n l last : ℕ) (low words : List ℕ) (fragments : HasFragments (unread low l) n) (a : AreNumbers l low words n last)
+module _ (n l last : ℕ) (low words : List ℕ) (fragments : HasFragments (unread low l) n) (a : AreNumbers l low words n last)
     (ones : ones_of (bits_of words) ≡ n) where
   ys : List ℕ
   ys = items_of n l low words
@@ -136,14 +136,14 @@ module _ (laws : BitLaws) (n l last : ℕ) (low words : List ℕ) (fragments : H
   fragment-small : (i : ℕ) → i < n → number_at (bits_of low) (i * l) l < 2 ^ l
   fragment-small i less =
       let room : (i + 1) * l ≤ n * l = mul-le-mul_right l (let e : i + 1 ≤ n = omega arith in e) in
-      number_at-lt (bits_of low) (i * l) l (omega (arith, laws.bits_are_counted low, fragments.inside))
+      number_at-lt (bits_of low) (i * l) l (omega (arith, bits_are_counted low, fragments.inside))
 
   -- a one has at least as many places before it as ones
   place-after : (i : ℕ) → i < n → i ≤ get_or (places true 0 (bits_of words)) i 0
   place-after i less =
       let b = bits_of words in
-      let one = laws.places_are_picked b true i (omega (arith, laws.places_are_counted b true, ones)) in
-      omega (arith, laws.ones_and_zeros b (get_or (places true 0 b) i 0) (omega (arith, one.inside)), one.before)
+      let one = places_are_picked b true i (omega (arith, places_are_counted b true, ones)) in
+      omega (arith, ones_and_zeros b (get_or (places true 0 b) i 0) (omega (arith, one.inside)), one.before)
 
   upper_at : (i : ℕ) → i < n → get_or (places true 0 (bits_of words)) i 0 ≡ upper_place ys l i
   upper_at i less =
@@ -189,7 +189,7 @@ module _ (laws : BitLaws) (n l last : ℕ) (low words : List ℕ) (fragments : H
     upper_is = record {
       words = sym count ∙ ap (λ k. upper_words_at k last l) (sym len) ∙ ap (λ u. upper_words_at (length ys) u l) (sym largest-last);
       ones =
-          let total : length (places true 0 (bits_of words)) ≡ n = omega (arith, laws.places_are_counted (bits_of words) true, ones) in
+          let total : length (places true 0 (bits_of words)) ≡ n = omega (arith, places_are_counted (bits_of words) true, ones) in
           same_number_lists (places true 0 (bits_of words)) (upper_places ys l (length ys))
           (total ∙ sym (length-map-range_with_len (upper_place ys l) 0 (length ys) ∙ len))
           (λ i less.

@@ -3,7 +3,6 @@ use Rattle.std.proofs.Common.{◌≡◌, ℕ, ◌+◌, ◌*◌, ◌/◌, ◌^◌
 use Rattle.std.proofs.Math.Nat.{div-le_self}
 use Rattle.std.proofs.lemmas.Bool.{cases_eq}
 use Rattle.std.specs.Int.{div_ceil}
-use Rattle.bitm.specs.Laws.{DigitsBoundPowers}
 use Rattle.bitm.specs.Tables.{HasSizes}
 use Rattle.bitm_lent.specs.Sizes.{listed}
 use Rattle.elias_fano.proofs.lemmas.SizeLemmas.{few_of_some, upper_few_at}
@@ -12,29 +11,29 @@ use Rattle.elias_fano.specs.Sequence.{largest}
 use Rattle.elias_fano_lent.specs.Sizes.{HasRoom, upper_words_at}
 
 -- a largest item without its low digits is less than twice the number of items, or there is none
-pub few_above : DigitsBoundPowers → (n u l : ℕ) → (n ≡ 0 → u ≡ 0) → l ≡ width_at n u → u / 2 ^ l ≤ 2 * n
-few_above digits n u l none width =
+pub few_above : (n u l : ℕ) → (n ≡ 0 → u ≡ 0) → l ≡ width_at n u → u / 2 ^ l ≤ 2 * n
+few_above n u l none width =
     ⊎_elim
     (λ e. omega (arith, none e, div-le_self u (2 ^ l)))
-    (λ some. omega (arith, ap (λ k. u / 2 ^ k) width, few_of_some digits u n (omega arith)))
+    (λ some. omega (arith, ap (λ k. u / 2 ^ k) width, few_of_some u n (omega arith)))
     (cases_eq n 0)
 
 -- so few words are enough for both vectors
-pub vectors-few : DigitsBoundPowers → (n u l : ℕ) → (n ≡ 0 → u ≡ 0) → l ≡ width_at n u
+pub vectors-few : (n u l : ℕ) → (n ≡ 0 → u ≡ 0) → l ≡ width_at n u
     → 64 * (div_ceil (n * l) 64 + upper_words_at n u l) ≤ n * (l + 3) + 126
-vectors-few digits n u l none width =
+vectors-few n u l none width =
     ⊎_elim
     (λ e. omega (arith, none e, div-le_self u (2 ^ l), ap (λ k. k * l) e, ap (λ k. k * (l + 3)) e))
-    (λ some. small n l (u / 2 ^ l) (omega arith) (omega (arith, ap (λ k. u / 2 ^ k) width, few_of_some digits u n (omega arith))))
+    (λ some. small n l (u / 2 ^ l) (omega arith) (omega (arith, ap (λ k. u / 2 ^ k) width, few_of_some u n (omega arith))))
     (cases_eq n 0)
   where
     small : (n l h : ℕ) → 0 < n → h < 2 * n → 64 * (div_ceil (n * l) 64 + div_ceil (n + h + 1) 64) ≤ n * (l + 3) + 126
     small n l h some few = omega arith
 
-module _ (digits : DigitsBoundPowers) (xs low words upper lower : List ℕ) (l : ℕ) (h : HasRoom xs low words upper lower) (width : l ≡ width_of xs) where
+module _ (xs low words upper lower : List ℕ) (l : ℕ) (h : HasRoom xs low words upper lower) (width : l ≡ width_of xs) where
   -- the upper words are few enough for an index
   pub upper-words-few : upper_words_of xs l < 2 ^ 58
-  upper-words-few = omega (arith, h.short, upper_few_at digits xs l (largest xs) width refl)
+  upper-words-few = omega (arith, h.short, upper_few_at xs l (largest xs) width refl)
 
   -- and the tables have room for theirs
   pub room-sizes : (made : List ℕ) → IsUpper xs l made → HasSizes (listed made upper lower)

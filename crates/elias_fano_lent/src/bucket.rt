@@ -14,7 +14,7 @@ ghost use Rattle.elias_fano_lent.specs.Low.{sharing, HasFragments, ReadsFragment
 
 use bitm_lent::{NO_ANSWER, WRONG_TABLES};
 use elias_fano::building::{count_at_zero, place_in_bucket};
-use elias_fano::{LowDigits, Sought, laws};
+use elias_fano::{LowDigits, Sought};
 
 /// Writes what each value says above its low digits, `less` below that, and 0 where that is less.
 #[inline(always)]
@@ -39,7 +39,6 @@ fn count_to(told: usize, above: usize, n: usize) -> Option<usize>
         → HasTables upper → IsShort upper.words → n ≡ length xs → SelectTold false upper above told
         → MatchOption result ⊥ (CountsTo xs l above) }
 {
-    laws::bit_laws();
     if told == NO_ANSWER {
         return Some(n);
     }
@@ -83,7 +82,6 @@ pub(crate) fn place_of(
         → EndsTold (held_by n low.old upper) v begin end
         → ReadsFragments low.old low.new (digit_count (sharing xs low.old.width v)) }
 {
-    laws::bit_laws();
     let width = low.width();
     let above = (v >> width) as usize;
     let Some(first) = count_below(begin, above, n) else {

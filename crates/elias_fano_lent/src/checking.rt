@@ -10,8 +10,8 @@ ghost use Rattle.elias_fano_lent.specs.Checks.{AreNumbers};
 
 use crate::sizes::Sizes;
 use bitm::words as slices;
+use elias_fano::LowDigits;
 use elias_fano::building::joined;
-use elias_fano::{LowDigits, laws};
 
 /// Number `at`, whose one stands at `place`, if it is below 2^64.
 #[inline(always)]
@@ -32,6 +32,7 @@ fn number_of(place: usize, low: &mut LowDigits<'_>, at: usize) -> Option<u64>
 
 /// The last of `n` numbers, 0 where there is none, if the ones of the words and the low digits are those of `n` numbers
 /// that never fall: at most one fragment of the low digits for each number.
+#[tactic(auto, using(bitm::proofs::BitLaws::ones_and_zeros, bitm::proofs::BitLaws::bits_are_counted))]
 fn last_of(words: &[u64], low: &mut LowDigits<'_>, n: usize) -> Option<u64>
     requires short { IsShort words.now }
     requires some { HasFragments low.old n }
@@ -41,7 +42,6 @@ fn last_of(words: &[u64], low: &mut LowDigits<'_>, n: usize) -> Option<u64>
         × (ones_of (bits_of words.now) ≡ n)) }
     ensures fragments { ReadsFragments low.old low.new n }
 {
-    laws::bit_laws();
     let mut from = 0;
     let mut last = 0;
     for at in 0..n {
@@ -72,7 +72,6 @@ pub(crate) fn are_parts(words: &[u64], low: &[u64], width: u8, n: usize) -> bool
     requires low { length low.now ≡ div_ceil (n * width) 64 }
     ensures { IsTrue result ↔ ((xs : List ℕ) × ArePartsOf xs n width low.now words.now) }
 {
-    laws::bit_laws();
     let Some(last) = last_of(words, &mut LowDigits::new(low, width), n) else {
         return false;
     };

@@ -13,7 +13,6 @@ use crate::sizes::Sizes;
 use bitm::words::set_bit;
 use bitm_lent::clear;
 use elias_fano::building::{is_rising, largest_of, write_low};
-use elias_fano::laws;
 
 /// Writes a one for each number, after as many zeros as it says without its `width` low digits, where all bits are
 /// zeros. Answers whether each had its place, as each has.
@@ -31,7 +30,6 @@ fn write_tested(words: &mut [u64], items: &[u64], width: u8) -> bool
     ensures upper { IsUpper items.now width words.new }
     ensures all { IsTrue result }
 {
-    laws::bit_laws();
     for i in 0..items.len() {
         let place = (items[i] >> width) as usize + i;
         if place / 64 >= words.len() {
@@ -90,7 +88,6 @@ pub fn build(
     ensures kept { IsErr result → (low.new ≡ low.old) × (words.new ≡ words.old)
         × (upper.new ≡ upper.old) × (lower.new ≡ lower.old) }
 {
-    laws::bit_laws();
     let Some(width) = width_if_room(items, &*low, &*words, &*upper, &*lower) else {
         return Err(BuildError::WrongLength);
     };

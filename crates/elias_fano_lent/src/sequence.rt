@@ -14,7 +14,7 @@ use crate::checking::are_parts;
 use bitm_lent::{Lent, WRONG_TABLES};
 use bitm_search::search::many::SIDE_BY_SIDE;
 use elias_fano::building::item_at_one;
-use elias_fano::{LowDigits, Sought, laws, total_first_at_least_on, total_item_on};
+use elias_fano::{LowDigits, Sought, total_first_at_least_on, total_item_on};
 use std::marker::Model;
 
 /// Number `place` of `n`, of which a list of selections tells the one: at most one fragment of the low digits.
@@ -26,7 +26,6 @@ fn item_of(low: &mut LowDigits<'_>, n: usize, place: usize, one: usize) -> Sough
         → SelectTold true upper place one → IsItem xs place result }
     ensures fragments { ReadsFragments low.old low.new 1 }
 {
-    laws::bit_laws();
     if place >= n {
         return Sought::Absent;
     }

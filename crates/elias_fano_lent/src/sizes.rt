@@ -2,7 +2,6 @@
 ghost use Rattle.std.specs.Prelude.{◌≡◌, ◌+◌, ◌*◌, ◌≤◌, IfSome, MatchOption};
 ghost use Rattle.elias_fano_lent.specs.Sizes.{sizes_of, IsLargest};
 
-use bitm::laws;
 use bitm_lent::{lower_len, upper_len};
 use elias_fano::building::low_width;
 
@@ -33,7 +32,6 @@ impl Sizes {
         ensures few { IfSome result (λ made.
             64 * (made.low + made.words) ≤ len * (made.width + 3) + 126) }
     {
-        laws::digits_bound_powers();
         if len >= 1 << 56 {
             return None;
         }

@@ -6,53 +6,52 @@ use Rattle.std.proofs.lemmas.Nat.{div-add-mod', pow_pos}
 use Rattle.std.proofs.Math.Nat.{mul-le-mul_right, mod-lt}
 use Rattle.std.specs.List.{All}
 use Rattle.std.specs.List.Sorted.{IsNonDecreasing}
+use Rattle.bitm.proofs.BitLaws.{ones_and_zeros, counts_grow, count_after_item}
 use Rattle.bitm.specs.Bits.{bits_of, item}
 use Rattle.bitm.specs.Count.{ones_before, zeros_before, is_same, Picks}
-use Rattle.bitm.specs.Laws.{OnesAndZeros}
 use Rattle.elias_fano.proofs.lemmas.SplitLemmas.{Splits-same}
 use Rattle.elias_fano.proofs.lemmas.UpperLemmas.{one_is, ones_are}
 use Rattle.elias_fano.specs.Buckets.{CountsTo, CountsBelow, LowsRise, Splits}
-use Rattle.elias_fano.specs.Laws.{BitLaws}
 use Rattle.elias_fano.specs.Low.{fragment, Lows}
 use Rattle.elias_fano.specs.Parts.{upper_place, IsUpper, ArePartsOf}
 use Rattle.elias_fano.specs.Sequence.{Reaches}
 
 -- a zero has at least as many places before it as zeros
-pub zeros-at_most : OnesAndZeros → (b : List Bool) (z p : ℕ) → Picks b false z p → z ≤ p
-zeros-at_most sums b z p h = omega (arith, sums b p (omega (arith, h.inside)), h.before)
+pub zeros-at_most : (b : List Bool) (z p : ℕ) → Picks b false z p → z ≤ p
+zeros-at_most b z p h = omega (arith, ones_and_zeros b p (omega (arith, h.inside)), h.before)
 
 -- ---- how many items have at most z above their low digits: the ones before the zero of that number
 
-module _ (laws : BitLaws) (xs : List ℕ) (l : ℕ) (upper : List ℕ) (h : IsUpper xs l upper) where
+module _ (xs : List ℕ) (l : ℕ) (upper : List ℕ) (h : IsUpper xs l upper) where
   one_at : (j : ℕ) → j < length xs → Picks (bits_of upper) true j (upper_place xs l j)
-  one_at j inside = one_is laws.places_are_picked xs l upper j h inside
+  one_at j inside = one_is xs l upper j h inside
 
   zeros_at : (j : ℕ) → j < length xs → zeros_before (bits_of upper) (upper_place xs l j) ≡ get_or xs j 0 / 2 ^ l
   zeros_at j inside =
       let one = one_at j inside in
-      omega (arith, laws.ones_and_zeros (bits_of upper) (upper_place xs l j) (omega (arith, one.inside)), one.before)
+      omega (arith, ones_and_zeros (bits_of upper) (upper_place xs l j) (omega (arith, one.inside)), one.before)
 
   all_ones : ones_before (bits_of upper) (length (bits_of upper)) ≡ length xs
-  all_ones = ones_are laws.places_are_counted xs l upper h
+  all_ones = ones_are xs l upper h
 
   one_more : (p : ℕ) → p < length (bits_of upper) → item (bits_of upper) p ≡ true
       → ones_before (bits_of upper) (p + 1) ≡ ones_before (bits_of upper) p + 1
   one_more p inside is =
-      laws.count_after_item (bits_of upper) true p inside ∙ ap (λ x. ones_before (bits_of upper) p + cond (is_same true x) 1 0) is
+      count_after_item (bits_of upper) true p inside ∙ ap (λ x. ones_before (bits_of upper) p + cond (is_same true x) 1 0) is
 
   zero_more : (p : ℕ) → p < length (bits_of upper) → item (bits_of upper) p ≡ false
       → zeros_before (bits_of upper) (p + 1) ≡ zeros_before (bits_of upper) p + 1
   zero_more p inside is =
-      laws.count_after_item (bits_of upper) false p inside ∙ ap (λ x. zeros_before (bits_of upper) p + cond (is_same false x) 1 0) is
+      count_after_item (bits_of upper) false p inside ∙ ap (λ x. zeros_before (bits_of upper) p + cond (is_same false x) 1 0) is
 
   module _ (z p : ℕ) (zero_at : Picks (bits_of upper) false z p) where
     count : ones_before (bits_of upper) p + z ≡ p
-    count = omega (arith, laws.ones_and_zeros (bits_of upper) p (omega (arith, zero_at.inside)), zero_at.before)
+    count = omega (arith, ones_and_zeros (bits_of upper) p (omega (arith, zero_at.inside)), zero_at.before)
 
     ones_within : p - z ≤ length xs
     ones_within =
         let within : p ≤ length (bits_of upper) = omega (arith, zero_at.inside) in
-        omega (arith, count, all_ones, laws.counts_grow (bits_of upper) true p (length (bits_of upper)) within)
+        omega (arith, count, all_ones, counts_grow (bits_of upper) true p (length (bits_of upper)) within)
 
     not_here : (j : ℕ) → j < length xs → upper_place xs l j ≡ p → ⊥
     not_here j inside e =
@@ -70,9 +69,9 @@ module _ (laws : BitLaws) (xs : List ℕ) (l : ℕ) (upper : List ℕ) (h : IsUp
             count,
             one.before,
             one_more place one.inside one.item,
-            laws.counts_grow (bits_of upper) true (place + 1) p next,
+            counts_grow (bits_of upper) true (place + 1) p next,
           ),
-          omega (arith, zeros_at j inside, zero_at.before, laws.counts_grow (bits_of upper) false place p order),
+          omega (arith, zeros_at j inside, zero_at.before, counts_grow (bits_of upper) false place p order),
         )
 
     after : (j : ℕ) → j < length xs → p < upper_place xs l j → (p - z ≤ j) × (z < get_or xs j 0 / 2 ^ l)
@@ -81,13 +80,13 @@ module _ (laws : BitLaws) (xs : List ℕ) (l : ℕ) (upper : List ℕ) (h : IsUp
         let place = upper_place xs l j in
         let next : p + 1 ≤ place = omega arith in
         let order : p ≤ place = omega arith in (
-          omega (arith, count, one.before, laws.counts_grow (bits_of upper) true p place order),
+          omega (arith, count, one.before, counts_grow (bits_of upper) true p place order),
           omega (
             arith,
             zeros_at j inside,
             zero_at.before,
             zero_more p zero_at.inside zero_at.item,
-            laws.counts_grow (bits_of upper) false (p + 1) place next,
+            counts_grow (bits_of upper) false (p + 1) place next,
           ),
         )
 
@@ -110,7 +109,7 @@ module _ (laws : BitLaws) (xs : List ℕ) (l : ℕ) (upper : List ℕ) (h : IsUp
     bound = omega arith;
     below = λ j inside.
         let within : upper_place xs l j ≤ length (bits_of upper) = omega (arith, (one_at j inside).inside) in
-        omega (arith, few, zeros_at j inside, laws.counts_grow (bits_of upper) false (upper_place xs l j) (length (bits_of upper)) within);
+        omega (arith, few, zeros_at j inside, counts_grow (bits_of upper) false (upper_place xs l j) (length (bits_of upper)) within);
     above = λ j from inside. absurd (omega arith);
   }
 

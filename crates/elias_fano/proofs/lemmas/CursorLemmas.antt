@@ -4,11 +4,11 @@ use Rattle.std.proofs.Math.Seq.{drop-cons, take-add}
 use Rattle.std.proofs.lemmas.Bool.{cases_lt, false≢true}
 use Rattle.std.proofs.lemmas.List.{get_or-drop}
 use Rattle.std.specs.List.Sorted.{IsNonDecreasing}
+use Rattle.bitm.proofs.BitLaws.{bits_are_counted, counts_grow, count_after_item}
 use Rattle.bitm.specs.Bits.{bits_of, item}
 use Rattle.bitm.specs.Count.{ones_before, is_same, Picks, IsFirstOneFrom, IsLastOneTo}
 use Rattle.elias_fano.proofs.lemmas.ItemLemmas.{items_of-is}
 use Rattle.elias_fano.proofs.lemmas.UpperLemmas.{one_is, place_is, ones_are, upper_place-le, upper_place-rises, upper_place-inside}
-use Rattle.elias_fano.specs.Laws.{BitLaws}
 use Rattle.elias_fano.specs.Numbers.{items_left, StandFrom, IsCursor}
 use Rattle.elias_fano.specs.Parts.{upper_place, upper_words_of, IsUpper, ArePartsOf, HasOneAt, items_of}
 
@@ -48,9 +48,9 @@ length-items_left xs start end order within =
 
 -- ---- ones
 
-module _ (laws : BitLaws) (xs : List ℕ) (l : ℕ) (upper : List ℕ) (h : IsUpper xs l upper) where
+module _ (xs : List ℕ) (l : ℕ) (upper : List ℕ) (h : IsUpper xs l upper) where
   one_at : (j : ℕ) → j < length xs → Picks (bits_of upper) true j (upper_place xs l j)
-  one_at j inside = one_is laws.places_are_picked xs l upper j h inside
+  one_at j inside = one_is xs l upper j h inside
 
   -- each one is that of an item
   item_of : (p : ℕ) → p < length (bits_of upper) → item (bits_of upper) p ≡ true → (j : ℕ) × (j < length xs) × (p ≡ upper_place xs l j)
@@ -58,24 +58,24 @@ module _ (laws : BitLaws) (xs : List ℕ) (l : ℕ) (upper : List ℕ) (h : IsUp
       let b = bits_of upper in
       let j = ones_before b p in
       let next : p + 1 ≤ length b = omega arith in
-      let more : ones_before b (p + 1) ≡ j + 1 = laws.count_after_item b true p inside ∙ ap (λ x. j + cond (is_same true x) 1 0) one in
+      let more : ones_before b (p + 1) ≡ j + 1 = count_after_item b true p inside ∙ ap (λ x. j + cond (is_same true x) 1 0) one in
       let few : j < length xs =
-      omega (arith, more, laws.counts_grow b true (p + 1) (length b) next, ones_are laws.places_are_counted xs l upper h) in
+      omega (arith, more, counts_grow b true (p + 1) (length b) next, ones_are xs l upper h) in
       let here : Picks b true j p = record { inside = inside; item = one; before = refl } in
-      (j, few, place_is laws.at_most_one_picked laws.places_are_picked xs l upper j p h few here)
+      (j, few, place_is xs l upper j p h few here)
 
-module _ (laws : BitLaws) (xs : List ℕ) (n l : ℕ) (low upper : List ℕ) (start end first limit : ℕ)
+module _ (xs : List ℕ) (n l : ℕ) (low upper : List ℕ) (start end first limit : ℕ)
     (h : IsCursor xs n l low upper start end first limit) (some : start < end) where
   here : Picks (bits_of upper) true start (upper_place xs l start)
-  here = one_at laws xs l upper h.parts.upper_is start (omega (arith, h.within, h.parts.count))
+  here = one_at xs l upper h.parts.upper_is start (omega (arith, h.within, h.parts.count))
 
   there : Picks (bits_of upper) true (end - 1) (upper_place xs l (end - 1))
-  there = one_at laws xs l upper h.parts.upper_is (end - 1) (omega (arith, h.within, h.parts.count))
+  there = one_at xs l upper h.parts.upper_is (end - 1) (omega (arith, h.within, h.parts.count))
 
   -- the first one from bit first on is that of the first item left
   pub first-is : (p : ℕ) → IsFirstOneFrom (bits_of upper) first p → p ≡ upper_place xs l start
   first-is p found =
-      let j = item_of laws xs l upper h.parts.upper_is p found.inside found.is in
+      let j = item_of xs l upper h.parts.upper_is p found.inside found.is in
       let not_before : start ≤ j.0 =
       ⊎_elim (λ early. absurd (omega (arith, h.before j.0 early, j.2, found.from))) (λ from. from) (cases_lt j.0 start) in
       let from : upper_place xs l start ≤ p =
@@ -90,7 +90,7 @@ module _ (laws : BitLaws) (xs : List ℕ) (n l : ℕ) (low upper : List ℕ) (st
   -- the last one before bit limit is that of the last item left
   pub last-is : (p : ℕ) → IsLastOneTo (bits_of upper) (limit - 1) p → p ≡ upper_place xs l (end - 1)
   last-is p found =
-      let j = item_of laws xs l upper h.parts.upper_is p found.inside found.is in
+      let j = item_of xs l upper h.parts.upper_is p found.inside found.is in
       let bound : 0 < limit = omega (arith, h.left start) in
       let not_after : j.0 ≤ end - 1 =
       ⊎_elim (λ before. omega arith) (λ late. absurd (omega (arith, h.after j.0 late, j.1, j.2, found.to, h.parts.count))) (cases_lt j.0 end) in
@@ -171,10 +171,10 @@ module _ (laws : BitLaws) (xs : List ℕ) (n l : ℕ) (low upper : List ℕ) (st
   }
 
 -- all items from a place on, whose ones begin at bit first
-pub IsCursor-whole : BitLaws → (xs : List ℕ) (n l : ℕ) (low upper : List ℕ) (start first limit : ℕ)
+pub IsCursor-whole : (xs : List ℕ) (n l : ℕ) (low upper : List ℕ) (start first limit : ℕ)
     → ArePartsOf xs n l low upper → start ≤ n → limit ≡ 64 * length upper
     → StandFrom xs l start n first → IsCursor (items_of n l low upper) n l low upper start n first limit
-IsCursor-whole laws xs n l low upper start first limit h order all stand =
+IsCursor-whole xs n l low upper start first limit h order all stand =
     let P : List ℕ → Type 0 = λ ys. IsCursor ys n l low upper start n first limit in
     subst P (sym (items_of-is xs n l low upper h)) record {
       parts = h;
@@ -184,16 +184,16 @@ IsCursor-whole laws xs n l low upper start first limit h order all stand =
       before = stand.before;
       left = λ j at less. (
         stand.from j at less,
-        omega (arith, (one_at laws xs l upper h.upper_is j (omega (arith, h.count))).inside, laws.bits_are_counted upper),
+        omega (arith, (one_at xs l upper h.upper_is j (omega (arith, h.count))).inside, bits_are_counted upper),
       );
       after = λ j past less. absurd (omega arith);
     }
 
 -- the one that a place picks, from which the ones of its number and of those after it stand
-pub StandFrom-picked : BitLaws → (xs : List ℕ) (n l : ℕ) (low upper : List ℕ) (start p : ℕ) → ArePartsOf xs n l low upper
+pub StandFrom-picked : (xs : List ℕ) (n l : ℕ) (low upper : List ℕ) (start p : ℕ) → ArePartsOf xs n l low upper
     → start < length xs → Picks (bits_of upper) true start p → StandFrom xs l start (length xs) p
-StandFrom-picked laws xs n l low upper start p h some here =
-    let at = place_is laws.at_most_one_picked laws.places_are_picked xs l upper start p h.upper_is some here in
+StandFrom-picked xs n l low upper start p h some here =
+    let at = place_is xs l upper start p h.upper_is some here in
     record {
       before = λ j less. omega (arith, at, upper_place-rises xs l j start h.sequence.rising less some);
       from = λ j from less. omega (arith, at, upper_place-le xs l start j h.sequence.rising from less);

@@ -4,14 +4,12 @@ use Rattle.std.proofs.lemmas.Grind.{same_number_lists}
 use Rattle.std.proofs.lemmas.List.FromFn.{length-map-range_with_len, get_or-map-range_with_len}
 use Rattle.std.proofs.lemmas.Nat.{div-add-mod'}
 use Rattle.std.specs.Int.{div_ceil}
+use Rattle.bitm.proofs.BitLaws.{no_items_are_zero}
 use Rattle.bitm.specs.Bits.{bits_of, IsShort}
 use Rattle.bitm.specs.Count.{places, Picks}
-use Rattle.bitm.specs.Laws.{DigitsBoundPowers}
 use Rattle.bitm.specs.Number.{number_at}
-use Rattle.bitm.specs.WriteLaws.{NoItemsAreZero}
 use Rattle.bitm.specs.Tables.{Lists}
 use Rattle.elias_fano.specs.Held.{held, HasLengths}
-use Rattle.elias_fano.specs.Laws.{BitLaws}
 use Rattle.elias_fano.specs.Low.{unread, Lows}
 use Rattle.elias_fano.specs.Parts.{upper_place, IsLow, ArePartsOf, HasFragment, HasOneAt, items_of}
 use Rattle.elias_fano.specs.Sequence.{largest}
@@ -52,21 +50,21 @@ parts_of_items xs n l low upper h =
     subst P (sym (items_of-is xs n l low upper h)) h
 
 -- no low digits, and above them the whole
-pub joined-none : NoItemsAreZero → (above at w : ℕ) (low : List ℕ) → w ≡ 0
+pub joined-none : (above at w : ℕ) (low : List ℕ) → w ≡ 0
     → above ≡ above * 2 ^ w + number_at (bits_of low) (at * w) w
-joined-none zero above at w low none =
+joined-none above at w low none =
     let rest : number_at (bits_of low) (at * w) w ≡ 0 =
-    ap (λ k. number_at (bits_of low) (at * k) k) none ∙ zero (bits_of low) (at * 0) in
+    ap (λ k. number_at (bits_of low) (at * k) k) none ∙ no_items_are_zero (bits_of low) (at * 0) in
     let whole : above * 2 ^ w ≡ above * 1 = ap (λ k. above * 2 ^ k) none in
     omega arith
 
 -- the width and the upper vector of parts are small
-module _ (digits : DigitsBoundPowers) (xs : List ℕ) (n l : ℕ) (low upper : List ℕ) (h : ArePartsOf xs n l low upper) where
+module _ (xs : List ℕ) (n l : ℕ) (low upper : List ℕ) (h : ArePartsOf xs n l low upper) where
   pub parts-width : l ≤ 63
-  parts-width = omega (arith, h.width, width-small digits xs h.sequence.small)
+  parts-width = omega (arith, h.width, width-small xs h.sequence.small)
 
   pub upper-short : IsShort upper
-  upper-short = omega (arith, h.upper_is.words, upper_few_at digits xs l (largest xs) h.width refl, h.sequence.short)
+  upper-short = omega (arith, h.upper_is.words, upper_few_at xs l (largest xs) h.width refl, h.sequence.short)
 
   -- and their lengths are those of parts
   pub parts-lengths : (lists : Lists) → HasLengths (held n l low lists)
@@ -91,17 +89,17 @@ unread-has xs n l words upper i p low same h =
     subst P (sym same) h
 
 -- one item, from the place of its one
-module _ (laws : BitLaws) (xs : List ℕ) (n l : ℕ) (low upper : List ℕ) (i p : ℕ) (h : HasOneAt xs n l low upper i p) where
+module _ (xs : List ℕ) (n l : ℕ) (low upper : List ℕ) (i p : ℕ) (h : HasOneAt xs n l low upper i p) where
   inside : i < length xs
   inside = omega (arith, h.parts.count, h.inside)
 
   at : p ≡ upper_place xs l i
-  at = place_is laws.at_most_one_picked laws.places_are_picked xs l upper i p h.parts.upper_is inside h.one
+  at = place_is xs l upper i p h.parts.upper_is inside h.one
 
   -- its low digits are inside
   pub fragment-of : HasFragment low i l
   fragment-of = record {
-    width = parts-width laws.digits_bound_powers xs n l low upper h.parts;
+    width = parts-width xs n l low upper h.parts;
     short = omega (arith, inside, h.parts.sequence.short);
     inside = fragment-inside xs l i low inside h.parts.low_is.words;
   }

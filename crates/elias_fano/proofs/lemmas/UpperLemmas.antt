@@ -5,11 +5,10 @@ use Rattle.std.proofs.lemmas.List.FromFn.{map-range_with_len_more, length-map-ra
 use Rattle.std.proofs.lemmas.List.{length-replicate}
 use Rattle.std.proofs.lemmas.Nat.{pow_pos, le-div}
 use Rattle.std.specs.List.Sorted.{IsNonDecreasing}
+use Rattle.bitm.proofs.BitLaws.{bits_are_counted, zeros_have_no_ones, zeros_are_counted, item_beside_is_kept, last_one_is_set, at_most_one_picked, places_are_picked, places_are_counted}
 use Rattle.bitm.specs.Bits.{bits_of, item}
 use Rattle.bitm.specs.Count.{ones_before, Picks, places}
-use Rattle.bitm.specs.Laws.{AtMostOnePicked, PlacesArePicked, PlacesAreCounted}
 use Rattle.bitm.specs.Number.{with_number}
-use Rattle.elias_fano.specs.Laws.{BitLaws}
 use Rattle.elias_fano.specs.Parts.{upper_place, upper_places, upper_words_of, IsUpper}
 
 -- ---- where the one of an item stands
@@ -49,22 +48,22 @@ places_are xs l upper h = ap length h.ones ∙ length-map-range_with_len (upper_
 -- ---- which item a one stands for
 
 -- the place of an item is picked by its number
-pub one_is : PlacesArePicked → (xs : List ℕ) (l : ℕ) (upper : List ℕ) (i : ℕ) → IsUpper xs l upper → i < length xs
+pub one_is : (xs : List ℕ) (l : ℕ) (upper : List ℕ) (i : ℕ) → IsUpper xs l upper → i < length xs
     → Picks (bits_of upper) true i (upper_place xs l i)
-one_is picked xs l upper i h inside =
+one_is xs l upper i h inside =
     let P : ℕ → Type 0 = λ p. Picks (bits_of upper) true i p in
-    subst P (place_of xs l upper i h inside) (picked (bits_of upper) true i (omega (arith, places_are xs l upper h)))
+    subst P (place_of xs l upper i h inside) (places_are_picked (bits_of upper) true i (omega (arith, places_are xs l upper h)))
 
 -- and no other place is
-pub place_is : AtMostOnePicked → PlacesArePicked → (xs : List ℕ) (l : ℕ) (upper : List ℕ) (i p : ℕ) → IsUpper xs l upper → i < length xs
+pub place_is : (xs : List ℕ) (l : ℕ) (upper : List ℕ) (i p : ℕ) → IsUpper xs l upper → i < length xs
     → Picks (bits_of upper) true i p → p ≡ upper_place xs l i
-place_is one picked xs l upper i p h inside here =
-    one (bits_of upper) true i p (upper_place xs l i) here (one_is picked xs l upper i h inside)
+place_is xs l upper i p h inside here =
+    at_most_one_picked (bits_of upper) true i p (upper_place xs l i) here (one_is xs l upper i h inside)
 
 -- there are as many ones as items
-pub ones_are : PlacesAreCounted → (xs : List ℕ) (l : ℕ) (upper : List ℕ) → IsUpper xs l upper
+pub ones_are : (xs : List ℕ) (l : ℕ) (upper : List ℕ) → IsUpper xs l upper
     → ones_before (bits_of upper) (length (bits_of upper)) ≡ length xs
-ones_are counted xs l upper h = sym (counted (bits_of upper) true) ∙ places_are xs l upper h
+ones_are xs l upper h = sym (places_are_counted (bits_of upper) true) ∙ places_are xs l upper h
 
 -- ---- the ones of the first items
 
@@ -73,41 +72,40 @@ pub record HasOnes (xs : List ℕ) (l k : ℕ) (upper : List ℕ) : Type 0 where
   pub ones : places true 0 (bits_of upper) ≡ upper_places xs l k
   pub zeros : (q : ℕ) → ((j : ℕ) → j < k → upper_place xs l j < q) → item (bits_of upper) q ≡ false
 
-module _ (laws : BitLaws) where
-  pub HasOnes-none : (xs : List ℕ) (l count : ℕ) (upper : List ℕ) → upper ≡ replicate count 0 → HasOnes xs l 0 upper
-  HasOnes-none xs l count upper is = record {
-    ones = no_places (places true 0 (bits_of upper)) (omega (arith, laws.places_are_counted (bits_of upper) true, none));
-    zeros = λ q _. zeros q;
-  }
-    where
-      zeros : (q : ℕ) → item (bits_of upper) q ≡ false
-      zeros q = ap (λ w. item (bits_of w) q) is ∙ laws.zeros_have_no_ones count q
+pub HasOnes-none : (xs : List ℕ) (l count : ℕ) (upper : List ℕ) → upper ≡ replicate count 0 → HasOnes xs l 0 upper
+HasOnes-none xs l count upper is = record {
+  ones = no_places (places true 0 (bits_of upper)) (omega (arith, places_are_counted (bits_of upper) true, none));
+  zeros = λ q _. zeros q;
+}
+  where
+    zeros : (q : ℕ) → item (bits_of upper) q ≡ false
+    zeros q = ap (λ w. item (bits_of w) q) is ∙ zeros_have_no_ones count q
 
-      no_places : (ps : List ℕ) → length ps ≡ 0 → ps ≡ []
-      no_places [] few = refl
-      no_places (p ∷ ps) few = absurd (omega arith)
+    no_places : (ps : List ℕ) → length ps ≡ 0 → ps ≡ []
+    no_places [] few = refl
+    no_places (p ∷ ps) few = absurd (omega arith)
 
-      none : ones_before (bits_of upper) (length (bits_of upper)) ≡ 0
-      none =
-          ap (λ w. ones_before (bits_of w) (length (bits_of upper))) is
-          ∙ (laws.zeros_are_counted count (length (bits_of upper))
-          (omega (arith, laws.bits_are_counted upper, ap length is, length-replicate {A = ℕ} count 0))).0
+    none : ones_before (bits_of upper) (length (bits_of upper)) ≡ 0
+    none =
+        ap (λ w. ones_before (bits_of w) (length (bits_of upper))) is
+        ∙ (zeros_are_counted count (length (bits_of upper))
+        (omega (arith, bits_are_counted upper, ap length is, length-replicate {A = ℕ} count 0))).0
 
-  -- the one of the next item
-  pub HasOnes-more : (xs : List ℕ) (l i : ℕ) (old new : List ℕ) → IsNonDecreasing xs → i < length xs → upper_place xs l i < 64 * length old
-      → HasOnes xs l i old → bits_of new ≡ with_number (bits_of old) (upper_place xs l i) 1 1 → HasOnes xs l (i + 1) new
-  HasOnes-more xs l i old new rising here room h after = record {
-    ones = ap (places true 0) after
-        ∙ laws.last_one_is_set (bits_of old) p inside (λ q le. h.zeros q (λ j less. omega (arith, upper_place-rises xs l j i rising less here)))
-        ∙ ap (λ ps. ps ++ p ∷ []) h.ones
-        ∙ sym (map-range_with_len_more (upper_place xs l) 0 i i (omega arith));
-    zeros = λ q all. ap (λ b. item b q) after
-        ∙ laws.item_beside_is_kept (bits_of old) p 1 1 q (omega (arith, inside)) (inr (omega (arith, all i (omega arith))))
-        ∙ h.zeros q (λ j less. all j (omega arith));
-  }
-    where
-      p : ℕ
-      p = upper_place xs l i
+-- the one of the next item
+pub HasOnes-more : (xs : List ℕ) (l i : ℕ) (old new : List ℕ) → IsNonDecreasing xs → i < length xs → upper_place xs l i < 64 * length old
+    → HasOnes xs l i old → bits_of new ≡ with_number (bits_of old) (upper_place xs l i) 1 1 → HasOnes xs l (i + 1) new
+HasOnes-more xs l i old new rising here room h after = record {
+  ones = ap (places true 0) after
+      ∙ last_one_is_set (bits_of old) p inside (λ q le. h.zeros q (λ j less. omega (arith, upper_place-rises xs l j i rising less here)))
+      ∙ ap (λ ps. ps ++ p ∷ []) h.ones
+      ∙ sym (map-range_with_len_more (upper_place xs l) 0 i i (omega arith));
+  zeros = λ q all. ap (λ b. item b q) after
+      ∙ item_beside_is_kept (bits_of old) p 1 1 q (omega (arith, inside)) (inr (omega (arith, all i (omega arith))))
+      ∙ h.zeros q (λ j less. all j (omega arith));
+}
+  where
+    p : ℕ
+    p = upper_place xs l i
 
-      inside : p < length (bits_of old)
-      inside = omega (arith, laws.bits_are_counted old)
+    inside : p < length (bits_of old)
+    inside = omega (arith, bits_are_counted old)

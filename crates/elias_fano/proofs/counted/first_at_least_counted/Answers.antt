@@ -19,7 +19,7 @@ alone g c xs h =
 
 pub returns-then-only_reaches-clause-reads : goal.returns-then-only_reaches-clause-reads
 returns-then-only_reaches-clause-reads g c =
-    digits-allow-one c.bit_laws.ensures.digits_bound_powers _ _ c.args.n _ (omega (arith, c.if-n-eq1.true)) c.only_reaches.ensures.reads.at_most
+    digits-allow-one _ _ c.args.n _ (omega (arith, c.if-n-eq1.true)) c.only_reaches.ensures.reads.at_most
 
 pub returns-then-only_reaches-clause-shared : goal.returns-then-only_reaches-clause-shared
 returns-then-only_reaches-clause-shared g c = λ xs h.
@@ -35,7 +35,7 @@ returns-else-only_reaches-clause-answer g c = λ xs h k d inside.
 
 pub returns-else-only_reaches-clause-reads : goal.returns-else-only_reaches-clause-reads
 returns-else-only_reaches-clause-reads g c =
-    digits-allow-one c.bit_laws.ensures.digits_bound_powers _ _ c.args.n _ (omega (arith, c.if-n-eq1.true)) c.only_reaches.ensures.reads.at_most
+    digits-allow-one _ _ c.args.n _ (omega (arith, c.if-n-eq1.true)) c.only_reaches.ensures.reads.at_most
 
 pub returns-else-only_reaches-clause-shared : goal.returns-else-only_reaches-clause-shared
 returns-else-only_reaches-clause-shared g c = λ xs h.
@@ -44,12 +44,12 @@ returns-else-only_reaches-clause-shared g c = λ xs h.
 -- ---- more
 
 pub first_on-requires-clause-lengths : goal.first_on-requires-clause-lengths
-first_on-requires-clause-lengths g c = parts-lengths c.bit_laws.ensures.digits_bound_powers _ _ _ _ _ c.requires.parts.1.are _
+first_on-requires-clause-lengths g c = parts-lengths _ _ _ _ _ c.requires.parts.1.are _
 
 pub first_on-requires-clause-sized : goal.first_on-requires-clause-sized
 first_on-requires-clause-sized g c =
     c.tables_have_sizes.ensures _ c.requires.parts.1.tables
-    (upper-short c.bit_laws.ensures.digits_bound_powers _ _ _ _ _ c.requires.parts.1.are)
+    (upper-short _ _ _ _ _ c.requires.parts.1.are)
 
 -- two selections at most
 several : (g : _) (c : After-first_on g) → 2 ≤ c.args.n
@@ -57,12 +57,12 @@ several g c = omega (arith, c.if-n-eq0.false, c.if-n-eq1.false)
 
 pub returns-in-Found-clause-reads : goal.returns-in-Found-clause-reads
 returns-in-Found-clause-reads g c =
-    digits-allow-two c.bit_laws.ensures.digits_bound_powers _ _ c.args.n _
+    digits-allow-two _ _ c.args.n _
     (several g (goal.at.returns-in-Found-clause-reads g c).After-first_on) c.in-Found.ensures.reads.at_most
 
 pub returns-in-Absent-clause-reads : goal.returns-in-Absent-clause-reads
 returns-in-Absent-clause-reads g c =
-    digits-allow-two c.bit_laws.ensures.digits_bound_powers _ _ c.args.n _
+    digits-allow-two _ _ c.args.n _
     (several g (goal.at.returns-in-Absent-clause-reads g c).After-first_on) c.in-Absent.ensures.reads.at_most
 
 pub returns-in-WrongParts-clause-answer : goal.returns-in-WrongParts-clause-answer
@@ -70,5 +70,5 @@ returns-in-WrongParts-clause-answer g c = λ xs h. absurd (c.in-WrongParts.ensur
 
 pub returns-in-WrongParts-clause-reads : goal.returns-in-WrongParts-clause-reads
 returns-in-WrongParts-clause-reads g c =
-    digits-allow-two c.bit_laws.ensures.digits_bound_powers _ _ c.args.n _
+    digits-allow-two _ _ c.args.n _
     (several g (goal.at.returns-in-WrongParts-clause-reads g c).After-first_on) c.in-WrongParts.ensures.reads.at_most

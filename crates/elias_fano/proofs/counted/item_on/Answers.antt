@@ -4,12 +4,12 @@ use Rattle.elias_fano.proofs.counted.item_on.Goals as goal
 
 pub total_item_on-requires-clause-lengths : goal.total_item_on-requires-clause-lengths
 total_item_on-requires-clause-lengths g c =
-    parts-lengths c.bit_laws.ensures.digits_bound_powers _ _ _ _ _ c.requires.parts.1.are _
+    parts-lengths _ _ _ _ _ c.requires.parts.1.are _
 
 pub total_item_on-requires-clause-sized : goal.total_item_on-requires-clause-sized
 total_item_on-requires-clause-sized g c =
     c.tables_have_sizes.ensures _ c.requires.parts.1.tables
-    (upper-short c.bit_laws.ensures.digits_bound_powers _ _ _ _ _ c.requires.parts.1.are)
+    (upper-short _ _ _ _ _ c.requires.parts.1.are)
 
 pub returns-clause-item : goal.returns-clause-item
 returns-clause-item g c = λ xs h. (c.in-Found.ensures.answer xs h).1

@@ -10,4 +10,4 @@ returns-in-Found-clause-count g c = λ xs l h t n. c.count_at_zero.ensures.count
 pub returns-in-Absent-clause-count : goal.returns-in-Absent-clause-count
 returns-in-Absent-clause-count g c = λ xs l h t n.
     let P : ℕ → Type 0 = CountsTo xs l c.args.above in
-    subst P (sym n) (CountsTo-all c.bit_laws.ensures xs l _ h c.args.above (c.in-Absent.ensures.answer t))
+    subst P (sym n) (CountsTo-all xs l _ h c.args.above (c.in-Absent.ensures.answer t))

@@ -7,8 +7,8 @@ use Rattle.elias_fano.proofs.searching.item_at_one.Goals as goal
 pub returns-clause-item : goal.returns-clause-item
 returns-clause-item c = λ xs n upper h.
     let item : ℕ → ℕ = λ k. joined_item k c.args.low.now c.args.at in
-    let after = place-after c.bit_laws.ensures xs n _ _ upper _ _ h in
+    let after = place-after xs n _ _ upper _ _ h in
     let above : (c.args.place + (2 ^ 64 - c.args.at)) % 2 ^ 64 ≡ c.args.place - c.args.at =
     omega (arith, after, c.ranges.place.fits, c.ranges.at.fits) in
-    c.joined.ensures.number (omega (arith, ap item above, held-fits c.bit_laws.ensures xs n _ _ upper _ _ h))
-    ∙ ap item above ∙ held-is c.bit_laws.ensures xs n _ _ upper _ _ h
+    c.joined.ensures.number (omega (arith, ap item above, held-fits xs n _ _ upper _ _ h))
+    ∙ ap item above ∙ held-is xs n _ _ upper _ _ h

@@ -6,4 +6,4 @@ use Rattle.elias_fano.proofs.searching.joined.Goals as goal
 pub returns-then-width-eq0-clause-number : goal.returns-then-width-eq0-clause-number
 returns-then-width-eq0-clause-number c = λ _.
     let low = c.args.low.now in
-    joined-none c.no_items_are_zero.ensures c.args.above c.args.at low.width low.words (sym c.width-width.ensures ∙ c.if-width-eq0.true)
+    joined-none c.args.above c.args.at low.width low.words (sym c.width-width.ensures ∙ c.if-width-eq0.true)

@@ -61,7 +61,7 @@ returns-else-place-n-clause-answer c = λ xs upper h e.
 few : (c : After-split_low-place) → ReadsFragments c.args.low.now c.split_low-place.new.low (digit_count c.args.n)
 few c =
     let order : c.args.end - c.args.first ≤ c.args.n = omega (arith, c.requires.end) in
-    fragments-more _ _ _ _ c.split_low-place.ensures.fragments (digits-grow c.bit_laws.ensures.digits_bound_powers _ _ order)
+    fragments-more _ _ _ _ c.split_low-place.ensures.fragments (digits-grow _ _ order)
 
 shared : (c : After-split_low-place) (xs : List ℕ) → HasEnds xs c.args.low.now.width c.args.v c.args.first c.args.end
     → ReadsFragments c.args.low.now c.split_low-place.new.low (digit_count (sharing xs c.args.low.now.width c.args.v))
@@ -70,7 +70,7 @@ shared c xs e =
     ⊎_elim (λ none. fragments-none _ _ _ (c.split_low-place.ensures.none none).1)
     (λ apart.
     let order = bucket-shared xs w c.args.v _ _ e.begins (e.ends (omega arith)) in
-    fragments-more _ _ _ _ c.split_low-place.ensures.fragments (digits-grow c.bit_laws.ensures.digits_bound_powers _ _ order))
+    fragments-more _ _ _ _ c.split_low-place.ensures.fragments (digits-grow _ _ order))
     (cases_eq w 0)
 
 pub returns-then-place-n-clause-fragments : goal.returns-then-place-n-clause-fragments

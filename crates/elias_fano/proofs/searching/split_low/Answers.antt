@@ -20,7 +20,6 @@ pub loop-left-preserved-then-fragment-rest : goal.loop-left-preserved-then-fragm
 loop-left-preserved-then-fragment-rest c =
     let i = c.loop-left.invariant in
     let left = c.loop-left.left in
-    let digits = c.bit_laws.ensures.digits_bound_powers in
     let item = c.fragment.ensures.item ∙ fragment-same c.args.low.now c.loop-left.low _ i.words i.width in
     let order : left - (left / 2 + 1) ≤ left / 2 = omega arith in
     record {
@@ -35,8 +34,8 @@ loop-left-preserved-then-fragment-rest c =
         arith,
         i.read,
         ap (λ (low : Lows). low.read) c.fragment.ensures.counted,
-        digit_count-half digits left c.loop-left-test.true,
-        digits-grow digits _ _ order,
+        digit_count-half left c.loop-left-test.true,
+        digits-grow _ _ order,
       );
     }
 
@@ -57,6 +56,6 @@ loop-left-preserved c =
         arith,
         i.read,
         ap (λ (low : Lows). low.read) c.fragment.ensures.counted,
-        digit_count-half c.bit_laws.ensures.digits_bound_powers left c.loop-left-test.true,
+        digit_count-half left c.loop-left-test.true,
       );
     }

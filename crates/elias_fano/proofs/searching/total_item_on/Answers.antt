@@ -18,5 +18,5 @@ returns-in-Absent-clause-answer g c = λ xs h.
       c.if-at-n.false,
       h.are.count,
       c.in-Absent.ensures.answer h.tables,
-      ones_are c.bit_laws.ensures.places_are_counted xs c.args.low.now.width _ h.are.upper_is,
+      ones_are xs c.args.low.now.width _ h.are.upper_is,
     )

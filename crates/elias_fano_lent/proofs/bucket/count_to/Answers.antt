@@ -13,7 +13,7 @@ returns-then-told-eq-NO_ANSWER-clause-count c = λ xs l upper h tables short n t
     let P : ℕ → Type 0 = CountsTo xs l c.args.above in
     ⊎_elim
     (λ some. absurd (omega (arith, (told.some tables some).inside, length-bits_of upper.words, short, c.if-told-eq-NO_ANSWER.true)))
-    (λ none. subst P (sym n) (CountsTo-all c.bit_laws.ensures xs l _ h c.args.above none))
+    (λ none. subst P (sym n) (CountsTo-all xs l _ h c.args.above none))
     (cases_lt c.args.above (count_of (bits_of upper.words) false))
 
 pub returns-then-told-eq-WRONG_TABLES-clause-count : goal.returns-then-told-eq-WRONG_TABLES-clause-count

@@ -15,7 +15,7 @@ begins : (c : In-Some) (xs : List ℕ) (upper : Lists) → Holds xs (held_by c.a
     → CountsBelow xs c.args.low.now.width (c.args.v / 2 ^ c.args.low.now.width) c.in-Some.first
 begins c xs upper h e =
     let w = c.args.low.now.width in
-    let short = upper-short c.bit_laws.ensures.digits_bound_powers _ _ _ _ _ h.are in
+    let short = upper-short _ _ _ _ _ h.are in
     let P : ℕ → Type 0 = λ k. CountsBelow xs w (c.args.v / 2 ^ k) c.in-Some.first in
     let T : ℕ → Type 0 = λ k. 0 < c.args.v / 2 ^ k → SelectTold false upper (c.args.v / 2 ^ k - 1) c.args.begin in
     let told = subst T (sym c.width-width.ensures) (λ some. e.begins) in
@@ -27,7 +27,7 @@ ends : (c : After-place_in_bucket-2) (xs : List ℕ) (upper : Lists) → Holds x
 ends c xs upper h e =
     let w = c.args.low.now.width in
     let some : 0 < w = omega (arith, c.width-width.ensures, c.if-width-eq0.false) in
-    let short = upper-short c.bit_laws.ensures.digits_bound_powers _ _ _ _ _ h.are in
+    let short = upper-short _ _ _ _ _ h.are in
     let first = begins (goal.at.returns-clause-answer c).In-Some xs upper h e in
     let P : ℕ → Type 0 = λ k. CountsTo xs w (c.args.v / 2 ^ k) c.in-Some-count_to.last in
     let T : ℕ → Type 0 = λ r. SelectTold false upper r c.args.end in
@@ -53,7 +53,7 @@ whole c xs upper h e =
 pub returns-in_default-clause-answer : goal.returns-in_default-clause-answer
 returns-in_default-clause-answer c = λ xs upper h e.
     let w = c.args.low.now.width in
-    let short = upper-short c.bit_laws.ensures.digits_bound_powers _ _ _ _ _ h.are in
+    let short = upper-short _ _ _ _ _ h.are in
     let T : ℕ → Type 0 = λ k. 0 < c.args.v / 2 ^ k → SelectTold false upper (c.args.v / 2 ^ k - 1) c.args.begin in
     let told = subst T (sym c.width-width.ensures) (λ some. e.begins) in
     c.in_default.ensures.count xs w upper h.are.upper_is h.tables short h.are.count told
@@ -70,7 +70,7 @@ pub returns-in_default-count_to-clause-answer : goal.returns-in_default-count_to
 returns-in_default-count_to-clause-answer c = λ xs upper h e.
     let w = c.args.low.now.width in
     let some : 0 < w = omega (arith, c.width-width.ensures, c.if-width-eq0.false) in
-    let short = upper-short c.bit_laws.ensures.digits_bound_powers _ _ _ _ _ h.are in
+    let short = upper-short _ _ _ _ _ h.are in
     let T : ℕ → Type 0 = λ r. SelectTold false upper r c.args.end in
     let rank : c.args.v / 2 ^ w - 0 ≡ c.args.v / 2 ^ c.width-width.result = omega (arith, ap (λ k. c.args.v / 2 ^ k) c.width-width.ensures) in
     let told = subst T rank (e.ends some) in

@@ -28,7 +28,7 @@ pub returns-then-sizes-width : goal.returns-then-sizes-width
 returns-then-sizes-width c = (
   λ e. absurd (false≢true e),
   λ some.
-      let agree = sizes-agree c.bit_laws.ensures some.0 c.args.n c.args.width c.args.low.now _ some.1 c.in-Some.last (found (goal.at.returns-then-sizes-width c).In-Some).0 in
+      let agree = sizes-agree some.0 c.args.n c.args.width c.args.low.now _ some.1 c.in-Some.last (found (goal.at.returns-then-sizes-width c).In-Some).0 in
       let is = c.in-Some-of.ensures.sizes.1 in
       let width : c.in-Some-of.sizes.width ≡ c.args.width = ap (λ (s : Sizes). s.width) is ∙ agree.0 in
       let count : c.in-Some-of.sizes.words ≡ length c.args.words.now =
@@ -46,7 +46,7 @@ returns-in-None c =
     ap (upper_words_at n c.in-Some.last) (sym width) ∙ sym (ap (λ (s : Sizes). s.words) is) ∙ c.if-sizes-words.false in (
       λ _. (
         items_of n c.args.width c.args.low.now c.args.words.now,
-        parts c.bit_laws.ensures n c.args.width c.in-Some.last _ _ c.requires.some held.0 held.1 width count
+        parts n c.args.width c.in-Some.last _ _ c.requires.some held.0 held.1 width count
             c.requires.low c.in-None.ensures,
       ),
       λ _. refl,

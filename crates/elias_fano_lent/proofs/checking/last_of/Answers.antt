@@ -14,11 +14,11 @@ loop-at-preserved c =
     let i = c.loop-at.invariant in
     let found = c.in-Some.ensures in
     let x = c.in-Some-number_of.ensures.number in
-    let here = held_of_pick c.bit_laws.ensures c.args.low.now.width _ _ c.loop-at.at c.in-Some.place (first_picked b c.loop-at.from _ _ found i.ones) in
+    let here = held_of_pick c.args.low.now.width _ _ c.loop-at.at c.in-Some.place (first_picked b c.loop-at.from _ _ found i.ones) in
     let same = joined-same (c.in-Some.place - c.loop-at.at) c.args.low.now c.loop-at.low c.loop-at.at i.fragments.words i.fragments.width in
     let read = c.in-Some-number_of.ensures.fragments in
     record {
-      numbers = AreNumbers-more c.bit_laws.ensures c.args.low.now.width _ _ c.loop-at.at c.loop-at.last _ i.numbers (here ∙ sym same ∙ sym x.1)
+      numbers = AreNumbers-more c.args.low.now.width _ _ c.loop-at.at c.loop-at.last _ i.numbers (here ∙ sym same ∙ sym x.1)
           (omega (arith, x.0, x.1)) c.if-number-last.false;
       ones = next_counts b c.loop-at.from c.in-Some.place found ∙ ap (λ k. k + 1) i.ones;
       room = omega (arith, found.inside, length-bits_of c.args.words.now);
@@ -32,14 +32,14 @@ loop-at-preserved c =
 pub returns-in-None-clause-last : goal.returns-in-None-clause-last
 returns-in-None-clause-last c = λ xs h.
     let none = none_follows (bits_of c.args.words.now) c.loop-at.from c.in-None.ensures in
-    omega (arith, none, c.loop-at.invariant.ones, c.loop-at-test.true, c.loop-at.auto.at-end, ones-all c.bit_laws.ensures xs c.args.n c.args.low.now.width _ _ h)
+    omega (arith, none, c.loop-at.invariant.ones, c.loop-at-test.true, c.loop-at.auto.at-end, ones-all xs c.args.n c.args.low.now.width _ _ h)
 
 pub returns-in-None-number_of-clause-last : goal.returns-in-None-number_of-clause-last
 returns-in-None-number_of-clause-last c = λ xs h.
     let pick = first_picked (bits_of c.args.words.now) c.loop-at.from _ _ c.in-Some.ensures c.loop-at.invariant.ones in
     let inside : c.loop-at.at < c.args.n = omega (arith, c.loop-at-test.true, c.loop-at.auto.at-end) in
-    let here = held_of_pick c.bit_laws.ensures c.args.low.now.width c.args.low.now.words c.args.words.now c.loop-at.at c.in-Some.place pick in
-    let item = held_is c.bit_laws.ensures xs c.args.n c.args.low.now.width _ _ h c.loop-at.at inside in
+    let here = held_of_pick c.args.low.now.width c.args.low.now.words c.args.words.now c.loop-at.at c.in-Some.place pick in
+    let item = held_is xs c.args.n c.args.low.now.width _ _ h c.loop-at.at inside in
     let i = c.loop-at.invariant.fragments in
     let same = joined-same (c.in-Some.place - c.loop-at.at) c.args.low.now c.loop-at.low c.loop-at.at i.words i.width in
     c.in-None-number_of.ensures.number (omega (arith, here, item, same, h.sequence.small c.loop-at.at 0 (omega (arith, inside, h.count))))
@@ -48,9 +48,9 @@ pub returns-then-number-last-clause-last : goal.returns-then-number-last-clause-
 returns-then-number-last-clause-last c = λ xs h.
     let pick = first_picked (bits_of c.args.words.now) c.loop-at.from _ _ c.in-Some.ensures c.loop-at.invariant.ones in
     let inside : c.loop-at.at < c.args.n = omega (arith, c.loop-at-test.true, c.loop-at.auto.at-end) in
-    let here = held_of_pick c.bit_laws.ensures c.args.low.now.width c.args.low.now.words c.args.words.now c.loop-at.at c.in-Some.place pick in
-    let item = held_is c.bit_laws.ensures xs c.args.n c.args.low.now.width _ _ h c.loop-at.at inside in
-    let order = last-at_most c.bit_laws.ensures xs c.args.n c.args.low.now.width _ _ h c.loop-at.at c.loop-at.last c.loop-at.invariant.numbers inside in
+    let here = held_of_pick c.args.low.now.width c.args.low.now.words c.args.words.now c.loop-at.at c.in-Some.place pick in
+    let item = held_is xs c.args.n c.args.low.now.width _ _ h c.loop-at.at inside in
+    let order = last-at_most xs c.args.n c.args.low.now.width _ _ h c.loop-at.at c.loop-at.last c.loop-at.invariant.numbers inside in
     let i = c.loop-at.invariant.fragments in
     let same = joined-same (c.in-Some.place - c.loop-at.at) c.args.low.now c.loop-at.low c.loop-at.at i.words i.width in
     omega (arith, here, item, order, same, c.in-Some-number_of.ensures.number.1, c.if-number-last.true)
@@ -59,7 +59,7 @@ pub returns-in-Some-find_bit_one-clause-last : goal.returns-in-Some-find_bit_one
 returns-in-Some-find_bit_one-clause-last c = λ xs h.
     let b = bits_of c.args.words.now in
     let pick = first_picked b c.loop-at.from _ _ c.in-Some-find_bit_one.ensures c.loop-at.invariant.ones in
-    omega (arith, rank_below b true _ _ pick, c.loop-at-test.false, ones-all c.bit_laws.ensures xs c.args.n c.args.low.now.width _ _ h)
+    omega (arith, rank_below b true _ _ pick, c.loop-at-test.false, ones-all xs c.args.n c.args.low.now.width _ _ h)
 
 pub returns-in-None-find_bit_one-clause-last : goal.returns-in-None-find_bit_one-clause-last
 returns-in-None-find_bit_one-clause-last c =

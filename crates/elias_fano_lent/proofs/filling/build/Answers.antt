@@ -13,21 +13,21 @@ sequence xs short rising fits = is_sequence xs short rising (λ k. omega (arith,
 pub write_low-requires-clause-width : goal.write_low-requires-clause-width
 write_low-requires-clause-width c =
     let xs = sequence c.args.items.now c.in-Some.ensures.0.short c.if-not-is_rising.ensures c.type_inv.items in
-    omega (arith, width-small c.bit_laws.ensures.digits_bound_powers c.args.items.now xs.small, c.in-Some.ensures.1)
+    omega (arith, width-small c.args.items.now xs.small, c.in-Some.ensures.1)
 
 pub write_tested-requires-clause-width : goal.write_tested-requires-clause-width
 write_tested-requires-clause-width c =
     let xs = sequence c.args.items.now c.in-Some.ensures.0.short c.if-not-is_rising.ensures c.type_inv.items in
-    omega (arith, width-small c.bit_laws.ensures.digits_bound_powers c.args.items.now xs.small, c.in-Some.ensures.1)
+    omega (arith, width-small c.args.items.now xs.small, c.in-Some.ensures.1)
 
 pub write_tested-requires-clause-short : goal.write_tested-requires-clause-short
 write_tested-requires-clause-short c =
-    upper-words-few c.bit_laws.ensures.digits_bound_powers c.args.items.now _ _ _ _ c.in-Some.width c.in-Some.ensures.0 c.in-Some.ensures.1
+    upper-words-few c.args.items.now _ _ _ _ c.in-Some.width c.in-Some.ensures.0 c.in-Some.ensures.1
 
 pub unreachable-requires : goal.unreachable-requires
 unreachable-requires c =
     c.in-None.ensures.ones
-    (room-sizes c.bit_laws.ensures.digits_bound_powers c.args.items.now _ _ _ _ c.in-Some.width c.in-Some.ensures.0 c.in-Some.ensures.1
+    (room-sizes c.args.items.now _ _ _ _ c.in-Some.width c.in-Some.ensures.0 c.in-Some.ensures.1
     c.write_tested.new.words c.write_tested.ensures.upper)
 
 pub returns-clause-parts : goal.returns-clause-parts

@@ -5,10 +5,10 @@ use Rattle.elias_fano.proofs.lemmas.UpperLemmas.{HasOnes-none, HasOnes-more, upp
 use Rattle.elias_fano_lent.proofs.filling.write_tested.Goals as goal
 
 pub loop-i-init : goal.loop-i-init
-loop-i-init c = HasOnes-none c.bit_laws.ensures _ _ _ _ c.requires.clear
+loop-i-init c = HasOnes-none _ _ _ _ c.requires.clear
 
 pub loop-i-preserved : goal.loop-i-preserved
 loop-i-preserved c =
-    HasOnes-more c.bit_laws.ensures c.args.items.now c.args.width c.loop-i.i c.loop-i.words _ c.requires.rising c.loop-i-test.true
+    HasOnes-more c.args.items.now c.args.width c.loop-i.i c.loop-i.words _ c.requires.rising c.loop-i-test.true
     (omega (arith, upper_place-inside c.args.items.now c.args.width c.loop-i.i c.requires.rising c.loop-i-test.true, ap length c.requires.clear, length-replicate {A = ℕ}))
     c.loop-i.invariant c.set_bit.ensures

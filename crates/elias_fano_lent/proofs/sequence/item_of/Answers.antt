@@ -9,19 +9,19 @@ use Rattle.elias_fano_lent.proofs.sequence.item_of.Goals as goal
 
 pub returns-then-one-ge-WRONG_TABLES-clause-answer : goal.returns-then-one-ge-WRONG_TABLES-clause-answer
 returns-then-one-ge-WRONG_TABLES-clause-answer c = λ xs upper h told.
-    let count = ones_are c.bit_laws.ensures.places_are_counted xs c.args.low.now.width _ h.are.upper_is in
+    let count = ones_are xs c.args.low.now.width _ h.are.upper_is in
     let some : c.args.place < count_of (bits_of upper.words) true = omega (arith, h.are.count, count, c.if-place-n.false) in
     omega (
       arith,
       (told.some h.tables some).inside,
       length-bits_of upper.words,
-      upper-short c.bit_laws.ensures.digits_bound_powers _ _ _ _ _ h.are,
+      upper-short _ _ _ _ _ h.are,
       c.if-one-ge-WRONG_TABLES.true,
     )
 
 pub returns-clause-answer : goal.returns-clause-answer
 returns-clause-answer c = λ xs upper h told.
-    let count = ones_are c.bit_laws.ensures.places_are_counted xs c.args.low.now.width _ h.are.upper_is in
+    let count = ones_are xs c.args.low.now.width _ h.are.upper_is in
     let inside : c.args.place < length xs = omega (arith, h.are.count, c.if-place-n.false) in
     let some : c.args.place < count_of (bits_of upper.words) true = omega (arith, inside, count) in (
       inside,

@@ -6,11 +6,11 @@ use Rattle.elias_fano.specs.Numbers.{items_left}
 use Rattle.elias_fano.proofs.iterating.Numbers.new.Goals as goal
 
 pub overflow_mul-result : goal.overflow_mul-result
-overflow_mul-result c = omega (arith, upper-short c.bit_laws.ensures.digits_bound_powers _ _ _ _ _ c.requires.parts.1)
+overflow_mul-result c = omega (arith, upper-short _ _ _ _ _ c.requires.parts.1)
 
 pub invariant_of-result : goal.invariant_of-result
 invariant_of-result c =
-    IsCursor-whole c.bit_laws.ensures c.requires.parts.0 _ _ _ _ _ _ _ c.requires.parts.1 c.requires.order (omega arith) c.requires.parts.2
+    IsCursor-whole c.requires.parts.0 _ _ _ _ _ _ _ c.requires.parts.1 c.requires.order (omega arith) c.requires.parts.2
 
 pub returns : goal.returns
 returns c = λ xs h.

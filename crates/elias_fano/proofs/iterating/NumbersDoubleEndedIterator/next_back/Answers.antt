@@ -12,31 +12,31 @@ returns-then-self-clause-steps c =
     (none, none)
 
 pub overflow_sub-self-inside : goal.overflow_sub-self-inside
-overflow_sub-self-inside c = limit-some c.bit_laws.ensures _ _ _ _ _ _ _ _ _ c.self.invariant c.if-self.false
+overflow_sub-self-inside c = limit-some _ _ _ _ _ _ _ _ _ c.self.invariant c.if-self.false
 
 pub rfind_bit_one_unchecked-place-requires-clause-exists : goal.rfind_bit_one_unchecked-place-requires-clause-exists
 rfind_bit_one_unchecked-place-requires-clause-exists c =
-    some-last c.bit_laws.ensures _ _ _ _ _ _ _ _ _ c.self.invariant c.if-self.false
+    some-last _ _ _ _ _ _ _ _ _ c.self.invariant c.if-self.false
 
 pub rfind_bit_one_unchecked-place-requires-clause-short : goal.rfind_bit_one_unchecked-place-requires-clause-short
 rfind_bit_one_unchecked-place-requires-clause-short c =
-    upper-short c.bit_laws.ensures.digits_bound_powers _ _ _ _ _ c.self.invariant.parts
+    upper-short _ _ _ _ _ c.self.invariant.parts
 
 pub item_at_one-number-requires : goal.item_at_one-number-requires
 item_at_one-number-requires c =
-    fragment-of c.bit_laws.ensures _ _ _ _ _ _ _ (unread-has _ _ _ _ _ _ _ _ c.new.ensures
-    (last-has c.bit_laws.ensures _ _ _ _ _ _ _ _ _ c.self.invariant c.if-self.false _ c.rfind_bit_one_unchecked-place.ensures))
+    fragment-of _ _ _ _ _ _ _ (unread-has _ _ _ _ _ _ _ _ c.new.ensures
+    (last-has _ _ _ _ _ _ _ _ _ c.self.invariant c.if-self.false _ c.rfind_bit_one_unchecked-place.ensures))
 
 pub invariant_of-self : goal.invariant_of-self
 invariant_of-self c =
-    IsCursor-last c.bit_laws.ensures _ _ _ _ _ _ _ _ _ c.self.invariant c.if-self.false _ c.rfind_bit_one_unchecked-place.ensures
+    IsCursor-last _ _ _ _ _ _ _ _ _ c.self.invariant c.if-self.false _ c.rfind_bit_one_unchecked-place.ensures
 
 pub returns-clause-steps : goal.returns-clause-steps
 returns-clause-steps c =
     let it = c.self.inside in
     let xs = items_of it.len it.width it.low.now it.upper.now in
     let h = c.self.invariant in
-    let has = last-has c.bit_laws.ensures _ _ _ _ _ _ _ _ _ h c.if-self.false _ c.rfind_bit_one_unchecked-place.ensures in
+    let has = last-has _ _ _ _ _ _ _ _ _ h c.if-self.false _ c.rfind_bit_one_unchecked-place.ensures in
     let number = c.item_at_one-number.ensures.item _ _ _ (unread-has _ _ _ _ _ _ _ _ c.new.ensures has) in
     sym c.self.view_is
     ∙ items_left-last xs it.start it.end c.if-self.false (omega (arith, h.within, h.parts.count))

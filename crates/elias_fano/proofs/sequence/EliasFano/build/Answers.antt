@@ -18,7 +18,7 @@ pub make_low-requires-clause-sequence : goal.make_low-requires-clause-sequence
 make_low-requires-clause-sequence c = sequence c
 
 pub make_low-requires-clause-width : goal.make_low-requires-clause-width
-make_low-requires-clause-width c = omega (arith, width-small c.bit_laws.ensures.digits_bound_powers c.args.items.now (sequence c).small)
+make_low-requires-clause-width c = omega (arith, width-small c.args.items.now (sequence c).small)
 
 pub make_upper-requires-clause-sequence : goal.make_upper-requires-clause-sequence
 make_upper-requires-clause-sequence c = sequence (goal.at.make_upper-requires-clause-sequence c).After-width_for-width
@@ -35,7 +35,7 @@ parts c = record {
 }
 
 pub build-requires : goal.build-requires
-build-requires c = upper-short c.bit_laws.ensures.digits_bound_powers _ _ _ _ _ (parts c)
+build-requires c = upper-short _ _ _ _ _ (parts c)
 
 -- the index keeps the upper words
 held : (c : In-Ok)
@@ -53,4 +53,4 @@ pub returns-in-Ok-clause-ok : goal.returns-in-Ok-clause-ok
 returns-in-Ok-clause-ok c = items_of-is _ _ _ _ _ (held c)
 
 pub returns-in-Ok-clause-size : goal.returns-in-Ok-clause-size
-returns-in-Ok-clause-size c = words_few c.bit_laws.ensures.digits_bound_powers _
+returns-in-Ok-clause-size c = words_few _

@@ -2,6 +2,7 @@
 use Rattle.std.proofs.Common.{ℕ, ◌<◌, List, length, get_or, ap, ◌∙◌, arith}
 use Rattle.std.specs.Box.{boxed_slice_items}
 use Rattle.elias_fano.proofs.lemmas.ItemLemmas.{lent-has, unread-has, fragment-of}
+use Rattle.elias_fano.proofs.lemmas.UpperLemmas.{ones_are}
 use Rattle.elias_fano.specs.Parts.{items_of, HasOneAt}
 use Rattle.elias_fano.proofs.sequence.EliasFano.get.Goals as goal
 use Rattle.elias_fano.proofs.sequence.EliasFano.get.Goals.{After-new}
@@ -14,8 +15,11 @@ has c =
     unread-has _ _ _ _ _ _ _ _ c.new.ensures
     (lent-has _ _ _ _ _ _ _ _ c.self.invariant inside c.select-place.ensures c.as_slice.ensures.value)
 
+pub select-place-requires : goal.select-place-requires
+select-place-requires c = omega (arith, c.requires, ap length c.self.view_is, ones_are _ _ _ c.self.invariant.upper_is)
+
 pub item_at_one-requires : goal.item_at_one-requires
-item_at_one-requires c = fragment-of c.bit_laws.ensures _ _ _ _ _ _ _ (has (goal.at.item_at_one-requires c).After-new)
+item_at_one-requires c = fragment-of _ _ _ _ _ _ _ (has (goal.at.item_at_one-requires c).After-new)
 
 pub returns : goal.returns
 returns c =
