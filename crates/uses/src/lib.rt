@@ -6,11 +6,15 @@
 //! | write bits of an array, a boxed slice, a vector, and read them; append words | `writing` |
 //! | make words in code that is generic over the vector, or piece by piece | `owned` |
 //! | go over the places of ones, or over bits, in a `for` | `iterating` |
+//! | add to a set of numbers, and combine several, word by word | `sets` |
 //! | clear bits in a loop, and keep a set of numbers | `sieve` |
 //! | relate rank and selection in code that is generic over the index | `inverse` |
 //! | intersect two lists of rising numbers | `inverted` |
 //! | number the members of a set densely, and find a member by its number | `dense` |
+//! | keep several vectors in one content, under one index | `stretches` |
 //! | test a condition and then call | `asking` |
+//! | test a bit and rank it, in code that is generic over the index or the source | `bits_and_ranks` |
+//! | find the run of ones round a place, and a member of a range | `neighbours` |
 //! | ask for many places at once | `many` |
 //! | know what a call reads | `counted` |
 //! | rank and select over tables of one's own | `source` |
@@ -23,6 +27,7 @@
 #![tactic(auto)]
 
 pub mod asking;
+pub mod bits_and_ranks;
 pub mod counted;
 pub mod dense;
 pub mod density;
@@ -32,11 +37,14 @@ pub mod iterating;
 pub mod lent;
 pub mod lent_sequence;
 pub mod many;
+pub mod neighbours;
 pub mod owned;
 pub mod ranked;
 pub mod readme;
 pub mod sampled;
+pub mod sets;
 pub mod sieve;
 pub mod source;
 pub mod strategies;
+pub mod stretches;
 pub mod writing;

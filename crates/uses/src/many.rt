@@ -7,7 +7,7 @@ ghost use Rattle.bitm.specs.Many.{PicksEach, RanksEach};
 use bitm::{Rank, RankSelect101111, Select0ForRank101111, SelectForRank101111};
 
 /// Whether each rank is below a number of ones.
-fn all_below(ranks: &[usize], ones: usize) -> bool
+pub fn all_below(ranks: &[usize], ones: usize) -> bool
     ensures { IsTrue result ↔ All (λ r. r < ones) ranks.now }
 {
     for rank in ranks {
