@@ -116,7 +116,7 @@ fn push_entries(words: &[u64], part: usize, l2ranks: &mut Vec<u64>) -> Result<us
     Ok(in_part)
 }
 
-/// The tables of the words and the number of ones: each word is read once, and each table allocated once.
+/// The tables of the words and the number of ones.
 ///
 /// # Errors
 /// `AllocError` where no memory was found for a table; nothing is left.

@@ -238,8 +238,7 @@ fn push_samples<const ONE: u8>(
     Ok(())
 }
 
-/// The samples of some bits at a density, and how many there are before each part: each list is allocated once, at its
-/// size.
+/// The samples of some bits at a density, and how many there are before each part.
 ///
 /// # Errors
 /// `AllocError` where no memory was found; nothing is left.
