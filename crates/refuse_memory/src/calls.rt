@@ -17,6 +17,8 @@ pub enum Call {
     ManyBitwords,
     TrySame,
     ManySame,
+    Vectors,
+    Writer,
     SimpleLent,
     SimpleOwned,
     SimpleClone,
@@ -39,7 +41,7 @@ pub enum Call {
 }
 
 /// Each call once, in the order in which they are made.
-pub fn all() -> [Call; 28] {
+pub fn all() -> [Call; 30] {
     [
         Call::Segments,
         Call::ZeroedSegments,
@@ -50,6 +52,8 @@ pub fn all() -> [Call; 28] {
         Call::ManyBitwords,
         Call::TrySame,
         Call::ManySame,
+        Call::Vectors,
+        Call::Writer,
         Call::SimpleLent,
         Call::SimpleOwned,
         Call::SimpleClone,
@@ -85,10 +89,22 @@ impl Call {
             Call::ManyBitwords => "with-bitwords-of-thousands",
             Call::TrySame => "try-same",
             Call::ManySame => "try-same-of-thousands",
+            Call::Vectors => "vectors",
+            Call::Writer => "writer",
             Call::SimpleLent => "simple-build-lent",
             Call::SimpleOwned => "simple-build-owned",
             Call::SimpleClone => "simple-try-clone",
             Call::SimpleUncopied => "simple-try-clone-uncopied",
+            Call::SequenceBuilt => "sequence-build",
+            Call::SequenceClone => "sequence-try-clone",
+            Call::SequencesShared => "sequences-common",
+            _ => self.name_of_packed(),
+        }
+    }
+
+    /// The word of a call of a packed index, or of its strategies.
+    fn name_of_packed(self) -> &'static str {
+        match self {
             Call::BinaryLent => "packed-build-lent-binary",
             Call::BinaryOwned => "packed-build-owned-binary",
             Call::SampledLent => "packed-build-lent-sampled",
@@ -100,10 +116,7 @@ impl Call {
             Call::BinaryClone => "packed-try-clone-binary",
             Call::SampledClone => "packed-try-clone-sampled",
             Call::ListedClone => "packed-try-clone-listed",
-            Call::SequenceBuilt => "sequence-build",
-            Call::SequenceClone => "sequence-try-clone",
-            Call::SequencesShared => "sequences-common",
-            Call::PackedUncopied => "packed-try-clone-uncopied",
+            _ => "packed-try-clone-uncopied",
         }
     }
 
@@ -119,6 +132,8 @@ impl Call {
             Call::ManyBitwords => words::many_bitwords(alloc),
             Call::TrySame => words::try_same(alloc, 2),
             Call::ManySame => words::try_same(alloc, 5000),
+            Call::Vectors => words::vectors(alloc),
+            Call::Writer => words::writer(alloc),
             Call::SimpleLent => simple::lent(alloc),
             Call::SimpleOwned => simple::owned(alloc),
             Call::SimpleClone => simple::cloned(alloc),

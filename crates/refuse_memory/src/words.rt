@@ -1,6 +1,6 @@
 //! The constructors of words, and copies of words.
 use crate::outcome::{Outcome, answered, refused};
-use bitm::{BitVec, CloneWords, words};
+use bitm::{BitVec, BitWriter, CloneWords, words};
 use std::alloc::{AllocError, Global};
 use std::boxed::BoxedSlice;
 
@@ -51,6 +51,56 @@ pub fn many_bitwords(alloc: Global) -> Outcome {
             answered(all && made.len() == 4688)
         }
         Err(AllocError) => Outcome::Refused,
+    }
+}
+
+/// Vectors of three words by each constructor: whether they hold what they are to hold.
+fn are_right(alloc: Global) -> Result<bool, AllocError> {
+    let segments = Vec::with_64bit_segments(alloc, 7, 3)?;
+    let zeros = Vec::with_zeroed_bits(alloc, 129)?;
+    let ones = Vec::with_filled_bits(alloc, 129)?;
+    let fragments = Vec::with_bitwords(alloc, 1, 32, 6)?;
+    let right: [[u64; 3]; 4] = [[7; 3], [0; 3], [FULL; 3], [0x1_0000_0001; 3]];
+    Ok(
+        segments.as_slice() == right[0].as_slice()
+            && zeros.as_slice() == right[1].as_slice()
+            && ones.as_slice() == right[2].as_slice()
+            && fragments.as_slice() == right[3].as_slice(),
+    )
+}
+
+/// The constructors of vectors.
+pub fn vectors(alloc: Global) -> Outcome {
+    match are_right(alloc) {
+        Ok(right) => answered(right),
+        Err(AllocError) => Outcome::Refused,
+    }
+}
+
+/// Appends 64 ones, once more where memory is refused: whether it was refused.
+fn push_full(writer: &mut BitWriter) -> bool {
+    match writer.push_bits(FULL, 64) {
+        Ok(()) => false,
+        // What was written before is unharmed, so the same write is made again.
+        Err(AllocError) => writer.push_bits(FULL, 64).is_ok(),
+    }
+}
+
+/// A writer of 150 words, which grows several times.
+pub fn writer(alloc: Global) -> Outcome {
+    let mut writer = BitWriter::new(alloc);
+    let mut is_refused = false;
+    for _ in 0..150 {
+        if push_full(&mut writer) {
+            is_refused = true;
+        }
+    }
+    let words = writer.into_boxed_slice();
+    let is_right = words.len() == 150 && words.iter().all(|word| *word == FULL);
+    if is_refused {
+        refused(is_right)
+    } else {
+        answered(is_right)
     }
 }
 
