@@ -1,11 +1,13 @@
 -- What was sought around a value is what is told.
-use Rattle.std.proofs.Common.{◌≡◌, ℕ, List, inl, inr, sym, subst, arith}
+use Rattle.std.proofs.Common.{◌≡◌, ℕ, ◌↔◌, Bool, true, false, IsTrue, List, inl, inr, refl, sym, subst, arith}
+use Rattle.std.proofs.lemmas.Bool.{false≢true}
+use Rattle.std.specs.List.{Contains}
 use Rattle.elias_fano_lent.specs.Answers.{IsLast, IsPlaceOf}
 use Rattle.elias_fano_lent.specs.Held.{Held, Holds}
 use Rattle.elias_fano.specs.declared.answer.Sought.{Sought}
 use Rattle.elias_fano.specs.declared.answer.Sought.TheVariants.{Found, Absent, WrongParts}
 use Rattle.elias_fano.specs.Sequence.{StaysWithin}
-use Rattle.bitm_c.specs.Numbers.{LastAnswered}
+use Rattle.bitm_c.specs.Numbers.{ContainsAnswered, LastAnswered}
 use Rattle.bitm_c.specs.Sequence.{held_by, IsSized, IsSoughtTold}
 use Rattle.bitm_c.specs.declared.sequence.SequenceView.{SequenceView}
 
@@ -46,3 +48,23 @@ module _ (view : SequenceView) (sized : IsSized view) (status old new : ℕ) whe
   last_of lent same v s is inside answer =
       last v s is (subst (λ (l : Held). IsPlaceOf l.len s) same inside)
       (subst (λ (l : Held). (xs : List ℕ) → Holds xs l → IsLast xs v s) same answer)
+
+-- whether a value is one of the numbers, as 0 or 1
+pub contained_of : (view : SequenceView) → IsSized view → (v old new : ℕ) (is : Bool) → (is ≡ true → new ≡ 1) → (is ≡ false → new ≡ 0)
+    → ((xs : List ℕ) → Holds xs (held_by view) → IsTrue is ↔ Contains xs v) → ContainsAnswered view v 0 old new
+contained_of view sized v old new true one zero answer = record {
+  kept = λ not. absurd (not refl);
+  bad = λ no. absurd (no sized);
+  good = λ _. inl refl;
+  truth = λ _. omega (arith, one refl);
+  told = λ _ _ _. refl;
+  right = λ xs h _. (λ _. (answer xs h).0 refl, λ _. one refl);
+}
+contained_of view sized v old new false one zero answer = record {
+  kept = λ not. absurd (not refl);
+  bad = λ no. absurd (no sized);
+  good = λ _. inl refl;
+  truth = λ _. omega (arith, zero refl);
+  told = λ _ _ _. refl;
+  right = λ xs h _. (λ e. absurd (omega (arith, e, zero refl)), λ held. absurd (false≢true ((answer xs h).1 held)));
+}

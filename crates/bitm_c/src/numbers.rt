@@ -26,11 +26,7 @@ pub extern "C" fn bitm_sequence_last_at_most(
 
 /// Whether `value` is one of the numbers, as 0 or 1.
 #[unsafe(no_mangle)]
-pub extern "C" fn bitm_sequence_contains(
-    view: &SequenceView<'_>,
-    value: u64,
-    out: &mut u64,
-) -> u32
+pub extern "C" fn bitm_sequence_contains(view: &SequenceView<'_>, value: u64, out: &mut u64) -> u32
     ensures { ContainsAnswered view.now value result out.old out.new }
 {
     let Some(lent) = view.lent() else {
