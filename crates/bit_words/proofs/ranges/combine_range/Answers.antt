@@ -1,9 +1,8 @@
 -- One word more in each turn, and all bits of the range at the end.
-use Rattle.std.proofs.Common.{ap, ◌∙◌, arith}
+use Rattle.std.proofs.Common.{get_or, ap, ◌∙◌, arith}
 use Rattle.bit_lists.specs.Bits.{digit}
 use Rattle.bit_words.proofs.lemmas.RangeLemmas.{AreRanged-start, AreRanged-next, item_inside, item_beside}
 use Rattle.bit_words.specs.Combined.{combined}
-use Rattle.std.proofs.Common.{get_or}
 use Rattle.bit_words.proofs.ranges.combine_range.Goals as goal
 
 pub loop-k-init : goal.loop-k-init

@@ -1,10 +1,9 @@
 -- The whole words between, with the ones of the last word before the end and without those of the first before the beginning.
-use Rattle.std.proofs.Common.{rules, ◌≡◌, ◌+◌, ◌-◌, ◌*◌, ◌/◌, ◌≤◌, ap, arith}
+use Rattle.std.proofs.Common.{rules, ◌≡◌, ◌+◌, ◌-◌, ◌*◌, ◌/◌, ◌≤◌, true, ap, arith}
 use Rattle.bit_lists.proofs.lemmas.BitsLemmas.{length-bits_of}
 use Rattle.bit_lists.proofs.lemmas.CountLemmas.{count_before-le, ones_before-add-zeros_before, ones_before-bits_of_stretch}
 use Rattle.bit_lists.specs.Bits.{bits_of}
 use Rattle.bit_lists.specs.Count.{ones_before}
-use Rattle.std.proofs.Common.{true}
 use Rattle.bit_words.proofs.ranges.count_range.Goals as goal
 use Rattle.bit_words.proofs.ranges.count_range.Goals.{After-ones_in_word-last}
 

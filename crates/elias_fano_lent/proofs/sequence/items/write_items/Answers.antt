@@ -1,5 +1,5 @@
 -- Each search goes on behind the one that was found, and finds that of the next number.
-use Rattle.std.proofs.Common.{◌≡◌, ◌≢◌, ℕ, ◌+◌, ◌<◌, ◌≤◌, List, get_or, refl, sym, ap, subst, ◌∙◌, arith}
+use Rattle.std.proofs.Common.{◌≡◌, ◌≢◌, ℕ, ◌+◌, List, get_or, refl, sym, subst, ◌∙◌, arith}
 use Rattle.std.proofs.lemmas.List.{get_or-set_other}
 use Rattle.bitm.proofs.BitLaws.{places_are_counted}
 use Rattle.bitm.proofs.Callers.{length-bits_of}

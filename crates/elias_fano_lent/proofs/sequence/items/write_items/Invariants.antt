@@ -1,4 +1,4 @@
-use Rattle.std.proofs.Common.{◌≡◌, ◌+◌, ◌<◌, ◌≤◌, ℕ, List, slice_index}
+use Rattle.std.proofs.Common.{◌≡◌, ◌+◌, ◌≤◌, ℕ, List, slice_index}
 use Rattle.bitm.specs.Bits.{bits_of}
 use Rattle.bitm.specs.Count.{ones_before}
 use Rattle.elias_fano.specs.Parts.{ArePartsOf}
