@@ -31,9 +31,9 @@
  * crates/elias_fano). That an export makes just this call, and the passes over words and items that builds and checks
  * name, are read in the code. Time is not proved.
  *
- * Lengths: each call tests those that it needs. bitm_build, bitm_count, bitm_ones, bitm_write_header and the calls with
- * a view return BITM_BAD_SIZE for 2^58 words or more; those that get, set or clear bits and fragments take any number
- * of words, and bitm_upper_len, bitm_lower_len and bitm_samples_len answer for any.
+ * Lengths: each call tests those that it needs. bitm_build, bitm_write_header, the calls with a view, and those without
+ * that count ones or look for the next or previous bit return BITM_BAD_SIZE for 2^58 words or more; those that get or
+ * write bits take any number of words, and bitm_upper_len, bitm_lower_len and bitm_samples_len answer for any.
  *
  * Your duties, as for any C function that takes pointers (nothing here can test them):
  *   - a pointer to n numbers is aligned to 8 bytes (samples: to 4) and n numbers can be read there; it may be NULL if
@@ -250,6 +250,33 @@ BITM_MUST_USE uint32_t bitm_get_fragment(const uint64_t *words, size_t words_len
 BITM_MUST_USE uint32_t bitm_set_fragment(uint64_t *words, size_t words_len, size_t index, uint32_t width,
                                          uint64_t value);
 
+/* ---- ranges of bits and whole contents, with no tables: one pass over their words */
+
+/* How many of the bits from bit from on and before bit to are ones. BITM_NONE if from is above to or to is past the
+ * end, BITM_BAD_SIZE if words_len is 2^58 or more. */
+BITM_MUST_USE uint32_t bitm_count_range(const uint64_t *words, size_t words_len, size_t from, size_t to,
+                                        uint64_t *out);
+
+/* The place of the first one, or zero, at place from or after it; of the last one, or zero, at place from or before
+ * it. BITM_NONE if there is none, or the last is sought and from is no place; BITM_BAD_SIZE if words_len is 2^58 or
+ * more. */
+BITM_MUST_USE uint32_t bitm_next_one(const uint64_t *words, size_t words_len, size_t from, uint64_t *out);
+BITM_MUST_USE uint32_t bitm_next_zero(const uint64_t *words, size_t words_len, size_t from, uint64_t *out);
+BITM_MUST_USE uint32_t bitm_previous_one(const uint64_t *words, size_t words_len, size_t from, uint64_t *out);
+BITM_MUST_USE uint32_t bitm_previous_zero(const uint64_t *words, size_t words_len, size_t from, uint64_t *out);
+
+/* Makes the bits from bit from on and before bit to equal to value, or negates them, and leaves the others; BITM_NONE
+ * as bitm_count_range. Words are read and written whole, as where a bit is set. */
+BITM_MUST_USE uint32_t bitm_fill_range(uint64_t *words, size_t words_len, size_t from, size_t to, bool value);
+BITM_MUST_USE uint32_t bitm_flip_range(uint64_t *words, size_t words_len, size_t from, size_t to);
+
+/* Makes each bit of words what it and the bit of other at its place give: both, either, one alone, the first without
+ * the second. BITM_BAD_SIZE if the lengths differ. */
+BITM_MUST_USE uint32_t bitm_and(uint64_t *words, size_t words_len, const uint64_t *other, size_t other_len);
+BITM_MUST_USE uint32_t bitm_or(uint64_t *words, size_t words_len, const uint64_t *other, size_t other_len);
+BITM_MUST_USE uint32_t bitm_xor(uint64_t *words, size_t words_len, const uint64_t *other, size_t other_len);
+BITM_MUST_USE uint32_t bitm_and_not(uint64_t *words, size_t words_len, const uint64_t *other, size_t other_len);
+
 /* ---- monotone integer sequences (Elias-Fano) */
 
 /* The parts of a sequence of len numbers, as pointers and numbers of items: width low bits of each number in low, the
@@ -305,6 +332,24 @@ BITM_MUST_USE uint32_t bitm_sequence_get(const struct bitm_sequence_view *view, 
  * of value, in parts of no sequence for each of len. */
 BITM_MUST_USE uint32_t bitm_sequence_first_at_least(const struct bitm_sequence_view *view, uint64_t value,
                                                     uint64_t *out);
+
+/* The predecessor: the greatest place whose number is at most value. BITM_NONE if every number is more, BITM_WRONG if
+ * the parts turn out not to be those of a sequence; any place returned is below len, whatever the parts hold. Reads
+ * what bitm_sequence_first_at_least reads for value + 1, and nothing if value is 2^64 - 1. */
+BITM_MUST_USE uint32_t bitm_sequence_last_at_most(const struct bitm_sequence_view *view, uint64_t value,
+                                                  uint64_t *out);
+
+/* Whether value is one of the numbers, as 0 or 1. BITM_WRONG if the parts turn out not to be those of a sequence. Reads
+ * what bitm_sequence_first_at_least reads, and where that finds a place what bitm_sequence_get reads. */
+BITM_MUST_USE uint32_t bitm_sequence_contains(const struct bitm_sequence_view *view, uint64_t value, uint64_t *out);
+
+/* Writes the numbers from place from on, in order, as many as there are and out has room for, and to written how many
+ * these are; the rest of out stays as it was. In parts of no sequence these are some numbers, up to where the parts
+ * have no more: only there is written less than out_len and than len - from. Returns BITM_OK, or BITM_BAD_SIZE, and
+ * then writes nothing. out and written may not overlap each other or the parts. One selection, a pass over words from
+ * there on, and at most one fragment of low for each number. */
+BITM_MUST_USE uint32_t bitm_sequence_items(const struct bitm_sequence_view *view, size_t from, uint64_t *out,
+                                           size_t out_len, uint64_t *written);
 
 /* out[i] answers queries[i] as bitm_sequence_first_at_least does, or is BITM_NO_ANSWER for BITM_NONE and
  * BITM_WRONG_TABLES for BITM_WRONG. Zeros are selected side by side, so in parts of no sequence it may be another place

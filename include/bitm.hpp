@@ -301,17 +301,20 @@ public:
     }
     place last_at_most(std::uint64_t value) const
     {
-        const std::uint64_t count = value == UINT64_MAX ? view_.len : rank(value + 1);
-        return count ? place(count - 1) : std::nullopt;
+        std::uint64_t out = 0;
+        const std::uint32_t status = bitm_sequence_last_at_most(&view_, value, &out);
+        return detail::answer(status, out);
     }
     // How many numbers are less than a value.
     std::uint64_t rank(std::uint64_t value) const { return first_at_least(value).value_or(view_.len); }
     bool contains(std::uint64_t value) const
     {
-        const place found = first_at_least(value);
-        return found && (*this)[*found] == value;
+        std::uint64_t out = 0;
+        const std::uint32_t status = bitm_sequence_contains(&view_, value, &out);
+        return detail::answer(status, out).value() == 1;
     }
 
+    // The numbers, from a place on: read in blocks.
     class iterator {
     public:
         using iterator_category = std::input_iterator_tag;
@@ -320,20 +323,35 @@ public:
         using pointer = const std::uint64_t *;
         using reference = std::uint64_t;
 
-        iterator(const elias_fano_view *over, std::size_t at) : over_(over), at_(at) {}
-        std::uint64_t operator*() const { return (*over_)[at_]; }
+        iterator(const elias_fano_view *over, std::size_t at) : over_(over), at_(at) { fill(); }
+        std::uint64_t operator*() const { return found_[at_ - first_]; }
         iterator &operator++()
         {
-            at_++;
+            if (++at_ == first_ + count_) fill();
             return *this;
         }
-        iterator operator++(int) { return {over_, at_++}; }
+        iterator operator++(int)
+        {
+            iterator before = *this;
+            ++*this;
+            return before;
+        }
         bool operator==(const iterator &other) const { return at_ == other.at_; }
         bool operator!=(const iterator &other) const { return at_ != other.at_; }
 
     private:
+        void fill()
+        {
+            first_ = at_, count_ = 0;
+            if (at_ >= over_->view_.len) return;
+            const std::uint32_t status = bitm_sequence_items(&over_->view_, at_, found_, room, &count_);
+            if (status != BITM_OK || count_ == 0) throw wrong_tables();
+        }
+
+        static constexpr std::size_t room = 64;
         const elias_fano_view *over_;
-        std::size_t at_;
+        std::size_t at_, first_ = 0;
+        std::uint64_t found_[room] = {}, count_ = 0;
     };
     iterator begin() const { return {this, 0}; }
     iterator end() const { return {this, view_.len}; }

@@ -106,6 +106,15 @@ static void sequence(uint64_t bits)
     TIME("get, a call each", EACH(bitm_sequence_get));
     TIME("get, one call for all", bitm_sequence_get_list(&view, asked, QUERIES, answers, QUERIES, &written);
          for (size_t i = 0; i < written; i++) sum += answers[i]);
+    printf("  in order, by blocks of 1024:");
+    double best = 1e18;
+    for (int turn = 0; turn < 7; turn++) {
+        from = now();
+        for (size_t at = 0; at < len; at += 1024)
+            MUST(bitm_sequence_items(&view, at, answers, 1024, &written) == BITM_OK);
+        if (now() - from < best) best = now() - from;
+    }
+    printf(" %.2f ns a number\n", best / (double)len);
     for (size_t i = 0; i < QUERIES; i++) asked[i] = draw() >> 24;
     TIME("first_at_least, a call each", EACH(bitm_sequence_first_at_least));
 }

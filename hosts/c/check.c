@@ -3,6 +3,7 @@
  * the sanitizers see a read or write of one number too far. */
 #define _GNU_SOURCE
 #include "common.h"
+#include "ranges.h"
 #include "sampled.h"
 
 #include <fcntl.h>
@@ -300,6 +301,7 @@ int main(int argc, char **argv)
     wrong_lengths();
     no_words();
     bits_and_fragments();
+    ranges();
     headers();
     puts("C host: all answers as the plain loop's, and none of spoilt tables and samples outside");
     return 0;

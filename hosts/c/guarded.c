@@ -126,13 +126,50 @@ static unsigned long ask_a_sequence(void)
         size_t place = draw() % 4 ? draw() % (n + 2) : draw();
         uint64_t out = UNTOUCHED;
         if (answered(bitm_sequence_get(&view, place, &out), out)) MUST(place < n);
+        size_t room = draw() % 70;
+        uint64_t *some = numbers(&out_of, room, false), written = UNTOUCHED;
+        MUST(bitm_sequence_items(&view, place, some, room, &written) == BITM_OK && written <= room);
+        MUST(place < n ? written <= n - place : written == 0);
         out = UNTOUCHED;
         uint64_t value = draw() >> draw() % 64;
-        if (!answered(bitm_sequence_first_at_least(&view, value, &out), out)) continue;
-        MUST(out < n);
-        items[out] = value;
+        if (answered(bitm_sequence_contains(&view, value, &out), out)) MUST(out <= 1);
+        for (unsigned kind = 0; kind < 2; kind++) {
+            out = UNTOUCHED;
+            if (!answered((kind ? bitm_sequence_first_at_least : bitm_sequence_last_at_most)(&view, value, &out), out))
+                continue;
+            MUST(out < n);
+            items[out] = value;
+        }
     }
-    return 80;
+    return 200;
+}
+
+/* Ranges of random words, inside and past the end, and two contents of lengths that may differ. */
+static unsigned long ask_ranges(void)
+{
+    size_t n = draw() % (MOST + 1), bits = 64 * n, others = draw() % 4 ? n : draw() % (MOST + 1);
+    uint64_t *words = numbers(&words_of, n, true), *other = numbers(&low_of, others, true);
+    for (unsigned turn = 0; turn < 10; turn++) {
+        size_t from = draw() % 4 ? draw() % (bits + 2) : draw(), to = draw() % 4 ? draw() % (bits + 2) : draw();
+        const uint32_t wanted = from <= to && to <= bits ? BITM_OK : BITM_NONE;
+        uint64_t out = UNTOUCHED;
+        MUST(bitm_count_range(words, n, from, to, &out) == wanted);
+        MUST(wanted == BITM_OK ? out <= to - from : out == UNTOUCHED);
+        MUST(bitm_fill_range(words, n, from, to, draw() % 2) == wanted);
+        MUST(bitm_flip_range(words, n, from, to) == wanted);
+        for (unsigned kind = 0; kind < 4; kind++) {
+            out = UNTOUCHED;
+            uint32_t status = (kind == 0   ? bitm_next_one
+                               : kind == 1 ? bitm_next_zero
+                               : kind == 2 ? bitm_previous_one
+                                           : bitm_previous_zero)(words, n, from, &out);
+            if (answered(status, out)) MUST(out < bits && bit_of(words, out) == !(kind & 1));
+        }
+        const uint32_t same = n == others ? BITM_OK : BITM_BAD_SIZE;
+        MUST(bitm_and(words, n, other, others) == same && bitm_or(words, n, other, others) == same);
+        MUST(bitm_xor(words, n, other, others) == same && bitm_and_not(words, n, other, others) == same);
+    }
+    return 110;
 }
 
 int main(int argc, char **argv)
@@ -141,7 +178,7 @@ int main(int argc, char **argv)
     struct guarded *const blocks[] = {&words_of, &upper_of, &lower_of, &samples_of, &starts_of, &queries_of, &out_of, &low_of};
     for (size_t i = 0; i < sizeof blocks / sizeof *blocks; i++) *blocks[i] = guard(1 << 16);
     unsigned long calls = 0;
-    while (calls < 10000000) calls += ask_an_index() + ask_a_sequence();
+    while (calls < 10000000) calls += ask_an_index() + ask_a_sequence() + ask_ranges();
     puts("C host: ten million calls over random tables and parts, each array against a page that may not be touched");
     return 0;
 }

@@ -15,6 +15,38 @@ static uint64_t *block_of(uint64_t count)
     return block;
 }
 
+/* The last number at most a value, and whether it is one: of each number and of what is beside it. */
+static void around_values(const struct bitm_sequence_view *view, const uint64_t *items)
+{
+    for (size_t i = 0; i <= view->len; i++)
+        for (int beside = 0; beside < 3; beside++) {
+            uint64_t value = i == view->len ? draw() : items[i] + (uint64_t)beside - 1, got; /* may wrap */
+            size_t count = 0;
+            while (count < view->len && items[count] <= value) count++;
+            uint32_t status = bitm_sequence_last_at_most(view, value, &got);
+            MUST(count ? status == BITM_OK && got == count - 1 : status == BITM_NONE);
+            MUST(bitm_sequence_contains(view, value, &got) == BITM_OK);
+            MUST(got == (count && items[count - 1] == value));
+        }
+}
+
+/* The numbers from each place on, as many as all, three and none. */
+static void in_order(const struct bitm_sequence_view *view, const uint64_t *items, uint64_t *out)
+{
+    uint64_t written;
+    for (size_t from = 0; from <= view->len + 1; from++) {
+        size_t left = from < view->len ? view->len - from : 0, rooms[] = {view->len + 1, 3, 0};
+        for (int k = 0; k < 3; k++) {
+            size_t room = rooms[k] < view->len + 1 ? rooms[k] : view->len + 1, most = left < room ? left : room;
+            for (size_t i = 0; i <= view->len; i++) out[i] = UNTOUCHED;
+            MUST(bitm_sequence_items(view, from, out, room, &written) == BITM_OK && written == most);
+            MUST(most == 0 || memcmp(out, items + from, 8 * most) == 0);
+            for (size_t i = most; i <= view->len; i++) MUST(out[i] == UNTOUCHED);
+        }
+    }
+    for (size_t i = 0; i <= view->len; i++) out[i] = UNTOUCHED;
+}
+
 /* Each number by its place, and each value beside a number, against the numbers themselves. */
 static void ask_sequence(const struct bitm_sequence_view *view, const uint64_t *items)
 {
@@ -30,6 +62,8 @@ static void ask_sequence(const struct bitm_sequence_view *view, const uint64_t *
         uint64_t before = first ? items[first - 1] + 1 : 0; /* no number is between */
         MUST(bitm_sequence_first_at_least(view, before, &got) == BITM_OK && got == first);
     }
+    around_values(view, items);
+    in_order(view, items, out);
     got = UNTOUCHED;
     MUST(bitm_sequence_get(view, view->len, &got) == BITM_NONE && bitm_sequence_get(view, SIZE_MAX, &got) == BITM_NONE);
     if (view->len == 0 || items[view->len - 1] < UINT64_MAX) {
@@ -66,6 +100,18 @@ static unsigned any_parts(const struct bitm_sequence_view *view, unsigned querie
         MUST(bitm_sequence_first_at_least_list(view, &value, 1, &one, 0) == BITM_BAD_SIZE && one == told);
         MUST(status == BITM_OK ? got < view->len : status != BITM_BAD_SIZE && got == UNTOUCHED);
         wrong += status == BITM_WRONG;
+        got = UNTOUCHED;
+        status = bitm_sequence_last_at_most(view, value, &got);
+        MUST(status == BITM_OK ? got < view->len : status != BITM_BAD_SIZE && got == UNTOUCHED);
+        got = UNTOUCHED;
+        status = bitm_sequence_contains(view, value, &got);
+        MUST(status == BITM_OK ? got <= 1 : status == BITM_WRONG && got == UNTOUCHED);
+        wrong += status == BITM_WRONG;
+        uint64_t left = place < view->len ? view->len - place : 0;
+        uint64_t some[4] = {UNTOUCHED, UNTOUCHED, UNTOUCHED, UNTOUCHED};
+        MUST(bitm_sequence_items(view, place, some, 3, &written) == BITM_OK && written <= 3 && written <= left);
+        for (uint64_t k = written; k < 4; k++) MUST(some[k] == UNTOUCHED);
+        wrong += written < 3 && written < left;
     }
     return wrong;
 }
@@ -108,6 +154,7 @@ static void wrong_lengths(const struct bitm_sequence_view *view, const uint64_t 
         MUST(bitm_sequence_get(&bad[i], 0, &got) == BITM_BAD_SIZE && bitm_sequence_check(&bad[i]) == BITM_BAD_SIZE);
         MUST(bitm_sequence_first_at_least(&bad[i], 0, &got) == BITM_BAD_SIZE && got == UNTOUCHED);
         MUST(bitm_sequence_get_list(&bad[i], items, 0, NULL, 0, &got) == BITM_BAD_SIZE && got == UNTOUCHED);
+        MUST(bitm_sequence_items(&bad[i], 0, NULL, 0, &got) == BITM_BAD_SIZE && got == UNTOUCHED);
     }
 }
 

@@ -67,6 +67,15 @@ static void wrong_lengths(void)
                                      bitm_lower_len(many), &written.one));
     LEAVES(BITM_BAD_SIZE, bitm_count(words, many, &written.one));
     LEAVES(BITM_BAD_SIZE, bitm_ones(words, many, 0, written.list, LIST, &written.one));
+    LEAVES(BITM_BAD_SIZE, bitm_count_range(words, many, 0, 1, &written.one));
+    LEAVES(BITM_BAD_SIZE, bitm_next_one(words, many, 0, &written.one));
+    LEAVES(BITM_BAD_SIZE, bitm_next_zero(words, SIZE_MAX, 0, &written.one));
+    LEAVES(BITM_BAD_SIZE, bitm_previous_one(words, many, 0, &written.one));
+    LEAVES(BITM_BAD_SIZE, bitm_previous_zero(words, SIZE_MAX, 0, &written.one));
+    LEAVES(BITM_BAD_SIZE, bitm_and(written.list, LIST, queries, LIST - 1));
+    LEAVES(BITM_BAD_SIZE, bitm_or(written.list, LIST - 1, queries, LIST));
+    LEAVES(BITM_BAD_SIZE, bitm_xor(written.list, LIST, NULL, 0));
+    LEAVES(BITM_BAD_SIZE, bitm_and_not(NULL, 0, queries, 1));
     LEAVES(BITM_BAD_SIZE, bitm_write_header(many, &written.header));
     const struct bitm_header other = {1, 2, 3, 4};
     LEAVES(BITM_WRONG, bitm_read_header(&other, &written.one));
@@ -89,6 +98,18 @@ static void none_of_right_tables(const struct bitm_view *view, uint64_t ones)
         LEAVES(BITM_NONE, bitm_get_bits(words, WORDS, 0, far ? UINT32_MAX : 65, &written.one));
         LEAVES(BITM_NONE, bitm_get_fragment(words, WORDS, far ? SIZE_MAX : bits / 7, 7, &written.one));
         LEAVES(BITM_NONE, bitm_get_fragment(words, WORDS, 0, far ? UINT32_MAX : 65, &written.one));
+        LEAVES(BITM_NONE, bitm_count_range(words, WORDS, 0, far ? SIZE_MAX : bits + 1, &written.one));
+        LEAVES(BITM_NONE, bitm_count_range(words, WORDS, far ? SIZE_MAX : 5, 4, &written.one));
+        LEAVES(BITM_NONE, bitm_fill_range(written.list, LIST, 0, far ? SIZE_MAX : 64 * LIST + 1, far));
+        LEAVES(BITM_NONE, bitm_fill_range(written.list, LIST, far ? SIZE_MAX : 5, 4, far));
+        LEAVES(BITM_NONE, bitm_flip_range(written.list, LIST, 0, far ? SIZE_MAX : 64 * LIST + 1));
+        LEAVES(BITM_NONE, bitm_flip_range(written.list, LIST, far ? SIZE_MAX : 5, 4));
+        LEAVES(BITM_NONE, bitm_next_one(words, WORDS, far ? SIZE_MAX : bits, &written.one));
+        LEAVES(BITM_NONE, bitm_next_zero(words, WORDS, far ? SIZE_MAX : bits, &written.one));
+        LEAVES(BITM_NONE, bitm_previous_one(words, WORDS, far ? SIZE_MAX : bits, &written.one));
+        LEAVES(BITM_NONE, bitm_previous_zero(words, WORDS, far ? SIZE_MAX : bits, &written.one));
+        LEAVES(BITM_NONE, bitm_next_one(zeros, LIST, far ? 64 : 0, &written.one));
+        LEAVES(BITM_NONE, bitm_previous_one(zeros, LIST, far ? 64 : 0, &written.one));
     }
     LEAVES(BITM_BAD_SIZE, bitm_rank_list(view, queries, LIST, written.list, LIST - 1));
     LEAVES(BITM_BAD_SIZE, bitm_rank0_list(view, queries, LIST - 1, written.list, LIST));
@@ -168,6 +189,9 @@ static void sequences(void)
     LEAVES(BITM_NONE, bitm_sequence_get(&view, 7, &written.one));
     LEAVES(BITM_NONE, bitm_sequence_get(&view, SIZE_MAX, &written.one));
     LEAVES(BITM_NONE, bitm_sequence_first_at_least(&view, 25, &written.one));
+    LEAVES(BITM_NONE, bitm_sequence_last_at_most(&view, 1, &written.one));
+    MUST(bitm_sequence_items(&view, 7, written.list, LIST, &width) == BITM_OK && width == 0);
+    MUST(bitm_sequence_items(&view, SIZE_MAX, written.list, LIST, &width) == BITM_OK && width == 0);
     LEAVES(BITM_BAD_SIZE, bitm_sequence_get_list(&view, far, LIST, written.list, LIST - 1, &written.one));
     LEAVES(BITM_BAD_SIZE, bitm_sequence_first_at_least_list(&view, far, LIST, written.list, LIST - 1));
     MUST(bitm_sequence_get_list(&view, far, LIST, written.list, LIST, &width) == BITM_OK && width == 0);
@@ -175,11 +199,18 @@ static void sequences(void)
     LEAVES(BITM_BAD_SIZE, bitm_sequence_check(&view));
     LEAVES(BITM_BAD_SIZE, bitm_sequence_get(&view, 0, &written.one));
     LEAVES(BITM_BAD_SIZE, bitm_sequence_first_at_least(&view, 0, &written.one));
+    LEAVES(BITM_BAD_SIZE, bitm_sequence_last_at_most(&view, UINT64_MAX, &written.one));
+    LEAVES(BITM_BAD_SIZE, bitm_sequence_contains(&view, 2, &written.one));
+    LEAVES(BITM_BAD_SIZE, bitm_sequence_items(&view, 0, written.list, LIST, &written.one));
     LEAVES(BITM_BAD_SIZE, bitm_sequence_get_list(&view, far, LIST, written.list, LIST, &written.one));
     LEAVES(BITM_BAD_SIZE, bitm_sequence_first_at_least_list(&view, far, LIST, written.list, LIST));
     view.width = 1, upper_vector = 0;
     LEAVES(BITM_WRONG, bitm_sequence_check(&view));
     LEAVES(BITM_WRONG, bitm_sequence_get(&view, 3, &written.one));
+    LEAVES(BITM_WRONG, bitm_sequence_contains(&view, 0, &written.one));
+    upper_vector = 0xFFFF; /* more ones than numbers */
+    LEAVES(BITM_WRONG, bitm_sequence_last_at_most(&view, 1, &written.one));
+    LEAVES(BITM_WRONG, bitm_sequence_contains(&view, 2, &written.one));
 }
 
 /* Whether the words are those before, but for the len bits from begin on: these are of the value. */

@@ -1,7 +1,7 @@
 """A vector of bits that can be changed."""
 import ctypes
 import operator
-from typing import Any, Iterable, Iterator, List, Optional, Union
+from typing import Any, Iterable, Iterator, List, Optional, Tuple, Union
 
 from ._buffers import Lent, number, words_of, zeros
 from ._library import OK, U64, load
@@ -22,6 +22,9 @@ class BitVector:
     [0, 1, 3, 4, 6]
     >>> bits[2:5]
     BitVector('011')
+    >>> bits.fill(0, 3, 5)
+    >>> bits, bits.next_one(2), bits & BitVector.from_bits("1011010")
+    (BitVector('1100001'), 6, BitVector('1000000'))
     """
 
     __slots__ = ("_words", "_len")
@@ -119,11 +122,81 @@ class BitVector:
         shown = "".join("1" if bit else "0" for bit in (self if self._len <= 64 else self[:64]))
         return f"BitVector('{shown}')" if self._len <= 64 else f"BitVector('{shown}..', {self._len} bits)"
 
-    def count(self, bit: Any = 1) -> int:
-        """How many bits are ones; with 0, how many are zeros."""
+    def _span(self, start: Any, stop: Any) -> Tuple[int, int]:
+        start, stop = number(start, "the start"), self._len if stop is None else number(stop, "the stop")
+        if not start <= stop <= self._len:
+            raise IndexError(f"bits from {start} to {stop}, of {self._len} bits")
+        return start, stop
+
+    def count(self, bit: Any = 1, start: int = 0, stop: Optional[int] = None) -> int:
+        """How many bits are ones, of all or from a place on and before another; with 0, how many are zeros."""
+        (start, stop), out, lent = self._span(start, stop), U64(), Lent(self._words)
+        calls.bitm_count_range(*lent.part, start, stop, ctypes.byref(out))
+        return out.value if bit else stop - start - out.value
+
+    def fill(self, bit: Any = 1, start: int = 0, stop: Optional[int] = None) -> None:
+        """Makes all bits ones, or those from a place on and before another; with 0, zeros."""
+        (start, stop), lent = self._span(start, stop), Lent(self._words, True)
+        calls.bitm_fill_range(*lent.part, start, stop, bool(bit))
+
+    def flip(self, start: int = 0, stop: Optional[int] = None) -> None:
+        """Negates all bits, or those from a place on and before another."""
+        (start, stop), lent = self._span(start, stop), Lent(self._words, True)
+        calls.bitm_flip_range(*lent.part, start, stop)
+
+    def _nearest(self, call: Any, place: int) -> Optional[int]:
         out, lent = U64(), Lent(self._words)
-        calls.bitm_count(*lent.part, ctypes.byref(out))
-        return out.value if bit else self._len - out.value
+        found = call(*lent.part, place, ctypes.byref(out)) == OK
+        return out.value if found and out.value < self._len else None
+
+    def next_one(self, place: int) -> Optional[int]:
+        """The first one at a place or after it; None where there is none."""
+        return self._nearest(calls.bitm_next_one, number(place, "a place"))
+
+    def next_zero(self, place: int) -> Optional[int]:
+        """The first zero at a place or after it; None where there is none."""
+        return self._nearest(calls.bitm_next_zero, number(place, "a place"))
+
+    def previous_one(self, place: int) -> Optional[int]:
+        """The last one at a place or before it; None where there is none."""
+        at = min(number(place, "a place"), self._len - 1)
+        return None if at < 0 else self._nearest(calls.bitm_previous_one, at)
+
+    def previous_zero(self, place: int) -> Optional[int]:
+        """The last zero at a place or before it; None where there is none."""
+        at = min(number(place, "a place"), self._len - 1)
+        return None if at < 0 else self._nearest(calls.bitm_previous_zero, at)
+
+    def _combine(self, call: Any, other: "BitVector") -> "BitVector":
+        if self._len != other._len:
+            raise ValueError(f"vectors of {self._len} and {other._len} bits")
+        if self is not other:
+            lent, read = Lent(self._words, True), Lent(other._words)
+            call(*lent.part, *read.part)
+            return self
+        return self._combine(call, BitVector.from_words(other._words, other._len))
+
+    def __iand__(self, other: Any) -> "BitVector":
+        return self._combine(calls.bitm_and, other) if isinstance(other, BitVector) else NotImplemented
+
+    def __ior__(self, other: Any) -> "BitVector":
+        return self._combine(calls.bitm_or, other) if isinstance(other, BitVector) else NotImplemented
+
+    def __ixor__(self, other: Any) -> "BitVector":
+        return self._combine(calls.bitm_xor, other) if isinstance(other, BitVector) else NotImplemented
+
+    def __and__(self, other: Any) -> "BitVector":
+        return BitVector.from_words(self._words, self._len).__iand__(other)
+
+    def __or__(self, other: Any) -> "BitVector":
+        return BitVector.from_words(self._words, self._len).__ior__(other)
+
+    def __xor__(self, other: Any) -> "BitVector":
+        return BitVector.from_words(self._words, self._len).__ixor__(other)
+
+    def and_not(self, other: "BitVector") -> "BitVector":
+        """The ones of this vector that are none of the other."""
+        return BitVector.from_words(self._words, self._len)._combine(calls.bitm_and_not, other)
 
     def ones(self, start: int = 0) -> Iterator[int]:
         """The places of the ones from a place on, rising."""

@@ -72,7 +72,8 @@ class EliasFano(Lending):
     def __getitem__(self, place: Any) -> Any:
         length = len(self)
         if isinstance(place, slice):
-            return self.get_list(range(*place.indices(length)))
+            places = range(*place.indices(length))
+            return list(self._items(places.start, len(places))) if places.step == 1 else self.get_list(places)
         at = place.__index__()
         at += length if at < 0 else 0
         if not 0 <= at < length:
@@ -92,16 +93,24 @@ class EliasFano(Lending):
             raise IndexError(f"place {places[written.value]} of {view.len} numbers")
         return as_asked(found, (), places)
 
+    def _items(self, start: int, count: int) -> Any:
+        """So many numbers from a place on, of which there are as many; WrongTables where the parts end before."""
+        (view, _held), found, written = self._open(), zeros(count), U64()
+        room = Lent(found, True)
+        calls.bitm_sequence_items(ctypes.byref(view), start, *room.part, ctypes.byref(written))
+        if written.value < count:
+            raise WrongTables("the parts are those of no sequence")
+        return found
+
     def __iter__(self) -> Iterator[int]:
         length = len(self)
         for start in range(0, length, 4096):
-            yield from self.get_list(range(start, min(start + 4096, length)))
+            yield from self._items(start, min(4096, length - start))
 
     def __contains__(self, value: Any) -> bool:
         if not isinstance(value, int) or not 0 <= value < 2**64:
             return False
-        place = self.first_at_least(value)
-        return place is not None and self[place] == value
+        return self._ask(calls.bitm_sequence_contains, value, "the value") == 1
 
     def __eq__(self, other: object) -> bool:
         if not isinstance(other, EliasFano):
@@ -122,8 +131,7 @@ class EliasFano(Lending):
 
     def last_at_most(self, value: int) -> Optional[int]:
         """The greatest place whose number is at most a value (the predecessor's); None where each number is greater."""
-        count = len(self) if number(value, "the value") == 2**64 - 1 else self.rank(value + 1)
-        return count - 1 if count else None
+        return self._ask(calls.bitm_sequence_last_at_most, value, "the value")
 
     def rank(self, value: int) -> int:
         """How many numbers are less than a value."""

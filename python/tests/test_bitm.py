@@ -122,6 +122,38 @@ class RandomCalls(unittest.TestCase):
         self.assertEqual(([*vector.ones()], vector.count(0)), ([i for i in range(1000) if bits[i]], bits.count(0)))
 
 
+    def test_ranges_of_a_vector_and_two_vectors_answer_as_lists_do(self):
+        for count in (0, 1, 63, 64, 65, 200, 500):
+            bits, others = drawn_bits(count, 0.3), drawn_bits(count, 0.5)
+            vector, other = BitVector.from_bits(bits), BitVector.from_bits(others)
+            for _ in range(200):
+                start, stop = sorted((random.randrange(count + 1), random.randrange(count + 1)))
+                plain = Plain(bits)
+                self.assertEqual(vector.count(1, start, stop), sum(bits[start:stop]))
+                self.assertEqual(vector.count(0, start, stop), stop - start - sum(bits[start:stop]))
+                self.assertEqual((vector.next_one(start), vector.next_zero(start)), (plain.next(1, start), plain.next(0, start)))
+                found = vector.previous_one(start), vector.previous_zero(start)
+                self.assertEqual(found, (plain.previous(1, start), plain.previous(0, start)))
+                bit = random.randrange(3)
+                if bit == 2:
+                    vector.flip(start, stop)
+                    bits[start:stop] = [1 - it for it in bits[start:stop]]
+                else:
+                    vector.fill(bit, start, stop)
+                    bits[start:stop] = [bit] * (stop - start)
+                self.assertEqual(list(vector), bits)
+            self.assertEqual(list(vector & other), [a & b for a, b in zip(bits, others)])
+            self.assertEqual(list(vector | other), [a | b for a, b in zip(bits, others)])
+            self.assertEqual(list(vector ^ other), [a ^ b for a, b in zip(bits, others)])
+            self.assertEqual(list(vector.and_not(other)), [a & (1 - b) for a, b in zip(bits, others)])
+            vector ^= vector
+            self.assertEqual((vector.count(), len(vector)), (0, count))
+            self.assertRaises(IndexError, vector.count, 1, 0, count + 1)
+            self.assertRaises(IndexError, vector.flip, count + 1)
+            self.assertRaises(ValueError, lambda: vector & BitVector(count + 1))
+            self.assertRaises(TypeError, lambda: vector | bits)
+
+
 class Arguments(unittest.TestCase):
     def setUp(self):
         self.words = array.array("Q", [0b1011, 7])

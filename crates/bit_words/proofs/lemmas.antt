@@ -4,4 +4,6 @@ pub mod CombineLemmas
 pub mod FindBackLemmas
 pub mod FindLemmas
 pub mod InitLemmas
+pub mod RangeLemmas
 pub mod WriteLemmas
+pub mod ZeroLemmas

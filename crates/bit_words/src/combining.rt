@@ -5,15 +5,15 @@ ghost use Rattle.bit_words.specs.Combined.{combined};
 
 const AND: u8 = 0;
 
-const OR: u8 = 1;
+pub(crate) const OR: u8 = 1;
 
-const XOR: u8 = 2;
+pub(crate) const XOR: u8 = 2;
 
-const AND_NOT: u8 = 3;
+pub(crate) const AND_NOT: u8 = 3;
 
 /// Two words, combined digit by digit.
 #[inline(always)]
-fn combined<const OP: u8>(a: u64, b: u64) -> u64
+pub(crate) fn combined<const OP: u8>(a: u64, b: u64) -> u64
     ensures { (j : ℕ) → j < 64 → digit result j ≡ combined OP (digit a j) (digit b j) }
 {
     if OP == AND {

@@ -18,6 +18,8 @@ pub use crate::fragments::{
     try_get_fragment, try_get_fragment_0_64, try_get_fragment_unmasked, try_set_fragment_0_64,
     xor_fragment,
 };
+pub use crate::nearest::{find_bit_zero, rfind_bit_one, rfind_bit_zero};
+pub use crate::ranges::{count_range, fill_range, flip_range};
 pub use crate::reading::{
     get_bit, get_bits, get_bits_unmasked, try_get_bit, try_get_bits, try_get_bits_0_64,
     try_get_bits_unmasked,

@@ -64,7 +64,7 @@ impl<'a> SequenceView<'a> {
 
 /// Writes what was found.
 #[inline(always)]
-fn tell_sought<T: Copy>(sought: Sought<T>, out: &mut T) -> u32
+pub(crate) fn tell_sought<T: Copy>(sought: Sought<T>, out: &mut T) -> u32
     ensures { IsSoughtTold sought result out.old out.new }
 {
     match sought {

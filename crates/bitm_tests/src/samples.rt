@@ -28,6 +28,8 @@ fn full_words_keep_one_sample_of_ones_and_none_of_zeros(rt: HostRuntime) {
 fn a_sample_for_each_128_zeros_is_17_in_33_empty_words(rt: HostRuntime) {
     let words = [0; 33];
     let (index, _) = indexed::<BinaryRankSearch, Each<7>>(&rt, rt.alloc(), words.as_slice());
+    let entries = [0, 0, 0, 0, 0, 0, 0, 0, 0, 0, 0, 0, 0, 0, 0, 0, 1];
+    assert_eq!(rt; index.select0_support().samples(), entries.as_slice());
     assert_eq!(rt; index.select0_support().sample_count(), 17);
     expect_zero(&rt, &index, 2048, Some(2048));
 }

@@ -1,7 +1,7 @@
 -- What is answered over parts that are lent: of any parts, and of those of a sequence.
 use Rattle.std.specs.Prelude.{◌≡◌, ⊤, ℕ, ◌<◌, ◌≤◌, List, length, slice_index}
 use Rattle.std.specs.List.{All}
-use Rattle.elias_fano.specs.Sequence.{Reaches}
+use Rattle.elias_fano.specs.Sequence.{Reaches, StaysWithin}
 use Rattle.elias_fano.specs.declared.answer.Sought.{Sought}
 use Rattle.elias_fano.specs.declared.answer.Sought.TheVariants.{Found, Absent, WrongParts}
 
@@ -28,3 +28,9 @@ abbrev pub IsFirst : List ℕ → ℕ → Sought ℕ → Type 0
 IsFirst xs v (Found p) = Reaches xs v p
 IsFirst xs v Absent = All (λ x. x < v) xs
 IsFirst xs v WrongParts = ⊥
+
+-- the greatest place whose item is at most v, and Absent exactly where each item is more
+abbrev pub IsLast : List ℕ → ℕ → Sought ℕ → Type 0
+IsLast xs v (Found p) = StaysWithin xs v p
+IsLast xs v Absent = All (λ x. v < x) xs
+IsLast xs v WrongParts = ⊥

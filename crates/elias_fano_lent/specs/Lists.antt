@@ -1,5 +1,5 @@
 -- What is answered to a list of places.
-use Rattle.std.specs.Prelude.{◌≡◌, ◌≢◌, ⊤, ℕ, ◌-◌, ◌/◌, ◌%◌, ◌^◌, ◌<◌, ◌≤◌, ◌⊎◌, true, false, List, length, slice_index}
+use Rattle.std.specs.Prelude.{◌≡◌, ◌≢◌, ⊤, ℕ, ◌+◌, ◌-◌, ◌/◌, ◌%◌, ◌^◌, ◌<◌, ◌≤◌, ◌⊎◌, true, false, List, length, slice_index}
 use Rattle.bitm.specs.Answers.{SelectTold}
 use Rattle.bitm.specs.Tables.{Lists}
 use Rattle.elias_fano.specs.Sequence.{Reaches}
@@ -52,6 +52,10 @@ IsNeverWrong WrongLength = ⊤
 -- the first n of these are the items at those places
 abbrev pub AreItems : List ℕ → List ℕ → ℕ → List ℕ → Type 0
 AreItems xs places n ys = (j : ℕ) → j < n → slice_index ys j ≡ slice_index xs (slice_index places j)
+
+-- the first n of these are the items from that place on
+abbrev pub AreItemsFrom : List ℕ → ℕ → ℕ → List ℕ → Type 0
+AreItemsFrom xs from n ys = (j : ℕ) → j < n → slice_index ys j ≡ slice_index xs (from + j)
 
 -- from item n on nothing changed, nor the length
 abbrev pub IsKeptFrom : ℕ → List ℕ → List ℕ → Type 0

@@ -9,6 +9,9 @@ ghost use Rattle.elias_fano_lent.specs.Held.{held, held_by, HasLengths, Holds};
 ghost use Rattle.elias_fano_lent.specs.Lists.{AreAhead, AreZerosAhead, EndsTold, ZeroTold};
 ghost use Rattle.elias_fano_lent.specs.Low.{unread, ReadsFragments};
 
+mod finding;
+mod items;
+
 use crate::bucket::{place_of, rank_each};
 use crate::checking::are_parts;
 use bitm_lent::{Lent, WRONG_TABLES};

@@ -101,21 +101,23 @@ impl EliasFano {
 
     /// The greatest place whose number is at most `value`; `None` exactly where each number is greater.
     pub fn last_at_most(&self, value: u64) -> Option<usize> {
-        let count = match value.checked_add(1) {
-            Some(next) => self.first_at_least(next).unwrap_or(self.len),
-            None => self.len,
-        };
-        count.checked_sub(1)
+        Some(self.lent()?.last_at_most(value).unwrap_or(None)? as usize)
     }
 
     /// Whether a number is there.
     pub fn contains(&self, value: u64) -> bool {
-        self.first_at_least(value)
-            .is_some_and(|place| self.get(place) == Some(value))
+        self.lent()
+            .is_some_and(|lent| lent.contains(value) == Ok(true))
     }
 
-    /// The numbers, in order.
+    /// The numbers, in order: read in blocks.
     pub fn iter(&self) -> impl Iterator<Item = u64> + '_ {
-        (0..self.len).filter_map(|place| self.get(place))
+        (0..self.len).step_by(64).flat_map(|from| {
+            let mut block = [0; 64];
+            let count = self
+                .lent()
+                .map_or(0, |lent| lent.items(from, &mut block).len());
+            block.into_iter().take(count)
+        })
     }
 }

@@ -128,6 +128,23 @@ extern "C" {
         out_len: usize,
         written: *mut u64,
     ) -> u32;
+    pub(crate) fn bitm_sequence_last_at_most(
+        view: *const SequenceView,
+        value: u64,
+        out: *mut u64,
+    ) -> u32;
+    pub(crate) fn bitm_sequence_contains(
+        view: *const SequenceView,
+        value: u64,
+        out: *mut u64,
+    ) -> u32;
+    pub(crate) fn bitm_sequence_items(
+        view: *const SequenceView,
+        from: usize,
+        out: *mut u64,
+        out_len: usize,
+        written: *mut u64,
+    ) -> u32;
     pub(crate) fn bitm_samples_len(words_len: usize, log2: u32) -> usize;
     pub(crate) fn bitm_build_samples(
         view: *const View,
@@ -189,5 +206,69 @@ extern "C" {
         begin: usize,
         len: u32,
         value: u64,
+    ) -> u32;
+    pub(crate) fn bitm_count_range(
+        words: *const u64,
+        words_len: usize,
+        from: usize,
+        to: usize,
+        out: *mut u64,
+    ) -> u32;
+    pub(crate) fn bitm_next_one(
+        words: *const u64,
+        words_len: usize,
+        from: usize,
+        out: *mut u64,
+    ) -> u32;
+    pub(crate) fn bitm_next_zero(
+        words: *const u64,
+        words_len: usize,
+        from: usize,
+        out: *mut u64,
+    ) -> u32;
+    pub(crate) fn bitm_previous_one(
+        words: *const u64,
+        words_len: usize,
+        from: usize,
+        out: *mut u64,
+    ) -> u32;
+    pub(crate) fn bitm_previous_zero(
+        words: *const u64,
+        words_len: usize,
+        from: usize,
+        out: *mut u64,
+    ) -> u32;
+    pub(crate) fn bitm_fill_range(
+        words: *mut u64,
+        words_len: usize,
+        from: usize,
+        to: usize,
+        value: bool,
+    ) -> u32;
+    pub(crate) fn bitm_flip_range(words: *mut u64, words_len: usize, from: usize, to: usize)
+        -> u32;
+    pub(crate) fn bitm_and(
+        words: *mut u64,
+        words_len: usize,
+        other: *const u64,
+        other_len: usize,
+    ) -> u32;
+    pub(crate) fn bitm_or(
+        words: *mut u64,
+        words_len: usize,
+        other: *const u64,
+        other_len: usize,
+    ) -> u32;
+    pub(crate) fn bitm_xor(
+        words: *mut u64,
+        words_len: usize,
+        other: *const u64,
+        other_len: usize,
+    ) -> u32;
+    pub(crate) fn bitm_and_not(
+        words: *mut u64,
+        words_len: usize,
+        other: *const u64,
+        other_len: usize,
     ) -> u32;
 }

@@ -271,6 +271,28 @@ impl<'a> Sequence<'a> {
         Self::told(status, out)
     }
 
+    /// The greatest place whose number is at most `value`; `None` where each number is more.
+    pub fn last_at_most(&self, value: u64) -> Result<Option<u64>, WrongParts> {
+        let mut out = 0;
+        let status = unsafe { bitm_sequence_last_at_most(&self.view, value, &mut out) };
+        Self::told(status, out)
+    }
+
+    /// Whether a number is there.
+    pub fn contains(&self, value: u64) -> Result<bool, WrongParts> {
+        let mut out = 0;
+        let status = unsafe { bitm_sequence_contains(&self.view, value, &mut out) };
+        Ok(Self::told(status, out)? == Some(1))
+    }
+
+    /// The numbers from place `from` on, as many as there are and there is room for; fewer only in parts of no sequence.
+    pub fn items<'b>(&self, from: usize, out: &'b mut [u64]) -> &'b [u64] {
+        let mut written = 0;
+        let (to, room) = (out.as_mut_ptr(), out.len());
+        let status = unsafe { bitm_sequence_items(&self.view, from, to, room, &mut written) };
+        &out[..if status == OK { written as usize } else { 0 }]
+    }
+
     /// The numbers at a list of places, up to the first that `get` does not answer; `None` where there is not room for
     /// as many as places.
     pub fn get_list<'b>(&self, places: &[u64], out: &'b mut [u64]) -> Option<&'b [u64]> {

@@ -103,12 +103,20 @@ fn sequence_against_a_loop(items: &[u64]) {
             let place = items.partition_point(|x| *x < value);
             let want = (place < items.len()).then_some(place as u64);
             assert_eq!(made.first_at_least(value), Ok(want));
+            let most = items.partition_point(|x| *x <= value).checked_sub(1);
+            assert_eq!(made.last_at_most(value), Ok(most.map(|i| i as u64)));
+            assert_eq!(made.contains(value), Ok(items.contains(&value)));
         }
     }
     assert_eq!(made.get(items.len()), Ok(None));
     let places: Vec<u64> = (0..=items.len() as u64).collect();
     let mut out = part(places.len() as u64);
     assert_eq!(made.get_list(&places, &mut out), Some(items));
+    for from in 0..=items.len() + 1 {
+        let left = &items[from.min(items.len())..];
+        assert_eq!(made.items(from, &mut out), left);
+        assert_eq!(made.items(from, &mut [7; 3]), &left[..left.len().min(3)]);
+    }
     assert_eq!(made.get_list(&places, &mut out[1..]), None);
     words.fill(0);
     let spoilt = Sequence::over(items.len(), of.width, &low, &words, &upper, &lower).expect("fits");
@@ -141,7 +149,9 @@ fn all_answers_over_lent_words_are_the_plain_loops() {
             let lent = Lent::over(&words, &upper, &lower).expect("the lengths are right");
             assert!(!lent.check());
             for rank in 0..n * 64 {
-                assert!(lent.rank(rank).map_or(true, |count| count <= Some(rank as u64)));
+                assert!(lent
+                    .rank(rank)
+                    .map_or(true, |count| count <= Some(rank as u64)));
                 match lent.select(rank) {
                     Ok(Some(place)) => assert!(words[place as usize / 64] >> (place % 64) & 1 == 1),
                     Ok(None) | Err(WrongTables) => {}

@@ -66,6 +66,11 @@ passed_back words s q rest h none i to from =
     (λ later. h.passed i to later)
     (cases_lt i (64 * (q + 1)))
 
+-- where there is no word before it, there is no one
+pub none_before : (words : List ℕ) (s q rest : ℕ) → IsRestTo words s q rest → rest ≡ 0 → q ≡ 0
+    → (i : ℕ) → i ≤ s → item (bits_of words) i ≡ false
+none_before words s q rest h none first i to = passed_back words s q rest h none i to (omega (arith, first))
+
 -- then the word before it is read
 pub IsRestTo-next : (words : List ℕ) (s q rest : ℕ) → IsRestTo words s q rest → rest ≡ 0 → 0 < q → 64 * q ≤ s
     → get_or words (q - 1) 0 < 2 ^ 64

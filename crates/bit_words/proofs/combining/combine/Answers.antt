@@ -1,6 +1,6 @@
 -- One word more in each turn, and all bits at the end.
 use Rattle.std.proofs.Common.{refl, arith}
-use Rattle.bit_words.proofs.lemmas.CombineLemmas.{AreCombined, AreCombined-next, items_combined}
+use Rattle.bit_words.proofs.lemmas.CombineLemmas.{AreCombined-next, items_combined}
 use Rattle.bit_words.proofs.combining.combine.Goals as goal
 
 pub loop-k-init : goal.loop-k-init

@@ -1,0 +1,115 @@
+//! The last number that is at most a value, and whether a value is one of the numbers. The parts may hold anything.
+ghost use Rattle.std.specs.Prelude.{◌≡◌, ◌+◌, ◌*◌, ◌≤◌, ◌↔◌, ℕ, List, IfSome, IsTrue, MatchOption, length};
+ghost use Rattle.std.specs.List.{Contains};
+ghost use Rattle.bitm.specs.Bits.{digit_count};
+ghost use Rattle.bitm.specs.Reads.{OnlyReads};
+ghost use Rattle.bitm.specs.Tables.{HasSizes};
+ghost use Rattle.elias_fano.specs.Answers.{IsLast, IsPlaceOf};
+ghost use Rattle.elias_fano.specs.Held.{held_by, HasLengths, Holds};
+ghost use Rattle.elias_fano.specs.Low.{sharing, ReadsFragments};
+ghost use Rattle.elias_fano.specs.Sequence.{ReachesTo};
+
+use crate::answer::Sought;
+use crate::low::LowDigits;
+use crate::searching::{total_first_at_least_on, total_item_on};
+use bitm::TableSource;
+
+/// How many numbers are at most `v`: those before the first that is at least `v + 1`; `None` only where the parts are
+/// wrong.
+#[inline(always)]
+fn count_at_most<T: TableSource>(
+    source: &mut T,
+    low: &mut LowDigits<'_>,
+    n: usize,
+    v: u64,
+) -> Option<usize>
+    requires lengths { HasLengths (held_by n low.old (T.lists source.old)) }
+    requires sized { HasSizes (T.lists source.old) }
+    ensures within { IfSome result (λ c. c ≤ n) }
+    ensures reaches { (xs : List ℕ) → Holds xs (held_by n low.old (T.lists source.old))
+        → MatchOption result ⊥ (ReachesTo xs v) }
+    ensures reads { OnlyReads T.lists T.reads source.old source.new
+        (2 * (digit_count (length (T.lists source.old).upper) + 1)) (2 * 23) (2 * 8) }
+    ensures fragments { ReadsFragments low.old low.new (digit_count n) }
+    ensures shared { (xs : List ℕ) → Holds xs (held_by n low.old (T.lists source.old))
+        → ReadsFragments low.old low.new (digit_count (sharing xs low.old.width (v + 1))) }
+{
+    if v == u64::MAX {
+        return Some(n);
+    }
+    match total_first_at_least_on(source, low, n, v + 1) {
+        Sought::Found(place) => Some(place),
+        Sought::Absent => Some(n),
+        Sought::WrongParts => None,
+    }
+}
+
+/// The greatest place whose number is at most `v`, of the `n` numbers whose parts are the low digits and the source's
+/// words.
+///
+/// Whatever the parts hold, a place that is found is below `n`. Where they are those of a sequence, with the tables of
+/// its upper words, it is the right one, `Absent` is answered exactly where each number is more, and `WrongParts`
+/// never.
+///
+/// # Conditions
+/// As of `total_item_on`.
+/// # Cost
+/// That of `total_first_at_least_on` of `v + 1`, and nothing where `v` is 2^64 - 1.
+pub fn total_last_at_most_on<T: TableSource>(
+    source: &mut T,
+    low: &mut LowDigits<'_>,
+    n: usize,
+    v: u64,
+) -> Sought<usize>
+    requires lengths { HasLengths (held_by n low.old (T.lists source.old)) }
+    requires sized { HasSizes (T.lists source.old) }
+    ensures inside { IsPlaceOf n result }
+    ensures answer { (xs : List ℕ) → Holds xs (held_by n low.old (T.lists source.old))
+        → IsLast xs v result }
+    ensures reads { OnlyReads T.lists T.reads source.old source.new
+        (2 * (digit_count (length (T.lists source.old).upper) + 1)) (2 * 23) (2 * 8) }
+    ensures fragments { ReadsFragments low.old low.new (digit_count n) }
+    ensures shared { (xs : List ℕ) → Holds xs (held_by n low.old (T.lists source.old))
+        → ReadsFragments low.old low.new (digit_count (sharing xs low.old.width (v + 1))) }
+{
+    match count_at_most(source, low, n, v) {
+        Some(0) => Sought::Absent,
+        Some(count) => Sought::Found(count - 1),
+        None => Sought::WrongParts,
+    }
+}
+
+/// Whether `v` is one of the `n` numbers whose parts are the low digits and the source's words.
+///
+/// `None` is answered only where the parts are not those of a sequence, with the tables of its upper words.
+///
+/// # Conditions
+/// As of `total_item_on`.
+/// # Cost
+/// That of `total_first_at_least_on`, and where a place is found that of `total_item_on`.
+pub fn total_contains_on<T: TableSource>(
+    source: &mut T,
+    low: &mut LowDigits<'_>,
+    n: usize,
+    v: u64,
+) -> Option<bool>
+    requires lengths { HasLengths (held_by n low.old (T.lists source.old)) }
+    requires sized { HasSizes (T.lists source.old) }
+    ensures answer { (xs : List ℕ) → Holds xs (held_by n low.old (T.lists source.old))
+        → MatchOption result ⊥ (λ is. IsTrue is ↔ Contains xs v) }
+    ensures reads { OnlyReads T.lists T.reads source.old source.new
+        (3 * (digit_count (length (T.lists source.old).upper) + 1)) (3 * 23) (3 * 8) }
+    ensures fragments { ReadsFragments low.old low.new (digit_count n + 1) }
+    ensures shared { (xs : List ℕ) → Holds xs (held_by n low.old (T.lists source.old))
+        → ReadsFragments low.old low.new (digit_count (sharing xs low.old.width v) + 1) }
+{
+    match total_first_at_least_on(source, low, n, v) {
+        Sought::Found(place) => match total_item_on(source, low, n, place) {
+            Sought::Found(item) => Some(item == v),
+            Sought::Absent => None,
+            Sought::WrongParts => None,
+        },
+        Sought::Absent => Some(false),
+        Sought::WrongParts => None,
+    }
+}
