@@ -1,5 +1,5 @@
 -- What tables tell, whatever they hold: the numbers that a search reads, and when they tell that there is no such bit.
-use Rattle.std.specs.Prelude.{◌≡◌, ⊤, ℕ, ◌+◌, ◌-◌, ◌*◌, ◌^◌, ◌%◌, ◌<◌, ◌≤◌, Bool, true, false, length, slice_index}
+use Rattle.std.specs.Prelude.{⊤, ℕ, ◌+◌, ◌-◌, ◌*◌, ◌^◌, ◌%◌, ◌<◌, ◌≤◌, Bool, true, false, length, slice_index}
 use Rattle.bit_lists.specs.Count.{count_before, count_of}
 use Rattle.bitm_search.specs.Entry.{field_0, greatest, record_field}
 use Rattle.bitm_search.specs.Tables.{Lists, bits_in}
@@ -50,3 +50,9 @@ abbrev pub IfAbsent : Selected → Type 0 → Type 0
 IfAbsent (Found p) P = ⊤
 IfAbsent Absent P = P
 IfAbsent WrongTables P = ⊤
+
+-- the same, but WrongTables for Absent
+abbrev pub wrong_for_absent : Selected → Selected
+wrong_for_absent (Found p) = Found p
+wrong_for_absent Absent = WrongTables
+wrong_for_absent WrongTables = WrongTables
