@@ -200,6 +200,7 @@ impl<'a> Lent<'a> {
     /// The place of the one with exactly `rank` ones before it; zeros in place of ones where `ONE` is 0.
     #[inline(always)]
     pub(crate) fn select_kind<const ONE: u8>(&self, rank: usize) -> Selected
+        ensures sized { HasSizes self.now }
         ensures bit { HasBit (bits_in self.now) (kind ONE) result }
         ensures answer { HasTables self.now
             → IsSelected (bits_in self.now) (kind ONE) rank result }
