@@ -72,7 +72,7 @@ entry_none lists v at e r k left inside le WrongTables last is = tt
 entry_none lists v at e r k left inside le Absent last is =
     let here : at * 32 + k * 8 ≡ 32 * at + 8 * k = omega arith in
     let none = subst (λ (n : ℕ). count_from_word lists v n ≤ left) here (from_word lists.words v (at * 32 + k * 8) left is) in
-    record { k = k; inside = inside; last = omega (arith, last); count = omega (arith, none, le); }
+    record { k = k; inside = inside; last = omega (arith, last); count = omega (arith, none, le) }
 
 -- no word stands behind the last entry of the last part, so what it tells is what the tables tell
 pub all_none : (lists : Lists) (v : Bool) → HasSizes lists → (part entry packed in_part rank : ℕ) → part < length lists.upper
@@ -122,9 +122,9 @@ left_of rank to before few small le fits = omega (arith, few, small, le, fits)
 nothing_in : (ws us ls : List ℕ) (v : Bool) (r : ℕ) → length ws ≡ 0 → length us ≡ 0 → length ls ≡ 0
     → TellsNone v (record { words = ws; upper = us; lower = ls }) r
 nothing_in [] [] [] true r w u l =
-    record { k = 0; inside = omega arith; last = omega arith; count = omega (arith, none_in_nothing (bits_of []) true 0 (omega (arith, length-bits_of []))); }
+    record { k = 0; inside = omega arith; last = omega arith; count = omega (arith, none_in_nothing (bits_of []) true 0 (omega (arith, length-bits_of []))) }
 nothing_in [] [] [] false r w u l =
-    record { k = 0; inside = omega arith; last = omega arith; count = omega (arith, none_in_nothing (bits_of []) false 0 (omega (arith, length-bits_of []))); }
+    record { k = 0; inside = omega arith; last = omega arith; count = omega (arith, none_in_nothing (bits_of []) false 0 (omega (arith, length-bits_of []))) }
 nothing_in (x ∷ ws) us ls v r w u l = absurd (omega (arith, w))
 nothing_in [] (x ∷ us) ls v r w u l = absurd (omega (arith, u))
 nothing_in [] [] (x ∷ ls) v r w u l = absurd (omega (arith, l))

@@ -1,5 +1,5 @@
 -- Each query whose entry is found is written in its place.
-use Rattle.std.proofs.Common.{ℕ, ◌+◌, ◌*◌, ◌<◌, length, slice_index, ap, ◌∙◌, subst, arith}
+use Rattle.std.proofs.Common.{ℕ, ◌<◌, length, slice_index, ap, ◌∙◌, subst, arith}
 use Rattle.std.proofs.lemmas.List.{length-set}
 use Rattle.bit_lists.specs.Bits.{digit_count}
 use Rattle.bitm_search.specs.Many.{IsSearch}

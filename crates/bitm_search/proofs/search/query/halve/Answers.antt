@@ -14,7 +14,7 @@ returns-then-next-lower_len-clause-search g c rank search_is =
     let small = step_few c.args.size c.requires.size in
     record {
       entry = search_is.entry;
-      in_part = 
+      in_part =
           part_stays (kind g.row.ONE) lists rank c.args.query.rest c.args.query.entry c.args.size (c.args.size + 1) (omega arith) search_is.in_part;
       near =
           λ t.

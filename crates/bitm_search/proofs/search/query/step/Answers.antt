@@ -36,7 +36,7 @@ returns-clause-search g c rank search_is =
           subst (λ (n : ℕ). IsSearch g.row.ONE lists rank (record { rest = c.args.query.rest; entry = n }) c.args.size) (sym none)
           (record {
             entry = search_is.entry;
-            in_part = 
+            in_part =
                 part_stays (kind g.row.ONE) lists rank c.args.query.rest at c.args.size (c.args.size + 1) (omega arith) search_is.in_part;
             near =
                 λ t.
