@@ -12,7 +12,7 @@ mod many;
 
 use crate::queries::{Access, HasBits, Rank, Select, Select0};
 use bitm_bits::{CloneWords, GetSize};
-use bitm_search::search::ranking::{bit_on, rank_on};
+use bitm_search::search::ranking::{bit_and_rank_on, bit_on, rank_on};
 use bitm_search::source::Probe;
 use bitm_search::tables::{self, Tables};
 use bitm_strategies::{BinaryRankSearch, Select0ForRank101111, SelectForRank101111};
@@ -228,6 +228,14 @@ impl<S: SelectForRank101111, S0: Select0ForRank101111, BV: AsSlice<u64>> Access
     #[inline(always)]
     fn try_get_bit(&self, place: usize) -> Option<bool> {
         bit_on(&mut self.probe(), place)
+    }
+
+    #[inline(always)]
+    fn bit_and_rank(&self, place: usize) -> (bool, usize) {
+        match bit_and_rank_on(&mut self.probe(), place) {
+            Some(both) => both,
+            None => unreachable!(),
+        }
     }
 }
 

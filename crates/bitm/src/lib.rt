@@ -32,7 +32,7 @@ pub use bitm_search::levels::{
     U64_PER_L1_ENTRY, U64_PER_L2_ENTRY, U64_PER_L2_RECORDS,
 };
 pub use bitm_search::search::many::{rank_many_on, select_many_on, total_select_many_on};
-pub use bitm_search::search::ranking::{bit_on, rank_on, total_rank_on};
+pub use bitm_search::search::ranking::{bit_and_rank_on, bit_on, rank_on, total_rank_on};
 pub use bitm_search::search::selected::{NO_ANSWER, Selected, WRONG_TABLES};
 pub use bitm_search::search::selecting::{binary_select_on, total_select_on};
 pub use bitm_search::source::counts::ReadCounts;

@@ -4,15 +4,17 @@ use Rattle.bitm.proofs.Callers.{rank_below}
 use Rattle.bitm.specs.Bits.{item}
 use Rattle.bitm.specs.Count.{Picks}
 use Rattle.bitm.specs.Tables.{HasSizes, HasTables, Lists, bits_in}
+use Rattle.bitm.specs.Told.{IfAbsent, TellsNone}
 use Rattle.bitm_lent.specs.Answers.{HasBit, IsSelected}
 use Rattle.bitm.specs.Selected.{Selected}
 use Rattle.bitm.specs.Selected.TheVariants.{Found, Absent, WrongTables}
 use Rattle.bitm_c.specs.Status.{IsTold, SelectAnswered}
 
 module _ (v : Bool) (lists : Lists) (sized : HasSizes lists) (rank status old new : ℕ) where
-  told : (s : Selected) → IsTold s status old new → HasBit (bits_in lists) v s
+  told : (s : Selected) → IsTold s status old new → HasBit (bits_in lists) v s → IfAbsent s (TellsNone v lists rank)
       → (HasTables lists → IsSelected (bits_in lists) v rank s) → SelectAnswered v lists rank status old new
-  told (Found p) is bit answer = record {
+  told (Found p) is bit absent answer = record {
+    absent = λ e. absurd (omega (arith, is.0, e));
     kept = λ not. absurd (not is.0);
     bad = λ no. absurd (no sized);
     good = λ _. inl is.0;
@@ -20,7 +22,8 @@ module _ (v : Bool) (lists : Lists) (sized : HasSizes lists) (rank status old ne
     right = λ _ t _. (is.0, subst (λ (n : ℕ). Picks (bits_in lists) v rank n) (sym is.1) (answer t));
     none = λ _ t past. absurd (omega (arith, past, rank_below (bits_in lists) v rank p (answer t)));
   }
-  told Absent is bit answer = record {
+  told Absent is bit absent answer = record {
+    absent = λ _. absent;
     kept = λ _. is.1;
     bad = λ no. absurd (no sized);
     good = λ _. inr (inl is.0);
@@ -28,7 +31,8 @@ module _ (v : Bool) (lists : Lists) (sized : HasSizes lists) (rank status old ne
     right = λ _ t below. absurd (omega (arith, answer t, below));
     none = λ _ _ _. is.0;
   }
-  told WrongTables is bit answer = record {
+  told WrongTables is bit absent answer = record {
+    absent = λ e. absurd (omega (arith, is.0, e));
     kept = λ _. is.1;
     bad = λ no. absurd (no sized);
     good = λ _. inr (inr is.0);
@@ -39,7 +43,9 @@ module _ (v : Bool) (lists : Lists) (sized : HasSizes lists) (rank status old ne
 
   -- the same of lists that are called by another name
   pub told_of : (lent : Lists) → lent ≡ lists → (s : Selected) → IsTold s status old new → HasBit (bits_in lent) v s
-      → (HasTables lent → IsSelected (bits_in lent) v rank s) → SelectAnswered v lists rank status old new
-  told_of lent same s is bit answer =
+      → IfAbsent s (TellsNone v lent rank) → (HasTables lent → IsSelected (bits_in lent) v rank s)
+      → SelectAnswered v lists rank status old new
+  told_of lent same s is bit absent answer =
       told s is (subst (λ (l : Lists). HasBit (bits_in l) v s) same bit)
+      (subst (λ (l : Lists). IfAbsent s (TellsNone v l rank)) same absent)
       (subst (λ (l : Lists). HasTables l → IsSelected (bits_in l) v rank s) same answer)

@@ -4,6 +4,7 @@ use Rattle.std.specs.Int.{div_ceil}
 use Rattle.bitm.specs.Bits.{item}
 use Rattle.bitm.specs.Count.{count_of, Picks}
 use Rattle.bitm.specs.Tables.{HasSizes, HasTables, Lists, bits_in}
+use Rattle.bitm.specs.Told.{TellsNone}
 use Rattle.bitm_lent.specs.Sizes.{listed}
 use Rattle.bitm.specs.Selected.{Selected}
 use Rattle.bitm.specs.Selected.TheVariants.{Found, Absent, WrongTables}
@@ -29,6 +30,7 @@ pub record SelectAnswered (v : Bool) (lists : Lists) (rank status old new : ℕ)
   pub bad : (HasSizes lists → ⊥) → status ≡ 2
   pub good : HasSizes lists → (status ≡ 0) ⊎ (status ≡ 1) ⊎ (status ≡ 3)
   pub bit : status ≡ 0 → (new < length (bits_in lists)) × (item (bits_in lists) new ≡ v)
+  pub absent : status ≡ 1 → TellsNone v lists rank
   pub right : HasSizes lists → HasTables lists → rank < count_of (bits_in lists) v → (status ≡ 0) × Picks (bits_in lists) v rank new
   pub none : HasSizes lists → HasTables lists → count_of (bits_in lists) v ≤ rank → status ≡ 1
 

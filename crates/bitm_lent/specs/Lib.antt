@@ -10,3 +10,4 @@ pub use Rattle.bitm_search.specs.Many
 pub use Rattle.bitm_search.specs.Reads
 pub use Rattle.bitm_search.specs.Search
 pub use Rattle.bitm_search.specs.Tables
+pub use Rattle.bitm_search.specs.Told

@@ -6,6 +6,7 @@ use Rattle.bit_lists.specs.Count.{count_before, count_of, Picks}
 use Rattle.bitm.specs.Density.{within}
 use Rattle.bitm.specs.Samples.{samples_of, sample_starts_of}
 use Rattle.bitm_search.specs.Tables.{HasTables, Lists, bits_in}
+use Rattle.bitm_search.specs.Told.{TellsNone}
 use Rattle.bitm_lent.specs.declared.samples.LentSamples.{LentSamples}
 use Rattle.bitm_search.specs.declared.search.selected.Selected.{Selected}
 use Rattle.bitm_search.specs.declared.search.selected.Selected.TheVariants.{Found, Absent, WrongTables}
@@ -43,10 +44,12 @@ IsSelectedIfTold b v r (Found p) = Picks b v r p
 IsSelectedIfTold b v r Absent = count_of b v ≤ r
 IsSelectedIfTold b v r WrongTables = ⊤
 
--- n tells the place with bit v and r such bits before it: below 2^64 - 2 it is a place with bit v, whatever is lent, and the right
--- one where the tables are; it is 2^64 - 1 only where there is none then, and 2^64 - 2 only where tables or samples are wrong
+-- n tells the place with bit v and r such bits before it. Whatever is lent, below 2^64 - 2 it is a place with bit v, and it is
+-- 2^64 - 1 only where tables and words tell no more than r of them. Where the tables are right the place is the right one, it is
+-- 2^64 - 1 only where there is none, and 2^64 - 2 only where the samples are wrong
 pub record SampledTold (v : Bool) (lists : Lists) (lent : LentSamples) (r n : ℕ) : Type 0 where
   pub bit : n < 2 ^ 64 - 2 → (n < length (bits_in lists)) × (item (bits_in lists) n ≡ v)
   pub place : HasTables lists → n < 2 ^ 64 - 2 → Picks (bits_in lists) v r n
+  pub none : n ≡ 2 ^ 64 - 1 → TellsNone v lists r
   pub absent : HasTables lists → n ≡ 2 ^ 64 - 1 → count_of (bits_in lists) v ≤ r
   pub told : HasTables lists → AreSamplesOf (bits_in lists) v lent → n ≢ 2 ^ 64 - 2

@@ -5,6 +5,7 @@ ghost use Rattle.bit_lists.specs.Bits.{bits_of, IsShort};
 ghost use Rattle.bit_lists.specs.Count.{kind, IsRank};
 ghost use Rattle.bitm_search.specs.Reads.{none_read};
 ghost use Rattle.bitm_search.specs.Tables.{HasSizes, HasTables, bits_in};
+ghost use Rattle.bitm_search.specs.Told.{IfAbsent, TellsNone};
 ghost use Rattle.bitm_search.specs.Answers.{HasBit, IsSelected};
 ghost use Rattle.bitm_lent.specs.Ranks.{IsCountWithin, IsRanked};
 ghost use Rattle.bitm_lent.specs.Sizes.{listed};
@@ -179,6 +180,7 @@ impl<'a> Lent<'a> {
     pub fn select(&self, rank: usize) -> Selected
         ensures bit { HasBit (bits_in self.now) true result }
         ensures answer { HasTables self.now → IsSelected (bits_in self.now) true rank result }
+        ensures none { IfAbsent result (TellsNone true self.now rank) }
     {
         self.select_kind::<1>(rank)
     }
@@ -190,6 +192,7 @@ impl<'a> Lent<'a> {
     pub fn select0(&self, rank: usize) -> Selected
         ensures bit { HasBit (bits_in self.now) false result }
         ensures answer { HasTables self.now → IsSelected (bits_in self.now) false rank result }
+        ensures none { IfAbsent result (TellsNone false self.now rank) }
     {
         self.select_kind::<0>(rank)
     }
@@ -197,9 +200,11 @@ impl<'a> Lent<'a> {
     /// The place of the one with exactly `rank` ones before it; zeros in place of ones where `ONE` is 0.
     #[inline(always)]
     pub(crate) fn select_kind<const ONE: u8>(&self, rank: usize) -> Selected
+        ensures sized { HasSizes self.now }
         ensures bit { HasBit (bits_in self.now) (kind ONE) result }
         ensures answer { HasTables self.now
             → IsSelected (bits_in self.now) (kind ONE) rank result }
+        ensures none { IfAbsent result (TellsNone (kind ONE) self.now rank) }
     {
         total_select_on::<ONE, Probe<'_>>(&mut self.probe(), rank)
     }

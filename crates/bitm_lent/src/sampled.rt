@@ -11,6 +11,7 @@ ghost use Rattle.bitm.specs.Samples.{part_of, parts, sample_count_before};
 ghost use Rattle.bitm_search.specs.Search.{entries_from, entry_in, sought_in, IsLastEntry, IsLastPart};
 ghost use Rattle.bitm_search.specs.Tables.{HasSizes, HasTables, bits_in};
 ghost use Rattle.bitm_search.specs.Answers.{HasBit, IsSelected};
+ghost use Rattle.bitm_search.specs.Told.{told_entry, IfAbsent, IsLeftOf, TellsNone};
 ghost use Rattle.bitm_lent.specs.Samples.{AreSamplesOf, IsBounded, IsSelectedIfTold};
 
 use crate::samples::{Density, LentSamples};
@@ -108,8 +109,8 @@ fn begun_by<const ONE: u8, T: TableSource>(
         let m = sought_in ONE (T.lists source.old).words in
         MatchOption result (rank < before_in_part m (entry_in part low))
         (λ _. before_in_part m (entry_in part low) ≤ rank) }
-    ensures packed { HasTables (T.lists source.old) → 0 < low → IfSome result (λ packed. packed
-        ≡ lower_entry (sought_in ONE (T.lists source.old).words) (entry_in part low)) }
+    ensures packed { 0 < low → IfSome result (λ packed. packed
+        ≡ told_entry (kind ONE) (T.lists source.old) (entry_in part low)) }
     ensures reads { ReadsAtMost (T.reads source.old) (T.reads source.new) 0 1 0 }
     ensures reads_first { low ≡ 0 → T.reads source.new ≡ T.reads source.old }
     ensures same { T.lists source.new ≡ T.lists source.old }
@@ -170,6 +171,8 @@ fn entry_between<const ONE: u8, T: TableSource>(
         (length (T.lists source.old).lower) part rank r.0) }
     ensures entry { IfSome result (λ r. HasTables (T.lists source.old) → r.1
         ≡ lower_entry (sought_in ONE (T.lists source.old).words) (entry_in part r.0)) }
+    ensures packed { IfSome result (λ r. r.1
+        ≡ told_entry (kind ONE) (T.lists source.old) (entry_in part r.0)) }
     ensures found { HasTables (T.lists source.old) →
         let m = sought_in ONE (T.lists source.old).words in
         before_in_part m (entry_in part low) ≤ rank
@@ -212,6 +215,8 @@ pub(crate) fn sampled_entry<const ONE: u8, T: TableSource>(
         (length (T.lists source.old).lower) part rank r.0) }
     ensures entry { IfSome result (λ r. HasTables (T.lists source.old) → r.1
         ≡ lower_entry (sought_in ONE (T.lists source.old).words) (entry_in part r.0)) }
+    ensures packed { IfSome result (λ r. r.1
+        ≡ told_entry (kind ONE) (T.lists source.old) (entry_in part r.0)) }
     ensures found { HasTables (T.lists source.old)
         → AreSamplesOf (bits_in (T.lists source.old)) (kind ONE) lent.now
         → IsNone result → ⊥ }
@@ -250,6 +255,8 @@ fn sampled_in_part<const ONE: u8, T: TableSource>(
         let m = sought_in ONE (T.lists source.old).words in
         IsSelected (bits_in (T.lists source.old)) (kind ONE)
         (ones_before m (part * 2 ^ 32) + rank) result }
+    ensures none { (all : ℕ) → all < 2 ^ 64 → IsLeftOf (kind ONE) (T.lists source.old) all part rank
+        → IfAbsent result (TellsNone (kind ONE) (T.lists source.old) all) }
     ensures reads { ReadsAtMost (T.reads source.old) (T.reads source.new) 0 23 8 }
     ensures same { T.lists source.new ≡ T.lists source.old }
 {
@@ -285,6 +292,7 @@ pub fn sampled_select_on<const ONE: u8, T: TableSource>(
     ensures answer { HasTables (T.lists source.old)
         → AreSamplesOf (bits_in (T.lists source.old)) (kind ONE) lent.now
         → IsSelected (bits_in (T.lists source.old)) (kind ONE) rank result }
+    ensures none { IfAbsent result (TellsNone (kind ONE) (T.lists source.old) rank) }
     ensures reads { OnlyReads T.lists T.reads source.old source.new
         (digit_count (length (T.lists source.old).upper) + 1) 23 8 }
 {

@@ -10,3 +10,4 @@ pub mod SoughtLemmas
 pub mod StretchLemmas
 pub mod TableLemmas
 pub mod TableMakingLemmas
+pub mod ToldLemmas

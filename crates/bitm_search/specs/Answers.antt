@@ -4,6 +4,7 @@ use Rattle.bit_lists.specs.Bits.{bits_of, item}
 use Rattle.bit_lists.specs.Count.{ones_before, count_of, Picks}
 use Rattle.bitm_search.specs.Search.{sought}
 use Rattle.bitm_search.specs.Tables.{HasTables, Lists, bits_in}
+use Rattle.bitm_search.specs.Told.{TellsNone}
 use Rattle.bitm_search.specs.declared.search.selected.Selected.{Selected}
 use Rattle.bitm_search.specs.declared.search.selected.Selected.TheVariants.{Found, Absent, WrongTables}
 
@@ -44,10 +45,11 @@ IsSelectedFrom words v k r (Found p) = Picks (bits_of words) v r p
 IsSelectedFrom words v k r Absent = count_of (bits_of words) v ≤ r
 IsSelectedFrom words v k r WrongTables = (k + 8 < length words) × (ones_before (sought v (bits_of words)) (64 * (k + 8)) ≤ r)
 
--- n tells the place with bit v and r such bits before it: below 2^64 - 2 it is a place with bit v, whatever the tables hold, and
--- it is 2^64 - 1 where they are right and there is none
+-- n tells the place with bit v and r such bits before it. Whatever the tables hold, below 2^64 - 2 it is a place with bit v, and it
+-- is 2^64 - 1 only where tables and words tell no more than r of them; where they are right it is 2^64 - 1 where there is none
 pub record SelectTold (v : Bool) (lists : Lists) (r n : ℕ) : Type 0 where
   pub bit : n < 2 ^ 64 - 2 → (n < length (bits_in lists)) × (item (bits_in lists) n ≡ v)
+  pub absent : n ≡ 2 ^ 64 - 1 → TellsNone v lists r
   pub some : HasTables lists → r < count_of (bits_in lists) v → Picks (bits_in lists) v r n
   pub none : HasTables lists → count_of (bits_in lists) v ≤ r → n ≡ 2 ^ 64 - 1
 

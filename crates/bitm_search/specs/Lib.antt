@@ -4,6 +4,7 @@ pub mod Many
 pub mod Reads
 pub mod Search
 pub mod Tables
+pub mod Told
 pub use Rattle.bit_lists.specs.Bits
 pub use Rattle.bit_lists.specs.Count
 pub use Rattle.bit_lists.specs.Number

@@ -1,9 +1,10 @@
 -- Many queries at once: each answer by its query, and how far the queries of a block have come.
-use Rattle.std.specs.Prelude.{◌≡◌, ℕ, ◌+◌, ◌*◌, ◌^◌, ◌<◌, ◌≤◌, Bool, List, length, slice_index, slice_index_or}
-use Rattle.bit_lists.specs.Count.{ones_before, Picks}
+use Rattle.std.specs.Prelude.{◌≡◌, ℕ, ◌+◌, ◌*◌, ◌%◌, ◌^◌, ◌<◌, ◌≤◌, Bool, List, length, slice_index, slice_index_or}
+use Rattle.bit_lists.specs.Count.{kind, ones_before, Picks}
 use Rattle.bitm_search.specs.Entry.{before_in_part}
 use Rattle.bitm_search.specs.Search.{entries_from, entry_in, sought_in, IsLastPart, IsWord}
 use Rattle.bitm_search.specs.Tables.{HasTables, Lists}
+use Rattle.bitm_search.specs.Told.{less, told_entry, told_part, told_to}
 use Rattle.bitm_search.specs.declared.search.loaded.InRecord.{InRecord}
 use Rattle.bitm_search.specs.declared.search.query.Query.{Query}
 
@@ -29,9 +30,19 @@ pub record IsNear (one : ℕ) (lists : Lists) (rank rest at size : ℕ) : Type 0
       → rest < before_in_part (sought_in one lists.words) (entry_in part (low + 2 ^ size))
   pub room : low + 2 ^ size ≤ 2 ^ 21
 
--- a query is at an entry, and where the tables are those of the words it is on its way to the item of the rank
+-- a query, with 2^size entries left, is in a part, and its rest is what the upper table tells to be left of the rank there
+pub record IsInPart (v : Bool) (lists : Lists) (rank : ℕ) (query : Query) (size : ℕ) : Type 0 where
+  pub part : ℕ
+  pub there : part < length lists.upper
+  pub from : part * 2 ^ 21 ≤ query.entry
+  pub to : query.entry + 2 ^ size ≤ (part + 1) * 2 ^ 21
+  pub fits : told_part v lists part < 2 ^ 64
+  pub rest : query.rest ≡ less rank (told_part v lists part)
+
+-- a query is at an entry of a part, and where the tables are those of the words it is on its way to the item of the rank
 pub record IsSearch (one : ℕ) (lists : Lists) (rank : ℕ) (query : Query) (size : ℕ) : Type 0 where
   pub entry : query.entry < length lists.lower
+  pub in_part : IsInPart (kind one) lists rank query size
   pub near : HasTables lists → IsNear one lists rank query.rest query.entry size
 
 -- query k is that of rank k
@@ -48,10 +59,24 @@ pub record AreInside (one : ℕ) (lists : Lists) (ranks : List ℕ) (queries : L
   pub enough : length ranks ≤ length queries
   pub each : (k : ℕ) (d : Query) → k < length ranks → IsInside one lists (slice_index ranks k) (slice_index_or queries k d) size
 
+-- a record is record k of an entry, and its rest is what the tables tell to be left of the rank there, as a number of 64 bits
+pub record IsToldRecord (v : Bool) (lists : Lists) (rank : ℕ) (at : InRecord) : Type 0 where
+  pub part : ℕ
+  pub entry : ℕ
+  pub k : ℕ
+  pub there : part < length lists.upper
+  pub inside : entry < length lists.lower
+  pub from : part * 2 ^ 21 ≤ entry
+  pub to : entry < (part + 1) * 2 ^ 21
+  pub few : k < 4
+  pub first : at.first ≡ entry * 32 + k * 8
+  pub total : (told_part v lists part + told_to (told_entry v lists entry) k + at.rest) % 2 ^ 64 ≡ rank % 2 ^ 64
+
 -- of the items that are sought, the one of this rank, if there is one, is in the record that begins at word first, where rest of
 -- them stand before it, if the tables are those of the words; word is the first of the record
 pub record IsInRecord (one : ℕ) (lists : Lists) (rank : ℕ) (at : InRecord) : Type 0 where
   pub fits : at.first < 2 ^ 60
+  pub told : IsToldRecord (kind one) lists rank at
   pub word_is : at.first < length lists.words → IsWord (sought_in one lists.words) at.first at.word
   pub total : HasTables lists → rank ≡ ones_before (sought_in one lists.words) (64 * at.first) + at.rest
   pub next : HasTables lists → at.first + 8 < length lists.words → rank < ones_before (sought_in one lists.words) (64 * (at.first + 8))

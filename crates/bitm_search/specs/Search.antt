@@ -4,8 +4,9 @@ use Rattle.std.specs.Int.{div_ceil}
 use Rattle.bit_lists.specs.Bits.{bits_of}
 use Rattle.bit_lists.specs.Count.{ones_before, kind}
 use Rattle.bit_lists.specs.Number.{number_at}
-use Rattle.bitm_search.specs.Entry.{before_in_part, lower_entry}
+use Rattle.bitm_search.specs.Entry.{before_in_part}
 use Rattle.bitm_search.specs.Tables.{HasTables, Lists}
+use Rattle.bitm_search.specs.Told.{told_entry}
 use Rattle.bitm_search.specs.declared.search.entries.EntryRange.{EntryRange}
 
 -- the bits, and falses up to a multiple of 2048
@@ -65,13 +66,13 @@ IsLastEntry m entries part r e = IsLast (λ j. before_in_part m (entry_in part j
 abbrev pub IsAmong : List Bool → ℕ → ℕ → ℕ → ℕ → ℕ → Type 0
 IsAmong m entries part r low left = Between (λ j. before_in_part m (part * 2 ^ 21 + j)) (entries_from entries part) r low left
 
--- a range of the entries of a part, and, where the tables are those of the words, that the last entry of the part with no more
--- than r ones before it is in the range, and what the range's first entry packs, unless it is the part's first
+-- a range of the entries of a part, and what its first entry is told to pack, unless it is the part's first; where the tables are
+-- those of the words, the last entry of the part with no more than r ones before it is in the range
 pub record IsRange (one : ℕ) (lists : Lists) (part r : ℕ) (range : EntryRange) : Type 0 where
   pub some : 0 < range.left
   pub within : range.low + range.left ≤ entries_from (length lists.lower) part
   pub among : HasTables lists → IsAmong (sought_in one lists.words) (length lists.lower) part r range.low range.left
-  pub packed : HasTables lists → 0 < range.low → range.packed ≡ lower_entry (sought_in one lists.words) (entry_in part range.low)
+  pub packed : 0 < range.low → range.packed ≡ told_entry (kind one) lists (entry_in part range.low)
 
 -- how many of the bits that are sought stand in a part before its entry j
 abbrev pub items_to : ℕ → List Bool → ℕ → ℕ → ℕ

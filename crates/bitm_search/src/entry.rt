@@ -3,6 +3,7 @@ ghost use Rattle.std.specs.Prelude.{◌≡◌, ◌-◌, ◌*◌, ◌/◌, ◌%�
 ghost use Rattle.bitm_search.specs.Entry.{FieldsFit, FieldsAddUp, IsEntryOf, field_0, greatest, lower_entry};
 ghost use Rattle.bitm_search.specs.Entry.{zeros_before_in_part};
 ghost use Rattle.bitm_search.specs.Search.{entries_from, negated, padded};
+ghost use Rattle.bitm_search.specs.Told.{less};
 
 use crate::levels::L2_ENTRIES_PER_L1_ENTRY;
 
@@ -42,7 +43,8 @@ pub fn ones_to_record(entry: u64, place: usize) -> usize
 /// none borrows then.
 #[inline(always)]
 pub fn negated_entry(entry: u64, at: usize) -> u64
-    ensures { FieldsFit entry at → result ≡ greatest at - entry }
+    ensures fits { FieldsFit entry at → result ≡ greatest at - entry }
+    ensures told { result ≡ less (greatest at) entry }
 {
     ((at % L2_ENTRIES_PER_L1_ENTRY) as u64 * 2048 + 0x8020_0600_0000_0000).wrapping_sub(entry)
 }

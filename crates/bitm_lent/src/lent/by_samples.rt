@@ -3,6 +3,7 @@ ghost use Rattle.std.specs.Prelude.{◌≡◌, ◌<◌, ◌≤◌, ℕ, length, 
 ghost use Rattle.bit_lists.specs.Count.{kind};
 ghost use Rattle.bitm.specs.Density.{within};
 ghost use Rattle.bitm_search.specs.Tables.{HasSizes, HasTables, bits_in};
+ghost use Rattle.bitm_search.specs.Told.{IfAbsent, TellsNone};
 ghost use Rattle.bitm_search.specs.Answers.{HasBit, IsSelected};
 ghost use Rattle.bitm_lent.specs.Samples.{AreSamples, AreSamplesOf, HasRoom, IsSelectedIfTold};
 
@@ -122,6 +123,7 @@ impl<'a> Lent<'a> {
         ensures answer { HasTables self.now
             → AreSamplesOf (bits_in self.now) true samples.now
             → IsSelected (bits_in self.now) true rank result }
+        ensures none { IfAbsent result (TellsNone true self.now rank) }
     {
         self.sampled_kind::<1>(samples, rank)
     }
@@ -137,6 +139,7 @@ impl<'a> Lent<'a> {
         ensures answer { HasTables self.now
             → AreSamplesOf (bits_in self.now) false samples.now
             → IsSelected (bits_in self.now) false rank result }
+        ensures none { IfAbsent result (TellsNone false self.now rank) }
     {
         self.sampled_kind::<0>(samples, rank)
     }
@@ -155,6 +158,7 @@ impl<'a> Lent<'a> {
         ensures answer { HasTables self.now
             → AreSamplesOf (bits_in self.now) (kind ONE) samples.now
             → IsSelected (bits_in self.now) (kind ONE) rank result }
+        ensures none { IfAbsent result (TellsNone (kind ONE) self.now rank) }
     {
         let source = &mut Probe::new(self.words, self.upper, self.lower);
         sampled_select_on::<ONE, Probe<'_>>(source, samples, rank)

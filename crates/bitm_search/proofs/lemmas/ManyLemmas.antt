@@ -1,5 +1,5 @@
 -- Many queries at once: a search by powers of two, and the record that it ends at.
-use Rattle.std.proofs.Common.{◌≡◌, ℕ, ◌+◌, ◌-◌, ◌*◌, ◌^◌, ◌<◌, ◌≤◌, List, ◌++◌, take, drop, length, slice_index, slice_index_or, slice_set, subst, sym, ap, ◌∙◌, arith, rules, inl, inr}
+use Rattle.std.proofs.Common.{◌≡◌, ℕ, ◌+◌, ◌-◌, ◌*◌, ◌^◌, ◌<◌, ◌≤◌, Bool, List, ◌++◌, take, drop, length, slice_index, slice_index_or, slice_set, subst, sym, ap, ◌∙◌, arith, rules, inl, inr}
 use Rattle.std.proofs.lemmas.Bool.{cases_lt}
 use Rattle.std.proofs.lemmas.List.{get_or-set_same, get_or-set_other, get_or-take, get_or-drop, length-append, length-take, length-drop, places}
 use Rattle.std.proofs.Math.Pow.{pow_mono}
@@ -7,15 +7,17 @@ use Rattle.std.proofs.lemmas.Nat.{pow-add}
 use Rattle.bit_lists.specs.Bits.{bits_of, IsShort}
 use Rattle.bit_lists.specs.Count.{ones_before, count_of, kind}
 use Rattle.bitm_search.specs.Entry.{before_in_part, field_0, lower_entry, record_field}
-use Rattle.bitm_search.specs.Answers.{told_in, IsSelectedFrom, SelectTold}
-use Rattle.bitm_search.specs.Many.{IsNear, IsInRecord}
-use Rattle.bitm_search.specs.Search.{sought_in, IsLastPart, IsLastEntry, IsPartOf, IsWord}
-use Rattle.bitm_search.specs.Tables.{Lists, HasTables}
+use Rattle.bitm_search.specs.Answers.{told_in, IsSelected, IsSelectedFrom, SelectTold}
+use Rattle.bitm_search.specs.Many.{IsInPart, IsNear, IsInRecord}
+use Rattle.bitm_search.specs.Search.{sought_in, IsLastPart, IsLastEntry, IsPartOf}
+use Rattle.bitm_search.specs.Tables.{Lists, HasSizes, HasTables, bits_in}
+use Rattle.bitm_search.specs.Told.{wrong_for_absent, IfAbsent, TellsNone}
 use Rattle.bitm_search.specs.declared.search.loaded.InRecord.{InRecord}
 use Rattle.bitm_search.specs.declared.search.selected.Selected.{Selected}
 use Rattle.bitm_search.proofs.lemmas.MarkLemmas.{none_in_nothing}
 use Rattle.bitm_search.proofs.lemmas.LengthLemmas.{few_entries, first_of_part, sizes_of}
-use Rattle.bitm_search.proofs.lemmas.SelectedLemmas.{has_bit, selected, told_is}
+use Rattle.bitm_search.proofs.lemmas.SelectedLemmas.{bit_kept, has_bit, never_absent, selected, told_is}
+use Rattle.bitm_search.proofs.lemmas.ToldLemmas.{record_none}
 use Rattle.bitm_search.proofs.lemmas.SoughtLemmas.{first_none, next_is, rank_is}
 use Rattle.bitm_search.proofs.lemmas.TableLemmas.{entries}
 use borrow.Rule.Slice.PartMut.{put_mid}
@@ -159,12 +161,31 @@ pub near_few : (one : ℕ) (lists : Lists) (rank rest at : ℕ) → HasTables li
 near_few one lists rank rest at t short near =
     omega (arith, near.place, near.inside, few_entries lists (sizes_of lists t short))
 
+-- a search of fewer entries from its own on stays in its part
+pub part_stays : (v : Bool) (lists : Lists) (rank rest at i j : ℕ) → i ≤ j → IsInPart v lists rank (record { rest = rest; entry = at }) j
+    → IsInPart v lists rank (record { rest = rest; entry = at }) i
+part_stays v lists rank rest at i j le is =
+    let small : 2 ^ i ≤ 2 ^ j = pow_mono le in
+    record { part = is.part; there = is.there; from = is.from; to = omega (arith, is.to, small); fits = is.fits; rest = is.rest }
+
+-- and so does one that goes over half of them
+pub part_up : (v : Bool) (lists : Lists) (rank rest at i : ℕ) → IsInPart v lists rank (record { rest = rest; entry = at }) (i + 1)
+    → IsInPart v lists rank (record { rest = rest; entry = at + 2 ^ i }) i
+part_up v lists rank rest at i is =
+    record {
+      part = is.part;
+      there = is.there;
+      from = omega (arith, is.from);
+      to = omega (arith, is.to, pow-add 2 i 1);
+      fits = is.fits;
+      rest = is.rest;
+    }
+
 -- the record that is chosen in the entry where the search ends
-module _ (one : ℕ) (lists : Lists) (rank rest at packed count place before word : ℕ) (t : HasTables lists) (short : IsShort lists.words)
+module _ (one : ℕ) (lists : Lists) (rank rest at packed count place before : ℕ) (t : HasTables lists)
     (near : IsNear one lists rank rest at 0) (packed_is : packed ≡ lower_entry (sought_in one lists.words) at)
     (count_is : count ≡ field_0 packed) (small : place < 4) (before_is : before ≡ record_field packed place)
-    (at_most : before ≤ rest - count) (next : place < 3 → rest - count < record_field packed (place + 1))
-    (word_is : at * 32 + place * 8 < length lists.words → IsWord (sought_in one lists.words) (at * 32 + place * 8) word) where
+    (at_most : before ≤ rest - count) (next : place < 3 → rest - count < record_field packed (place + 1)) where
   there : ℕ
   there = near.part * 2 ^ 21 + near.low
 
@@ -189,28 +210,40 @@ module _ (one : ℕ) (lists : Lists) (rank rest at packed count place before wor
       next_is lists.words lists.upper lists.lower t (sought_in one lists.words) near.part rest near.low place packed count before
       part (near_ends one lists rank rest at near) packed_there count_is small before_is at_most next
 
-  pub near_loads : IsInRecord one lists rank (record { rest = rest - count - before; first = at * 32 + place * 8; word = word })
+  pub near_loads : (rank ≡ ones_before (sought_in one lists.words) (64 * (at * 32 + place * 8)) + (rest - count - before))
+      × (at * 32 + place * 8 + 8 < length lists.words → rank < ones_before (sought_in one lists.words) (64 * (at * 32 + place * 8 + 8)))
   near_loads =
       let same : (near.part * 2 ^ 21 + near.low) * 32 + place * 8 ≡ at * 32 + place * 8 = omega (arith, near.place) in
       let here = ap (λ (n : ℕ). ones_before (sought_in one lists.words) (64 * n)) same in
       let end = ap (λ (n : ℕ). ones_before (sought_in one lists.words) (64 * (n + 8))) same in
-      record {
-        fits = omega (arith, near_few one lists rank rest at t short near, small);
-        total = λ _. omega (arith, near.total, total, here);
-        next = λ _ h. omega (arith, near.total, total, after (omega (arith, h, same)), end);
-        word_is = word_is;
-      }
+      (omega (arith, near.total, total, here), λ h. omega (arith, near.total, total, after (omega (arith, h, same)), end))
 
--- what is told of a selection in the record
-pub told_record : (one : ℕ) (lists : Lists) (rank : ℕ) (at : InRecord) → IsInRecord one lists rank at → (s : Selected)
-    → IsSelectedFrom lists.words (kind one) at.first (ones_before (sought_in one lists.words) (64 * at.first) + at.rest) s
-    → SelectTold (kind one) lists rank (told_in s)
-told_record one lists rank at there s is =
-    let R = ones_before (sought_in one lists.words) (64 * at.first) + at.rest in
-    told_is (kind one) lists rank s (has_bit lists.words (kind one) at.first R s is)
-    (λ t.
-    selected lists.words (kind one) at.first rank s (there.next t)
-    (subst (λ (n : ℕ). IsSelectedFrom lists.words (kind one) at.first n s) (sym (there.total t)) is))
+-- what is told of a selection in the record, where what is left of the rank did not wrap, and where it did
+module _ (one : ℕ) (lists : Lists) (rank : ℕ) (at : InRecord) (sized : HasSizes lists) (there : IsInRecord one lists rank at) where
+  right : (s : Selected) → IsSelectedFrom lists.words (kind one) at.first (ones_before (sought_in one lists.words) (64 * at.first) + at.rest) s
+      → HasTables lists → IsSelected (bits_in lists) (kind one) rank s
+  right s is t =
+      selected lists.words (kind one) at.first rank s (there.next t)
+      (subst (λ (n : ℕ). IsSelectedFrom lists.words (kind one) at.first n s) (sym (there.total t)) is)
+
+  pub told_record : (s s' : Selected) → rank < 2 ^ 64 → (at.rest ≤ rank → s' ≡ s) → (rank < at.rest → s' ≡ wrong_for_absent s)
+      → IfAbsent s (length lists.words ≤ at.first + 8)
+      → IsSelectedFrom lists.words (kind one) at.first (ones_before (sought_in one lists.words) (64 * at.first) + at.rest) s
+      → SelectTold (kind one) lists rank (told_in s')
+  told_record s s' fits kept wrapped last is =
+      let R = ones_before (sought_in one lists.words) (64 * at.first) + at.rest in
+      elim (cases_lt rank at.rest) [
+        | inl over ↦
+            subst (λ (x : Selected). SelectTold (kind one) lists rank (told_in x)) (sym (wrapped over))
+            (told_is (kind one) lists rank sized.short (wrong_for_absent s)
+            (bit_kept (bits_in lists) (kind one) s (has_bit lists.words (kind one) at.first R s is)) (never_absent (TellsNone (kind one) lists rank) s)
+            (λ t. absurd (omega (arith, over, there.total t))))
+        | inr within ↦
+            subst (λ (x : Selected). SelectTold (kind one) lists rank (told_in x)) (sym (kept within))
+            (told_is (kind one) lists rank sized.short s (has_bit lists.words (kind one) at.first R s is)
+            (record_none lists (kind one) rank at sized there.told fits within s last is)
+            (right s is))
+      ]
 
 -- ---- lists that are written item by item: what holds of the items so far, and of those that are left
 

@@ -2,11 +2,12 @@
 use Rattle.std.proofs.Common.{◌≡◌, ℕ, ◌+◌, ◌*◌, ◌<◌, ◌≤◌, ◌-◌, ◌/◌, Bool, List, IfSome, length, refl, arith}
 use Rattle.bit_lists.proofs.lemmas.BitsLemmas.{length-bits_of}
 use Rattle.bit_lists.proofs.lemmas.PickLemmas.{rank_below}
-use Rattle.bit_lists.specs.Bits.{bits_of}
+use Rattle.bit_lists.specs.Bits.{bits_of, IsShort}
 use Rattle.bit_lists.specs.Count.{ones_before, count_of, IsSelect}
 use Rattle.bitm_search.specs.Answers.{place_in, told_in, HasBit, IsFoundFrom, IsSelected, IsSelectedFrom, SelectTold}
 use Rattle.bitm_search.specs.Search.{sought}
 use Rattle.bitm_search.specs.Tables.{HasTables, Lists, bits_in}
+use Rattle.bitm_search.specs.Told.{wrong_for_absent, IfAbsent, TellsNone}
 use Rattle.bitm_search.specs.declared.search.selected.Selected.{Selected}
 use Rattle.bitm_search.specs.declared.search.selected.Selected.TheVariants.{Found, Absent, WrongTables}
 use Rattle.bitm_search.proofs.lemmas.MarkLemmas.{none_counted}
@@ -50,21 +51,35 @@ in_entry k (Found p) is = omega (arith, is.0, is.1)
 in_entry k Absent is = tt
 in_entry k WrongTables is = tt
 
+-- where WrongTables stands for Absent, a place that was found is found, and nothing is absent
+pub bit_kept : (b : List Bool) (v : Bool) (s : Selected) → HasBit b v s → HasBit b v (wrong_for_absent s)
+bit_kept b v (Found p) is = is
+bit_kept b v Absent is = tt
+bit_kept b v WrongTables is = tt
+
+pub never_absent : (P : Type 0) (s : Selected) → IfAbsent (wrong_for_absent s) P
+never_absent P (Found p) = tt
+never_absent P Absent = tt
+never_absent P WrongTables = tt
+
 -- what a list of answers says of a selection
-pub told_is : (v : Bool) (lists : Lists) (r : ℕ) (s : Selected) → HasBit (bits_in lists) v s
-    → (HasTables lists → IsSelected (bits_in lists) v r s) → SelectTold v lists r (told_in s)
-told_is v lists r (Found p) bit answer = record {
+pub told_is : (v : Bool) (lists : Lists) (r : ℕ) → IsShort lists.words → (s : Selected) → HasBit (bits_in lists) v s
+    → IfAbsent s (TellsNone v lists r) → (HasTables lists → IsSelected (bits_in lists) v r s) → SelectTold v lists r (told_in s)
+told_is v lists r short (Found p) bit none answer = record {
   bit = λ _. bit;
+  absent = λ e. absurd (omega (arith, e, bit.0, short, length-bits_of lists.words));
   some = λ t _. answer t;
   none = λ t past. absurd (omega (arith, past, rank_below (bits_in lists) v r p (answer t)));
 }
-told_is v lists r Absent bit answer = record {
+told_is v lists r short Absent bit none answer = record {
   bit = λ h. absurd (omega (arith, h));
+  absent = λ _. none;
   some = λ t some. absurd (omega (arith, some, answer t));
   none = λ _ _. refl {A = ℕ};
 }
-told_is v lists r WrongTables bit answer = record {
+told_is v lists r short WrongTables bit none answer = record {
   bit = λ h. absurd (omega (arith, h));
+  absent = λ e. absurd (omega (arith, e));
   some = λ t. absurd (answer t);
   none = λ t. absurd (answer t);
 }

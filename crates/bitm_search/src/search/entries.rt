@@ -2,10 +2,12 @@
 //! halves. Where the tables are not those of the words the search ends as well, with some entry of the part.
 ghost use Rattle.std.specs.Prelude.{◌≡◌, ◌+◌, ◌-◌, ◌*◌, ◌/◌, ◌^◌, ◌<◌, ◌≤◌, ◌⊎◌, length};
 ghost use Rattle.bit_lists.specs.Bits.{digit_count};
+ghost use Rattle.bit_lists.specs.Count.{kind};
 ghost use Rattle.bitm_search.specs.Entry.{lower_entry};
 ghost use Rattle.bitm_search.specs.Reads.{lower_read, ReadsAtMost};
 ghost use Rattle.bitm_search.specs.Search.{entries_from, entry_in, sought_in, IsLastEntry, IsRange};
 ghost use Rattle.bitm_search.specs.Tables.{HasSizes, HasTables};
+ghost use Rattle.bitm_search.specs.Told.{told_entry};
 
 use crate::entry::{entries_of_part, negated_entry, ones_to_entry};
 use crate::levels::L2_ENTRIES_PER_L1_ENTRY;
@@ -26,6 +28,7 @@ pub fn sought_entry<const ONE: u8, T: TableSource>(source: &mut T, at: usize) ->
     requires { at < length (T.lists source.old).lower }
     ensures entry { HasTables (T.lists source.old) → result
         ≡ lower_entry (sought_in ONE (T.lists source.old).words) at }
+    ensures told { result ≡ told_entry (kind ONE) (T.lists source.old) at }
     ensures counted { T.reads source.new ≡ lower_read (T.reads source.old) }
     ensures same { T.lists source.new ≡ T.lists source.old }
 {
@@ -209,6 +212,8 @@ pub fn last_in_range<const ONE: u8, T: TableSource>(
         (length (T.lists source.old).lower) part rank result.0 }
     ensures entry { HasTables (T.lists source.old) → result.1
         ≡ lower_entry (sought_in ONE (T.lists source.old).words) (entry_in part result.0) }
+    ensures told { result.1
+        ≡ told_entry (kind ONE) (T.lists source.old) (entry_in part result.0) }
     ensures reads { ReadsAtMost (T.reads source.old) (T.reads source.new)
         0 (digit_count (range.left - 1) + 1) 0 }
     ensures reads_later { 0 < range.low → ReadsAtMost (T.reads source.old) (T.reads source.new)
@@ -258,6 +263,8 @@ pub fn last_entry<const ONE: u8, T: TableSource>(
         (length (T.lists source.old).lower) part rank result.0 }
     ensures entry { HasTables (T.lists source.old) → result.1
         ≡ lower_entry (sought_in ONE (T.lists source.old).words) (entry_in part result.0) }
+    ensures told { result.1
+        ≡ told_entry (kind ONE) (T.lists source.old) (entry_in part result.0) }
     ensures reads { ReadsAtMost (T.reads source.old) (T.reads source.new) 0 23 0 }
     ensures same { T.lists source.new ≡ T.lists source.old }
 {

@@ -7,6 +7,7 @@ ghost use Rattle.bitm_search.specs.Many.{IsSearch, AreSearches, IsInRecord, AreI
 ghost use Rattle.bitm_search.specs.Reads.{word_read, ReadsAtMost};
 ghost use Rattle.bitm_search.specs.Search.{sought_in, IsWord};
 ghost use Rattle.bitm_search.specs.Tables.{HasSizes, bits_in};
+ghost use Rattle.bitm_search.specs.Told.{wrong_for_absent, IfAbsent};
 
 use crate::entry::ones_to_entry;
 use crate::levels::{U64_PER_L2_ENTRY, U64_PER_L2_RECORDS};
@@ -170,6 +171,7 @@ fn finish<const ONE: u8, T: TableSource>(
         → IsWord (sought_in ONE (T.lists source.old).words) first word }
     ensures answer { IsSelectedFrom (T.lists source.old).words (kind ONE) first
         (ones_before (sought_in ONE (T.lists source.old).words) (64 * first) + rest) result }
+    ensures last { IfAbsent result (length (T.lists source.old).words ≤ first + 8) }
     ensures reads { ReadsAtMost (T.reads source.old) (T.reads source.new) 0 0 7 }
     ensures same { T.lists source.new ≡ T.lists source.old }
 {
@@ -204,6 +206,19 @@ fn load_each<const ONE: u8, T: TableSource>(
     }
 }
 
+/// `selected`, but `WrongTables` in place of `Absent` where what is left of the rank wrapped: by the tables more stand
+/// before the record.
+#[inline(always)]
+fn unless_wrapped(selected: Selected, rest: usize, rank: usize) -> Selected
+    ensures kept { rest ≤ rank → result ≡ selected }
+    ensures wrapped { rank < rest → result ≡ wrong_for_absent selected }
+{
+    match selected {
+        Selected::Absent if rest > rank => Selected::WrongTables,
+        other => other,
+    }
+}
+
 /// Selects in each rank's record, and tells what was found.
 #[inline(always)]
 fn finish_each<const ONE: u8, T: TableSource>(
@@ -212,7 +227,7 @@ fn finish_each<const ONE: u8, T: TableSource>(
     records: &[InRecord],
     places: &mut [usize],
 )
-    requires short { IsShort (T.lists source.old).words }
+    requires sized { HasSizes (T.lists source.old) }
     requires loaded { AreInRecords ONE (T.lists source.old) ranks.now records.now }
     requires enough { length ranks.now ≤ length places.old }
     ensures told { ToldEach (kind ONE) (T.lists source.old) ranks.now places.new }
@@ -222,7 +237,8 @@ fn finish_each<const ONE: u8, T: TableSource>(
 {
     for k in 0..ranks.len() {
         let InRecord { rest, first, word } = records[k];
-        places[k] = told(finish::<ONE, T>(source, rest, first, word));
+        let selected = finish::<ONE, T>(source, rest, first, word);
+        places[k] = told(unless_wrapped(selected, rest, ranks[k]));
     }
 }
 

@@ -1,5 +1,6 @@
 //! Rank over a source, with a bound on its reads.
-ghost use Rattle.std.specs.Prelude.{◌≡◌, ◌+◌, ◌*◌, ◌^◌, ◌<◌, ◌≤◌, length, count_ones, MatchOption, SomeIff};
+ghost use Rattle.std.specs.Prelude.{◌≡◌, ◌+◌, ◌*◌, ◌/◌, ◌^◌, ◌<◌, ◌≤◌};
+ghost use Rattle.std.specs.Prelude.{length, slice_index, count_ones, MatchOption, SomeIff};
 ghost use Rattle.bit_lists.specs.Bits.{bits_of, item, IsShort};
 ghost use Rattle.bit_lists.specs.Count.{ones_before, IsRank};
 ghost use Rattle.bitm_search.specs.Reads.{OnlyReads, ReadsAtMost};
@@ -184,12 +185,54 @@ pub fn total_rank_on<T: TableSource>(source: &mut T, index: usize) -> Option<usi
     if last / 64 >= source.words_len() {
         return if index == 0 { Some(0) } else { None };
     }
+    Some(word_and_ones(source, last).1)
+}
+
+/// The word that has bit `last`, and how many of the bits to that one are ones, it too, where the tables are those of
+/// the words; else any number.
+///
+/// # Conditions
+/// There is such a bit.
+#[inline(always)]
+fn word_and_ones<T: TableSource>(source: &mut T, last: usize) -> (u64, usize)
+    requires sized { HasSizes (T.lists source.old) }
+    requires inside { last / 64 < length (T.lists source.old).words }
+    ensures word { result.0 ≡ slice_index (T.lists source.old).words (last / 64) }
+    ensures ones { HasTables (T.lists source.old)
+        → result.1 ≡ ones_before (bits_in (T.lists source.old)) (last + 1) }
+    ensures reads { OnlyReads T.lists T.reads source.old source.new 1 1 8 }
+{
     let record = last / RECORD_BITS;
     // The words first: then nothing of the entry is held in registers while they are counted.
     let in_record = ones_in_record(source, record * U64_PER_L2_RECORDS, last / 64);
-    let in_word = ones_through(source.word(last / 64), last % 64) as usize;
+    let word = source.word(last / 64);
+    let in_word = ones_through(word, last % 64) as usize;
     let entry = source.lower(last / BITS_PER_L2_ENTRY);
     let to_record = ones_to_entry(entry) + ones_to_record(entry, record % RECORDS_PER_L2_ENTRY);
     let to_part = ones_to_part(source, last >> 32);
-    Some(to_part.wrapping_add(to_record + in_record + in_word))
+    (word, to_part.wrapping_add(to_record + in_record + in_word))
+}
+
+/// The bit at `place` of the source's words, and how many ones stand before it; `None` exactly where the place is past
+/// the end.
+///
+/// # Conditions
+/// The source's tables are those of its words, of fewer than 2^58 words.
+/// # Cost
+/// At most one upper entry, one lower entry and eight words are read: the record that has the bit.
+#[tactic(auto, using(bit_lists::proofs::BitLaws::bits_are_counted, bit_lists::proofs::lemmas::BitsLemmas::item_tested))]
+#[inline(always)]
+pub fn bit_and_rank_on<T: TableSource>(source: &mut T, place: usize) -> Option<(bool, usize)>
+    requires { IsIndexed (T.lists source.old) }
+    ensures answer { let b = bits_in (T.lists source.old) in
+        MatchOption result (length b ≤ place)
+        (λ r. (place < length b) × (r.0 ≡ item b place) × (r.1 ≡ ones_before b place)) }
+    ensures reads { OnlyReads T.lists T.reads source.old source.new 1 1 8 }
+{
+    if place / 64 >= source.words_len() {
+        return None;
+    }
+    let (word, ones) = word_and_ones(source, place);
+    let bit = word & (1u64 << (place % 64)) != 0;
+    Some((bit, ones.wrapping_sub(bit as usize)))
 }

@@ -1,6 +1,6 @@
 //! Selection in an entry that was found: the record of the entry, the word of the record, the bit of the word. The
 //! entry may be any: where it is not that of the rank, the words decide.
-ghost use Rattle.std.specs.Prelude.{◌≡◌, ◌+◌, ◌-◌, ◌*◌, ◌/◌, ◌%◌, ◌^◌, ◌<◌, ◌≤◌};
+ghost use Rattle.std.specs.Prelude.{◌≡◌, ◌+◌, ◌-◌, ◌*◌, ◌/◌, ◌%◌, ◌^◌, ◌<◌, ◌≤◌, ◌≢◌};
 ghost use Rattle.std.specs.Prelude.{length, count_ones, IfSome, MatchOption};
 ghost use Rattle.bit_lists.specs.Bits.{bits_of, IsShort};
 ghost use Rattle.bit_lists.specs.Count.{ones_before, kind, Picks};
@@ -9,6 +9,7 @@ ghost use Rattle.bitm_search.specs.Entry.{field_1, field_2, field_3, lower_entry
 ghost use Rattle.bitm_search.specs.Reads.{word_read, ReadsAtMost};
 ghost use Rattle.bitm_search.specs.Search.{entries_from, entry_in, sought_in, IsLastPart, IsLastEntry, IsWord};
 ghost use Rattle.bitm_search.specs.Tables.{HasSizes, HasTables, bits_in};
+ghost use Rattle.bitm_search.specs.Told.{EntryTellsNone, IfAbsent};
 
 use crate::entry::{ones_to_entry, ones_to_record};
 use crate::levels::{L2_ENTRIES_PER_L1_ENTRY, U64_PER_L2_ENTRY, U64_PER_L2_RECORDS};
@@ -114,6 +115,7 @@ fn in_record<const ONE: u8, T: TableSource>(source: &mut T, first: usize, rank: 
     ensures answer { IsSelectedFrom (T.lists source.old).words (kind ONE) first
         (ones_before (sought_in ONE (T.lists source.old).words) (64 * first) + rank) result }
     ensures inside { IsFoundFrom (64 * first) (64 * (first + 8)) result }
+    ensures last { IfAbsent result (length (T.lists source.old).words ≤ first + 8) }
     ensures reads { ReadsAtMost (T.reads source.old) (T.reads source.new) 0 0 8 }
     ensures same { T.lists source.new ≡ T.lists source.old }
 {
@@ -159,6 +161,8 @@ pub fn in_packed<const ONE: u8, const TESTS: u8, T: TableSource>(
         (ones_before m (part * 2 ^ 32) + rank) result }
     ensures inside { IsFoundFrom
         (2048 * entry_in part entry) (2048 * (entry_in part entry + 1)) result }
+    ensures none { TESTS ≢ 0 → IfAbsent result
+        (EntryTellsNone (kind ONE) (T.lists source.old) (entry_in part entry) packed rank) }
     ensures reads { ReadsAtMost (T.reads source.old) (T.reads source.new) 0 0 8 }
     ensures same { T.lists source.new ≡ T.lists source.old }
 {

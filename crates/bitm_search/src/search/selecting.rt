@@ -2,13 +2,14 @@
 //!
 //! The part and the entry are sought in tables that may hold anything: where they are not those of the words, the
 //! search ends as well, with some part and some entry.
-ghost use Rattle.std.specs.Prelude.{◌≡◌, ◌+◌, ◌-◌, ◌*◌, ◌/◌, ◌^◌, ◌<◌, ◌≤◌, length};
+ghost use Rattle.std.specs.Prelude.{◌≡◌, ◌+◌, ◌-◌, ◌*◌, ◌/◌, ◌^◌, ◌<◌, ◌≤◌, ◌≢◌, length};
 ghost use Rattle.bit_lists.specs.Bits.{digit_count};
 ghost use Rattle.bit_lists.specs.Count.{ones_before, kind, IsSelect};
 ghost use Rattle.bitm_search.specs.Answers.{HasBit, IsSelected};
 ghost use Rattle.bitm_search.specs.Reads.{upper_read, OnlyReads, ReadsAtMost};
 ghost use Rattle.bitm_search.specs.Search.{sought_in, IsLastPart, IsPartOf};
 ghost use Rattle.bitm_search.specs.Tables.{HasSizes, HasTables, IsIndexed, bits_in};
+ghost use Rattle.bitm_search.specs.Told.{less, told_part, IfAbsent, TellsNone};
 
 use crate::search::entries::last_entry;
 use crate::search::record::in_packed;
@@ -31,6 +32,7 @@ pub fn total_select_on<const ONE: u8, T: TableSource>(source: &mut T, rank: usiz
     ensures bit { HasBit (bits_in (T.lists source.old)) (kind ONE) result }
     ensures answer { HasTables (T.lists source.old)
         → IsSelected (bits_in (T.lists source.old)) (kind ONE) rank result }
+    ensures none { IfAbsent result (TellsNone (kind ONE) (T.lists source.old) rank) }
     ensures reads { OnlyReads T.lists T.reads source.old source.new
         (digit_count (length (T.lists source.old).upper) + 1) 23 8 }
 {
@@ -73,6 +75,8 @@ pub fn search_on<const ONE: u8, const TESTS: u8, T: TableSource>(
     ensures bit { HasBit (bits_in (T.lists source.old)) (kind ONE) result }
     ensures answer { HasTables (T.lists source.old)
         → IsSelected (bits_in (T.lists source.old)) (kind ONE) rank result }
+    ensures none { TESTS ≢ 0
+        → IfAbsent result (TellsNone (kind ONE) (T.lists source.old) rank) }
     ensures reads { OnlyReads T.lists T.reads source.old source.new
         (digit_count (length (T.lists source.old).upper) + 1) 23 8 }
 {
@@ -93,6 +97,7 @@ pub fn before_part<const ONE: u8, T: TableSource>(source: &mut T, part: usize) -
     requires { part < length (T.lists source.old).upper }
     ensures count { IsIndexed (T.lists source.old) → result
         ≡ ones_before (sought_in ONE (T.lists source.old).words) (part * 2 ^ 32) }
+    ensures told { result ≡ told_part (kind ONE) (T.lists source.old) part }
     ensures counted { T.reads source.new ≡ upper_read (T.reads source.old) }
     ensures same { T.lists source.new ≡ T.lists source.old }
 {
@@ -144,6 +149,9 @@ pub fn part_of_rank<const ONE: u8, T: TableSource>(source: &mut T, rank: usize) 
     ensures inside { result.0 < length (T.lists source.old).upper }
     ensures part { IsIndexed (T.lists source.old)
         → IsPartOf ONE (T.lists source.old) rank result.0 result.1 }
+    ensures told { result.1
+        ≡ less rank (told_part (kind ONE) (T.lists source.old) result.0) }
+    ensures fits { told_part (kind ONE) (T.lists source.old) result.0 < 2 ^ 64 }
     ensures reads { ReadsAtMost (T.reads source.old) (T.reads source.new)
         (digit_count (length (T.lists source.old).upper) + 1) 0 0 }
     ensures same { T.lists source.new ≡ T.lists source.old }

@@ -7,7 +7,9 @@ use Rattle.bitm_search.specs.Answers.{IsSelected}
 use Rattle.bitm_search.specs.Search.{sought_in, IsLastPart}
 use Rattle.bitm_search.specs.Tables.{HasTables, Lists}
 use Rattle.bitm_lent.specs.Samples.{AreSamplesOf, IsSelectedIfTold}
+use Rattle.bitm_search.specs.Told.{IfAbsent, IsLeftOf, TellsNone}
 use Rattle.bitm_search.proofs.lemmas.MarkLemmas.{none_in_nothing}
+use Rattle.bitm_search.proofs.lemmas.ToldLemmas.{nothing_tells}
 use Rattle.bitm_lent.proofs.sampled.sampled_select_on.Goals as goal
 
 pub returns-then-upper_len-eq0-clause-told : goal.returns-then-upper_len-eq0-clause-told
@@ -57,3 +59,20 @@ returns-clause-answer g c = λ t own.
     same
     (c.sampled_in_part.ensures.answer (subst HasTables (sym same) t)
     (subst (λ (l : Lists). AreSamplesOf (bits_of l.words) (kind g.row.ONE) c.args.lent.now) (sym same) own)))
+
+pub returns-then-upper_len-eq0-clause-none : goal.returns-then-upper_len-eq0-clause-none
+returns-then-upper_len-eq0-clause-none g c =
+    nothing_tells (g.T.TableSource.lists c.args.source.now) (kind g.row.ONE) c.args.rank c.requires
+    (omega (arith, c.upper_len.ensures, c.if-upper_len-eq0.true))
+
+pub returns-clause-none : goal.returns-clause-none
+returns-clause-none g c =
+    let v = kind g.row.ONE in
+    let of_rank = c.part_of_rank-part.ensures in
+    let part = c.part_of_rank-part.result.0 in
+    let left = c.part_of_rank-part.result.1 in
+    let is : IsLeftOf v (g.T.TableSource.lists c.args.source.now) c.args.rank part left =
+    record { fits = of_rank.fits; is = of_rank.told; within = omega (arith, c.if-in_part-rank.false) } in
+    subst (λ (l : Lists). IfAbsent c.sampled_in_part.result (TellsNone v l c.args.rank)) of_rank.same
+    (c.sampled_in_part.ensures.none c.args.rank c.ranges.rank.fits
+    (subst (λ (l : Lists). IsLeftOf v l c.args.rank part left) (sym of_rank.same) is))

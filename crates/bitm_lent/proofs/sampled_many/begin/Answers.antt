@@ -47,6 +47,15 @@ returns-clause-search g c =
     let same = c.part_of_rank-part.ensures.same in
     record {
       entry = omega (arith, inside g d, first_of_part lists c.requires.sized part c.part_of_rank-part.ensures.inside);
+      in_part =
+          record {
+            part = part;
+            there = c.part_of_rank-part.ensures.inside;
+            from = omega arith;
+            to = omega (arith, inside g d);
+            fits = c.part_of_rank-part.ensures.fits;
+            rest = c.part_of_rank-part.ensures.told;
+          };
       near =
           λ t.
           near_found g.row.ONE lists c.args.rank rest part entry

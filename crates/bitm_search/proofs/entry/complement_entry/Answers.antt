@@ -6,9 +6,9 @@ use Rattle.bitm_search.proofs.entry.complement_entry.Goals as goal
 
 pub returns-clause-negated : goal.returns-clause-negated
 returns-clause-negated c b e =
-    c.negated_entry.ensures c.requires ∙ ap (λ n. greatest c.args.at - n) e.value ∙ entry-complement b c.args.at e.inside
+    c.negated_entry.ensures.fits c.requires ∙ ap (λ n. greatest c.args.at - n) e.value ∙ entry-complement b c.args.at e.inside
 
 pub returns-clause-zeros : goal.returns-clause-zeros
 returns-clause-zeros c b e =
-    ap field_0 (c.negated_entry.ensures c.requires ∙ ap (λ n. greatest c.args.at - n) e.value ∙ entry-complement b c.args.at e.inside)
+    ap field_0 (c.negated_entry.ensures.fits c.requires ∙ ap (λ n. greatest c.args.at - n) e.value ∙ entry-complement b c.args.at e.inside)
     ∙ zeros-complement b c.args.at e.inside

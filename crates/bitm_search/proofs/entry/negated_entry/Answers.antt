@@ -2,5 +2,5 @@
 use Rattle.std.proofs.Common.{arith}
 use Rattle.bitm_search.proofs.entry.negated_entry.Goals as goal
 
-pub returns : goal.returns
-returns c = λ fit. omega (arith, fit.before, fit.one, fit.two, fit.three)
+pub returns-clause-fits : goal.returns-clause-fits
+returns-clause-fits c = λ fit. omega (arith, fit.before, fit.one, fit.two, fit.three)

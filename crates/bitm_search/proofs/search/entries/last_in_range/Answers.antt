@@ -1,12 +1,15 @@
 -- Each test halves what is left, and tells on which side the last entry of the part is if the tables are right.
 use Rattle.std.proofs.Common.{◌≡◌, ℕ, ◌+◌, ◌*◌, ◌-◌, ◌/◌, ◌^◌, ◌<◌, ◌≤◌, length, ap, sym, ◌∙◌, subst, arith, ◌⊎◌, inl, inr}
+use Rattle.bit_lists.specs.Count.{kind}
 use Rattle.bitm_search.specs.Entry.{before_in_part, lower_entry}
 use Rattle.bitm_search.specs.Search.{IsAmong, entries_from, sought_in}
 use Rattle.bitm_search.specs.Tables.{HasTables, Lists}
+use Rattle.bitm_search.specs.Told.{told_entry}
 use Rattle.bitm_search.specs.declared.source.counts.ReadCounts.{ReadCounts}
 use Rattle.bitm_search.proofs.lemmas.SearchLemmas.{halves, halves_left}
 use Rattle.bitm_search.proofs.lemmas.LengthLemmas.{few_entries, first_of_part}
 use Rattle.bitm_search.proofs.lemmas.SoughtLemmas.{low_is, entries_rise}
+use Rattle.bitm_search.proofs.lemmas.ToldLemmas.{told_is}
 use Rattle.bitm_search.proofs.search.entries.last_in_range.Goals as goal
 use Rattle.bitm_search.proofs.search.entries.last_in_range.Goals.{Joined-ones_to_entry-rank, then-ones_to_entry-rank, else-ones_to_entry-rank}
 
@@ -69,15 +72,21 @@ among g c t =
     next seen (c.loop-left.invariant.among t) c.loop-left-test.true (count g c t) side
     (λ j k h l. entries_rise m part j k h (omega arith))
 
-packed : (g : _) (c : Joined-ones_to_entry-rank g) → HasTables (g.T.TableSource.lists c.args.source.now) → 0 < c.if-ones_to_entry-rank.low
-    → c.if-ones_to_entry-rank.packed
-    ≡ lower_entry (sought_in g.row.ONE (g.T.TableSource.lists c.args.source.now).words) (c.args.part * 2 ^ 21 + c.if-ones_to_entry-rank.low)
-packed g c t =
-    let m = sought_in g.row.ONE (g.T.TableSource.lists c.args.source.now).words in
-    let at : ℕ → ℕ = λ j. lower_entry m (c.args.part * 2 ^ 21 + j) in
+packed : (g : _) (c : Joined-ones_to_entry-rank g) → 0 < c.if-ones_to_entry-rank.low → c.if-ones_to_entry-rank.packed
+    ≡ told_entry (kind g.row.ONE) (g.T.TableSource.lists c.args.source.now) (c.args.part * 2 ^ 21 + c.if-ones_to_entry-rank.low)
+packed g c =
+    let told = told_entry (kind g.row.ONE) in
+    let lists = g.T.TableSource.lists c.args.source.now in
+    let at : ℕ → ℕ = λ j. told lists (c.args.part * 2 ^ 21 + j) in
+    let mid = c.loop-left.low + c.loop-left.left / 2 in
+    let there : c.args.part * 2 ^ 21 + c.loop-left.low + c.loop-left.left / 2 ≡ c.args.part * 2 ^ 21 + mid = omega arith in
+    let next : c.sought_entry-next.result ≡ at mid =
+    c.sought_entry-next.ensures.told
+    ∙ ap (λ (l : Lists). told l (c.args.part * 2 ^ 21 + c.loop-left.low + c.loop-left.left / 2)) c.loop-left.invariant.same
+    ∙ ap (told lists) there in
     elim c.if-ones_to_entry-rank.branch [
-      | then-ones_to_entry-rank w ↦ λ h. w.packed-is ∙ next_is g c t ∙ ap at (sym w.low-is)
-      | else-ones_to_entry-rank w ↦ λ h. w.packed-is ∙ c.loop-left.invariant.packed t (omega (arith, h, w.low-is)) ∙ ap at (sym w.low-is)
+      | then-ones_to_entry-rank w ↦ λ h. w.packed-is ∙ next ∙ ap at (sym w.low-is)
+      | else-ones_to_entry-rank w ↦ λ h. w.packed-is ∙ c.loop-left.invariant.packed (omega (arith, h, w.low-is)) ∙ ap at (sym w.low-is)
     ]
 
 pub loop-left-preserved : goal.loop-left-preserved
@@ -107,3 +116,11 @@ loop-left-preserved g c =
       words = ap (λ (r : ReadCounts). r.words) e.counted ∙ i.words;
       same = e.same ∙ i.same;
     }
+
+pub returns-else-low-eq0-clause-entry : goal.returns-else-low-eq0-clause-entry
+returns-else-low-eq0-clause-entry g c = λ t.
+    let lists = g.T.TableSource.lists c.args.source.now in
+    let i = c.loop-left.invariant in
+    let at = c.args.part * 2 ^ 21 + c.loop-left.low in
+    let inside : at < length lists.lower = omega (arith, i.to, i.some, c.requires.range.within) in
+    i.packed (omega (arith, c.if-low-eq0.false)) ∙ told_is g.row.ONE lists at t inside

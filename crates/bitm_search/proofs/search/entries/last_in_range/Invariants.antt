@@ -1,8 +1,9 @@
 use Rattle.std.proofs.Common.{◌≡◌, ◌+◌, ◌-◌, ◌*◌, ◌^◌, ◌<◌, ◌≤◌, length}
 use Rattle.bit_lists.specs.Bits.{digit_count}
-use Rattle.bitm_search.specs.Entry.{lower_entry}
+use Rattle.bit_lists.specs.Count.{kind}
 use Rattle.bitm_search.specs.Search.{IsAmong, sought_in}
 use Rattle.bitm_search.specs.Tables.{HasTables}
+use Rattle.bitm_search.specs.Told.{told_entry}
 use Rattle.bitm_search.proofs.search.entries.last_in_range.Given as goal
 
 -- some entry of the range is left, and where the last one is if the tables are right; no more reads than halvings; the first
@@ -17,7 +18,7 @@ invariant-loop-left g l =
       from : l.fn.range.low ≤ l.low;
       to : l.low + l.left ≤ l.fn.range.low + l.fn.range.left;
       among : HasTables lists → IsAmong m (length lists.lower) l.part l.rank l.low l.left;
-      packed : HasTables lists → 0 < l.low → l.packed ≡ lower_entry m (l.part * 2 ^ 21 + l.low);
+      packed : 0 < l.low → l.packed ≡ told_entry (kind g.row.ONE) lists (l.part * 2 ^ 21 + l.low);
       lower : (T.reads l.source).lower + digit_count (l.left - 1) ≤ (T.reads l.fn.source).lower + digit_count (l.fn.range.left - 1);
       upper : (T.reads l.source).upper ≡ (T.reads l.fn.source).upper;
       words : (T.reads l.source).words ≡ (T.reads l.fn.source).words;

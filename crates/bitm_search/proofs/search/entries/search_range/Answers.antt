@@ -28,7 +28,7 @@ whole g c =
       some = omega (arith, size, some);
       within = omega (arith, size);
       among = λ _. subst (Between count n c.args.rank 0) (sym size) (search_begins count n c.args.rank some (omega (arith, first_none m c.args.part)));
-      packed = λ _ h. absurd (omega (arith, h));
+      packed = λ h. absurd (omega (arith, h));
     }
 
 pub returns-then-range-lt-FEW-clause-range : goal.returns-then-range-lt-FEW-clause-range

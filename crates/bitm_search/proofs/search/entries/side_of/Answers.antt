@@ -3,6 +3,8 @@ use Rattle.std.proofs.Common.{◌≡◌, ℕ, ◌+◌, ◌*◌, ◌^◌, ◌<◌
 use Rattle.bitm_search.specs.Entry.{before_in_part, lower_entry}
 use Rattle.bitm_search.specs.Search.{entries_from, sought_in}
 use Rattle.bitm_search.specs.Tables.{HasTables}
+use Rattle.bitm_search.specs.Told.{told_entry}
+use Rattle.bit_lists.specs.Count.{kind}
 use Rattle.bitm_search.proofs.lemmas.SearchLemmas.{goes_over, goes_under}
 use Rattle.bitm_search.proofs.lemmas.LengthLemmas.{few_entries, first_of_part}
 use Rattle.bitm_search.proofs.lemmas.SoughtLemmas.{low_is}
@@ -45,6 +47,12 @@ module _ (g : _) (c : After-ones_to_entry-count g) (t : HasTables (g.T.TableSour
       c.ones_to_entry-count.ensures
       ∙ low_is m c.sought_entry-next.result (c.args.part * 2 ^ 21 + (c.args.range.low + c.args.cut)) next_is
 
+next_told : (g : _) (c : After-ones_to_entry-count g) → c.sought_entry-next.result
+    ≡ told_entry (kind g.row.ONE) (g.T.TableSource.lists c.args.source.now) (c.args.part * 2 ^ 21 + (c.args.range.low + c.args.cut))
+next_told g c =
+    let there : c.args.part * 2 ^ 21 + c.args.range.low + c.args.cut ≡ c.args.part * 2 ^ 21 + (c.args.range.low + c.args.cut) = omega arith in
+    c.sought_entry-next.ensures.told ∙ ap (told_entry (kind g.row.ONE) (g.T.TableSource.lists c.args.source.now)) there
+
 pub returns-then-count-rank-clause-range : goal.returns-then-count-rank-clause-range
 returns-then-count-rank-clause-range g c =
     let d = (goal.at.returns-then-count-rank-clause-range g c).After-ones_to_entry-count in
@@ -57,7 +65,7 @@ returns-then-count-rank-clause-range g c =
           goes_over (λ j. before_in_part m (c.args.part * 2 ^ 21 + j)) (entries_from (length lists.lower) c.args.part) c.args.rank
           c.args.range.low c.args.range.left c.args.cut (c.requires.range.among t) c.requires.some c.requires.in_range
           (subst (λ (n : ℕ). n ≤ c.args.rank) (count g d t) c.if-count-rank.true);
-      packed = λ t _. next_is g d t;
+      packed = λ _. next_told g d;
     }
 
 pub returns-else-count-rank-clause-range : goal.returns-else-count-rank-clause-range

@@ -1,30 +1,27 @@
--- The entry is that of the bits, and its complement that of the negated ones.
-use Rattle.std.proofs.Common.{◌≡◌, ℕ, ◌-◌, ◌∙◌, ap, sym, subst, arith}
-use Rattle.bit_lists.specs.Bits.{bits_of}
-use Rattle.bitm_search.specs.Entry.{FieldsFit, greatest, lower_entry}
-use Rattle.bitm_search.specs.Tables.{HasTables}
-use Rattle.bitm_search.proofs.lemmas.EntryLemmas.{entry-fits, entry-complement}
-use Rattle.bitm_search.proofs.lemmas.SoughtLemmas.{entry_ones, entry_zeros}
-use Rattle.bitm_search.proofs.lemmas.TableLemmas.{entries}
+-- The entry is what the table tells, and where the tables are right that of the bits.
+use Rattle.std.proofs.Common.{◌∙◌, ap, sym}
+use Rattle.bitm_search.specs.Entry.{greatest}
+use Rattle.bitm_search.specs.Told.{less}
+use Rattle.bitm_search.proofs.lemmas.ToldLemmas.{told_is, told_ones, told_zeros}
 use Rattle.bitm_search.proofs.search.entries.sought_entry.Goals as goal
-use Rattle.bitm_search.proofs.search.entries.sought_entry.Goals.{After-lower-entry}
 
-entry : (g : _) (c : After-lower-entry g) → HasTables (g.T.TableSource.lists c.args.source.now)
-    → c.lower-entry.result ≡ lower_entry (bits_of (g.T.TableSource.lists c.args.source.now).words) c.args.at
-entry g c t = c.lower-entry.ensures.item ∙ (entries _ _ _ t).lower_is c.args.at c.requires
+pub returns-then-this-eq0-clause-told : goal.returns-then-this-eq0-clause-told
+returns-then-this-eq0-clause-told g c =
+    let lists = g.T.TableSource.lists c.args.source.now in
+    c.negated_entry.ensures.told ∙ ap (less (greatest c.args.at)) c.lower-entry.ensures.item
+    ∙ sym (told_zeros g.row.ONE lists c.args.at c.if-this-eq0.true)
 
 pub returns-then-this-eq0-clause-entry : goal.returns-then-this-eq0-clause-entry
 returns-then-this-eq0-clause-entry g c = λ t.
-    let d = (goal.at.returns-then-this-eq0-clause-entry g c).After-lower-entry in
-    let b = bits_of (g.T.TableSource.lists c.args.source.now).words in
-    let at = c.args.at in
-    let e = entry g d t in
-    c.negated_entry.ensures (subst (λ (n : ℕ). FieldsFit n at) (sym e) (entry-fits b at))
-    ∙ ap (λ n. greatest at - n) e
-    ∙ entry-complement b at (omega (arith, (entries _ _ _ t).lower_length, c.requires))
-    ∙ entry_zeros b at g.row.ONE c.if-this-eq0.true
+    let lists = g.T.TableSource.lists c.args.source.now in
+    returns-then-this-eq0-clause-told g c ∙ told_is g.row.ONE lists c.args.at t c.requires
+
+pub returns-else-this-eq0-clause-told : goal.returns-else-this-eq0-clause-told
+returns-else-this-eq0-clause-told g c =
+    let lists = g.T.TableSource.lists c.args.source.now in
+    c.lower-entry.ensures.item ∙ sym (told_ones g.row.ONE lists c.args.at c.if-this-eq0.false)
 
 pub returns-else-this-eq0-clause-entry : goal.returns-else-this-eq0-clause-entry
 returns-else-this-eq0-clause-entry g c = λ t.
-    let d = (goal.at.returns-else-this-eq0-clause-entry g c).After-lower-entry in
-    entry g d t ∙ entry_ones _ c.args.at g.row.ONE c.if-this-eq0.false
+    let lists = g.T.TableSource.lists c.args.source.now in
+    returns-else-this-eq0-clause-told g c ∙ told_is g.row.ONE lists c.args.at t c.requires

@@ -1,12 +1,14 @@
 -- The record is chosen by the fields of the entry; what is left of the rank counts from there.
-use Rattle.std.proofs.Common.{◌≡◌, ℕ, ◌+◌, ◌-◌, ◌*◌, ◌%◌, ◌^◌, ◌<◌, ◌≤◌, length, ap, sym, subst, arith}
+use Rattle.std.proofs.Common.{◌≡◌, ℕ, ◌+◌, ◌-◌, ◌*◌, ◌%◌, ◌^◌, ◌<◌, ◌≤◌, length, ap, refl, sym, subst, arith}
+use Rattle.bit_lists.specs.Count.{kind, ones_before}
 use Rattle.bitm_search.specs.Entry.{before_in_part}
-use Rattle.bitm_search.specs.Many.{IsInRecord}
 use Rattle.bitm_search.specs.Search.{IsWord, sought_in}
 use Rattle.bitm_search.specs.Tables.{HasTables, Lists}
+use Rattle.bitm_search.specs.Told.{told_entry, told_part, told_to}
 use Rattle.bitm_search.proofs.lemmas.LengthLemmas.{few_entries}
 use Rattle.bitm_search.proofs.lemmas.ManyLemmas.{near_loads}
 use Rattle.bitm_search.proofs.lemmas.SoughtLemmas.{low_is, record_fields_rise}
+use Rattle.bitm_search.proofs.lemmas.ToldLemmas.{few_in_records}
 use Rattle.bitm_search.proofs.search.loaded.load.Goals as goal
 use Rattle.bitm_search.proofs.search.loaded.load.Goals.{then-first-words_len, else-first-words_len}
 
@@ -47,8 +49,8 @@ returns-clause-in_record g c rank search_is =
     let in_entry = (c.args.rest + (2 ^ 64 - count)) % 2 ^ 64 in
     let left = (in_entry + (2 ^ 64 - before)) % 2 ^ 64 in
     let loaded : (t : HasTables lists) → (left ≡ c.args.rest - count - before)
-    × IsInRecord g.row.ONE lists rank
-    (record { rest = c.args.rest - count - before; first = first; word = c.if-first-words_len.word }) =
+    × ((rank ≡ ones_before m (64 * first) + (c.args.rest - count - before))
+    × (first + 8 < length lists.words → rank < ones_before m (64 * (first + 8)))) =
     λ t.
     let is = c.sought_entry-packed.ensures.entry t in
     let near = search_is.near t in
@@ -59,12 +61,39 @@ returns-clause-in_record g c rank search_is =
     let two = record_fields_rise m packed at 2 is (omega arith) in
     let at_most : before ≤ c.args.rest - count = omega (arith, r.at_most one two, same) in (
       omega (arith, same, at_most, c.ranges.rest.fits),
-      near_loads g.row.ONE lists rank c.args.rest at packed count place before c.if-first-words_len.word t c.requires.sized.short near
-          is c.ones_to_entry.ensures r.inside r.before at_most (λ h. omega (arith, r.next one two h, same)) word,
+      near_loads g.row.ONE lists rank c.args.rest at packed count place before t near is c.ones_to_entry.ensures r.inside r.before at_most
+          (λ h. omega (arith, r.next one two h, same)),
+    ) in
+    let p = search_is.in_part in
+    let to_is : told_to (told_entry (kind g.row.ONE) lists at) place ≡ count + before =
+    subst (λ (e : ℕ). told_to e place ≡ count + before) c.sought_entry-packed.ensures.told
+    (omega (arith, c.ones_to_entry.ensures, r.before)) in
+    let rest_told : (told_part (kind g.row.ONE) lists p.part + told_to (told_entry (kind g.row.ONE) lists at) place + left) % 2 ^ 64 ≡ rank % 2 ^ 64 =
+    omega (
+      arith,
+      to_is,
+      p.rest,
+      p.fits,
+      c.ones_to_entry.ensures,
+      r.before,
+      few_in_records packed place c.sought_entry-packed.type_inv,
     ) in
     record {
       fits = omega (arith, c.requires.entry, few_entries lists c.requires.sized, r.inside);
       word_is = word;
-      total = λ t. omega (arith, (loaded t).1.total t, (loaded t).0);
-      next = λ t. (loaded t).1.next t;
+      told =
+          record {
+            part = p.part;
+            entry = at;
+            k = place;
+            there = p.there;
+            inside = c.requires.entry;
+            from = p.from;
+            to = omega (arith, p.to);
+            few = r.inside;
+            first = refl {A = ℕ};
+            total = rest_told;
+          };
+      total = λ t. omega (arith, (loaded t).1.0, (loaded t).0);
+      next = λ t. (loaded t).1.1;
     }

@@ -22,6 +22,15 @@ returns-clause-search g c =
     let short = c.requires.sized.short in
     record {
       entry = first_of_part lists c.requires.sized part c.part_of_rank-part.ensures.inside;
+      in_part =
+          record {
+            part = part;
+            there = c.part_of_rank-part.ensures.inside;
+            from = omega arith;
+            to = omega arith;
+            fits = c.part_of_rank-part.ensures.fits;
+            rest = c.part_of_rank-part.ensures.told;
+          };
       near =
           λ t.
           near_begins g.row.ONE lists c.args.rank c.part_of_rank-part.result.1 part t short

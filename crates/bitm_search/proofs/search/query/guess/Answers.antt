@@ -36,6 +36,15 @@ returns-then-rest-above-clause-search g c rank search_is =
       search =
           record {
             entry = omega (arith, inside);
+            in_part =
+                record {
+                  part = search_is.in_part.part;
+                  there = search_is.in_part.there;
+                  from = omega (arith, search_is.in_part.there, c.requires.one_part);
+                  to = omega (arith, inside, c.requires.few);
+                  fits = search_is.in_part.fits;
+                  rest = search_is.in_part.rest;
+                };
             near =
                 λ t.
                 near_between g.row.ONE lists rank c.args.query.rest c.args.query.entry at 5 t (search_is.near t) c.requires.one_part

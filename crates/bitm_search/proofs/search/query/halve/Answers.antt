@@ -1,6 +1,7 @@
 -- Where there is no entry in the middle the search stays.
-use Rattle.std.proofs.Common.{arith}
-use Rattle.bitm_search.proofs.lemmas.ManyLemmas.{near_stays, step_few}
+use Rattle.std.proofs.Common.{◌+◌, arith}
+use Rattle.bit_lists.specs.Count.{kind}
+use Rattle.bitm_search.proofs.lemmas.ManyLemmas.{near_stays, part_stays, step_few}
 use Rattle.bitm_search.proofs.search.query.halve.Goals as goal
 
 pub step-requires-clause-next : goal.step-requires-clause-next
@@ -13,6 +14,8 @@ returns-then-next-lower_len-clause-search g c rank search_is =
     let small = step_few c.args.size c.requires.size in
     record {
       entry = search_is.entry;
+      in_part =
+          part_stays (kind g.row.ONE) lists rank c.args.query.rest c.args.query.entry c.args.size (c.args.size + 1) (omega arith) search_is.in_part;
       near =
           λ t.
           near_stays g.row.ONE lists rank c.args.query.rest c.args.query.entry c.args.size (search_is.near t)

@@ -1,7 +1,8 @@
 -- Fewer halvings are enough where there are few entries.
 use Rattle.std.proofs.Common.{◌≤◌, length, slice_index, slice_index_or, refl, arith}
 use Rattle.std.proofs.lemmas.Nat.{mul-le}
-use Rattle.bitm_search.proofs.lemmas.ManyLemmas.{near_enough}
+use Rattle.bitm_search.proofs.lemmas.ManyLemmas.{near_enough, part_stays}
+use Rattle.bit_lists.specs.Count.{kind}
 use Rattle.bitm_search.proofs.search.query.halve_all.Goals as goal
 
 pub loop-size-init : goal.loop-size-init
@@ -20,6 +21,9 @@ loop-size-init g c =
                 λ k d h.
                 record {
                   entry = (i.each k d h).entry;
+                  in_part =
+                      part_stays (kind g.row.ONE) lists (slice_index c.args.ranks.now k) (slice_index_or queries k d).rest
+                      (slice_index_or queries k d).entry size 21 c.halvings-size.ensures.most (i.each k d h).in_part;
                   near =
                       λ t.
                       near_enough g.row.ONE lists (slice_index c.args.ranks.now k) (slice_index_or queries k d).rest

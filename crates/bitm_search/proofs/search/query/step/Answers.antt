@@ -1,11 +1,12 @@
 -- The count before the entry in the middle tells on which side of it the entry is.
 use Rattle.std.proofs.Common.{◌≡◌, ℕ, ◌+◌, ◌*◌, ◌%◌, ◌^◌, ◌<◌, ◌≤◌, length, sym, ap, subst, ◌∙◌, arith, inl, inr}
 use Rattle.std.proofs.lemmas.Bool.{cases_lt}
+use Rattle.bit_lists.specs.Count.{kind}
 use Rattle.bitm_search.specs.Entry.{before_in_part}
 use Rattle.bitm_search.specs.Many.{IsSearch}
 use Rattle.bitm_search.specs.Search.{sought_in}
 use Rattle.bitm_search.specs.Tables.{HasTables}
-use Rattle.bitm_search.proofs.lemmas.ManyLemmas.{near_stays, near_up, step_few}
+use Rattle.bitm_search.proofs.lemmas.ManyLemmas.{near_stays, near_up, part_stays, part_up, step_few}
 use Rattle.bitm_search.proofs.lemmas.SoughtLemmas.{low_is}
 use Rattle.bitm_search.proofs.search.query.step.Goals as goal
 
@@ -35,6 +36,8 @@ returns-clause-search g c rank search_is =
           subst (λ (n : ℕ). IsSearch g.row.ONE lists rank (record { rest = c.args.query.rest; entry = n }) c.args.size) (sym none)
           (record {
             entry = search_is.entry;
+            in_part =
+                part_stays (kind g.row.ONE) lists rank c.args.query.rest at c.args.size (c.args.size + 1) (omega arith) search_is.in_part;
             near =
                 λ t.
                 near_stays g.row.ONE lists rank c.args.query.rest at c.args.size (search_is.near t) (λ _. omega (arith, above, count t));
@@ -45,6 +48,7 @@ returns-clause-search g c rank search_is =
           subst (λ (n : ℕ). IsSearch g.row.ONE lists rank (record { rest = c.args.query.rest; entry = n }) c.args.size) (sym up)
           (record {
             entry = inside;
+            in_part = part_up (kind g.row.ONE) lists rank c.args.query.rest at c.args.size search_is.in_part;
             near =
                 λ t.
                 near_up g.row.ONE lists rank c.args.query.rest at c.args.size (search_is.near t) inside (omega (arith, at_most, count t));

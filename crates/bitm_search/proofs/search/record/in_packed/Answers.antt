@@ -9,7 +9,10 @@ use Rattle.bitm_search.proofs.lemmas.SoughtLemmas.{low_is, rank_is, next_is, rec
 use Rattle.bitm_search.specs.Answers.{IsSelected, IsSelectedFrom}
 use Rattle.bitm_search.proofs.lemmas.SelectedLemmas.{found_within, has_bit, selected}
 use Rattle.bitm_search.proofs.search.record.in_packed.Goals as goal
+use Rattle.bitm_search.proofs.lemmas.ToldLemmas.{entry_none, few_in_records, left_of}
+use Rattle.bitm_search.specs.Told.{told_to}
 use Rattle.bitm_search.proofs.search.record.in_packed.Goals.{After-record_of-place}
+use Rattle.bitm_search.proofs.search.record.in_packed.Goals.{else-this-ne0-via-then-this-ne0+else-left-rank, else-this-ne0-via-else-this-ne0}
 
 pub returns-clause-bit : goal.returns-clause-bit
 returns-clause-bit g c =
@@ -84,3 +87,26 @@ returns-clause-inside g c =
     let inside = c.record_of-place.ensures.inside in
     found_within (64 * (at * 32 + k * 8)) (64 * (at * 32 + k * 8 + 8)) (2048 * at) (2048 * (at + 1)) (omega arith) (omega (arith, inside))
     c.in_record.result c.in_record.ensures.inside
+
+pub returns-clause-none : goal.returns-clause-none
+returns-clause-none g c = λ tests.
+    let lists = g.T.TableSource.lists c.args.source.now in
+    let v = kind g.row.ONE in
+    let at = c.args.part * 2 ^ 21 + c.args.entry in
+    let packed = c.args.packed in
+    let rank = c.args.rank in
+    let r = c.record_of-place.ensures in
+    let k = c.record_of-place.result.0 in
+    let before = c.record_of-place.result.1 in
+    let to = c.ones_to_entry.result in
+    let left = ((rank + (2 ^ 64 - to)) % 2 ^ 64 + (2 ^ 64 - before)) % 2 ^ 64 in
+    let tested : left ≤ rank =
+    elim c.else-this-ne0.branch [
+      | else-this-ne0-via-then-this-ne0+else-left-rank w ↦ omega (arith, w.if-left-rank.false)
+      | else-this-ne0-via-else-this-ne0 w ↦ absurd (tests w.if-this-ne0.false)
+    ] in
+    let few : to < 2 ^ 32 = omega (arith, c.ones_to_entry.ensures) in
+    let small : before < 2 ^ 11 = omega (arith, r.before, few_in_records packed k c.ranges.packed.fits) in
+    let sum : told_to packed k + left ≤ rank =
+    omega (arith, left_of rank to before few small tested c.ranges.rank.fits, c.ones_to_entry.ensures, r.before) in
+    entry_none lists v at packed rank k left r.inside sum c.in_record.result c.in_record.ensures.last c.in_record.ensures.answer

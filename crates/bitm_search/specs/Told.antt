@@ -1,0 +1,64 @@
+-- What tables tell, whatever they hold: the numbers that a search reads, and when they tell that there is no such bit.
+use Rattle.std.specs.Prelude.{◌≡◌, ⊤, ℕ, ◌+◌, ◌-◌, ◌*◌, ◌^◌, ◌%◌, ◌<◌, ◌≤◌, Bool, true, false, length, slice_index}
+use Rattle.bit_lists.specs.Count.{count_before, count_of}
+use Rattle.bitm_search.specs.Entry.{field_0, greatest, record_field}
+use Rattle.bitm_search.specs.Tables.{Lists, bits_in}
+use Rattle.bitm_search.specs.declared.search.selected.Selected.{Selected}
+use Rattle.bitm_search.specs.declared.search.selected.Selected.TheVariants.{Found, Absent, WrongTables}
+
+-- a less b, as numbers of 64 bits
+abbrev pub less : ℕ → ℕ → ℕ
+less a b = (a + (2 ^ 64 - b)) % 2 ^ 64
+
+-- how many bits v the upper table tells before a part
+abbrev pub told_part : Bool → Lists → ℕ → ℕ
+told_part true lists part = slice_index lists.upper part
+told_part false lists part = less (part * 2 ^ 32) (slice_index lists.upper part)
+
+-- the lower entry of the bits v that the lower table tells: for zeros, each greatest field less the field
+abbrev pub told_entry : Bool → Lists → ℕ → ℕ
+told_entry true lists at = slice_index lists.lower at
+told_entry false lists at = less (greatest at) (slice_index lists.lower at)
+
+-- rest is what the upper table tells to be left in a part of a rank, and no more than the rank
+pub record IsLeftOf (v : Bool) (lists : Lists) (rank part rest : ℕ) : Type 0 where
+  pub fits : told_part v lists part < 2 ^ 64
+  pub is : rest ≡ less rank (told_part v lists part)
+  pub within : rest ≤ rank
+
+-- how many bits v an entry that packs e tells from the start of its part to record k of it
+abbrev pub told_to : ℕ → ℕ → ℕ
+told_to e k = field_0 e + record_field e k
+
+-- how many bits v there are from word k on
+abbrev pub count_from_word : Lists → Bool → ℕ → ℕ
+count_from_word lists v k = count_of (bits_in lists) v - count_before (bits_in lists) v (64 * k)
+
+-- an entry that packs e tells no more than r bits v to the end: to one of its records, behind which no word stands, and in the
+-- words from there on
+pub record EntryTellsNone (v : Bool) (lists : Lists) (at e r : ℕ) : Type 0 where
+  pub k : ℕ
+  pub inside : k < 4
+  pub last : length lists.words ≤ 32 * at + 8 * k + 8
+  pub count : told_to e k + count_from_word lists v (32 * at + 8 * k) ≤ r
+
+-- tables and words tell no more than r bits v in all, as numbers of 64 bits: before the last part, in it to a record of its last
+-- entry, behind which no word stands, and in the words from there on
+pub record TellsNone (v : Bool) (lists : Lists) (r : ℕ) : Type 0 where
+  pub k : ℕ
+  pub inside : k < 4
+  pub last : length lists.words ≤ 32 * (length lists.lower - 1) + 8 * k + 8
+  pub count : (told_part v lists (length lists.upper - 1) + told_to (told_entry v lists (length lists.lower - 1)) k) % 2 ^ 64
+      + count_from_word lists v (32 * (length lists.lower - 1) + 8 * k) ≤ r
+
+-- where Absent is answered, P
+abbrev pub IfAbsent : Selected → Type 0 → Type 0
+IfAbsent (Found p) P = ⊤
+IfAbsent Absent P = P
+IfAbsent WrongTables P = ⊤
+
+-- the same, but WrongTables for Absent
+abbrev pub wrong_for_absent : Selected → Selected
+wrong_for_absent (Found p) = Found p
+wrong_for_absent Absent = WrongTables
+wrong_for_absent WrongTables = WrongTables
