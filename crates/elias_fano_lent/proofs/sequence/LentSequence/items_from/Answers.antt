@@ -1,6 +1,5 @@
 -- The selection finds the one of the first number, and the parts that are walked are those of the sequence.
 use Rattle.std.proofs.Common.{◌≡◌, ℕ, ◌+◌, ◌≤◌, List, true, sym, ap, subst, ◌∙◌, arith}
-use Rattle.bitm.proofs.BitLaws.{places_are_counted}
 use Rattle.bitm.specs.Bits.{bits_of}
 use Rattle.bitm.specs.Count.{count_of, ones_before}
 use Rattle.bitm.specs.Tables.{HasTables, Lists, bits_in}
@@ -30,7 +29,7 @@ whole c xs h =
 pub returns-in-Absent-clause-all : goal.returns-in-Absent-clause-all
 returns-in-Absent-clause-all c = λ xs h.
     let upper : c.self.inside.upper ≡ c.args.self.now.upper = ap (λ (s : Held). s.upper) c.self.view_is in
-    let count = ones_are places_are_counted xs c.args.self.now.width c.args.self.now.upper.words h.are.upper_is in
+    let count = ones_are xs c.args.self.now.width c.args.self.now.upper.words h.are.upper_is in
     let few = c.in-Absent.ensures.answer (subst (λ (l : Lists). HasTables l) (sym upper) h.tables) in
     omega (
       arith,

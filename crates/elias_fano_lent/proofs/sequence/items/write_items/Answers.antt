@@ -1,7 +1,6 @@
 -- Each search goes on behind the one that was found, and finds that of the next number.
 use Rattle.std.proofs.Common.{◌≡◌, ◌≢◌, ℕ, ◌+◌, List, get_or, refl, sym, subst, ◌∙◌, arith}
 use Rattle.std.proofs.lemmas.List.{get_or-set_other}
-use Rattle.bitm.proofs.BitLaws.{places_are_counted}
 use Rattle.bitm.proofs.Callers.{length-bits_of}
 use Rattle.bitm.specs.Bits.{bits_of}
 use Rattle.bitm_lent.proofs.FilledLemmas.{placed_more}
@@ -13,7 +12,7 @@ use Rattle.elias_fano_lent.proofs.sequence.items.write_items.Goals as goal
 pub returns-in-None-clause-items : goal.returns-in-None-clause-items
 returns-in-None-clause-items c = λ xs n parts room begin.
     let none = none_follows (bits_of c.args.words.now) c.loop-at.next c.in-None.ensures in
-    let all = ones_are places_are_counted xs c.args.low.now.width c.args.words.now parts.upper_is in
+    let all = ones_are xs c.args.low.now.width c.args.words.now parts.upper_is in
     absurd (omega (arith, none, all, begin, room, parts.count, c.loop-at.invariant.counted, c.loop-at-test.true, c.loop-at.auto.at-end))
 
 pub overflow_add-next : goal.overflow_add-next
