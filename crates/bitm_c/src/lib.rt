@@ -11,6 +11,7 @@ mod index;
 mod layout;
 mod lists;
 mod places;
+mod sample_checks;
 mod sampled;
 mod sequence;
 mod stored;
