@@ -368,7 +368,125 @@ BITM_MUST_USE uint32_t bitm_sequence_first_at_least_list(const struct bitm_seque
 BITM_MUST_USE uint32_t bitm_sequence_get_list(const struct bitm_sequence_view *view, const uint64_t *queries,
                                               size_t queries_len, uint64_t *out, size_t out_len, uint64_t *written);
 
-/* ---- a header for files */
+/* ---- stored
+
+ * A file is a header of 192 bytes and the parts that it names, in this order, each from a multiple of 64 bytes on: words,
+ * upper and lower table, low bits of a sequence, starts and samples. All follows from the lengths, and where a part stands
+ * from those before it. So map a file of size bytes, copy the header to its front, and build each part in its place; once
+ * samples are built, write the header again with as many as there are, samples of ones first, and cut the file.
+ *
+ *     struct bitm_stored s;
+ *     if (bitm_read_stored(file, bytes / 8, &s) != BITM_OK || s.kind != BITM_STORED_INDEX) ..
+ *     struct bitm_view view = bitm_stored_view(file, &s);
+ *
+ * A header says nothing of what the parts hold: bitm_check, bitm_check_samples and bitm_sequence_check do. */
+#define BITM_STORED_INDEX 1
+#define BITM_STORED_SEQUENCE 2
+
+/* Items of a file: how many bytes there are before the first, and how many items. */
+struct bitm_span {
+    uint64_t at;
+    uint64_t len;
+};
+
+struct bitm_stored {
+    uint64_t mark; /* format, version and byte order */
+    uint64_t kind;
+    uint64_t len;   /* bits of an index, numbers of a sequence */
+    uint64_t width; /* low bits of each number of a sequence */
+    uint64_t size;  /* bytes in all, header and parts: a multiple of 64 */
+    uint64_t ones_log2; /* of the samples, 0 where there are none */
+    uint64_t zeros_log2;
+    struct bitm_span words;
+    struct bitm_span upper;
+    struct bitm_span lower;
+    struct bitm_span low;
+    struct bitm_span starts; /* of the samples of ones */
+    struct bitm_span starts0; /* of the samples of zeros */
+    struct bitm_span samples;
+    struct bitm_span samples0;
+    uint64_t checksum; /* of the numbers above */
+};
+
+/* Writes the header of an index of bits_len bits, with so many samples of ones and of zeros, each with a logarithm of 7 to
+ * 31, or 0 and no samples. BITM_BAD_SIZE for other logarithms, more samples than bitm_samples_len says for the words, or
+ * more than 2^64 - 64 bits. */
+BITM_MUST_USE uint32_t bitm_stored_index(uint64_t bits_len, uint32_t ones_log2, uint64_t ones_len, uint32_t zeros_log2,
+                                         uint64_t zeros_len, struct bitm_stored *out);
+
+/* Writes the header of a sequence of len numbers. BITM_BAD_SIZE where no view of a sequence can have such lengths. */
+BITM_MUST_USE uint32_t bitm_stored_sequence(uint64_t len, const struct bitm_sequence_lens *lens,
+                                            struct bitm_stored *out);
+
+/* The header that file_len words begin with, as they stand in a file that was mapped or read. BITM_OK exactly if it is one
+ * that the two calls above write on this machine, and the file has as many bytes as it says, or more: then each part lies
+ * inside these, behind the one before it (proved). BITM_WRONG else. */
+BITM_MUST_USE uint32_t bitm_read_stored(const uint64_t *file, size_t file_len, struct bitm_stored *out);
+
+/* Whether the samples are those that bitm_build_samples, or bitm_build_samples0, writes: BITM_OK, BITM_WRONG, or
+ * BITM_BAD_SIZE as for a view. With tables that are not those of the words either may be returned: ask bitm_check first.
+ * Reads both tables at most once, and up to two lower entries again for each sample. */
+BITM_MUST_USE uint32_t bitm_check_samples(const struct bitm_view *view, const struct bitm_samples *samples);
+BITM_MUST_USE uint32_t bitm_check_samples0(const struct bitm_view *view, const struct bitm_samples *samples);
+
+/* The items of a span of the file. */
+static inline const void *bitm_stored_items(const uint64_t *file, struct bitm_span span)
+{
+    return (const char *)file + span.at;
+}
+
+/* The parts of a file, where bitm_read_stored returned BITM_OK: they lie inside it. */
+static inline struct bitm_view bitm_stored_view(const uint64_t *file, const struct bitm_stored *s)
+{
+    struct bitm_view view;
+    view.words = (const uint64_t *)bitm_stored_items(file, s->words);
+    view.words_len = s->words.len;
+    view.upper = (const uint64_t *)bitm_stored_items(file, s->upper);
+    view.upper_len = s->upper.len;
+    view.lower = (const uint64_t *)bitm_stored_items(file, s->lower);
+    view.lower_len = s->lower.len;
+    return view;
+}
+
+static inline struct bitm_samples bitm_stored_samples(const uint64_t *file, const struct bitm_stored *s)
+{
+    struct bitm_samples samples;
+    samples.samples = (const uint32_t *)bitm_stored_items(file, s->samples);
+    samples.samples_len = s->samples.len;
+    samples.starts = (const uint64_t *)bitm_stored_items(file, s->starts);
+    samples.starts_len = s->starts.len;
+    samples.log2 = (uint32_t)s->ones_log2;
+    return samples;
+}
+
+static inline struct bitm_samples bitm_stored_samples0(const uint64_t *file, const struct bitm_stored *s)
+{
+    struct bitm_samples samples;
+    samples.samples = (const uint32_t *)bitm_stored_items(file, s->samples0);
+    samples.samples_len = s->samples0.len;
+    samples.starts = (const uint64_t *)bitm_stored_items(file, s->starts0);
+    samples.starts_len = s->starts0.len;
+    samples.log2 = (uint32_t)s->zeros_log2;
+    return samples;
+}
+
+static inline struct bitm_sequence_view bitm_stored_sequence_view(const uint64_t *file, const struct bitm_stored *s)
+{
+    struct bitm_sequence_view view;
+    view.len = s->len;
+    view.width = s->width;
+    view.low = (const uint64_t *)bitm_stored_items(file, s->low);
+    view.low_len = s->low.len;
+    view.words = (const uint64_t *)bitm_stored_items(file, s->words);
+    view.words_len = s->words.len;
+    view.upper = (const uint64_t *)bitm_stored_items(file, s->upper);
+    view.upper_len = s->upper.len;
+    view.lower = (const uint64_t *)bitm_stored_items(file, s->lower);
+    view.lower_len = s->lower.len;
+    return view;
+}
+
+/* ---- a header for files, version 1 */
 
 /* 32 bytes that may precede stored words, upper table and lower table: they say what follows, in which version, and
  * in which byte order. */

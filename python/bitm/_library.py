@@ -39,8 +39,24 @@ class Samples(ctypes.Structure):
     _fields_ = [("samples", IN), ("samples_len", SIZE), ("starts", IN), ("starts_len", SIZE), ("log2", U32)]
 
 
+class Span(ctypes.Structure):
+    """`struct bitm_span`."""
+
+    _fields_ = [("at", U64), ("len", U64)]
+
+
+class Stored(ctypes.Structure):
+    """`struct bitm_stored`."""
+
+    _fields_ = (
+        [(name, U64) for name in ("mark", "kind", "len", "width", "size", "ones_log2", "zeros_log2")]
+        + [(name, Span) for name in ("words", "upper", "lower", "low", "starts", "starts0", "samples", "samples0")]
+        + [("checksum", U64)]
+    )
+
+
 VIEW, HEADER, SAMPLES = ctypes.POINTER(View), ctypes.POINTER(Header), ctypes.POINTER(Samples)
-SEQUENCE, SIZES = ctypes.POINTER(SequenceView), ctypes.POINTER(SequenceLens)
+SEQUENCE, SIZES, STORED = ctypes.POINTER(SequenceView), ctypes.POINTER(SequenceLens), ctypes.POINTER(Stored)
 WORDS, LIST, ROOM = [IN, SIZE], [IN, SIZE], [OUT, SIZE]
 
 # What each export answers and takes.
@@ -95,6 +111,11 @@ DECLARATIONS = {
     "bitm_sequence_items": (STATUS, [SEQUENCE, SIZE] + ROOM + [OUT]),
     "bitm_sequence_first_at_least_list": (STATUS, [SEQUENCE] + LIST + ROOM),
     "bitm_sequence_get_list": (STATUS, [SEQUENCE] + LIST + ROOM + [OUT]),
+    "bitm_stored_index": (STATUS, [U64, U32, U64, U32, U64, STORED]),
+    "bitm_stored_sequence": (STATUS, [U64, SIZES, STORED]),
+    "bitm_read_stored": (STATUS, WORDS + [STORED]),
+    "bitm_check_samples": (STATUS, [VIEW, SAMPLES]),
+    "bitm_check_samples0": (STATUS, [VIEW, SAMPLES]),
     "bitm_write_header": (STATUS, [SIZE, HEADER]),
     "bitm_read_header": (STATUS, [HEADER, OUT]),
 }

@@ -34,7 +34,7 @@ fn narrowed(log2: u32) -> u8
 impl<'a> Samples<'a> {
     /// The samples as the library asks them.
     #[inline(always)]
-    fn lent(&self) -> LentSamples<'a>
+    pub(crate) fn lent(&self) -> LentSamples<'a>
         ensures { result ≡ lent_samples self.now }
     {
         LentSamples {

@@ -3,5 +3,6 @@ pub mod ClearingLemmas
 pub mod FilledLemmas
 pub mod OnesFromLemmas
 pub mod RankedLemmas
+pub mod SampleCheckLemmas
 pub mod SamplingLemmas
 pub mod SelectedLemmas

@@ -11,6 +11,7 @@ ghost use Rattle.bitm_lent.specs.Ranks.{IsCountWithin, IsRanked};
 ghost use Rattle.bitm_lent.specs.Sizes.{listed};
 
 mod by_samples;
+mod checks;
 
 use crate::checking::are_tables;
 use crate::ranked::Ranked;

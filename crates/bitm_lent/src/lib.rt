@@ -25,6 +25,7 @@ mod lent;
 mod lists;
 mod places;
 mod ranked;
+mod sample_checks;
 mod sampled;
 mod sampled_lists;
 mod sampled_many;

@@ -1,0 +1,50 @@
+//! Whether samples that lie in the caller's memory are those of the words.
+ghost use Rattle.std.specs.Prelude.{◌≡◌, ◌↔◌, ◌⊎◌, true, false};
+ghost use Rattle.bitm.specs.Tables.{HasSizes, HasTables, bits_in};
+ghost use Rattle.bitm_lent.specs.Samples.{AreSamplesOf};
+ghost use Rattle.bitm_c.specs.Sampled.{lent_samples};
+ghost use Rattle.bitm_c.specs.Status.{lists_of};
+
+use crate::answer::{BAD_SIZE, OK, WRONG};
+use crate::sampled::Samples;
+use crate::view::View;
+
+/// Whether the samples of ones are those that the build writes, where the tables are those of the words.
+#[unsafe(no_mangle)]
+pub extern "C" fn bitm_check_samples(view: &View<'_>, samples: &Samples<'_>) -> u32
+    ensures ok { HasSizes (lists_of view.now) → HasTables (lists_of view.now) → (result ≡ 0)
+        ↔ AreSamplesOf (bits_in (lists_of view.now)) true (lent_samples samples.now) }
+    ensures bad { (result ≡ 2) ↔ (HasSizes (lists_of view.now) → ⊥) }
+    ensures status { (result ≡ 0) ⊎ (result ≡ 2) ⊎ (result ≡ 3) }
+{
+    match view.lent() {
+        Some(lent) => {
+            if lent.check_samples(&samples.lent()) {
+                OK
+            } else {
+                WRONG
+            }
+        }
+        None => BAD_SIZE,
+    }
+}
+
+/// Whether the samples of zeros are those that the build writes, where the tables are those of the words.
+#[unsafe(no_mangle)]
+pub extern "C" fn bitm_check_samples0(view: &View<'_>, samples: &Samples<'_>) -> u32
+    ensures ok { HasSizes (lists_of view.now) → HasTables (lists_of view.now) → (result ≡ 0)
+        ↔ AreSamplesOf (bits_in (lists_of view.now)) false (lent_samples samples.now) }
+    ensures bad { (result ≡ 2) ↔ (HasSizes (lists_of view.now) → ⊥) }
+    ensures status { (result ≡ 0) ⊎ (result ≡ 2) ⊎ (result ≡ 3) }
+{
+    match view.lent() {
+        Some(lent) => {
+            if lent.check_samples0(&samples.lent()) {
+                OK
+            } else {
+                WRONG
+            }
+        }
+        None => BAD_SIZE,
+    }
+}

@@ -1,0 +1,235 @@
+//! What a file of an index or a sequence begins with: which parts it has, and where each of them stands.
+ghost use Rattle.std.specs.Prelude.{◌≡◌, ◌≢◌, ◌+◌, ◌*◌, ◌<◌, ◌≤◌, ◌↔◌, ◌⊎◌, IsTrue, length};
+ghost use Rattle.bitm_c.specs.Stored.{header_in, span_in, HasSampleLens, IsBounded, IsHeaded};
+ghost use Rattle.bitm_c.specs.Stored.{IsIndex, IsIndexOf, IsLaidOut, IsSequence, IsSequenceOf, IsStored, LiesWithin};
+ghost use Rattle.bitm_c.specs.Stored.{HasIndexLens, HasSequenceLens};
+
+use crate::answer::{BAD_SIZE, OK, WRONG};
+use crate::layout::{Span, Stored};
+use crate::sequence::SequenceLens;
+use bitm_lent::{lower_len, samples_len, upper_len};
+
+/// How many words the header has.
+const HEADER_WORDS: usize = 24;
+
+/// Whether so many words can have so many samples of that logarithm, where 0 says that there are none.
+#[inline(always)]
+fn has_sample_lens(words: u64, log2: u64, len: u64) -> bool
+    ensures { IsTrue result ↔ HasSampleLens words log2 len }
+{
+    if log2 == 0 {
+        return len == 0;
+    }
+    log2 >= 7 && log2 <= 31 && len <= samples_len(words as usize, log2 as u8) as u64
+}
+
+impl Stored {
+    /// Whether an index has such lengths.
+    #[inline(always)]
+    fn is_index(&self) -> bool
+        ensures { IsTrue result ↔ IsIndex self.now }
+    {
+        self.kind == 1
+            && self.len <= u64::MAX - 63
+            && self.width == 0
+            && self.words.len == self.len.div_ceil(64)
+            && self.low.len == 0
+            && has_sample_lens(self.words.len, self.ones_log2, self.samples.len)
+            && has_sample_lens(self.words.len, self.zeros_log2, self.samples0.len)
+    }
+
+    /// Whether a sequence has such lengths.
+    #[inline(always)]
+    fn is_sequence(&self) -> bool
+        ensures { IsTrue result ↔ IsSequence self.now }
+    {
+        self.kind == 2
+            && self.len < 1 << 56
+            && self.width <= 63
+            && self.words.len < 1 << 58
+            && self.low.len == (self.len * self.width).div_ceil(64)
+            && self.ones_log2 == 0
+            && self.samples.len == 0
+            && self.zeros_log2 == 0
+            && self.samples0.len == 0
+    }
+
+    /// Whether an index or a sequence has such lengths.
+    #[inline(always)]
+    fn has_shape(&self) -> bool
+        ensures shape { IsTrue result ↔ (IsIndex self.now ⊎ IsSequence self.now) }
+        ensures bounded { IsTrue result → IsBounded self.now }
+    {
+        self.is_index() || self.is_sequence()
+    }
+
+    /// Whether each part is at its place, and the checksum is right.
+    #[inline(always)]
+    #[tactic(auto, using(crate::proofs::StoredLemmas::moved, crate::proofs::StoredLemmas::same_layout))]
+    fn is_laid_out(&self) -> bool
+        requires { IsBounded self.now }
+        ensures { IsTrue result ↔ IsLaidOut self.now }
+    {
+        self.is(&self.laid_out())
+    }
+}
+
+/// Two words of a file.
+#[inline(always)]
+fn span_at(file: &[u64], at: usize) -> Span
+    requires { at + 1 < length file.now }
+    ensures { result ≡ span_in file.now at }
+{
+    Span {
+        at: file[at],
+        len: file[at + 1],
+    }
+}
+
+/// The words that a file begins with.
+#[inline(always)]
+fn header_at(file: &[u64]) -> Stored
+    requires { 24 ≤ length file.now }
+    ensures { result ≡ header_in file.now }
+{
+    Stored {
+        mark: file[0],
+        kind: file[1],
+        len: file[2],
+        width: file[3],
+        size: file[4],
+        ones_log2: file[5],
+        zeros_log2: file[6],
+        words: span_at(file, 7),
+        upper: span_at(file, 9),
+        lower: span_at(file, 11),
+        low: span_at(file, 13),
+        starts: span_at(file, 15),
+        starts0: span_at(file, 17),
+        samples: span_at(file, 19),
+        samples0: span_at(file, 21),
+        checksum: file[23],
+    }
+}
+
+/// Items of which the place is still to be told.
+#[inline(always)]
+fn items(len: u64) -> Span
+    ensures { result ≡ record { at = 0; len = len } }
+{
+    Span { at: 0, len }
+}
+
+/// The lengths of an index, with no places.
+#[inline(always)]
+fn index_of(len: u64, ones_log2: u32, ones: u64, zeros_log2: u32, zeros: u64) -> Stored
+    ensures { IsIndexOf len ones_log2 ones zeros_log2 zeros result }
+{
+    Stored {
+        mark: 0,
+        kind: 1,
+        len,
+        width: 0,
+        size: 0,
+        ones_log2: ones_log2 as u64,
+        zeros_log2: zeros_log2 as u64,
+        words: items(len.div_ceil(64)),
+        upper: items(0),
+        lower: items(0),
+        low: items(0),
+        starts: items(0),
+        starts0: items(0),
+        samples: items(ones),
+        samples0: items(zeros),
+        checksum: 0,
+    }
+}
+
+/// The lengths of a sequence, with no places.
+#[inline(always)]
+fn sequence_of(len: u64, lens: &SequenceLens) -> Stored
+    ensures { IsSequenceOf len lens.now result }
+{
+    Stored {
+        kind: 2,
+        width: lens.width,
+        words: items(lens.words_len),
+        low: items(lens.low_len),
+        ..index_of(len, 0, 0, 0, 0)
+    }
+}
+
+/// Writes the header of an index of so many bits, with samples of ones and zeros, each with its logarithm, or 0 and no
+/// samples.
+#[unsafe(no_mangle)]
+pub extern "C" fn bitm_stored_index(
+    bits_len: u64,
+    ones_log2: u32,
+    ones_len: u64,
+    zeros_log2: u32,
+    zeros_len: u64,
+    out: &mut Stored,
+) -> u32
+    ensures ok { (result ≡ 0) ↔ HasIndexLens bits_len ones_log2 ones_len zeros_log2 zeros_len }
+    ensures header { result ≡ 0 → IsStored out.new
+        × IsIndexOf bits_len ones_log2 ones_len zeros_log2 zeros_len out.new }
+    ensures kept { result ≢ 0 → (result ≡ 2) × (out.new ≡ out.old) }
+{
+    let lens = index_of(bits_len, ones_log2, ones_len, zeros_log2, zeros_len);
+    if !lens.has_shape() {
+        return BAD_SIZE;
+    }
+    *out = lens.laid_out();
+    OK
+}
+
+/// Writes the header of a sequence of so many numbers, whose parts have such lengths.
+#[unsafe(no_mangle)]
+pub extern "C" fn bitm_stored_sequence(len: u64, lens: &SequenceLens, out: &mut Stored) -> u32
+    ensures ok { (result ≡ 0) ↔ HasSequenceLens len lens.now }
+    ensures header { result ≡ 0 → IsStored out.new × IsSequenceOf len lens.now out.new }
+    ensures kept { result ≢ 0 → (result ≡ 2) × (out.new ≡ out.old) }
+{
+    let SequenceLens {
+        width: _,
+        low_len: _,
+        words_len,
+        upper_len: upper,
+        lower_len: lower,
+    } = *lens;
+    let header = sequence_of(len, lens);
+    if !header.has_shape() {
+        return BAD_SIZE;
+    }
+    if upper != upper_len(words_len as usize) as u64 {
+        return BAD_SIZE;
+    }
+    if lower != lower_len(words_len as usize) as u64 {
+        return BAD_SIZE;
+    }
+    *out = header.laid_out();
+    OK
+}
+
+/// The header that a file begins with, of which the whole lies in the file.
+#[tactic(auto, using(crate::proofs::StoredLemmas::lies_within, crate::proofs::StoredLemmas::whole))]
+#[unsafe(no_mangle)]
+pub extern "C" fn bitm_read_stored(file: &[u64], out: &mut Stored) -> u32
+    ensures ok { (result ≡ 0) ↔ IsHeaded file.now }
+    ensures header { result ≡ 0 → (out.new ≡ header_in file.now) × IsStored out.new }
+    ensures inside { result ≡ 0 → LiesWithin out.new (8 * length file.now) }
+    ensures kept { result ≢ 0 → (result ≡ 3) × (out.new ≡ out.old) }
+{
+    if file.len() < HEADER_WORDS {
+        return WRONG;
+    }
+    let header = header_at(file);
+    if !header.has_shape() || header.size / 8 > file.len() as u64 {
+        return WRONG;
+    }
+    if !header.is_laid_out() {
+        return WRONG;
+    }
+    *out = header;
+    OK
+}

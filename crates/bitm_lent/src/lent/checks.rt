@@ -1,0 +1,59 @@
+//! Whether lent samples are those of the words.
+ghost use Rattle.std.specs.Prelude.{IsTrue, ◌↔◌, true, false};
+ghost use Rattle.bit_lists.specs.Count.{kind};
+ghost use Rattle.bitm_search.specs.Tables.{HasTables, bits_in};
+ghost use Rattle.bitm_lent.specs.Samples.{AreSamplesOf};
+
+use crate::lent::Lent;
+use crate::sample_checks::are_samples;
+use crate::samples::{Density, LentSamples};
+use bitm::CombinedSamplingDensity;
+use bitm::samples::Summary;
+
+impl<'a> Lent<'a> {
+    /// Whether the samples of ones, and how many there are before each part, are those that `build_samples` writes, where
+    /// the tables are those of the words, as `check` says; else either is answered.
+    ///
+    /// # Cost
+    /// Each lower entry is read at most once, and up to two are read again for each sample; of the words at most eight
+    /// are read.
+    pub fn check_samples(&self, samples: &LentSamples<'_>) -> bool
+        ensures { HasTables self.now
+            → IsTrue result ↔ AreSamplesOf (bits_in self.now) true samples.now }
+    {
+        self.check_kind::<1>(samples)
+    }
+
+    /// Whether the samples of zeros are those that `build_samples0` writes, as `check_samples`.
+    ///
+    /// # Cost
+    /// As `check_samples`.
+    pub fn check_samples0(&self, samples: &LentSamples<'_>) -> bool
+        ensures { HasTables self.now
+            → IsTrue result ↔ AreSamplesOf (bits_in self.now) false samples.now }
+    {
+        self.check_kind::<0>(samples)
+    }
+
+    /// Whether the samples of one kind of bits are those of the words.
+    fn check_kind<const ONE: u8>(&self, samples: &LentSamples<'_>) -> bool
+        ensures { HasTables self.now
+            → IsTrue result ↔ AreSamplesOf (bits_in self.now) (kind ONE) samples.now }
+    {
+        let len = self.words.len() * 64;
+        if samples.starts.len() != self.upper.len() {
+            return false;
+        }
+        let Some(total) = self.told_ones(len) else {
+            return false;
+        };
+        let summary = Summary {
+            upper: self.upper,
+            lower: self.lower,
+            total,
+            len,
+        };
+        let log2 = Density::items_per_sample_log2(samples.log2);
+        are_samples::<ONE>(&summary, log2, samples.samples, samples.starts)
+    }
+}
