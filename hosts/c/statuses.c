@@ -183,6 +183,7 @@ static void sequences(void)
     LEAVES(BITM_UNSORTED, BUILD(falling, 1));
     LEAVES(BITM_BAD_SIZE, BUILD(falling, 0));
     LEAVES(BITM_BAD_SIZE, BUILD(rising, 0));
+    LEAVES(BITM_BAD_SIZE, BUILD(rising, 2));
     MUST(bitm_sequence_build(rising, 7, &low, 1, &upper_vector, 1, &part, 1, &lower_part, 1, &width) == BITM_OK);
     struct bitm_sequence_view view = {7, width, &low, 1, &upper_vector, 1, &part, 1, &lower_part, 1};
     MUST(bitm_sequence_check(&view) == BITM_OK);
@@ -209,6 +210,7 @@ static void sequences(void)
     LEAVES(BITM_WRONG, bitm_sequence_get(&view, 3, &written.one));
     LEAVES(BITM_WRONG, bitm_sequence_contains(&view, 0, &written.one));
     upper_vector = 0xFFFF; /* more ones than numbers */
+    LEAVES(BITM_WRONG, bitm_sequence_first_at_least(&view, 0, &written.one));
     LEAVES(BITM_WRONG, bitm_sequence_last_at_most(&view, 1, &written.one));
     LEAVES(BITM_WRONG, bitm_sequence_contains(&view, 2, &written.one));
 }
