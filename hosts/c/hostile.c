@@ -65,7 +65,8 @@ int main(int argc, char **argv)
     unsigned long asked = 0, answered = 0;
     while (asked < QUERIES) {
         write_hostile(written);
-        MUST(bitm_read_header((const struct bitm_header *)(const void *)read, &words_len) == BITM_OK && words_len == WORDS);
+        const struct bitm_header *const header = (const void *)read;
+        MUST(bitm_read_header(header, &words_len) == BITM_OK && words_len == WORDS);
         const struct bitm_view view = {read + 4, WORDS, read + 4 + WORDS, 1, read + 5 + WORDS, LOWERS};
         uint32_t samples[40];
         uint64_t start = draw() % 4;
@@ -75,6 +76,6 @@ int main(int argc, char **argv)
             answered += ask(&view, &by, draw() % 16 ? draw() % (BITS + 2) : draw());
     }
     MUST(answered > asked / 8 && close(file) == 0);
-    puts("C host: ten million queries of a mapped file with hostile tables, each answer an index of the caller's array");
+    puts("C host: ten million queries of a mapped file with hostile tables, each answer indexes the caller's array");
     return 0;
 }
