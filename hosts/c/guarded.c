@@ -96,8 +96,13 @@ static unsigned long ask_an_index(void)
     ask_a_list(&view, bitm_select0_list, false, queries, asked, out, mine);
     for (size_t i = 0; i < asked; i++)
         if (out[i] < BITM_WRONG_TABLES) MUST(!bit_of(words, out[i]));
-    MUST(bitm_sampled_select0_list(&view, &by, queries, asked, out, asked) == BITM_OK);
-    MUST(bitm_sampled_select_list(&view, &by, queries, asked, out, asked) == BITM_OK);
+    for (unsigned kind = 0; kind < 2; kind++) {
+        const uint32_t status = kind ? bitm_sampled_select_list(&view, &by, queries, asked, out, asked)
+                                     : bitm_sampled_select0_list(&view, &by, queries, asked, out, asked);
+        MUST(status == BITM_OK);
+        for (size_t i = 0; i < asked; i++)
+            if (out[i] < BITM_WRONG_TABLES) MUST(out[i] < bits && bit_of(words, out[i]) == kind);
+    }
     MUST(bitm_select_list(&view, queries, asked, out, asked) == BITM_OK);
     for (size_t i = 0; i < asked; i++)
         if (out[i] < BITM_WRONG_TABLES) MUST(out[i] < bits && bit_of(words, out[i]));
@@ -141,7 +146,13 @@ static unsigned long ask_a_sequence(void)
             items[out] = value;
         }
     }
-    return 200;
+    size_t asked = draw() % 40;
+    uint64_t *queries = numbers(&starts_of, asked, true), *out = numbers(&out_of, asked, false), written = UNTOUCHED;
+    MUST(bitm_sequence_first_at_least_list(&view, queries, asked, out, asked) == BITM_OK);
+    for (size_t i = 0; i < asked; i++) MUST(out[i] < n || out[i] >= BITM_WRONG_TABLES);
+    for (size_t i = 0; n > 0 && i < asked; i++) queries[i] %= n;
+    MUST(bitm_sequence_get_list(&view, queries, asked, out, asked, &written) == BITM_OK && written <= asked);
+    return 202;
 }
 
 /* Ranges of random words, inside and past the end, and two contents of lengths that may differ. */

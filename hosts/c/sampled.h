@@ -22,13 +22,14 @@ static inline struct bitm_samples built_samples(const struct bitm_view *view, bu
     uint32_t *room = malloc(4 * most + 4), *samples;
     uint64_t *starts = malloc(8 * view->upper_len + 8), used = UNWRITTEN;
     MUST(room && starts);
-    room[most] = UNWRITTEN;
+    for (size_t i = 0; i <= most; i++) room[i] = UNWRITTEN;
     starts[view->upper_len] = UNWRITTEN;
     if (most > 0)
         MUST(build(view, log2, room, most - 1, starts, view->upper_len, &used) == BITM_BAD_SIZE);
     MUST(build(view, log2, room, most, starts, view->upper_len + 1, &used) == BITM_BAD_SIZE && used == UNWRITTEN);
     MUST(build(view, log2, room, most, starts, view->upper_len, &used) == BITM_OK && used <= most);
-    MUST(room[most] == UNWRITTEN && starts[view->upper_len] == UNWRITTEN);
+    for (size_t i = used; i <= most; i++) MUST(room[i] == UNWRITTEN);
+    MUST(starts[view->upper_len] == UNWRITTEN);
     samples = malloc(4 * used + 1);
     MUST(samples);
     memcpy(samples, room, 4 * used);

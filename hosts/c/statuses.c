@@ -1,5 +1,5 @@
 /* The statuses, call by call: which one each call returns where it cannot answer, and that all which it could have
- * written is then as it was. And writes of bits, fragments and ends, against a loop over all bits. */
+ * written is then as it was. And reads and writes of bits, fragments and ends, against a loop over all bits. */
 #include "common.h"
 
 #include <string.h>
@@ -183,6 +183,7 @@ static void sequences(void)
     LEAVES(BITM_UNSORTED, BUILD(falling, 1));
     LEAVES(BITM_BAD_SIZE, BUILD(falling, 0));
     LEAVES(BITM_BAD_SIZE, BUILD(rising, 0));
+    LEAVES(BITM_BAD_SIZE, BUILD(rising, 2));
     MUST(bitm_sequence_build(rising, 7, &low, 1, &upper_vector, 1, &part, 1, &lower_part, 1, &width) == BITM_OK);
     struct bitm_sequence_view view = {7, width, &low, 1, &upper_vector, 1, &part, 1, &lower_part, 1};
     MUST(bitm_sequence_check(&view) == BITM_OK);
@@ -209,6 +210,7 @@ static void sequences(void)
     LEAVES(BITM_WRONG, bitm_sequence_get(&view, 3, &written.one));
     LEAVES(BITM_WRONG, bitm_sequence_contains(&view, 0, &written.one));
     upper_vector = 0xFFFF; /* more ones than numbers */
+    LEAVES(BITM_WRONG, bitm_sequence_first_at_least(&view, 0, &written.one));
     LEAVES(BITM_WRONG, bitm_sequence_last_at_most(&view, 1, &written.one));
     LEAVES(BITM_WRONG, bitm_sequence_contains(&view, 2, &written.one));
 }
@@ -222,7 +224,26 @@ static void others_are_kept(const uint64_t *before, uint64_t begin, uint64_t len
     }
 }
 
-static void writes_spoil_nothing_else(void)
+/* The number that the len bits from begin on spell, by a loop. */
+static uint64_t spelled(uint64_t begin, uint32_t len)
+{
+    uint64_t value = 0;
+    for (uint32_t i = 0; i < len; i++) value |= bit_of(words, begin + i) << i;
+    return value;
+}
+
+/* A bit, bits and a fragment of the words, as the loop reads them. */
+static void reads_are_right(uint64_t at, uint32_t len)
+{
+    uint64_t got;
+    MUST(bitm_get_bit(words, WORDS, at, &got) == BITM_OK && got == bit_of(words, at));
+    at %= 64 * WORDS - 63;
+    MUST(bitm_get_bits(words, WORDS, at, len, &got) == BITM_OK && got == spelled(at, len));
+    at %= len ? 64 * WORDS / len : 1;
+    MUST(bitm_get_fragment(words, WORDS, at, len, &got) == BITM_OK && got == spelled(at * len, len));
+}
+
+static void bits_and_nothing_else(void)
 {
     uint64_t before[WORDS];
     const uint64_t bits = 64 * WORDS;
@@ -231,6 +252,7 @@ static void writes_spoil_nothing_else(void)
         memcpy(before, words, sizeof words);
         uint64_t value = draw(), at = turn < bits ? turn : draw() % bits;
         uint32_t len = (uint32_t)(draw() % 65);
+        reads_are_right(at, len);
         switch (turn % 4) {
         case 0:
             MUST(bitm_set_bit(words, WORDS, at, value & 1) == BITM_OK);
@@ -276,7 +298,7 @@ int main(int argc, char **argv)
     lists_of_zeros(&view);
     ranks_of_wrong_tables();
     sequences();
-    writes_spoil_nothing_else();
+    bits_and_nothing_else();
     puts("C host: each status is the header's, and leaves what it does not answer as it was");
     return 0;
 }
