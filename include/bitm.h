@@ -368,6 +368,21 @@ BITM_MUST_USE uint32_t bitm_sequence_first_at_least_list(const struct bitm_seque
 BITM_MUST_USE uint32_t bitm_sequence_get_list(const struct bitm_sequence_view *view, const uint64_t *queries,
                                               size_t queries_len, uint64_t *out, size_t out_len, uint64_t *written);
 
+/* ---- a content that ends inside a word
+
+ * The same questions of the first bits_len bits of the words: what stands behind them is neither counted nor found.
+ * BITM_BAD_SIZE as for a view, or if bits_len is above 64 * words_len. BITM_NONE exactly if index is above bits_len; a
+ * place returned is below bits_len. Else as bitm_rank and bitm_select. */
+struct bitm_bits_view {
+    struct bitm_view view;
+    uint64_t bits_len;
+};
+
+BITM_MUST_USE uint32_t bitm_bits_rank(const struct bitm_bits_view *view, size_t index, uint64_t *out);
+BITM_MUST_USE uint32_t bitm_bits_rank0(const struct bitm_bits_view *view, size_t index, uint64_t *out);
+BITM_MUST_USE uint32_t bitm_bits_select(const struct bitm_bits_view *view, size_t rank, uint64_t *out);
+BITM_MUST_USE uint32_t bitm_bits_select0(const struct bitm_bits_view *view, size_t rank, uint64_t *out);
+
 /* ---- stored
 
  * A file is a header of 192 bytes and the parts that it names, in this order, each from a multiple of 64 bytes on: words,
@@ -446,6 +461,14 @@ static inline struct bitm_view bitm_stored_view(const uint64_t *file, const stru
     view.lower = (const uint64_t *)bitm_stored_items(file, s->lower);
     view.lower_len = s->lower.len;
     return view;
+}
+
+static inline struct bitm_bits_view bitm_stored_bits_view(const uint64_t *file, const struct bitm_stored *s)
+{
+    struct bitm_bits_view bits;
+    bits.view = bitm_stored_view(file, s);
+    bits.bits_len = s->len;
+    return bits;
 }
 
 static inline struct bitm_samples bitm_stored_samples(const uint64_t *file, const struct bitm_stored *s)

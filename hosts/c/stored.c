@@ -112,6 +112,41 @@ static void ask_index(const uint64_t *file, size_t size)
     MUST(bitm_sampled_select(&view, &samples, ones, &place) == BITM_NONE);
 }
 
+/* Bits behind the content, ones or zeros, are neither counted nor found. */
+static void ask_bits(const uint64_t *file, size_t size)
+{
+    struct bitm_stored s;
+    uint64_t ones = 0, got, kept = UNTOUCHED, behind[2] = {UINT64_MAX, 0};
+    MUST(bitm_read_stored(file, size / 8, &s) == BITM_OK);
+    struct bitm_bits_view bits = bitm_stored_bits_view(file, &s);
+    for (uint64_t i = 0; i < BITS; i++) {
+        if (i % 61 == 0)
+            MUST(bitm_bits_rank(&bits, i, &got) == BITM_OK && got == ones);
+        if (bit_of(bits.view.words, i))
+            MUST(bitm_bits_select(&bits, ones++, &got) == BITM_OK && got == i);
+        else
+            MUST(bitm_bits_select0(&bits, i - ones, &got) == BITM_OK && got == i);
+    }
+    MUST(bitm_bits_rank(&bits, BITS, &got) == BITM_OK && got == ones);
+    MUST(bitm_bits_rank0(&bits, BITS, &got) == BITM_OK && got == BITS - ones);
+    MUST(bitm_bits_rank(&bits, BITS + 1, &kept) == BITM_NONE && bitm_bits_rank0(&bits, BITS + 1, &kept) == BITM_NONE);
+    MUST(bitm_select0(&bits.view, BITS - ones, &got) == BITM_OK && got == BITS);
+    MUST(bitm_bits_select0(&bits, BITS - ones, &kept) == BITM_NONE && bitm_bits_select(&bits, ones, &kept) == BITM_NONE);
+    bits.bits_len = 64 * WORDS + 1;
+    MUST(bitm_bits_rank(&bits, 0, &kept) == BITM_BAD_SIZE && bitm_bits_select(&bits, 0, &kept) == BITM_BAD_SIZE);
+
+    uint64_t upper, lower;
+    MUST(bitm_build(behind, 2, &upper, 1, &lower, 1, &got) == BITM_OK);
+    for (uint64_t len = 0; len <= 128; len++) {
+        struct bitm_bits_view cut = {{behind, 2, &upper, 1, &lower, 1}, len};
+        uint64_t all = len < 64 ? len : 64;
+        MUST(bitm_bits_rank(&cut, len, &got) == BITM_OK && got == all);
+        MUST(bitm_bits_select(&cut, all, &kept) == BITM_NONE && bitm_bits_select0(&cut, len - all, &kept) == BITM_NONE);
+        MUST(all == 0 || (bitm_bits_select(&cut, all - 1, &got) == BITM_OK && got == all - 1));
+    }
+    MUST(kept == UNTOUCHED);
+}
+
 /* Samples of which one number is another, or one is missing. */
 static void spoil_samples(const uint64_t *file, size_t size)
 {
@@ -234,6 +269,7 @@ int main(int argc, char **argv)
     write_sequence();
     const uint64_t *index = map_file(ONES, &size), *sequence = map_file(NUMBERS, &length);
     ask_index(index, size);
+    ask_bits(index, size);
     spoil_samples(index, size);
     spoil(index, size);
     MUST(bitm_read_stored(sequence, length / 8, &s) == BITM_OK && s.kind == BITM_STORED_SEQUENCE && s.len == ITEMS);

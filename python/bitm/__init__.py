@@ -12,10 +12,22 @@
 The answers are those of the C library; that they are plain counting is proved there. What this package adds, the tests
 of arguments and the manners of Python, is tested.
 """
+from typing import Union
+
 from ._bits import BitVector
 from ._buffers import WrongTables
 from ._index import Index, build, tables_of
 from ._sequence import EliasFano
+from ._stored import Path, read
 
 __version__ = "0.2.0"
-__all__ = ["BitVector", "EliasFano", "Index", "WrongTables", "build", "tables_of"]
+__all__ = ["BitVector", "EliasFano", "Index", "WrongTables", "build", "load", "tables_of"]
+
+
+def load(path: Path, *, mmap: bool = False) -> Union[Index, EliasFano]:
+    """The index or sequence that `save` wrote, read into memory, or with `mmap` from the file where it lies.
+
+    ValueError where the file has no header of this format and byte order, or is shorter than that says. What the parts
+    hold is not looked at: `check` does. A mapped file must not become shorter while it is used."""
+    header, whole = read(path, mmap)
+    return (Index if header.kind == 1 else EliasFano)._stored(header, whole)

@@ -6,7 +6,8 @@ from typing import Any, Iterator, Optional, Tuple
 from ._bits import BitVector, calls
 from ._buffers import Lent, WrongTables, apart, as_asked, number, words_of, zeros
 from ._lending import Lending
-from ._library import BAD_SIZE, NO_ANSWER, OK, U64, WRONG, Samples, View
+from ._library import BAD_SIZE, NO_ANSWER, OK, U64, WRONG, Samples, Stored, View
+from ._stored import Path, items, write
 
 
 def tables_of(words: Any) -> Tuple["array.array[int]", "array.array[int]", int]:
@@ -93,9 +94,48 @@ class Index(Lending):
         return Samples(rooms[0].address, used.value, *rooms[1].part, log2), rooms
 
     def check(self) -> bool:
-        """Whether the tables are those of the words. Reads each word once."""
+        """Whether the tables, and the samples, are those of the words. Reads each word once."""
         view, _held = self._open()
-        return calls.bitm_check(ctypes.byref(view)) == OK
+        if calls.bitm_check(ctypes.byref(view)) != OK:
+            return False
+        zeros_and_ones = zip((calls.bitm_check_samples0, calls.bitm_check_samples), self._samples or ())
+        return all(call(ctypes.byref(view), ctypes.byref(by)) == OK for call, (by, _) in zeros_and_ones)
+
+    def save(self, path: Path) -> None:
+        """Writes bits, tables and samples into a file, from which `bitm.load` takes them."""
+        view, held = self._open()
+        used = (self._len + 63) // 64
+        if used < view.words_len:  # tables of fewer words are others
+            log2 = self._samples[1][0].log2 if self._samples else None
+            words = memoryview((U64 * used).from_address(view.words)).cast("B").cast("Q") if used else zeros(0)
+            Index(words, self._len, sample_log2=log2).save(path)
+            del held
+            return
+        ones, nulls = (self._samples[1][0], self._samples[0][0]) if self._samples else (Samples(), Samples())
+        logs = [min(max(it.log2, 7), 31) if self._samples else 0 for it in (ones, nulls)]
+        header = Stored()
+        status = calls.bitm_stored_index(self._len, logs[0], ones.samples_len, logs[1], nulls.samples_len, ctypes.byref(header))
+        if status != OK:
+            raise ValueError("such lengths cannot be stored")
+        vectors = [(header.words, view.words), (header.upper, view.upper), (header.lower, view.lower)]
+        vectors += [(header.starts, ones.starts), (header.starts0, nulls.starts)]
+        pieces = [(span.at, at, 8 * span.len) for span, at in vectors]
+        pieces += [(header.samples.at, ones.samples, 4 * ones.samples_len)]
+        pieces += [(header.samples0.at, nulls.samples, 4 * nulls.samples_len)]
+        write(path, header, pieces)
+
+    @classmethod
+    def _stored(cls, header: Stored, whole: Any) -> "Index":
+        made = cls.over(*(items(whole, it) for it in (header.words, header.upper, header.lower)), header.len)
+        if header.ones_log2 and header.zeros_log2:
+            kinds = (header.samples0, header.starts0, header.zeros_log2), (header.samples, header.starts, header.ones_log2)
+            made._samples = tuple(made._lent_samples(items(whole, it, 4), items(whole, at), log2) for it, at, log2 in kinds)
+        return made
+
+    @staticmethod
+    def _lent_samples(samples: Any, starts: Any, log2: int) -> Tuple[Any, ...]:
+        rooms = Lent(samples, size=4), Lent(starts)
+        return Samples(*rooms[0].part, *rooms[1].part, log2), rooms
 
     def __len__(self) -> int:
         return self._len

@@ -39,6 +39,12 @@ class Samples(ctypes.Structure):
     _fields_ = [("samples", IN), ("samples_len", SIZE), ("starts", IN), ("starts_len", SIZE), ("log2", U32)]
 
 
+class BitsView(ctypes.Structure):
+    """`struct bitm_bits_view`."""
+
+    _fields_ = [("view", View), ("bits_len", U64)]
+
+
 class Span(ctypes.Structure):
     """`struct bitm_span`."""
 
@@ -56,6 +62,7 @@ class Stored(ctypes.Structure):
 
 
 VIEW, HEADER, SAMPLES = ctypes.POINTER(View), ctypes.POINTER(Header), ctypes.POINTER(Samples)
+BITS = ctypes.POINTER(BitsView)
 SEQUENCE, SIZES, STORED = ctypes.POINTER(SequenceView), ctypes.POINTER(SequenceLens), ctypes.POINTER(Stored)
 WORDS, LIST, ROOM = [IN, SIZE], [IN, SIZE], [OUT, SIZE]
 
@@ -111,6 +118,10 @@ DECLARATIONS = {
     "bitm_sequence_items": (STATUS, [SEQUENCE, SIZE] + ROOM + [OUT]),
     "bitm_sequence_first_at_least_list": (STATUS, [SEQUENCE] + LIST + ROOM),
     "bitm_sequence_get_list": (STATUS, [SEQUENCE] + LIST + ROOM + [OUT]),
+    "bitm_bits_rank": (STATUS, [BITS, SIZE, OUT]),
+    "bitm_bits_rank0": (STATUS, [BITS, SIZE, OUT]),
+    "bitm_bits_select": (STATUS, [BITS, SIZE, OUT]),
+    "bitm_bits_select0": (STATUS, [BITS, SIZE, OUT]),
     "bitm_stored_index": (STATUS, [U64, U32, U64, U32, U64, STORED]),
     "bitm_stored_sequence": (STATUS, [U64, SIZES, STORED]),
     "bitm_read_stored": (STATUS, WORDS + [STORED]),

@@ -5,7 +5,8 @@ from typing import Any, Iterator, Optional
 from ._bits import calls
 from ._buffers import Lent, WrongTables, as_asked, number, numbers_of, zeros
 from ._lending import Lending
-from ._library import BAD_SIZE, NO_ANSWER, OK, U64, UNSORTED, SequenceLens, SequenceView
+from ._library import BAD_SIZE, NO_ANSWER, OK, U64, UNSORTED, SequenceLens, SequenceView, Stored
+from ._stored import Path, items, write
 
 
 class EliasFano(Lending):
@@ -65,6 +66,21 @@ class EliasFano(Lending):
         """Whether the parts are those of some sequence. Goes over all of them."""
         view, _held = self._open()
         return calls.bitm_sequence_check(ctypes.byref(view)) == OK
+
+    def save(self, path: Path) -> None:
+        """Writes the parts into a file, from which `bitm.load` takes them."""
+        view, _held = self._open()
+        lens = SequenceLens(view.width, view.low_len, view.words_len, view.upper_len, view.lower_len)
+        header = Stored()
+        if calls.bitm_stored_sequence(view.len, ctypes.byref(lens), ctypes.byref(header)) != OK:
+            raise ValueError("such lengths cannot be stored")
+        vectors = (header.low, view.low), (header.words, view.words), (header.upper, view.upper), (header.lower, view.lower)
+        write(path, header, [(span.at, at, 8 * span.len) for span, at in vectors])
+
+    @classmethod
+    def _stored(cls, header: Stored, whole: Any) -> "EliasFano":
+        vectors = header.low, header.words, header.upper, header.lower
+        return cls.over(header.len, header.width, *(items(whole, it) for it in vectors))
 
     def __len__(self) -> int:
         return self._open()[0].len

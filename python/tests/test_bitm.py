@@ -6,6 +6,7 @@ import array
 import bisect
 import doctest
 import mmap
+import os
 import random
 import tempfile
 import threading
@@ -52,6 +53,80 @@ class Plain:
     def previous(self, kind, i):
         before = self.rank(kind, i + 1)
         return self.places[kind][before - 1] if before else None
+
+
+class Files(unittest.TestCase):
+    def setUp(self):
+        folder = tempfile.TemporaryDirectory()
+        self.addCleanup(folder.cleanup)
+        self.path = os.path.join(folder.name, "stored")
+
+    def both(self):
+        return [(mapped, bitm.load(self.path, mmap=mapped)) for mapped in (False, True)]
+
+    def test_an_index_comes_back_with_its_length_and_samples(self):
+        for count in (0, 1, 63, 64, 65, 2048, 5000):
+            for log2 in (None, 7, 3):
+                bits = drawn_bits(count, 0.4)
+                Index(BitVector.from_bits(bits), sample_log2=log2).save(self.path)
+                plain = Plain(bits)
+                for mapped, index in self.both():
+                    with self.subTest(count=count, log2=log2, mapped=mapped):
+                        self.assertTrue(index.check())
+                        self.assertEqual((len(index), index.count()), (count, sum(bits)))
+                        self.assertEqual(list(index), [bool(it) for it in bits])
+                        ranks = range(count + 2)
+                        self.assertEqual(index.select_list(ranks), [plain.select(1, it) for it in ranks])
+                        self.assertEqual(index.select0_list(ranks), [plain.select(0, it) for it in ranks])
+                        self.assertRaises(IndexError, index.rank, count + 1)
+
+    def test_bits_behind_the_length_stay_behind(self):
+        words = array.array("Q", [2**64 - 1] * 5)
+        for log2 in (None, 9):
+            Index(words, 100, sample_log2=log2).save(self.path)
+            for _, index in self.both():
+                self.assertEqual((len(index), index.count(), index.count(0)), (100, 100, 0))
+                self.assertEqual((index.select(99), index.select(100), index.select0(0)), (99, None, None))
+                self.assertTrue(index.check())
+        Index(words, 0).save(self.path)
+        self.assertEqual([len(it) for _, it in self.both()], [0, 0])
+
+    def test_a_sequence_comes_back(self):
+        for numbers in ([], [0], [2**64 - 1], sorted(random.randrange(10**6) for _ in range(3000))):
+            EliasFano(numbers).save(self.path)
+            for _, sequence in self.both():
+                self.assertTrue(sequence.check())
+                self.assertEqual(list(sequence), numbers)
+
+    def test_what_is_mapped_can_be_saved_in_its_place_and_closed(self):
+        EliasFano(range(1000)).save(self.path)
+        sequence = bitm.load(self.path, mmap=True)
+        sequence.save(self.path)
+        self.assertEqual(sequence[999], 999)
+        sequence.close()
+        self.assertRaises(ValueError, sequence.save, self.path)
+        self.assertEqual(os.listdir(os.path.dirname(self.path)), ["stored"])
+
+    def test_files_that_are_spoilt_or_cut_are_refused(self):
+        Index(BitVector.from_bits(drawn_bits(3000, 0.5)), sample_log2=8).save(self.path)
+        with open(self.path, "rb") as file:
+            good = file.read()
+        for at in range(192):
+            self.refused(good[:at] + bytes([good[at] ^ 1 << at % 8]) + good[at + 1 :])
+        for size in range(0, len(good), 37):
+            self.refused(good[:size])
+        for mapped in (False, True):
+            self.assertRaises(FileNotFoundError, bitm.load, self.path + ".none", mmap=mapped)
+        self.assertRaises(OSError, EliasFano([1]).save, os.path.join(self.path, "no", "folder"))
+        with open(self.path, "wb") as file:
+            file.write(good[:200] + bytes([good[200] ^ 1]) + good[201:])
+        self.assertEqual([it.check() for _, it in self.both()], [False, False])
+
+    def refused(self, content):
+        with open(self.path, "wb") as file:
+            file.write(content)
+        for mapped in (False, True):
+            self.assertRaises(ValueError, bitm.load, self.path, mmap=mapped)
 
 
 class Documentation(unittest.TestCase):

@@ -1,8 +1,8 @@
 -- What the numbers of a header say of its parts.
-use Rattle.std.proofs.Common.{◌≡◌, ◌≢◌, ℕ, zero, suc, ◌+◌, ◌-◌, ◌*◌, ◌/◌, ◌%◌, ◌^◌, ◌<◌, ◌≤◌, ◌⊎◌, min, refl, sym, subst, ap, ◌∙◌, ◌↔◌, inl, inr, arith}
+use Rattle.std.proofs.Common.{◌≡◌, ℕ, zero, suc, ◌+◌, ◌-◌, ◌*◌, ◌/◌, ◌^◌, ◌<◌, ◌≤◌, ◌⊎◌, sym, subst, ap, ◌∙◌, ◌↔◌, inl, inr, arith}
 use Rattle.std.proofs.Math.Nat.{div-le_self, mul-le-mul_left}
 use Rattle.bitm.specs.Density.{within}
-use Rattle.bitm_c.specs.Stored.{sample_room, HasSampleLens, IsAlike, IsBounded, IsIndex, IsLaidOut, IsSequence, LiesWithin}
+use Rattle.bitm_c.specs.Stored.{sample_room, IsAlike, IsBounded, IsIndex, IsLaidOut, IsSequence, LiesWithin}
 use Rattle.bitm_c.specs.declared.layout.Span.{Span}
 use Rattle.bitm_c.specs.declared.layout.Stored.{Stored}
 

@@ -6,6 +6,7 @@
 
 mod answer;
 mod bits;
+mod bits_view;
 mod header;
 mod index;
 mod layout;

@@ -1,5 +1,6 @@
 pub mod BoundsLemmas
 pub mod ClearingLemmas
+pub mod CutLemmas
 pub mod FilledLemmas
 pub mod OnesFromLemmas
 pub mod RankedLemmas

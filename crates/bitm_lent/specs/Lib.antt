@@ -1,3 +1,4 @@
+pub mod Cut
 pub mod Ranks
 pub mod Samples
 pub mod Sizes

@@ -18,6 +18,7 @@
 //! ```
 #![tactic(auto)]
 
+mod bits;
 mod checking;
 mod clearing;
 mod filling;
@@ -35,6 +36,7 @@ mod sampling;
 pub use bitm_search::search::ranking::total_rank_on;
 pub use bitm_search::search::selected::{NO_ANSWER, Selected, WRONG_TABLES};
 pub use bitm_search::search::selecting::total_select_on;
+pub use bits::LentBits;
 pub use clearing::{clear, clear_from};
 pub use filling::build;
 pub use lent::{Lent, lower_len, upper_len};

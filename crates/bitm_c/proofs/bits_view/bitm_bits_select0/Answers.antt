@@ -1,0 +1,9 @@
+-- What was found is told.
+use Rattle.std.proofs.Common.{false}
+use Rattle.bitm_c.proofs.BitsToldLemmas.{told_of}
+use Rattle.bitm_c.proofs.bits_view.bitm_bits_select0.Goals as goal
+
+pub returns-in-Some : goal.returns-in-Some
+returns-in-Some c =
+    told_of false _ c.in-Some.ensures.1 c.args.rank c.tell_place.result c.args.out.now c.tell_place.new.out _ c.in-Some.ensures.0
+    c.select0.result c.tell_place.ensures c.select0.ensures.bit c.select0.ensures.answer

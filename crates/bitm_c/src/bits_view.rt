@@ -1,0 +1,73 @@
+//! Rank and select of the first bits of words, where the content ends inside a word.
+ghost use Rattle.std.specs.Prelude.{◌≡◌, MatchOption, true, false};
+ghost use Rattle.bitm_c.specs.BitsView.{cut_of, BitsRankAnswered, BitsSelectAnswered, IsSizedCut};
+
+use crate::answer::{BAD_SIZE, tell_count, tell_place};
+use crate::view::View;
+use bitm_lent::LentBits;
+
+/// Words and tables, all lent, of which the first bits are the content.
+#[repr(C)]
+#[derive(Clone, Copy)]
+pub struct BitsView<'a> {
+    /// The words and their tables.
+    pub view: View<'a>,
+    /// How many bits are the content.
+    pub bits_len: u64,
+}
+
+impl<'a> BitsView<'a> {
+    /// The bits as the library asks them; `None` exactly where a length is not right.
+    #[inline(always)]
+    fn lent(&self) -> Option<LentBits<'a>>
+        ensures { MatchOption result (IsSizedCut (cut_of self.now) → ⊥)
+            (λ lent. (lent ≡ cut_of self.now) × IsSizedCut (cut_of self.now)) }
+    {
+        let lent = self.view.lent()?;
+        LentBits::over(lent, self.bits_len as usize)
+    }
+}
+
+/// How many of the first `index` bits of the content are ones.
+#[unsafe(no_mangle)]
+pub extern "C" fn bitm_bits_rank(view: &BitsView<'_>, index: usize, out: &mut usize) -> u32
+    ensures { BitsRankAnswered true (cut_of view.now) index result out.old out.new }
+{
+    match view.lent() {
+        Some(lent) => tell_count(lent.rank(index), out),
+        None => BAD_SIZE,
+    }
+}
+
+/// How many of the first `index` bits of the content are zeros.
+#[unsafe(no_mangle)]
+pub extern "C" fn bitm_bits_rank0(view: &BitsView<'_>, index: usize, out: &mut usize) -> u32
+    ensures { BitsRankAnswered false (cut_of view.now) index result out.old out.new }
+{
+    match view.lent() {
+        Some(lent) => tell_count(lent.rank0(index), out),
+        None => BAD_SIZE,
+    }
+}
+
+/// The place of the content's one with `rank` ones before it.
+#[unsafe(no_mangle)]
+pub extern "C" fn bitm_bits_select(view: &BitsView<'_>, rank: usize, out: &mut usize) -> u32
+    ensures { BitsSelectAnswered true (cut_of view.now) rank result out.old out.new }
+{
+    match view.lent() {
+        Some(lent) => tell_place(lent.select(rank), out),
+        None => BAD_SIZE,
+    }
+}
+
+/// The place of the content's zero with `rank` zeros before it.
+#[unsafe(no_mangle)]
+pub extern "C" fn bitm_bits_select0(view: &BitsView<'_>, rank: usize, out: &mut usize) -> u32
+    ensures { BitsSelectAnswered false (cut_of view.now) rank result out.old out.new }
+{
+    match view.lent() {
+        Some(lent) => tell_place(lent.select0(rank), out),
+        None => BAD_SIZE,
+    }
+}

@@ -1,0 +1,117 @@
+//! Words and tables that are lent, of which the last bits do not belong to the content.
+ghost use Rattle.std.specs.Prelude.{◌≡◌, ◌<◌, ◌≤◌, ℕ, Bool, List, MatchOption, length, take, true, false};
+ghost use Rattle.bit_lists.specs.Count.{kind};
+ghost use Rattle.bitm_search.specs.Tables.{HasTables, bits_in};
+ghost use Rattle.bitm_search.specs.Answers.{HasBit, IsSelected};
+ghost use Rattle.bitm_lent.specs.Cut.{bits_of_cut, cut_at, IsWithin};
+ghost use Rattle.bitm_lent.specs.Ranks.{IsCountWithin, IsRanked};
+ghost use Rattle.bitm_lent.specs.Samples.{IsSelectedIfTold};
+
+use crate::lent::Lent;
+use crate::ranked::Ranked;
+use bitm_search::search::selected::Selected;
+use std::marker::Model;
+
+/// A place that was found, where it is before place `len`.
+#[inline(always)]
+#[tactic(auto, using(crate::proofs::CutLemmas::cut_bit, crate::proofs::CutLemmas::cut_absent))]
+fn cut(selected: Selected, len: usize) -> Selected
+    ensures bit { (b : List Bool) (v : Bool) → len ≤ length b → HasBit b v selected
+        → HasBit (take len b) v result }
+    ensures answer { (b : List Bool) (v : Bool) (r : ℕ) → len ≤ length b
+        → IsSelected b v r selected → IsSelected (take len b) v r result }
+    ensures told { (b : List Bool) (v : Bool) (r : ℕ) → len ≤ length b
+        → IsSelectedIfTold b v r selected → IsSelectedIfTold (take len b) v r result }
+{
+    match selected {
+        Selected::Found(place) if place >= len => Selected::Absent,
+        answer => answer,
+    }
+}
+
+/// Words and two tables, all lent, of which the first `len` bits are the content.
+///
+/// Contracts see the three lists and the length. What stands behind the content may be anything: answers are those of
+/// the first `len` bits alone, and what is said of tables that hold anything is as for `Lent`.
+#[derive(Drop)]
+pub struct LentBits<'a> {
+    lent: Lent<'a>,
+    len: usize,
+}
+
+impl<'a> Model for LentBits<'a> {
+    ghost use Rattle.bitm_lent.specs.Cut.{cut_at, Cut, IsWithin};
+
+    ghost Value = { Cut };
+
+    ghost view = { λ b. cut_at b.lent b.len };
+
+    ghost invariant = { λ b. IsWithin (cut_at b.lent b.len) };
+}
+
+impl<'a> LentBits<'a> {
+    /// The first `len` bits; `None` exactly where there are fewer.
+    #[inline(always)]
+    #[tactic(auto, using(bitm::proofs::BitLaws::bits_are_counted))]
+    pub fn over(lent: Lent<'a>, len: usize) -> Option<LentBits<'a>>
+        ensures { MatchOption result (length (bits_in lent.entry) < len)
+            (λ made. (made ≡ cut_at lent.entry len) × IsWithin made) }
+    {
+        if len > lent.words().len() * 64 {
+            return None;
+        }
+        Some(LentBits { lent, len })
+    }
+
+    /// How many of the first `index` bits are ones: `Absent` exactly where the content has fewer, whatever the tables
+    /// hold; else as `Lent::rank`.
+    #[inline(always)]
+    pub fn rank(&self, index: usize) -> Ranked
+        ensures inside { IsCountWithin self.now.len index result }
+        ensures answer { HasTables self.now.lists
+            → IsRanked (bits_of_cut self.now) true index result }
+    {
+        self.rank_kind::<1>(index)
+    }
+
+    /// How many of the first `index` bits are zeros, as `rank`.
+    #[inline(always)]
+    pub fn rank0(&self, index: usize) -> Ranked
+        ensures inside { IsCountWithin self.now.len index result }
+        ensures answer { HasTables self.now.lists
+            → IsRanked (bits_of_cut self.now) false index result }
+    {
+        self.rank_kind::<0>(index)
+    }
+
+    /// Ranks of one kind of bits.
+    #[inline(always)]
+    fn rank_kind<const ONE: u8>(&self, index: usize) -> Ranked
+        ensures inside { IsCountWithin self.now.len index result }
+        ensures answer { HasTables self.now.lists
+            → IsRanked (bits_of_cut self.now) (kind ONE) index result }
+    {
+        if index > self.len {
+            return Ranked::Absent;
+        }
+        self.lent.rank_kind::<ONE>(index)
+    }
+
+    /// The place of the one with exactly `rank` ones before it, as `Lent::select`: places behind the content are none.
+    pub fn select(&self, rank: usize) -> Selected
+        ensures bit { HasBit (bits_of_cut self.now) true result }
+        ensures answer { HasTables self.now.lists
+            → IsSelected (bits_of_cut self.now) true rank result }
+    {
+        cut(self.lent.select(rank), self.len)
+    }
+
+    /// The place of the zero with exactly `rank` zeros before it, as `select`.
+    pub fn select0(&self, rank: usize) -> Selected
+        ensures bit { HasBit (bits_of_cut self.now) false result }
+        ensures answer { HasTables self.now.lists
+            → IsSelected (bits_of_cut self.now) false rank result }
+    {
+        cut(self.lent.select0(rank), self.len)
+    }
+}
