@@ -369,7 +369,7 @@ BITM_MUST_USE uint32_t bitm_sequence_get_list(const struct bitm_sequence_view *v
                                               size_t queries_len, uint64_t *out, size_t out_len, uint64_t *written);
 
 /* ---- a content that ends inside a word
-
+ *
  * The same questions of the first bits_len bits of the words: what stands behind them is neither counted nor found.
  * BITM_BAD_SIZE as for a view, or if bits_len is above 64 * words_len. BITM_NONE exactly if index is above bits_len; a
  * place returned is below bits_len. Else as bitm_rank and bitm_select. */
@@ -384,11 +384,12 @@ BITM_MUST_USE uint32_t bitm_bits_select(const struct bitm_bits_view *view, size_
 BITM_MUST_USE uint32_t bitm_bits_select0(const struct bitm_bits_view *view, size_t rank, uint64_t *out);
 
 /* ---- stored
-
- * A file is a header of 192 bytes and the parts that it names, in this order, each from a multiple of 64 bytes on: words,
- * upper and lower table, low bits of a sequence, starts and samples. All follows from the lengths, and where a part stands
- * from those before it. So map a file of size bytes, copy the header to its front, and build each part in its place; once
- * samples are built, write the header again with as many as there are, samples of ones first, and cut the file.
+ *
+ * A file is a header of 192 bytes and the parts that it names, in this order, each from a multiple of 64 bytes on:
+ * words, upper and lower table, low bits of a sequence, starts and samples. All follows from the lengths, and where
+ * a part stands from those before it. So map a file of size bytes, copy the header to its front, and build each part
+ * in its place; once samples are built, write the header again with as many as there are, samples of ones first, and
+ * cut the file.
  *
  *     struct bitm_stored s;
  *     if (bitm_read_stored(file, bytes / 8, &s) != BITM_OK || s.kind != BITM_STORED_INDEX) ..
@@ -423,9 +424,9 @@ struct bitm_stored {
     uint64_t checksum; /* of the numbers above */
 };
 
-/* Writes the header of an index of bits_len bits, with so many samples of ones and of zeros, each with a logarithm of 7 to
- * 31, or 0 and no samples. BITM_BAD_SIZE for other logarithms, more samples than bitm_samples_len says for the words, or
- * more than 2^64 - 64 bits. */
+/* Writes the header of an index of bits_len bits, with so many samples of ones and of zeros, each with a logarithm
+ * of 7 to 31, or 0 and no samples. BITM_BAD_SIZE for other logarithms, more samples than bitm_samples_len says for
+ * the words, or more than 2^64 - 64 bits. */
 BITM_MUST_USE uint32_t bitm_stored_index(uint64_t bits_len, uint32_t ones_log2, uint64_t ones_len, uint32_t zeros_log2,
                                          uint64_t zeros_len, struct bitm_stored *out);
 
@@ -433,14 +434,14 @@ BITM_MUST_USE uint32_t bitm_stored_index(uint64_t bits_len, uint32_t ones_log2, 
 BITM_MUST_USE uint32_t bitm_stored_sequence(uint64_t len, const struct bitm_sequence_lens *lens,
                                             struct bitm_stored *out);
 
-/* The header that file_len words begin with, as they stand in a file that was mapped or read. BITM_OK exactly if it is one
- * that the two calls above write on this machine, and the file has as many bytes as it says, or more: then each part lies
- * inside these, behind the one before it (proved). BITM_WRONG else. */
+/* The header that file_len words begin with, as they stand in a file that was mapped or read. BITM_OK exactly if it
+ * is one that the two calls above write on this machine, and the file has as many bytes as it says, or more: then
+ * each part lies inside these, behind the one before it (proved). BITM_WRONG else. */
 BITM_MUST_USE uint32_t bitm_read_stored(const uint64_t *file, size_t file_len, struct bitm_stored *out);
 
 /* Whether the samples are those that bitm_build_samples, or bitm_build_samples0, writes: BITM_OK, BITM_WRONG, or
- * BITM_BAD_SIZE as for a view. With tables that are not those of the words either may be returned: ask bitm_check first.
- * Reads both tables at most once, and up to two lower entries again for each sample. */
+ * BITM_BAD_SIZE as for a view. With tables that are not those of the words either may be returned: ask bitm_check
+ * first. Reads both tables at most once, and up to two lower entries again for each sample. */
 BITM_MUST_USE uint32_t bitm_check_samples(const struct bitm_view *view, const struct bitm_samples *samples);
 BITM_MUST_USE uint32_t bitm_check_samples0(const struct bitm_view *view, const struct bitm_samples *samples);
 

@@ -1,6 +1,6 @@
-/* Writes an index with samples and a sequence into files, each part built in its place, maps them and asks them. Then
- * spoils each byte of the headers, cuts the files at each byte, and reads 10,000 headers that were drawn: no view leads
- * outside the bytes, behind which stands a page that may not be touched. */
+/* Writes an index with samples and a sequence into files, each part built in its place, maps them and asks them.
+ * Then spoils each byte of the headers, cuts the files at each byte, and reads 10,000 headers that were drawn: no
+ * view leads outside the bytes, behind which stands a page that may not be touched. */
 #define _DEFAULT_SOURCE
 #include "guard.h"
 
@@ -39,8 +39,8 @@ static const uint64_t *map_file(const char *name, size_t *size)
 static struct bitm_stored sampled(uint64_t *file, struct bitm_stored s, const struct bitm_view *view)
 {
     uint64_t ones, zeros;
-    MUST(bitm_build_samples(view, LOG2, part(file, s.samples), s.samples.len, part(file, s.starts), s.starts.len, &ones)
-         == BITM_OK);
+    MUST(bitm_build_samples(view, LOG2, part(file, s.samples), s.samples.len, part(file, s.starts), s.starts.len,
+                            &ones) == BITM_OK);
     MUST(bitm_stored_index(BITS, LOG2, ones, LOG2, s.samples0.len, &s) == BITM_OK);
     MUST(bitm_build_samples0(view, LOG2, part(file, s.samples0), s.samples0.len, part(file, s.starts0), s.starts0.len,
                              &zeros) == BITM_OK);
@@ -97,7 +97,8 @@ static void ask_index(const uint64_t *file, size_t size)
 {
     struct bitm_stored s;
     uint64_t ones = 0, zeros = 0, place;
-    MUST(bitm_read_stored(file, size / 8, &s) == BITM_OK && s.kind == BITM_STORED_INDEX && s.len == BITS && s.size == size);
+    MUST(bitm_read_stored(file, size / 8, &s) == BITM_OK && s.kind == BITM_STORED_INDEX);
+    MUST(s.len == BITS && s.size == size);
     struct bitm_view view = bitm_stored_view(file, &s);
     struct bitm_samples samples = bitm_stored_samples(file, &s), samples0 = bitm_stored_samples0(file, &s);
     MUST(bitm_check(&view) == BITM_OK && bitm_check_samples(&view, &samples) == BITM_OK);
@@ -218,8 +219,8 @@ static void old_header(const uint64_t *file)
 
 static uint64_t little(void) { return draw() >> draw() % 64; }
 
-/* Lengths that were drawn: where a header is written for them, its parts lie inside as many bytes as it says, and a file of
- * so many is read again, and asked where it is short. */
+/* Lengths that were drawn: where a header is written for them, its parts lie inside as many bytes as it says, and a
+ * file of so many is read again, and asked where it is short. */
 static unsigned drawn(void)
 {
     struct guarded block = guard(1 << 16);
@@ -231,7 +232,8 @@ static unsigned drawn(void)
         uint64_t len = little() % (draw() % 4 ? 1 << 16 : UINT64_MAX);
         if (draw() % 4)
             (void)!bitm_sequence_sizes(len, len ? little() : 0, &lens);
-        uint32_t status = draw() % 2 ? bitm_stored_index(len, log, log ? little() % 9 : 0, log0, log0 ? draw() % 9 : 0, &s)
+        uint64_t ones = log ? little() % 9 : 0, zeros = log0 ? draw() % 9 : 0;
+        uint32_t status = draw() % 2 ? bitm_stored_index(len, log, ones, log0, zeros, &s)
                                      : bitm_stored_sequence(len, &lens, &s);
         if (status != BITM_OK || s.size > block.room)
             continue;

@@ -3,6 +3,7 @@ import array
 import ctypes
 import mmap as mapped
 import os
+import threading
 from typing import Any, Iterable, Optional, Tuple, Union
 
 from ._bits import calls
@@ -18,7 +19,7 @@ Piece = Tuple[int, Optional[int], int]
 def write(path: Path, header: Stored, pieces: Iterable[Piece]) -> None:
     """Writes the header and the pieces: beside the path first, so that a file that is mapped, or a write that fails,
     leaves what stood there as it was."""
-    beside = f"{os.fspath(path)}.part"
+    beside = f"{os.fspath(path)}.{os.getpid()}.{threading.get_ident()}.part"
     try:
         with open(beside, "wb") as file:
             file.write(bytes(header))

@@ -38,13 +38,34 @@ bounded h (inr s) =
 pub same_span : (s t : Span) → s.at ≡ t.at → s.len ≡ t.len → s ≡ t
 same_span s t at len = ap (λ (n : ℕ). span n s.len) at ∙ ap (λ (n : ℕ). span t.at n) len
 
+-- a header of the same numbers
+abbrev anew : Stored → Stored
+anew h = record {
+  mark = h.mark;
+  kind = h.kind;
+  len = h.len;
+  width = h.width;
+  size = h.size;
+  ones_log2 = h.ones_log2;
+  zeros_log2 = h.zeros_log2;
+  words = h.words;
+  upper = h.upper;
+  lower = h.lower;
+  low = h.low;
+  starts = h.starts;
+  starts0 = h.starts0;
+  samples = h.samples;
+  samples0 = h.samples0;
+  checksum = h.checksum;
+}
+
 -- headers with the same numbers are one
 pub same_stored : (h k : Stored) → h.mark ≡ k.mark → h.kind ≡ k.kind → h.len ≡ k.len → h.width ≡ k.width
     → h.size ≡ k.size → h.ones_log2 ≡ k.ones_log2 → h.zeros_log2 ≡ k.zeros_log2 → h.words ≡ k.words
     → h.upper ≡ k.upper → h.lower ≡ k.lower → h.low ≡ k.low → h.starts ≡ k.starts
     → h.starts0 ≡ k.starts0 → h.samples ≡ k.samples → h.samples0 ≡ k.samples0 → h.checksum ≡ k.checksum → h ≡ k
 same_stored h k mark kind len width size ones_log2 zeros_log2 words upper lower low starts starts0 samples samples0 checksum =
-    let all : ◌≡◌ {A = Stored} (record { mark = h.mark; kind = h.kind; len = h.len; width = h.width; size = h.size; ones_log2 = h.ones_log2; zeros_log2 = h.zeros_log2; words = h.words; upper = h.upper; lower = h.lower; low = h.low; starts = h.starts; starts0 = h.starts0; samples = h.samples; samples0 = h.samples0; checksum = h.checksum }) (record { mark = k.mark; kind = k.kind; len = k.len; width = k.width; size = k.size; ones_log2 = k.ones_log2; zeros_log2 = k.zeros_log2; words = k.words; upper = k.upper; lower = k.lower; low = k.low; starts = k.starts; starts0 = k.starts0; samples = k.samples; samples0 = k.samples0; checksum = k.checksum }) = cc in
+    let all : anew h ≡ anew k = cc in
     all
 
 -- two headers with the same lengths, both with each part at its place, are one
@@ -66,7 +87,8 @@ same_layout h k a b same =
     let same_ones = sym same.ones_log2 in
     let same_zeros = sym same.zeros_log2 in
     let checksum : h.checksum ≡ k.checksum = cc in
-    same_stored h k mark same_kind same_len same_width size same_ones same_zeros words upper lower low starts starts0 samples samples0 checksum
+    same_stored h k mark same_kind same_len same_width size same_ones same_zeros words upper lower low
+    starts starts0 samples samples0 checksum
 
 -- what is equal to a header with each part at its place is one
 pub moved : (h k : Stored) → h ≡ k → IsLaidOut k → IsLaidOut h
