@@ -18,10 +18,10 @@
  *   - a status other than BITM_OK leaves everything that it could have written unchanged;
  *   - if the tables are stale or hostile, a rank is still at most its index, and any place that selection returns is
  *     inside and holds the requested bit: each answer may index an array of yours that has an item for each bit and
- *     one more. BITM_WRONG says that the tables are not those of the words; BITM_OK does not say that they are, and
- *     BITM_NONE of a selection by rank says no more than that tables and words count at most rank such bits: what the
- *     last upper entry tells, the last lower entry to one of its records, behind which no word stands, and the words
- *     from there on (added as numbers of 64 bits; each item of a list says the same);
+ *     one more. BITM_WRONG says that the tables are not those of the words; BITM_OK does not say that they are.
+ *     BITM_NONE of a selection means that tables and words count at most rank such bits: the last upper entry, plus the
+ *     last lower entry up to one of its records that no words follow, plus the bits from that record on (modulo 2^64).
+ *     Each item of a list means the same;
  *   - if the tables are those of the words, the answer is plain counting, and no call on words and tables alone returns
  *     BITM_WRONG. They are if bitm_build made them or bitm_check passes them, as long as neither words nor tables
  *     change afterwards. (A sampled call also returns BITM_WRONG where the samples are not those of the words: ask
