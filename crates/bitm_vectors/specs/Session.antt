@@ -1,8 +1,8 @@
 -- A session: which answers the lines of an input may have.
-use Rattle.std.specs.Prelude.{◌≡◌, ◌≤◌, ℕ, ◌+◌, ◌&&◌, nat_le, List, [], ◌∷◌, length, Bool, true, false, Option, None, Some, nat_lt, slice_set, ◌⊎◌, if◌then◌else◌}
+use Rattle.std.specs.Prelude.{◌≡◌, ◌≤◌, ℕ, ◌+◌, ◌&&◌, nat_le, List, [], ◌∷◌, ◌++◌, length, Bool, true, false, Option, None, Some, nat_lt, slice_set, ◌⊎◌, if◌then◌else◌}
 use Rattle.std.specs.List.{list_all}
 use Rattle.std.specs.Io.KnownBytes.{Appends}
-use Rattle.bitm_vectors.specs.Answer.{text_of, is_good}
+use Rattle.bitm_vectors.specs.Answer.{answer_text, text_of, is_good}
 use Rattle.bitm.specs.Bits.{bits_of}
 use Rattle.bitm.specs.Count.{ones_before, zeros_before, count_before, Picks}
 use Rattle.bitm.specs.Number.{number_at}
@@ -105,6 +105,14 @@ Answers old [] [] new = new ≡ old
 Answers old (line ∷ lines) (answer ∷ answers) new = (mid : State) × Step old (request_of line) answer mid × Answers mid lines answers new
 Answers old [] (answer ∷ answers) new = ⊥
 Answers old (line ∷ lines) [] new = ⊥
+
+-- From old, a session answered a line and went on to new, and it was written: the writer's bytes, where it tells them, went
+-- from before to after by just the answer and a line feed, and good says that it was not `bad command`.
+pub record WroteAnswer (line : List ℕ) (old new : State) (before after : Option (List ℕ)) (good : Bool) : Type 0 where
+  pub answer : Answer
+  pub step : Step old (request_of line) answer new
+  pub written : Appends before after (answer_text answer ++ 10 ∷ [])
+  pub told : good ≡ is_good answer
 
 -- A session over these lines ends in this state, and it was written: the writer's bytes, where it tells them, went from
 -- before to after by just its answers, and good says that none was `bad command`.

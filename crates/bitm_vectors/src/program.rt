@@ -1,6 +1,6 @@
 //! The program without its process: the answers to an input, and the file, the statuses and the texts around them.
 ghost use Rattle.std.specs.Prelude.{◌≡◌, ◌≢◌, ◌≤◌, ℕ, List, length, nat_eq, IfOk};
-ghost use Rattle.bitm_vectors.specs.Session.{State, Wrote};
+ghost use Rattle.bitm_vectors.specs.Session.{State, Wrote, WroteAnswer};
 ghost use Rattle.bitm_vectors.specs.Text.{lines_of};
 
 use crate::session::Session;
@@ -44,11 +44,24 @@ pub fn run<W: Write>(alloc: Global, input: &[u8], out: &mut W) -> Result<bool, W
     let mut session = Session::new(alloc);
     let mut good = true;
     for line in Lines::new(input) {
-        let answer = session.answer(alloc, line);
-        writeln!(out, "{answer}")?;
-        good &= answer.is_good();
+        good &= answer_line(&mut session, alloc, line, out)?;
     }
     Ok(good)
+}
+
+/// Writes the answer to a line with a line feed, and answers whether it is not `bad command`.
+fn answer_line<W: Write>(
+    session: &mut Session,
+    alloc: Global,
+    line: &[u8],
+    out: &mut W,
+) -> Result<bool, WriteFailed>
+    ensures { IfOk result (WroteAnswer line.now session.old session.new
+        (W.contents out.old) (W.contents out.new)) }
+{
+    let answer = session.answer(alloc, line);
+    writeln!(out, "{answer}")?;
+    Ok(answer.is_good())
 }
 
 /// Answers the lines of the file that the one argument names, and answers the status that the

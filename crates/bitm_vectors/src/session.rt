@@ -79,8 +79,8 @@ impl Session {
         ensures { Step self.old (Some (Words words.items)) result self.new }
     {
         let count = words.len() as u64;
+        self.forget_index();
         self.words = words.into_boxed_slice();
-        self.index = None;
         Answer::Accepted(count)
     }
 
@@ -100,7 +100,7 @@ impl Session {
     fn build(&mut self, alloc: Global, kind: Kind) -> Answer
         ensures { Step self.old (Some (Build kind)) result self.new }
     {
-        self.index = None;
+        self.forget_index();
         match Index::build(alloc, kind, &self.words) {
             Ok((index, total)) => {
                 self.index = Some(index);
@@ -108,6 +108,13 @@ impl Session {
             }
             Err(_) => Answer::NoMemory,
         }
+    }
+
+    /// The same vector, and nothing built.
+    fn forget_index(&mut self)
+        ensures { self.new ≡ record { bits = self.old.bits; built = None } }
+    {
+        self.index = None;
     }
 
     #[tactic(auto, using(crate::proofs::lemmas::SessionLemmas::count_of_bits))]

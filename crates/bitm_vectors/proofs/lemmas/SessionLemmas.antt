@@ -10,7 +10,7 @@ use Rattle.bitm.proofs.Callers.{length-bits_of, bits_of-nil}
 use Rattle.bitm.specs.Bits.{bits_of}
 use Rattle.bitm_vectors.specs.Answer.{answer_text, text_of, is_good}
 use Rattle.bitm_vectors.specs.Request.{request_of}
-use Rattle.bitm_vectors.specs.Session.{State, start, Step, Answers, Wrote, changed}
+use Rattle.bitm_vectors.specs.Session.{State, start, Step, Answers, Wrote, WroteAnswer, changed}
 use Rattle.bitm_vectors.specs.declared.answer.Answer.{Answer}
 
 chosen : (b : Bool) → b ≡ true → (x y z : State) → z ≡ x → z ≡ cond b x y
@@ -47,6 +47,11 @@ wrote_more lines line s t a b c good answer h step more = record {
   written = subst (λ l. Appends a c l) (sym (text_more h.answers answer)) (Appends-trans a b c _ _ h.written more);
   told = told_more h.answers answer good h.told;
 }
+
+pub wrote_answer : (lines : List (List ℕ)) (line : List ℕ) (s t : State) (a b c : Option (List ℕ)) (good told : Bool) → Wrote lines s a b good
+    → WroteAnswer line s t b c told → Wrote (lines ++ line ∷ []) t a c (good && told)
+wrote_answer lines line s t a b c good told h one =
+    subst (λ g. Wrote (lines ++ line ∷ []) t a c (good && g)) (sym one.told) (wrote_more lines line s t a b c good one.answer h one.step one.written)
 
 -- no words have no bits
 pub starts_empty : bits_of [] ≡ []
