@@ -34,9 +34,9 @@
  * crates/elias_fano). That an export makes just this call, and the passes over words and items that builds and checks
  * name, are read in the code. Time is not proved.
  *
- * Lengths: each call tests those that it needs. bitm_build, bitm_write_header, the calls with a view, and those without
- * that count ones or look for the next or previous bit return BITM_BAD_SIZE for 2^58 words or more; those that get or
- * write bits take any number of words, and bitm_upper_len, bitm_lower_len and bitm_samples_len answer for any.
+ * Lengths: each call tests those that it needs. bitm_build, bitm_write_header, the calls with a view, and those that
+ * count ones or look for the next or previous bit return BITM_BAD_SIZE for 2^58 words or more; those that get or write
+ * bits take any number of words, and bitm_upper_len, bitm_lower_len and bitm_samples_len answer for any.
  *
  * Your duties, as for any C function that takes pointers (nothing here can test them):
  *   - a pointer to n numbers is aligned to 8 bytes (samples: to 4) and n numbers can be read there; it may be NULL if
@@ -273,8 +273,8 @@ BITM_MUST_USE uint32_t bitm_previous_zero(const uint64_t *words, size_t words_le
 BITM_MUST_USE uint32_t bitm_fill_range(uint64_t *words, size_t words_len, size_t from, size_t to, bool value);
 BITM_MUST_USE uint32_t bitm_flip_range(uint64_t *words, size_t words_len, size_t from, size_t to);
 
-/* Makes each bit of words what it and the bit of other at its place give: both, either, one alone, the first without
- * the second. BITM_BAD_SIZE if the lengths differ. */
+/* Combines each bit of words with the bit of other at the same place: and, or, exclusive or, and with the negation of
+ * other's. BITM_BAD_SIZE if the lengths differ. */
 BITM_MUST_USE uint32_t bitm_and(uint64_t *words, size_t words_len, const uint64_t *other, size_t other_len);
 BITM_MUST_USE uint32_t bitm_or(uint64_t *words, size_t words_len, const uint64_t *other, size_t other_len);
 BITM_MUST_USE uint32_t bitm_xor(uint64_t *words, size_t words_len, const uint64_t *other, size_t other_len);
@@ -332,7 +332,7 @@ BITM_MUST_USE uint32_t bitm_sequence_get(const struct bitm_sequence_view *view, 
 /* The successor: the least place whose number is at least value. BITM_NONE if every number is less, BITM_WRONG if the
  * parts turn out not to be those of a sequence; any place returned is below len, whatever the parts hold. Reads what
  * two selections read, and at most one fragment of low for each binary digit of how many numbers share the upper bits
- * of value, in parts of no sequence for each of len. */
+ * of value (of len, if the parts are not those of a sequence). */
 BITM_MUST_USE uint32_t bitm_sequence_first_at_least(const struct bitm_sequence_view *view, uint64_t value,
                                                     uint64_t *out);
 
@@ -347,24 +347,25 @@ BITM_MUST_USE uint32_t bitm_sequence_last_at_most(const struct bitm_sequence_vie
 BITM_MUST_USE uint32_t bitm_sequence_contains(const struct bitm_sequence_view *view, uint64_t value, uint64_t *out);
 
 /* Writes the numbers from place from on, in order, as many as there are and out has room for, and to written how many
- * these are; the rest of out stays as it was. In parts of no sequence these are some numbers, up to where the parts
- * have no more: only there is written less than out_len and than len - from. Returns BITM_OK, or BITM_BAD_SIZE, and
- * then writes nothing. out and written may not overlap each other or the parts. One selection, a pass over words from
- * there on, and at most one fragment of low for each number. */
+ * these are; the rest of out stays as it was. If the parts are not those of a sequence, the numbers are arbitrary, and
+ * only then may there be fewer than both out_len and len - from. Returns BITM_OK, or BITM_BAD_SIZE, and then writes
+ * nothing. out and written may not overlap each other or the parts. One selection, a pass over words from there on, and
+ * at most one fragment of low for each number. */
 BITM_MUST_USE uint32_t bitm_sequence_items(const struct bitm_sequence_view *view, size_t from, uint64_t *out,
                                            size_t out_len, uint64_t *written);
 
 /* out[i] answers queries[i] as bitm_sequence_first_at_least does, or is BITM_NO_ANSWER for BITM_NONE and
- * BITM_WRONG_TABLES for BITM_WRONG. Zeros are selected side by side, so in parts of no sequence it may be another place
- * than bitm_sequence_first_at_least answers. Returns BITM_OK, or BITM_BAD_SIZE (also if out_len is not queries_len),
- * and then writes nothing. out may not overlap the queries. */
+ * BITM_WRONG_TABLES for BITM_WRONG. Zeros are selected side by side, so if the parts are not those of a sequence, it
+ * may be another place than bitm_sequence_first_at_least answers. Returns BITM_OK, or BITM_BAD_SIZE (also if out_len is
+ * not queries_len), and then writes nothing. out may not overlap the queries. */
 BITM_MUST_USE uint32_t bitm_sequence_first_at_least_list(const struct bitm_sequence_view *view, const uint64_t *queries,
                                                          size_t queries_len, uint64_t *out, size_t out_len);
 
 /* The numbers at a list of places, as bitm_sequence_get answers them, up to the first place for which it does not
  * return BITM_OK; written is how many these are, and the rest of out stays as it was. Ones are selected side by side,
- * so in parts of no sequence a number may be another than bitm_sequence_get answers. Returns BITM_OK, or BITM_BAD_SIZE
- * (also if out_len is not queries_len), and then writes nothing. out and written may not overlap the queries. */
+ * so if the parts are not those of a sequence, a number may differ from that of bitm_sequence_get. Returns BITM_OK, or
+ * BITM_BAD_SIZE (also if out_len is not queries_len), and then writes nothing. out and written may not overlap the
+ * queries. */
 BITM_MUST_USE uint32_t bitm_sequence_get_list(const struct bitm_sequence_view *view, const uint64_t *queries,
                                               size_t queries_len, uint64_t *out, size_t out_len, uint64_t *written);
 
@@ -386,16 +387,16 @@ BITM_MUST_USE uint32_t bitm_bits_select0(const struct bitm_bits_view *view, size
 /* ---- stored
  *
  * A file is a header of 192 bytes and the parts that it names, in this order, each from a multiple of 64 bytes on:
- * words, upper and lower table, low bits of a sequence, starts and samples. All follows from the lengths, and where
- * a part stands from those before it. So map a file of size bytes, copy the header to its front, and build each part
- * in its place; once samples are built, write the header again with as many as there are, samples of ones first, and
- * cut the file.
+ * words, upper and lower table, low bits of a sequence, starts and samples. The lengths determine all of it; a part's
+ * offset follows from the parts before it. So map a file of size bytes, copy the header to its front, and build each
+ * part in its place; once samples are built, write the header again with as many as there are, samples of ones first,
+ * and cut the file.
  *
  *     struct bitm_stored s;
  *     if (bitm_read_stored(file, bytes / 8, &s) != BITM_OK || s.kind != BITM_STORED_INDEX) ..
  *     struct bitm_view view = bitm_stored_view(file, &s);
  *
- * A header says nothing of what the parts hold: bitm_check, bitm_check_samples and bitm_sequence_check do. */
+ * A header does not vouch for the contents of the parts: bitm_check, bitm_check_samples and bitm_sequence_check do. */
 #define BITM_STORED_INDEX 1
 #define BITM_STORED_SEQUENCE 2
 

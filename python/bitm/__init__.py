@@ -1,4 +1,4 @@
-"""Bit vectors with rank and select, and monotone sequences (Elias-Fano), by a library whose answers are proved.
+"""Bit vectors with rank and select, and monotone integer sequences (Elias-Fano), over a library proved correct.
 
 >>> import bitm
 >>> bits = bitm.BitVector.from_indices([1, 3, 4, 6], 7)
@@ -9,8 +9,8 @@
 >>> primes.first_at_least(8), primes[4]
 (4, 11)
 
-The answers are those of the C library; that they are plain counting is proved there. What this package adds, the tests
-of arguments and the manners of Python, is tested.
+The answers are those of the C library, where they are proved to be plain counting. What this package adds (checks of
+arguments, Python's conventions) is tested.
 """
 from typing import Union
 
@@ -25,9 +25,9 @@ __all__ = ["BitVector", "EliasFano", "Index", "WrongTables", "build", "load", "t
 
 
 def load(path: Path, *, mmap: bool = False) -> Union[Index, EliasFano]:
-    """The index or sequence that `save` wrote, read into memory, or with `mmap` from the file where it lies.
+    """The index or sequence that `save` wrote, read into memory, or with `mmap` mapped from the file.
 
-    ValueError where the file has no header of this format and byte order, or is shorter than that says. What the parts
-    hold is not looked at: `check` does. A mapped file must not become shorter while it is used."""
+    ValueError if the file has no header of this format and byte order, or is shorter than its header says. The parts'
+    contents are not checked: call `check`. A mapped file must not be truncated while it is used."""
     header, whole = read(path, mmap)
     return (Index if header.kind == 1 else EliasFano)._stored(header, whole)

@@ -54,8 +54,8 @@ class Index(Lending):
 
     @classmethod
     def over(cls, words: Any, upper: Any, lower: Any, length: Optional[int] = None) -> "Index":
-        """An index over tables that are there, as in a mapped file. What they hold is not looked at: where they are
-        not those of the words, an answer may be `WrongTables`, and a place still has the bit that was asked."""
+        """An index over tables that exist already, as in a mapped file. They are not checked: if they are not those
+        of the words, an answer may be `WrongTables`, and a place still has the requested bit."""
         made = cls.__new__(cls)
         words, length = cls._words(words, length)
         made._make(words, upper, lower, length)

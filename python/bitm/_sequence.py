@@ -1,4 +1,4 @@
-"""Monotone sequences of numbers (Elias-Fano)."""
+"""Monotone integer sequences (Elias-Fano)."""
 import ctypes
 from typing import Any, Iterator, Optional
 
@@ -10,7 +10,7 @@ from ._stored import Path, items, write
 
 
 class EliasFano(Lending):
-    """A sequence of numbers that never fall, in about 2 + log2(greatest / length) bits a number.
+    """A monotone integer sequence (Elias-Fano), in about 2 + log2(greatest / length) bits a number.
 
     >>> primes = EliasFano([2, 3, 5, 7, 11, 13])
     >>> primes[2], primes[-1], len(primes), 7 in primes, 8 in primes
@@ -43,7 +43,7 @@ class EliasFano(Lending):
 
     @classmethod
     def over(cls, length: int, width: int, low: Any, words: Any, upper: Any, lower: Any) -> "EliasFano":
-        """A sequence over parts that are there, as in a mapped file. What they hold is not looked at; `check` does."""
+        """A sequence over parts that exist already, as in a mapped file. They are not checked: call `check`."""
         made = cls.__new__(cls)
         made._make(number(length, "the length"), number(width, "the width"), [low, words, upper, lower])
         return made
@@ -110,7 +110,7 @@ class EliasFano(Lending):
         return as_asked(found, (), places)
 
     def _items(self, start: int, count: int) -> Any:
-        """So many numbers from a place on, of which there are as many; WrongTables where the parts end before."""
+        """The next so many numbers from a place on, all of which exist; WrongTables if the parts end before."""
         (view, _held), found, written = self._open(), zeros(count), U64()
         room = Lent(found, True)
         calls.bitm_sequence_items(ctypes.byref(view), start, *room.part, ctypes.byref(written))

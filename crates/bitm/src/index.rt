@@ -120,7 +120,7 @@ impl<S: SelectForRank101111, S0: Select0ForRank101111, BV: AsSlice<u64>> RankSel
     /// # Conditions
     /// The content has fewer than 2^58 words.
     /// # Errors
-    /// The content itself, where no memory was found for a table or a strategy; nothing else is left.
+    /// The content itself, if memory for a table or a strategy was refused; nothing else is left.
     /// # Cost
     /// The tables are made in one pass over the words; then each strategy makes what it keeps.
     pub fn build(alloc: Global, content: BV) -> Result<(Self, usize), BV>
@@ -193,7 +193,7 @@ impl<S: SelectForRank101111, S0: Select0ForRank101111, BV: AsSlice<u64>> RankSel
         &self.select0
     }
 
-    /// A source over the words and the tables, of which nothing was read.
+    /// A source over the words and the tables, with no reads counted yet.
     #[inline(always)]
     pub fn probe(&self) -> Probe<'_>
         ensures words { result.lists.words ≡ BV.items self.now.content }
@@ -295,7 +295,7 @@ impl<S: SelectForRank101111, S0: Select0ForRank101111, BV: CloneWords> RankSelec
     /// An index over the same words, with tables and strategies of its own.
     ///
     /// # Errors
-    /// `AllocError` where memory was refused; this value is as it was.
+    /// `AllocError` if memory was refused; this value is as it was.
     pub fn try_clone(&self, alloc: Global) -> Result<Self, AllocError>
         ensures { IfOk result (λ copy. BV.items copy.content ≡ BV.items self.now.content) }
     {

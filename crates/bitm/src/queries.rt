@@ -23,7 +23,7 @@ pub trait Rank: HasBits {
     /// How many of the first `index` bits are ones.
     ///
     /// # Conditions
-    /// There are no fewer than `index` bits.
+    /// There are at least `index` bits.
     #[inline(always)]
     fn rank(&self, index: usize) -> usize
         requires { index ≤ length (Self.bits self.now) }
@@ -38,7 +38,7 @@ pub trait Rank: HasBits {
     /// How many of the first `index` bits are ones, as `rank`.
     ///
     /// # Conditions
-    /// There are no fewer than `index` bits.
+    /// There are at least `index` bits.
     #[inline(always)]
     fn rank_unchecked(&self, index: usize) -> usize
         requires { index ≤ length (Self.bits self.now) }
@@ -61,7 +61,7 @@ pub trait Rank: HasBits {
     /// How many of the first `index` bits are zeros.
     ///
     /// # Conditions
-    /// There are no fewer than `index` bits.
+    /// There are at least `index` bits.
     #[inline(always)]
     fn rank0(&self, index: usize) -> usize
         requires { index ≤ length (Self.bits self.now) }
@@ -73,7 +73,7 @@ pub trait Rank: HasBits {
     /// How many of the first `index` bits are zeros, as `rank0`.
     ///
     /// # Conditions
-    /// There are no fewer than `index` bits.
+    /// There are at least `index` bits.
     #[inline(always)]
     fn rank0_unchecked(&self, index: usize) -> usize
         requires { index ≤ length (Self.bits self.now) }
@@ -82,12 +82,12 @@ pub trait Rank: HasBits {
         self.rank0(index)
     }
 
-    /// Does nothing: it stands for a hint to load what `rank` of `index` reads.
+    /// Does nothing; in the original a hint to load what `rank(index)` reads.
     #[inline(always)]
     fn prefetch(&self, _index: usize) {}
 }
 
-/// Answers what a bit is beside how many stand before it: access, which with rank and selection a structure asks for.
+/// Answers what a bit is, alone or with its rank: access, which succinct structures need beside rank and selection.
 pub trait Access: Rank {
     /// The bit at `place`; `None` exactly where the place is past the end.
     fn try_get_bit(&self, place: usize) -> Option<bool>
@@ -125,7 +125,7 @@ pub trait Access: Rank {
     /// How many of the first `from` bits are ones, and how many of the first `to`.
     ///
     /// # Conditions
-    /// There are no fewer than `from` bits, and no fewer than `to`.
+    /// There are at least `from` bits, and at least `to`.
     #[inline(always)]
     fn rank_pair(&self, from: usize, to: usize) -> (usize, usize)
         requires from { from ≤ length (Self.bits self.now) }

@@ -9,7 +9,7 @@ use crate::queries::{Rank, Select, Select0};
 /// How many of the bits from `start` up to `end` are ones.
 ///
 /// # Conditions
-/// `start` is no more than `end`, and there are no fewer than `end` bits.
+/// `start` is no more than `end`, and there are at least `end` bits.
 /// # Cost
 /// Two ranks.
 #[tactic(auto, using(bitm_bits::proofs::Callers::ones_grow))]
@@ -25,7 +25,7 @@ pub fn ones_between<I: Rank>(index: &I, start: usize, end: usize) -> usize
 /// How many of the bits from `start` up to `end` are zeros.
 ///
 /// # Conditions
-/// `start` is no more than `end`, and there are no fewer than `end` bits.
+/// `start` is no more than `end`, and there are at least `end` bits.
 /// # Cost
 /// Two ranks.
 #[tactic(auto, using(bitm_bits::proofs::Callers::zeros_grow))]
@@ -41,7 +41,7 @@ pub fn zeros_between<I: Rank>(index: &I, start: usize, end: usize) -> usize
 /// The first one at `place` or after it; `None` exactly where there is none.
 ///
 /// # Conditions
-/// There are no fewer than `place` bits.
+/// There are at least `place` bits.
 /// # Cost
 /// A rank and a selection.
 #[tactic(auto, using(bit_lists::proofs::BitLaws::next_one_is_selected))]
@@ -56,7 +56,7 @@ pub fn next_one<I: Rank + Select>(index: &I, place: usize) -> Option<usize>
 /// The first zero at `place` or after it; `None` exactly where there is none.
 ///
 /// # Conditions
-/// There are no fewer than `place` bits.
+/// There are at least `place` bits.
 /// # Cost
 /// A rank and a selection.
 #[tactic(auto, using(bitm_bits::proofs::Callers::next_zero))]
@@ -115,7 +115,7 @@ pub fn previous_zero<I: Rank + Select0>(index: &I, place: usize) -> Option<usize
 /// The one from `place` on with exactly `k` ones between `place` and it; `None` exactly where there are not so many.
 ///
 /// # Conditions
-/// There are no fewer than `place` bits.
+/// There are at least `place` bits.
 /// # Cost
 /// A rank and a selection.
 #[tactic(auto, using(bitm_bits::proofs::Callers::one_from, bitm_bits::proofs::Callers::ones_are_bits))]
@@ -136,7 +136,7 @@ pub fn select_from<I: Rank + Select>(index: &I, place: usize, k: usize) -> Optio
 /// many.
 ///
 /// # Conditions
-/// There are no fewer than `place` bits.
+/// There are at least `place` bits.
 /// # Cost
 /// A rank and a selection.
 #[tactic(auto, using(bitm_bits::proofs::Callers::zero_from, bitm_bits::proofs::Callers::zeros_are_bits))]

@@ -103,7 +103,7 @@ impl<BV: AsSlice<u64>> RankSimple<BV> {
     /// # Conditions
     /// The content has fewer than 2^58 words and fewer than 2^32 ones (`count_bit_ones` tells).
     /// # Errors
-    /// The content itself, where no memory was found for the table; nothing else is left.
+    /// The content itself, if memory for the table was refused; nothing else is left.
     pub fn build(alloc: Global, content: BV) -> Result<(Self, u32), BV>
         requires short { IsShort (BV.items content) }
         requires few { HasFewOnes (BV.items content) }
@@ -146,7 +146,7 @@ impl<BV: AsSlice<u64>> RankSimple<BV> {
     /// How many of the first `index` bits are ones.
     ///
     /// # Conditions
-    /// There are no fewer than `index` bits.
+    /// There are at least `index` bits.
     #[inline(always)]
     pub fn rank(&self, index: usize) -> u32
         requires { index ≤ length (bits_of (BV.items self.now)) }
@@ -213,7 +213,7 @@ impl<BV: CloneWords> RankSimple<BV> {
     /// A simple rank over the same words, with a table of its own.
     ///
     /// # Errors
-    /// `AllocError` where memory was refused; this value is as it was.
+    /// `AllocError` if memory was refused; this value is as it was.
     pub fn try_clone(&self, alloc: Global) -> Result<Self, AllocError>
         ensures { IfOk result (λ copy. BV.items copy ≡ BV.items self.now) }
     {

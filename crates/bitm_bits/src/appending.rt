@@ -56,7 +56,7 @@ impl BitWriter {
     /// Appends a bit.
     ///
     /// # Errors
-    /// `AllocError` where memory was refused, or a `usize` would not count the bits. Nothing was written then.
+    /// `AllocError` if memory was refused, or a `usize` would not count the bits. Nothing was written then.
     #[inline]
     pub fn push_bit(&mut self, value: bool) -> Result<(), AllocError>
         ensures ok { IfOk result (λ _. self.new ≡ self.old ++ value ∷ []) }
@@ -70,7 +70,7 @@ impl BitWriter {
     /// # Conditions
     /// `count` is 0 to 64.
     /// # Errors
-    /// `AllocError` where memory was refused, or a `usize` would not count the bits. Nothing was written then.
+    /// `AllocError` if memory was refused, or a `usize` would not count the bits. Nothing was written then.
     #[inline]
     pub fn push_bits(&mut self, v: u64, count: u8) -> Result<(), AllocError>
         requires { count ≤ 64 }

@@ -10,7 +10,7 @@ pub trait CloneWords: AsSlice<u64> + Drop {
     /// A value with the same words.
     ///
     /// # Errors
-    /// `AllocError` where memory was refused; the value is as it was.
+    /// `AllocError` if memory was refused; the value is as it was.
     fn try_same(&self, alloc: Global) -> Result<Self, AllocError>
         ensures { IfOk result (λ copy. Self.items copy ≡ Self.items self.now) };
 }

@@ -20,14 +20,14 @@ pub trait BitVec: AsSlice<u64> {
     /// A vector of `n` words equal to `value`.
     ///
     /// # Errors
-    /// `AllocError` where memory was refused.
+    /// `AllocError` if memory was refused.
     fn with_64bit_segments(alloc: Self::Alloc, value: u64, n: usize) -> Result<Self, AllocError>
         ensures { IfOk result (λ v. Self.items v ≡ replicate n value) };
 
     /// A vector of `n` words that are 0.
     ///
     /// # Errors
-    /// `AllocError` where memory was refused.
+    /// `AllocError` if memory was refused.
     #[inline]
     fn with_zeroed_64bit_segments(alloc: Self::Alloc, n: usize) -> Result<Self, AllocError>
         ensures { IfOk result (λ v. Self.items v ≡ replicate n 0) }
@@ -38,7 +38,7 @@ pub trait BitVec: AsSlice<u64> {
     /// A vector of `n` words whose bits are all ones.
     ///
     /// # Errors
-    /// `AllocError` where memory was refused.
+    /// `AllocError` if memory was refused.
     #[inline]
     fn with_filled_64bit_segments(alloc: Self::Alloc, n: usize) -> Result<Self, AllocError>
         ensures { IfOk result (λ v. Self.items v ≡ replicate n (2 ^ 64 - 1)) }
@@ -49,7 +49,7 @@ pub trait BitVec: AsSlice<u64> {
     /// A vector of the fewest words that have `n` bits, all 0.
     ///
     /// # Errors
-    /// `AllocError` where memory was refused.
+    /// `AllocError` if memory was refused.
     #[inline]
     fn with_zeroed_bits(alloc: Self::Alloc, n: usize) -> Result<Self, AllocError>
         ensures { IfOk result (λ v. Self.items v ≡ replicate (div_ceil n 64) 0) }
@@ -60,7 +60,7 @@ pub trait BitVec: AsSlice<u64> {
     /// A vector of the fewest words that have `n` bits; all bits of these words are ones, also those past `n`.
     ///
     /// # Errors
-    /// `AllocError` where memory was refused.
+    /// `AllocError` if memory was refused.
     #[inline]
     fn with_filled_bits(alloc: Self::Alloc, n: usize) -> Result<Self, AllocError>
         ensures { IfOk result (λ v. Self.items v ≡ replicate (div_ceil n 64) (2 ^ 64 - 1)) }
@@ -75,7 +75,7 @@ pub trait BitVec: AsSlice<u64> {
     /// `s` is 0 to 64, `word` has at most `s` binary digits, and `n * s` fits a `usize`.
     ///
     /// # Errors
-    /// `AllocError` where memory was refused.
+    /// `AllocError` if memory was refused.
     fn with_bitwords(alloc: Self::Alloc, word: u64, s: u8, n: usize) -> Result<Self, AllocError>
         requires width { s ≤ 64 }
         requires fits { word < 2 ^ s }

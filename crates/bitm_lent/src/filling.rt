@@ -50,7 +50,7 @@ fn fill(words: &[u64], upper: &mut [usize], lower: &mut [u64]) -> usize
 }
 
 /// Writes both tables of the words, and answers the number of ones; `None` exactly where there are 2^58 words or
-/// more, or a table is not as long as theirs, and nothing is written then.
+/// more, or a table has another length, and nothing is written then.
 ///
 /// # Cost
 /// Each word is read once. What was in the tables' memory is not read.

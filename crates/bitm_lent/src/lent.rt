@@ -38,7 +38,7 @@ pub fn lower_len(words: usize) -> usize
     words.div_ceil(U64_PER_L2_ENTRY)
 }
 
-/// Whether there are fewer than 2^58 words and the tables are as long as theirs.
+/// Whether there are fewer than 2^58 words and the tables have the right lengths.
 #[inline(always)]
 pub(crate) fn has_sizes(words: &[u64], upper: &[usize], lower: &[u64]) -> bool
     ensures { IsTrue result ↔ HasSizes (listed words.now upper.now lower.now) }
@@ -98,7 +98,7 @@ impl<'a> Lent<'a> {
         self.words
     }
 
-    /// A source over the words and tables, of which nothing was read: for calls over any source.
+    /// A source over the words and tables, with no reads counted yet: for calls over any source.
     #[inline(always)]
     pub fn probe(&self) -> Probe<'_>
         ensures lists { result.lists ≡ self.now }

@@ -274,7 +274,7 @@ fn sampled_in_part<const ONE: u8, T: TableSource>(
 /// the samples are not those of the words.
 ///
 /// # Conditions
-/// There are fewer than 2^58 words, and the tables are as long as theirs. Nothing is asked of what they hold, and
+/// There are fewer than 2^58 words, and the tables have the right lengths. They may hold anything, and
 /// nothing of the samples.
 /// # Cost
 /// At most as many upper entries as their number has binary digits and one more, 23 lower entries and eight words are

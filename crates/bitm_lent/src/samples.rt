@@ -17,12 +17,12 @@ pub struct LentSamples<'a> {
     pub samples: &'a [u32],
     /// How many samples there are before each part.
     pub starts: &'a [usize],
-    /// The logarithm of how many items one sample stands for; outside 7 to 31 it is brought to the nearer end.
+    /// The logarithm of how many items one sample stands for; it is clamped to 7 to 31.
     pub log2: u8,
 }
 
 /// How many samples of one kind so many words have at most: one for each begun 2^(`log2` - 6) words. The logarithm is
-/// brought to the nearer end of 7 to 31. The exact number is a sum over the parts, which `build_samples` answers: memory
+/// clamped to 7 to 31. The exact number is a sum over the parts, which `build_samples` answers: memory
 /// can be taken before, and the rest given back.
 #[inline(always)]
 pub fn samples_len(words: usize, log2: u8) -> usize

@@ -81,7 +81,7 @@ impl<'a> Model for Probe<'a> {
 }
 
 impl<'a> Probe<'a> {
-    /// A source over a content and two tables, of which nothing was read.
+    /// A source over a content and two tables, with no reads counted yet.
     #[inline(always)]
     pub fn new(content: &'a [u64], l1ranks: &'a [usize], l2ranks: &'a [u64]) -> Probe<'a>
         ensures lists { result.lists

@@ -119,7 +119,7 @@ fn push_entries(words: &[u64], part: usize, l2ranks: &mut Vec<u64>) -> Result<us
 /// The tables of the words and the number of ones.
 ///
 /// # Errors
-/// `AllocError` where no memory was found for a table; nothing is left.
+/// `AllocError` if no memory was found for a table; nothing is left.
 pub fn make(alloc: Global, words: &[u64]) -> Result<(Tables, usize), AllocError>
     requires { IsShort words.now }
     ensures tables { IfOk result (λ made. AreTablesOf (bits_of words.now)

@@ -56,7 +56,7 @@ pub trait CombinedSamplingDensity: Copy {
         → (7 ≤ log density) × (log density ≤ 31) };
 }
 
-/// One sample for each 2^`VALUE_LOG2` items; a logarithm outside 7 to 31 is brought to the nearer end.
+/// One sample for each 2^`VALUE_LOG2` items; a logarithm outside 7 to 31 is clamped.
 #[derive(Clone, Copy)]
 pub struct ConstCombinedSamplingDensity<const VALUE_LOG2: u8>;
 
@@ -79,7 +79,7 @@ impl<const VALUE_LOG2: u8> CombinedSamplingDensity for ConstCombinedSamplingDens
 }
 
 /// A density for the share of items, by `optimal_combined_sampling`, of a logarithm of at most `MAX_RESULT`, which is
-/// brought to the nearer end of 7 to 31.
+/// clamped to 7 to 31.
 #[derive(Clone, Copy)]
 pub struct AdaptiveCombinedSamplingDensity<const MAX_RESULT: u8>;
 

@@ -70,7 +70,7 @@ fn ones_to_end(summary: &Summary<'_>, part: usize) -> usize
 /// has bits.
 ///
 /// # Conditions
-/// There is such a part, and the tables are as long as those of so many bits. Nothing is asked of what they hold.
+/// There is such a part, and the tables are as long as those of so many bits. They may hold anything.
 pub fn items_in<const ONE: u8>(summary: &Summary<'_>, part: usize) -> usize
     requires sized { IsSized summary.now }
     requires inside { part < length summary.now.upper.now }
@@ -241,7 +241,7 @@ fn push_samples<const ONE: u8>(
 /// The samples of some bits at a density, and how many there are before each part.
 ///
 /// # Errors
-/// `AllocError` where no memory was found; nothing is left.
+/// `AllocError` if no memory was found; nothing is left.
 pub(crate) fn make_samples<const ONE: u8>(
     alloc: Global,
     summary: &Summary<'_>,

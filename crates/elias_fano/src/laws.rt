@@ -6,7 +6,7 @@ ghost use Rattle.elias_fano.specs.Sequence.{IsSequence};
 
 use crate::sequence::EliasFano;
 
-/// The numbers of a sequence never fall; there are fewer than 2^56 of them, each below 2^64.
+/// The numbers of a sequence never decrease; there are fewer than 2^56 of them, each below 2^64.
 #[inline(always)]
 pub fn numbers_rise(sequence: &EliasFano)
     ensures { IsSequence sequence.now }
@@ -14,13 +14,13 @@ pub fn numbers_rise(sequence: &EliasFano)
     sequence.rise();
 }
 
-/// Where numbers never fall, a number is at least a value exactly from the first such place on.
+/// Where numbers never decrease, a number is at least a value exactly from the first such place on.
 #[inline(always)]
 pub fn reached_from_there()
     ensures { ReachedFromThere }
 {}
 
-/// Where numbers never fall, the first place that reaches a number is the least place of an equal number.
+/// Where numbers never decrease, the first place that reaches a number is the least place of an equal number.
 #[inline(always)]
 pub fn first_of_equal()
     ensures { FirstOfEqual }

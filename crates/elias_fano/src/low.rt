@@ -26,7 +26,7 @@ impl<'a> Model for LowDigits<'a> {
 }
 
 impl<'a> LowDigits<'a> {
-    /// The low digits in these words, `width` of each number, of which nothing was read.
+    /// The low digits in these words, `width` of each number, with no reads counted yet.
     #[inline(always)]
     pub fn new(words: &'a [u64], width: u8) -> LowDigits<'a>
         ensures { result ≡ unread words.now width }

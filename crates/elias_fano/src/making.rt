@@ -9,7 +9,7 @@ use bitm::{BitVec, bits_to_store, n_lowest_bits, words};
 use std::alloc::{AllocError, Global};
 use std::boxed::BoxedSlice;
 
-/// The last number, which is the largest where numbers never fall; 0 where there is none.
+/// The last number, which is the largest where numbers never decrease; 0 where there is none.
 pub fn largest_of(items: &[u64]) -> u64
     ensures { result ≡ largest items.now }
 {
@@ -42,7 +42,7 @@ pub(crate) fn width_for(items: &[u64]) -> u8
 /// The low digits of each number, one number after another.
 ///
 /// # Errors
-/// `AllocError` where memory was refused.
+/// `AllocError` if memory was refused.
 pub(crate) fn make_low(
     alloc: Global,
     items: &[u64],
@@ -80,7 +80,7 @@ pub fn write_low(low: &mut [u64], items: &[u64], width: u8)
 /// A one for each number, after as many zeros as it says without its low digits.
 ///
 /// # Errors
-/// `AllocError` where memory was refused.
+/// `AllocError` if memory was refused.
 pub(crate) fn make_upper(
     alloc: Global,
     items: &[u64],
@@ -100,7 +100,7 @@ pub(crate) fn make_upper(
 /// zeros.
 ///
 /// # Conditions
-/// The numbers never fall, and there are at most 63 low digits; there are as many words as the ones and zeros take,
+/// The numbers never decrease, and there are at most 63 low digits; there are as many words as the ones and zeros take,
 /// fewer than 2^58, all zeros.
 #[inline]
 pub fn write_upper(upper: &mut [u64], items: &[u64], width: u8)

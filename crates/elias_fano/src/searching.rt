@@ -61,7 +61,7 @@ pub fn item_at_one(place: usize, low: &mut LowDigits<'_>, at: usize) -> u64
 ///
 /// # Conditions
 /// There are fewer than 2^56 numbers and at most 63 low digits, and as many low words as these take; there are fewer
-/// than 2^58 words, and the tables are as long as theirs. Nothing is asked of what they hold.
+/// than 2^58 words, and the tables have the right lengths. They may hold anything.
 /// # Cost
 /// One selection in the source, and one fragment of the low digits: at most as many upper entries as their number has
 /// binary digits and one more, 23 lower entries and eight words, whatever the parts hold.

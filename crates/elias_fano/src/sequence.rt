@@ -76,11 +76,11 @@ impl Model for EliasFano {
 }
 
 impl EliasFano {
-    /// A sequence of the numbers, which stay as they are.
+    /// A sequence of the numbers, which are not changed.
     ///
     /// # Errors
     /// `TooLong` exactly where there are 2^56 numbers or more; else `NotSorted` exactly where some number is less than
-    /// the one before it; else `OutOfMemory` where memory was refused. Nothing is left then.
+    /// the one before it; else `OutOfMemory` if memory was refused. Nothing is left then.
     /// # Cost
     /// One pass over the numbers for each of the two vectors, and one over the upper vector for its index.
     pub fn build(alloc: Global, items: &[u64]) -> Result<EliasFano, EfError>
@@ -115,7 +115,7 @@ impl EliasFano {
         self.len
     }
 
-    /// The numbers never fall; there are fewer than 2^56 of them, each below 2^64.
+    /// The numbers never decrease; there are fewer than 2^56 of them, each below 2^64.
     #[inline(always)]
     pub(crate) fn rise(&self)
         ensures { IsSequence self.now }
@@ -170,7 +170,7 @@ impl EliasFano {
         self.upper.as_slice()
     }
 
-    /// The low digits of each number, of which nothing was read.
+    /// The low digits of each number, with no reads counted yet.
     #[inline(always)]
     pub fn low_digits(&self) -> LowDigits<'_>
         ensures words { IsLow self.now (width_of self.now) result.words }
@@ -180,7 +180,7 @@ impl EliasFano {
         LowDigits::new(self.low_words(), self.low_width())
     }
 
-    /// A source over the upper words and the tables of their index, of which nothing was read.
+    /// A source over the upper words and the tables of their index, with no reads counted yet.
     #[inline(always)]
     pub fn probe(&self) -> Probe<'_>
         ensures words { IsUpper self.now (width_of self.now) result.lists.words }
@@ -252,7 +252,7 @@ impl EliasFano {
     /// A sequence of the same numbers.
     ///
     /// # Errors
-    /// `AllocError` where memory was refused; this value is as it was.
+    /// `AllocError` if memory was refused; this value is as it was.
     pub fn try_clone(&self, alloc: Global) -> Result<EliasFano, AllocError>
         ensures { IfOk result (λ copy. copy ≡ self.now) }
     {

@@ -31,7 +31,7 @@ fn number_of(place: usize, low: &mut LowDigits<'_>, at: usize) -> Option<u64>
 }
 
 /// The last of `n` numbers, 0 where there is none, if the ones of the words and the low digits are those of `n` numbers
-/// that never fall: at most one fragment of the low digits for each number.
+/// that never decrease: at most one fragment of the low digits for each number.
 #[tactic(auto, using(bitm::proofs::BitLaws::ones_and_zeros, bitm::proofs::BitLaws::bits_are_counted))]
 fn last_of(words: &[u64], low: &mut LowDigits<'_>, n: usize) -> Option<u64>
     requires short { IsShort words.now }

@@ -100,7 +100,7 @@ impl<'a> LentSequence<'a> {
         self.upper.check() && are_parts(self.upper.words(), self.low, self.width, self.len)
     }
 
-    /// The low digits, of which nothing was read.
+    /// The low digits, with no reads counted yet.
     #[inline(always)]
     fn low_digits(&self) -> LowDigits<'_>
         ensures { result ≡ unread self.now.low self.now.width }

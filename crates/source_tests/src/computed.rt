@@ -31,7 +31,7 @@ impl Model for Computed {
 }
 
 impl Computed {
-    /// A source of `len` words, of which nothing was read.
+    /// A source of `len` words, with no reads counted yet.
     ///
     /// # Conditions
     /// There are fewer than 2^58 words, and as many as fill all lower entries.

@@ -27,7 +27,7 @@ pub fn number_if_member<I: Access>(set: &I, place: usize) -> Option<usize>
 /// zeros come first, and then its ones.
 ///
 /// # Conditions
-/// There are no fewer than `from` bits, and no fewer than `to`.
+/// There are at least `from` bits, and at least `to`.
 pub fn ones_after_sorting<I: Access>(level: &I, from: usize, to: usize) -> (usize, usize)
     requires from { from ≤ length (I.bits level.now) }
     requires to { to ≤ length (I.bits level.now) }

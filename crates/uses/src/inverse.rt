@@ -54,7 +54,7 @@ pub fn select0_of_rank<I: Rank + Select0>(index: &I, place: usize) -> usize
 /// The ones and the zeros among the first `index` bits: together as many as these bits, at the exact length too.
 ///
 /// # Conditions
-/// There are no fewer than `index` bits.
+/// There are at least `index` bits.
 #[tactic(auto, using(bitm::proofs::BitLaws::ones_and_zeros))]
 pub fn ranks_add_up<I: Rank>(bits: &I, index: usize) -> usize
     requires { index ≤ length (I.bits bits.now) }

@@ -25,7 +25,7 @@ fn place_from(list: &EliasFano, number: u64) -> usize
 /// The numbers that stand in both lists, in order; one that stands twice in the first comes twice.
 ///
 /// # Errors
-/// `AllocError` where no memory was found.
+/// `AllocError` if no memory was found.
 pub fn common(alloc: Global, one: &EliasFano, other: &EliasFano) -> Result<Vec<u64>, AllocError>
     ensures { IfOk result (λ found. AreCommon one.now other.now found.items) }
 {

@@ -31,7 +31,7 @@ pub fn ones_by_their_places(words: &[u64]) -> usize
 /// # Conditions
 /// There are fewer than 2^58 words.
 /// # Errors
-/// `AllocError` where no memory was found.
+/// `AllocError` if no memory was found.
 pub fn places_of_ones(alloc: Global, words: &[u64]) -> Result<Vec<usize>, AllocError>
     requires { IsShort words.now }
     ensures { IfOk result (λ list. list.items ≡ places true 0 (bits_of words.now)) }

@@ -29,7 +29,7 @@ pub fn run_of_ones<I: Rank + Select0>(index: &I, place: usize) -> (usize, usize)
 /// The member in the middle of those from `from` up to `to`, and how many these are; `None` exactly where there is none.
 ///
 /// # Conditions
-/// `from` is no more than `to`, and there are no fewer than `to` bits.
+/// `from` is no more than `to`, and there are at least `to` bits.
 pub fn middle<I: Rank + Select>(set: &I, from: usize, to: usize) -> Option<(usize, usize)>
     requires order { from ≤ to }
     requires inside { to ≤ length (I.bits set.now) }

@@ -11,7 +11,7 @@ use std::alloc::{AllocError, Global};
 /// # Conditions
 /// The place is below the length.
 /// # Errors
-/// `AllocError` where no memory was found.
+/// `AllocError` if no memory was found.
 #[tactic(auto, using(bitm::proofs::BitLaws::zeros_have_no_ones))]
 pub fn bit_of_zeros<V: BitVec + Drop>(
     alloc: V::Alloc,
@@ -28,7 +28,7 @@ pub fn bit_of_zeros<V: BitVec + Drop>(
 /// A content that is written piece by piece: a one, and then the ten lowest digits of a number.
 ///
 /// # Errors
-/// `AllocError` where memory was refused.
+/// `AllocError` if memory was refused.
 pub fn by_pieces(alloc: Global, number: u64) -> Result<BitWriter, AllocError>
     ensures { IfOk result (λ made. made ≡ true ∷ low_digits 10 number) }
 {

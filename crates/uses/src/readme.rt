@@ -27,7 +27,7 @@ pub fn mark(content: &mut BoxedSlice<u64, Global>, place: usize)
 /// ones before it.
 ///
 /// # Errors
-/// `AllocError` where no memory was found.
+/// `AllocError` if no memory was found.
 pub fn ask(
     alloc: Global,
     index: usize,

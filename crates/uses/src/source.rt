@@ -32,7 +32,7 @@ impl Model for Kept {
 impl Kept {
     ghost use Rattle.bitm.specs.Reads.{none_read};
 
-    /// A source over these, of which nothing was read.
+    /// A source over these, with no reads counted yet.
     pub fn new(words: Vec<u64>, upper: Vec<usize>, lower: Vec<u64>) -> Kept
         ensures lists { result.lists
             ≡ record { words = words.items; upper = upper.items; lower = lower.items } }

@@ -81,7 +81,7 @@ pub fn lent_once(vector: &mut Vec<u64>)
 /// Appends words to a vector: its bits are those that were there, and then those of the words.
 ///
 /// # Errors
-/// `AllocError` where memory was refused; the vector is as it was.
+/// `AllocError` if memory was refused; the vector is as it was.
 #[tactic(auto, using(bitm::proofs::BitLaws::bits_are_joined))]
 pub fn append(words: &mut Vec<u64>, more: &[u64]) -> Result<(), AllocError>
     ensures ok { IfOk result (λ _. bits_of words.new.items

@@ -1,4 +1,4 @@
-//! Monotone sequences of numbers.
+//! Monotone integer sequences (Elias-Fano).
 use crate::lent::{build_sequence, sequence_sizes, Sequence, Unbuilt};
 
 /// Why a list was not taken.
@@ -21,7 +21,7 @@ impl std::fmt::Display for EfError {
 
 impl std::error::Error for EfError {}
 
-/// A sequence of numbers that never fall, in about 2 + log2(greatest / length) bits a number.
+/// A monotone integer sequence (Elias-Fano), in about 2 + log2(greatest / length) bits a number.
 ///
 /// ```
 /// use bitm_proved::EliasFano;

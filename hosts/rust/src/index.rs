@@ -16,7 +16,7 @@ pub trait Rank {
     /// As `rank`.
     ///
     /// # Safety
-    /// There are no fewer than `index` bits. (It is tested all the same.)
+    /// There are at least `index` bits. (It is tested all the same.)
     unsafe fn rank_unchecked(&self, index: usize) -> usize {
         self.rank(index)
     }
@@ -31,7 +31,7 @@ pub trait Rank {
     /// As `rank0`.
     ///
     /// # Safety
-    /// There are no fewer than `index` bits. (It is tested all the same.)
+    /// There are at least `index` bits. (It is tested all the same.)
     unsafe fn rank0_unchecked(&self, index: usize) -> usize {
         self.rank0(index)
     }
@@ -157,7 +157,7 @@ impl<D: CombinedSamplingDensity> SelectionStrategy for CombinedSampling<D> {
     }
 }
 
-/// Rank and selection over a content that lends words: two tables beside them take 3.2 % of their room.
+/// Rank and selection over a content that lends words; the two tables take 3.2 % of extra space.
 ///
 /// ```
 /// use bitm_proved::{CombinedSampling, Rank, RankSelect101111, Select};
@@ -181,7 +181,7 @@ impl<S: SelectionStrategy, S0: SelectionStrategy, BV: Deref<Target = [u64]>>
 {
     /// An index over the content, and the number of ones. Panics where there are 2^58 words or more.
     ///
-    /// The content has to lend the same words each time, as vectors and slices do; where it does not, an answer may be
+    /// The content has to lend the same words each time, as vectors and slices do; if it does not, an answer may be
     /// wrong or `None`.
     pub fn build(content: BV) -> (Self, usize) {
         let (upper_len, lower_len) = table_lens(content.len());

@@ -17,7 +17,7 @@ pub fn table_lens(words_len: usize) -> (usize, usize) {
     unsafe { (bitm_upper_len(words_len), bitm_lower_len(words_len)) }
 }
 
-/// Writes both tables of the words, and answers the number of ones; `None` where a table is not as long as theirs.
+/// Writes both tables of the words, and answers the number of ones; `None` if a table has another length than theirs.
 pub fn build(words: &[u64], upper: &mut [u64], lower: &mut [u64]) -> Option<u64> {
     let mut ones = 0;
     let status = unsafe {
@@ -153,7 +153,7 @@ impl<'a> Lent<'a> {
     }
 }
 
-/// The sizes of `len` numbers of which the last is `largest`, 0 of no numbers; `None` where there can be none such.
+/// The sizes of `len` numbers of which the last is `largest`, 0 of no numbers; `None` if there is no such sequence.
 pub fn sequence_sizes(len: usize, largest: u64) -> Option<SequenceLens> {
     let mut out = SequenceLens::default();
     (unsafe { bitm_sequence_sizes(len, largest, &mut out) } == OK).then_some(out)
@@ -199,7 +199,7 @@ pub fn build_sequence(
     }
 }
 
-/// The parts are those of no sequence.
+/// The parts are not those of a sequence.
 #[derive(Clone, Copy, PartialEq, Eq, Debug)]
 pub struct WrongParts;
 
@@ -285,7 +285,7 @@ impl<'a> Sequence<'a> {
         Ok(Self::told(status, out)? == Some(1))
     }
 
-    /// The numbers from place `from` on, as many as there are and there is room for; fewer only in parts of no sequence.
+    /// The numbers from place `from` on, as many as there are and there is room for; fewer only if the parts are wrong.
     pub fn items<'b>(&self, from: usize, out: &'b mut [u64]) -> &'b [u64] {
         let mut written = 0;
         let (to, room) = (out.as_mut_ptr(), out.len());

@@ -22,7 +22,7 @@ impl<'a> Lent<'a> {
     /// are the words' own; else they are some numbers.
     ///
     /// `None` exactly where there are fewer than `samples_len` places for samples, or not as many starts as the upper
-    /// table has entries, and nothing is written then. The logarithm is brought to the nearer end of 7 to 31.
+    /// table has entries, and nothing is written then. The logarithm is clamped to 7 to 31.
     ///
     /// # Cost
     /// Each lower entry is read once, and up to two are read again for each sample; of the words at most eight are

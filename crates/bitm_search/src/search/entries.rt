@@ -247,7 +247,7 @@ pub fn last_in_range<const ONE: u8, T: TableSource>(
 /// the words; else some entry of the part: its place in the part, and what it packs.
 ///
 /// # Conditions
-/// There is such a part, and the tables are as long as those of the words. Nothing is asked of what they hold.
+/// There is such a part, and the tables are as long as those of the words. They may hold anything.
 /// # Cost
 /// At most 23 lower entries are read, whatever they hold.
 pub fn last_entry<const ONE: u8, T: TableSource>(

@@ -46,7 +46,7 @@ pub trait FindsEntries<const ONE: u8, T: TableSource> {
     /// some entry.
     ///
     /// # Conditions
-    /// There are fewer than 2^58 words and at least one, and the tables are as long as theirs. There is a rank, and
+    /// There are fewer than 2^58 words and at least one, and the tables have the right lengths. There is a rank, and
     /// there are no more than go side by side.
     fn find(&self, source: &mut T, ranks: &[usize], queries: &mut [Query])
         requires sized { HasSizes (T.lists source.old) }
@@ -136,7 +136,7 @@ pub fn tell_many_on<const ONE: u8, T: TableSource, F: FindsEntries<ONE, T>>(
 /// neither few nor many.
 ///
 /// # Conditions
-/// There are fewer than 2^58 words and at least one, and the tables are as long as theirs. Nothing is asked of what
+/// There are fewer than 2^58 words and at least one, and the tables have the right lengths. Nothing is asked of what
 /// they hold. There are as many `places` as `ranks`.
 /// # Cost
 /// For each rank at most as many upper entries as their number has binary digits and one more, 22 lower entries and

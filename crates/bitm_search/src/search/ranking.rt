@@ -109,7 +109,7 @@ pub fn ones_in_record<T: TableSource>(source: &mut T, first: usize, end: usize) 
 /// entry is not read: the test takes fewer instructions than the read.
 ///
 /// # Conditions
-/// There is such a part. Nothing is asked of what the tables hold.
+/// There is such a part. The tables may hold anything.
 /// # Cost
 /// At most one upper entry is read.
 #[inline(always)]
@@ -167,7 +167,7 @@ pub fn rank_on<T: TableSource>(source: &mut T, index: usize) -> Option<usize>
 /// exactly where there are fewer bits, whatever the tables hold.
 ///
 /// # Conditions
-/// There are fewer than 2^58 words, and the tables are as long as theirs. Nothing is asked of what they hold.
+/// There are fewer than 2^58 words, and the tables have the right lengths. They may hold anything.
 /// # Cost
 /// At most one upper entry, one lower entry and eight words are read: those of the last bit that counts.
 #[inline(always)]

@@ -23,7 +23,7 @@ use crate::source::TableSource;
 /// is the right one, `Absent` is answered exactly where there is none, and `WrongTables` never.
 ///
 /// # Conditions
-/// There are fewer than 2^58 words, and the tables are as long as theirs. Nothing is asked of what they hold.
+/// There are fewer than 2^58 words, and the tables have the right lengths. They may hold anything.
 /// # Cost
 /// At most as many upper entries as their number has binary digits and one more, 23 lower entries and eight words are
 /// read, whatever the tables hold.
@@ -113,7 +113,7 @@ pub fn before_part<const ONE: u8, T: TableSource>(source: &mut T, part: usize) -
 /// part.
 ///
 /// # Conditions
-/// There is a part. Nothing is asked of what the tables hold.
+/// There is a part. The tables may hold anything.
 /// # Cost
 /// At most as many upper entries as their number has binary digits are read, whatever they hold.
 pub fn last_part<const ONE: u8, T: TableSource>(source: &mut T, rank: usize) -> usize
@@ -142,7 +142,7 @@ pub fn last_part<const ONE: u8, T: TableSource>(source: &mut T, rank: usize) -> 
 /// are those of the words; else some part. In wrong tables the difference may wrap: no record has a bit of such a rank.
 ///
 /// # Conditions
-/// There is a part. Nothing is asked of what the tables hold.
+/// There is a part. The tables may hold anything.
 #[inline(always)]
 pub fn part_of_rank<const ONE: u8, T: TableSource>(source: &mut T, rank: usize) -> (usize, usize)
     requires { 0 < length (T.lists source.old).upper }
