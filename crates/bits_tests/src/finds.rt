@@ -32,16 +32,15 @@ fn last_to<B: BitAccess>(bits: &B, start: usize, known: usize) -> Option<usize>
 fn finds_reach_a_fragment_from_both_sides(rt: HostRuntime) {
     let mut array = [0b101u64 << 3, 0];
     let content = array.as_mut_slice();
-    assert_eq!(rt;
+    assert!(rt;
         [
             first_from(&content, 0, 3),
             first_from(&content, 3, 3),
             first_from(&content, 4, 5)
-        ],
-        [Some(3), Some(3), Some(5)]
+        ] == [Some(3), Some(3), Some(5)]
     );
-    assert_eq!(rt; last_to(&content, 127, 3), Some(5));
-    assert_eq!(rt; words::trailing_zero_bits(content), 3);
+    assert!(rt; last_to(&content, 127, 3) == Some(5));
+    assert!(rt; words::trailing_zero_bits(content) == 3);
 }
 
 #[test]
@@ -49,27 +48,21 @@ fn finds_pass_over_words(rt: HostRuntime) {
     let array = [1u64, 4];
     let content = array.as_slice();
     let found = [0, 1, 66, 67, 128, usize::MAX].map(|start| content.find_bit_one(start));
-    assert_eq!(rt; found, [Some(0), Some(66), Some(66), None, None, None]);
+    assert!(rt; found == [Some(0), Some(66), Some(66), None, None, None]);
     let array = [0, 4u64];
     let content = array.as_slice();
-    assert_eq!(rt; content.trailing_zero_bits(), 66);
+    assert!(rt; content.trailing_zero_bits() == 66);
     let array = [0u64, 0];
     let content = array.as_slice();
-    assert_eq!(rt;
-        (content.trailing_zero_bits(), content.find_bit_one(0)),
-        (128, None)
-    );
+    assert!(rt; (content.trailing_zero_bits(), content.find_bit_one(0)) == (128, None));
     let array = [1u64, 0];
     let content = array.as_slice();
-    assert_eq!(rt; last_to(&content, 127, 0), Some(0));
+    assert!(rt; last_to(&content, 127, 0) == Some(0));
 }
 
 #[test]
 fn finds_the_last_in_a_word_and_the_first_in_the_next(rt: HostRuntime) {
     let array = [0b1011_0011u64, 1];
     let content = array.as_slice();
-    assert_eq!(rt;
-        (last_to(&content, 63, 0), first_from(&content, 8, 64)),
-        (Some(7), Some(64))
-    );
+    assert!(rt; (last_to(&content, 63, 0), first_from(&content, 8, 64)) == (Some(7), Some(64)));
 }

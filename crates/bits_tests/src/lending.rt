@@ -91,21 +91,21 @@ fn owners_hold_what_was_written(rt: HostRuntime) {
     let written = [0x4000_0000_0000_0008u64, 1];
     let mut array = [0u64, 0];
     write_array(&mut array);
-    assert_eq!(rt; array, written);
+    assert!(rt; array == written);
     let mut by_words = [0u64, 0];
     write_by_words(&mut by_words);
-    assert_eq!(rt; by_words, written);
+    assert!(rt; by_words == written);
     let mut vector = vec![in rt.alloc(); 0u64, 0].expect(&rt, "memory");
     write_vector(&mut vector);
-    assert_eq!(rt; vector.as_slice(), written.as_slice());
+    assert!(rt; vector.as_slice() == written.as_slice());
     let mut boxed = vec![in rt.alloc(); 0u64, 0]
         .expect(&rt, "memory")
         .into_boxed_slice();
     write_boxed(&mut boxed);
-    assert_eq!(rt; boxed.as_slice(), written.as_slice());
+    assert!(rt; boxed.as_slice() == written.as_slice());
     let mut by_any = vec![in rt.alloc(); 0u64, 0]
         .expect(&rt, "memory")
         .into_boxed_slice();
     write_boxed_by_any(&mut by_any);
-    assert_eq!(rt; by_any.as_slice(), written.as_slice());
+    assert!(rt; by_any.as_slice() == written.as_slice());
 }

@@ -52,7 +52,7 @@ fn vectors_have_the_words_of_their_form(rt: HostRuntime) {
     ];
     for (form, words) in rows {
         let vector: Words = made(rt.alloc(), form).expect(&rt, "memory is left");
-        assert_eq!(rt; vector.as_slice(), words);
+        assert!(rt; vector.as_slice() == words);
     }
 }
 
@@ -60,11 +60,11 @@ fn vectors_have_the_words_of_their_form(rt: HostRuntime) {
 fn vectors_are_read_and_written(rt: HostRuntime) {
     let mut zeros = Words::with_zeroed_bits(rt.alloc(), 2048).expect(&rt, "memory is left");
     words::set_bit(zeros.as_mut_slice(), 100);
-    assert_eq!(rt; zeros.as_slice().get_bits(99, 5), 0b00010);
+    assert!(rt; zeros.as_slice().get_bits(99, 5) == 0b00010);
     let filled = Words::with_filled_bits(rt.alloc(), 65).expect(&rt, "memory is left");
-    assert_eq!(rt; filled.as_slice().count_bit_ones(), 128);
+    assert!(rt; filled.as_slice().count_bit_ones() == 128);
     let fragments = Words::with_bitwords(rt.alloc(), 5, 3, 22).expect(&rt, "memory is left");
-    assert_eq!(rt; fragments.as_slice().get_bits(63, 3), 5);
+    assert!(rt; fragments.as_slice().get_bits(63, 3) == 5);
 }
 
 #[test]
@@ -84,12 +84,12 @@ fn sizes_are_those_of_the_items(rt: HostRuntime) {
     let words = BoxedSlice::from_slice(alloc, &[1u64, 2, 3]).expect(&rt, "memory is left");
     let places = BoxedSlice::from_slice(alloc, &[1usize, 2]).expect(&rt, "memory is left");
     let halves = BoxedSlice::from_slice(alloc, &[1u32, 2, 3]).expect(&rt, "memory is left");
-    assert_eq!(rt; size(&words), (24, true));
-    assert_eq!(rt; size(&places), (16, true));
-    assert_eq!(rt; size(&halves), (12, true));
-    assert_eq!(rt; size(&words.as_slice()), (0, false));
-    assert_eq!(rt; size(&()), (0, false));
-    assert_eq!(rt; size(&7u8), (0, false));
+    assert!(rt; size(&words) == (24, true));
+    assert!(rt; size(&places) == (16, true));
+    assert!(rt; size(&halves) == (12, true));
+    assert!(rt; size(&words.as_slice()) == (0, false));
+    assert!(rt; size(&()) == (0, false));
+    assert!(rt; size(&7u8) == (0, false));
 }
 
 /// A copy by the bound alone.
@@ -102,8 +102,8 @@ fn copies_have_the_same_words(rt: HostRuntime) {
     let words = BoxedSlice::from_slice(rt.alloc(), &[13u64, 6]).expect(&rt, "memory is left");
     let copy = copied(rt.alloc(), &words).expect(&rt, "memory is left");
     let lent = copied(rt.alloc(), &words.as_slice()).expect(&rt, "no memory is taken");
-    assert_eq!(rt; copy.as_slice(), [13, 6].as_slice());
-    assert_eq!(rt; lent, [13, 6].as_slice());
+    assert!(rt; copy.as_slice() == [13, 6].as_slice());
+    assert!(rt; lent == [13, 6].as_slice());
 }
 
 #[test]

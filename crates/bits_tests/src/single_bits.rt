@@ -9,22 +9,22 @@ fn ceiling_div_rounds_up(rt: HostRuntime) {
     for (n, quotient) in [(7, 4), (8, 4), (9, 5)] {
         assert_eq!(rt; ceiling_div(n, 2), quotient, "at {n}");
     }
-    assert_eq!(rt; ceiling_div(10, 3), 4);
+    assert!(rt; ceiling_div(10, 3) == 4);
 }
 
 #[test]
 fn ceiling_div_is_exact_to_the_end_of_the_type(rt: HostRuntime) {
-    assert_eq!(rt; ceiling_div(usize::MAX, 2), 9223372036854775808);
-    assert_eq!(rt; ceiling_div(usize::MAX, usize::MAX), 1);
-    assert_eq!(rt; ceiling_div(0, 5), 0);
+    assert!(rt; ceiling_div(usize::MAX, 2) == 9223372036854775808);
+    assert!(rt; ceiling_div(usize::MAX, usize::MAX) == 1);
+    assert!(rt; ceiling_div(0, 5) == 0);
 }
 
 #[test]
 fn n_lowest_bits_are_so_many_ones_at_the_bottom(rt: HostRuntime) {
-    assert_eq!(rt; n_lowest_bits(63), u64::MAX >> 1);
-    assert_eq!(rt; n_lowest_bits(3), 7);
-    assert_eq!(rt; n_lowest_bits(1), 1);
-    assert_eq!(rt; n_lowest_bits(0), 0);
+    assert!(rt; n_lowest_bits(63) == u64::MAX >> 1);
+    assert!(rt; n_lowest_bits(3) == 7);
+    assert!(rt; n_lowest_bits(1) == 1);
+    assert!(rt; n_lowest_bits(0) == 0);
 }
 
 /// What `try_get_bit` answers at the places, for any value that lends words.
@@ -50,27 +50,18 @@ fn bits_are_set_cleared_negated_and_counted(rt: HostRuntime) {
     let mut content = array.as_mut_slice();
     let near = [72, 73, 74, 127];
     let cleared = [Some(true), Some(false), Some(true), Some(true)];
-    assert_eq!(rt;
-        (content.count_bit_ones(), content.count_bit_zeros()),
-        (128, 0)
-    );
-    assert_eq!(rt;
-        tried(&content, [3, 73, 127, 128]),
-        [Some(true), Some(true), Some(true), None]
-    );
-    assert_eq!(rt; counts_while_clear(&mut content, 73), (127, 1));
+    assert!(rt; (content.count_bit_ones(), content.count_bit_zeros()) == (128, 0));
+    assert!(rt; tried(&content, [3, 73, 127, 128]) == [Some(true), Some(true), Some(true), None]);
+    assert!(rt; counts_while_clear(&mut content, 73) == (127, 1));
     content.clear_bit(73);
-    assert_eq!(rt; tried(&content, near), cleared);
+    assert!(rt; tried(&content, near) == cleared);
     content.set_bit(73);
     assert!(rt; content.get_bit(73));
     content.clear_bit_unchecked(73);
-    assert_eq!(rt; tried(&content, near), cleared);
+    assert!(rt; tried(&content, near) == cleared);
     content.set_bit_to(73, true);
     assert!(rt; content.get_bit_unchecked(73));
-    assert_eq!(rt; &*content, [u64::MAX; 2].as_slice());
+    assert!(rt; &*content == [u64::MAX; 2].as_slice());
     content.xor_bits(72, 3, 3);
-    assert_eq!(rt;
-        tried(&content, near),
-        [Some(false), Some(false), Some(true), Some(true)]
-    );
+    assert!(rt; tried(&content, near) == [Some(false), Some(false), Some(true), Some(true)]);
 }

@@ -12,8 +12,8 @@ fn each_write_stands_behind_the_last(rt: HostRuntime) {
     let mut index = 1;
     content.set_successive_fragment(&mut index, 0b101, 3);
     content.xor_successive_fragment(&mut index, 0b11, 3);
-    assert_eq!(rt; (place, index), (67, 3));
-    assert_eq!(rt; &*content, [0x6000_0000_0000_00E8u64, 0b111].as_slice());
+    assert!(rt; (place, index) == (67, 3));
+    assert!(rt; &*content == [0x6000_0000_0000_00E8u64, 0b111].as_slice());
 }
 
 #[test]
@@ -21,13 +21,13 @@ fn each_read_stands_behind_the_last(rt: HostRuntime) {
     let array = [0x6000_0000_0000_00E8u64, 0b1011];
     let content = array.as_slice();
     let mut place = 61;
-    assert_eq!(rt; content.get_successive_bit(&mut place), true);
-    assert_eq!(rt; content.get_successive_bits(&mut place, 5), 0b01101);
-    assert_eq!(rt; content.get_successive_bit(&mut place), true);
+    assert!(rt; content.get_successive_bit(&mut place) == true);
+    assert!(rt; content.get_successive_bits(&mut place, 5) == 0b01101);
+    assert!(rt; content.get_successive_bit(&mut place) == true);
     let mut index = 1;
-    assert_eq!(rt; content.get_successive_fragment(&mut index, 3), 0b101);
-    assert_eq!(rt; content.get_successive_fragment(&mut index, 3), 0b11);
-    assert_eq!(rt; (place, index), (68, 3));
+    assert!(rt; content.get_successive_fragment(&mut index, 3) == 0b101);
+    assert!(rt; content.get_successive_fragment(&mut index, 3) == 0b11);
+    assert!(rt; (place, index) == (68, 3));
 }
 
 #[test]
@@ -36,8 +36,8 @@ fn a_number_is_begun_and_the_next_begin_is_left(rt: HostRuntime) {
     let mut content = array.as_mut_slice();
     let mut place = 62;
     content.init_successive_bits(&mut place, 0b101, 3);
-    assert_eq!(rt; place, 65);
-    assert_eq!(rt; &*content, [1u64 << 62, 1].as_slice());
+    assert!(rt; place == 65);
+    assert!(rt; &*content == [1u64 << 62, 1].as_slice());
 }
 
 #[test]
@@ -46,8 +46,8 @@ fn a_fragment_is_begun_and_the_next_index_is_left(rt: HostRuntime) {
     let mut content = array.as_mut_slice();
     let mut index = 21;
     content.init_successive_fragment(&mut index, 0b101, 3);
-    assert_eq!(rt; index, 22);
-    assert_eq!(rt; &*content, [1u64 << 63, 0b10].as_slice());
+    assert!(rt; index == 22);
+    assert!(rt; &*content == [1u64 << 63, 0b10].as_slice());
 }
 
 #[test]
@@ -56,6 +56,6 @@ fn a_bit_is_begun_and_the_next_place_is_left(rt: HostRuntime) {
     let mut content = array.as_mut_slice();
     let mut place = 63;
     content.init_successive_bit(&mut place, true);
-    assert_eq!(rt; place, 64);
-    assert_eq!(rt; &*content, [1u64 << 63, 0].as_slice());
+    assert!(rt; place == 64);
+    assert!(rt; &*content == [1u64 << 63, 0].as_slice());
 }
