@@ -1,5 +1,6 @@
 """Monotone sequences of numbers (Elias-Fano)."""
 import ctypes
+import operator
 from typing import Any, Iterator, Optional
 
 from ._bits import calls
@@ -90,7 +91,7 @@ class EliasFano(Lending):
         if isinstance(place, slice):
             places = range(*place.indices(length))
             return list(self._items(places.start, len(places))) if places.step == 1 else self.get_list(places)
-        at = place.__index__()
+        at = operator.index(place)
         at += length if at < 0 else 0
         if not 0 <= at < length:
             raise IndexError(f"place {place} of {length} numbers")
@@ -124,7 +125,9 @@ class EliasFano(Lending):
             yield from self._items(start, min(4096, length - start))
 
     def __contains__(self, value: Any) -> bool:
-        if not isinstance(value, int) or not 0 <= value < 2**64:
+        if isinstance(value, float) and value.is_integer():
+            value = int(value)
+        if not hasattr(value, "__index__") or not 0 <= operator.index(value) < 2**64:
             return False
         return self._ask(calls.bitm_sequence_contains, value, "the value") == 1
 
