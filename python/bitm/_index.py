@@ -5,7 +5,7 @@ import operator
 from typing import Any, Iterator, Optional, Tuple, Union
 
 from ._bits import BitVector, calls
-from ._buffers import Lent, WrongTables, apart, as_asked, number, words_of, zeros
+from ._buffers import Lent, WrongTables, apart, as_asked, number, numbers_of, words_of, zeros
 from ._lending import Lending
 from ._library import BAD_SIZE, NO_ANSWER, OK, U64, WRONG, BitsView, Samples, Stored, View
 from ._stored import Path, items, write
@@ -40,7 +40,7 @@ class Index(Lending):
     [1, 3, None]
     """
 
-    __slots__ = ("_len", "_ones", "_samples")
+    __slots__ = ("_is_cut", "_len", "_ones", "_samples")
 
     def __init__(self, bits: Any, length: Optional[int] = None, *, sample_log2: Optional[int] = None) -> None:
         """Makes the tables of the bits; with `sample_log2`, samples for one of each 2^sample_log2 ones and zeros too,
@@ -78,6 +78,7 @@ class Index(Lending):
         self._len = length
         self._samples: Tuple[Optional[Tuple[Any, ...]], ...] = (None, None)  # of zeros, of ones
         lent = Lent(words), Lent(upper), Lent(lower)
+        self._is_cut = length < 64 * lent[0].len
         bits = BitsView(View(*(part for it in lent for part in it.part)), length)
         out = U64()
         status = calls.bitm_bits_rank(bits, length, ctypes.byref(out))
@@ -245,8 +246,9 @@ class Index(Lending):
     def rank_list(self, places: Any) -> Any:
         """Ranks of many places, in one call: an array of NumPy's for one of uint64, else a list. IndexError where one
         of them is past the end."""
-        found = self._ask_list(lambda bits, *rest: calls.bitm_rank_list(bits.view, *rest), places)
-        if NO_ANSWER in found or (self._len % 64 and max(places, default=0) > self._len):
+        asked = numbers_of(places)
+        found = self._ask_list(lambda bits, *rest: calls.bitm_rank_list(bits.view, *rest), asked)
+        if NO_ANSWER in found or (self._is_cut and max(memoryview(asked), default=0) > self._len):
             raise IndexError(f"a place is past the end of {self._len} bits")
         return as_asked(found, (), places)
 
@@ -258,7 +260,7 @@ class Index(Lending):
         else:
             call, by = calls.bitm_sampled_select_list if kind else calls.bitm_sampled_select0_list, kept[0]
             found = self._ask_list(lambda bits, *rest: call(bits.view, by, *rest), ranks)
-        past = {it for it in found if it >= self._len} if self._len % 64 or NO_ANSWER in found else ()
+        past = {it for it in found if it >= self._len} if self._is_cut or NO_ANSWER in found else ()
         return as_asked(found, past, ranks)
 
     def select_list(self, ranks: Any) -> Any:

@@ -100,14 +100,16 @@ class EliasFano(Lending):
     def get_list(self, places: Any) -> Any:
         """The numbers at many places, in one call: an array of NumPy's for one of uint64, else a list. IndexError
         where a place is past the end."""
-        (view, _held), asked, written = self._open(), Lent(numbers_of(places)), U64()
+        (view, _held), wanted, written = self._open(), numbers_of(places), U64()
+        asked = Lent(wanted)
         found = zeros(asked.len)
         room = Lent(found, True)
         calls.bitm_sequence_get_list(ctypes.byref(view), *asked.part, *room.part, ctypes.byref(written))
         if written.value < asked.len:
-            if number(places[written.value]) < view.len:
+            place = memoryview(wanted)[written.value]
+            if place < view.len:
                 raise WrongTables("the parts are those of no sequence")
-            raise IndexError(f"place {places[written.value]} of {view.len} numbers")
+            raise IndexError(f"place {place} of {view.len} numbers")
         return as_asked(found, (), places)
 
     def _items(self, start: int, count: int) -> Any:

@@ -178,7 +178,7 @@ class RandomCalls(unittest.TestCase):
         while calls < 100_000:
             words = array.array("Q", (random.getrandbits(64) for _ in range(random.randrange(1, 90))))
             whole = [words[i // 64] >> i % 64 & 1 for i in range(64 * len(words))]
-            count = random.randrange(len(whole) + 1)
+            count = random.choice([random.randrange(len(whole) + 1), 64 * random.randrange(len(words) + 1)])
             plain, index = Plain(whole[:count]), Index(words, count, sample_log2=random.choice([None, 7]))
             self.assertEqual((len(index), index.count(), index.count(0)), (count, *map(len, plain.places[::-1])))
             self.assertEqual((list(index), index.check()), ([bool(it) for it in plain.bits], True))
@@ -193,7 +193,7 @@ class RandomCalls(unittest.TestCase):
             self.assertEqual(index.rank_list(asked[:-1]), [plain.rank(1, i) for i in asked[:-1]])
             self.assertEqual(index.select_list(asked), [plain.select(1, i) for i in asked])
             self.assertEqual(index.select0_list(asked), [plain.select(0, i) for i in asked])
-            for call in (index.rank, index.rank0):
+            for call in (index.rank, index.rank0, lambda it: index.rank_list([0, it]), lambda it: index.rank_list(iter([it]))):
                 self.assertRaises(IndexError, call, count + 1)
 
     def test_100_000_calls_of_a_sequence_answer_as_a_list_does(self):
@@ -343,6 +343,24 @@ class Habits(unittest.TestCase):
         self.assertTrue((sequence.get_list(numpy.arange(500, dtype=numpy.uint64)) == numbers).all())
         past = sequence.first_at_least_list(numpy.array([0, 2**61], dtype=numpy.uint64))
         self.assertEqual(past.mask.tolist(), [False, True])
+
+    @unittest.skipIf(numpy is None, "NumPy is not here")
+    def test_lists_of_numpy_answer_as_lists_do(self):
+        draw = numpy.random.default_rng(9)
+        for count in (0, 1, 640, 1000):
+            for log2 in (None, 7):
+                plain = Plain(drawn_bits(count, 0.4))
+                index = Index(numpy.frombuffer(words_of(plain.bits + [1] * 70), dtype=numpy.uint64), count, sample_log2=log2)
+                for kind in (numpy.uint64, numpy.int64):
+                    asked = draw.integers(0, count + 1, 500).astype(kind)
+                    self.assertEqual(index.rank_list(asked).tolist(), [plain.rank(1, int(it)) for it in asked])
+                    for call, bit in ((index.select_list, 1), (index.select0_list, 0)):
+                        told = call(asked)
+                        self.assertIsInstance(told, numpy.ma.MaskedArray)
+                        self.assertEqual(told.tolist(), [plain.select(bit, int(it)) for it in asked])
+                    self.assertRaises(IndexError, index.rank_list, numpy.array([count + 1], dtype=kind))
+                    self.assertRaises(IndexError, EliasFano([1]).get_list, numpy.array([1], dtype=kind))
+        self.assertTrue(numpy.uint64(7) in EliasFano([3, 7]))
 
 
 if __name__ == "__main__":
