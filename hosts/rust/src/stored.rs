@@ -52,7 +52,10 @@ pub fn bytes_of(words: &[u64]) -> &[u8] {
 
 /// The whole words of bytes that begin at a multiple of 8.
 fn words_of(bytes: &[u8]) -> Result<&[u64], StoredError> {
-    if bytes.as_ptr() as usize % 8 != 0 {
+    if bytes.is_empty() {
+        return Ok(&[]);
+    }
+    if !bytes.as_ptr().cast::<u64>().is_aligned() {
         return Err(StoredError::Misaligned);
     }
     // Aligned, inside the bytes, and any eight bytes are a number.

@@ -183,6 +183,10 @@ fn headers_that_lie_and_bytes_that_are_cut_or_begin_elsewhere_are_refused() {
             Some(StoredError::NotWhole)
         );
     }
+    assert_eq!(
+        StoredIndex::from_bytes(&[]).err(),
+        Some(StoredError::NotWhole)
+    );
     let mut moved = vec![0; 8 * good.len() + 16];
     let begin = moved.as_ptr().align_offset(8);
     for by in 0..8 {
@@ -252,8 +256,8 @@ fn samples_are_checked_and_stored_where_they_are_those_of_the_words() {
     for wrong in [of(&samples, &[]), of(&long, &starts)] {
         assert_eq!(stored(wrong).to_words(), Err(StoredError::WrongLength));
     }
-    let zeros = vec![0u64; 4];
-    let none = Sequence::over(3, 0, &[], &zeros[..1], &zeros[..1], &zeros[..1]).expect("fits");
+    let zeros = [0u64];
+    let none = Sequence::over(3, 0, &[], &zeros, &zeros, &zeros).expect("fits");
     assert_eq!(
         (none.check(), none.contains(0), none.get(1)),
         (false, Err(WrongParts), Err(WrongParts))
