@@ -56,7 +56,7 @@ public:
     {
         std::uint64_t out;
         if (bitm_bits_rank(&over_, 0, &out) == BITM_BAD_SIZE)
-            throw std::invalid_argument("bitm: the tables are not as long as those of the words, or there are fewer bits");
+            throw std::invalid_argument("bitm: the tables are not those of so many words, or there are fewer bits");
     }
 
     std::uint64_t size() const noexcept { return over_.bits_len; }
@@ -79,8 +79,8 @@ public:
         return (*this)[at];
     }
 
-    // How many of the first `index` bits are ones, or zeros: at most `index`, also of wrong tables that are not noticed.
-    // std::out_of_range where there are fewer bits.
+    // How many of the first `index` bits are ones, or zeros: at most `index`, also of wrong tables that are not
+    // noticed. std::out_of_range where there are fewer bits.
     std::uint64_t rank(std::uint64_t index) const { return counted(bitm_bits_rank, index); }
     std::uint64_t rank0(std::uint64_t index) const { return counted(bitm_bits_rank0, index); }
 

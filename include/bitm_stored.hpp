@@ -106,8 +106,8 @@ template <class Stored> std::ostream &save(std::ostream &out, const Stored &what
     return out.write(reinterpret_cast<const char *>(file.data()), static_cast<std::streamsize>(8 * file.size()));
 }
 
-// The index, or sequence, in the words of a file, which it asks where they lie: they have to stay as long as it is used.
-// wrong_file where they are none. What the parts hold is not looked at: `check` does.
+// The index, or sequence, in the words of a file, which it asks where they lie: they have to stay as long as it is
+// used. wrong_file where they are none. What the parts hold is not looked at: `check` does.
 inline index_view index_in(const_words_span file)
 {
     const bitm_stored header = detail::header_of(file, BITM_STORED_INDEX);

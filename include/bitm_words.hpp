@@ -107,11 +107,18 @@ inline std::uint64_t count(const_words_span in, std::uint64_t from, std::uint64_
     return *found;
 }
 
-// The first one, or zero, at a place or after it; the last one at it or before, empty also where there is no such place.
+// The first one, or zero, at a place or after it; the last one at it or before, empty also where there is no such
+// place.
 inline place next_one(const_words_span in, std::uint64_t from) { return detail::nearest(bitm_next_one, in, from); }
 inline place next_zero(const_words_span in, std::uint64_t from) { return detail::nearest(bitm_next_zero, in, from); }
-inline place previous_one(const_words_span in, std::uint64_t from) { return detail::nearest(bitm_previous_one, in, from); }
-inline place previous_zero(const_words_span in, std::uint64_t from) { return detail::nearest(bitm_previous_zero, in, from); }
+inline place previous_one(const_words_span in, std::uint64_t from)
+{
+    return detail::nearest(bitm_previous_one, in, from);
+}
+inline place previous_zero(const_words_span in, std::uint64_t from)
+{
+    return detail::nearest(bitm_previous_zero, in, from);
+}
 
 // Makes the bits from a place on and before another equal to a value, or negates them; std::out_of_range, and nothing
 // is written, as of `count`.

@@ -97,13 +97,15 @@ class Arguments(unittest.TestCase):
                 bitm.build(whole[:33], whole[first - 1 : first], whole[34:36])
             with self.assertRaises(ValueError):
                 bitm.build(whole[:33], whole[35:36], whole[first : first + 2] if first == 32 else whole[34:36])
-        self.assertEqual(bitm.build(whole[:33], whole[33:34], whole[34:36]), sum(bin(it).count("1") for it in range(33)))
+        ones = sum(bin(it).count("1") for it in range(33))
+        self.assertEqual(bitm.build(whole[:33], whole[33:34], whole[34:36]), ones)
 
     def test_buffers_that_cannot_be_written_or_are_not_aligned_are_refused(self):
         with self.assertRaises(TypeError):
             bitm.build(self.words, memoryview(bytes(8)).cast("Q"), array.array("Q", [0]))
         off, good = memoryview(bytearray(17))[1:].cast("Q"), array.array("Q", [0, 0])
-        calls = [lambda: EliasFano(off), lambda: Index(off), lambda: BitVector.from_words(off), lambda: bitm.tables_of(off)]
+        calls = [lambda: EliasFano(off), lambda: Index(off), lambda: BitVector.from_words(off)]
+        calls += [lambda: bitm.tables_of(off)]
         calls += [lambda: bitm.build(good, off[:1], good[:1]), lambda: bitm.build(good, good[:1], off[:1])]
         calls += [lambda: Index.over(good, off[:1], good[:1]), lambda: self.index.rank_list(off)]
         calls += [lambda: self.index.select_list(off), lambda: self.sequence.get_list(off)]
@@ -160,7 +162,8 @@ class Arguments(unittest.TestCase):
         calls = [lambda: index.rank(0), lambda: index.select(0), index.check, lambda: index.rank_list([0]), index.count]
         calls += [lambda: index[0], lambda: sequence[0], lambda: sequence.first_at_least(1), sequence.check]
         calls += [lambda: len(sequence), lambda: sequence.get_list([0]), index.__enter__, sequence.__enter__]
-        calls += [lambda: index.rank0(0), lambda: index.select0(0), lambda: index.next_one(0), lambda: index.next_zero(0)]
+        calls += [lambda: index.rank0(0), lambda: index.select0(0), lambda: index.next_one(0)]
+        calls += [lambda: index.next_zero(0)]
         calls += [lambda: index.previous_one(0), lambda: index.previous_zero(0), lambda: index.select_list([0])]
         calls += [lambda: index.select0_list([0]), lambda: list(index), lambda: 1 in index, lambda: index[1:3]]
         calls += [lambda: index == Index(BitVector(128)), lambda: index.save(os.devnull)]

@@ -193,8 +193,10 @@ class RandomCalls(unittest.TestCase):
             self.assertEqual(index.rank_list(asked[:-1]), [plain.rank(1, i) for i in asked[:-1]])
             self.assertEqual(index.select_list(asked), [plain.select(1, i) for i in asked])
             self.assertEqual(index.select0_list(asked), [plain.select(0, i) for i in asked])
-            for call in (index.rank, index.rank0, lambda it: index.rank_list([0, it]), lambda it: index.rank_list(iter([it]))):
+            for call in (index.rank, index.rank0):
                 self.assertRaises(IndexError, call, count + 1)
+            for places in ([0, count + 1], iter([count + 1])):
+                self.assertRaises(IndexError, index.rank_list, places)
 
     def test_100_000_calls_of_a_sequence_answer_as_a_list_does(self):
         calls = 0
@@ -284,7 +286,8 @@ class Habits(unittest.TestCase):
 
     def test_an_index_is_cut_compared_searched_and_shown(self):
         index = Index(BitVector.from_bits("0101101"))
-        self.assertEqual((index[1], index[-2], index[2:5], index[::-1]), (True, False, *map(BitVector.from_bits, ("011", "1011010"))))
+        self.assertEqual((index[1], index[-2]), (True, False))
+        self.assertEqual((index[2:5], index[::-1]), (BitVector.from_bits("011"), BitVector.from_bits("1011010")))
         self.assertEqual((1 in index, 0 in index, 2 in index, 1 in Index(BitVector(5))), (True, True, False, False))
         self.assertEqual((repr(index), len(index), [*index][:2]), ("<Index of 7 bits, 4 ones>", 7, [False, True]))
         self.assertEqual(index, Index(bytes([0b11011010]), 7))
@@ -302,7 +305,7 @@ class Habits(unittest.TestCase):
         for cut in (slice(None), slice(2, 5), slice(-3, None), slice(None, None, -1), slice(6, 1, -2), slice(5, 2)):
             self.assertEqual(list(sequence[cut]), items[cut])
         self.assertEqual((len(sequence), [*sequence], sequence[-1], [*reversed(sequence)]), (8, items, 17, items[::-1]))
-        self.assertEqual([it in sequence for it in (13, 4, 7.0, 7.5, -1, 2**64, "7", None)], [True, False, True] + [False] * 5)
+        self.assertEqual([it in sequence for it in (13, 7.0, 4, 7.5, -1, 2**64, "7", None)], [True] * 2 + [False] * 6)
         self.assertEqual(sequence, EliasFano(items))
         self.assertNotEqual(sequence, EliasFano(items[:-1]))
         self.assertNotEqual(sequence, items)
@@ -350,7 +353,8 @@ class Habits(unittest.TestCase):
         for count in (0, 1, 640, 1000):
             for log2 in (None, 7):
                 plain = Plain(drawn_bits(count, 0.4))
-                index = Index(numpy.frombuffer(words_of(plain.bits + [1] * 70), dtype=numpy.uint64), count, sample_log2=log2)
+                words = numpy.frombuffer(words_of(plain.bits + [1] * 70), dtype=numpy.uint64)
+                index = Index(words, count, sample_log2=log2)
                 for kind in (numpy.uint64, numpy.int64):
                     asked = draw.integers(0, count + 1, 500).astype(kind)
                     self.assertEqual(index.rank_list(asked).tolist(), [plain.rank(1, int(it)) for it in asked])

@@ -1,5 +1,5 @@
-//! Contents that end inside a word, samples and files, against plain lists; headers and parts that are spoilt, and bytes
-//! that are cut or begin elsewhere.
+//! Contents that end inside a word, samples and files, against plain lists; headers and parts that are spoilt, and
+//! bytes that are cut or begin elsewhere.
 use bitm_proved::lent::{build, table_lens, Lent, LentSamples, Sequence, WrongParts, WrongTables};
 use bitm_proved::stored::{bytes_of, StoredError, StoredIndex};
 use bitm_proved::{
