@@ -4,7 +4,7 @@ use bitm_proved::lent::{build, table_lens, Lent, LentSamples, Sequence, WrongPar
 use bitm_proved::stored::{bytes_of, StoredError, StoredIndex};
 use bitm_proved::{
     ArrayWithRank101111, BinaryRankSearch, CombinedSampling, ConstCombinedSamplingDensity,
-    EliasFano, RankSelect101111, SelectionStrategy,
+    EliasFano, Rank, RankSelect101111, Select, Select0, SelectionStrategy,
 };
 
 fn drawn(seed: &mut u64) -> u64 {
@@ -25,7 +25,7 @@ fn content(count: usize, seed: &mut u64) -> (Vec<bool>, Vec<u64>) {
     ((0..count).map(bit).collect(), words)
 }
 
-/// 4,000 calls; answers how many.
+/// 6,400 calls; answers how many.
 fn as_a_list(index: &StoredIndex<'_>, plain: &[bool], seed: &mut u64) -> usize {
     is_shared(index);
     let places = |kind| {
@@ -47,8 +47,12 @@ fn as_a_list(index: &StoredIndex<'_>, plain: &[bool], seed: &mut u64) -> usize {
         assert_eq!(index.select(i), Ok(ones.get(i).copied()));
         assert_eq!(index.select0(i), Ok(zeros.get(i).copied()));
         assert_eq!(index.bits().get(i), plain.get(i).copied());
+        let (one, zero) = (ones.get(i), zeros.get(i));
+        assert_eq!(index.try_rank(i), inside.then_some(before as usize));
+        assert_eq!(index.try_select(i), one.map(|it| *it as usize));
+        assert_eq!(index.try_select0(i), zero.map(|it| *it as usize));
     }
-    4000
+    6400
 }
 
 fn comes_back<S: SelectionStrategy, S0: SelectionStrategy>(kinds: (bool, bool), seed: &mut u64) {
@@ -66,10 +70,10 @@ fn comes_back<S: SelectionStrategy, S0: SelectionStrategy>(kinds: (bool, bool), 
             kinds
         );
         assert!(read.check());
-        assert_eq!(as_a_list(&read, &plain, seed), 4000);
+        assert_eq!(as_a_list(&read, &plain, seed), 6400);
         assert_eq!(read.to_words(), Ok(file.clone()));
         let again = StoredIndex::from_bytes(bytes_of(&file)).expect("words are aligned");
-        assert_eq!(as_a_list(&again, &plain, seed), 4000);
+        assert_eq!(as_a_list(&again, &plain, seed), 6400);
         assert_eq!(
             Sequence::from_words(&file).err(),
             Some(StoredError::OtherKind)
