@@ -5,7 +5,8 @@ TO = $(DESTDIR)$(PREFIX)
 SHARED = libbitm_c.so.$(VERSION)
 SONAME = libbitm_c.so.0
 # What `make install` lays below PREFIX, and `make uninstall` takes away.
-LAID = include/bitm.h include/bitm.hpp lib/libbitm_c.a lib/$(SHARED) lib/$(SONAME) lib/libbitm_c.so \
+HEADERS = include/bitm.h include/bitm.hpp include/bitm_words.hpp include/bitm_sequence.hpp include/bitm_stored.hpp
+LAID = $(HEADERS) lib/libbitm_c.a lib/$(SHARED) lib/$(SONAME) lib/libbitm_c.so \
     lib/pkgconfig/bitm.pc lib/cmake/bitm/bitm-config.cmake lib/cmake/bitm/bitm-config-version.cmake
 check:
 	rt all check
@@ -20,7 +21,7 @@ archive:
 install:
 	test -f $(ARCHIVE)
 	mkdir -p $(TO)/include $(TO)/lib/pkgconfig $(TO)/lib/cmake/bitm
-	install -m 644 include/bitm.h include/bitm.hpp $(TO)/include
+	install -m 644 $(HEADERS) $(TO)/include
 	install -m 644 $(ARCHIVE) $(TO)/lib/libbitm_c.a
 	$(CC) -shared -nostdlib -o $(TO)/lib/$(SHARED) -Wl,-soname,$(SONAME) -Wl,--whole-archive $(ARCHIVE) -Wl,--no-whole-archive
 	ln -sf $(SHARED) $(TO)/lib/$(SONAME)

@@ -38,6 +38,28 @@ static void ask_a_list(const struct bitm_view *view, list_query *list, bool rank
     }
 }
 
+/* The same words, of which so many bits count: answers lie before the length. */
+static unsigned long ask_cut(const struct bitm_view *view, bool right, unsigned char *mine)
+{
+    const struct bitm_bits_view bits = {*view, draw() % (64 * view->words_len + 1)};
+    for (unsigned turn = 0; turn < 10; turn++) {
+        const size_t query = draw() % 4 ? draw() % (bits.bits_len + 3) : draw();
+        for (unsigned kind = 0; kind < 4; kind++) {
+            uint64_t out = UNTOUCHED;
+            const uint32_t status = (kind == 0   ? bitm_bits_rank
+                                     : kind == 1 ? bitm_bits_rank0
+                                     : kind == 2 ? bitm_bits_select
+                                                 : bitm_bits_select0)(&bits, query, &out);
+            MUST(kind > 1 || (query > bits.bits_len ? status == BITM_NONE : status != BITM_NONE));
+            MUST(!right || status == BITM_OK || status == BITM_NONE);
+            if (!answered(status, out)) continue;
+            MUST(kind < 2 ? out <= query : out < bits.bits_len && bit_of(view->words, out) == !(kind & 1));
+            mine[out] = 1;
+        }
+    }
+    return 40;
+}
+
 /* Asks an index over random words, whose tables are right or random; an answer indexes an array of the caller's. */
 static unsigned long ask_an_index(void)
 {
@@ -58,6 +80,9 @@ static unsigned long ask_an_index(void)
     if (draw() % 2)
         MUST(bitm_build_samples(&view, log2, samples, room, starts, uppers, &used) == BITM_OK && used <= room);
     const struct bitm_samples by = {samples, used, starts, uppers, log2};
+    struct bitm_stored stored;
+    MUST(bitm_check_samples(&view, &by) != BITM_BAD_SIZE && bitm_check_samples0(&view, &by) != BITM_BAD_SIZE);
+    MUST(bitm_read_stored(words, n, &stored) == BITM_WRONG);
 
     unsigned char *mine = ends_at_the_guard(&low_of, bits + 1); /* one byte for each place, and the end */
     for (unsigned turn = 0; turn < 40; turn++) {
@@ -108,7 +133,7 @@ static unsigned long ask_an_index(void)
         if (out[i] < BITM_WRONG_TABLES) MUST(out[i] < bits && bit_of(words, out[i]));
     uint64_t written = UNTOUCHED;
     MUST(bitm_ones(words, n, draw() % (bits + 2), out, asked, &written) == BITM_OK && written <= asked);
-    return 40 * 8 + 8;
+    return 40 * 8 + 11 + ask_cut(&view, right, mine);
 }
 
 /* Asks a sequence whose parts are those of numbers, or random. */

@@ -4,7 +4,8 @@
 #define _GNU_SOURCE
 #include "guard.h"
 
-enum { QUERIES = 10000000, WORDS = 509, LOWERS = 16, BITS = 64 * WORDS, BYTES = 32 + 8 * (WORDS + 1 + LOWERS) };
+enum { QUERIES = 10000000, KINDS = 10 };
+enum { WORDS = 509, LOWERS = 16, BITS = 64 * WORDS, BYTES = 32 + 8 * (WORDS + 1 + LOWERS) };
 
 static unsigned char *mine;
 
@@ -32,19 +33,25 @@ static void write_hostile(uint64_t *at)
 /* One query of each kind, all statuses of the header's. Answers how many were answered. */
 static unsigned ask(const struct bitm_view *view, const struct bitm_samples *by, size_t query)
 {
+    const struct bitm_bits_view bits = {*view, BITS - query % 1000};
     unsigned answered = 0;
-    for (unsigned kind = 0; kind < 6; kind++) {
+    for (unsigned kind = 0; kind < KINDS; kind++) {
         uint64_t out = UNTOUCHED;
         const uint32_t status = kind == 0   ? bitm_rank(view, query, &out)
                                 : kind == 1 ? bitm_rank0(view, query, &out)
                                 : kind == 2 ? bitm_select(view, query, &out)
                                 : kind == 3 ? bitm_select0(view, query, &out)
                                 : kind == 4 ? bitm_sampled_select(view, by, query, &out)
-                                            : bitm_sampled_select0(view, by, query, &out);
+                                : kind == 5 ? bitm_sampled_select0(view, by, query, &out)
+                                : kind == 6 ? bitm_bits_select(&bits, query, &out)
+                                : kind == 7 ? bitm_bits_select0(&bits, query, &out)
+                                : kind == 8 ? bitm_bits_rank(&bits, query, &out)
+                                            : bitm_bits_rank0(&bits, query, &out);
         MUST(status == BITM_OK || ((status == BITM_NONE || status == BITM_WRONG) && out == UNTOUCHED));
         if (status != BITM_OK) continue;
         mine[out]++;
-        MUST(kind < 2 ? out <= query : bit_of(view->words, out) == !(kind & 1));
+        MUST(kind < 6 || (kind < 8 ? out < bits.bits_len : query <= bits.bits_len));
+        MUST(kind < 2 || kind >= 8 ? out <= query : bit_of(view->words, out) == !(kind & 1));
         answered++;
     }
     return answered;
@@ -72,7 +79,7 @@ int main(int argc, char **argv)
         uint64_t start = draw() % 4;
         for (size_t i = 0; i < 40; i++) samples[i] = (uint32_t)(draw() >> draw() % 64);
         const struct bitm_samples by = {samples, 40, &start, 1, 7};
-        for (unsigned turn = 0; turn < 1000; turn++, asked += 6)
+        for (unsigned turn = 0; turn < 1000; turn++, asked += KINDS)
             answered += ask(&view, &by, draw() % 16 ? draw() % (BITS + 2) : draw());
     }
     MUST(answered > asked / 8 && close(file) == 0);

@@ -58,12 +58,17 @@ static void *placed(unsigned block, size_t size)
 /* The bounds of bitm.h: a rank reads one lower entry, a selection 23, and both eight words of one block. */
 static void ask_an_index(const struct bitm_view *view, uint64_t *queries, uint64_t *out, uint64_t *one)
 {
+    const struct bitm_bits_view bits = {*view, (uint64_t)WORDS * 64 - 7};
     for (unsigned turn = 0; turn < 20; turn++) {
-        const size_t index = draw() % ((size_t)WORDS * 64), rank = index / 3;
+        const size_t index = draw() % ((size_t)WORDS * 64 - 7), rank = index / 3;
         TOUCHES(1, 1, 0, bitm_rank(view, index, one));
         TOUCHES(1, 1, 0, bitm_rank0(view, index, one));
         TOUCHES(1, 23, 0, bitm_select(view, rank, one));
         TOUCHES(1, 23, 0, bitm_select0(view, rank, one));
+        TOUCHES(1, 1, 0, bitm_bits_rank(&bits, index, one));
+        TOUCHES(1, 1, 0, bitm_bits_rank0(&bits, index, one));
+        TOUCHES(1, 23, 0, bitm_bits_select(&bits, rank, one));
+        TOUCHES(1, 23, 0, bitm_bits_select0(&bits, rank, one));
         for (size_t i = 0; i < LIST; i++) queries[i] = draw() % ((size_t)WORDS * 16);
         TOUCHES(LIST, LIST, 0, bitm_rank_list(view, queries, LIST, out, LIST));
         TOUCHES(LIST, LIST, 0, bitm_rank0_list(view, queries, LIST, out, LIST));
@@ -91,6 +96,8 @@ static void ask_by_samples(const struct bitm_view *view, bool of_ones, uint64_t 
         for (size_t i = *one; i-- > 0;) kept[i] = samples[i];
     }
     const struct bitm_samples by = {kept, *one, starts, 1, 7};
+    TOUCHES_ANY((of_ones ? bitm_check_samples : bitm_check_samples0)(view, &by));
+    MUST(touched[OF_WORDS] <= 8);
     for (unsigned turn = 0; turn < 20; turn++) {
         const size_t rank = draw() % ((size_t)WORDS * 16);
         TOUCHES(1, 23, 0, (of_ones ? bitm_sampled_select : bitm_sampled_select0)(view, &by, rank, one));
@@ -165,6 +172,21 @@ static void ask_a_sequence(uint64_t *one)
     }
 }
 
+/* A header, of which the first 24 words are read; and those of no samples and of a sequence are written. */
+static void ask_a_file(void)
+{
+    uint64_t *file = placed(OF_WORDS, 8 * WORDS);
+    struct bitm_stored *header = placed(OF_OUT, sizeof *header), *read = placed(OF_LOW, sizeof *read);
+    struct bitm_sequence_lens *lens = placed(OF_QUERIES, sizeof *lens);
+    *lens = (struct bitm_sequence_lens){0, 0, 1, 1, 1};
+    TOUCHES_ANY(bitm_stored_sequence(3, lens, header));
+    TOUCHES_ANY(bitm_stored_index(64 * (WORDS / 2), 7, 9, 8, 9, header));
+    MUST(header->words.len == WORDS / 2 && header->size < 8 * (uint64_t)WORDS);
+    *(struct bitm_stored *)(void *)file = *header;
+    TOUCHES(1, 0, 1, bitm_read_stored(file, WORDS, read));
+    MUST(read->size == header->size);
+}
+
 static void ask_everything(void)
 {
     uint64_t *words = placed(OF_WORDS, 8 * WORDS), *upper = placed(OF_UPPER, 8), *lower = placed(OF_LOWER, 8 * LOWERS);
@@ -182,6 +204,7 @@ static void ask_everything(void)
     TOUCHES_ANY(bitm_write_header(WORDS, header));
     TOUCHES_ANY(bitm_read_header(header, one));
     MUST(*one == WORDS);
+    ask_a_file();
 }
 
 int main(int argc, char **argv)

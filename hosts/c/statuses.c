@@ -12,6 +12,7 @@ static struct {
     uint32_t samples[ROOM];
     struct bitm_sequence_lens lens;
     struct bitm_header header;
+    struct bitm_stored stored;
 } written, untouched;
 
 static uint64_t words[WORDS], upper[UPPERS], lower[LOWERS];
@@ -30,7 +31,14 @@ static const uint64_t queries[LIST] = {0, 0, 0, 1, 2}, zeros[LIST] = {0, 0, 0, 0
 static void refused_by_all(const struct bitm_view *view)
 {
     const struct bitm_samples by = {NULL, 0, written.starts, 1, 7};
+    const struct bitm_bits_view bits = {*view, 0};
     LEAVES(BITM_BAD_SIZE, bitm_check(view));
+    LEAVES(BITM_BAD_SIZE, bitm_check_samples(view, &by));
+    LEAVES(BITM_BAD_SIZE, bitm_check_samples0(view, &by));
+    LEAVES(BITM_BAD_SIZE, bitm_bits_rank(&bits, 0, &written.one));
+    LEAVES(BITM_BAD_SIZE, bitm_bits_rank0(&bits, SIZE_MAX, &written.one));
+    LEAVES(BITM_BAD_SIZE, bitm_bits_select(&bits, 0, &written.one));
+    LEAVES(BITM_BAD_SIZE, bitm_bits_select0(&bits, SIZE_MAX, &written.one));
     LEAVES(BITM_BAD_SIZE, bitm_rank(view, 0, &written.one));
     LEAVES(BITM_BAD_SIZE, bitm_rank0(view, SIZE_MAX, &written.one));
     LEAVES(BITM_BAD_SIZE, bitm_select(view, 0, &written.one));
@@ -130,6 +138,68 @@ static void none_of_right_tables(const struct bitm_view *view, uint64_t ones)
     LEAVES(BITM_BAD_SIZE, bitm_sampled_select0_list(view, &by, queries, LIST, written.list, LIST - 1));
 }
 
+/* Bits of right tables, of which so many count: one past the end, and more bits than there are. */
+static void bits_of_right_tables(const struct bitm_view *view)
+{
+    struct bitm_bits_view bits = {*view, 64 * WORDS - 5};
+    uint64_t ones, zeros_of, got;
+    MUST(bitm_bits_rank(&bits, bits.bits_len, &ones) == BITM_OK);
+    MUST(bitm_bits_rank0(&bits, bits.bits_len, &zeros_of) == BITM_OK && ones + zeros_of == bits.bits_len);
+    for (int far = 0; far < 2; far++) {
+        LEAVES(BITM_NONE, bitm_bits_rank(&bits, far ? SIZE_MAX : bits.bits_len + 1, &written.one));
+        LEAVES(BITM_NONE, bitm_bits_rank0(&bits, far ? SIZE_MAX : bits.bits_len + 1, &written.one));
+        LEAVES(BITM_NONE, bitm_bits_select(&bits, far ? SIZE_MAX : ones, &written.one));
+        LEAVES(BITM_NONE, bitm_bits_select0(&bits, far ? SIZE_MAX : zeros_of, &written.one));
+    }
+    MUST(bitm_select(view, ones, &got) == BITM_OK && got >= bits.bits_len);
+    bits.bits_len = 64 * WORDS + 1;
+    LEAVES(BITM_BAD_SIZE, bitm_bits_rank(&bits, 0, &written.one));
+    LEAVES(BITM_BAD_SIZE, bitm_bits_rank0(&bits, 0, &written.one));
+    LEAVES(BITM_BAD_SIZE, bitm_bits_select(&bits, 0, &written.one));
+    LEAVES(BITM_BAD_SIZE, bitm_bits_select0(&bits, 0, &written.one));
+    const uint32_t none[] = {0};
+    const struct bitm_samples by = {none, 1, zeros, 1, 7};
+    LEAVES(BITM_WRONG, bitm_check_samples(view, &by));
+    LEAVES(BITM_WRONG, bitm_check_samples0(view, &by));
+}
+
+/* Headers of files: lengths that none has, and words that are none. */
+static void files(void)
+{
+    const struct bitm_sequence_lens right = {0, 0, 1, 1, 1}, wrong = {64, 0, 1, 1, 1}, low = {1, 0, 1, 1, 1};
+    const uint64_t large = (uint64_t)1 << 56;
+    struct bitm_stored read;
+    LEAVES(BITM_BAD_SIZE, bitm_stored_index(UINT64_MAX - 62, 0, 0, 0, 0, &written.stored));
+    LEAVES(BITM_BAD_SIZE, bitm_stored_index(640, 6, 0, 0, 0, &written.stored));
+    LEAVES(BITM_BAD_SIZE, bitm_stored_index(640, 0, 0, 32, 0, &written.stored));
+    LEAVES(BITM_BAD_SIZE, bitm_stored_index(640, 0, 1, 0, 0, &written.stored));
+    LEAVES(BITM_BAD_SIZE, bitm_stored_index(640, 7, 6, 0, 0, &written.stored));
+    LEAVES(BITM_BAD_SIZE, bitm_stored_index(640, 7, 5, 7, 6, &written.stored));
+    LEAVES(BITM_BAD_SIZE, bitm_stored_sequence(large, &right, &written.stored));
+    LEAVES(BITM_BAD_SIZE, bitm_stored_sequence(3, &wrong, &written.stored));
+    LEAVES(BITM_BAD_SIZE, bitm_stored_sequence(3, &low, &written.stored));
+    LEAVES(BITM_WRONG, bitm_read_stored(words, WORDS, &written.stored));
+    LEAVES(BITM_WRONG, bitm_read_stored(NULL, 0, &written.stored));
+    /* worked out by hand: 10 words from byte 192 on, then each part from a multiple of 64 on */
+    MUST(bitm_stored_index(640, 7, 5, 8, 3, &read) == BITM_OK && read.kind == 1 && read.len == 640 && read.width == 0);
+    MUST(read.ones_log2 == 7 && read.zeros_log2 == 8 && read.words.at == 192 && read.words.len == 10);
+    MUST(read.upper.at == 320 && read.upper.len == 1 && read.lower.at == 384 && read.lower.len == 1);
+    MUST(read.low.len == 0 && read.starts.at == 448 && read.starts.len == 1 && read.starts0.at == 512);
+    MUST(read.starts0.len == 1 && read.samples.at == 576 && read.samples.len == 5 && read.samples0.at == 640);
+    MUST(read.samples0.len == 3 && read.size == 704);
+    uint64_t file[88] = {0};
+    memcpy(file, &read, sizeof read);
+    LEAVES(BITM_WRONG, bitm_read_stored(file, 87, &written.stored));
+    struct bitm_stored again;
+    MUST(bitm_read_stored(file, 88, &again) == BITM_OK && memcmp(&again, &read, sizeof read) == 0);
+    MUST(bitm_stored_sequence(3, &right, &read) == BITM_OK && read.kind == 2 && read.len == 3 && read.width == 0);
+    MUST(read.words.at == 192 && read.upper.at == 256 && read.lower.at == 320 && read.size == 384);
+    MUST(read.ones_log2 == 0 && read.zeros_log2 == 0 && read.words.len == 1 && read.upper.len == 1);
+    MUST(read.lower.len == 1 && read.low.len + read.starts.len + read.starts0.len == 0);
+    MUST(read.samples.len + read.samples0.len == 0 && read.low.at == 384 && read.starts.at == 384);
+    MUST(read.starts0.at == 384 && read.samples.at == 384 && read.samples0.at == 384);
+}
+
 /* A list of zeros: the same query again and again, for ranks and for places. */
 static void lists_of_zeros(const struct bitm_view *view)
 {
@@ -168,6 +238,11 @@ static void ranks_of_wrong_tables(void)
     LEAVES(BITM_WRONG, bitm_select(&view, 0, &written.one));
     LEAVES(BITM_WRONG, bitm_select0(&view, 0, &written.one));
     LEAVES(BITM_WRONG, bitm_check(&view));
+    const struct bitm_bits_view bits = {view, 64 * WORDS - 5}, one_word = {{&zero, 1, &none, 1, &two, 1}, 60};
+    LEAVES(BITM_WRONG, bitm_bits_rank(&one_word, 1, &written.one));
+    LEAVES(BITM_WRONG, bitm_bits_rank0(&one_word, 1, &written.one));
+    LEAVES(BITM_WRONG, bitm_bits_select(&bits, 0, &written.one));
+    LEAVES(BITM_WRONG, bitm_bits_select0(&bits, 0, &written.one));
 }
 
 /* Sequences: lengths, numbers that fall, places past the end, and parts of no sequence. */
@@ -295,6 +370,8 @@ int main(int argc, char **argv)
     const struct bitm_view view = {words, WORDS, upper, UPPERS, lower, LOWERS};
     wrong_lengths();
     none_of_right_tables(&view, ones);
+    bits_of_right_tables(&view);
+    files();
     lists_of_zeros(&view);
     ranks_of_wrong_tables();
     sequences();

@@ -1,12 +1,13 @@
 """Rank and selection over bits."""
 import array
 import ctypes
-from typing import Any, Iterator, Optional, Tuple
+import operator
+from typing import Any, Iterator, Optional, Tuple, Union
 
 from ._bits import BitVector, calls
-from ._buffers import Lent, WrongTables, apart, as_asked, number, words_of, zeros
+from ._buffers import Lent, WrongTables, apart, as_asked, number, numbers_of, words_of, zeros
 from ._lending import Lending
-from ._library import BAD_SIZE, NO_ANSWER, OK, U64, WRONG, Samples, Stored, View
+from ._library import BAD_SIZE, NO_ANSWER, OK, U64, WRONG, BitsView, Samples, Stored, View
 from ._stored import Path, items, write
 
 
@@ -39,7 +40,7 @@ class Index(Lending):
     [1, 3, None]
     """
 
-    __slots__ = ("_len", "_ones", "_samples")
+    __slots__ = ("_is_cut", "_len", "_ones", "_samples")
 
     def __init__(self, bits: Any, length: Optional[int] = None, *, sample_log2: Optional[int] = None) -> None:
         """Makes the tables of the bits; with `sample_log2`, samples for one of each 2^sample_log2 ones and zeros too,
@@ -50,7 +51,8 @@ class Index(Lending):
         upper, lower, _ = tables_of(words)
         self._make(words, upper, lower, length)
         if sample_log2 is not None:
-            self._samples = tuple(self._sampled(kind, number(sample_log2, "sample_log2")) for kind in (0, 1))
+            log2 = number(sample_log2, "sample_log2")
+            self._samples = self._sampled(0, log2), self._sampled(1, log2)
 
     @classmethod
     def over(cls, words: Any, upper: Any, lower: Any, length: Optional[int] = None) -> "Index":
@@ -73,49 +75,61 @@ class Index(Lending):
         return words, length
 
     def _make(self, words: Any, upper: Any, lower: Any, length: int) -> None:
-        self._len, self._samples = length, None
+        self._len = length
+        self._samples: Tuple[Optional[Tuple[Any, ...]], ...] = (None, None)  # of zeros, of ones
         lent = Lent(words), Lent(upper), Lent(lower)
-        view = View(*(part for it in lent for part in it.part))
+        self._is_cut = length < 64 * lent[0].len
+        bits = BitsView(View(*(part for it in lent for part in it.part)), length)
         out = U64()
-        status = calls.bitm_rank(ctypes.byref(view), length, ctypes.byref(out))
+        status = calls.bitm_bits_rank(bits, length, ctypes.byref(out))
         if status == BAD_SIZE:
             raise ValueError("a table is not as long as that of the words")
         self._ones: Optional[int] = None if status == WRONG else out.value
-        self._lend(view, lent)
+        self._lend(bits, lent)
 
     def _sampled(self, kind: int, log2: int) -> Tuple[Any, ...]:
-        view, _ = self._open()
+        view, _held = self._whole()
+        log2 = min(max(log2, 7), 31)
         most, used = calls.bitm_samples_len(view.words_len, log2), U64()
         samples, starts = array.array("I", bytes(4 * most)), zeros(view.upper_len)
         rooms = Lent(samples, True, 4), Lent(starts, True)
         make = calls.bitm_build_samples if kind else calls.bitm_build_samples0
-        if make(ctypes.byref(view), log2, *rooms[0].part, *rooms[1].part, ctypes.byref(used)) != OK:
+        if make(view, log2, *rooms[0].part, *rooms[1].part, ctypes.byref(used)) != OK:
             raise ValueError("no samples could be made")
         return Samples(rooms[0].address, used.value, *rooms[1].part, log2), rooms
 
+    def _whole(self) -> Tuple[View, Any]:
+        """The view of all words, and what has to be kept while a call runs."""
+        bits, held = self._open()
+        return bits.view, (bits, held)
+
+    def close(self) -> None:
+        """Gives the buffers back, once the calls that run have ended."""
+        super().close()
+        self._samples = (None, None)
+
     def check(self) -> bool:
         """Whether the tables, and the samples, are those of the words. Reads each word once."""
-        view, _held = self._open()
-        if calls.bitm_check(ctypes.byref(view)) != OK:
+        view, _held = self._whole()
+        if calls.bitm_check(view) != OK:
             return False
-        zeros_and_ones = zip((calls.bitm_check_samples0, calls.bitm_check_samples), self._samples or ())
-        return all(call(ctypes.byref(view), ctypes.byref(by)) == OK for call, (by, _) in zeros_and_ones)
+        kinds = zip((calls.bitm_check_samples0, calls.bitm_check_samples), self._samples)
+        return all(call(view, kept[0]) == OK for call, kept in kinds if kept)
 
     def save(self, path: Path) -> None:
         """Writes bits, tables and samples into a file, from which `bitm.load` takes them."""
-        view, held = self._open()
+        view, _held = self._whole()
         used = (self._len + 63) // 64
         if used < view.words_len:  # tables of fewer words are others
-            log2 = self._samples[1][0].log2 if self._samples else None
             words = memoryview((U64 * used).from_address(view.words)).cast("B").cast("Q") if used else zeros(0)
-            Index(words, self._len, sample_log2=log2).save(path)
-            del held
+            cut = Index(words, self._len)
+            cut._samples = tuple(kept and cut._sampled(kind, kept[0].log2) for kind, kept in enumerate(self._samples))
+            cut.save(path)
             return
-        ones, nulls = (self._samples[1][0], self._samples[0][0]) if self._samples else (Samples(), Samples())
-        logs = [min(max(it.log2, 7), 31) if self._samples else 0 for it in (ones, nulls)]
+        nulls, ones = (kept[0] if kept else Samples() for kept in self._samples)
+        counts = ones.log2, ones.samples_len, nulls.log2, nulls.samples_len
         header = Stored()
-        status = calls.bitm_stored_index(self._len, logs[0], ones.samples_len, logs[1], nulls.samples_len, ctypes.byref(header))
-        if status != OK:
+        if calls.bitm_stored_index(self._len, *counts, ctypes.byref(header)) != OK:
             raise ValueError("such lengths cannot be stored")
         vectors = [(header.words, view.words), (header.upper, view.upper), (header.lower, view.lower)]
         vectors += [(header.starts, ones.starts), (header.starts0, nulls.starts)]
@@ -127,9 +141,10 @@ class Index(Lending):
     @classmethod
     def _stored(cls, header: Stored, whole: Any) -> "Index":
         made = cls.over(*(items(whole, it) for it in (header.words, header.upper, header.lower)), header.len)
-        if header.ones_log2 and header.zeros_log2:
-            kinds = (header.samples0, header.starts0, header.zeros_log2), (header.samples, header.starts, header.ones_log2)
-            made._samples = tuple(made._lent_samples(items(whole, it, 4), items(whole, at), log2) for it, at, log2 in kinds)
+        kinds = (header.samples0, header.starts0, header.zeros_log2), (header.samples, header.starts, header.ones_log2)
+        made._samples = tuple(
+            made._lent_samples(items(whole, it, 4), items(whole, at), log2) if log2 else None for it, at, log2 in kinds
+        )
         return made
 
     @staticmethod
@@ -140,9 +155,11 @@ class Index(Lending):
     def __len__(self) -> int:
         return self._len
 
-    def __getitem__(self, place: int) -> bool:
-        view, _held = self._open()
-        at = place.__index__()
+    def __getitem__(self, place: Union[int, slice]) -> Any:
+        view, _held = self._whole()
+        if isinstance(place, slice):
+            return BitVector.from_bits(self[at] for at in range(*place.indices(self._len)))
+        at = operator.index(place)
         at += self._len if at < 0 else 0
         if not 0 <= at < self._len:
             raise IndexError(f"place {place} of {self._len} bits")
@@ -152,6 +169,20 @@ class Index(Lending):
 
     def __iter__(self) -> Iterator[bool]:
         return (self[at] for at in range(self._len))
+
+    def __contains__(self, bit: Any) -> bool:
+        return bit in (0, 1) and self.count(bit) > 0
+
+    def __eq__(self, other: object) -> bool:
+        """Whether both have the same bits."""
+        if not isinstance(other, Index):
+            return NotImplemented
+        (mine, _held), (its, _kept) = self._whole(), other._whole()
+        whole = self._len // 64
+        texts = (ctypes.string_at(it.words, 8 * whole) if whole else b"" for it in (mine, its))
+        return self._len == other._len and next(texts) == next(texts) and self[64 * whole :] == other[64 * whole :]
+
+    __hash__ = None  # type: ignore[assignment]
 
     def __repr__(self) -> str:
         if self.closed:
@@ -172,19 +203,18 @@ class Index(Lending):
 
     def rank(self, index: int) -> int:
         """How many of the first `index` bits are ones, at most `index`. IndexError where there are fewer bits."""
-        return self._ask(calls.bitm_rank, self._place(index), "a place") or 0
+        return self._ask(calls.bitm_bits_rank, self._place(index), "a place") or 0
 
     def rank0(self, index: int) -> int:
         """How many of the first `index` bits are zeros. IndexError where there are fewer bits."""
-        return index - self.rank(index)
+        return self._ask(calls.bitm_bits_rank0, self._place(index), "a place") or 0
 
     def _select(self, kind: int, rank: Any) -> Optional[int]:
-        samples = self._samples
-        if samples is None:
-            place = self._ask(calls.bitm_select if kind else calls.bitm_select0, rank, "a rank")
-        else:
-            call, by = calls.bitm_sampled_select if kind else calls.bitm_sampled_select0, samples[kind][0]
-            place = self._ask(lambda view, *rest: call(view, ctypes.byref(by), *rest), rank, "a rank")
+        kept = self._samples[kind]
+        if kept is None:
+            return self._ask(calls.bitm_bits_select if kind else calls.bitm_bits_select0, rank, "a rank")
+        call, by = calls.bitm_sampled_select if kind else calls.bitm_sampled_select0, kept[0]
+        place = self._ask(lambda bits, *rest: call(bits.view, by, *rest), rank, "a rank")
         return place if place is not None and place < self._len else None
 
     def select(self, rank: int) -> Optional[int]:
@@ -216,19 +246,21 @@ class Index(Lending):
     def rank_list(self, places: Any) -> Any:
         """Ranks of many places, in one call: an array of NumPy's for one of uint64, else a list. IndexError where one
         of them is past the end."""
-        found = self._ask_list(calls.bitm_rank_list, places)
-        if NO_ANSWER in found or (self._len % 64 and max(places, default=0) > self._len):
+        asked = numbers_of(places)
+        found = self._ask_list(lambda bits, *rest: calls.bitm_rank_list(bits.view, *rest), asked)
+        if NO_ANSWER in found or (self._is_cut and max(memoryview(asked), default=0) > self._len):
             raise IndexError(f"a place is past the end of {self._len} bits")
         return as_asked(found, (), places)
 
     def _select_list(self, kind: int, ranks: Any) -> Any:
-        samples = self._samples
-        if samples is None:
-            found = self._ask_list(calls.bitm_select_list if kind else calls.bitm_select0_list, ranks)
+        kept = self._samples[kind]
+        if kept is None:
+            plain = calls.bitm_select_list if kind else calls.bitm_select0_list
+            found = self._ask_list(lambda bits, *rest: plain(bits.view, *rest), ranks)
         else:
-            call, by = calls.bitm_sampled_select_list if kind else calls.bitm_sampled_select0_list, samples[kind][0]
-            found = self._ask_list(lambda view, *rest: call(view, ctypes.byref(by), *rest), ranks)
-        past = {it for it in found if it >= self._len} if self._len % 64 or NO_ANSWER in found else ()
+            call, by = calls.bitm_sampled_select_list if kind else calls.bitm_sampled_select0_list, kept[0]
+            found = self._ask_list(lambda bits, *rest: call(bits.view, by, *rest), ranks)
+        past = {it for it in found if it >= self._len} if self._is_cut or NO_ANSWER in found else ()
         return as_asked(found, past, ranks)
 
     def select_list(self, ranks: Any) -> Any:

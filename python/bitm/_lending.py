@@ -40,7 +40,7 @@ class Lending:
 
     def _ask(self, call: Callable[..., int], query: Any, what: str) -> Optional[int]:
         lent, out = self._open(), U64()
-        status = call(ctypes.byref(lent[0]), number(query, what), ctypes.byref(out))
+        status = call(lent[0], number(query, what), ctypes.byref(out))
         if status not in (OK, NONE):
             raise WrongTables("the tables are not those of the words" if status == WRONG else f"status {status}")
         return out.value if status == OK else None
@@ -49,7 +49,7 @@ class Lending:
         lent, asked = self._open(), Lent(numbers_of(queries))
         found = zeros(asked.len)
         room = Lent(found, True)
-        call(ctypes.byref(lent[0]), *asked.part, *room.part)
+        call(lent[0], *asked.part, *room.part)
         del room
         if WRONG_TABLES in found:
             raise WrongTables("the tables are not those of the words")

@@ -1,5 +1,6 @@
 """Monotone integer sequences (Elias-Fano)."""
 import ctypes
+import operator
 from typing import Any, Iterator, Optional
 
 from ._bits import calls
@@ -90,7 +91,7 @@ class EliasFano(Lending):
         if isinstance(place, slice):
             places = range(*place.indices(length))
             return list(self._items(places.start, len(places))) if places.step == 1 else self.get_list(places)
-        at = place.__index__()
+        at = operator.index(place)
         at += length if at < 0 else 0
         if not 0 <= at < length:
             raise IndexError(f"place {place} of {length} numbers")
@@ -99,14 +100,16 @@ class EliasFano(Lending):
     def get_list(self, places: Any) -> Any:
         """The numbers at many places, in one call: an array of NumPy's for one of uint64, else a list. IndexError
         where a place is past the end."""
-        (view, _held), asked, written = self._open(), Lent(numbers_of(places)), U64()
+        (view, _held), wanted, written = self._open(), numbers_of(places), U64()
+        asked = Lent(wanted)
         found = zeros(asked.len)
         room = Lent(found, True)
         calls.bitm_sequence_get_list(ctypes.byref(view), *asked.part, *room.part, ctypes.byref(written))
         if written.value < asked.len:
-            if number(places[written.value]) < view.len:
+            place = memoryview(wanted)[written.value]
+            if place < view.len:
                 raise WrongTables("the parts are those of no sequence")
-            raise IndexError(f"place {places[written.value]} of {view.len} numbers")
+            raise IndexError(f"place {place} of {view.len} numbers")
         return as_asked(found, (), places)
 
     def _items(self, start: int, count: int) -> Any:
@@ -124,7 +127,9 @@ class EliasFano(Lending):
             yield from self._items(start, min(4096, length - start))
 
     def __contains__(self, value: Any) -> bool:
-        if not isinstance(value, int) or not 0 <= value < 2**64:
+        if isinstance(value, float) and value.is_integer():
+            value = int(value)
+        if not hasattr(value, "__index__") or not 0 <= operator.index(value) < 2**64:
             return False
         return self._ask(calls.bitm_sequence_contains, value, "the value") == 1
 

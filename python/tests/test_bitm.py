@@ -1,4 +1,4 @@
-"""Tests of the package: what users type, each argument that is refused, and 100,000 random calls beside plain lists.
+"""Tests of the package: what users type, and 100,000 random calls beside plain lists.
 
     python3 -m unittest discover python/tests
 """
@@ -9,7 +9,6 @@ import mmap
 import os
 import random
 import tempfile
-import threading
 import unittest
 
 import bitm
@@ -19,8 +18,6 @@ try:
     import numpy
 except ImportError:
     numpy = None
-
-PAST = (-1, 2**64, 2**64 + 5, -(2**63))
 
 
 def words_of(bits):
@@ -79,6 +76,21 @@ class Files(unittest.TestCase):
                         self.assertEqual(index.select_list(ranks), [plain.select(1, it) for it in ranks])
                         self.assertEqual(index.select0_list(ranks), [plain.select(0, it) for it in ranks])
                         self.assertRaises(IndexError, index.rank, count + 1)
+
+    def test_an_index_with_samples_of_one_kind_comes_back(self):
+        for count, length in ((5000, None), (5000, 3001)):
+            bits = drawn_bits(count, 0.4)
+            for kind in (0, 1):
+                made = Index(BitVector.from_bits(bits), length, sample_log2=7)
+                made._samples = tuple(it if at == kind else None for at, it in enumerate(made._samples))
+                made.save(self.path)
+                plain = Plain(bits[:length])
+                for _, index in self.both():
+                    self.assertEqual([it is not None for it in index._samples], [kind == 0, kind == 1])
+                    self.assertTrue(index.check())
+                    ranks = range(len(index) + 1)
+                    self.assertEqual([index.select(it) for it in ranks], [plain.select(1, it) for it in ranks])
+                    self.assertEqual([index.select0(it) for it in ranks], [plain.select(0, it) for it in ranks])
 
     def test_bits_behind_the_length_stay_behind(self):
         words = array.array("Q", [2**64 - 1] * 5)
@@ -161,6 +173,31 @@ class RandomCalls(unittest.TestCase):
             self.assertEqual(index.select_list(asked), [plain.select(1, i) for i in asked])
             self.assertEqual(index.select0_list(asked), [plain.select(0, i) for i in asked])
 
+    def test_100_000_calls_of_bits_that_end_inside_a_word_answer_as_a_list_does(self):
+        calls = 0
+        while calls < 100_000:
+            words = array.array("Q", (random.getrandbits(64) for _ in range(random.randrange(1, 90))))
+            whole = [words[i // 64] >> i % 64 & 1 for i in range(64 * len(words))]
+            count = random.choice([random.randrange(len(whole) + 1), 64 * random.randrange(len(words) + 1)])
+            plain, index = Plain(whole[:count]), Index(words, count, sample_log2=random.choice([None, 7]))
+            self.assertEqual((len(index), index.count(), index.count(0)), (count, *map(len, plain.places[::-1])))
+            self.assertEqual((list(index), index.check()), ([bool(it) for it in plain.bits], True))
+            for _ in range(800):
+                i = random.randrange(count + 2)
+                if i <= count:
+                    self.assertEqual((index.rank(i), index.rank0(i)), (plain.rank(1, i), plain.rank(0, i)))
+                self.assertEqual((index.select(i), index.select0(i)), (plain.select(1, i), plain.select(0, i)))
+                self.assertEqual((index.next_one(i), index.next_zero(i)), (plain.next(1, i), plain.next(0, i)))
+                calls += 6
+            asked = range(count + 2)
+            self.assertEqual(index.rank_list(asked[:-1]), [plain.rank(1, i) for i in asked[:-1]])
+            self.assertEqual(index.select_list(asked), [plain.select(1, i) for i in asked])
+            self.assertEqual(index.select0_list(asked), [plain.select(0, i) for i in asked])
+            for call in (index.rank, index.rank0):
+                self.assertRaises(IndexError, call, count + 1)
+            for places in ([0, count + 1], iter([count + 1])):
+                self.assertRaises(IndexError, index.rank_list, places)
+
     def test_100_000_calls_of_a_sequence_answer_as_a_list_does(self):
         calls = 0
         while calls < 100_000:
@@ -229,164 +266,6 @@ class RandomCalls(unittest.TestCase):
             self.assertRaises(TypeError, lambda: vector | bits)
 
 
-class Arguments(unittest.TestCase):
-    def setUp(self):
-        self.words = array.array("Q", [0b1011, 7])
-        self.index = Index(self.words)
-        self.sequence = EliasFano([2, 3, 5, 7])
-
-    def test_numbers_outside_64_bits_are_overflow_errors(self):
-        index, sequence, vector = self.index, self.sequence, BitVector(8)
-        calls = [index.rank, index.rank0, index.select, index.select0, index.next_one, index.previous_zero]
-        calls += [sequence.first_at_least, sequence.last_at_most, sequence.rank, vector.ones, BitVector]
-        for value in PAST:
-            for call in calls:
-                with self.subTest(call=call, value=value), self.assertRaises(OverflowError):
-                    list(call(value)) if call == vector.ones else call(value)
-            for call in (index.rank_list, index.select_list, sequence.get_list, sequence.first_at_least_list, EliasFano):
-                with self.subTest(call=call, value=value), self.assertRaises(OverflowError):
-                    call([value])
-            with self.assertRaises(OverflowError):
-                EliasFano.over(value, 1, b"", b"", b"", b"")
-        with self.assertRaises(OverflowError):
-            vector.set_bits(0, 3, 8)
-
-    def test_what_is_no_whole_number_is_a_type_error(self):
-        for value in (1.0, 1.5, "1", None, [1]):
-            for call in (self.index.rank, self.index.select, self.sequence.first_at_least, BitVector):
-                with self.subTest(call=call, value=value), self.assertRaises(TypeError):
-                    call(value)
-
-    def test_buffers_of_other_items_are_type_errors(self):
-        others = [array.array(code, [1, 2]) for code in "iIhHfd"]
-        if numpy is not None:
-            kinds = ["int32", "uint32", "float64", "bool", ">u8"]
-            others += [numpy.array([1, 0], dtype=kind) for kind in kinds]
-            others += [numpy.ones((2, 2), dtype="uint64"), numpy.ones(8, dtype="uint64")[::2]]
-        for buffer in others:
-            for call in (self.index.rank_list, self.index.select_list, self.sequence.get_list, EliasFano):
-                with self.subTest(call=call, buffer=buffer), self.assertRaises(TypeError):
-                    call(buffer)
-            if memoryview(buffer).itemsize != 1:
-                with self.subTest(buffer=buffer), self.assertRaises(TypeError):
-                    Index(buffer)
-
-    def test_numbers_with_a_sign_are_taken_where_none_is_below_0(self):
-        arrays = [array.array("q", [1, 3]), array.array("q")]
-        below = [array.array("q", [2, -1])]
-        if numpy is not None:
-            arrays += [numpy.array([1, 3]), numpy.array([], dtype="int64")]
-            below += [numpy.array([2, -1])]
-        for places in arrays:
-            with self.subTest(places=places):
-                self.assertEqual(list(self.index.rank_list(places)), [1, 2][: len(places)])
-                self.assertEqual(list(self.sequence.get_list(places)), [3, 7][: len(places)])
-                self.assertEqual(list(EliasFano(places)), list(places))
-                with self.assertRaises(TypeError):
-                    Index(places)
-        for places in below:
-            for call in (self.index.rank_list, self.index.select_list, self.sequence.get_list, EliasFano):
-                with self.subTest(call=call, places=places), self.assertRaises(OverflowError):
-                    call(places)
-
-    def test_buffers_that_overlap_cannot_be_written(self):
-        words, room = array.array("Q", [5]), array.array("Q", [0])
-        for upper, lower in ((room, room), (words, room), (room, words)):
-            with self.assertRaises(ValueError):
-                bitm.build(words, upper, lower)
-        self.assertEqual(bitm.build(words, room, array.array("Q", [0])), 2)
-
-    def test_buffers_that_cannot_be_written_or_are_not_aligned_are_refused(self):
-        with self.assertRaises(TypeError):
-            bitm.build(self.words, memoryview(bytes(8)).cast("Q"), array.array("Q", [0]))
-        with self.assertRaises(ValueError):
-            EliasFano(memoryview(bytearray(17))[1:].cast("Q"))
-
-    def test_tables_of_another_length_are_a_value_error(self):
-        upper, lower, _ = bitm.tables_of(self.words)
-        for tables in ((upper, lower[:0]), (upper[:0], lower), (lower + lower, lower)):
-            with self.assertRaises(ValueError):
-                Index.over(self.words, *tables)
-
-    def test_places_outside_are_index_errors(self):
-        index, sequence, vector = self.index, self.sequence, BitVector(7)
-        places = [(index.rank, 129), (index.__getitem__, 128), (index.__getitem__, -129), (sequence.__getitem__, 4)]
-        places += [(sequence.__getitem__, -5), (vector.__getitem__, 7), (index.rank_list, [0, 129])]
-        places += [(sequence.get_list, [0, 4])]
-        for call, place in places:
-            with self.subTest(call=call, place=place), self.assertRaises(IndexError):
-                call(place)
-        for call in (lambda: vector.get_bits(4, 4), lambda: vector.set_bits(7, 1, 1), lambda: vector.get_fragment(2, 3)):
-            with self.assertRaises(IndexError):
-                call()
-
-    def test_numbers_that_fall_are_a_value_error(self):
-        for numbers in ([2, 1], [5, 5, 4], [2**64 - 1, 0]):
-            with self.assertRaises(ValueError):
-                EliasFano(numbers)
-
-    def test_after_close_each_call_is_a_value_error(self):
-        self.index.close()
-        self.sequence.close()
-        index, sequence = self.index, self.sequence
-        calls = [lambda: index.rank(0), lambda: index.select(0), index.check, lambda: index.rank_list([0]), index.count]
-        calls += [lambda: index[0], lambda: sequence[0], lambda: sequence.first_at_least(1), sequence.check]
-        calls += [lambda: len(sequence), lambda: sequence.get_list([0]), index.__enter__]
-        for call in calls:
-            with self.assertRaises(ValueError):
-                call()
-        self.words.append(1)  # the buffer was given back
-
-    def test_a_buffer_in_use_cannot_change_its_size(self):
-        with self.assertRaises(BufferError):
-            self.words.append(1)
-
-    def test_one_thread_may_close_what_another_asks(self):
-        for _ in range(20):
-            words = array.array("Q", [2**64 - 1] * 5000)
-            index, ended = Index(words), []
-
-            def ask(index=index, ended=ended):
-                try:
-                    while True:
-                        assert index.rank(64) == 64 and index.rank_list(range(2000))[-1] == 1999
-                except ValueError:
-                    ended.append(True)
-
-            threads = [threading.Thread(target=ask) for _ in range(3)]
-            for thread in threads:
-                thread.start()
-            index.close()
-            for thread in threads:
-                thread.join()
-            self.assertEqual(ended, [True] * 3)
-
-    def test_wrong_tables_are_told_or_lead_to_a_place_with_the_bit(self):
-        random.seed(5)
-        words = array.array("Q", (random.getrandbits(64) for _ in range(300)))
-        upper, lower, _ = bitm.tables_of(words)
-        told = 0
-        for at in range(len(lower)):
-            index = Index.over(words, upper, lower[:at] + array.array("Q", [random.getrandbits(64)]) + lower[at + 1 :])
-            self.assertFalse(index.check())
-            for rank in range(0, 9000, 17):
-                try:
-                    place = index.select(rank)
-                    self.assertTrue(place is None or index[place])
-                except bitm.WrongTables:
-                    told += 1
-                try:
-                    self.assertLessEqual(index.rank(2 * rank), 2 * rank)
-                except bitm.WrongTables:
-                    told += 1
-        self.assertGreater(told, 0)
-        index = Index.over(array.array("Q", [0]), array.array("Q", [0]), array.array("Q", [99]))
-        calls = [lambda: index.rank(64), lambda: index.rank0(64), index.count, lambda: index.rank_list([64])]
-        for call in calls + [lambda: index.next_zero(3)]:
-            self.assertRaises(bitm.WrongTables, call)
-        self.assertEqual(repr(index), "<Index of 64 bits, wrong tables>")
-
-
 class Habits(unittest.TestCase):
     def test_vectors_are_made_compared_cut_and_shown(self):
         made = BitVector.from_bits("0101101")
@@ -404,6 +283,38 @@ class Habits(unittest.TestCase):
             made[1.0]
         with self.assertRaises(ValueError):
             made[0] = 2
+
+    def test_an_index_is_cut_compared_searched_and_shown(self):
+        index = Index(BitVector.from_bits("0101101"))
+        self.assertEqual((index[1], index[-2]), (True, False))
+        self.assertEqual((index[2:5], index[::-1]), (BitVector.from_bits("011"), BitVector.from_bits("1011010")))
+        self.assertEqual((1 in index, 0 in index, 2 in index, 1 in Index(BitVector(5))), (True, True, False, False))
+        self.assertEqual((repr(index), len(index), [*index][:2]), ("<Index of 7 bits, 4 ones>", 7, [False, True]))
+        self.assertEqual(index, Index(bytes([0b11011010]), 7))
+        self.assertNotEqual(index, Index(BitVector.from_bits("0101100")))
+        self.assertNotEqual(index, Index(BitVector.from_bits("01011010")))
+        self.assertNotEqual(index, "0101101")
+        long = drawn_bits(1000, 0.5)
+        self.assertEqual(Index(BitVector.from_bits(long)), Index(words_of(long + [1, 0, 1]), 1000))
+        self.assertNotEqual(Index(words_of(long)), Index(words_of([1 - long[0]] + long[1:])))
+        self.assertRaises(TypeError, hash, index)
+
+    def test_a_sequence_is_cut_compared_searched_and_shown(self):
+        items = [2, 3, 5, 7, 11, 13, 13, 17]
+        sequence = EliasFano(items)
+        for cut in (slice(None), slice(2, 5), slice(-3, None), slice(None, None, -1), slice(6, 1, -2), slice(5, 2)):
+            self.assertEqual(list(sequence[cut]), items[cut])
+        self.assertEqual((len(sequence), [*sequence], sequence[-1], [*reversed(sequence)]), (8, items, 17, items[::-1]))
+        self.assertEqual([it in sequence for it in (13, 7.0, 4, 7.5, -1, 2**64, "7", None)], [True] * 2 + [False] * 6)
+        self.assertEqual(sequence, EliasFano(items))
+        self.assertNotEqual(sequence, EliasFano(items[:-1]))
+        self.assertNotEqual(sequence, items)
+        self.assertEqual(repr(EliasFano([1, 2])), "EliasFano([1, 2])")
+        self.assertEqual(repr(sequence), "<EliasFano of 8 numbers: 2, 3, 5, 7, 11, 13, ..>")
+        self.assertRaises(TypeError, hash, sequence)
+
+    def test_the_package_says_that_it_is_typed(self):
+        self.assertTrue(os.path.isfile(os.path.join(os.path.dirname(bitm.__file__), "py.typed")))
 
     def test_bits_past_the_length_are_neither_counted_nor_found(self):
         index = Index(b"\xff\xff\xff", 10)
@@ -435,6 +346,25 @@ class Habits(unittest.TestCase):
         self.assertTrue((sequence.get_list(numpy.arange(500, dtype=numpy.uint64)) == numbers).all())
         past = sequence.first_at_least_list(numpy.array([0, 2**61], dtype=numpy.uint64))
         self.assertEqual(past.mask.tolist(), [False, True])
+
+    @unittest.skipIf(numpy is None, "NumPy is not here")
+    def test_lists_of_numpy_answer_as_lists_do(self):
+        draw = numpy.random.default_rng(9)
+        for count in (0, 1, 640, 1000):
+            for log2 in (None, 7):
+                plain = Plain(drawn_bits(count, 0.4))
+                words = numpy.frombuffer(words_of(plain.bits + [1] * 70), dtype=numpy.uint64)
+                index = Index(words, count, sample_log2=log2)
+                for kind in (numpy.uint64, numpy.int64):
+                    asked = draw.integers(0, count + 1, 500).astype(kind)
+                    self.assertEqual(index.rank_list(asked).tolist(), [plain.rank(1, int(it)) for it in asked])
+                    for call, bit in ((index.select_list, 1), (index.select0_list, 0)):
+                        told = call(asked)
+                        self.assertIsInstance(told, numpy.ma.MaskedArray)
+                        self.assertEqual(told.tolist(), [plain.select(bit, int(it)) for it in asked])
+                    self.assertRaises(IndexError, index.rank_list, numpy.array([count + 1], dtype=kind))
+                    self.assertRaises(IndexError, EliasFano([1]).get_list, numpy.array([1], dtype=kind))
+        self.assertTrue(numpy.uint64(7) in EliasFano([3, 7]))
 
 
 if __name__ == "__main__":

@@ -79,6 +79,12 @@ impl EliasFano {
         )
     }
 
+    /// The words of a file of this sequence, as `lent::Sequence::from_words` takes them.
+    pub fn to_stored(&self) -> Vec<u64> {
+        let lent = self.lent().expect("the lengths are right");
+        lent.to_words().expect("the lengths are right")
+    }
+
     /// How many numbers there are.
     pub fn len(&self) -> usize {
         self.len
@@ -108,6 +114,11 @@ impl EliasFano {
     pub fn contains(&self, value: u64) -> bool {
         self.lent()
             .is_some_and(|lent| lent.contains(value) == Ok(true))
+    }
+
+    /// The numbers from place `from` on, as many as there are and there is room for.
+    pub fn items<'b>(&self, from: usize, out: &'b mut [u64]) -> &'b [u64] {
+        self.lent().map_or(&[], |lent| lent.items(from, out))
     }
 
     /// The numbers, in order: read in blocks.

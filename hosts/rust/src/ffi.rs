@@ -8,6 +8,7 @@ pub(crate) const UNSORTED: u32 = 4;
 
 /// `struct bitm_view`: words and tables, each as a pointer and a number of items.
 #[repr(C)]
+#[derive(Clone, Copy)]
 pub(crate) struct View {
     pub(crate) words: *const u64,
     pub(crate) words_len: usize,
@@ -19,6 +20,7 @@ pub(crate) struct View {
 
 /// `struct bitm_sequence_view`: two numbers and the parts of a sequence.
 #[repr(C)]
+#[derive(Clone, Copy)]
 pub(crate) struct SequenceView {
     pub(crate) len: usize,
     pub(crate) width: u64,
@@ -51,6 +53,43 @@ pub(crate) struct Samples {
     pub(crate) starts: *const u64,
     pub(crate) starts_len: usize,
     pub(crate) log2: u32,
+}
+
+/// `struct bitm_bits_view`: a view of which so many bits count.
+#[repr(C)]
+pub(crate) struct BitsView {
+    pub(crate) view: View,
+    pub(crate) bits_len: u64,
+}
+
+/// `struct bitm_span`: how many bytes of a file stand before the first item, and how many items there are.
+#[repr(C)]
+#[derive(Clone, Copy, Default)]
+pub(crate) struct Span {
+    pub(crate) at: u64,
+    pub(crate) len: u64,
+}
+
+/// `struct bitm_stored`: the header of a file.
+#[repr(C)]
+#[derive(Clone, Copy, Default)]
+pub(crate) struct Stored {
+    pub(crate) mark: u64,
+    pub(crate) kind: u64,
+    pub(crate) len: u64,
+    pub(crate) width: u64,
+    pub(crate) size: u64,
+    pub(crate) ones_log2: u64,
+    pub(crate) zeros_log2: u64,
+    pub(crate) words: Span,
+    pub(crate) upper: Span,
+    pub(crate) lower: Span,
+    pub(crate) low: Span,
+    pub(crate) starts: Span,
+    pub(crate) starts0: Span,
+    pub(crate) samples: Span,
+    pub(crate) samples0: Span,
+    pub(crate) checksum: u64,
 }
 
 extern "C" {
@@ -271,4 +310,24 @@ extern "C" {
         other: *const u64,
         other_len: usize,
     ) -> u32;
+    pub(crate) fn bitm_bits_rank(view: *const BitsView, index: usize, out: *mut u64) -> u32;
+    pub(crate) fn bitm_bits_rank0(view: *const BitsView, index: usize, out: *mut u64) -> u32;
+    pub(crate) fn bitm_bits_select(view: *const BitsView, rank: usize, out: *mut u64) -> u32;
+    pub(crate) fn bitm_bits_select0(view: *const BitsView, rank: usize, out: *mut u64) -> u32;
+    pub(crate) fn bitm_check_samples(view: *const View, samples: *const Samples) -> u32;
+    pub(crate) fn bitm_check_samples0(view: *const View, samples: *const Samples) -> u32;
+    pub(crate) fn bitm_stored_index(
+        bits_len: u64,
+        ones_log2: u32,
+        ones_len: u64,
+        zeros_log2: u32,
+        zeros_len: u64,
+        out: *mut Stored,
+    ) -> u32;
+    pub(crate) fn bitm_stored_sequence(
+        len: u64,
+        lens: *const SequenceLens,
+        out: *mut Stored,
+    ) -> u32;
+    pub(crate) fn bitm_read_stored(file: *const u64, file_len: usize, out: *mut Stored) -> u32;
 }

@@ -1,6 +1,7 @@
 //! The index over a content that it keeps, with tables that it makes.
 use crate::lent::{build, table_lens, Lent};
 use crate::sampled::{samples_len, LentSamples};
+use crate::stored::{StoredError, StoredIndex};
 use std::marker::PhantomData;
 use std::ops::Deref;
 
@@ -83,6 +84,10 @@ pub trait SelectionStrategy: sealed::Sealed + Sized {
     fn new(lent: &Lent<'_>, ones: bool) -> Self;
     #[doc(hidden)]
     fn select(&self, lent: &Lent<'_>, ones: bool, rank: usize) -> Option<u64>;
+    #[doc(hidden)]
+    fn samples(&self) -> Option<LentSamples<'_>> {
+        None
+    }
 }
 
 /// Selection by binary search in the tables, with nothing kept beside them.
@@ -143,17 +148,20 @@ impl<D: CombinedSamplingDensity> SelectionStrategy for CombinedSampling<D> {
         }
     }
     fn select(&self, lent: &Lent<'_>, ones: bool, rank: usize) -> Option<u64> {
-        let by = LentSamples {
-            samples: &self.samples,
-            starts: &self.starts,
-            log2: D::LOG2,
-        };
+        let by = self.samples()?;
         let found = if ones {
             lent.sampled_select(&by, rank)
         } else {
             lent.sampled_select0(&by, rank)
         };
         found.unwrap_or(None)
+    }
+    fn samples(&self) -> Option<LentSamples<'_>> {
+        Some(LentSamples {
+            samples: &self.samples,
+            starts: &self.starts,
+            log2: D::LOG2,
+        })
     }
 }
 
@@ -205,6 +213,14 @@ impl<S: SelectionStrategy, S0: SelectionStrategy, BV: Deref<Target = [u64]>>
     /// The words.
     pub fn content(&self) -> &BV {
         &self.content
+    }
+
+    /// The words of a file of the first `bits_len` bits, with the samples that are kept. `WrongLength` where there are
+    /// fewer bits.
+    pub fn to_stored(&self, bits_len: usize) -> Result<Vec<u64>, StoredError> {
+        let bits = self.lent().and_then(|lent| lent.cut(bits_len));
+        let (ones, zeros) = (self.select.samples(), self.select0.samples());
+        StoredIndex::over(bits.ok_or(StoredError::WrongLength)?, ones, zeros).to_words()
     }
 
     fn lent(&self) -> Option<Lent<'_>> {

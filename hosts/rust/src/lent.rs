@@ -1,4 +1,5 @@
 //! Words, tables and the parts of sequences that are lent: nothing is allocated, and tables may hold anything.
+pub use crate::cut::LentBits;
 pub use crate::ffi::SequenceLens;
 pub use crate::sampled::{samples_len, LentSamples};
 
@@ -88,6 +89,22 @@ impl<'a> Lent<'a> {
             view,
             lends: PhantomData,
         })
+    }
+
+    pub(crate) fn words(&self) -> &'a [u64] {
+        self.parts().0
+    }
+
+    /// Words, upper and lower table: the slices that `over` was given.
+    pub(crate) fn parts(&self) -> (&'a [u64], &'a [u64], &'a [u64]) {
+        let view = &self.view;
+        unsafe {
+            (
+                std::slice::from_raw_parts(view.words, view.words_len),
+                std::slice::from_raw_parts(view.upper, view.upper_len),
+                std::slice::from_raw_parts(view.lower, view.lower_len),
+            )
+        }
     }
 
     /// Whether the tables are those of the words.
@@ -240,6 +257,36 @@ impl<'a> Sequence<'a> {
             view,
             lends: PhantomData,
         })
+    }
+
+    /// How many numbers there are.
+    pub fn len(&self) -> usize {
+        self.view.len
+    }
+
+    /// Whether there are none.
+    pub fn is_empty(&self) -> bool {
+        self.len() == 0
+    }
+
+    /// The lengths of the parts, and the slices that `over` was given.
+    pub(crate) fn parts(&self) -> (SequenceLens, [&'a [u64]; 4]) {
+        let view = &self.view;
+        let lens = SequenceLens {
+            width: view.width,
+            low_len: view.low_len as u64,
+            words_len: view.words_len as u64,
+            upper_len: view.upper_len as u64,
+            lower_len: view.lower_len as u64,
+        };
+        let all = [
+            (view.low, view.low_len),
+            (view.words, view.words_len),
+            (view.upper, view.upper_len),
+            (view.lower, view.lower_len),
+        ];
+        let slice = |(at, len)| unsafe { std::slice::from_raw_parts(at, len) };
+        (lens, all.map(slice))
     }
 
     /// Whether the parts are those of some sequence.

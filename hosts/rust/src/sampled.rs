@@ -19,7 +19,7 @@ pub struct LentSamples<'a> {
 }
 
 impl LentSamples<'_> {
-    fn lent(&self) -> Samples {
+    pub(crate) fn lent(&self) -> Samples {
         Samples {
             samples: self.samples.as_ptr(),
             samples_len: self.samples.len(),
@@ -59,6 +59,16 @@ impl Lent<'_> {
             )
         };
         (status == OK).then_some(used as usize)
+    }
+
+    /// Whether the samples are those of the ones, or of the zeros where `ones` is false: of right tables alone.
+    pub fn check_samples(&self, ones: bool, samples: &LentSamples<'_>) -> bool {
+        let call = if ones {
+            bitm_check_samples
+        } else {
+            bitm_check_samples0
+        };
+        unsafe { call(&self.view, &samples.lent()) == OK }
     }
 
     /// The place of the one with `rank` ones before it, by samples of the ones.

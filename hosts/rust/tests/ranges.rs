@@ -41,10 +41,10 @@ fn against_a_loop(words: &[u64], from: usize, to: usize) {
 }
 
 #[test]
-fn ranges_and_combined_slices_are_the_plain_loops() {
+fn more_than_100_000_calls_of_ranges_and_slices_are_the_plain_loops() {
     let mut seed = 0x2545F4914F6CDD1D;
     for n in [0usize, 1, 2, 5] {
-        for _ in 0..100 {
+        for _ in 0..2000 {
             let words: Vec<u64> = (0..n)
                 .map(|_| drawn(&mut seed) & drawn(&mut seed))
                 .collect();
