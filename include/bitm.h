@@ -383,6 +383,15 @@ BITM_MUST_USE uint32_t bitm_bits_rank0(const struct bitm_bits_view *view, size_t
 BITM_MUST_USE uint32_t bitm_bits_select(const struct bitm_bits_view *view, size_t rank, uint64_t *out);
 BITM_MUST_USE uint32_t bitm_bits_select0(const struct bitm_bits_view *view, size_t rank, uint64_t *out);
 
+/* How many ones, and the places of the ones or zeros from place from on, as bitm_count and bitm_ones: the tables are
+ * not read, so the answers are right whatever these hold. BITM_OK or BITM_BAD_SIZE. out and written may not overlap
+ * each other, the view or its words. */
+BITM_MUST_USE uint32_t bitm_bits_count(const struct bitm_bits_view *view, uint64_t *out);
+BITM_MUST_USE uint32_t bitm_bits_ones(const struct bitm_bits_view *view, size_t from, uint64_t *out, size_t out_len,
+                                      uint64_t *written);
+BITM_MUST_USE uint32_t bitm_bits_zeros(const struct bitm_bits_view *view, size_t from, uint64_t *out, size_t out_len,
+                                       uint64_t *written);
+
 /* ---- stored
  *
  * A file is a header of 192 bytes and the parts that it names, in this order, each from a multiple of 64 bytes on:
