@@ -332,18 +332,30 @@ BITM_MUST_USE uint32_t bitm_sequence_get(const struct bitm_sequence_view *view, 
 /* The successor: the least place whose number is at least value. BITM_NONE if every number is less, BITM_WRONG if the
  * parts turn out not to be those of a sequence; any place returned is below len, whatever the parts hold. Reads what
  * two selections read, and at most one fragment of low for each binary digit of how many numbers share the upper bits
- * of value (of len, if the parts are not those of a sequence). */
+ * of value, in parts of no sequence for each of len.
+ *
+ * Whatever the parts hold, BITM_NONE means that they tell that all len numbers are less than value, and a place that
+ * they tell it of those before: with h = value >> width, the words tell that first numbers have upper bits below h
+ * (none if h is 0) and end numbers at most h; the place, or len, is from first to end; the low bits before it, if it is
+ * above first, are less than those of value, and those at it, if it is below end, are not. The words tell that c
+ * numbers have upper bits of at most z by a zero at bit z + c (modulo 2^64); or, where c is len, if words and tables
+ * count at most z zeros, as for BITM_NONE of bitm_select0. If width is 0, the place is first, and of end nothing is
+ * told but that it is at most len. */
 BITM_MUST_USE uint32_t bitm_sequence_first_at_least(const struct bitm_sequence_view *view, uint64_t value,
                                                     uint64_t *out);
 
 /* The predecessor: the greatest place whose number is at most value. BITM_NONE if every number is more, BITM_WRONG if
  * the parts turn out not to be those of a sequence; any place returned is below len, whatever the parts hold. Reads
- * what bitm_sequence_first_at_least reads for value + 1, and nothing if value is 2^64 - 1. */
+ * what bitm_sequence_first_at_least reads for value + 1, and nothing if value is 2^64 - 1.
+ *
+ * Whatever the parts hold, BITM_NONE means that they tell, as for bitm_sequence_first_at_least, that the numbers less
+ * than value + 1 end at place 0; if value is 2^64 - 1, that len is 0. */
 BITM_MUST_USE uint32_t bitm_sequence_last_at_most(const struct bitm_sequence_view *view, uint64_t value,
                                                   uint64_t *out);
 
 /* Whether value is one of the numbers, as 0 or 1. BITM_WRONG if the parts turn out not to be those of a sequence. Reads
- * what bitm_sequence_first_at_least reads, and where that finds a place what bitm_sequence_get reads. */
+ * what bitm_sequence_first_at_least reads, and where that finds a place what bitm_sequence_get reads. Whatever the
+ * parts hold, with BITM_OK they tell where the numbers less than value end, and if that is at len, the answer is 0. */
 BITM_MUST_USE uint32_t bitm_sequence_contains(const struct bitm_sequence_view *view, uint64_t value, uint64_t *out);
 
 /* Writes the numbers from place from on, in order, as many as there are and out has room for, and to written how many
@@ -383,6 +395,15 @@ BITM_MUST_USE uint32_t bitm_bits_rank(const struct bitm_bits_view *view, size_t 
 BITM_MUST_USE uint32_t bitm_bits_rank0(const struct bitm_bits_view *view, size_t index, uint64_t *out);
 BITM_MUST_USE uint32_t bitm_bits_select(const struct bitm_bits_view *view, size_t rank, uint64_t *out);
 BITM_MUST_USE uint32_t bitm_bits_select0(const struct bitm_bits_view *view, size_t rank, uint64_t *out);
+
+/* How many ones, and the places of the ones or zeros from place from on, as bitm_count and bitm_ones: the tables are
+ * not read, so the answers are right whatever these hold. BITM_OK or BITM_BAD_SIZE. out and written may not overlap
+ * each other, the view or its words. */
+BITM_MUST_USE uint32_t bitm_bits_count(const struct bitm_bits_view *view, uint64_t *out);
+BITM_MUST_USE uint32_t bitm_bits_ones(const struct bitm_bits_view *view, size_t from, uint64_t *out, size_t out_len,
+                                      uint64_t *written);
+BITM_MUST_USE uint32_t bitm_bits_zeros(const struct bitm_bits_view *view, size_t from, uint64_t *out, size_t out_len,
+                                       uint64_t *written);
 
 /* ---- stored
  *

@@ -113,6 +113,32 @@ static void ask_index(const uint64_t *file, size_t size)
     MUST(bitm_sampled_select(&view, &samples, ones, &place) == BITM_NONE);
 }
 
+/* The count of ones, and all places of both kinds, as the bits themselves say: by steps of some places, into room
+ * behind which nothing is written. */
+static void list_bits(const struct bitm_bits_view *bits)
+{
+    uint64_t out[40], written, ones = 0, got;
+    for (uint64_t kind = 0; kind < 2; kind++)
+        for (uint64_t from = 0, next = 0, done = 0; !done; from = next) {
+            size_t room = 1 + draw() % 39;
+            for (size_t i = 0; i < 40; i++)
+                out[i] = UNTOUCHED;
+            MUST((kind ? bitm_bits_ones(bits, from, out, room, &written)
+                       : bitm_bits_zeros(bits, from, out, room, &written)) == BITM_OK && written <= room);
+            for (size_t i = 0; i < written; i++, next++, ones += kind) {
+                while (next < bits->bits_len && bit_of(bits->view.words, next) != kind)
+                    next++;
+                MUST(out[i] == next && next < bits->bits_len);
+            }
+            for (size_t i = written; i < 40; i++)
+                MUST(out[i] == UNTOUCHED);
+            done = written < room;
+            while (done && next < bits->bits_len)
+                MUST(bit_of(bits->view.words, next++) != kind);
+        }
+    MUST(bitm_bits_count(bits, &got) == BITM_OK && got == ones);
+}
+
 /* Bits behind the content, ones or zeros, are neither counted nor found. */
 static void ask_bits(const uint64_t *file, size_t size)
 {
@@ -133,8 +159,12 @@ static void ask_bits(const uint64_t *file, size_t size)
     MUST(bitm_bits_rank(&bits, BITS + 1, &kept) == BITM_NONE && bitm_bits_rank0(&bits, BITS + 1, &kept) == BITM_NONE);
     MUST(bitm_select0(&bits.view, BITS - ones, &got) == BITM_OK && got == BITS);
     MUST(bitm_bits_select0(&bits, BITS - ones, &kept) == BITM_NONE && bitm_bits_select(&bits, ones, &kept) == BITM_NONE);
+    list_bits(&bits);
     bits.bits_len = 64 * WORDS + 1;
     MUST(bitm_bits_rank(&bits, 0, &kept) == BITM_BAD_SIZE && bitm_bits_select(&bits, 0, &kept) == BITM_BAD_SIZE);
+    MUST(bitm_bits_count(&bits, &kept) == BITM_BAD_SIZE);
+    MUST(bitm_bits_ones(&bits, 0, behind, 1, &kept) == BITM_BAD_SIZE && behind[0] == UINT64_MAX);
+    MUST(bitm_bits_zeros(&bits, 0, behind, 1, &kept) == BITM_BAD_SIZE && behind[0] == UINT64_MAX);
 
     uint64_t upper, lower;
     MUST(bitm_build(behind, 2, &upper, 1, &lower, 1, &got) == BITM_OK);
@@ -142,6 +172,7 @@ static void ask_bits(const uint64_t *file, size_t size)
         struct bitm_bits_view cut = {{behind, 2, &upper, 1, &lower, 1}, len};
         uint64_t all = len < 64 ? len : 64;
         MUST(bitm_bits_rank(&cut, len, &got) == BITM_OK && got == all);
+        list_bits(&cut);
         MUST(bitm_bits_select(&cut, all, &kept) == BITM_NONE && bitm_bits_select0(&cut, len - all, &kept) == BITM_NONE);
         MUST(all == 0 || (bitm_bits_select(&cut, all - 1, &got) == BITM_OK && got == all - 1));
     }

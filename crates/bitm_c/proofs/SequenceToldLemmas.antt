@@ -2,6 +2,7 @@
 use Rattle.std.proofs.Common.{◌≡◌, ℕ, List, inl, inr, sym, subst, ◌∙◌, arith}
 use Rattle.elias_fano_lent.specs.Answers.{IsFirst, IsItem, IsOfPlace, IsPlaceOf}
 use Rattle.elias_fano_lent.specs.Held.{Held, Holds}
+use Rattle.elias_fano_lent.specs.Told.{IfPlace, TellsLess}
 use Rattle.elias_fano.specs.declared.answer.Sought.{Sought}
 use Rattle.elias_fano.specs.declared.answer.Sought.TheVariants.{Found, Absent, WrongParts}
 use Rattle.elias_fano.specs.Sequence.{Reaches}
@@ -41,37 +42,44 @@ module _ (view : SequenceView) (sized : IsSized view) (status old new : ℕ) whe
       (subst (λ (l : Held). (xs : List ℕ) → Holds xs l → IsItem xs i s) same answer)
 
   place : (v : ℕ) (s : Sought ℕ) → IsSoughtTold s status old new → IsPlaceOf view.len s
-      → ((xs : List ℕ) → Holds xs (held_by view) → IsFirst xs v s) → PlaceAnswered view v status old new
-  place v (Found p) is inside answer = record {
+      → IfPlace view.len s (TellsLess (held_by view) v) → ((xs : List ℕ) → Holds xs (held_by view) → IsFirst xs v s) → PlaceAnswered view v status old new
+  place v (Found p) is inside less answer = record {
     kept = λ not. absurd (not is.0);
     bad = λ no. absurd (no sized);
     good = λ _. inl is.0;
     place = λ _. omega (arith, is.1, inside);
+    before = λ _. subst (TellsLess (held_by view) v) (sym is.1) less;
+    absent = λ e. absurd (omega (arith, is.0, e));
     told = λ _ xs h. inl is.0;
     right = λ xs h _. subst (λ (n : ℕ). Reaches xs v n) (sym is.1) (answer xs h);
     none = λ xs h e. absurd (omega (arith, is.0, e));
   }
-  place v Absent is inside answer = record {
+  place v Absent is inside less answer = record {
     kept = λ _. is.1;
     bad = λ no. absurd (no sized);
     good = λ _. inr (inl is.0);
     place = λ e. absurd (omega (arith, is.0, e));
+    before = λ e. absurd (omega (arith, is.0, e));
+    absent = λ _. less;
     told = λ _ xs h. inr is.0;
     right = λ xs h e. absurd (omega (arith, is.0, e));
     none = λ xs h _. answer xs h;
   }
-  place v WrongParts is inside answer = record {
+  place v WrongParts is inside less answer = record {
     kept = λ _. is.1;
     bad = λ no. absurd (no sized);
     good = λ _. inr (inr is.0);
     place = λ e. absurd (omega (arith, is.0, e));
+    before = λ e. absurd (omega (arith, is.0, e));
+    absent = λ e. absurd (omega (arith, is.0, e));
     told = λ _ xs h. absurd (answer xs h);
     right = λ xs h _. absurd (answer xs h);
     none = λ xs h _. absurd (answer xs h);
   }
 
   pub place_of : (lent : Held) → lent ≡ held_by view → (v : ℕ) (s : Sought ℕ) → IsSoughtTold s status old new → IsPlaceOf lent.len s
-      → ((xs : List ℕ) → Holds xs lent → IsFirst xs v s) → PlaceAnswered view v status old new
-  place_of lent same v s is inside answer =
+      → IfPlace lent.len s (TellsLess lent v) → ((xs : List ℕ) → Holds xs lent → IsFirst xs v s) → PlaceAnswered view v status old new
+  place_of lent same v s is inside less answer =
       place v s is (subst (λ (l : Held). IsPlaceOf l.len s) same inside)
+      (subst (λ (l : Held). IfPlace l.len s (TellsLess l v)) same less)
       (subst (λ (l : Held). (xs : List ℕ) → Holds xs l → IsFirst xs v s) same answer)

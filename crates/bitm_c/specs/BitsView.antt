@@ -1,5 +1,5 @@
 -- What the exported calls answer of the first bits of words: a status, and a number written where the caller says.
-use Rattle.std.specs.Prelude.{◌≡◌, ◌≢◌, ℕ, ◌<◌, ◌≤◌, ◌⊎◌, Bool, length}
+use Rattle.std.specs.Prelude.{◌≡◌, ◌≢◌, ℕ, ◌+◌, ◌-◌, ◌<◌, ◌≤◌, ◌⊎◌, Bool, List, length, min, slice_index}
 use Rattle.bitm.specs.Bits.{item}
 use Rattle.bitm.specs.Count.{count_before, count_of, Picks}
 use Rattle.bitm.specs.Tables.{HasSizes, HasTables}
@@ -34,3 +34,10 @@ pub record BitsSelectAnswered (v : Bool) (c : Cut) (rank status old new : ℕ) :
   pub right : IsSizedCut c → HasTables c.lists → rank < count_of (bits_of_cut c) v
       → (status ≡ 0) × Picks (bits_of_cut c) v rank new
   pub none : IsSizedCut c → HasTables c.lists → count_of (bits_of_cut c) v ≤ rank → status ≡ 1
+
+-- of the places of the bits v from a place on: the list before and after the call, and how many were written, as many as there
+-- is room for; the rest stays
+pub record PlacesWritten (v : Bool) (b : List Bool) (from : ℕ) (old new : List ℕ) (written : ℕ) : Type 0 where
+  pub number : written ≡ min (length old) (count_of b v - count_before b v from)
+  pub places : (j : ℕ) → j < written → Picks b v (count_before b v from + j) (slice_index new j)
+  pub behind : (j : ℕ) → written ≤ j → slice_index new j ≡ slice_index old j

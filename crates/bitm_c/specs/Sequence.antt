@@ -6,6 +6,7 @@ use Rattle.bitm_lent.specs.Sizes.{listed}
 use Rattle.elias_fano.specs.Sequence.{Reaches}
 use Rattle.elias_fano_lent.specs.Held.{held, HasLengths, Held, Holds}
 use Rattle.elias_fano_lent.specs.Lists.{written}
+use Rattle.elias_fano_lent.specs.Told.{TellsLess}
 use Rattle.elias_fano.specs.declared.answer.Sought.{Sought}
 use Rattle.elias_fano.specs.declared.answer.Sought.TheVariants.{Found, Absent, WrongParts}
 use Rattle.elias_fano_lent.specs.declared.lists.Listed.{Listed}
@@ -49,12 +50,15 @@ pub record ItemAnswered (view : SequenceView) (index status old new : ℕ) : Typ
   pub inside : IsSized view → index < view.len → (status ≡ 0) ⊎ (status ≡ 3)
   pub right : IsSized view → (xs : List ℕ) → Holds xs (held_by view) → index < length xs → (status ≡ 0) × (new ≡ slice_index xs index)
 
--- of the first number that is at least value: the status, and the place before and after the call
+-- of the first number that is at least value: the status, and the place before and after the call; whatever the parts hold, they
+-- tell that all before the place are less, or all where there is none
 pub record PlaceAnswered (view : SequenceView) (value status old new : ℕ) : Type 0 where
   pub kept : status ≢ 0 → new ≡ old
   pub bad : (IsSized view → ⊥) → status ≡ 2
   pub good : IsSized view → (status ≡ 0) ⊎ (status ≡ 1) ⊎ (status ≡ 3)
   pub place : status ≡ 0 → new < view.len
+  pub before : status ≡ 0 → TellsLess (held_by view) value new
+  pub absent : status ≡ 1 → TellsLess (held_by view) value view.len
   pub told : IsSized view → (xs : List ℕ) → Holds xs (held_by view) → (status ≡ 0) ⊎ (status ≡ 1)
   pub right : (xs : List ℕ) → Holds xs (held_by view) → status ≡ 0 → Reaches xs value new
   pub none : (xs : List ℕ) → Holds xs (held_by view) → status ≡ 1 → All (λ x. x < value) xs

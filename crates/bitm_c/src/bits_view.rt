@@ -1,8 +1,10 @@
-//! Rank and select of the first bits of words, where the content ends inside a word.
-ghost use Rattle.std.specs.Prelude.{◌≡◌, MatchOption, true, false};
-ghost use Rattle.bitm_c.specs.BitsView.{cut_of, BitsRankAnswered, BitsSelectAnswered, IsSizedCut};
+//! Rank, select, counts and places of the first bits of words, where the content ends inside a word.
+ghost use Rattle.std.specs.Prelude.{◌≡◌, ◌≢◌, ◌↔◌, MatchOption, true, false};
+ghost use Rattle.bitm.specs.Count.{count_of};
+ghost use Rattle.bitm_lent.specs.Cut.{bits_of_cut};
+ghost use Rattle.bitm_c.specs.BitsView.{cut_of, BitsRankAnswered, BitsSelectAnswered, IsSizedCut, PlacesWritten};
 
-use crate::answer::{BAD_SIZE, tell_count, tell_place};
+use crate::answer::{BAD_SIZE, OK, tell_count, tell_place};
 use crate::view::View;
 use bitm_lent::LentBits;
 
@@ -70,4 +72,61 @@ pub extern "C" fn bitm_bits_select0(view: &BitsView<'_>, rank: usize, out: &mut 
         Some(lent) => tell_place(lent.select0(rank), out),
         None => BAD_SIZE,
     }
+}
+
+/// How many bits of the content are ones.
+#[unsafe(no_mangle)]
+pub extern "C" fn bitm_bits_count(view: &BitsView<'_>, out: &mut usize) -> u32
+    ensures ok { (result ≡ 0) ↔ IsSizedCut (cut_of view.now) }
+    ensures ones { result ≡ 0 → out.new ≡ count_of (bits_of_cut (cut_of view.now)) true }
+    ensures kept { result ≢ 0 → (result ≡ 2) × (out.new ≡ out.old) }
+{
+    let Some(lent) = view.lent() else {
+        return BAD_SIZE;
+    };
+    *out = lent.count();
+    OK
+}
+
+/// Writes the places of the content's ones from place `from` on, rising, as many as there is room for, and how many
+/// these are.
+#[unsafe(no_mangle)]
+pub extern "C" fn bitm_bits_ones(
+    view: &BitsView<'_>,
+    from: usize,
+    out: &mut [usize],
+    written: &mut usize,
+) -> u32
+    ensures ok { (result ≡ 0) ↔ IsSizedCut (cut_of view.now) }
+    ensures places { result ≡ 0
+        → PlacesWritten true (bits_of_cut (cut_of view.now)) from out.old out.new written.new }
+    ensures kept { result ≢ 0 → (result ≡ 2) × (out.new ≡ out.old)
+        × (written.new ≡ written.old) }
+{
+    let Some(lent) = view.lent() else {
+        return BAD_SIZE;
+    };
+    *written = lent.ones_from(from, out);
+    OK
+}
+
+/// Writes the places of the content's zeros, as `bitm_bits_ones`.
+#[unsafe(no_mangle)]
+pub extern "C" fn bitm_bits_zeros(
+    view: &BitsView<'_>,
+    from: usize,
+    out: &mut [usize],
+    written: &mut usize,
+) -> u32
+    ensures ok { (result ≡ 0) ↔ IsSizedCut (cut_of view.now) }
+    ensures places { result ≡ 0
+        → PlacesWritten false (bits_of_cut (cut_of view.now)) from out.old out.new written.new }
+    ensures kept { result ≢ 0 → (result ≡ 2) × (out.new ≡ out.old)
+        × (written.new ≡ written.old) }
+{
+    let Some(lent) = view.lent() else {
+        return BAD_SIZE;
+    };
+    *written = lent.zeros_from(from, out);
+    OK
 }

@@ -1,6 +1,7 @@
 //! Words and tables that are lent, of which the last bits do not belong to the content.
-ghost use Rattle.std.specs.Prelude.{◌≡◌, ◌<◌, ◌≤◌, ℕ, Bool, List, MatchOption, length, take, true, false};
-ghost use Rattle.bit_lists.specs.Count.{kind};
+ghost use Rattle.std.specs.Prelude.{◌≡◌, ◌+◌, ◌-◌, ◌<◌, ◌≤◌, ℕ, Bool, List, MatchOption, length, min, slice_index, take};
+ghost use Rattle.std.specs.Prelude.{true, false};
+ghost use Rattle.bit_lists.specs.Count.{count_before, count_of, kind, Picks};
 ghost use Rattle.bitm_search.specs.Tables.{HasTables, bits_in};
 ghost use Rattle.bitm_search.specs.Answers.{HasBit, IsSelected};
 ghost use Rattle.bitm_lent.specs.Cut.{bits_of_cut, cut_at, IsWithin};
@@ -8,7 +9,9 @@ ghost use Rattle.bitm_lent.specs.Ranks.{IsCountWithin, IsRanked};
 ghost use Rattle.bitm_lent.specs.Samples.{IsSelectedIfTold};
 
 use crate::lent::Lent;
+use crate::places::bits_from;
 use crate::ranked::Ranked;
+use bitm::words;
 use bitm_search::search::selected::Selected;
 use std::marker::Model;
 
@@ -113,5 +116,43 @@ impl<'a> LentBits<'a> {
             → IsSelected (bits_of_cut self.now) false rank result }
     {
         cut(self.lent.select0(rank), self.len)
+    }
+
+    /// How many bits of the content are ones, counted in the words alone: right whatever the tables hold.
+    ///
+    /// # Cost
+    /// Each word of the content is read once.
+    pub fn count(&self) -> usize
+        ensures { result ≡ count_of (bits_of_cut self.now) true }
+    {
+        words::count_range(self.lent.words(), 0, self.len)
+    }
+
+    /// Writes the places of the content's ones from place `from` on, rising, as many as there is room for, and answers
+    /// how many; what stands behind them stays. The tables are not read, so all is right whatever they hold.
+    ///
+    /// # Cost
+    /// As of `bitm_lent::ones_from`.
+    pub fn ones_from(&self, from: usize, out: &mut [usize]) -> usize
+        ensures number { let b = bits_of_cut self.now in result
+            ≡ min (length out.old) (count_of b true - count_before b true from) }
+        ensures len { length out.new ≡ length out.old }
+        ensures places { let b = bits_of_cut self.now in (j : ℕ) → j < result
+            → Picks b true (count_before b true from + j) (slice_index out.new j) }
+        ensures kept { (j : ℕ) → result ≤ j → slice_index out.new j ≡ slice_index out.old j }
+    {
+        bits_from::<1>(self.lent.words(), self.len, from, out)
+    }
+
+    /// Writes the places of the content's zeros from place `from` on, as `ones_from`.
+    pub fn zeros_from(&self, from: usize, out: &mut [usize]) -> usize
+        ensures number { let b = bits_of_cut self.now in result
+            ≡ min (length out.old) (count_of b false - count_before b false from) }
+        ensures len { length out.new ≡ length out.old }
+        ensures places { let b = bits_of_cut self.now in (j : ℕ) → j < result
+            → Picks b false (count_before b false from + j) (slice_index out.new j) }
+        ensures kept { (j : ℕ) → result ≤ j → slice_index out.new j ≡ slice_index out.old j }
+    {
+        bits_from::<0>(self.lent.words(), self.len, from, out)
     }
 }

@@ -7,4 +7,5 @@ pub mod SelectionReadLemmas
 pub mod SequenceLemmas
 pub mod SizeLemmas
 pub mod SplitLemmas
+pub mod ToldLemmas
 pub mod UpperLemmas

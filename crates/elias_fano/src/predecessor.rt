@@ -1,5 +1,5 @@
 //! The last number that is at most a value, and whether a value is one of the numbers. The parts may hold anything.
-ghost use Rattle.std.specs.Prelude.{◌≡◌, ◌+◌, ◌*◌, ◌≤◌, ◌↔◌, ℕ, List, IfSome, IsTrue, MatchOption, length};
+ghost use Rattle.std.specs.Prelude.{◌≡◌, ◌+◌, ◌*◌, ◌≤◌, ◌↔◌, ℕ, List, false, IfSome, IsTrue, MatchOption, length};
 ghost use Rattle.std.specs.List.{Contains};
 ghost use Rattle.bitm.specs.Bits.{digit_count};
 ghost use Rattle.bitm.specs.Reads.{OnlyReads};
@@ -8,6 +8,7 @@ ghost use Rattle.elias_fano.specs.Answers.{IsLast, IsPlaceOf};
 ghost use Rattle.elias_fano.specs.Held.{held_by, HasLengths, Holds};
 ghost use Rattle.elias_fano.specs.Low.{sharing, ReadsFragments};
 ghost use Rattle.elias_fano.specs.Sequence.{ReachesTo};
+ghost use Rattle.elias_fano.specs.Told.{IfLast, TellsAtMost, TellsLess};
 
 use crate::answer::Sought;
 use crate::low::LowDigits;
@@ -26,6 +27,8 @@ fn count_at_most<T: TableSource>(
     requires lengths { HasLengths (held_by n low.old (T.lists source.old)) }
     requires sized { HasSizes (T.lists source.old) }
     ensures within { IfSome result (λ c. c ≤ n) }
+    ensures told { IfSome result
+        (TellsAtMost (held_by n low.old (T.lists source.old)) v) }
     ensures reaches { (xs : List ℕ) → Holds xs (held_by n low.old (T.lists source.old))
         → MatchOption result ⊥ (ReachesTo xs v) }
     ensures reads { OnlyReads T.lists T.reads source.old source.new
@@ -64,6 +67,7 @@ pub fn total_last_at_most_on<T: TableSource>(
     requires lengths { HasLengths (held_by n low.old (T.lists source.old)) }
     requires sized { HasSizes (T.lists source.old) }
     ensures inside { IsPlaceOf n result }
+    ensures told { IfLast result (TellsAtMost (held_by n low.old (T.lists source.old)) v) }
     ensures answer { (xs : List ℕ) → Holds xs (held_by n low.old (T.lists source.old))
         → IsLast xs v result }
     ensures reads { OnlyReads T.lists T.reads source.old source.new
@@ -97,6 +101,8 @@ pub fn total_contains_on<T: TableSource>(
     requires sized { HasSizes (T.lists source.old) }
     ensures answer { (xs : List ℕ) → Holds xs (held_by n low.old (T.lists source.old))
         → MatchOption result ⊥ (λ is. IsTrue is ↔ Contains xs v) }
+    ensures told { IfSome result (λ is. (p : ℕ)
+        × TellsLess (held_by n low.old (T.lists source.old)) v p × (p ≡ n → is ≡ false)) }
     ensures reads { OnlyReads T.lists T.reads source.old source.new
         (3 * (digit_count (length (T.lists source.old).upper) + 1)) (3 * 23) (3 * 8) }
     ensures fragments { ReadsFragments low.old low.new (digit_count n + 1) }

@@ -1,16 +1,18 @@
 //! Reads of a sequence from its parts, and the search for the first number that reaches a value. The parts may hold
 //! anything: the calls on a sequence's own are those on any parts.
-ghost use Rattle.std.specs.Prelude.{◌≡◌, ◌+◌, ◌-◌, ◌*◌, ◌/◌, ◌^◌, ◌<◌, ◌≤◌, ℕ, List};
+ghost use Rattle.std.specs.Prelude.{◌≡◌, ◌≢◌, ◌+◌, ◌-◌, ◌*◌, ◌/◌, ◌%◌, ◌^◌, ◌<◌, ◌≤◌, ℕ, List};
 ghost use Rattle.std.specs.Prelude.{length, slice_index, false, IfSome, MatchOption};
 ghost use Rattle.bitm.specs.Bits.{bits_of, digit_count};
 ghost use Rattle.bitm.specs.Count.{Picks};
 ghost use Rattle.bitm.specs.Reads.{OnlyReads};
 ghost use Rattle.bitm.specs.Tables.{HasSizes, HasTables};
+ghost use Rattle.bitm_search.specs.Told.{less};
 ghost use Rattle.elias_fano.specs.Answers.{IsFirst, IsItem, IsOfPlace, IsPlaceOf};
 ghost use Rattle.elias_fano.specs.Buckets.{CountsTo, CountsBelow, HasEnds, LowsRise, Splits};
 ghost use Rattle.elias_fano.specs.Held.{held_by, HasLengths, Holds};
 ghost use Rattle.elias_fano.specs.Low.{fragment, joined_item, sharing, HasFragments, ReadsFragments};
 ghost use Rattle.elias_fano.specs.Parts.{ArePartsOf, HasFragment, HasOneAt, IsUpper};
+ghost use Rattle.elias_fano.specs.Told.{IfPlace, PartsAt, TellsBelow, TellsLess, TellsTo};
 
 use crate::answer::Sought;
 use crate::low::LowDigits;
@@ -96,6 +98,7 @@ pub fn total_item_on<T: TableSource>(
 #[inline(always)]
 pub fn count_at_zero(place: usize, above: usize, n: usize) -> Option<usize>
     ensures within { IfSome result (λ c. c ≤ n) }
+    ensures is { IfSome result (λ c. c ≡ less place above) }
     ensures count { (xs : List ℕ) (l : ℕ) (upper : List ℕ) → IsUpper xs l upper → n ≡ length xs
         → Picks (bits_of upper) false above place → MatchOption result ⊥ (CountsTo xs l above) }
 {
@@ -116,6 +119,7 @@ fn count_to<const TESTS: u8, T: TableSource>(
     ensures count { (xs : List ℕ) (l : ℕ) → IsUpper xs l (T.lists source.old).words
         → HasTables (T.lists source.old) → n ≡ length xs
         → MatchOption result ⊥ (CountsTo xs l above) }
+    ensures told { TESTS ≢ 0 → IfSome result (TellsTo (T.lists source.old) n above) }
     ensures reads { OnlyReads T.lists T.reads source.old source.new
         (digit_count (length (T.lists source.old).upper) + 1) 23 8 }
 {
@@ -139,6 +143,7 @@ fn count_below<const TESTS: u8, T: TableSource>(
     ensures count { (xs : List ℕ) (l : ℕ) → IsUpper xs l (T.lists source.old).words
         → HasTables (T.lists source.old) → n ≡ length xs
         → MatchOption result ⊥ (CountsBelow xs l above) }
+    ensures told { TESTS ≢ 0 → IfSome result (TellsBelow (T.lists source.old) n above) }
     ensures reads { OnlyReads T.lists T.reads source.old source.new
         (digit_count (length (T.lists source.old).upper) + 1) 23 8 }
 {
@@ -161,9 +166,9 @@ fn split_low(low: &mut LowDigits<'_>, first: usize, end: usize, rest: u64) -> us
     requires some { HasFragments low.old end }
     requires order { first ≤ end }
     requires fits { rest < 2 ^ low.old.width }
-    ensures within { (first ≤ result) × (result ≤ end) }
+    ensures told { PartsAt (fragment low.old) low.old.width first end rest result }
     ensures splits { LowsRise low.old first end → Splits (fragment low.old) first end rest result }
-    ensures none { low.old.width ≡ 0 → (result ≡ first) × (low.new ≡ low.old) }
+    ensures none { low.old.width ≡ 0 → low.new ≡ low.old }
     ensures fragments { ReadsFragments low.old low.new (digit_count (end - first)) }
 {
     if low.width() == 0 {
@@ -204,6 +209,8 @@ pub fn place_in_bucket(
     requires some { HasFragments low.old n }
     requires end { end ≤ n }
     ensures inside { IsPlaceOf n result }
+    ensures told { let w = low.old.width in IfPlace n result
+        (PartsAt (fragment low.old) w first end (v % 2 ^ w)) }
     ensures answer { (xs upper : List ℕ) → ArePartsOf xs n low.old.width low.old.words upper
         → HasEnds xs low.old.width v first end → IsFirst xs v result }
     ensures fragments { ReadsFragments low.old low.new (digit_count n) }
@@ -235,6 +242,8 @@ pub(crate) fn first_on<const TESTS: u8, T: TableSource>(
     requires lengths { HasLengths (held_by n low.old (T.lists source.old)) }
     requires sized { HasSizes (T.lists source.old) }
     ensures inside { IsPlaceOf n result }
+    ensures told { TESTS ≢ 0
+        → IfPlace n result (TellsLess (held_by n low.old (T.lists source.old)) v) }
     ensures answer { (xs : List ℕ) → Holds xs (held_by n low.old (T.lists source.old))
         → IsFirst xs v result }
     ensures reads { OnlyReads T.lists T.reads source.old source.new
@@ -280,6 +289,7 @@ pub fn total_first_at_least_on<T: TableSource>(
     requires lengths { HasLengths (held_by n low.old (T.lists source.old)) }
     requires sized { HasSizes (T.lists source.old) }
     ensures inside { IsPlaceOf n result }
+    ensures told { IfPlace n result (TellsLess (held_by n low.old (T.lists source.old)) v) }
     ensures answer { (xs : List ℕ) → Holds xs (held_by n low.old (T.lists source.old))
         → IsFirst xs v result }
     ensures reads { OnlyReads T.lists T.reads source.old source.new

@@ -11,3 +11,4 @@ pub use Rattle.elias_fano.specs.Held
 pub use Rattle.elias_fano.specs.Low
 pub use Rattle.elias_fano.specs.Parts
 pub use Rattle.elias_fano.specs.Sequence
+pub use Rattle.elias_fano.specs.Told

@@ -3,6 +3,7 @@ use Rattle.std.specs.Prelude.{◌≡◌, ◌≢◌, ⊤, ℕ, ◌+◌, ◌-◌, 
 use Rattle.bitm.specs.Answers.{SelectTold}
 use Rattle.bitm.specs.Tables.{Lists}
 use Rattle.elias_fano.specs.Sequence.{Reaches}
+use Rattle.elias_fano.specs.Told.{TellsLess}
 use Rattle.elias_fano_lent.specs.Held.{Held, Holds}
 use Rattle.elias_fano_lent.specs.declared.lists.Listed.{Listed}
 use Rattle.elias_fano_lent.specs.declared.lists.Listed.TheVariants.{All, AbsentAt, WrongAt, WrongLength}
@@ -66,9 +67,12 @@ abbrev pub IsAllLess : List ℕ → ℕ → Type 0
 IsAllLess xs v = (j : ℕ) → j < length xs → slice_index xs j < v
 
 -- n tells the least place whose number is at least v: below 2^64 - 2 it is a place, whatever the parts hold, and where they are
--- those of a sequence it is the right one, or 2^64 - 1 exactly where each number is less
+-- those of a sequence it is the right one, or 2^64 - 1 exactly where each number is less. Whatever they hold, they tell that all
+-- before that place are less, or all where it is 2^64 - 1
 pub record PlaceTold (parts : Held) (v n : ℕ) : Type 0 where
   pub place : n < 2 ^ 64 - 2 → n < parts.len
+  pub before : n < 2 ^ 64 - 2 → TellsLess parts v n
+  pub absent : n ≡ 2 ^ 64 - 1 → TellsLess parts v parts.len
   pub told : (xs : List ℕ) → Holds xs parts → (n < 2 ^ 64 - 2) ⊎ (n ≡ 2 ^ 64 - 1)
   pub right : (xs : List ℕ) → Holds xs parts → n < 2 ^ 64 - 2 → Reaches xs v n
   pub none : (xs : List ℕ) → Holds xs parts → n ≡ 2 ^ 64 - 1 → IsAllLess xs v

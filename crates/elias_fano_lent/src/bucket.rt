@@ -11,6 +11,7 @@ ghost use Rattle.elias_fano_lent.specs.Answers.{IsFirst, IsPlaceOf};
 ghost use Rattle.elias_fano_lent.specs.Held.{held_by, Holds};
 ghost use Rattle.elias_fano_lent.specs.Lists.{EndsTold};
 ghost use Rattle.elias_fano_lent.specs.Low.{sharing, HasFragments, ReadsFragments};
+ghost use Rattle.elias_fano_lent.specs.Told.{IfPlace, TellsBelow, TellsLess, TellsTo};
 
 use bitm_lent::{NO_ANSWER, WRONG_TABLES};
 use elias_fano::building::{count_at_zero, place_in_bucket};
@@ -35,6 +36,8 @@ pub(crate) fn rank_each(values: &[u64], width: u8, less: usize, ranks: &mut [usi
 #[inline(always)]
 fn count_to(told: usize, above: usize, n: usize) -> Option<usize>
     ensures within { IfSome result (λ c. c ≤ n) }
+    ensures told { (upper : Lists) → SelectTold false upper above told
+        → IfSome result (TellsTo upper n above) }
     ensures count { (xs : List ℕ) (l : ℕ) (upper : Lists) → IsUpper xs l upper.words
         → HasTables upper → IsShort upper.words → n ≡ length xs → SelectTold false upper above told
         → MatchOption result ⊥ (CountsTo xs l above) }
@@ -52,6 +55,8 @@ fn count_to(told: usize, above: usize, n: usize) -> Option<usize>
 #[inline(always)]
 fn count_below(told: usize, above: usize, n: usize) -> Option<usize>
     ensures within { IfSome result (λ c. c ≤ n) }
+    ensures told { (upper : Lists) → (0 < above → SelectTold false upper (above - 1) told)
+        → IfSome result (TellsBelow upper n above) }
     ensures count { (xs : List ℕ) (l : ℕ) (upper : Lists) → IsUpper xs l upper.words
         → HasTables upper → IsShort upper.words → n ≡ length xs
         → (0 < above → SelectTold false upper (above - 1) told)
@@ -75,6 +80,8 @@ pub(crate) fn place_of(
 ) -> Sought<usize>
     requires { HasFragments low.old n }
     ensures inside { IsPlaceOf n result }
+    ensures told { (upper : Lists) → EndsTold (held_by n low.old upper) v begin end
+        → IfPlace n result (TellsLess (held_by n low.old upper) v) }
     ensures answer { (xs : List ℕ) (upper : Lists) → Holds xs (held_by n low.old upper)
         → EndsTold (held_by n low.old upper) v begin end → IsFirst xs v result }
     ensures fragments { ReadsFragments low.old low.new (digit_count n) }

@@ -8,6 +8,7 @@ ghost use Rattle.elias_fano_lent.specs.Answers.{IsFirst, IsItem, IsOfPlace, IsPl
 ghost use Rattle.elias_fano_lent.specs.Held.{held, held_by, HasLengths, Holds};
 ghost use Rattle.elias_fano_lent.specs.Lists.{AreAhead, AreZerosAhead, EndsTold, ZeroTold};
 ghost use Rattle.elias_fano_lent.specs.Low.{unread, ReadsFragments};
+ghost use Rattle.elias_fano_lent.specs.Told.{IfPlace, TellsLess};
 
 mod finding;
 mod items;
@@ -186,6 +187,7 @@ impl<'a> LentSequence<'a> {
     pub(crate) fn place_told(&self, v: u64, begin: usize, end: usize) -> Sought<usize>
         requires { EndsTold self.now v begin end }
         ensures inside { IsPlaceOf self.now.len result }
+        ensures told { IfPlace self.now.len result (TellsLess self.now v) }
         ensures answer { (xs : List ℕ) → Holds xs self.now → IsFirst xs v result }
     {
         place_of(&mut self.low_digits(), self.len, v, begin, end)
@@ -204,13 +206,15 @@ impl<'a> LentSequence<'a> {
     }
 
     /// The least place whose number is at least `v`, where the parts are those of a sequence, and `Absent` exactly
-    /// where each number is less; else any place of a number, `Absent` or `WrongParts`.
+    /// where each number is less. Whatever they hold, `WrongParts` is answered, or the parts tell that so many numbers
+    /// are less than `v`: those before the place, or all for `Absent`.
     ///
     /// # Cost
     /// That of `total_first_at_least_on`.
     #[inline]
     pub fn first_at_least(&self, v: u64) -> Sought<usize>
         ensures inside { IsPlaceOf self.now.len result }
+        ensures told { IfPlace self.now.len result (TellsLess self.now v) }
         ensures answer { (xs : List ℕ) → Holds xs self.now → IsFirst xs v result }
     {
         total_first_at_least_on(&mut self.upper.probe(), &mut self.low_digits(), self.len, v)

@@ -160,7 +160,7 @@ count_before_grows v b i (suc d) l =
     let e : i + suc d ≡ i + d + 1 = omega arith in
     omega (arith, count_before_grows v b i d (omega arith), count_before_more v b (i + d) (omega arith), ap (count_before b v) e)
 
-count_before_past : (v : Bool) (b : List Bool) (i : ℕ) → length b ≤ i → count_before b v i ≡ count_before b v (length b)
+pub count_before_past : (v : Bool) (b : List Bool) (i : ℕ) → length b ≤ i → count_before b v i ≡ count_before b v (length b)
 unfolding zeros_before
 count_before_past true b i l = ones_before_past b i l
 count_before_past false b i l = ap (count_by not) (take_all i b l ∙ sym (take_all (length b) b (omega arith)))

@@ -10,8 +10,15 @@ use Rattle.elias_fano.specs.Buckets.{HasEnds, Splits}
 use Rattle.elias_fano.specs.Low.{fragment, sharing, ReadsFragments}
 use Rattle.elias_fano.specs.Parts.{ArePartsOf}
 use Rattle.elias_fano.specs.Sequence.{Reaches}
+use Rattle.elias_fano.specs.Told.{PartsAt}
 use Rattle.elias_fano.proofs.searching.place_in_bucket.Goals as goal
 use Rattle.elias_fano.proofs.searching.place_in_bucket.Goals.{After-split_low-place}
+
+-- the low digits of the value
+rest : (c : After-split_low-place) → bit_and c.args.v c.n_lowest_bits.result ≡ c.args.v % 2 ^ c.args.low.now.width
+rest c =
+    let mask : c.n_lowest_bits.result ≡ 2 ^ c.args.low.now.width - 1 = c.n_lowest_bits.ensures ∙ ap (λ w. 2 ^ w - 1) c.width.ensures in
+    ap (bit_and c.args.v) mask ∙ and_mask c.args.v c.args.low.now.width
 
 -- the ends of the bucket, and where its low digits part
 bucket : (c : After-split_low-place) (xs upper : List ℕ)
@@ -20,16 +27,30 @@ bucket : (c : After-split_low-place) (xs upper : List ℕ)
     → IsBucket xs c.args.low.now c.args.v c.args.first c.args.end c.split_low-place.result
 bucket c xs upper h e some =
     let low = c.args.low.now in
-    let mask : c.n_lowest_bits.result ≡ 2 ^ low.width - 1 = c.n_lowest_bits.ensures ∙ ap (λ w. 2 ^ w - 1) c.width.ensures in
-    let rest : bit_and c.args.v c.n_lowest_bits.result ≡ c.args.v % 2 ^ low.width =
-    ap (bit_and c.args.v) mask ∙ and_mask c.args.v low.width in
     let ends = e.ends some in
     let rise = fragments-rise xs c.args.n low upper h _ _ _ e.begins ends in
     let P : ℕ → Type 0 = λ r. Splits (fragment low) c.args.first c.args.end r c.split_low-place.result in
-    record { begins = e.begins; ends = ends; splits = subst P rest (c.split_low-place.ensures.splits rise) }
+    record { begins = e.begins; ends = ends; splits = subst P (rest c) (c.split_low-place.ensures.splits rise) }
 
 pub returns-then-end-first-clause-answer : goal.returns-then-end-first-clause-answer
 returns-then-end-first-clause-answer c = λ xs upper h e. omega (arith, e.order, c.if-end-first.true)
+
+parting : (c : After-split_low-place) → PartsAt (fragment c.args.low.now) c.args.low.now.width c.args.first c.args.end
+    (c.args.v % 2 ^ c.args.low.now.width) c.split_low-place.result
+parting c =
+    let P : ℕ → Type 0 = λ r. PartsAt (fragment c.args.low.now) c.args.low.now.width c.args.first c.args.end r c.split_low-place.result in
+    subst P (rest c) c.split_low-place.ensures.told
+
+pub returns-then-place-n-clause-told : goal.returns-then-place-n-clause-told
+returns-then-place-n-clause-told c = parting (goal.at.returns-then-place-n-clause-told c).After-split_low-place
+
+pub returns-else-place-n-clause-told : goal.returns-else-place-n-clause-told
+returns-else-place-n-clause-told c =
+    let d = (goal.at.returns-else-place-n-clause-told c).After-split_low-place in
+    let last : c.split_low-place.result ≡ c.args.n = omega (arith, c.if-place-n.false, c.split_low-place.ensures.told.to, c.requires.end) in
+    let P : ℕ → Type 0 = λ p. PartsAt (fragment c.args.low.now) c.args.low.now.width c.args.first c.args.end
+    (c.args.v % 2 ^ c.args.low.now.width) p in
+    subst P last (parting d)
 
 -- ---- the place
 
@@ -39,7 +60,7 @@ returns-then-place-n-clause-answer c = λ xs upper h e.
     let w = c.args.low.now.width in
     ⊎_elim
     (λ none.
-    let same = (c.split_low-place.ensures.none none).0 in
+    let same = c.split_low-place.ensures.told.whole none in
     let P : ℕ → Type 0 = λ k. Reaches xs c.args.v k in
     subst P (sym same) (whole-reaches xs c.args.v w _ none e.begins (omega (arith, same, h.count, c.if-place-n.true))))
     (λ apart. bucket-reaches xs _ _ _ h c.args.v _ _ _ (bucket d xs upper h e (omega arith)) c.if-place-n.true)
@@ -51,7 +72,7 @@ returns-else-place-n-clause-answer c = λ xs upper h e.
     let w = c.args.low.now.width in
     ⊎_elim
     (λ none.
-    let same = (c.split_low-place.ensures.none none).0 in
+    let same = c.split_low-place.ensures.told.whole none in
     whole-none xs c.args.v w _ none e.begins (omega (arith, same, h.count, c.if-place-n.false)))
     (λ apart. bucket-none xs _ _ _ h c.args.v _ _ _ (bucket d xs upper h e (omega arith)) c.if-place-n.false)
     (cases_eq w 0)
@@ -67,7 +88,7 @@ shared : (c : After-split_low-place) (xs : List ℕ) → HasEnds xs c.args.low.n
     → ReadsFragments c.args.low.now c.split_low-place.new.low (digit_count (sharing xs c.args.low.now.width c.args.v))
 shared c xs e =
     let w = c.args.low.now.width in
-    ⊎_elim (λ none. fragments-none _ _ _ (c.split_low-place.ensures.none none).1)
+    ⊎_elim (λ none. fragments-none _ _ _ (c.split_low-place.ensures.none none))
     (λ apart.
     let order = bucket-shared xs w c.args.v _ _ e.begins (e.ends (omega arith)) in
     fragments-more _ _ _ _ c.split_low-place.ensures.fragments (digits-grow _ _ order))

@@ -1,9 +1,9 @@
 -- A fragment of the range is inside; each step leaves half of the places, whose number has a digit less.
-use Rattle.std.proofs.Common.{◌+◌, ◌-◌, ◌*◌, ◌/◌, ◌≤◌, length, sym, ap, ◌∙◌, arith}
+use Rattle.std.proofs.Common.{◌≡◌, ◌+◌, ◌-◌, ◌*◌, ◌/◌, ◌≤◌, length, sym, ap, ◌∙◌, arith}
 use Rattle.elias_fano.proofs.lemmas.FragmentLemmas.{fragment-same}
 use Rattle.elias_fano.proofs.lemmas.SizeLemmas.{digit_count-half, digits-grow}
 use Rattle.elias_fano.proofs.lemmas.SplitLemmas.{fragment-in-range, Parting-up, Parting-down}
-use Rattle.elias_fano.specs.Low.{Lows}
+use Rattle.elias_fano.specs.Low.{fragment, Lows}
 use Rattle.elias_fano.proofs.searching.split_low.Goals as goal
 
 pub fragment-requires-clause-in_range : goal.fragment-requires-clause-in_range
@@ -25,6 +25,12 @@ loop-left-preserved-then-fragment-rest c =
     record {
       begin = omega (arith, i.begin);
       bound = omega (arith, i.bound, c.loop-left-test.true);
+      less = λ _.
+          let at : c.loop-left.from + (left / 2 + 1) - 1 ≡ c.loop-left.from + left / 2 = omega arith in
+          omega (arith, ap (fragment c.args.low.now) at, item, c.if-fragment-rest.true);
+      at_least = λ before.
+          let at : c.loop-left.from + (left / 2 + 1) + (left - (left / 2 + 1)) ≡ c.loop-left.from + left = omega (arith, c.loop-left-test.true) in
+          omega (arith, ap (fragment c.args.low.now) at, i.at_least (omega (arith, before, at)));
       parts = λ rise.
           Parting-up _ _ _ _ _ _ rise (i.parts rise) _ (omega (arith, c.loop-left-test.true))
           (omega (arith, item, c.if-fragment-rest.true));
@@ -47,6 +53,8 @@ loop-left-preserved c =
     record {
       begin = i.begin;
       bound = omega (arith, i.bound);
+      less = i.less;
+      at_least = λ _. omega (arith, item, c.if-fragment-rest.false);
       parts = λ rise.
           Parting-down _ _ _ _ _ _ rise (i.parts rise) _ (omega (arith, c.loop-left-test.true))
           (omega (arith, item, c.if-fragment-rest.false));

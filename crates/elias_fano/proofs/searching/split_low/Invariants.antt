@@ -1,4 +1,4 @@
-use Rattle.std.proofs.Common.{◌≡◌, ◌+◌, ◌-◌, ◌≤◌}
+use Rattle.std.proofs.Common.{◌≡◌, ◌+◌, ◌-◌, ◌<◌, ◌≤◌}
 use Rattle.bitm.specs.Bits.{digit_count}
 use Rattle.elias_fano.proofs.lemmas.SplitLemmas.{Parting}
 use Rattle.elias_fano.specs.Buckets.{LowsRise}
@@ -10,6 +10,8 @@ abbrev pub invariant-loop-left : goal.invariant-loop-left
 invariant-loop-left l = record {
   begin : l.first ≤ l.from;
   bound : l.from + l.left ≤ l.end;
+  less : l.first < l.from → fragment l.initial.low (l.from - 1) < l.rest;
+  at_least : l.from + l.left < l.end → l.rest ≤ fragment l.initial.low (l.from + l.left);
   parts : LowsRise l.initial.low l.first l.end → Parting (fragment l.initial.low) l.first l.end l.rest l.from l.left;
   words : l.low.words ≡ l.initial.low.words;
   width : l.low.width ≡ l.initial.low.width;

@@ -4,9 +4,11 @@ use Rattle.bitm.specs.Answers.{SelectTold}
 use Rattle.bitm.specs.Tables.{Lists}
 use Rattle.elias_fano.proofs.lemmas.BucketLemmas.{bucket-order}
 use Rattle.elias_fano.proofs.lemmas.ItemLemmas.{upper-short}
+use Rattle.elias_fano.proofs.lemmas.ToldLemmas.{told_less}
 use Rattle.elias_fano.specs.Buckets.{CountsTo, CountsBelow, HasEnds}
 use Rattle.elias_fano_lent.specs.Held.{held_by, Holds}
 use Rattle.elias_fano_lent.specs.Lists.{EndsTold}
+use Rattle.elias_fano_lent.specs.Told.{TellsBelow, TellsTo}
 use Rattle.elias_fano_lent.proofs.bucket.place_of.Goals as goal
 use Rattle.elias_fano_lent.proofs.bucket.place_of.Goals.{In-Some, After-place_in_bucket, After-place_in_bucket-2}
 
@@ -47,6 +49,22 @@ whole c xs upper h e =
       ends = λ some. absurd (omega (arith, c.width-width.ensures, c.if-width-eq0.true));
       order = omega (arith, first.bound, h.are.count);
     }
+
+-- ---- what is told of any parts
+
+pub returns-clause-told : goal.returns-clause-told
+returns-clause-told c = λ upper e.
+    let w = c.args.low.now.width in
+    let some : 0 < w = omega (arith, c.width-width.ensures, c.if-width-eq0.false) in
+    let B : ℕ → Type 0 = λ k. TellsBelow upper c.args.n (c.args.v / 2 ^ k) c.in-Some.first in
+    let S : ℕ → Type 0 = λ k. 0 < c.args.v / 2 ^ k → SelectTold false upper (c.args.v / 2 ^ k - 1) c.args.begin in
+    let begins = subst B c.width-width.ensures (c.in-Some.ensures.told upper (subst S (sym c.width-width.ensures) (λ _. e.begins))) in
+    let E : ℕ → Type 0 = λ k. TellsTo upper c.args.n (c.args.v / 2 ^ k) c.in-Some-count_to.last in
+    let T : ℕ → Type 0 = λ r. SelectTold false upper r c.args.end in
+    let rank : c.args.v / 2 ^ w - 0 ≡ c.args.v / 2 ^ c.width-width.result = omega (arith, ap (λ k. c.args.v / 2 ^ k) c.width-width.ensures) in
+    let ends = subst E c.width-width.ensures (c.in-Some-count_to.ensures.told upper (subst T rank (e.ends some))) in
+    told_less c.args.n c.args.low.now upper c.args.v c.in-Some.first c.in-Some-count_to.last begins (λ _. ends)
+    c.in-Some-count_to.ensures.within c.place_in_bucket-2.result c.place_in_bucket-2.ensures.told
 
 -- ---- right tables tell both
 

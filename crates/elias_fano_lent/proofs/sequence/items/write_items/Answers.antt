@@ -1,5 +1,5 @@
 -- Each search goes on behind the one that was found, and finds that of the next number.
-use Rattle.std.proofs.Common.{◌≡◌, ◌≢◌, ℕ, ◌+◌, List, get_or, refl, sym, subst, ◌∙◌, arith}
+use Rattle.std.proofs.Common.{◌≡◌, ◌≢◌, ℕ, ◌+◌, true, List, get_or, refl, sym, subst, ◌∙◌, arith}
 use Rattle.std.proofs.lemmas.List.{get_or-set_other}
 use Rattle.bitm.proofs.Callers.{length-bits_of}
 use Rattle.bitm.specs.Bits.{bits_of}
@@ -11,7 +11,7 @@ use Rattle.elias_fano_lent.proofs.sequence.items.write_items.Goals as goal
 
 pub returns-in-None-clause-items : goal.returns-in-None-clause-items
 returns-in-None-clause-items c = λ xs n parts room begin.
-    let none = none_follows (bits_of c.args.words.now) c.loop-at.next c.in-None.ensures in
+    let none = none_follows (bits_of c.args.words.now) true c.loop-at.next (λ p from _. c.in-None.ensures p from) in
     let all = ones_are xs c.args.low.now.width c.args.words.now parts.upper_is in
     absurd (omega (arith, none, all, begin, room, parts.count, c.loop-at.invariant.counted, c.loop-at-test.true, c.loop-at.auto.at-end))
 
@@ -25,9 +25,9 @@ loop-at-preserved c =
     let found = c.in-Some.ensures in
     let read = c.item_at_one.ensures.fragments in
     record {
-      counted = omega (arith, i.counted, next_counts b c.loop-at.next c.in-Some.place found);
+      counted = omega (arith, i.counted, next_counts b true c.loop-at.next c.in-Some.place found);
       items = λ xs n parts room begin.
-          let one = first_picked b c.loop-at.next c.in-Some.place (c.args.from + c.loop-at.at) found (omega (arith, i.counted, begin)) in
+          let one = first_picked b true c.loop-at.next c.in-Some.place (c.args.from + c.loop-at.at) found (omega (arith, i.counted, begin)) in
           let here : HasOneAt xs n c.args.low.now.width c.args.low.now.words c.args.words.now (c.args.from + c.loop-at.at) c.in-Some.place =
           record { parts = parts; inside = omega (arith, room, c.loop-at-test.true, c.loop-at.auto.at-end); one = one } in
           let W : ℕ → Type 0 = λ w. HasOneAt xs n w c.args.low.now.words c.args.words.now (c.args.from + c.loop-at.at) c.in-Some.place in

@@ -1,0 +1,62 @@
+-- What parts tell of how many numbers are less than a value, whatever they hold.
+use Rattle.std.specs.Prelude.{◌≡◌, ⊤, ℕ, ◌+◌, ◌-◌, ◌/◌, ◌%◌, ◌^◌, ◌<◌, ◌≤◌, ◌⊎◌, false, length}
+use Rattle.bitm.specs.Bits.{item}
+use Rattle.bitm.specs.Tables.{Lists, bits_in}
+use Rattle.bitm_search.specs.Told.{less, TellsNone}
+use Rattle.elias_fano.specs.Held.{Held}
+use Rattle.elias_fano.specs.Low.{fragment, unread}
+use Rattle.elias_fano.specs.declared.answer.Sought.{Sought}
+use Rattle.elias_fano.specs.declared.answer.Sought.TheVariants.{Found, Absent, WrongParts}
+
+-- a zero of the words stands c places after z, as numbers of 64 bits
+pub record HasZeroAfter (lists : Lists) (z c : ℕ) : Type 0 where
+  pub place : ℕ
+  pub inside : place < length (bits_in lists)
+  pub zero : item (bits_in lists) place ≡ false
+  pub count : c ≡ less place z
+
+-- the words tell that c of n numbers have at most z above their low digits: by the zero of z, or all, where words and tables tell
+-- no more than z zeros
+abbrev pub TellsTo : Lists → ℕ → ℕ → ℕ → Type 0
+TellsTo lists n z c = HasZeroAfter lists z c ⊎ ((c ≡ n) × TellsNone false lists z)
+
+-- the words tell that c of n numbers have less than h there; none where h is 0
+pub record TellsBelow (lists : Lists) (n h c : ℕ) : Type 0 where
+  pub none : h ≡ 0 → c ≡ 0
+  pub some : 0 < h → TellsTo lists n (h - 1) c
+
+-- place p parts low digits from first on to end: the one before it is below rest, and its own is not; the first place where there
+-- are no low digits
+pub record PartsAt (lows : ℕ → ℕ) (width first end rest p : ℕ) : Type 0 where
+  pub from : first ≤ p
+  pub to : p ≤ end
+  pub whole : width ≡ 0 → p ≡ first
+  pub less : first < p → lows (p - 1) < rest
+  pub at_least : p < end → rest ≤ lows p
+
+-- the parts tell that p of their numbers are less than v: the words, where the numbers with the upper digits of v begin and end, and
+-- the low digits, where these part
+pub record TellsLess (parts : Held) (v p : ℕ) : Type 0 where
+  pub first : ℕ
+  pub end : ℕ
+  pub begins : TellsBelow parts.upper parts.len (v / 2 ^ parts.width) first
+  pub ends : 0 < parts.width → TellsTo parts.upper parts.len (v / 2 ^ parts.width) end
+  pub within : end ≤ parts.len
+  pub parting : PartsAt (fragment (unread parts.low parts.width)) parts.width first end (v % 2 ^ parts.width) p
+
+-- the parts tell that p of their numbers are at most v: all, where v is the greatest number of 64 bits
+pub record TellsAtMost (parts : Held) (v p : ℕ) : Type 0 where
+  pub next : v + 1 < 2 ^ 64 → TellsLess parts (v + 1) p
+  pub greatest : 2 ^ 64 ≤ v + 1 → p ≡ parts.len
+
+-- what is told of the place that is found, and of place n where Absent is answered
+abbrev pub IfPlace : ℕ → Sought ℕ → (ℕ → Type 0) → Type 0
+IfPlace n (Found p) P = P p
+IfPlace n Absent P = P n
+IfPlace n WrongParts P = ⊤
+
+-- what is told of how many there are up to the place that is found, and of 0 where Absent is answered
+abbrev pub IfLast : Sought ℕ → (ℕ → Type 0) → Type 0
+IfLast (Found p) P = P (p + 1)
+IfLast Absent P = P 0
+IfLast WrongParts P = ⊤
