@@ -334,13 +334,12 @@ BITM_MUST_USE uint32_t bitm_sequence_get(const struct bitm_sequence_view *view, 
  * two selections read, and at most one fragment of low for each binary digit of how many numbers share the upper bits
  * of value, in parts of no sequence for each of len.
  *
- * Whatever the parts hold, BITM_NONE means that they tell that all len numbers are less than value, and a place that
- * they tell it of those before: with h = value >> width, the words tell that first numbers have upper bits below h
- * (none if h is 0) and end numbers at most h; the place, or len, is from first to end; the low bits before it, if it is
- * above first, are less than those of value, and those at it, if it is below end, are not. The words tell that c
- * numbers have upper bits of at most z by a zero at bit z + c (modulo 2^64); or, where c is len, if words and tables
- * count at most z zeros, as for BITM_NONE of bitm_select0. If width is 0, the place is first, and of end nothing is
- * told but that it is at most len. */
+ * Whatever the parts hold, BITM_OK and BITM_NONE report what the parts tell; take len as the place for BITM_NONE. Let h
+ * be value >> width. The upper words tell that first numbers have upper bits below h (0 if h is 0), and end numbers
+ * upper bits of at most h. The place is one from first to end: the low bits just before it, if it is above first, are
+ * less than those of value; the low bits at it, if it is below end, are not. If width is 0, the place is first. Upper
+ * words tell that c numbers have upper bits of at most z by a zero bit at place z + c (modulo 2^64), or, if c is len,
+ * by counting at most z zeros together with the tables, as for BITM_NONE of bitm_select0. */
 BITM_MUST_USE uint32_t bitm_sequence_first_at_least(const struct bitm_sequence_view *view, uint64_t value,
                                                     uint64_t *out);
 
