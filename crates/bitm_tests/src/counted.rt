@@ -140,9 +140,9 @@ fn counted_ranks_of_each_word_are_three_ones_more(rt: HostRuntime) {
             );
         }
     }
-    assert_eq!(rt; rank_on(&mut index.probe(), 3840), Some(180));
-    assert_eq!(rt; rank_on(&mut index.probe(), 3841), None);
-    assert_eq!(rt; rank_on(&mut index.probe(), usize::MAX), None);
+    assert!(rt; rank_on(&mut index.probe(), 3840) == Some(180));
+    assert!(rt; rank_on(&mut index.probe(), 3841) == None);
+    assert!(rt; rank_on(&mut index.probe(), usize::MAX) == None);
 }
 
 #[test]
@@ -161,6 +161,6 @@ fn answers_with_their_reads_are_the_places_and_ranks(rt: HostRuntime) {
             assert_eq!(rt; ones, Some(rank), "ones before {place}");
         }
     }
-    assert_eq!(rt; select_with_reads(&index, 180).0, None);
-    assert_eq!(rt; rank_with_reads(&index, 3841).0, None);
+    assert!(rt; select_with_reads(&index, 180).0 == None);
+    assert!(rt; rank_with_reads(&index, 3841).0 == None);
 }

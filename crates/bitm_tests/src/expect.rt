@@ -38,10 +38,7 @@ fn walk(rt: &impl Abort, alloc: Global, words: &[u64]) -> Result<Found, AllocErr
             found.zeros.push(place)?;
         }
     }
-    assert_eq!(rt;
-        found.ranks.len(),
-        words.len().wrapping_mul(64).wrapping_add(1)
-    );
+    assert!(rt; found.ranks.len() == words.len().wrapping_mul(64).wrapping_add(1));
     Ok(found)
 }
 
@@ -90,9 +87,9 @@ pub fn expect_rank<I: Rank>(rt: &impl Abort, index: &I, place: usize, ones: Opti
     assert_eq!(rt; index.try_rank0(place), zeros, "zeros before {place}");
     if index.try_rank(place).is_some() {
         let plain_forms = (index.rank(place), index.rank_unchecked(place));
-        assert_eq!(rt; (Some(plain_forms.0), Some(plain_forms.1)), (ones, ones));
+        assert!(rt; (Some(plain_forms.0), Some(plain_forms.1)) == (ones, ones));
         let plain_forms = (index.rank0(place), index.rank0_unchecked(place));
-        assert_eq!(rt; (Some(plain_forms.0), Some(plain_forms.1)), (zeros, zeros));
+        assert!(rt; (Some(plain_forms.0), Some(plain_forms.1)) == (zeros, zeros));
     }
 }
 
@@ -103,7 +100,7 @@ pub fn expect_one<I: Select>(rt: &impl Abort, index: &I, rank: usize, place: Opt
     assert_eq!(rt; found, place, "the one of rank {rank}");
     if let Some(_) = found {
         let plain_forms = (index.select(rank), index.select_unchecked(rank));
-        assert_eq!(rt; (Some(plain_forms.0), Some(plain_forms.1)), (place, place));
+        assert!(rt; (Some(plain_forms.0), Some(plain_forms.1)) == (place, place));
     }
 }
 
@@ -114,7 +111,7 @@ pub fn expect_zero<I: Select0>(rt: &impl Abort, index: &I, rank: usize, place: O
     assert_eq!(rt; found, place, "the zero of rank {rank}");
     if let Some(_) = found {
         let plain_forms = (index.select0(rank), index.select0_unchecked(rank));
-        assert_eq!(rt; (Some(plain_forms.0), Some(plain_forms.1)), (place, place));
+        assert!(rt; (Some(plain_forms.0), Some(plain_forms.1)) == (place, place));
     }
 }
 
@@ -135,7 +132,7 @@ pub fn expect_all<S: SelectForRank101111, S0: Select0ForRank101111>(
 ) -> Result<(), AllocError> {
     let found = walk(rt, alloc, words)?;
     let (index, total) = indexed::<S, S0>(rt, alloc, words);
-    assert_eq!(rt; total, found.ones.len());
+    assert!(rt; total == found.ones.len());
     expect_found(rt, &index, &found);
     Ok(())
 }
@@ -144,7 +141,7 @@ pub fn expect_all<S: SelectForRank101111, S0: Select0ForRank101111>(
 pub fn expect_all_owned(rt: &impl Abort, alloc: Global, words: &[u64]) -> Result<(), AllocError> {
     let found = walk(rt, alloc, words)?;
     let (index, total) = owned(rt, alloc, words)?;
-    assert_eq!(rt; total, found.ones.len());
+    assert!(rt; total == found.ones.len());
     expect_found(rt, &index, &found);
     Ok(())
 }

@@ -24,7 +24,7 @@ fn found(n: u64, rank: u8) -> Option<u8> {
 #[test]
 fn each_of_eight_ones_is_selected_by_its_rank(rt: HostRuntime) {
     for place in [0, 1, 7, 12, 23, 31, 46, 53, 63] {
-        assert_eq!(rt; selected_in_word(1 << place, 0), Some(place));
+        assert!(rt; selected_in_word(1 << place, 0) == Some(place));
     }
     let places = [
         (0, 2),
@@ -37,10 +37,10 @@ fn each_of_eight_ones_is_selected_by_its_rank(rt: HostRuntime) {
         (7, 61),
     ];
     for (rank, place) in places {
-        assert_eq!(rt; selected_in_word(EIGHT_ONES, rank), Some(place));
-        assert_eq!(rt; found(EIGHT_ONES, rank), Some(place));
+        assert!(rt; selected_in_word(EIGHT_ONES, rank) == Some(place));
+        assert!(rt; found(EIGHT_ONES, rank) == Some(place));
     }
-    assert_eq!(rt; selected_in_word(EIGHT_ONES, 8), None);
+    assert!(rt; selected_in_word(EIGHT_ONES, 8) == None);
 }
 
 #[test]
@@ -62,19 +62,16 @@ fn ones_at_the_ends_of_words_and_bytes_are_selected(rt: HostRuntime) {
 #[test]
 fn each_rank_is_selected_as_bit_by_bit(rt: HostRuntime) {
     for rank in 0..64u8 {
-        assert_eq!(rt; selected_in_word(u64::MAX, rank), Some(rank));
-        assert_eq!(rt; found(u64::MAX, rank), Some(rank));
-        assert_eq!(rt; selected_in_word(1 << rank, 0), Some(rank));
-        assert_eq!(rt; found(1 << rank, 0), Some(rank));
+        assert!(rt; selected_in_word(u64::MAX, rank) == Some(rank));
+        assert!(rt; found(u64::MAX, rank) == Some(rank));
+        assert!(rt; selected_in_word(1 << rank, 0) == Some(rank));
+        assert!(rt; found(1 << rank, 0) == Some(rank));
     }
     for rank in 0..8u8 {
-        assert_eq!(rt;
-            selected_in_word(0x0101_0101_0101_0101, rank),
-            Some(8 * rank)
-        );
-        assert_eq!(rt; found(0x0101_0101_0101_0101, rank), Some(8 * rank));
+        assert!(rt; selected_in_word(0x0101_0101_0101_0101, rank) == Some(8 * rank));
+        assert!(rt; found(0x0101_0101_0101_0101, rank) == Some(8 * rank));
     }
-    assert_eq!(rt; selected_in_word(0x0101_0101_0101_0101, 8), None);
+    assert!(rt; selected_in_word(0x0101_0101_0101_0101, 8) == None);
 }
 
 /// How many sums of bytes are at most `r`.
@@ -86,8 +83,8 @@ fn sums_at_most(n: u64, r: u8) -> u8
 
 #[test]
 fn sums_of_bytes_count_the_ones_up_to_each(rt: HostRuntime) {
-    assert_eq!(rt; byte_sums(EIGHT_ONES), 0x0806_0605_0403_0302);
-    assert_eq!(rt; sums_at_most(EIGHT_ONES, 4), 4);
-    assert_eq!(rt; byte_sums(u64::MAX), 0x4038_3028_2018_1008);
-    assert_eq!(rt; sums_at_most(u64::MAX, 63), 7);
+    assert!(rt; byte_sums(EIGHT_ONES) == 0x0806_0605_0403_0302);
+    assert!(rt; sums_at_most(EIGHT_ONES, 4) == 4);
+    assert!(rt; byte_sums(u64::MAX) == 0x4038_3028_2018_1008);
+    assert!(rt; sums_at_most(u64::MAX, 63) == 7);
 }

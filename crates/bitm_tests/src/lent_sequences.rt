@@ -16,40 +16,28 @@ fn lists_agree(rt: &impl Abort, primes: &LentSequence<'_>) {
         0u64, 1, 2, 3, 4, 5, 6, 7, 8, 9, 10, 11, 12, 13, 14, 15, 24, 25,
     ];
     let mut out = [0usize; 18];
-    assert_eq!(rt;
-        primes.first_at_least_list(asked.as_slice(), out.as_mut_slice()),
-        true
-    );
-    assert_eq!(rt;
-        out,
-        [0, 0, 0, 1, 2, 2, 3, 3, 4, 4, 4, 4, 5, 5, 6, 6, 6, NO_ANSWER]
-    );
+    assert!(rt; primes.first_at_least_list(asked.as_slice(), out.as_mut_slice()) == true);
+    assert!(rt; out == [0, 0, 0, 1, 2, 2, 3, 3, 4, 4, 4, 4, 5, 5, 6, 6, 6, NO_ANSWER]);
 }
 
 /// Asks each number, each place, and what first is at least some values.
 fn agrees(rt: &impl Abort, primes: &LentSequence<'_>) {
     for (i, x) in ITEMS.iter().enumerate() {
-        assert_eq!(rt; primes.get(i), Sought::Found(*x));
-        assert_eq!(rt; primes.first_at_least(*x), Sought::Found(i));
+        assert!(rt; primes.get(i) == Sought::Found(*x));
+        assert!(rt; primes.first_at_least(*x) == Sought::Found(i));
     }
-    assert_eq!(rt; (primes.check(), primes.get(7)), (true, Sought::Absent));
+    assert!(rt; (primes.check(), primes.get(7)) == (true, Sought::Absent));
     let found = (primes.first_at_least(8), primes.first_at_least(25));
-    assert_eq!(rt; found, (Sought::Found(4), Sought::Absent));
+    assert!(rt; found == (Sought::Found(4), Sought::Absent));
     numbers_agree(rt, primes);
 }
 
 /// Asks the numbers at several places at once.
 fn numbers_agree(rt: &impl Abort, primes: &LentSequence<'_>) {
     let mut out = [0u64; 3];
-    assert_eq!(rt;
-        primes.get_list([6, 0, 3].as_slice(), out.as_mut_slice()),
-        Listed::All
-    );
-    assert_eq!(rt; out, [24, 2, 7]);
-    assert_eq!(rt;
-        primes.get_list([6, 7, 3].as_slice(), out.as_mut_slice()),
-        Listed::AbsentAt(1)
-    );
+    assert!(rt; primes.get_list([6, 0, 3].as_slice(), out.as_mut_slice()) == Listed::All);
+    assert!(rt; out == [24, 2, 7]);
+    assert!(rt; primes.get_list([6, 7, 3].as_slice(), out.as_mut_slice()) == Listed::AbsentAt(1));
 }
 
 #[test]
@@ -64,15 +52,12 @@ fn what_was_written_is_read_and_found(rt: HostRuntime) -> Result<(), Fail> {
         upper.as_mut_slice(),
         lower.as_mut_slice(),
     );
-    assert_eq!(rt; made, Ok(1));
-    assert_eq!(rt; low, [0b0111110]);
-    assert_eq!(rt;
-        words,
-        [1 << 1 | 1 << 2 | 1 << 4 | 1 << 6 | 1 << 9 | 1 << 11 | 1 << 18]
-    );
+    assert!(rt; made == Ok(1));
+    assert!(rt; low == [0b0111110]);
+    assert!(rt; words == [1 << 1 | 1 << 2 | 1 << 4 | 1 << 6 | 1 << 9 | 1 << 11 | 1 << 18]);
     let same = EliasFano::build(rt.alloc(), items)?;
-    assert_eq!(rt; same.low_words(), low.as_slice());
-    assert_eq!(rt; same.upper_words(), words.as_slice());
+    assert!(rt; same.low_words() == low.as_slice());
+    assert!(rt; same.upper_words() == words.as_slice());
     let lent = Lent::over(words.as_slice(), upper.as_slice(), lower.as_slice());
     let Some(upper) = lent else {
         panic!(&rt; "lengths")
@@ -95,15 +80,15 @@ fn parts_of_nothing_are_told_or_answer_something(rt: HostRuntime) {
     let Some(none) = LentSequence::over(7, 1, low.as_slice(), upper) else {
         panic!(&rt; "lengths")
     };
-    assert_eq!(rt; none.check(), false);
-    assert_eq!(rt; none.get(0), Sought::WrongParts);
-    assert_eq!(rt; none.get(7), Sought::Absent);
+    assert!(rt; none.check() == false);
+    assert!(rt; none.get(0) == Sought::WrongParts);
+    assert!(rt; none.get(7) == Sought::Absent);
 }
 
 #[test]
 fn lengths_and_order_are_tested(rt: HostRuntime) {
-    assert_eq!(rt; Sizes::of(0, 1), None);
-    assert_eq!(rt; Sizes::of(1 << 56, 1), None);
+    assert!(rt; Sizes::of(0, 1) == None);
+    assert!(rt; Sizes::of(1 << 56, 1) == None);
     let (mut low, mut words, mut lower) = ([0u64; 0], [7u64], [7u64]);
     let mut upper = [7usize];
     let falling = build(
@@ -113,7 +98,7 @@ fn lengths_and_order_are_tested(rt: HostRuntime) {
         upper.as_mut_slice(),
         lower.as_mut_slice(),
     );
-    assert_eq!(rt; falling, Err(BuildError::NotSorted));
+    assert!(rt; falling == Err(BuildError::NotSorted));
     let short = build(
         [1u64, 2].as_slice(),
         low.as_mut_slice(),
@@ -121,6 +106,6 @@ fn lengths_and_order_are_tested(rt: HostRuntime) {
         upper.as_mut_slice(),
         lower.as_mut_slice(),
     );
-    assert_eq!(rt; short, Err(BuildError::WrongLength));
-    assert_eq!(rt; words, [7]);
+    assert!(rt; short == Err(BuildError::WrongLength));
+    assert!(rt; words == [7]);
 }

@@ -76,7 +76,7 @@ fn the_logarithm_is_exact_where_products_pass_64_bits(rt: HostRuntime) {
 
 #[test]
 fn no_bits_have_the_greatest_logarithm_and_no_items_the_least(rt: HostRuntime) {
-    assert_eq!(rt; optimal_combined_sampling(0, 0, 13), 13);
-    assert_eq!(rt; optimal_combined_sampling(0, 64, 13), 7);
-    assert_eq!(rt; optimal_combined_sampling(1, 2, 7), 7);
+    assert!(rt; optimal_combined_sampling(0, 0, 13) == 13);
+    assert!(rt; optimal_combined_sampling(0, 64, 13) == 7);
+    assert!(rt; optimal_combined_sampling(1, 2, 7) == 7);
 }

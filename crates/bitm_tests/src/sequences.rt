@@ -22,17 +22,14 @@ fn agrees(
     asked: &[(u64, Option<usize>)],
 ) -> Result<(), EfError> {
     let made = EliasFano::build(alloc, items)?;
-    assert_eq!(rt; (made.len(), made.low_width()), (items.len(), width));
+    assert!(rt; (made.len(), made.low_width()) == (items.len(), width));
     for (i, x) in items.iter().enumerate() {
-        assert_eq!(rt; made.try_get(i), Some(*x));
+        assert!(rt; made.try_get(i) == Some(*x));
     }
-    assert_eq!(rt;
-        (made.try_get(items.len()), made.try_get(usize::MAX)),
-        (None, None)
-    );
+    assert!(rt; (made.try_get(items.len()), made.try_get(usize::MAX)) == (None, None));
     ones_stand_at(rt, made.upper_words(), ones);
     for (v, place) in asked {
-        assert_eq!(rt; made.first_at_least(*v), *place);
+        assert!(rt; made.first_at_least(*v) == *place);
     }
     comes_in_order(rt, &made, items);
     Ok(())
@@ -44,24 +41,24 @@ fn ones_stand_at(rt: &impl Abort, words: &[u64], ones: &[usize])
 {
     let mut places = words.bit_ones();
     for one in ones {
-        assert_eq!(rt; places.next(), Some(*one));
+        assert!(rt; places.next() == Some(*one));
     }
-    assert_eq!(rt; places.next(), None);
+    assert!(rt; places.next() == None);
 }
 
 /// Compares the numbers that come from either end with the items.
 fn comes_in_order(rt: &impl Abort, made: &EliasFano, items: &[u64]) {
     let mut rising = made.iter();
     let mut falling = made.iter();
-    assert_eq!(rt; rising.len(), items.len());
+    assert!(rt; rising.len() == items.len());
     for x in items {
-        assert_eq!(rt; rising.next(), Some(*x));
+        assert!(rt; rising.next() == Some(*x));
     }
-    assert_eq!(rt; rising.next(), None);
+    assert!(rt; rising.next() == None);
     for x in items.iter().rev() {
-        assert_eq!(rt; falling.next_back(), Some(*x));
+        assert!(rt; falling.next_back() == Some(*x));
     }
-    assert_eq!(rt; falling.next_back(), None);
+    assert!(rt; falling.next_back() == None);
 }
 
 #[test]
@@ -132,8 +129,8 @@ fn the_greatest_number_is_kept_and_found(rt: HostRuntime) -> Result<(), Fail> {
 #[test]
 fn low_digits_stand_side_by_side_in_one_word(rt: HostRuntime) -> Result<(), Fail> {
     let made = EliasFano::build(rt.alloc(), [2u64, 3, 5, 7, 11, 13, 24].as_slice())?;
-    assert_eq!(rt; made.low_words(), [0b0111110u64].as_slice());
-    assert_eq!(rt; made.upper_words().len(), 1);
+    assert!(rt; made.low_words() == [0b0111110u64].as_slice());
+    assert!(rt; made.upper_words().len() == 1);
     Ok(())
 }
 
@@ -151,7 +148,7 @@ fn values_between_the_numbers_have_the_nearest_below_them(rt: HostRuntime) -> Re
         (u64::MAX, Some(6), false),
     ];
     for (v, place, is_kept) in asked {
-        assert_eq!(rt; (made.last_at_most(v), made.contains(v)), (place, is_kept));
+        assert!(rt; (made.last_at_most(v), made.contains(v)) == (place, is_kept));
     }
     Ok(())
 }
@@ -161,8 +158,8 @@ fn numbers_from_a_place_on_come_from_either_end(rt: HostRuntime) -> Result<(), F
     let made = EliasFano::build(rt.alloc(), [2u64, 3, 5, 7, 11, 13, 24].as_slice())?;
     let mut both = made.iter_from(4);
     let come = [both.next(), both.next_back(), both.next(), both.next_back()];
-    assert_eq!(rt; come, [Some(11), Some(24), Some(13), None]);
-    assert_eq!(rt; made.iter_from(7).next(), None);
+    assert!(rt; come == [Some(11), Some(24), Some(13), None]);
+    assert!(rt; made.iter_from(7).next() == None);
     Ok(())
 }
 
@@ -173,32 +170,27 @@ fn a_copy_gives_the_same_numbers_in_as_many_bytes(rt: HostRuntime) -> Result<(),
     let copy = made.try_clone(rt.alloc())?;
     comes_in_order(&rt, &copy, items.as_slice());
     // a word of each vector, and one entry of each of the index's tables
-    assert_eq!(rt; copy.size_bytes_dyn(), 4 * 8);
+    assert!(rt; copy.size_bytes_dyn() == 4 * 8);
     Ok(())
 }
 
 #[test]
 fn errors_print_why(rt: HostRuntime) -> Result<(), Fail> {
-    assert_eq!(rt;
-        format!(in rt.alloc(); "{}", EfError::TooLong)?.as_str(),
-        "there are 2^56 numbers or more"
+    assert!(rt;
+        format!(in rt.alloc(); "{}", EfError::TooLong)?.as_str() == "there are 2^56 numbers or more"
     );
-    assert_eq!(rt;
-        format!(in rt.alloc(); "{}", EfError::NotSorted)?.as_str(),
-        "a number is less than the one before it"
+    assert!(rt;
+        format!(in rt.alloc(); "{}", EfError::NotSorted)?.as_str()
+            == "a number is less than the one before it"
     );
-    assert_eq!(rt;
-        format!(in rt.alloc(); "{}", EfError::OutOfMemory)?.as_str(),
-        "no memory"
-    );
+    assert!(rt; format!(in rt.alloc(); "{}", EfError::OutOfMemory)?.as_str() == "no memory");
     Ok(())
 }
 
 #[test]
 fn falls_are_refused(rt: HostRuntime) -> Result<(), Fail> {
-    assert_eq!(rt;
-        EliasFano::build(rt.alloc(), [3u64, 2].as_slice()).err(),
-        Some(EfError::NotSorted)
+    assert!(rt;
+        EliasFano::build(rt.alloc(), [3u64, 2].as_slice()).err() == Some(EfError::NotSorted)
     );
     Ok(())
 }
@@ -217,8 +209,8 @@ fn each_of_many_numbers_is_found_at_its_place(rt: HostRuntime) -> Result<(), Fai
     let items = multiples(rt.alloc(), 1 << 18)?;
     let made = EliasFano::build(rt.alloc(), items.as_slice())?;
     for (i, x) in items.iter().enumerate() {
-        assert_eq!(rt; made.get(i), *x);
-        assert_eq!(rt; made.first_at_least(*x), Some(i));
+        assert!(rt; made.get(i) == *x);
+        assert!(rt; made.first_at_least(*x) == Some(i));
     }
     Ok(())
 }
@@ -249,7 +241,7 @@ fn numbers_are_found_where_all_but_one_share_their_upper_digits(
 ) -> Result<(), Fail> {
     let items = crowd(rt.alloc(), 1 << 17)?;
     let made = EliasFano::build(rt.alloc(), items.as_slice())?;
-    assert_eq!(rt; made.low_width(), 46);
+    assert!(rt; made.low_width() == 46);
     let asked = [
         0u64,
         1,
@@ -264,7 +256,7 @@ fn numbers_are_found_where_all_but_one_share_their_upper_digits(
         u64::MAX,
     ];
     for v in asked {
-        assert_eq!(rt; made.first_at_least(v), first_from(items.as_slice(), v));
+        assert!(rt; made.first_at_least(v) == first_from(items.as_slice(), v));
     }
     Ok(())
 }
@@ -273,8 +265,8 @@ fn numbers_are_found_where_all_but_one_share_their_upper_digits(
 fn refused_memory_is_said(rt: HostRuntime) {
     let items = [2u64, 3, 5, 7, 11, 13, 24];
     match EliasFano::build(rt.alloc(), items.as_slice()) {
-        Ok(made) => assert_eq!(rt; made.try_get(4), Some(11)),
-        Err(error) => assert_eq!(rt; error, EfError::OutOfMemory),
+        Ok(made) => assert!(rt; made.try_get(4) == Some(11)),
+        Err(error) => assert!(rt; error == EfError::OutOfMemory),
     }
-    assert_eq!(rt; items.as_slice(), [2u64, 3, 5, 7, 11, 13, 24].as_slice());
+    assert!(rt; items.as_slice() == [2u64, 3, 5, 7, 11, 13, 24].as_slice());
 }

@@ -21,7 +21,7 @@ fn expect_ranks<R: Rank>(rt: &impl Abort, index: &R, rows: &[Row]) {
 /// Compares the type's own calls, which answer 32 bits, with the ones before a place that is inside.
 fn expect_narrow(rt: &impl Abort, index: &ArrayWithRankSimple, place: usize, ones: u32) {
     match index.try_rank(place) {
-        Some(count) => assert_eq!(rt; (count, index.rank(place)), (ones, ones)),
+        Some(count) => assert!(rt; (count, index.rank(place)) == (ones, ones)),
         None => panic!(rt; "{place} is outside"),
     }
 }
@@ -44,7 +44,7 @@ fn owned(
 #[test]
 fn ranks_of_full_words_are_their_places_up_to_the_length(rt: HostRuntime) -> Result<(), Fail> {
     let (index, total) = owned(&rt, rt.alloc(), [u64::MAX; 9].as_slice())?;
-    assert_eq!(rt; total, 576);
+    assert!(rt; total == 576);
     let rows = [
         (0, Some(0)),
         (512, Some(512)),
@@ -57,16 +57,16 @@ fn ranks_of_full_words_are_their_places_up_to_the_length(rt: HostRuntime) -> Res
     for (place, ones) in [(0, 0), (512, 512), (575, 575), (576, 576)] {
         expect_narrow(&rt, &index, place, ones);
     }
-    assert_eq!(rt; index.try_rank(577), None);
-    assert_eq!(rt; index.size_bytes_dyn(), 80);
+    assert!(rt; index.try_rank(577) == None);
+    assert!(rt; index.size_bytes_dyn() == 80);
     Ok(())
 }
 
 #[test]
 fn ranks_of_two_words_are_counted_by_hand(rt: HostRuntime) -> Result<(), Fail> {
     let (index, total) = owned(&rt, rt.alloc(), [0b1101, 0b110].as_slice())?;
-    assert_eq!(rt; total, 5);
-    assert_eq!(rt; index.as_slice(), [0b1101, 0b110].as_slice());
+    assert!(rt; total == 5);
+    assert!(rt; index.as_slice() == [0b1101, 0b110].as_slice());
     let rows = [
         (0, Some(0)),
         (1, Some(1)),
@@ -87,7 +87,7 @@ fn ranks_of_two_words_are_counted_by_hand(rt: HostRuntime) -> Result<(), Fail> {
 #[test]
 fn no_words_have_rank_0_at_place_0_alone(rt: HostRuntime) -> Result<(), Fail> {
     let (index, total) = owned(&rt, rt.alloc(), &[])?;
-    assert_eq!(rt; total, 0);
+    assert!(rt; total == 0);
     expect_ranks(&rt, &index, [(0, Some(0)), (1, None)].as_slice());
     Ok(())
 }

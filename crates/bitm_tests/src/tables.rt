@@ -32,9 +32,9 @@ fn expect_kept(
     kept: Kept<'_>,
 ) -> Result<(), AllocError> {
     let (lent, ones) = built(rt, alloc, words);
-    assert_eq!(rt; (ones, lent.l1ranks(), lent.l2ranks()), kept);
+    assert!(rt; (ones, lent.l1ranks(), lent.l2ranks()) == kept);
     let (index, ones) = owned(rt, alloc, words)?;
-    assert_eq!(rt; (ones, index.l1ranks(), index.l2ranks()), kept);
+    assert!(rt; (ones, index.l1ranks(), index.l2ranks()) == kept);
     Ok(())
 }
 
@@ -45,8 +45,8 @@ fn one_word_keeps_one_entry_in_16_bytes_beside_its_own(rt: HostRuntime) -> Resul
     expect_kept(&rt, rt.alloc(), words.as_slice(), kept)?;
     let (lent, _) = built(&rt, rt.alloc(), words.as_slice());
     let (index, _) = owned(&rt, rt.alloc(), words.as_slice())?;
-    assert_eq!(rt; (ranked(&lent, 2), ranked(&index, 2)), (Some(1), Some(1)));
-    assert_eq!(rt; (lent.size_bytes_dyn(), index.size_bytes_dyn()), (16, 24));
+    assert!(rt; (ranked(&lent, 2), ranked(&index, 2)) == (Some(1), Some(1)));
+    assert!(rt; (lent.size_bytes_dyn(), index.size_bytes_dyn()) == (16, 24));
     Ok(())
 }
 
@@ -78,10 +78,7 @@ fn sixty_words_keep_a_second_entry_after_the_ones_of_the_first(
     expect_kept(&rt, rt.alloc(), [0b1101; 60].as_slice(), kept)?;
     let words = [0b1101; 60];
     let (index, _) = built(&rt, rt.alloc(), words.as_slice());
-    assert_eq!(rt;
-        (index.try_rank0(3840), index.try_rank(3841)),
-        (Some(3660), None)
-    );
+    assert!(rt; (index.try_rank0(3840), index.try_rank(3841)) == (Some(3660), None));
     Ok(())
 }
 
@@ -90,41 +87,35 @@ fn a_full_word_after_a_full_entry_is_counted_to_the_end(rt: HostRuntime) {
     let words = [u64::MAX; 33];
     let (index, total) = built(&rt, rt.alloc(), words.as_slice());
     let entries = [0x8020_0600_0000_0000, 0x1002_0040_0000_0800];
-    assert_eq!(rt; index.l2ranks(), entries.as_slice());
-    assert_eq!(rt; total, 2112);
-    assert_eq!(rt; ranked(&index, 2048), Some(2048));
-    assert_eq!(rt; ranked(&index, 2111), Some(2111));
-    assert_eq!(rt; ranked(&index, 2112), Some(2112));
-    assert_eq!(rt; index.try_rank(2113), None);
-    assert_eq!(rt;
-        (index.try_select(2111), index.try_select(2112)),
-        (Some(2111), None)
-    );
-    assert_eq!(rt; index.try_select0(0), None);
+    assert!(rt; index.l2ranks() == entries.as_slice());
+    assert!(rt; total == 2112);
+    assert!(rt; ranked(&index, 2048) == Some(2048));
+    assert!(rt; ranked(&index, 2111) == Some(2111));
+    assert!(rt; ranked(&index, 2112) == Some(2112));
+    assert!(rt; index.try_rank(2113) == None);
+    assert!(rt; (index.try_select(2111), index.try_select(2112)) == (Some(2111), None));
+    assert!(rt; index.try_select0(0) == None);
 }
 
 #[test]
 fn a_full_entry_counts_512_ones_a_record(rt: HostRuntime) {
     let words = [u64::MAX; 32];
     let (index, _) = built(&rt, rt.alloc(), words.as_slice());
-    assert_eq!(rt; index.l2ranks(), [0x8020_0600_0000_0000].as_slice());
-    assert_eq!(rt; ranked(&index, 2048), Some(2048));
-    assert_eq!(rt; index.try_rank(2049), None);
+    assert!(rt; index.l2ranks() == [0x8020_0600_0000_0000].as_slice());
+    assert!(rt; ranked(&index, 2048) == Some(2048));
+    assert!(rt; index.try_rank(2049) == None);
 }
 
 #[test]
 fn empty_words_keep_entries_of_zero_and_zeros_alone(rt: HostRuntime) {
     let words = [0; 33];
     let (index, total) = built(&rt, rt.alloc(), words.as_slice());
-    assert_eq!(rt; index.l2ranks(), [0, 0].as_slice());
-    assert_eq!(rt; total, 0);
-    assert_eq!(rt; ranked(&index, 2111), Some(0));
-    assert_eq!(rt; index.try_rank0(2111), Some(2111));
-    assert_eq!(rt; index.try_select(0), None);
-    assert_eq!(rt;
-        (index.try_select0(2111), index.try_select0(2112)),
-        (Some(2111), None)
-    );
+    assert!(rt; index.l2ranks() == [0, 0].as_slice());
+    assert!(rt; total == 0);
+    assert!(rt; ranked(&index, 2111) == Some(0));
+    assert!(rt; index.try_rank0(2111) == Some(2111));
+    assert!(rt; index.try_select(0) == None);
+    assert!(rt; (index.try_select0(2111), index.try_select0(2112)) == (Some(2111), None));
 }
 
 #[test]
@@ -132,27 +123,18 @@ fn one_bit_that_is_set_counts_from_the_next_place_on(rt: HostRuntime) -> Result<
     let mut content = BoxedSlice::with_zeroed_bits(rt.alloc(), 2048)?;
     let mut bits = content.as_mut_slice();
     bits.set_bit(100);
-    assert_eq!(rt; bits.get_bits(99, 5), 0b00010);
+    assert!(rt; bits.get_bits(99, 5) == 0b00010);
     let (index, ones) = owned(&rt, rt.alloc(), content.as_slice())?;
-    assert_eq!(rt; ones, 1);
+    assert!(rt; ones == 1);
     for (place, count) in [(100, 0), (101, 1), (999, 1)] {
-        assert_eq!(rt; ranked(&index, place), Some(count));
+        assert!(rt; ranked(&index, place) == Some(count));
     }
     Ok(())
 }
 
 #[test]
 fn an_entry_is_turned_into_that_of_the_negated_bits(rt: HostRuntime) {
-    assert_eq!(rt;
-        complement_entry(0x00C0_1803_0000_0000, 0),
-        0x7F5F_EDFD_0000_0000
-    );
-    assert_eq!(rt;
-        complement_entry(0x0601_8048_0000_0060, 1),
-        0x7A1E_85B8_0000_07A0
-    );
-    assert_eq!(rt;
-        complement_entry(0x1002_0040_0000_0800, 1),
-        0x701E_05C0_0000_0000
-    );
+    assert!(rt; complement_entry(0x00C0_1803_0000_0000, 0) == 0x7F5F_EDFD_0000_0000);
+    assert!(rt; complement_entry(0x0601_8048_0000_0060, 1) == 0x7A1E_85B8_0000_07A0);
+    assert!(rt; complement_entry(0x1002_0040_0000_0800, 1) == 0x701E_05C0_0000_0000);
 }
