@@ -50,9 +50,9 @@ fn count_at_most<T: TableSource>(
 /// The greatest place whose number is at most `v`, of the `n` numbers whose parts are the low digits and the source's
 /// words.
 ///
-/// Whatever the parts hold, a place that is found is below `n`. Where they are those of a sequence, with the tables of
-/// its upper words, it is the right one, `Absent` is answered exactly where each number is more, and `WrongParts`
-/// never.
+/// Whatever the parts hold, a place that is found is below `n`, and the parts tell (`TellsAtMost`) that the numbers up
+/// to `v` end behind it, or at place 0 for `Absent`. Where they are those of a sequence, with the tables of its upper
+/// words, it is the right one, `Absent` is answered exactly where each number is more, and `WrongParts` never.
 ///
 /// # Conditions
 /// As of `total_item_on`.
@@ -85,7 +85,8 @@ pub fn total_last_at_most_on<T: TableSource>(
 
 /// Whether `v` is one of the `n` numbers whose parts are the low digits and the source's words.
 ///
-/// `None` is answered only where the parts are not those of a sequence, with the tables of its upper words.
+/// `None` is answered only where the parts are not those of a sequence, with the tables of its upper words; with any
+/// other answer the parts tell (`TellsLess`) where the numbers less than `v` end, and it is false where that is at `n`.
 ///
 /// # Conditions
 /// As of `total_item_on`.

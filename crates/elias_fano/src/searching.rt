@@ -191,7 +191,8 @@ fn split_low(low: &mut LowDigits<'_>, first: usize, end: usize, rest: u64) -> us
 /// The least place whose number is at least `v`, of `n` numbers of which those from `first` up to `end` have its upper
 /// digits; where there are no low digits `end` is not looked at.
 ///
-/// Whatever the parts hold, and whatever these two places are, a place that is found is below `n`.
+/// Whatever the parts hold, and whatever these two places are, a place that is found is below `n`, and low digits part
+/// there, or at `n` for `Absent` (`PartsAt`).
 ///
 /// # Conditions
 /// There are fewer than 2^56 numbers and at most 63 low digits, and as many fragments as numbers; `end` is at most `n`.
@@ -269,9 +270,9 @@ pub(crate) fn first_on<const TESTS: u8, T: TableSource>(
 /// The least place whose number is at least `v`, of the `n` numbers whose parts are the low digits and the source's
 /// words.
 ///
-/// Whatever the parts hold, a place that is found is below `n`. Where they are those of a sequence, with the tables of
-/// its upper words, it is the right one, `Absent` is answered exactly where each number is less, and `WrongParts`
-/// never.
+/// Whatever the parts hold, a place that is found is below `n`, and the parts tell (`TellsLess`) that the numbers less
+/// than `v` end there, or at `n` for `Absent`. Where they are those of a sequence, with the tables of its upper words,
+/// it is the right one, `Absent` is answered exactly where each number is less, and `WrongParts` never.
 ///
 /// # Conditions
 /// As of `total_item_on`.

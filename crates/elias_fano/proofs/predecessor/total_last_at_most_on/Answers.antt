@@ -1,5 +1,5 @@
 -- The last of some numbers that are at most the value is the one before the place where they end.
-use Rattle.std.proofs.Common.{◌≡◌, ℕ, ◌+◌, ◌-◌, sym, subst, arith}
+use Rattle.std.proofs.Common.{◌≡◌, ℕ, ◌+◌, ◌-◌, subst, arith}
 use Rattle.elias_fano.specs.Held.{held_by}
 use Rattle.elias_fano.specs.Told.{TellsAtMost}
 use Rattle.elias_fano.proofs.predecessor.total_last_at_most_on.Goals as goal

@@ -1,5 +1,5 @@
 -- The ones before the end of the content are its ones.
-use Rattle.std.proofs.Common.{◌≡◌, ℕ, List, true, length, ap, subst, sym, ◌∙◌, arith}
+use Rattle.std.proofs.Common.{◌≡◌, ℕ, List, true, length, ap, subst, arith}
 use Rattle.bit_lists.proofs.lemmas.BitsLemmas.{length-bits_of}
 use Rattle.bit_lists.proofs.lemmas.CountLemmas.{ones_before_none}
 use Rattle.bit_lists.specs.Bits.{bits_of}
