@@ -383,8 +383,9 @@ BITM_MUST_USE uint32_t bitm_sequence_get_list(const struct bitm_sequence_view *v
 /* ---- a content that ends inside a word
  *
  * The same questions of the first bits_len bits of the words: what stands behind them is neither counted nor found.
- * BITM_BAD_SIZE as for a view, or if bits_len is above 64 * words_len. BITM_NONE exactly if index is above bits_len; a
- * place returned is below bits_len. Else as bitm_rank and bitm_select. */
+ * BITM_BAD_SIZE as for a view, or if bits_len is above 64 * words_len. BITM_NONE of a rank exactly if index is above
+ * bits_len; of a selection, whatever the tables hold, only as for bitm_select or if the words have such a bit at
+ * bits_len or behind it. A place returned is below bits_len. Else as bitm_rank and bitm_select. */
 struct bitm_bits_view {
     struct bitm_view view;
     uint64_t bits_len;

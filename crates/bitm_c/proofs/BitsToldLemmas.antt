@@ -7,7 +7,8 @@ use Rattle.bitm.specs.Selected.{Selected}
 use Rattle.bitm.specs.Selected.TheVariants.{Found, Absent, WrongTables}
 use Rattle.bitm.specs.Tables.{HasTables}
 use Rattle.bitm_lent.specs.Answers.{HasBit, IsSelected}
-use Rattle.bitm_lent.specs.Cut.{Cut, bits_of_cut}
+use Rattle.bitm.specs.Told.{IfAbsent}
+use Rattle.bitm_lent.specs.Cut.{Cut, bits_of_cut, TellsNoneOf}
 use Rattle.bitm_lent.specs.Ranks.{IsCountWithin, IsRanked}
 use Rattle.bitm_lent.specs.declared.ranked.Ranked.{Ranked}
 use Rattle.bitm_lent.specs.declared.ranked.Ranked.TheVariants as Told
@@ -50,9 +51,10 @@ module _ (v : Bool) (cut : Cut) (sized : IsSizedCut cut) (query status old new :
       counted r is (subst (λ (l : Cut). IsCountWithin l.len query r) same within)
       (subst (λ (l : Cut). HasTables l.lists → IsRanked (bits_of_cut l) v query r) same answer)
 
-  told : (s : Selected) → IsTold s status old new → HasBit (bits_of_cut cut) v s
+  told : (s : Selected) → IsTold s status old new → HasBit (bits_of_cut cut) v s → IfAbsent s (TellsNoneOf v cut query)
       → (HasTables cut.lists → IsSelected (bits_of_cut cut) v query s) → BitsSelectAnswered v cut query status old new
-  told (Found p) is bit answer = record {
+  told (Found p) is bit absent answer = record {
+    absent = λ e. absurd (omega (arith, is.0, e));
     kept = λ not. absurd (not is.0);
     bad = λ no. absurd (no sized);
     good = λ _. inl is.0;
@@ -60,7 +62,8 @@ module _ (v : Bool) (cut : Cut) (sized : IsSizedCut cut) (query status old new :
     right = λ _ t _. (is.0, subst (λ (n : ℕ). Picks (bits_of_cut cut) v query n) (sym is.1) (answer t));
     none = λ _ t past. absurd (omega (arith, past, rank_below (bits_of_cut cut) v query p (answer t)));
   }
-  told Absent is bit answer = record {
+  told Absent is bit absent answer = record {
+    absent = λ _. absent;
     kept = λ _. is.1;
     bad = λ no. absurd (no sized);
     good = λ _. inr (inl is.0);
@@ -68,7 +71,8 @@ module _ (v : Bool) (cut : Cut) (sized : IsSizedCut cut) (query status old new :
     right = λ _ t below. absurd (omega (arith, answer t, below));
     none = λ _ _ _. is.0;
   }
-  told WrongTables is bit answer = record {
+  told WrongTables is bit absent answer = record {
+    absent = λ e. absurd (omega (arith, is.0, e));
     kept = λ _. is.1;
     bad = λ no. absurd (no sized);
     good = λ _. inr (inr is.0);
@@ -79,7 +83,8 @@ module _ (v : Bool) (cut : Cut) (sized : IsSizedCut cut) (query status old new :
 
   -- the same of bits that are called by another name
   pub told_of : (lent : Cut) → lent ≡ cut → (s : Selected) → IsTold s status old new → HasBit (bits_of_cut lent) v s
-      → (HasTables lent.lists → IsSelected (bits_of_cut lent) v query s) → BitsSelectAnswered v cut query status old new
-  told_of lent same s is bit answer =
+      → IfAbsent s (TellsNoneOf v lent query) → (HasTables lent.lists → IsSelected (bits_of_cut lent) v query s) → BitsSelectAnswered v cut query status old new
+  told_of lent same s is bit absent answer =
       told s is (subst (λ (l : Cut). HasBit (bits_of_cut l) v s) same bit)
+      (subst (λ (l : Cut). IfAbsent s (TellsNoneOf v l query)) same absent)
       (subst (λ (l : Cut). HasTables l.lists → IsSelected (bits_of_cut l) v query s) same answer)

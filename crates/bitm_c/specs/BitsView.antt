@@ -3,7 +3,7 @@ use Rattle.std.specs.Prelude.{◌≡◌, ◌≢◌, ℕ, ◌+◌, ◌-◌, ◌<�
 use Rattle.bitm.specs.Bits.{item}
 use Rattle.bitm.specs.Count.{count_before, count_of, Picks}
 use Rattle.bitm.specs.Tables.{HasSizes, HasTables}
-use Rattle.bitm_lent.specs.Cut.{Cut, bits_of_cut, cut_at, IsWithin}
+use Rattle.bitm_lent.specs.Cut.{Cut, bits_of_cut, cut_at, IsWithin, TellsNoneOf}
 use Rattle.bitm_c.specs.Status.{lists_of}
 use Rattle.bitm_c.specs.declared.bits_view.BitsView.{BitsView}
 
@@ -31,6 +31,7 @@ pub record BitsSelectAnswered (v : Bool) (c : Cut) (rank status old new : ℕ) :
   pub bad : (IsSizedCut c → ⊥) → status ≡ 2
   pub good : IsSizedCut c → (status ≡ 0) ⊎ (status ≡ 1) ⊎ (status ≡ 3)
   pub bit : status ≡ 0 → (new < length (bits_of_cut c)) × (item (bits_of_cut c) new ≡ v)
+  pub absent : status ≡ 1 → TellsNoneOf v c rank
   pub right : IsSizedCut c → HasTables c.lists → rank < count_of (bits_of_cut c) v
       → (status ≡ 0) × Picks (bits_of_cut c) v rank new
   pub none : IsSizedCut c → HasTables c.lists → count_of (bits_of_cut c) v ≤ rank → status ≡ 1

@@ -1,13 +1,27 @@
 -- The first items of a list of bits: their counts are those of all, and a place that all have is one of them or behind them.
-use Rattle.std.proofs.Common.{◌≡◌, ℕ, ◌<◌, ◌≤◌, Bool, List, length, take, sym, ap, ◌∙◌, arith}
+use Rattle.std.proofs.Common.{◌≡◌, ℕ, ◌<◌, ◌≤◌, Bool, List, length, take, inl, inr, sym, ap, ◌∙◌, arith}
 use Rattle.std.proofs.lemmas.List.{get_or-take, length-take-le}
 use Rattle.bit_lists.proofs.lemmas.CutLemmas.{same_count}
 use Rattle.bit_lists.proofs.lemmas.CountLemmas.{count_before-le}
 use Rattle.bit_lists.specs.Bits.{item}
 use Rattle.bit_lists.specs.Count.{count_before, count_of, Picks}
+use Rattle.bitm_search.specs.Answers.{HasBit}
+use Rattle.bitm_search.specs.Tables.{bits_in}
+use Rattle.bitm_search.specs.Told.{IfAbsent, TellsNone}
+use Rattle.bitm_search.specs.declared.search.selected.Selected.{Selected}
+use Rattle.bitm_search.specs.declared.search.selected.Selected.TheVariants as Sel
+use Rattle.bitm_lent.specs.Cut.{Cut, TellsNoneOf}
 use Rattle.bitm_lent.specs.Ranks.{IsRanked}
 use Rattle.bitm_lent.specs.declared.ranked.Ranked.{Ranked}
 use Rattle.bitm_lent.specs.declared.ranked.Ranked.TheVariants.{Count, Absent, WrongTables}
+
+-- what is told of all bits
+pub none_of : (v : Bool) (c : Cut) (r : ℕ) → TellsNone v c.lists r → TellsNoneOf v c r
+none_of v c r told = inl told
+
+-- a place that was found behind the content
+pub behind_cut : (v : Bool) (c : Cut) (r p : ℕ) → c.len ≤ p → HasBit (bits_in c.lists) v (Sel.Found p) → TellsNoneOf v c r
+behind_cut v c r p behind bit = inr (record { place = p; behind = behind; inside = bit.0; bit = bit.1 })
 
 module _ (b : List Bool) (v : Bool) (len : ℕ) (within : len ≤ length b) where
   long : length (take len b) ≡ len

@@ -4,7 +4,8 @@ ghost use Rattle.std.specs.Prelude.{true, false};
 ghost use Rattle.bit_lists.specs.Count.{count_before, count_of, kind, Picks};
 ghost use Rattle.bitm_search.specs.Tables.{HasTables, bits_in};
 ghost use Rattle.bitm_search.specs.Answers.{HasBit, IsSelected};
-ghost use Rattle.bitm_lent.specs.Cut.{bits_of_cut, cut_at, IsWithin};
+ghost use Rattle.bitm_search.specs.Told.{IfAbsent, TellsNone};
+ghost use Rattle.bitm_lent.specs.Cut.{bits_of_cut, cut_at, Cut, IsWithin, TellsNoneOf};
 ghost use Rattle.bitm_lent.specs.Ranks.{IsCountWithin, IsRanked};
 ghost use Rattle.bitm_lent.specs.Samples.{IsSelectedIfTold};
 
@@ -17,7 +18,7 @@ use std::marker::Model;
 
 /// A place that was found, where it is before place `len`.
 #[inline(always)]
-#[tactic(auto, using(crate::proofs::CutLemmas::cut_bit, crate::proofs::CutLemmas::cut_absent))]
+#[tactic(auto, using(crate::proofs::CutLemmas::cut_bit, crate::proofs::CutLemmas::cut_absent, crate::proofs::CutLemmas::none_of))]
 fn cut(selected: Selected, len: usize) -> Selected
     ensures bit { (b : List Bool) (v : Bool) → len ≤ length b → HasBit b v selected
         → HasBit (take len b) v result }
@@ -25,6 +26,8 @@ fn cut(selected: Selected, len: usize) -> Selected
         → IsSelected b v r selected → IsSelected (take len b) v r result }
     ensures told { (b : List Bool) (v : Bool) (r : ℕ) → len ≤ length b
         → IsSelectedIfTold b v r selected → IsSelectedIfTold (take len b) v r result }
+    ensures none { (v : Bool) (c : Cut) (r : ℕ) → c.len ≡ len → HasBit (bits_in c.lists) v selected
+        → IfAbsent selected (TellsNone v c.lists r) → IfAbsent result (TellsNoneOf v c r) }
 {
     match selected {
         Selected::Found(place) if place >= len => Selected::Absent,
@@ -101,10 +104,14 @@ impl<'a> LentBits<'a> {
     }
 
     /// The place of the one with exactly `rank` ones before it, as `Lent::select`: places behind the content are none.
+    ///
+    /// Whatever the tables hold, `Absent` is answered only where tables and words tell no more than `rank` ones, or the
+    /// words have a one behind the content.
     pub fn select(&self, rank: usize) -> Selected
         ensures bit { HasBit (bits_of_cut self.now) true result }
         ensures answer { HasTables self.now.lists
             → IsSelected (bits_of_cut self.now) true rank result }
+        ensures none { IfAbsent result (TellsNoneOf true self.now rank) }
     {
         cut(self.lent.select(rank), self.len)
     }
@@ -114,6 +121,7 @@ impl<'a> LentBits<'a> {
         ensures bit { HasBit (bits_of_cut self.now) false result }
         ensures answer { HasTables self.now.lists
             → IsSelected (bits_of_cut self.now) false rank result }
+        ensures none { IfAbsent result (TellsNoneOf false self.now rank) }
     {
         cut(self.lent.select0(rank), self.len)
     }

@@ -1,10 +1,11 @@
 -- A place behind the content says that there are no more; one before its end is the same.
-use Rattle.std.proofs.Common.{subst, arith}
+use Rattle.std.proofs.Common.{subst, ap, sym, arith}
 use Rattle.bit_lists.specs.Count.{Picks}
 use Rattle.bitm_lent.specs.Samples.{IsSelectedIfTold}
-use Rattle.bitm_search.specs.Answers.{IsSelected}
+use Rattle.bitm_search.specs.Answers.{HasBit, IsSelected}
+use Rattle.bitm_search.specs.Tables.{bits_in}
 use Rattle.bitm_search.specs.declared.search.selected.Selected.{Selected}
-use Rattle.bitm_lent.proofs.CutLemmas.{cut_behind, cut_pick}
+use Rattle.bitm_lent.proofs.CutLemmas.{behind_cut, cut_behind, cut_pick}
 use Rattle.bitm_lent.proofs.bits.cut.Goals as goal
 
 pub returns-in-Found-clause-answer : goal.returns-in-Found-clause-answer
@@ -26,3 +27,8 @@ pub returns-in_default-clause-told : goal.returns-in_default-clause-told
 returns-in_default-clause-told c = λ b v r within s.
     let picked : Picks b v r c.in-Found.place = subst (λ (x : Selected). IsSelectedIfTold b v r x) c.in-Found.is s in
     cut_pick b v c.args.len within r c.in-Found.place (omega (arith, c.if-place-len.false)) picked
+
+pub returns-in-Found-clause-none : goal.returns-in-Found-clause-none
+returns-in-Found-clause-none c = λ v cut r same bit _.
+    behind_cut v cut r c.in-Found.place (omega (arith, same, c.if-place-len.true))
+    (subst (λ (x : Selected). HasBit (bits_in cut.lists) v x) c.in-Found.is bit)
