@@ -120,7 +120,7 @@ impl EliasFano {
     pub(crate) fn rise(&self)
         ensures { IsSequence self.now }
     {
-        let _ = &self.len;
+        let _ = &self.len; // a field that is read makes the invariant known to the proof
     }
 
     /// Number `i`.

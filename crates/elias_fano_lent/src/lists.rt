@@ -79,7 +79,7 @@ impl<'a> LentSequence<'a> {
         requires { EndsTold self.now v begin end }
         ensures { PlaceTold self.now v result }
     {
-        let _ = self.len();
+        let _ = self.len(); // its clause makes the limit of the length known to the proof
         match self.place_told(v, begin, end) {
             Sought::Found(place) => place,
             Sought::Absent => NO_ANSWER,
