@@ -1,0 +1,251 @@
+-- The bits of a tree: where their zeros and ones stand.
+use Rattle.std.proofs.Common.{◌≡◌, ℕ, zero, suc, ◌+◌, ◌-◌, ◌*◌, ◌^◌, ◌<◌, ◌≤◌, Bool, true, false, not, cond, List, length, take, get_or, refl, sym, ap, ◌∙◌, ⊎_elim, arith, subst, eqb}
+use Rattle.std.proofs.lemmas.Bool.{cases_lt, cases_eq, eq-eqb, ne_eqb}
+use Rattle.std.proofs.lemmas.Grind.{same_number_lists}
+use Rattle.std.proofs.lemmas.List.FromFn.{length-map-range_with_len, get_or-map-range_with_len}
+use Rattle.std.specs.List.{sum}
+use Rattle.bitm.specs.Bits.{item}
+use Rattle.bitm.specs.Count.{zeros_before, ones_of, zeros_of, is_same, places, Picks}
+use Rattle.bitm.proofs.BitLaws.{at_most_one_picked, count_after_item, counts_grow, none_before_the_first, ones_and_zeros, places_are_counted, places_are_picked}
+use Rattle.bitm.proofs.Callers.{one_below, zero_below}
+use Rattle.louds.proofs.lemmas.TreeLemmas.{sum_all, sum_part, sum_order, zero_place_more, parent_of, one_parent}
+use Rattle.louds.specs.Held.{zero_place, IsWritten, IsHeld, degrees_of, IsOneOf, words_of}
+use Rattle.louds.specs.Tree.{IsChild, IsTree, IsLast, IsNextSibling}
+
+-- what is not false
+true_of : (x : Bool) → (x ≡ false → ⊥) → x ≡ true
+true_of true h = refl
+true_of false h = absurd (h refl)
+
+-- zeros do not stand after the last one
+pub zero_place_order : (d : List ℕ) (i j : ℕ) → i ≤ j → j ≤ length d → zero_place d i ≤ zero_place d j
+zero_place_order d i j order inside = omega (arith, sum_order d i j order inside)
+
+zero_after_one : (b : List Bool) (p : ℕ) → p < length b → item b p ≡ true → zeros_before b (p + 1) ≡ zeros_before b p
+zero_after_one b p inside is =
+    let e = count_after_item b false p inside ∙ ap (λ x. zeros_before b p + cond (is_same false x) 1 0) is in omega (arith, e)
+
+zero_after_zero : (b : List Bool) (p : ℕ) → p < length b → item b p ≡ false → zeros_before b (p + 1) ≡ zeros_before b p + 1
+zero_after_zero b p inside is =
+    count_after_item b false p inside ∙ ap (λ x. zeros_before b p + cond (is_same false x) 1 0) is
+
+-- no zeros in a run of ones
+none_in_run : (b : List Bool) (i m : ℕ) → i + m ≤ length b → ((p : ℕ) → i ≤ p → p < i + m → item b p ≡ true)
+    → zeros_before b (i + m) ≡ zeros_before b i
+none_in_run b i zero inside ones = let e : i + 0 ≡ i = omega arith in ap (zeros_before b) e
+none_in_run b i (suc m) inside ones =
+    let e : i + suc m ≡ i + m + 1 = omega arith in
+    ap (zeros_before b) e
+    ∙ zero_after_one b (i + m) (omega arith) (ones (i + m) (omega arith) (omega arith))
+    ∙ none_in_run b i m (omega arith) (λ p from to. ones p from (omega arith))
+
+-- so many zeros stand before each zero
+count_zeros : (d : List ℕ) (b : List Bool) → IsWritten d (length d) b → 1 + length d + sum d < length b
+    → (j : ℕ) → j ≤ length d → zeros_before b (zero_place d j) ≡ j
+count_zeros d b w room zero within =
+    let first : zero_place d 0 ≡ 0 + 1 = refl in
+    ap (zeros_before b) first ∙ zero_after_one b 0 (omega arith) w.root ∙ none_before_the_first b false
+count_zeros d b w room (suc j) within =
+    let inside : j < length d = omega arith in
+    let next : suc j ≡ j + 1 = omega arith in
+    let more = zero_place_more d j inside in
+    let end : zero_place d (j + 1) ≤ zero_place d (length d) = zero_place_order d (j + 1) (length d) (omega arith) (omega arith) in
+    let all = sum_all d (length d) refl in
+    let here : zero_place d j < length b = omega (arith, more, end, all) in
+    ap (λ k. zeros_before b (zero_place d k)) next
+    ∙ ap (zeros_before b) more
+    ∙ none_in_run b (zero_place d j + 1) (get_or d j 0) (omega (arith, more, end, all))
+    (λ p from to. w.ones j p inside (omega arith) (omega (arith, more)))
+    ∙ zero_after_zero b (zero_place d j) here (w.zeros j (omega arith))
+    ∙ ap (λ k. k + 1) (count_zeros d b w room j (omega arith))
+    ∙ sym next
+
+-- what was written holds the tree
+pub held : (d : List ℕ) (n : ℕ) (b : List Bool) → IsTree d → n ≡ length d → n < 2 ^ 60 → IsWritten d (length d) b
+    → length b ≡ 64 * words_of n → IsHeld d n b
+held d n b tree count short w tight = record {
+  count = count;
+  tight = tight;
+  tree = tree;
+  short = short;
+  zeros = λ j within.
+      let inside : j ≤ length d = omega arith in
+      let room : 2 * length d + 1 ≤ length b = omega (arith, tight, count) in
+      record {
+        inside = omega (arith, zero_place_order d j (length d) inside (omega arith), sum_all d (length d) refl, tree.count);
+        item = w.zeros j inside;
+        before = count_zeros d b w (omega (arith, tree.count)) j inside;
+      };
+}
+
+module _ (d : List ℕ) (n : ℕ) (b : List Bool) (h : IsHeld d n b) where
+  -- there are more zeros than each rank up to the number of nodes
+  pub has_zero : (j : ℕ) → j ≤ n → j < zeros_of b
+  has_zero j within = zero_below b j (zero_place d j) (h.zeros j within)
+
+  -- zero j is where it stands
+  pub zero_is : (j p : ℕ) → j ≤ n → Picks b false j p → p ≡ zero_place d j
+  zero_is j p within picked = at_most_one_picked b false j p (zero_place d j) picked (h.zeros j within)
+
+  -- it is listed there
+  listed : (j : ℕ) → j ≤ n → get_or (places false 0 b) j 0 ≡ zero_place d j
+  listed j within =
+      zero_is j (get_or (places false 0 b) j 0) within
+      (places_are_picked b false j (omega (arith, places_are_counted b false, has_zero j within)))
+
+  -- so the bits hold the degrees
+  pub degrees_of-is : degrees_of b n ≡ d
+  degrees_of-is =
+      same_number_lists (degrees_of b n) d len
+      (λ i less.
+      let inside : i < length d = omega (arith, len) in
+      get_or-map-range_with_len degree 0 n i i 0 (omega (arith, h.count)) (omega arith)
+      ∙ omega (arith, listed i (omega (arith, h.count)), listed (i + 1) (omega (arith, h.count)), zero_place_more d i inside))
+    where
+      degree : ℕ → ℕ
+      degree i = get_or (places false 0 b) (i + 1) 0 - get_or (places false 0 b) i 0 - 1
+
+      len : length (degrees_of b n) ≡ length d
+      len = length-map-range_with_len degree 0 n ∙ h.count
+
+  -- all zeros stand well below the greatest number
+  pub zero_small : (j : ℕ) → j ≤ n → zero_place d j < 2 ^ 62
+  zero_small j within = omega (arith, h.count, h.short, h.tree.count, sum_part d j)
+
+  -- a place where no zero is counted is that of a one
+  one_where : (p j : ℕ) → p < length b → j ≤ zeros_before b p → zeros_before b (p + 1) ≤ j → item b p ≡ true
+  one_where p j inside low high = true_of (item b p) (λ is. omega (arith, zero_after_zero b p inside is))
+
+  -- the root's one is the first bit
+  root_one : Picks b true 0 0
+  root_one =
+      let first : zero_place d 0 ≡ 0 + 1 = refl in
+      let z = h.zeros 0 (omega arith) in
+      let inside : 0 < length b = omega (arith, z.inside) in
+      record {
+        inside = inside;
+        item = one_where 0 0 inside (omega arith) (omega (arith, z.before, ap (zeros_before b) first));
+        before = none_before_the_first b true;
+      }
+
+  -- k places after the first one of node i stands that of its child k
+  pub child_one : (i k v : ℕ) → IsChild d i k v → Picks b true v (zero_place d i + 1 + k)
+  child_one i k v c =
+      let low = h.zeros i (omega (arith, h.count, c.node)) in
+      let high = h.zeros (i + 1) (omega (arith, h.count, c.node)) in
+      let more = zero_place_more d i c.node in
+      let p = zero_place d i + 1 + k in
+      let below : p + 1 ≤ zero_place d (i + 1) = omega (arith, more, c.some) in
+      let inside : p < length b = omega (arith, high.inside) in
+      let after = zero_after_zero b (zero_place d i) low.inside low.item in
+      let from : i + 1 ≤ zeros_before b p = omega (arith, after, low.before, counts_grow b false (zero_place d i + 1) p (omega arith)) in
+      let to : zeros_before b (p + 1) ≤ i + 1 = omega (arith, high.before, counts_grow b false (p + 1) (zero_place d (i + 1)) below) in
+      let to_here : zeros_before b p ≤ zeros_before b (p + 1) = counts_grow b false p (p + 1) (omega arith) in
+      record {
+        inside = inside;
+        item = one_where p (i + 1) inside from to;
+        before = omega (arith, ones_and_zeros b p (omega arith), from, to, to_here, c.number);
+      }
+
+  -- each node has a one
+  pub picked_one : (v : ℕ) → v < n → (p : ℕ) × Picks b true v p × IsOneOf d v p
+  picked_one v less =
+      ⊎_elim
+      (λ none. (0, subst (λ (x : ℕ). Picks b true x 0) (sym none) root_one, ((λ _. refl), (λ some. absurd (omega arith)))))
+      (λ other.
+      let some : 0 < v = omega arith in
+      let found = parent_of d v h.tree some (omega (arith, h.count)) in
+      let i = found.0 in
+      let k = found.1 in
+      (zero_place d i + 1 + k, child_one i k v found.3, ((λ none. absurd (omega arith)), (λ _. (i, k, found.2, found.3, refl)))))
+      (cases_eq v 0)
+
+  pub has_one : (v : ℕ) → v < n → v < ones_of b
+  has_one v less = let o = picked_one v less in one_below b v o.0 o.1
+
+  pub one_is : (v p : ℕ) → v < n → Picks b true v p → IsOneOf d v p
+  one_is v p less picked =
+      let o = picked_one v less in
+      let same : o.0 ≡ p = at_most_one_picked b true v o.0 p o.1 picked in
+      subst (λ (q : ℕ). IsOneOf d v q) same o.2
+
+  -- ---- the bit after a place
+
+  -- after the zero before a node's ones
+  pub bit_after_zero : (v : ℕ) → v < n → not (item b (zero_place d v + 1)) ≡ eqb (get_or d v 0) 0
+  bit_after_zero v less =
+      let inside : v < length d = omega (arith, h.count) in
+      let more = zero_place_more d v inside in
+      ⊎_elim
+      (λ none.
+      let there : zero_place d v + 1 ≡ zero_place d (v + 1) = omega (arith, more) in
+      ap (λ p. not (item b p)) there ∙ ap not (h.zeros (v + 1) (omega arith)).item ∙ sym (eq-eqb (get_or d v 0) 0 none))
+      (λ some.
+      let c : IsChild d v 0 (1 + sum (take v d) + 0) = record { node = inside; some = omega arith; number = refl } in
+      let there : zero_place d v + 1 ≡ zero_place d v + 1 + 0 = omega arith in
+      ap (λ p. not (item b p)) there ∙ ap not (child_one v 0 _ c).item ∙ sym (ne_eqb (get_or d v 0) 0 some))
+      (cases_eq (get_or d v 0) 0)
+
+  pub after_zero_inside : (v : ℕ) → v < n → zero_place d v + 1 < length b
+  after_zero_inside v less =
+      omega (arith, zero_place_more d v (omega (arith, h.count)), (h.zeros (v + 1) (omega arith)).inside)
+
+  -- after the one of a node
+  pub after_one_inside : (v p : ℕ) → v < n → IsOneOf d v p → p + 1 < length b
+  after_one_inside v p less one =
+      ⊎_elim
+      (λ none. let first : zero_place d 0 ≡ 0 + 1 = refl in omega (arith, one.0 none, first, (h.zeros 0 (omega arith)).inside))
+      (λ other.
+      let o = one.1 (omega arith) in
+      let c = o.3 in
+      omega (arith, o.4, c.some, zero_place_more d o.0 c.node, (h.zeros (o.0 + 1) (omega (arith, h.count, c.node))).inside))
+      (cases_eq v 0)
+
+  pub next_of_one : (v p : ℕ) → v < n → IsOneOf d v p → item b (p + 1) ≡ true → IsNextSibling d v (v + 1)
+  next_of_one v p less one is =
+      ⊎_elim
+      (λ none.
+      let there : p + 1 ≡ zero_place d 0 = omega (arith, one.0 none, first) in
+      absurd (clash (p + 1) is (ap (item b) there ∙ (h.zeros 0 (omega arith)).item)))
+      (λ other.
+      let o = one.1 (omega arith) in
+      let i = o.0 in
+      let k = o.1 in
+      let c = o.3 in
+      let more = zero_place_more d i c.node in
+      ⊎_elim
+      (λ some. (i, k, c, record { node = c.node; some = some; number = omega (arith, c.number) }))
+      (λ last.
+      let there : p + 1 ≡ zero_place d (i + 1) = omega (arith, o.4, more, c.some) in
+      absurd (clash (p + 1) is (ap (item b) there ∙ (h.zeros (i + 1) (omega (arith, h.count, c.node))).item)))
+      (cases_lt (k + 1) (get_or d i 0)))
+      (cases_eq v 0)
+    where
+      first : zero_place d 0 ≡ 1
+      first = refl
+
+      clash : (q : ℕ) → item b q ≡ true → item b q ≡ false → ⊥
+      clash q one none = let both : true ≡ false = sym one ∙ none in cc
+
+  pub last_of_one : (v p : ℕ) → v < n → IsOneOf d v p → item b (p + 1) ≡ false → IsLast d v
+  last_of_one v p less one is i k c =
+      ⊎_elim
+      (λ none. absurd (omega (arith, c.number)))
+      (λ other.
+      let o = one.1 (omega arith) in
+      let same = one_parent d i o.0 k o.1 v c o.3 in
+      let at : zero_place d i + 1 + (k + 1) ≡ p + 1 = omega (arith, o.4, ap (zero_place d) same.0, same.1) in
+      ⊎_elim
+      (λ some.
+      let next : IsChild d i (k + 1) (v + 1) = record { node = c.node; some = some; number = omega (arith, c.number) } in
+      absurd (clash (p + 1) (ap (item b) (sym at) ∙ (child_one i (k + 1) (v + 1) next).item) is))
+      (λ last. omega (arith, c.some))
+      (cases_lt (k + 1) (get_or d i 0)))
+      (cases_eq v 0)
+    where
+      clash : (q : ℕ) → item b q ≡ true → item b q ≡ false → ⊥
+      clash q one none = let both : true ≡ false = sym one ∙ none in cc
+
+  -- they hold what they hold
+  pub held_degrees : IsHeld (degrees_of b n) n b
+  held_degrees = subst (λ (xs : List ℕ). IsHeld xs n b) (sym degrees_of-is) h

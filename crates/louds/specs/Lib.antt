@@ -1,0 +1,5 @@
+pub mod Tree
+pub mod Held
+pub mod Laws
+pub mod Error
+pub mod Value

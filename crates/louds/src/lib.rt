@@ -1,0 +1,25 @@
+//! A tree whose nodes are numbered level by level, in about two bits a node.
+//!
+//! Contracts see a tree as the list of its nodes' degrees: how many children each has.
+//!
+//! ```
+//! let Ok(tree) = SampledLouds::build(alloc, [2usize, 0, 1, 0].as_slice()) else { .. };
+//! tree.child(0, 1);       // Some(2)
+//! tree.parent(3);         // Some(2)
+//! tree.next_sibling(1);   // Some(2)
+//! tree.is_leaf(1);        // true
+//! ```
+//!
+//! # Source
+//! Jacobson, 'Space-efficient static trees and graphs' (FOCS 1989).
+#![tactic(auto)]
+
+mod checking;
+mod error;
+pub mod laws;
+mod making;
+mod tree;
+
+pub use checking::is_tree;
+pub use error::LoudsError;
+pub use tree::{BinaryLouds, Louds, SampledLouds};

@@ -1,0 +1,51 @@
+//! The bits of a tree, in one pass over the degrees.
+ghost use Rattle.std.specs.Prelude.{◌≡◌, ◌+◌, ◌*◌, ◌<◌, ◌≤◌, ◌^◌, ℕ, true, false, length, sum, IfOk};
+ghost use Rattle.std.specs.Box.{boxed_slice_items};
+ghost use Rattle.bitm.specs.Bits.{bits_of, item};
+ghost use Rattle.louds.specs.Held.{IsWritten, words_of};
+
+use bitm::{BitVec, words};
+use std::alloc::{AllocError, Global};
+use std::boxed::BoxedSlice;
+
+/// Writes 10, and then for each node its degree in ones and a zero, where all bits are zeros.
+///
+/// # Conditions
+/// There are as many bits as these take.
+fn write_degrees(words: &mut [u64], degrees: &[usize])
+    requires some { 0 < length words.old }
+    requires fits { 2 + length degrees.now + sum degrees.now < 2 ^ 64 }
+    requires room { 2 + length degrees.now + sum degrees.now ≤ 64 * length words.old }
+    requires clear { (p : ℕ) → item (bits_of words.old) p ≡ false }
+    ensures { IsWritten degrees.now (length degrees.now) (bits_of words.new) }
+{
+    words::fill_range(words, 0, 1, true);
+    let mut place = 2;
+    for i in 0..degrees.len() {
+        let end = place + degrees[i];
+        words::fill_range(words, place, end, true);
+        place = end + 1;
+    }
+}
+
+/// The bits of a tree of these degrees.
+///
+/// # Conditions
+/// There is one child for each node but the root, and fewer than 2^60 nodes.
+/// # Errors
+/// `AllocError` where memory was refused.
+#[tactic(auto, using(bitm::proofs::BitLaws::zeros_have_no_ones))]
+pub(crate) fn make_bits(
+    alloc: Global,
+    degrees: &[usize],
+) -> Result<BoxedSlice<u64, Global>, AllocError>
+    requires short { length degrees.now < 2 ^ 60 }
+    requires count { sum degrees.now + 1 ≡ length degrees.now }
+    ensures len { IfOk result (λ made. length (boxed_slice_items made) ≡ words_of (length degrees.now)) }
+    ensures written { IfOk result (λ made.
+        IsWritten degrees.now (length degrees.now) (bits_of (boxed_slice_items made))) }
+{
+    let mut made = BoxedSlice::with_zeroed_bits(alloc, 2 * degrees.len() + 1)?;
+    write_degrees(made.as_mut_slice(), degrees);
+    Ok(made)
+}

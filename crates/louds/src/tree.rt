@@ -1,0 +1,309 @@
+//! The type of a tree, and what it is asked.
+ghost use Rattle.std.specs.Prelude.{◌≡◌, ◌==◌, ◌+◌, ◌*◌, ◌^◌, ◌<◌, ◌≤◌, ◌↔◌, IfOk, IfSome, IsErrOf, length, slice_index};
+ghost use Rattle.std.specs.Int.{div_ceil};
+ghost use Rattle.bitm.specs.Size.{saturated_size};
+ghost use Rattle.louds.specs.Held.{words_of, zero_place, IsOneOf};
+ghost use Rattle.louds.specs.Tree.{AreChildren, IsTree, MatchesChild, MatchesLastChild};
+ghost use Rattle.louds.specs.Tree.{MatchesParent, MatchesChildRank, MatchesNextSibling};
+
+use crate::checking::is_tree;
+use crate::error::LoudsError;
+use crate::making::make_bits;
+use bitm::{
+    Access, AdaptiveCombinedSamplingDensity, BinaryRankSearch, CombinedSampling, GetSize,
+    RankSelect101111, Select, Select0, Select0ForRank101111, SelectForRank101111,
+};
+use std::alloc::{AllocError, Global};
+use std::boxed::BoxedSlice;
+use std::marker::Model;
+use std::ops::Range;
+
+/// As many degrees as are not taken.
+const TOO_MANY: usize = 1 << 60;
+
+/// A tree whose nodes are numbered level by level from the root, node 0: child `k` of node `i` is one more than the
+/// children of all nodes before `i`, and `k`.
+///
+/// It is held as 10 and then for each node its degree in ones and a zero, `2 * n + 1` bits for `n` nodes, with an index.
+/// The one of rank `v` is that of node `v`, among those of its parent; the zero of rank `v` stands before the ones of
+/// node `v`. Generic in the two strategies that select ones and zeros.
+#[derive(Drop)]
+pub struct Louds<S: SelectForRank101111, S0: Select0ForRank101111> {
+    len: usize,
+    index: RankSelect101111<S, S0, BoxedSlice<u64, Global>>,
+}
+
+impl<S: SelectForRank101111, S0: Select0ForRank101111> Model for Louds<S, S0> {
+    ghost use Rattle.std.specs.Box.{boxed_slice_items};
+    ghost use Rattle.bitm.specs.Bits.{bits_of};
+    ghost use Rattle.louds.specs.Held.{degrees_of, IsHeld};
+    ghost use Rattle.louds.specs.Value.{TreeValue};
+
+    ghost Value = { TreeValue S S0 };
+
+    ghost view = { λ t. record {
+      degrees = degrees_of (bits_of (boxed_slice_items t.index.content)) t.len;
+      select = t.index.select;
+      select0 = t.index.select0;
+    } };
+
+    ghost invariant = { λ t. let bits = bits_of (boxed_slice_items t.index.content) in
+        IsHeld (degrees_of bits t.len) t.len bits };
+}
+
+impl<S: SelectForRank101111, S0: Select0ForRank101111> Louds<S, S0> {
+    /// The tree of the degrees, which stay as they are.
+    ///
+    /// # Errors
+    /// `TooLong` exactly where there are 2^60 degrees or more; else `NotATree` exactly where they are those of no tree;
+    /// else `OutOfMemory` where memory was refused. Nothing is left then.
+    /// # Cost
+    /// One pass over the degrees to test them, one to write their bits, and one over the bits for the index.
+    pub fn build(alloc: Global, degrees: &[usize]) -> Result<Self, LoudsError>
+        ensures ok { IfOk result (λ made. made.degrees ≡ degrees.now) }
+        ensures too_long { IsErrOf result LoudsError.TooLong ↔ (2 ^ 60 ≤ length degrees.now) }
+        ensures not_a_tree { IsErrOf result LoudsError.NotATree
+            ↔ ((length degrees.now < 2 ^ 60) × (¬ (IsTree degrees.now))) }
+    {
+        if degrees.len() >= TOO_MANY {
+            return Err(LoudsError::TooLong);
+        }
+        if !is_tree(degrees) {
+            return Err(LoudsError::NotATree);
+        }
+        let bits = make_bits(alloc, degrees)?;
+        match RankSelect101111::build(alloc, bits) {
+            Ok((index, _ones)) => Ok(Louds {
+                len: degrees.len(),
+                index,
+            }),
+            Err(_) => Err(LoudsError::OutOfMemory),
+        }
+    }
+
+    /// How many nodes there are; at least the root.
+    #[inline(always)]
+    pub fn len(&self) -> usize
+        ensures count { result ≡ length self.now.degrees }
+        ensures short { result < 2 ^ 60 }
+        ensures tree { IsTree self.now.degrees }
+    {
+        self.len
+    }
+
+    /// The place of the zero before the ones of a node, or of the last zero.
+    #[inline(always)]
+    fn zero(&self, node: usize) -> usize
+        requires { node ≤ length self.now.degrees }
+        ensures place { result ≡ zero_place self.now.degrees node }
+        ensures small { result < 2 ^ 62 }
+    {
+        self.index.select0(node)
+    }
+
+    /// The place of the one of a node.
+    #[inline(always)]
+    fn one(&self, node: usize) -> usize
+        requires { node < length self.now.degrees }
+        ensures { IsOneOf self.now.degrees node result }
+    {
+        self.index.select(node)
+    }
+
+    /// How many children a node has.
+    ///
+    /// # Conditions
+    /// There is such a node.
+    /// # Cost
+    /// Two selections.
+    #[inline]
+    #[tactic(auto, using(crate::proofs::lemmas::TreeLemmas::zero_place_more))]
+    pub fn degree(&self, node: usize) -> usize
+        requires { node < length self.now.degrees }
+        ensures { result ≡ slice_index self.now.degrees node }
+    {
+        let start = self.zero(node);
+        let end = self.zero(node + 1);
+        end - start - 1
+    }
+
+    /// Whether a node has no children.
+    ///
+    /// # Conditions
+    /// There is such a node.
+    /// # Cost
+    /// One selection, and one word of the bits.
+    #[inline]
+    pub fn is_leaf(&self, node: usize) -> bool
+        requires { node < length self.now.degrees }
+        ensures { result ≡ (slice_index self.now.degrees node == 0) }
+    {
+        let next = self.zero(node) + 1;
+        !self.index.get_bit(next)
+    }
+
+    /// Child `k` of a node; `None` exactly where it has no more than `k` children.
+    ///
+    /// # Conditions
+    /// There is such a node.
+    /// # Cost
+    /// Two selections.
+    #[inline]
+    #[tactic(auto, using(crate::proofs::lemmas::TreeLemmas::zero_place_more))]
+    pub fn child(&self, node: usize, k: usize) -> Option<usize>
+        requires { node < length self.now.degrees }
+        ensures child { MatchesChild self.now.degrees node k result }
+        ensures inside { IfSome result (λ child. child < length self.now.degrees) }
+    {
+        let _nodes = self.len();
+        let start = self.zero(node);
+        let end = self.zero(node + 1);
+        if k < end - start - 1 {
+            Some(start + k - node)
+        } else {
+            None
+        }
+    }
+
+    /// The first child of a node; `None` exactly where it has none.
+    ///
+    /// # Conditions
+    /// There is such a node.
+    /// # Cost
+    /// Two selections.
+    #[inline]
+    pub fn first_child(&self, node: usize) -> Option<usize>
+        requires { node < length self.now.degrees }
+        ensures child { MatchesChild self.now.degrees node 0 result }
+        ensures inside { IfSome result (λ child. child < length self.now.degrees) }
+    {
+        self.child(node, 0)
+    }
+
+    /// The children of a node, in their order: an iterator from either end, which reads nothing.
+    ///
+    /// # Conditions
+    /// There is such a node.
+    /// # Cost
+    /// Two selections.
+    #[inline]
+    pub fn children(&self, node: usize) -> Range<usize>
+        requires { node < length self.now.degrees }
+        ensures { AreChildren self.now.degrees node result.start result.end }
+    {
+        let start = self.zero(node);
+        let end = self.zero(node + 1);
+        start - node..end - node - 1
+    }
+
+    /// The last child of a node; `None` exactly where it has none.
+    ///
+    /// # Conditions
+    /// There is such a node.
+    /// # Cost
+    /// Two selections.
+    #[inline]
+    pub fn last_child(&self, node: usize) -> Option<usize>
+        requires { node < length self.now.degrees }
+        ensures { MatchesLastChild self.now.degrees node result }
+    {
+        let all = self.children(node);
+        if all.start == all.end {
+            None
+        } else {
+            Some(all.end - 1)
+        }
+    }
+
+    /// The parent of a node; `None` exactly where it is the root.
+    ///
+    /// # Conditions
+    /// There is such a node.
+    /// # Cost
+    /// One selection.
+    #[inline]
+    pub fn parent(&self, node: usize) -> Option<usize>
+        requires { node < length self.now.degrees }
+        ensures { MatchesParent self.now.degrees node result }
+    {
+        if node == 0 {
+            None
+        } else {
+            Some(self.one(node) - node - 1)
+        }
+    }
+
+    /// Which child of its parent a node is; `None` exactly where it is the root.
+    ///
+    /// # Conditions
+    /// There is such a node.
+    /// # Cost
+    /// Two selections.
+    #[inline]
+    pub fn child_rank(&self, node: usize) -> Option<usize>
+        requires { node < length self.now.degrees }
+        ensures { MatchesChildRank self.now.degrees node result }
+    {
+        if node == 0 {
+            return None;
+        }
+        let one = self.one(node);
+        Some(one - self.zero(one - node - 1) - 1)
+    }
+
+    /// The next child of a node's parent; `None` exactly where the node is the last child or the root.
+    ///
+    /// # Conditions
+    /// There is such a node.
+    /// # Cost
+    /// One selection, and one word of the bits.
+    #[inline]
+    pub fn next_sibling(&self, node: usize) -> Option<usize>
+        requires { node < length self.now.degrees }
+        ensures { MatchesNextSibling self.now.degrees node result }
+    {
+        if self.index.get_bit(self.one(node) + 1) {
+            Some(node + 1)
+        } else {
+            None
+        }
+    }
+
+    /// A tree of the same degrees, with bits, tables and strategies of its own.
+    ///
+    /// # Errors
+    /// `AllocError` if memory was refused; this value is as it was.
+    pub fn try_clone(&self, alloc: Global) -> Result<Self, AllocError>
+        ensures { IfOk result (λ copy. copy.degrees ≡ self.now.degrees) }
+    {
+        let index = self.index.try_clone(alloc)?;
+        Ok(Louds {
+            len: self.len,
+            index,
+        })
+    }
+}
+
+impl<S: SelectForRank101111 + GetSize, S0: Select0ForRank101111 + GetSize> GetSize
+    for Louds<S, S0> {
+    // the bits, eight bytes for each begun 2^32 and each begun 2048 of them, and the two strategies
+    ghost dyn_bytes = { λ t. let words = words_of (length t.degrees) in saturated_size
+        (8 * words + 8 * div_ceil words (2 ^ 26) + 8 * div_ceil words 32
+        + S.dyn_bytes t.select + S0.dyn_bytes t.select0) };
+
+    const USES_DYN_MEM: bool = true;
+
+    #[tactic(auto, using(bitm::proofs::BitLaws::bits_are_counted))]
+    fn size_bytes_dyn(&self) -> usize {
+        self.index.size_bytes_dyn()
+    }
+}
+
+/// Samples of the bits: one for each 2^13 ones or zeros, or fewer where there are fewer of these.
+type Sampled = CombinedSampling<AdaptiveCombinedSamplingDensity<13>>;
+
+/// A tree that selects by samples, the fastest: what to take unless the reads of binary search are wanted.
+pub type SampledLouds = Louds<Sampled, Sampled>;
+
+/// A tree that selects by binary search, and keeps nothing for it.
+pub type BinaryLouds = Louds<BinaryRankSearch, BinaryRankSearch>;

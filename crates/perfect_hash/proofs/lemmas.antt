@@ -1,0 +1,12 @@
+pub mod BuildLemmas
+pub mod CollideLemmas
+pub mod CountingLemmas
+pub mod DictionaryLemmas
+pub mod GetLemmas
+pub mod KeyLemmas
+pub mod LevelLemmas
+pub mod MarkLemmas
+pub mod NumberLemmas
+pub mod PerfectLemmas
+pub mod PlaceLemmas
+pub mod WordLemmas

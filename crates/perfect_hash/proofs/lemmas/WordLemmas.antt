@@ -1,0 +1,19 @@
+-- Bits of words that stand one behind another.
+use Rattle.std.proofs.Common.{◌≡◌, ℕ, ◌+◌, ◌-◌, ◌*◌, ◌<◌, Bool, false, List, ◌++◌, length, ap, ◌∙◌, arith}
+use Rattle.std.proofs.lemmas.List.{get_or_append_left, get_or-append_right}
+use Rattle.bitm.specs.Bits.{bits_of, item}
+use Rattle.bitm.proofs.BitLaws.{bits_are_counted, bits_are_joined}
+
+-- the bits before those that are added
+pub item-first : (old new : List ℕ) (i : ℕ) → i < 64 * length old → item (bits_of (old ++ new)) i ≡ item (bits_of old) i
+item-first old new i inside =
+    ap (λ (b : List Bool). item b i) (bits_are_joined old new)
+    ∙ get_or_append_left (bits_of old) (bits_of new) false i (omega (arith, bits_are_counted old))
+
+-- the bits that are added
+pub item-added : (old new : List ℕ) (i : ℕ) → item (bits_of (old ++ new)) (64 * length old + i) ≡ item (bits_of new) i
+item-added old new i =
+    let at = 64 * length old + i in
+    ap (λ (b : List Bool). item b at) (bits_are_joined old new)
+    ∙ get_or-append_right (bits_of old) (bits_of new) (64 * length old) at false (bits_are_counted old) (omega arith)
+    ∙ ap (λ (q : ℕ). item (bits_of new) q) (let e : 64 * length old + i - 64 * length old ≡ i = omega arith in e)

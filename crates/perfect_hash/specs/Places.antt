@@ -1,0 +1,21 @@
+-- Where a hash falls in a level.
+use Rattle.std.specs.Prelude.{ℕ, ◌+◌, ◌*◌, ◌/◌, ◌%◌, ◌^◌, bit_xor, max}
+
+-- x, its higher half folded down by so many digits, times a number
+abbrev pub folded : ℕ → ℕ → ℕ → ℕ
+folded by times x = bit_xor x (x / 2 ^ by) * times % 2 ^ 64
+
+-- number `level` of the generator splitmix64 that begins at the hash
+unfoldable pub spread : ℕ → ℕ → ℕ
+spread hash level =
+    let start = (hash + (level + 1) * 0x9E3779B97F4A7C15 % 2 ^ 64) % 2 ^ 64 in
+    let z = folded 27 0x94D049BB133111EB (folded 30 0xBF58476D1CE4E5B9 start) in
+    bit_xor z (z / 2 ^ 31)
+
+-- the bit of a level of so many words that a hash falls on: the spread number, as a fraction of 2^64, of the bits
+unfoldable pub place_in : ℕ → ℕ → ℕ → ℕ
+place_in hash level words = spread hash level % 2 ^ 64 * (64 * words) / 2 ^ 64
+
+-- how many words a level for n keys has: `percent` bits for each 100 keys, no fewer than 50, and one word at least
+abbrev pub words_for : ℕ → ℕ → ℕ
+words_for percent n = n * max percent 50 / 6400 + 1

@@ -1,0 +1,176 @@
+//! Building: level after level, until no key is left.
+ghost use Rattle.std.specs.Prelude.{◌≡◌, ◌↔◌, ◌+◌, ◌^◌, ◌<◌, ◌≤◌, [], length, map, IfOk, IfErr, IsErrOf, OnOk};
+ghost use Rattle.bitm.specs.Bits.{IsShort};
+ghost use Rattle.perfect_hash.specs.Levels.{AddsLevel, Leave};
+ghost use Rattle.perfect_hash.specs.Parts.{number_of, AreLevels, IfCollide};
+ghost use Rattle.perfect_hash.specs.Perfect.{IsMinimalPerfect};
+ghost use Rattle.perfect_hash.specs.Places.{place_in, words_for};
+
+use crate::error::{BuildError, Refused};
+use crate::hashing::KeyHash;
+use crate::level::{Buffers, keep_left, make_level};
+use crate::places::level_words;
+use crate::table::PerfectHash;
+use bitm::ArrayWithRank101111;
+use std::alloc::{AllocError, Global};
+
+/// At most so many levels are made.
+const LEVELS: u32 = 256;
+
+/// The first level has fewer words, so that all levels together have fewer than 2^58.
+const TOO_MANY: u128 = 1 << 50;
+
+/// The levels of keys: how many words each has, and the words of all, one level behind another.
+#[derive(Drop)]
+pub struct Levels {
+    /// How many words each level has.
+    pub sizes: Vec<usize>,
+    /// The words of all levels, one level behind another.
+    pub words: Vec<u64>,
+}
+
+/// The hash of each key.
+fn hash_all<K, H: KeyHash<K>>(alloc: Global, hasher: &H, keys: &[K]) -> Result<Vec<u64>, AllocError>
+    ensures { IfOk result (λ hashes. hashes.items ≡ map (H.hash hasher.now) keys.now) }
+{
+    let mut hashes = Vec::with_capacity(alloc, keys.len())?;
+    for key in keys {
+        hashes.push(hasher.hash(key))?;
+    }
+    Ok(hashes)
+}
+
+/// Adds a level for the hashes that are left, and leaves those that are left then.
+///
+/// # Conditions
+/// There are as many levels as `level` says; with this one, which has a word, there are fewer than 2^58 words.
+fn add_level(
+    levels: &mut Levels,
+    buffers: &mut Buffers,
+    hashes: &mut Vec<u64>,
+    level: u32,
+    size: usize,
+) -> Result<(), AllocError>
+    requires count { length levels.old.sizes.items ≡ level }
+    requires some { 0 < size }
+    requires short { length levels.old.words.items + size < 2 ^ 58 }
+    ensures added { OnOk result (AddsLevel place_in hashes.old.items
+        levels.old.sizes.items levels.old.words.items
+        levels.new.sizes.items levels.new.words.items hashes.new.items) }
+    ensures len { OnOk result
+        (length levels.new.words.items ≡ length levels.old.words.items + size) }
+{
+    make_level(buffers, hashes.as_slice(), level, size)?;
+    keep_left(hashes, level, buffers.hit.as_slice());
+    levels.sizes.push(size)?;
+    levels.words.extend_from_slice(buffers.hit.as_slice())?;
+    Ok(())
+}
+
+/// The levels of hashes.
+///
+/// # Conditions
+/// The first level has fewer than 2^50 words.
+fn make_levels(alloc: Global, mut hashes: Vec<u64>, percent: u16) -> Result<Levels, BuildError>
+    requires { words_for percent (length hashes.items) < 2 ^ 50 }
+    ensures leave { IfOk result (λ levels. Leave place_in hashes.items
+        levels.sizes.items levels.words.items []) }
+    ensures short { IfOk result (λ levels. IsShort levels.words.items) }
+    ensures few { IfOk result (λ levels. length levels.sizes.items ≤ 256) }
+    ensures collide { IfErr result (λ error. IfCollide error hashes.items) }
+    ensures room { IsErrOf result BuildError.TooLarge → ⊥ }
+{
+    let mut levels = Levels {
+        sizes: Vec::new(alloc),
+        words: Vec::new(alloc),
+    };
+    let mut buffers = Buffers {
+        hit: Vec::new(alloc),
+        again: Vec::new(alloc),
+    };
+    for level in 0..LEVELS {
+        if hashes.is_empty() {
+            levels.words.shrink_to_fit();
+            return Ok(levels);
+        }
+        let size = level_words(percent, hashes.len()) as usize;
+        add_level(&mut levels, &mut buffers, &mut hashes, level, size)?;
+    }
+    if hashes.is_empty() {
+        levels.words.shrink_to_fit();
+        Ok(levels)
+    } else {
+        Err(BuildError::KeysCollide(hashes.len()))
+    }
+}
+
+impl Levels {
+    /// The levels of the keys, over which an index of any kind makes a perfect hash (`PerfectHash::over`).
+    ///
+    /// # Errors
+    /// `TooLarge` exactly where the first level would have 2^50 words or more; else `KeysCollide` where keys are left after
+    /// 256 levels, with how many; else `OutOfMemory` if memory was refused.
+    /// # Cost
+    /// Each level is two passes over the hashes that are left, of which each goes to two random words. While it works it
+    /// takes 8 bytes a key for the hashes, two buffers as long as the first level, and the levels.
+    pub fn build<K, H: KeyHash<K>>(
+        alloc: Global,
+        hasher: &H,
+        keys: &[K],
+        percent: u16,
+    ) -> Result<Levels, BuildError>
+        ensures levels { IfOk result (λ levels. AreLevels (H.hash hasher.now) keys.now
+            levels.sizes.items levels.words.items) }
+        ensures too_large { IsErrOf result BuildError.TooLarge
+            ↔ (2 ^ 50 ≤ words_for percent (length keys.now)) }
+        ensures collide { IfErr result (λ error.
+            IfCollide error (map (H.hash hasher.now) keys.now)) }
+    {
+        if level_words(percent, keys.len()) >= TOO_MANY {
+            return Err(BuildError::TooLarge);
+        }
+        let hashes = hash_all(alloc, hasher, keys)?;
+        let levels = make_levels(alloc, hashes, percent)?;
+        Ok(levels)
+    }
+}
+
+/// Numbers the keys, each by a number of its own below their count, over an index with rank.
+///
+/// `percent` is how many bits a level has for each 100 keys: 100 takes least memory, 200 less time; less than 50 is taken
+/// as 50.
+///
+/// # Errors
+/// As `Levels::build`; the hasher comes back.
+/// # Cost
+/// As `Levels::build`, and one pass over the words for the index.
+/// # Source
+/// Müller, Sanders, Schulze and Zhou, 'Retrieval and perfect hashing using fingerprinting' (SEA 2014), and Limasset,
+/// Rizk, Chikhi and Peterlongo, 'Fast and scalable minimal perfect hashing for massive key sets' (SEA 2017).
+pub fn build<K, H: KeyHash<K>>(
+    alloc: Global,
+    hasher: H,
+    keys: &[K],
+    percent: u16,
+) -> Result<PerfectHash<H, ArrayWithRank101111>, Refused<H>>
+    ensures perfect { IfOk result (λ made. IsMinimalPerfect (number_of H.hash made) keys.now) }
+    ensures kept { IfOk result (λ made. made.hasher ≡ hasher) }
+    ensures room { IfOk result (λ _. words_for percent (length keys.now) < 2 ^ 50) }
+    ensures hasher_back { IfErr result (λ refused. refused.hasher ≡ hasher) }
+    ensures too_large { IfErr result (λ refused. (refused.error ≡ BuildError.TooLarge)
+        ↔ (2 ^ 50 ≤ words_for percent (length keys.now))) }
+    ensures collide { IfErr result (λ refused.
+        IfCollide refused.error (map (H.hash hasher) keys.now)) }
+{
+    let Levels { sizes, words } = match Levels::build(alloc, &hasher, keys, percent) {
+        Ok(levels) => levels,
+        Err(error) => return Err(Refused { error, hasher }),
+    };
+    match ArrayWithRank101111::build(alloc, words.into_boxed_slice()) {
+        Ok((index, _ones)) => Ok(PerfectHash::over(hasher, sizes, index)),
+        Err(_) => Err(Refused {
+            error: BuildError::OutOfMemory,
+            hasher,
+        }),
+    }
+}

@@ -1,0 +1,170 @@
+//! Numbers of keys, and `None` for almost all values that are no keys: a static dictionary.
+ghost use Rattle.std.specs.Prelude.{◌≡◌, ◌*◌, ◌^◌, ◌<◌, ◌≤◌, length, IfOk, IfErr};
+ghost use Rattle.std.specs.Box.{boxed_slice_items};
+ghost use Rattle.perfect_hash.specs.Dictionary.{found_of, print_of, ArePrints, HasRoom, IsDictionary};
+ghost use Rattle.perfect_hash.specs.Parts.{number_of};
+ghost use Rattle.perfect_hash.specs.Perfect.{IsMinimalPerfect};
+
+use crate::hashing::KeyHash;
+use crate::places::spread_at;
+use crate::table::PerfectHash;
+use bitm::{Access, ArrayWithRank101111, BitVec, n_lowest_bits, words};
+use std::alloc::{AllocError, Global};
+use std::boxed::BoxedSlice;
+use std::marker::Model;
+
+/// The spread number that a fingerprint is taken from: the levels have those before it.
+const PRINT: u32 = 256;
+
+/// A perfect hash with a fingerprint of each key, by which it tells almost all values that are no keys.
+///
+/// The fingerprint of a key stands at its number, as a fragment of so many bits. A value that is no key is found only if
+/// its fingerprint is that of the key with its number: where hashes are as good as drawn, one in 2^`width` is.
+#[derive(Drop)]
+pub struct Dictionary<H, I: Access = ArrayWithRank101111> {
+    numbers: PerfectHash<H, I>,
+    prints: BoxedSlice<u64, Global>,
+    width: u8,
+}
+
+impl<H, I: Access> Model for Dictionary<H, I> {
+    ghost use Rattle.std.specs.Box.{boxed_slice_items};
+    ghost use Rattle.perfect_hash.specs.Dictionary.{Entries, HasRoom};
+
+    ghost Value = { Entries H I };
+
+    ghost view = { λ d. record {
+      numbers = d.numbers;
+      prints = boxed_slice_items d.prints;
+      width = d.width;
+    } };
+
+    ghost invariant = { λ d. HasRoom d.numbers.bits (boxed_slice_items d.prints) d.width };
+}
+
+/// The fingerprint of a hash.
+#[inline(always)]
+fn print(hash: u64, width: u8) -> u64
+    requires { width ≤ 32 }
+    ensures value { result ≡ print_of width hash }
+    ensures fits { result < 2 ^ width }
+{
+    spread_at(hash, PRINT) & n_lowest_bits(width)
+}
+
+/// Writes the fingerprint of each key at its number.
+///
+/// # Conditions
+/// The perfect hash is of these keys, and there is room for a fingerprint at each number.
+fn write_prints<K, H: KeyHash<K>, I: Access>(
+    numbers: &PerfectHash<H, I>,
+    keys: &[K],
+    width: u8,
+    prints: &mut [u64],
+)
+    requires perfect { IsMinimalPerfect (number_of H.hash numbers.now) keys.now }
+    requires room { HasRoom numbers.now.bits prints.old width }
+    ensures prints { ArePrints (number_of H.hash numbers.now)
+        (λ k. print_of width (H.hash numbers.now.hasher k)) keys.now prints.new width }
+    ensures len { length prints.new ≡ length prints.old }
+{
+    for key in keys {
+        let hash = numbers.hash(key);
+        match numbers.number(hash) {
+            Some(number) => words::set_fragment(prints, number, print(hash, width), width),
+            None => {}
+        }
+    }
+}
+
+/// The fingerprints of the keys, each at the number of its key.
+///
+/// # Conditions
+/// The perfect hash is of these keys; `width` is 1 to 32.
+/// # Errors
+/// `AllocError` if memory was refused, as it is where the fingerprints would have 2^64 bits or more.
+fn make_prints<K, H: KeyHash<K>, I: Access>(
+    alloc: Global,
+    numbers: &PerfectHash<H, I>,
+    keys: &[K],
+    width: u8,
+) -> Result<BoxedSlice<u64, Global>, AllocError>
+    requires perfect { IsMinimalPerfect (number_of H.hash numbers.now) keys.now }
+    requires some { 0 < width }
+    requires few { width ≤ 32 }
+    ensures room { IfOk result (λ prints. HasRoom numbers.now.bits (boxed_slice_items prints) width) }
+    ensures prints { IfOk result (λ prints. ArePrints (number_of H.hash numbers.now)
+        (λ k. print_of width (H.hash numbers.now.hasher k)) keys.now (boxed_slice_items prints) width) }
+{
+    let index = numbers.index();
+    let Some(bits) = index.rank(index.len()).checked_mul(width as usize) else {
+        return Err(AllocError);
+    };
+    let mut prints = BoxedSlice::with_zeroed_bits(alloc, bits)?;
+    write_prints(numbers, keys, width, prints.as_mut_slice());
+    Ok(prints)
+}
+
+impl<H, I: Access> Dictionary<H, I> {
+    /// A dictionary of the keys of a perfect hash, with fingerprints of so many bits.
+    ///
+    /// # Conditions
+    /// The perfect hash is of these keys; `width` is 1 to 32.
+    /// # Errors
+    /// The perfect hash, if memory was refused.
+    pub fn build<K>(
+        alloc: Global,
+        numbers: PerfectHash<H, I>,
+        keys: &[K],
+        width: u8,
+    ) -> Result<Self, PerfectHash<H, I>>
+    where
+        H: KeyHash<K>,
+        requires perfect { IsMinimalPerfect (number_of H.hash numbers) keys.now }
+        requires some { 0 < width }
+        requires few { width ≤ 32 }
+        ensures dictionary { IfOk result (λ made. IsDictionary (found_of H.hash made)
+            (λ k. print_of width (H.hash numbers.hasher k)) keys.now) }
+        ensures kept { IfOk result (λ made. made.numbers ≡ numbers) }
+        ensures numbers_back { IfErr result (λ back. back ≡ numbers) }
+    {
+        match make_prints(alloc, &numbers, keys, width) {
+            Ok(prints) => Ok(Dictionary {
+                numbers,
+                prints,
+                width,
+            }),
+            Err(AllocError) => Err(numbers),
+        }
+    }
+
+    /// The perfect hash.
+    #[inline(always)]
+    pub fn numbers(&self) -> &PerfectHash<H, I>
+        ensures { result.now ≡ self.now.numbers }
+    {
+        &self.numbers
+    }
+
+    /// The number of a key; of a value that is no key, `None`, unless its fingerprint is that of the key with its number.
+    ///
+    /// # Cost
+    /// What `PerfectHash::get` takes, and one fragment.
+    #[inline]
+    pub fn get<K>(&self, key: &K) -> Option<usize>
+    where
+        H: KeyHash<K>,
+        ensures { result ≡ found_of H.hash self.now key.now }
+    {
+        let hash = self.numbers.hash(key);
+        let Some(number) = self.numbers.number(hash) else {
+            return None;
+        };
+        let print_there = words::get_fragment(self.prints.as_slice(), number, self.width);
+        if print_there == print(hash, self.width) {
+            Some(number)
+        } else {
+            None
+        }
+    }
+}

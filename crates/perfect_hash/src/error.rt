@@ -1,0 +1,61 @@
+//! Why keys were not numbered.
+use std::alloc::{AllocError, AllocFailed};
+use std::error::Error;
+use std::fmt;
+
+/// Why keys were not numbered; nothing was made then.
+#[derive(Clone, Copy, Debug, PartialEq, Eq)]
+pub enum BuildError {
+    /// So many keys are left after 256 levels, each of which fell together with another one at each: some keys are
+    /// equal, or the hash does not tell them apart.
+    KeysCollide(usize),
+    /// The first level would have 2^50 words or more, as for 2^56 keys at 100 per cent.
+    TooLarge,
+    /// Memory was refused.
+    OutOfMemory,
+}
+
+impl fmt::Display for BuildError {
+    fn fmt<W: fmt::Write>(&self, f: &mut fmt::Formatter<W>) -> fmt::Result {
+        match self {
+            BuildError::KeysCollide(left) => {
+                write!(f, "{left} keys collide: equal, or of equal hashes")
+            }
+            BuildError::TooLarge => write!(f, "the first level has 2^50 words or more"),
+            BuildError::OutOfMemory => write!(f, "no memory"),
+        }
+    }
+}
+
+impl Error for BuildError {}
+
+impl From<AllocError> for BuildError {
+    ghost use Rattle.std.specs.Prelude.{◌≡◌};
+    ghost use Rattle.perfect_hash.specs.declared.error.BuildError.TheVariants.{OutOfMemory};
+
+    ghost from_gives = { λ _ e. e ≡ OutOfMemory };
+
+    fn from(_refused: AllocError) -> BuildError {
+        BuildError::OutOfMemory
+    }
+}
+
+impl<T: Drop> From<AllocFailed<T>> for BuildError {
+    ghost use Rattle.std.specs.Prelude.{◌≡◌};
+    ghost use Rattle.perfect_hash.specs.declared.error.BuildError.TheVariants.{OutOfMemory};
+
+    ghost from_gives = { λ _ e. e ≡ OutOfMemory };
+
+    fn from(_refused: AllocFailed<T>) -> BuildError {
+        BuildError::OutOfMemory
+    }
+}
+
+/// A refusal: why, and the hasher that was handed in.
+#[derive(Drop)]
+pub struct Refused<H> {
+    /// Why.
+    pub error: BuildError,
+    /// The hasher that was handed in.
+    pub hasher: H,
+}

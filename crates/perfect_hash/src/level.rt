@@ -1,0 +1,119 @@
+//! One level: which bits exactly one hash falls on, and which hashes go on.
+ghost use Rattle.std.specs.Prelude.{◌≡◌, ℕ, ◌*◌, ◌<◌, ◌^◌, false, length, nat_lt, replicate, OnOk};
+ghost use Rattle.bitm.specs.Bits.{bits_of, item, IsShort};
+ghost use Rattle.perfect_hash.specs.Levels.{hits, IsLevel, left_of};
+ghost use Rattle.perfect_hash.specs.Places.{place_in};
+
+use crate::places::place_of;
+use bitm::words;
+use std::alloc::AllocError;
+
+/// Words in which a level is made, used again from level to level.
+#[derive(Drop)]
+pub(crate) struct Buffers {
+    pub(crate) hit: Vec<u64>,
+    pub(crate) again: Vec<u64>,
+}
+
+/// Makes the buffer so many words that are 0, in the memory that it has where that is enough.
+fn zero(buffer: &mut Vec<u64>, words: usize) -> Result<(), AllocError>
+    ensures { OnOk result (buffer.new.items ≡ replicate words 0) }
+{
+    buffer.clear();
+    buffer.resize(words, 0)?;
+    Ok(())
+}
+
+/// Marks the bits that some hash falls on, and those that two do.
+///
+/// # Conditions
+/// All bits are zeros; there are as many of both, and some, but fewer than 2^58 words.
+fn mark(hashes: &[u64], level: u32, hit: &mut [u64], again: &mut [u64])
+    requires same { length again.old ≡ length hit.old }
+    requires some { 0 < length hit.old }
+    requires short { IsShort hit.old }
+    requires clear { (i : ℕ) → item (bits_of hit.old) i ≡ false }
+    requires clear_again { (i : ℕ) → item (bits_of again.old) i ≡ false }
+    ensures once { (p : ℕ) → p < 64 * length hit.old → item (bits_of hit.new) p
+        ≡ nat_lt 0 (hits place_in hashes.now level (length hit.old) p) }
+    ensures twice { (p : ℕ) → p < 64 * length hit.old → item (bits_of again.new) p
+        ≡ nat_lt 1 (hits place_in hashes.now level (length hit.old) p) }
+{
+    let words = hit.len();
+    for hash in hashes {
+        let place = place_of(*hash, level, words);
+        if words::get_bit(hit, place) {
+            words::set_bit(again, place);
+        } else {
+            words::set_bit(hit, place);
+        }
+    }
+}
+
+/// Makes each bit that exactly one hash falls on a one. Also writes `again`, whose bits mean nothing afterwards.
+///
+/// # Conditions
+/// All bits are zeros; there are as many of both, and some, but fewer than 2^58 words.
+fn fill(hashes: &[u64], level: u32, ones: &mut [u64], again: &mut [u64])
+    requires same { length again.old ≡ length ones.old }
+    requires some { 0 < length ones.old }
+    requires short { IsShort ones.old }
+    requires clear { (i : ℕ) → item (bits_of ones.old) i ≡ false }
+    requires clear_again { (i : ℕ) → item (bits_of again.old) i ≡ false }
+    ensures level { IsLevel place_in hashes.now (bits_of ones.new) level 0 (length ones.old) }
+    ensures len { length ones.new ≡ length ones.old }
+{
+    mark(hashes, level, ones, again);
+    words::and_not(ones, again);
+}
+
+/// Makes `buffers.hit` the level of the hashes: so many words, whose ones are the bits that exactly one of them falls on.
+///
+/// # Conditions
+/// There is a word, and fewer than 2^58.
+/// # Errors
+/// `AllocError` if memory was refused.
+#[tactic(auto, using(bitm::proofs::BitLaws::zeros_have_no_ones))]
+pub(crate) fn make_level(
+    buffers: &mut Buffers,
+    hashes: &[u64],
+    level: u32,
+    size: usize,
+) -> Result<(), AllocError>
+    requires some { 0 < size }
+    requires short { size < 2 ^ 58 }
+    ensures len { OnOk result (length buffers.new.hit.items ≡ size) }
+    ensures level { OnOk result
+        (IsLevel place_in hashes.now (bits_of buffers.new.hit.items) level 0 size) }
+{
+    zero(&mut buffers.hit, size)?;
+    zero(&mut buffers.again, size)?;
+    fill(
+        hashes,
+        level,
+        buffers.hit.as_mut_slice(),
+        buffers.again.as_mut_slice(),
+    );
+    Ok(())
+}
+
+/// Leaves the hashes that do not fall on a one, in their order and in their place.
+///
+/// # Conditions
+/// There is a word, and fewer than 2^58.
+pub(crate) fn keep_left(hashes: &mut Vec<u64>, level: u32, ones: &[u64])
+    requires some { 0 < length ones.now }
+    requires short { IsShort ones.now }
+    ensures { hashes.new.items
+        ≡ left_of place_in hashes.old.items (bits_of ones.now) level 0 (length ones.now) }
+{
+    let mut kept = 0;
+    for i in 0..hashes.len() {
+        let hash = hashes[i];
+        if !words::get_bit(ones, place_of(hash, level, ones.len())) {
+            hashes[kept] = hash;
+            kept += 1;
+        }
+    }
+    hashes.truncate(kept);
+}

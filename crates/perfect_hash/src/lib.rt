@@ -1,0 +1,25 @@
+//! Minimal perfect hashing: each of n keys gets a number of its own below n, in under three bits a key.
+//!
+//! Levels of bits: at a level each key that is left falls on a bit, by its hash. A bit that exactly one key falls on is
+//! a one, and that key is done; the others go on to the next level. The number of a key is how many ones stand before
+//! its own in all levels, one behind another.
+//!
+//! ```
+//! let Ok(numbers) = build(alloc, Seeded { seed: 7 }, [13u64, 5, 99].as_slice(), 100) else { .. };
+//! numbers.get(&5);    // Some(number), below 3, and no other key's
+//! ```
+#![tactic(auto)]
+
+mod building;
+mod dictionary;
+mod error;
+mod hashing;
+mod level;
+mod places;
+mod table;
+
+pub use building::{Levels, build};
+pub use dictionary::Dictionary;
+pub use error::{BuildError, Refused};
+pub use hashing::{KeyHash, Seeded, SeededBytes};
+pub use table::{PerfectHash, number_on};

@@ -1,0 +1,216 @@
+//! The levels, and what is asked of them.
+ghost use Rattle.std.specs.Prelude.{◌≡◌, ◌+◌, ◌*◌, ◌<◌, ◌≤◌, length, IfOk, IfSome};
+ghost use Rattle.bitm.specs.Bits.{bits_of};
+ghost use Rattle.bitm.specs.Count.{ones_of};
+ghost use Rattle.bitm.specs.Size.{saturated_size};
+ghost use Rattle.bitm.specs.Reads.{none_read, OnlyReads, ReadsAtMost};
+ghost use Rattle.bitm.specs.Tables.{bits_in, IsIndexed};
+ghost use Rattle.perfect_hash.specs.Parts.{number_by, number_of, AreSizes};
+
+use crate::hashing::KeyHash;
+use crate::places::place_of;
+use bitm::{
+    Access, ArrayWithRank101111, CloneWords, GetSize, RankSelect101111, ReadCounts,
+    Select0ForRank101111, SelectForRank101111, TableSource, bit_on, rank_on,
+};
+use std::alloc::{AllocError, Global};
+use std::boxed::BoxedSlice;
+use std::convert::AsSlice;
+use std::marker::Model;
+
+/// A minimal perfect hash: each key that it was built of has a number of its own, below their count.
+///
+/// The levels stand one behind another in the bits of an index, which is asked for one bit a level and one rank. With
+/// `n` keys at 100 per cent the levels have about `e * n` bits, 2.72 a key, and the index's tables 3.2 per cent more. A
+/// contract sees a perfect hash as its hasher, how many words each level has, and the bits.
+///
+/// # Source
+/// Müller, Sanders, Schulze and Zhou, 'Retrieval and perfect hashing using fingerprinting' (SEA 2014).
+#[derive(Drop)]
+pub struct PerfectHash<H, I: Access = ArrayWithRank101111> {
+    hasher: H,
+    sizes: BoxedSlice<usize, Global>,
+    index: I,
+}
+
+impl<H, I: Access> Model for PerfectHash<H, I> {
+    ghost use Rattle.std.specs.Box.{boxed_slice_items};
+    ghost use Rattle.perfect_hash.specs.Parts.{Parts, AreSizes};
+
+    ghost Value = { Parts H I };
+
+    ghost view = { λ p. record {
+      hasher = p.hasher;
+      sizes = boxed_slice_items p.sizes;
+      bits = I.bits p.index;
+      index = p.index;
+    } };
+
+    ghost invariant = { λ p. AreSizes (boxed_slice_items p.sizes) (I.bits p.index) };
+}
+
+/// The number of a hash over any source: of the first level where it falls on a one, how many ones stand before that.
+///
+/// # Conditions
+/// The source's tables are those of its words, which are those of levels of these sizes.
+/// # Cost
+/// At most one word a level is read, and what `rank_on` reads: one upper entry, one lower entry and eight words.
+#[inline]
+pub fn number_on<T: TableSource>(source: &mut T, sizes: &[usize], hash: u64) -> Option<usize>
+    requires indexed { IsIndexed (T.lists source.old) }
+    requires sizes { AreSizes sizes.now (bits_in (T.lists source.old)) }
+    ensures value { result ≡ number_by sizes.now (bits_in (T.lists source.old)) hash }
+    ensures reads { OnlyReads T.lists T.reads source.old source.new 1 1 (length sizes.now + 8) }
+{
+    let mut begin = 0;
+    for (level, size) in sizes.iter().enumerate() {
+        let place = 64 * begin + place_of(hash, level as u32, *size);
+        if let Some(true) = bit_on(source, place) {
+            return rank_on(source, place);
+        }
+        begin += *size;
+    }
+    None
+}
+
+impl<H, I: Access> PerfectHash<H, I> {
+    /// A perfect hash over an index of the bits of levels.
+    ///
+    /// # Conditions
+    /// The bits are those of levels of these sizes, as `Levels::build` makes them.
+    pub fn over(hasher: H, sizes: Vec<usize>, index: I) -> Self
+        requires { AreSizes sizes.items (I.bits index) }
+        ensures { result ≡ record {
+          hasher = hasher;
+          sizes = sizes.items;
+          bits = I.bits index;
+          index = index;
+        } }
+    {
+        PerfectHash {
+            hasher,
+            sizes: sizes.into_boxed_slice(),
+            index,
+        }
+    }
+
+    /// How many levels there are: at most 256.
+    #[inline(always)]
+    pub fn levels(&self) -> usize
+        ensures count { result ≡ length self.now.sizes }
+        ensures bound { result ≤ 256 }
+    {
+        self.sizes.len()
+    }
+
+    /// The index over the bits of all levels.
+    #[inline(always)]
+    pub fn index(&self) -> &I
+        ensures value { result.now ≡ self.now.index }
+        ensures bits { I.bits result.now ≡ self.now.bits }
+    {
+        &self.index
+    }
+
+    /// The hasher.
+    #[inline(always)]
+    pub fn hasher(&self) -> &H
+        ensures { result.now ≡ self.now.hasher }
+    {
+        &self.hasher
+    }
+
+    /// The number of a key; of a value that is no key, some number below the count of keys, or `None`.
+    ///
+    /// # Cost
+    /// One bit a level, up to the level where the key is done, and one rank.
+    #[inline]
+    pub fn get<K>(&self, key: &K) -> Option<usize>
+    where
+        H: KeyHash<K>,
+        ensures { result ≡ number_of H.hash self.now key.now }
+    {
+        self.number(self.hash(key))
+    }
+
+    /// The hash of a key.
+    #[inline(always)]
+    pub(crate) fn hash<K>(&self, key: &K) -> u64
+    where
+        H: KeyHash<K>,
+        ensures { result ≡ H.hash self.now.hasher key.now }
+    {
+        self.hasher.hash(key)
+    }
+
+    /// The number of a hash.
+    #[inline(always)]
+    pub(crate) fn number(&self, hash: u64) -> Option<usize>
+        ensures value { result ≡ number_by self.now.sizes self.now.bits hash }
+        ensures below { IfSome result (λ number. number < ones_of self.now.bits) }
+    {
+        let mut begin = 0;
+        for (level, size) in self.sizes.as_slice().iter().enumerate() {
+            let place = 64 * begin + place_of(hash, level as u32, *size);
+            if self.index.get_bit(place) {
+                return Some(self.index.rank(place));
+            }
+            begin += *size;
+        }
+        None
+    }
+}
+
+impl<H, S: SelectForRank101111, S0: Select0ForRank101111, BV: AsSlice<u64>> PerfectHash<
+    H,
+    RankSelect101111<S, S0, BV>,
+> {
+    /// What `get` answers, and what was read for it: at most one word a level, and one rank.
+    #[inline]
+    pub fn get_counted<K>(&self, key: &K) -> (Option<usize>, ReadCounts)
+    where
+        H: KeyHash<K>,
+        ensures value { result.0 ≡ number_of H.hash self.now key.now }
+        ensures reads { ReadsAtMost none_read result.1 1 1 (length self.now.sizes + 8) }
+    {
+        let mut probe = self.index.probe();
+        let number = number_on(&mut probe, self.sizes.as_slice(), self.hash(key));
+        (number, probe.into_reads())
+    }
+}
+
+impl<H: Copy, S: SelectForRank101111, S0: Select0ForRank101111, BV: CloneWords> PerfectHash<
+    H,
+    RankSelect101111<S, S0, BV>,
+> {
+    /// A perfect hash of the same levels, with an index of its own.
+    ///
+    /// # Errors
+    /// `AllocError` if memory was refused; this value is as it was.
+    pub fn try_clone(&self, alloc: Global) -> Result<Self, AllocError>
+        ensures hasher { IfOk result (λ copy. copy.hasher ≡ self.now.hasher) }
+        ensures sizes { IfOk result (λ copy. copy.sizes ≡ self.now.sizes) }
+        ensures bits { IfOk result (λ copy. copy.bits ≡ self.now.bits) }
+    {
+        let sizes = BoxedSlice::from_slice(alloc, self.sizes.as_slice())?;
+        let index = self.index.try_clone(alloc)?;
+        Ok(PerfectHash {
+            hasher: self.hasher,
+            sizes,
+            index,
+        })
+    }
+}
+
+impl<H, I: Access + GetSize> GetSize for PerfectHash<H, I> {
+    // eight bytes a level, and what the index keeps; what the hasher keeps is not counted
+    ghost dyn_bytes = { λ p. saturated_size (8 * length p.sizes + I.dyn_bytes p.index) };
+
+    const USES_DYN_MEM: bool = true;
+
+    fn size_bytes_dyn(&self) -> usize {
+        self.sizes
+            .size_bytes_dyn()
+            .saturating_add(self.index.size_bytes_dyn())
+    }
+}

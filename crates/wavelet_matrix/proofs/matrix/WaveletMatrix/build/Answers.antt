@@ -1,0 +1,61 @@
+-- What was written is the levels of the numbers.
+use Rattle.std.proofs.Common.{ℕ, ◌*◌, List, length, take, ap, ◌∙◌, arith}
+use Rattle.std.specs.Box.{boxed_slice_items}
+use Rattle.bitm.specs.Bits.{bits_of}
+use Rattle.bitm.proofs.BitLaws.{bits_are_counted}
+use Rattle.wavelet_matrix.specs.Matrix.{IsMatrixOf}
+use Rattle.wavelet_matrix.proofs.lemmas.MakeLemmas.{words-enough}
+use Rattle.wavelet_matrix.proofs.lemmas.MatrixLemmas.{is-matrix, items_of-is, made-matrix, matrix-from, matrix-of-items, tight}
+use Rattle.wavelet_matrix.proofs.matrix.WaveletMatrix.build.Goals as goal
+use Rattle.wavelet_matrix.proofs.matrix.WaveletMatrix.build.Goals.{In_ok-levels, In_ok-keep_starts}
+
+pub new-requires-clause-room : goal.new-requires-clause-room
+new-requires-clause-room g c =
+    omega (
+      arith,
+      bits_are_counted (boxed_slice_items c.in-Ok.index.content),
+      ap (λ (l : List ℕ). length l) (ap boxed_slice_items c.in-Ok.ensures.kept),
+      words-enough _ _ c.in_ok-content.ensures.words,
+    )
+
+made : (g : _) (c : In_ok-levels g) → IsMatrixOf c.args.numbers.now c.in_ok-levels.levels (bits_of (boxed_slice_items c.in-Ok.index.content))
+made g c =
+    let made = c.in_ok-levels.ensures in
+    made-matrix c.args.numbers.now c.in_ok-levels.levels (bits_of (boxed_slice_items c.in-Ok.index.content)) c.args.width made.len made.width
+    c.requires.some c.requires.most c.requires.short c.requires.fit (omega (
+      arith,
+      bits_are_counted (boxed_slice_items c.in-Ok.index.content),
+      ap (λ (l : List ℕ). length l) (ap boxed_slice_items c.in-Ok.ensures.kept),
+      words-enough _ _ c.in_ok-content.ensures.words,
+    ))
+    (ap (λ (ws : List ℕ). take (c.args.width * length c.args.numbers.now) (bits_of ws)) (ap boxed_slice_items c.in-Ok.ensures.kept)
+    ∙ c.in_ok-content.ensures.levels)
+    made.ones_len made.zeros_len made.starts made.ones made.zeros
+
+pub keep_starts-requires : goal.keep_starts-requires
+keep_starts-requires g c =
+    record {
+      matrix = is-matrix c.args.numbers.now c.in_ok-levels.levels c.probe.result.lists _ c.probe.ensures.indexed c.probe.ensures.words
+          (made g (goal.at.keep_starts-requires g c).In_ok-levels);
+    }
+
+kept : (g : _) (c : In_ok-keep_starts g) (h : IsMatrixOf c.args.numbers.now c.in_ok-levels.levels (bits_of (boxed_slice_items c.in-Ok.index.content)))
+    → IsMatrixOf c.args.numbers.now c.keep_starts.new.self (bits_of (boxed_slice_items c.in-Ok.index.content))
+kept g c h =
+    matrix-from c.args.numbers.now c.in_ok-levels.levels c.keep_starts.new.self c.probe.result.lists _ c.probe.ensures.words h
+    c.in_ok-keep_starts.ensures.matrix
+
+pub invariant_of-result : goal.invariant_of-result
+invariant_of-result g c = (
+  matrix-of-items c.args.numbers.now c.keep_starts.new.self _ (kept g c (made g (goal.at.invariant_of-result g c).In_ok-levels)),
+  tight c.args.numbers.now c.args.width c.keep_starts.new.self _
+      (ap (λ (l : List ℕ). length l) (ap boxed_slice_items c.in-Ok.ensures.kept) ∙ c.in_ok-content.ensures.words)
+      (c.in_ok-keep_starts.ensures.count ∙ c.starts_for-count.ensures)
+      (c.in_ok-keep_starts.ensures.len ∙ c.in_ok-levels.ensures.len) (c.in_ok-keep_starts.ensures.width ∙ c.in_ok-levels.ensures.width),
+)
+
+pub returns-clause-items : goal.returns-clause-items
+returns-clause-items g c =
+    let h = kept g c (made g (goal.at.returns-clause-items g c).In_ok-levels) in
+    let l = c.keep_starts.new.self in
+    items_of-is c.args.numbers.now l.width l.len _ h.count h.room h.levels h.fit

@@ -1,0 +1,59 @@
+-- The numbers that are equal stand side by side after the last level, and each comes back from there.
+use Rattle.std.proofs.Common.{ℕ, ◌+◌, ◌^◌, ◌<◌, length, subst, sym, arith, ⊎_elim}
+use Rattle.std.proofs.lemmas.Bool.{cases_lt}
+use Rattle.bitm.specs.Tables.{bits_in}
+use Rattle.wavelet_matrix.specs.Matrix.{level_in, numbers_in}
+use Rattle.wavelet_matrix.specs.Numbers.{PicksItem}
+use Rattle.wavelet_matrix.proofs.lemmas.ColumnLemmas.{length-level}
+use Rattle.wavelet_matrix.proofs.lemmas.MatrixLemmas.{few}
+use Rattle.wavelet_matrix.proofs.lemmas.WalkLemmas.{count_before-wide, picked-last, Picks-first, Picks-last}
+use Rattle.wavelet_matrix.proofs.walk.Levels.select_on.Goals as goal
+use Rattle.wavelet_matrix.proofs.walk.Levels.select_on.Goals.{After-start_on}
+
+picked : (g : _) (c : After-start_on g)
+    → PicksItem (level_in c.args.self.now (g.T.TableSource.lists c.args.source.now) c.args.self.now.width) c.args.number c.args.k (c.start_on.result + c.args.k)
+picked g c =
+    let l = c.args.self.now in
+    let xs = numbers_in l (g.T.TableSource.lists c.args.source.now) in
+    let x = c.args.number in
+    let all = c.requires.matrix.numbers.fit in
+    let fit : x < 2 ^ l.width =
+    ⊎_elim (λ h. h)
+    (λ h. absurd (omega (arith, c.requires.some, count_before-wide xs l.width x (length xs) all (λ k. omega (arith, h, k)))))
+    (cases_lt x (2 ^ l.width)) in
+    let P : ℕ → Type 0 = λ p. PicksItem (level_in l (g.T.TableSource.lists c.args.source.now) l.width) x c.args.k (p + c.args.k) in
+    subst P (sym c.start_on.ensures.start) (picked-last xs l.width x all fit c.args.k c.requires.some)
+
+pub overflow_add-at : goal.overflow_add-at
+overflow_add-at g c =
+    let l = c.args.self.now in
+    let lists = g.T.TableSource.lists c.args.source.now in
+    omega (
+      arith,
+      (picked g (goal.at.overflow_add-at g c).After-start_on).inside,
+      length-level (numbers_in l lists) l.width l.width,
+      few (numbers_in l lists) l (bits_in lists) c.requires.matrix.numbers,
+    )
+
+pub loop-up-init : goal.loop-up-init
+loop-up-init g c =
+    let T = g.T.TableSource in
+    let l = c.args.self.now in
+    let r = c.start_on.ensures.reads in
+    record {
+      picked = Picks-last (numbers_in l (T.lists c.args.source.now)) l.width c.args.number c.args.k _ (picked g (goal.at.loop-up-init g c).After-start_on);
+      reads = record {
+        at_most = record {
+          upper = omega (arith, r.at_most.upper);
+          lower = omega (arith, r.at_most.lower);
+          words = omega (arith, r.at_most.words);
+        };
+        same = r.same;
+      };
+    }
+
+pub returns-clause-picked : goal.returns-clause-picked
+returns-clause-picked g c =
+    let l = c.args.self.now in
+    Picks-first (numbers_in l (g.T.TableSource.lists c.args.source.now)) l.width c.loop-up.up c.args.number c.args.k c.loop-up.at
+    (omega (arith, c.loop-up-test.false, c.loop-up.auto.up-end, c.width-width.ensures)) c.loop-up.invariant.picked

@@ -1,0 +1,95 @@
+-- The numbers that bits hold level by level.
+use Rattle.std.specs.Prelude.{◌≡◌, ℕ, ◌+◌, ◌-◌, ◌*◌, ◌^◌, ◌<◌, ◌≤◌, Bool, false, if◌then◌else◌, List, map, take, drop, length, slice_index, count_by, All, zero, suc}
+use Rattle.std.specs.Int.{div_ceil}
+use Rattle.std.specs.List.{range_with_len}
+use Rattle.bitm.specs.Bits.{item}
+use Rattle.bitm.specs.Count.{ones_before, zeros_before, zeros_of, count_of, Picks}
+use Rattle.bitm.specs.Reads.{OnlyReads}
+use Rattle.bitm.specs.Tables.{IsIndexed, Lists, bits_in}
+use Rattle.bitm.specs.ReadCounts.{ReadCounts}
+use Rattle.wavelet_matrix.specs.Levels.{columns, has_digit, level, level_place, starts_of}
+use Rattle.wavelet_matrix.specs.Numbers.{PicksItem}
+
+-- what a matrix is seen as: numbers, each of `width` binary digits at most, and the two strategies that select
+pub record Numbers (S S0 : Type 0) : Type 0 where
+  pub items : List ℕ
+  pub width : ℕ
+  pub select : S
+  pub select0 : S0
+
+-- what the levels are seen as: `len` numbers of `width` digits; for each level how many ones stand before it among the bits
+-- of all levels, and how many of its items have the digit 0; and for the least numbers, where those that are equal to one
+-- start after the last level
+pub record LevelTables : Type 0 where
+  pub len : ℕ
+  pub width : ℕ
+  pub ones : List ℕ
+  pub zeros : List ℕ
+  pub starts : List ℕ
+
+-- where the item at place p of a level with these digits stands at the next
+abbrev pub next_place : List Bool → ℕ → ℕ
+next_place c p = if item c p then zeros_of c + ones_before c p else zeros_before c p
+
+-- the r lowest digits, of w, of the item at place p of level w - r, where each level has n bits
+unfoldable pub low_part : List Bool → ℕ → ℕ → ℕ → ℕ → ℕ
+low_part b w n zero p = 0
+low_part b w n (suc r) p =
+    let c = take n (drop ((w - suc r) * n) b) in
+    (if item c p then 2 ^ r else 0) + low_part b w n r (next_place c p)
+
+-- the n numbers of w digits
+abbrev pub items_of : List Bool → ℕ → ℕ → List ℕ
+items_of b w n = map (low_part b w n w) (range_with_len 0 n)
+
+-- the digit by which level d is partitioned
+abbrev pub digit_place : LevelTables → ℕ → ℕ
+digit_place l d = l.width - 1 - d
+
+-- the levels of the numbers, and the bits that hold the digits of each level
+pub record IsMatrixOf (xs : List ℕ) (l : LevelTables) (b : List Bool) : Type 0 where
+  pub count : l.len ≡ length xs
+  pub some : 1 ≤ l.width
+  pub most : l.width ≤ 64
+  pub short : l.width * l.len < 2 ^ 63
+  pub fit : All (λ x. x < 2 ^ l.width) xs
+  pub room : l.width * l.len ≤ length b
+  pub levels : take (l.width * l.len) b ≡ columns xs l.width l.width
+  pub ones_len : length l.ones ≡ l.width
+  pub zeros_len : length l.zeros ≡ l.width
+  pub ones_are : (d : ℕ) → d < l.width → slice_index l.ones d ≡ ones_before b (d * l.len)
+  pub zeros_are : (d : ℕ) → d < l.width
+      → slice_index l.zeros d ≡ count_by (has_digit (digit_place l d) false) (level xs l.width d)
+  pub starts_are : (x : ℕ) → x < length l.starts → slice_index l.starts x ≡ level_place xs l.width x l.width 0
+
+-- the bit v of rank r is that of an item of level d: x, with k equal to it before on that level
+pub record IsBitOf (xs : List ℕ) (l : LevelTables) (b : List Bool) (d x k : ℕ) (v : Bool) (r : ℕ) : Type 0 where
+  pub some : r < count_of b v
+  pub start : (p : ℕ) → Picks b v r p → d * l.len ≤ p
+  pub picked : (p : ℕ) → Picks b v r p → PicksItem (level xs l.width d) x k (p - d * l.len)
+
+-- the numbers that the words of a source hold
+abbrev pub numbers_in : LevelTables → Lists → List ℕ
+numbers_in l lists = items_of (bits_in lists) l.width l.len
+
+-- these are levels of numbers that the words of a source hold, and its tables are those of its words
+pub record IsMatrix (l : LevelTables) (lists : Lists) : Type 0 where
+  pub indexed : IsIndexed lists
+  pub numbers : IsMatrixOf (numbers_in l lists) l (bits_in lists)
+
+-- level d of the numbers
+abbrev pub level_in : LevelTables → Lists → ℕ → List ℕ
+level_in l lists d = level (numbers_in l lists) l.width d
+
+-- a call only read, what at most k ranks read: k entries of each table and 8 k words
+abbrev pub OnlyRanks : {S : Type 0} → (S → Lists) → (S → ReadCounts) → S → S → ℕ → Type 0
+OnlyRanks lists_of reads_of old new k = OnlyReads lists_of reads_of old new k k (8 * k)
+
+-- as many words as n numbers of w digits take
+abbrev pub words_of : ℕ → ℕ → ℕ
+words_of n w = div_ceil (w * n) 64
+
+-- as many words and starts as the numbers take
+pub record IsTight (l : LevelTables) (ws : List ℕ) : Type 0 where
+  pub words : length ws ≡ words_of l.len l.width
+  pub starts : length l.starts ≡ starts_of l.len l.width

@@ -1,0 +1,147 @@
+//! A number by its place, and a number's ranks, over any source: what they read is counted.
+ghost use Rattle.std.specs.Prelude.{◌≡◌, ◌+◌, ◌*◌, ◌^◌, ◌<◌, ◌≤◌, length, slice_index};
+ghost use Rattle.wavelet_matrix.specs.Levels.{level_place};
+ghost use Rattle.wavelet_matrix.specs.Matrix.{IsMatrix, OnlyRanks, numbers_in};
+ghost use Rattle.wavelet_matrix.specs.Numbers.{count_before};
+
+use crate::digits::{digit_of, fits};
+use crate::walk::Levels;
+use bitm::TableSource;
+
+impl Levels {
+    /// Number `i`.
+    ///
+    /// # Conditions
+    /// The levels are those of the source, and there is such a number.
+    /// # Cost
+    /// For each digit what a rank reads: one entry of each table, and at most eight words.
+    #[inline(always)]
+    pub fn get_on<T: TableSource>(&self, source: &mut T, i: usize) -> u64
+        requires matrix { IsMatrix self.now (T.lists source.old) }
+        requires inside { i < self.now.len }
+        ensures number { result ≡ slice_index (numbers_in self.now (T.lists source.old)) i }
+        ensures reads { OnlyRanks T.lists T.reads source.old source.new self.now.width }
+    {
+        let mut place = i;
+        let mut number = 0;
+        for depth in 0..self.width() {
+            let (digit, next) = self.digit_and_next_on(source, depth, place);
+            number = 2 * number + digit as u64;
+            place = next;
+        }
+        number
+    }
+
+    /// Where a number that stood at a place of the list, or would there, stands after the last level.
+    #[inline(always)]
+    pub(crate) fn last_place_on<T: TableSource>(
+        &self,
+        source: &mut T,
+        number: u64,
+        place: usize,
+    ) -> usize
+        requires matrix { IsMatrix self.now (T.lists source.old) }
+        requires inside { place ≤ self.now.len }
+        ensures place { result ≡ level_place (numbers_in self.now (T.lists source.old))
+            self.now.width number self.now.width place }
+        ensures reads { OnlyRanks T.lists T.reads source.old source.new self.now.width }
+    {
+        let width = self.width();
+        let mut at = place;
+        for depth in 0..width {
+            at = self.next_on(source, depth, digit_of(number, width - 1 - depth), at);
+        }
+        at
+    }
+
+    /// The same for two places, whose walks wait for memory side by side.
+    #[inline(always)]
+    pub(crate) fn last_places_on<T: TableSource>(
+        &self,
+        source: &mut T,
+        number: u64,
+        start: usize,
+        end: usize,
+    ) -> (usize, usize)
+        requires matrix { IsMatrix self.now (T.lists source.old) }
+        requires start { start ≤ self.now.len }
+        requires end { end ≤ self.now.len }
+        ensures first { result.0 ≡ level_place (numbers_in self.now (T.lists source.old))
+            self.now.width number self.now.width start }
+        ensures last { result.1 ≡ level_place (numbers_in self.now (T.lists source.old))
+            self.now.width number self.now.width end }
+        ensures reads { OnlyRanks T.lists T.reads source.old source.new (2 * self.now.width) }
+    {
+        let width = self.width();
+        let (mut first, mut last) = (start, end);
+        for depth in 0..width {
+            let digit = digit_of(number, width - 1 - depth);
+            first = self.next_on(source, depth, digit, first);
+            last = self.next_on(source, depth, digit, last);
+        }
+        (first, last)
+    }
+
+    /// Where the numbers that are equal to this one start after the last level, and where those among the first `end` end
+    /// there.
+    #[inline(always)]
+    pub(crate) fn block_on<T: TableSource>(
+        &self,
+        source: &mut T,
+        number: u64,
+        end: usize,
+    ) -> (usize, usize)
+        requires matrix { IsMatrix self.now (T.lists source.old) }
+        requires inside { end ≤ self.now.len }
+        ensures first { result.0 ≡ level_place (numbers_in self.now (T.lists source.old))
+            self.now.width number self.now.width 0 }
+        ensures last { result.1 ≡ level_place (numbers_in self.now (T.lists source.old))
+            self.now.width number self.now.width end }
+        ensures reads { OnlyRanks T.lists T.reads source.old source.new (2 * self.now.width) }
+        ensures kept { number < length self.now.starts
+            → OnlyRanks T.lists T.reads source.old source.new self.now.width }
+    {
+        match self.start_of(number) {
+            Some(first) => (first, self.last_place_on(source, number, end)),
+            None => self.last_places_on(source, number, 0, end),
+        }
+    }
+
+    /// Where the numbers that are equal to this one start after the last level.
+    #[inline(always)]
+    pub(crate) fn start_on<T: TableSource>(&self, source: &mut T, number: u64) -> usize
+        requires matrix { IsMatrix self.now (T.lists source.old) }
+        ensures start { result ≡ level_place (numbers_in self.now (T.lists source.old))
+            self.now.width number self.now.width 0 }
+        ensures reads { OnlyRanks T.lists T.reads source.old source.new self.now.width }
+        ensures kept { number < length self.now.starts
+            → OnlyRanks T.lists T.reads source.old source.new 0 }
+    {
+        match self.start_of(number) {
+            Some(first) => first,
+            None => self.last_place_on(source, number, 0),
+        }
+    }
+
+    /// How many of the first `i` numbers are this one.
+    ///
+    /// # Conditions
+    /// The levels are those of the source, and there are no fewer than `i` numbers.
+    /// # Cost
+    /// For each digit what two ranks read, and what one reads where the number is below `starts`.
+    #[inline(always)]
+    pub fn rank_on<T: TableSource>(&self, source: &mut T, number: u64, i: usize) -> usize
+        requires matrix { IsMatrix self.now (T.lists source.old) }
+        requires inside { i ≤ self.now.len }
+        ensures count { result ≡ count_before (numbers_in self.now (T.lists source.old)) number i }
+        ensures reads { OnlyRanks T.lists T.reads source.old source.new (2 * self.now.width) }
+        ensures kept { number < length self.now.starts
+            → OnlyRanks T.lists T.reads source.old source.new self.now.width }
+    {
+        if !fits(number, self.width()) {
+            return 0;
+        }
+        let (first, last) = self.block_on(source, number, i);
+        last - first
+    }
+}

@@ -1,0 +1,29 @@
+//! A sequence of numbers that is asked by value: how often a number is in a front or a range, where it is, and which
+//! number of a range is the k-th smallest.
+//!
+//! Contracts see a matrix as the list of its numbers and their width in binary digits.
+//!
+//! ```
+//! let m = BinaryWaveletMatrix::build(alloc, [3u64, 1, 4, 1, 5, 1].as_slice(), 3)?;
+//! m.try_get(2)             // Some(4)
+//! m.try_rank(1, 4)         // Some(2): ones among the first four
+//! m.try_select(1, 2)       // Some(5): the place of the third 1
+//! m.quantile(1..5, 2)      // 4: of 1 4 1 5 the third smallest
+//! m.next_value(0..6, 2)    // Some(3): the least that is at least 2
+//! ```
+#![tactic(auto)]
+
+mod asking;
+mod digits;
+mod many;
+mod matrix;
+mod range_queries;
+mod ranges;
+mod selecting;
+mod shared;
+mod walk;
+mod writing;
+
+pub use digits::all_fit;
+pub use matrix::{BinaryWaveletMatrix, WaveletMatrix};
+pub use walk::Levels;

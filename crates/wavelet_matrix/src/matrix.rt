@@ -1,0 +1,302 @@
+//! The type of a matrix: its numbers by place and by value.
+ghost use Rattle.std.specs.Prelude.{◌≡◌, ◌==◌, ◌+◌, ◌*◌, ◌^◌, ◌<◌, ◌≤◌, All, IfOk, SomeIff, length, slice_index};
+ghost use Rattle.std.specs.Int.{div_ceil};
+ghost use Rattle.bitm.specs.Reads.{none_read};
+ghost use Rattle.bitm.specs.Size.{saturated_size};
+ghost use Rattle.wavelet_matrix.specs.Levels.{level, starts_of};
+ghost use Rattle.wavelet_matrix.specs.Matrix.{IsMatrix, numbers_in, words_of};
+ghost use Rattle.wavelet_matrix.specs.Numbers.{count_before, GetsEach, PicksItem, IsItemRank, IsItemSelect};
+
+use crate::digits::{fits, starts_for};
+use crate::walk::Levels;
+use crate::writing::make_levels;
+use bitm::{
+    BinaryRankSearch, GetSize, Probe, RankSelect101111, Select, Select0, Select0ForRank101111,
+    SelectForRank101111,
+};
+use std::alloc::{AllocError, Global};
+use std::boxed::BoxedSlice;
+use std::marker::Model;
+
+/// Numbers of up to 64 binary digits, kept digit by digit, and generic in the strategies that select ones and zeros.
+///
+/// Level `d` has one bit for each number, its digit `width - 1 - d`; before the next level the numbers are partitioned by
+/// that digit, those with a 0 first, each kind in its order. All levels stand side by side in one content under one
+/// index: `n` numbers of `w` digits take `n * w` bits and the index, and sixteen bytes for each level. Where 2^w words take
+/// no more than an eighth of these bits, there is one for each number of `w` digits: it says where those that are equal to
+/// the number start after the last level, so that a rank walks once and not twice.
+///
+/// For 3, 1, 4, 1, 5, 1 of three digits:
+///
+/// ```text
+/// level 0   3 1 4 1 5 1   digit 2: 0 0 1 0 1 0
+/// level 1   3 1 1 1 4 5   digit 1: 1 0 0 0 0 0
+/// level 2   1 1 1 4 5 3   digit 0: 1 1 1 0 1 1
+/// at last   4 1 1 1 5 3   the ones are side by side: three of them, from place 1 on
+/// ```
+///
+/// # Source
+/// Claude, Navarro and Ordóñez, 'The wavelet matrix: An efficient wavelet tree for large alphabets' (Information Systems
+/// 47, 2015).
+#[derive(Drop)]
+pub struct WaveletMatrix<S: SelectForRank101111, S0: Select0ForRank101111> {
+    levels: Levels,
+    index: RankSelect101111<S, S0, BoxedSlice<u64, Global>>,
+}
+
+impl<S: SelectForRank101111, S0: Select0ForRank101111> Model for WaveletMatrix<S, S0> {
+    ghost use Rattle.std.specs.Box.{boxed_slice_items};
+    ghost use Rattle.bitm.specs.Bits.{bits_of};
+    ghost use Rattle.wavelet_matrix.specs.Matrix.{Numbers, items_of, IsMatrixOf, IsTight};
+
+    ghost Value = { Numbers S S0 };
+
+    ghost view = { λ m. record {
+      items = items_of (bits_of (boxed_slice_items m.index.content)) m.levels.width m.levels.len;
+      width = m.levels.width;
+      select = m.index.select;
+      select0 = m.index.select0;
+    } };
+
+    ghost invariant = { λ m. let bits = bits_of (boxed_slice_items m.index.content) in
+        IsMatrixOf (items_of bits m.levels.width m.levels.len) m.levels bits
+        × IsTight m.levels (boxed_slice_items m.index.content) };
+}
+
+impl<S: SelectForRank101111, S0: Select0ForRank101111> WaveletMatrix<S, S0> {
+    /// A matrix of the numbers, which are not changed.
+    ///
+    /// # Conditions
+    /// The width is 1 to 64, no number has more digits than that (`all_fit`), and all digits together are fewer than
+    /// 2^63.
+    /// # Errors
+    /// `AllocError` if memory was refused; nothing is left.
+    /// # Cost
+    /// Two copies of the numbers are kept while the levels are written.
+    pub fn build(alloc: Global, numbers: &[u64], width: u8) -> Result<Self, AllocError>
+        requires some { 1 ≤ width }
+        requires most { width ≤ 64 }
+        requires short { width * length numbers.now < 2 ^ 63 }
+        requires fit { All (λ x. x < 2 ^ width) numbers.now }
+        ensures items { IfOk result (λ made. made.items ≡ numbers.now) }
+        ensures width { IfOk result (λ made. made.width ≡ width) }
+    {
+        let content = make_levels(alloc, numbers, width)?;
+        let Ok((index, _ones)) = RankSelect101111::build(alloc, content) else {
+            return Err(AllocError);
+        };
+        let mut levels = Levels::new(alloc, &index, numbers.len(), width)?;
+        let count = starts_for(numbers.len(), width);
+        levels.keep_starts(alloc, &mut index.probe(), count)?;
+        Ok(WaveletMatrix { levels, index })
+    }
+
+    /// How many numbers there are.
+    #[inline(always)]
+    pub fn len(&self) -> usize
+        ensures { result ≡ length self.now.items }
+    {
+        self.levels.len()
+    }
+
+    /// Whether there are none.
+    #[inline(always)]
+    pub fn is_empty(&self) -> bool
+        ensures { result ≡ (length self.now.items == 0) }
+    {
+        self.levels.len() == 0
+    }
+
+    /// How many binary digits each number has at most, as said when the matrix was built: 1 to 64.
+    #[inline(always)]
+    pub fn width(&self) -> u8
+        ensures value { result ≡ self.now.width }
+        ensures some { 1 ≤ result }
+        ensures most { result ≤ 64 }
+        ensures fit { All (λ x. x < 2 ^ self.now.width) self.now.items }
+    {
+        self.levels.width()
+    }
+
+    /// The levels, and a source over the words and tables, with no reads counted yet: what the calls of `Levels` take.
+    #[inline(always)]
+    pub fn parts(&self) -> (&Levels, Probe<'_>)
+        ensures matrix { IsMatrix result.0.now result.1.lists }
+        ensures items { numbers_in result.0.now result.1.lists ≡ self.now.items }
+        ensures len { result.0.now.len ≡ length self.now.items }
+        ensures width { result.0.now.width ≡ self.now.width }
+        ensures fit { All (λ x. x < 2 ^ self.now.width) self.now.items }
+        ensures reads { result.1.reads ≡ none_read }
+    {
+        (&self.levels, self.index.probe())
+    }
+
+    /// A matrix of the same numbers, with strategies of its own.
+    ///
+    /// # Errors
+    /// `AllocError` if memory was refused; this value is as it was.
+    pub fn try_clone(&self, alloc: Global) -> Result<Self, AllocError>
+        ensures items { IfOk result (λ copy. copy.items ≡ self.now.items) }
+        ensures width { IfOk result (λ copy. copy.width ≡ self.now.width) }
+    {
+        let levels = self.levels.try_clone(alloc)?;
+        let index = self.index.try_clone(alloc)?;
+        Ok(WaveletMatrix { levels, index })
+    }
+
+    /// Number `i`.
+    ///
+    /// # Conditions
+    /// There is such a number.
+    /// # Cost
+    /// That of `Levels::get_on`.
+    #[inline]
+    pub fn get(&self, i: usize) -> u64
+        requires { i < length self.now.items }
+        ensures { result ≡ slice_index self.now.items i }
+    {
+        let (levels, mut probe) = self.parts();
+        levels.get_on(&mut probe, i)
+    }
+
+    /// Number `i`; `None` exactly where there is none.
+    #[inline]
+    pub fn try_get(&self, i: usize) -> Option<u64>
+        ensures { SomeIff result (i < length self.now.items) (slice_index self.now.items i) }
+    {
+        if i < self.len() {
+            Some(self.get(i))
+        } else {
+            None
+        }
+    }
+
+    /// For each place the number there; they go to `numbers` in the order of the places, which are overwritten.
+    ///
+    /// # Conditions
+    /// There are as many `numbers` as `places`, and there is a number at each place.
+    /// # Cost
+    /// That of `Levels::get_many_on`: all go from level to level together.
+    pub fn get_many(&self, places: &mut [usize], numbers: &mut [u64])
+        requires same_length { length numbers.old ≡ length places.old }
+        requires inside { All (λ p. p < length self.now.items) places.old }
+        ensures { GetsEach self.now.items places.old numbers.new }
+    {
+        let (levels, mut probe) = self.parts();
+        levels.get_many_on(&mut probe, places, numbers);
+    }
+
+    /// How many of the first `i` numbers are this one.
+    ///
+    /// # Conditions
+    /// There are no fewer than `i` numbers.
+    /// # Cost
+    /// That of `Levels::rank_on`.
+    #[inline]
+    pub fn rank(&self, number: u64, i: usize) -> usize
+        requires { i ≤ length self.now.items }
+        ensures { result ≡ count_before self.now.items number i }
+    {
+        let (levels, mut probe) = self.parts();
+        levels.rank_on(&mut probe, number, i)
+    }
+
+    /// How many of the first `i` numbers are this one; `None` exactly where there are fewer numbers.
+    #[inline]
+    pub fn try_rank(&self, number: u64, i: usize) -> Option<usize>
+        ensures { IsItemRank self.now.items number i result }
+    {
+        if i <= self.len() {
+            Some(self.rank(number, i))
+        } else {
+            None
+        }
+    }
+
+    /// From where a number came to a place of the next level, where it stands with `k` such numbers before it.
+    #[inline(always)]
+    fn back(&self, depth: u8, number: u64, k: usize, place: usize) -> usize
+        requires depth { depth < self.now.width }
+        requires picked { PicksItem (level self.now.items self.now.width (depth + 1)) number k place }
+        ensures { PicksItem (level self.now.items self.now.width depth) number k result }
+    {
+        let probe = self.index.probe();
+        let (digit, rank, start) = self.levels.bit_before(&probe, depth, number, k, place);
+        let bit = if digit {
+            self.index.select(rank)
+        } else {
+            self.index.select0(rank)
+        };
+        bit - start
+    }
+
+    /// From where a number came to a place after the last level, where it stands with `k` such numbers before it.
+    #[inline(always)]
+    fn first_place(&self, number: u64, k: usize, place: usize) -> usize
+        requires { PicksItem (level self.now.items self.now.width self.now.width) number k place }
+        ensures { PicksItem self.now.items number k result }
+    {
+        let width = self.width();
+        let mut at = place;
+        for up in 0..width {
+            at = self.back(width - 1 - up, number, k, at);
+        }
+        at
+    }
+
+    /// The place of this number with exactly `k` such numbers before it.
+    ///
+    /// # Conditions
+    /// There is one: there are more than `k` such numbers.
+    /// # Cost
+    /// For each digit a selection, and where the start of the number is not kept a rank.
+    #[inline]
+    pub fn select(&self, number: u64, k: usize) -> usize
+        requires { k < count_before self.now.items number (length self.now.items) }
+        ensures { PicksItem self.now.items number k result }
+    {
+        let (levels, mut probe) = self.parts();
+        let first = levels.start_on(&mut probe, number);
+        self.first_place(number, k, first + k)
+    }
+
+    /// The place of this number with exactly `k` such numbers before it; `None` exactly where there is none.
+    ///
+    /// # Cost
+    /// For each digit a selection, and two ranks, or one where the start of the number is kept.
+    #[inline]
+    pub fn try_select(&self, number: u64, k: usize) -> Option<usize>
+        ensures { IsItemSelect self.now.items number k result }
+    {
+        if !fits(number, self.width()) {
+            return None;
+        }
+        let (levels, mut probe) = self.parts();
+        let (first, last) = levels.block_on(&mut probe, number, self.len());
+        if last - first <= k {
+            return None;
+        }
+        Some(self.first_place(number, k, first + k))
+    }
+}
+
+impl<S: SelectForRank101111 + GetSize, S0: Select0ForRank101111 + GetSize> GetSize
+    for WaveletMatrix<S, S0> {
+    // the words, eight bytes for each begun 2^26 and each begun 32 of them, sixteen for each level, eight for each start, and
+    // the two strategies
+    ghost dyn_bytes = { λ m. let n = length m.items in let words = words_of n m.width in saturated_size
+        (8 * words + 8 * div_ceil words (2 ^ 26) + 8 * div_ceil words 32
+        + S.dyn_bytes m.select + S0.dyn_bytes m.select0
+        + 16 * m.width + 8 * starts_of n m.width) };
+
+    const USES_DYN_MEM: bool = true;
+
+    fn size_bytes_dyn(&self) -> usize {
+        self.index
+            .size_bytes_dyn()
+            .saturating_add(self.levels.size_bytes_dyn())
+    }
+}
+
+/// A matrix that selects by binary search, and keeps nothing for it.
+pub type BinaryWaveletMatrix = WaveletMatrix<BinaryRankSearch, BinaryRankSearch>;

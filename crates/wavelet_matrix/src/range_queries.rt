@@ -1,0 +1,104 @@
+//! What a matrix is asked of the numbers of a range.
+ghost use Rattle.std.specs.Prelude.{◌≡◌, ◌+◌, ◌-◌, ◌<◌, ◌≤◌, length, slice_range};
+ghost use Rattle.wavelet_matrix.specs.Numbers.{count_less, count_between, IsSmallest, IsNextItem, IsPreviousItem};
+
+use crate::matrix::WaveletMatrix;
+use bitm::{Select0ForRank101111, SelectForRank101111};
+use std::ops::Range;
+
+impl<S: SelectForRank101111, S0: Select0ForRank101111> WaveletMatrix<S, S0> {
+    /// How many numbers of a range are less than `bound`.
+    ///
+    /// # Conditions
+    /// The range does not end before it starts, nor past the numbers.
+    /// # Cost
+    /// That of `Levels::count_less_on`.
+    #[inline]
+    pub fn count_less(&self, range: Range<usize>, bound: u64) -> usize
+        requires order { range.start ≤ range.end }
+        requires inside { range.end ≤ length self.now.items }
+        ensures { result ≡ count_less (slice_range self.now.items range.start range.end) bound }
+    {
+        let (levels, mut probe) = self.parts();
+        levels.count_less_on(&mut probe, range.start, range.end, bound)
+    }
+
+    /// How many numbers of a range are at least `low` and less than `high`; none where `high` is no more than `low`.
+    ///
+    /// # Conditions
+    /// The range does not end before it starts, nor past the numbers.
+    /// # Cost
+    /// That of `count_less`, twice.
+    #[inline]
+    pub fn range_count(&self, range: Range<usize>, low: u64, high: u64) -> usize
+        requires order { range.start ≤ range.end }
+        requires inside { range.end ≤ length self.now.items }
+        ensures { result
+            ≡ count_between (slice_range self.now.items range.start range.end) low high }
+    {
+        let (start, end) = (range.start, range.end);
+        if high <= low {
+            return 0;
+        }
+        self.count_less(start..end, high) - self.count_less(start..end, low)
+    }
+
+    /// The number of a range that would stand at place `k` if the range were sorted.
+    ///
+    /// # Conditions
+    /// The range does not end before it starts, nor past the numbers, and has more than `k` of them.
+    /// # Cost
+    /// That of `Levels::quantile_on`.
+    #[inline]
+    pub fn quantile(&self, range: Range<usize>, k: usize) -> u64
+        requires order { range.start ≤ range.end }
+        requires inside { range.end ≤ length self.now.items }
+        requires some { k < range.end - range.start }
+        ensures { IsSmallest (slice_range self.now.items range.start range.end) k result }
+    {
+        let (levels, mut probe) = self.parts();
+        levels.quantile_on(&mut probe, range.start, range.end, k)
+    }
+
+    /// The least number of a range that is at least `bound`; `None` exactly where all are less.
+    ///
+    /// # Conditions
+    /// The range does not end before it starts, nor past the numbers.
+    /// # Cost
+    /// That of `count_less`, and that of `quantile`.
+    #[inline]
+    pub fn next_value(&self, range: Range<usize>, bound: u64) -> Option<u64>
+        requires order { range.start ≤ range.end }
+        requires inside { range.end ≤ length self.now.items }
+        ensures { IsNextItem (slice_range self.now.items range.start range.end) bound result }
+    {
+        let (start, end) = (range.start, range.end);
+        let less = self.count_less(start..end, bound);
+        if less < end - start {
+            Some(self.quantile(start..end, less))
+        } else {
+            None
+        }
+    }
+
+    /// The greatest number of a range that is less than `bound`; `None` exactly where none is.
+    ///
+    /// # Conditions
+    /// The range does not end before it starts, nor past the numbers.
+    /// # Cost
+    /// That of `count_less`, and that of `quantile`.
+    #[inline]
+    pub fn previous_value(&self, range: Range<usize>, bound: u64) -> Option<u64>
+        requires order { range.start ≤ range.end }
+        requires inside { range.end ≤ length self.now.items }
+        ensures { IsPreviousItem (slice_range self.now.items range.start range.end) bound result }
+    {
+        let (start, end) = (range.start, range.end);
+        let less = self.count_less(start..end, bound);
+        if less == 0 {
+            None
+        } else {
+            Some(self.quantile(start..end, less - 1))
+        }
+    }
+}

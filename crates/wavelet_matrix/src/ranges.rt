@@ -1,0 +1,119 @@
+//! What is asked of the numbers of a range, over any source: how many are less than a number, and the k-th smallest.
+ghost use Rattle.std.specs.Prelude.{◌≡◌, ◌*◌, ◌-◌, ◌<◌, ◌≤◌, true, false, take, count_by, slice_range};
+ghost use Rattle.wavelet_matrix.specs.Levels.{has_digit, partition_place};
+ghost use Rattle.wavelet_matrix.specs.Matrix.{IsMatrix, OnlyRanks, digit_place, level_in, numbers_in};
+ghost use Rattle.wavelet_matrix.specs.Numbers.{count_less, IsSmallest};
+
+use crate::digits::{digit_of, fits};
+use crate::walk::Levels;
+use bitm::TableSource;
+
+impl Levels {
+    /// Of a range of a level: how many items before its start and how many before its end have the digit 1, and how many
+    /// of its own have the digit 0.
+    #[inline(always)]
+    fn part_on<T: TableSource>(
+        &self,
+        source: &mut T,
+        depth: u8,
+        first: usize,
+        last: usize,
+    ) -> (usize, usize, usize)
+        requires matrix { IsMatrix self.now (T.lists source.old) }
+        requires depth { depth < self.now.width }
+        requires order { first ≤ last }
+        requires inside { last ≤ self.now.len }
+        ensures first { result.0 ≡ count_by (has_digit (digit_place self.now depth) true)
+            (take first (level_in self.now (T.lists source.old) depth)) }
+        ensures last { result.1 ≡ count_by (has_digit (digit_place self.now depth) true)
+            (take last (level_in self.now (T.lists source.old) depth)) }
+        ensures zeros { let place = digit_place self.now depth in
+            let items = level_in self.now (T.lists source.old) depth in
+            result.2 ≡ partition_place place false items last - partition_place place false items first }
+        ensures reads { OnlyRanks T.lists T.reads source.old source.new 2 }
+    {
+        let before = self.ones_to_on(source, depth, first);
+        let through = self.ones_to_on(source, depth, last);
+        (before, through, (last - through) - (first - before))
+    }
+
+    /// How many numbers from place `start` on and before place `end` are less than `bound`.
+    ///
+    /// # Conditions
+    /// The levels are those of the source, and the range does not end before it starts, nor past the numbers.
+    /// # Cost
+    /// For each digit what two ranks read.
+    #[inline(always)]
+    pub fn count_less_on<T: TableSource>(
+        &self,
+        source: &mut T,
+        start: usize,
+        end: usize,
+        bound: u64,
+    ) -> usize
+        requires matrix { IsMatrix self.now (T.lists source.old) }
+        requires order { start ≤ end }
+        requires inside { end ≤ self.now.len }
+        ensures count { result
+            ≡ count_less (slice_range (numbers_in self.now (T.lists source.old)) start end) bound }
+        ensures reads { OnlyRanks T.lists T.reads source.old source.new (2 * self.now.width) }
+    {
+        let width = self.width();
+        if !fits(bound, width) {
+            return end - start;
+        }
+        let (mut first, mut last) = (start, end);
+        let mut count = 0;
+        for depth in 0..width {
+            let digit = digit_of(bound, width - 1 - depth);
+            let (before, through, zeros) = self.part_on(source, depth, first, last);
+            if digit {
+                count += zeros;
+            }
+            first = self.place_after(source, depth, digit, first, before);
+            last = self.place_after(source, depth, digit, last, through);
+        }
+        count
+    }
+
+    /// The number of a range that would stand at place `k` if the range were sorted.
+    ///
+    /// # Conditions
+    /// The levels are those of the source, and the range does not end before it starts, nor past the numbers, and has
+    /// more than `k` of them.
+    /// # Cost
+    /// For each digit what two ranks read.
+    /// # Source
+    /// Gagie, Puglisi and Turpin, 'Range quantile queries: another virtue of wavelet trees' (SPIRE 2009).
+    #[inline(always)]
+    pub fn quantile_on<T: TableSource>(
+        &self,
+        source: &mut T,
+        start: usize,
+        end: usize,
+        k: usize,
+    ) -> u64
+        requires matrix { IsMatrix self.now (T.lists source.old) }
+        requires order { start ≤ end }
+        requires inside { end ≤ self.now.len }
+        requires some { k < end - start }
+        ensures number { IsSmallest (slice_range (numbers_in self.now (T.lists source.old)) start end)
+            k result }
+        ensures reads { OnlyRanks T.lists T.reads source.old source.new (2 * self.now.width) }
+    {
+        let (mut first, mut last) = (start, end);
+        let mut left = k;
+        let mut number = 0;
+        for depth in 0..self.width() {
+            let (before, through, zeros) = self.part_on(source, depth, first, last);
+            let digit = zeros <= left;
+            if digit {
+                left -= zeros;
+            }
+            first = self.place_after(source, depth, digit, first, before);
+            last = self.place_after(source, depth, digit, last, through);
+            number = 2 * number + digit as u64;
+        }
+        number
+    }
+}

@@ -1,0 +1,326 @@
+//! The levels of a matrix among the bits of a source, and the step from one level to the next.
+ghost use Rattle.std.specs.Prelude.{◌≡◌, ◌+◌, ◌*◌, ◌-◌, ◌<◌, ◌≤◌, ◌^◌, ℕ, true, length, take, count_by, slice_index, IfOk, SomeIff};
+ghost use Rattle.bitm.specs.Bits.{digit};
+ghost use Rattle.bitm.specs.Count.{ones_before, zeros_before};
+ghost use Rattle.bitm.specs.Size.{saturated_size};
+ghost use Rattle.bitm.specs.Tables.{bits_in};
+ghost use Rattle.wavelet_matrix.specs.Levels.{has_digit, partition_place};
+ghost use Rattle.wavelet_matrix.specs.Matrix.{IsBitOf, IsMatrix, IsMatrixOf, OnlyRanks, digit_place, level_in, numbers_in};
+ghost use Rattle.wavelet_matrix.specs.Numbers.{PicksItem};
+
+use crate::digits::digit_of;
+use bitm::{Access, GetSize, TableSource, bit_and_rank_on, rank_on};
+use std::alloc::{AllocError, Global};
+use std::boxed::BoxedSlice;
+use std::marker::Model;
+
+/// Where the levels of a matrix are among the bits of a source: how many numbers there are, of how many digits, and for
+/// each level how many ones stand before it, and how many of its items have the digit 0. Where there are many numbers of
+/// few digits, also where those that are equal start after the last level, for each number of so many digits.
+#[derive(Drop)]
+pub struct Levels {
+    len: usize,
+    width: u8,
+    ones: BoxedSlice<usize, Global>,
+    zeros: BoxedSlice<usize, Global>,
+    starts: BoxedSlice<usize, Global>,
+}
+
+impl Model for Levels {
+    ghost use Rattle.std.specs.Box.{boxed_slice_items};
+    ghost use Rattle.wavelet_matrix.specs.Matrix.{LevelTables};
+
+    ghost Value = { LevelTables };
+
+    ghost view = { λ l. record {
+      len = l.len;
+      width = l.width;
+      ones = boxed_slice_items l.ones;
+      zeros = boxed_slice_items l.zeros;
+      starts = boxed_slice_items l.starts;
+    } };
+}
+
+impl Levels {
+    /// The levels of `len` numbers of `width` digits, whose bits the index has from its first one on.
+    ///
+    /// # Errors
+    /// `AllocError` if memory was refused; nothing is left.
+    /// # Cost
+    /// Two ranks for each level.
+    pub(crate) fn new<I: Access>(
+        alloc: Global,
+        index: &I,
+        len: usize,
+        width: u8,
+    ) -> Result<Levels, AllocError>
+        requires short { width * len < 2 ^ 63 }
+        requires room { width * len ≤ length (I.bits index.now) }
+        ensures len { IfOk result (λ made. made.len ≡ len) }
+        ensures width { IfOk result (λ made. made.width ≡ width) }
+        ensures ones_len { IfOk result (λ made. length made.ones ≡ width) }
+        ensures zeros_len { IfOk result (λ made. length made.zeros ≡ width) }
+        ensures starts { IfOk result (λ made. length made.starts ≡ 0) }
+        ensures ones { IfOk result (λ made. (d : ℕ) → d < width
+            → slice_index made.ones d ≡ ones_before (I.bits index.now) (d * len)) }
+        ensures zeros { IfOk result (λ made. (d : ℕ) → d < width
+            → zeros_before (I.bits index.now) (d * len) + slice_index made.zeros d
+            ≡ zeros_before (I.bits index.now) (d * len + len)) }
+    {
+        let mut ones = Vec::with_capacity(alloc, width as usize)?;
+        let mut zeros = Vec::with_capacity(alloc, width as usize)?;
+        for depth in 0..width as usize {
+            let start = depth * len;
+            let (before, through) = index.rank_pair(start, start + len);
+            ones.push(before)?;
+            zeros.push(len - (through - before))?;
+        }
+        Ok(Levels {
+            len,
+            width,
+            ones: ones.into_boxed_slice(),
+            zeros: zeros.into_boxed_slice(),
+            starts: Vec::new(alloc).into_boxed_slice(),
+        })
+    }
+
+    /// Adds for each number below `count` where those that are equal to it start after the last level.
+    ///
+    /// # Errors
+    /// `AllocError` if memory was refused; the levels are as they were.
+    /// # Cost
+    /// For each of these numbers, and each digit, a rank.
+    pub(crate) fn keep_starts<T: TableSource>(
+        &mut self,
+        alloc: Global,
+        source: &mut T,
+        count: usize,
+    ) -> Result<(), AllocError>
+        requires matrix { IsMatrix self.old (T.lists source.old) }
+        ensures len { self.new.len ≡ self.old.len }
+        ensures width { self.new.width ≡ self.old.width }
+        ensures count { IfOk result (λ _. length self.new.starts ≡ count) }
+        ensures matrix { IfOk result (λ _. IsMatrixOf (numbers_in self.old (T.lists source.old))
+            self.new (bits_in (T.lists source.old))) }
+    {
+        let mut starts = Vec::with_capacity(alloc, count)?;
+        for number in 0..count {
+            starts.push(self.last_place_on(source, number as u64, 0))?;
+        }
+        self.starts = starts.into_boxed_slice();
+        Ok(())
+    }
+
+    /// The same levels once more.
+    ///
+    /// # Errors
+    /// `AllocError` if memory was refused; this value is as it was.
+    pub fn try_clone(&self, alloc: Global) -> Result<Levels, AllocError>
+        ensures { IfOk result (λ copy. copy ≡ self.now) }
+    {
+        let ones = Vec::from_slice(alloc, self.ones.as_slice())?;
+        let zeros = Vec::from_slice(alloc, self.zeros.as_slice())?;
+        let starts = Vec::from_slice(alloc, self.starts.as_slice())?;
+        Ok(Levels {
+            len: self.len,
+            width: self.width,
+            ones: ones.into_boxed_slice(),
+            zeros: zeros.into_boxed_slice(),
+            starts: starts.into_boxed_slice(),
+        })
+    }
+
+    /// For how many numbers, from 0 on, it is kept where those that are equal start after the last level.
+    #[inline(always)]
+    pub fn starts(&self) -> usize
+        ensures { result ≡ length self.now.starts }
+    {
+        self.starts.as_slice().len()
+    }
+
+    /// Where those that are equal to the number start after the last level; `None` exactly where that is not kept.
+    #[inline(always)]
+    pub(crate) fn start_of(&self, number: u64) -> Option<usize>
+        ensures { SomeIff result (number < length self.now.starts)
+            (slice_index self.now.starts number) }
+    {
+        let starts = self.starts.as_slice();
+        if number < starts.len() as u64 {
+            Some(starts[number as usize])
+        } else {
+            None
+        }
+    }
+
+    /// How many numbers there are.
+    #[inline(always)]
+    pub fn len(&self) -> usize
+        ensures { result ≡ self.now.len }
+    {
+        self.len
+    }
+
+    /// How many binary digits each number has at most.
+    #[inline(always)]
+    pub fn width(&self) -> u8
+        ensures { result ≡ self.now.width }
+    {
+        self.width
+    }
+
+    /// How many ones stand before a level.
+    #[inline(always)]
+    fn ones_before_level(&self, depth: u8) -> usize
+        requires { depth < length self.now.ones }
+        ensures { result ≡ slice_index self.now.ones depth }
+    {
+        self.ones[depth as usize]
+    }
+
+    /// How many items of a level have the digit 0.
+    #[inline(always)]
+    fn zeros_of_level(&self, depth: u8) -> usize
+        requires { depth < length self.now.zeros }
+        ensures { result ≡ slice_index self.now.zeros depth }
+    {
+        self.zeros[depth as usize]
+    }
+
+    /// How many of the first items of a level have the digit 1.
+    #[inline(always)]
+    pub(crate) fn ones_to_on<T: TableSource>(
+        &self,
+        source: &mut T,
+        depth: u8,
+        place: usize,
+    ) -> usize
+        requires matrix { IsMatrix self.now (T.lists source.old) }
+        requires depth { depth < self.now.width }
+        requires inside { place ≤ self.now.len }
+        ensures count { result ≡ count_by (has_digit (digit_place self.now depth) true)
+            (take place (level_in self.now (T.lists source.old) depth)) }
+        ensures reads { OnlyRanks T.lists T.reads source.old source.new 1 }
+    {
+        match rank_on(source, depth as usize * self.len() + place) {
+            Some(ones) => ones - self.ones_before_level(depth),
+            None => unreachable!(),
+        }
+    }
+
+    /// Where an item with this digit at a place of a level stands at the next level, where so many before it have the
+    /// digit 1.
+    #[inline(always)]
+    pub(crate) fn place_after<T: TableSource>(
+        &self,
+        source: &T,
+        depth: u8,
+        digit: bool,
+        place: usize,
+        ones: usize,
+    ) -> usize
+        requires matrix { IsMatrix self.now (T.lists source.now) }
+        requires depth { depth < self.now.width }
+        requires inside { place ≤ self.now.len }
+        requires ones { ones ≡ count_by (has_digit (digit_place self.now depth) true)
+            (take place (level_in self.now (T.lists source.now) depth)) }
+        ensures { result ≡ partition_place (digit_place self.now depth) digit
+            (level_in self.now (T.lists source.now) depth) place }
+    {
+        let _source = source;
+        if digit {
+            self.zeros_of_level(depth) + ones
+        } else {
+            place - ones
+        }
+    }
+
+    /// Where an item with this digit at a place of a level stands at the next level.
+    #[inline(always)]
+    pub(crate) fn next_on<T: TableSource>(
+        &self,
+        source: &mut T,
+        depth: u8,
+        digit: bool,
+        place: usize,
+    ) -> usize
+        requires matrix { IsMatrix self.now (T.lists source.old) }
+        requires depth { depth < self.now.width }
+        requires inside { place ≤ self.now.len }
+        ensures next { result ≡ partition_place (digit_place self.now depth) digit
+            (level_in self.now (T.lists source.old) depth) place }
+        ensures reads { OnlyRanks T.lists T.reads source.old source.new 1 }
+    {
+        let ones = self.ones_to_on(source, depth, place);
+        self.place_after(source, depth, digit, place, ones)
+    }
+
+    /// The digit by which the item at a place of a level is partitioned, and where it stands at the next level.
+    #[inline(always)]
+    pub(crate) fn digit_and_next_on<T: TableSource>(
+        &self,
+        source: &mut T,
+        depth: u8,
+        place: usize,
+    ) -> (bool, usize)
+        requires matrix { IsMatrix self.now (T.lists source.old) }
+        requires depth { depth < self.now.width }
+        requires inside { place < self.now.len }
+        ensures digit { result.0
+            ≡ digit (slice_index (level_in self.now (T.lists source.old) depth) place)
+            (digit_place self.now depth) }
+        ensures next { result.1 ≡ partition_place (digit_place self.now depth) result.0
+            (level_in self.now (T.lists source.old) depth) place }
+        ensures reads { OnlyRanks T.lists T.reads source.old source.new 1 }
+    {
+        match bit_and_rank_on(source, depth as usize * self.len() + place) {
+            Some((digit, rank)) => {
+                let ones = rank - self.ones_before_level(depth);
+                (digit, self.place_after(source, depth, digit, place, ones))
+            }
+            None => unreachable!(),
+        }
+    }
+
+    /// Which bit of the source is that of the item that stands, with `k` equal to `number` before it, at a place of the
+    /// level after this one: its kind and its rank, and the place of the level's first bit.
+    #[inline(always)]
+    pub(crate) fn bit_before<T: TableSource>(
+        &self,
+        source: &T,
+        depth: u8,
+        number: u64,
+        k: usize,
+        place: usize,
+    ) -> (bool, usize, usize)
+        requires matrix { IsMatrix self.now (T.lists source.now) }
+        requires depth { depth < self.now.width }
+        requires picked { PicksItem (level_in self.now (T.lists source.now) (depth + 1)) number k place }
+        ensures bit { let lists = T.lists source.now in
+            IsBitOf (numbers_in self.now lists) self.now (bits_in lists) depth number k result.0 result.1 }
+        ensures start { result.2 ≡ depth * self.now.len }
+    {
+        let _source = source;
+        let _k = k;
+        let start = depth as usize * self.len();
+        let ones = self.ones_before_level(depth);
+        if digit_of(number, self.width() - 1 - depth) {
+            (true, ones + (place - self.zeros_of_level(depth)), start)
+        } else {
+            (false, start - ones + place, start)
+        }
+    }
+}
+
+impl GetSize for Levels {
+    // eight bytes for each number of each table
+    ghost dyn_bytes = { λ l. saturated_size (8 * (length l.ones + length l.zeros + length l.starts)) };
+
+    const USES_DYN_MEM: bool = true;
+
+    fn size_bytes_dyn(&self) -> usize {
+        self.ones
+            .size_bytes_dyn()
+            .saturating_add(self.zeros.size_bytes_dyn())
+            .saturating_add(self.starts.size_bytes_dyn())
+    }
+}
