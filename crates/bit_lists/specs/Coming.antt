@@ -4,7 +4,7 @@ use Rattle.std.specs.Iterator.{YieldsFirst, YieldsLast}
 use Rattle.std.specs.Int.{bit_not, w64}
 use Rattle.std.specs.declared.ops.Range.{Range}
 use Rattle.bit_lists.specs.Bits.{low_digits, bits_of}
-use Rattle.bit_lists.specs.Count.{places, kind}
+use Rattle.bit_lists.specs.Count.{places, as_bit}
 
 -- a word in which the bits of the kind are ones
 abbrev pub word_of : ℕ → ℕ → ℕ
@@ -14,7 +14,7 @@ word_of (suc n) w = w
 -- the places of a kind that are still to come: of the ones left in the current word, whose first place is known, and of
 -- the words after it
 abbrev pub coming : ℕ → ℕ → ℕ → List ℕ → List ℕ
-coming v first current rest = places true first (low_digits 64 current) ++ places (kind v) (first + 64) (bits_of rest)
+coming v first current rest = places true first (low_digits 64 current) ++ places (as_bit v) (first + 64) (bits_of rest)
 
 -- the bits of a range of the words, none where it is reversed
 unfoldable pub bits_coming : List ℕ → ℕ → ℕ → List Bool

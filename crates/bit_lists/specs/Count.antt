@@ -56,9 +56,9 @@ places v k [] = []
 places v k (x ∷ b) = if is_same v x then k ∷ places v (k + 1) b else places v (k + 1) b
 
 -- the bit that a number stands for: zero for 0, one for each other
-abbrev pub kind : ℕ → Bool
-kind zero = false
-kind (suc n) = true
+abbrev pub as_bit : ℕ → Bool
+as_bit zero = false
+as_bit (suc n) = true
 
 -- p is the least place from s on whose item is v
 pub record IsFirstFrom (b : List Bool) (v : Bool) (s p : ℕ) : Type 0 where

@@ -4,15 +4,16 @@ ghost use Rattle.std.specs.Iterator.{YieldsFirst, item_count, UpTo, at_most};
 ghost use Rattle.std.specs.Iterator.SizeHint.{IsWithinCount};
 ghost use Rattle.bit_lists.specs.Bits.{bits_of, IsShort};
 ghost use Rattle.bit_lists.specs.Coming.{word_of, coming};
-ghost use Rattle.bit_lists.specs.Count.{places, kind};
+ghost use Rattle.bit_lists.specs.Count.{places, as_bit};
 
 use crate::counting::{count_bit_ones, count_bit_zeros};
 use std::iter::{ExactSizeIterator, FusedIterator, Iterator};
 use std::marker::Model;
 
-/// The places of the zeros where `B` is 0, and otherwise of the ones, rising, seen as the list of those still to come.
+/// The places of the zeros where `BIT` is 0, and otherwise of the ones, rising, seen as the list of those still to
+/// come.
 #[derive(Drop)]
-pub struct BitBIterator<'a, const B: u8> {
+pub struct BitBIterator<'a, const BIT: u8> {
     // The words after the current one.
     rest: &'a [u64],
     // The place of the first bit of the current word.
@@ -27,23 +28,23 @@ pub type BitOnesIterator<'a> = BitBIterator<'a, 1>;
 /// The places of the zeros.
 pub type BitZerosIterator<'a> = BitBIterator<'a, 0>;
 
-impl<'a, const B: u8> Model for BitBIterator<'a, B> {
+impl<'a, const BIT: u8> Model for BitBIterator<'a, BIT> {
     ghost Value = { List ℕ };
 
-    ghost view = { λ it. coming B it.first it.current it.rest.now };
+    ghost view = { λ it. coming BIT it.first it.current it.rest.now };
 
     ghost invariant = { λ it. it.first + 64 * length it.rest.now + 64 < 2 ^ 64 };
 }
 
 // The word with ones for the bits of this kind.
 #[inline(always)]
-fn word_of<const B: u8>(word: u64) -> u64
-    ensures { result ≡ word_of B word }
+fn word_of<const BIT: u8>(word: u64) -> u64
+    ensures { result ≡ word_of BIT word }
 {
-    if B == 0 { !word } else { word }
+    if BIT == 0 { !word } else { word }
 }
 
-impl<'a, const B: u8> BitBIterator<'a, B> {
+impl<'a, const BIT: u8> BitBIterator<'a, BIT> {
     /// All places of this kind of bit; none where there are no words.
     ///
     /// # Conditions
@@ -51,13 +52,13 @@ impl<'a, const B: u8> BitBIterator<'a, B> {
     #[inline]
     pub fn new(words: &'a [u64]) -> Self
         requires { IsShort words.now }
-        ensures { result ≡ places (kind B) 0 (bits_of words.now) }
+        ensures { result ≡ places (as_bit BIT) 0 (bits_of words.now) }
     {
         match words.split_first() {
             Some((word, rest)) => BitBIterator {
                 rest,
                 first: 0,
-                current: word_of::<B>(*word),
+                current: word_of::<BIT>(*word),
             },
             // Without a word there is no place, of zeros neither.
             None => BitBIterator {
@@ -69,7 +70,7 @@ impl<'a, const B: u8> BitBIterator<'a, B> {
     }
 }
 
-impl<'a, const B: u8> Iterator for BitBIterator<'a, B> {
+impl<'a, const BIT: u8> Iterator for BitBIterator<'a, BIT> {
     type Item = usize;
 
     ghost next_gives = { YieldsFirst (λ coming. coming) };
@@ -80,7 +81,7 @@ impl<'a, const B: u8> Iterator for BitBIterator<'a, B> {
     fn next(&mut self) -> Option<usize> {
         while self.current == 0 {
             let (word, rest) = self.rest.split_first()?;
-            self.current = word_of::<B>(*word);
+            self.current = word_of::<BIT>(*word);
             self.rest = rest;
             self.first += 64;
         }
@@ -100,10 +101,10 @@ impl<'a, const B: u8> Iterator for BitBIterator<'a, B> {
     }
 }
 
-impl<'a, const B: u8> ExactSizeIterator for BitBIterator<'a, B> {
+impl<'a, const BIT: u8> ExactSizeIterator for BitBIterator<'a, BIT> {
     #[inline]
     fn len(&self) -> usize {
-        let rest = if B == 0 {
+        let rest = if BIT == 0 {
             count_bit_zeros(self.rest)
         } else {
             count_bit_ones(self.rest)
@@ -112,4 +113,4 @@ impl<'a, const B: u8> ExactSizeIterator for BitBIterator<'a, B> {
     }
 }
 
-impl<'a, const B: u8> FusedIterator for BitBIterator<'a, B> {}
+impl<'a, const BIT: u8> FusedIterator for BitBIterator<'a, BIT> {}

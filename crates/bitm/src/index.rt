@@ -4,7 +4,7 @@ ghost use Rattle.std.specs.Box.{boxed_slice_items};
 ghost use Rattle.std.specs.Int.{div_ceil};
 ghost use Rattle.bit_lists.specs.Bits.{bits_of, IsShort};
 ghost use Rattle.bit_lists.specs.Count.{ones_of};
-ghost use Rattle.bitm_bits.specs.Size.{saturated};
+ghost use Rattle.bitm_bits.specs.Size.{saturated_size};
 ghost use Rattle.bitm_search.specs.Reads.{none_read};
 ghost use Rattle.bitm_search.specs.Tables.{AreTablesOf, IsIndexed, upper_of, lower_of};
 
@@ -91,11 +91,11 @@ fn make<S: SelectForRank101111, S0: Select0ForRank101111>(
     words: &[u64],
 ) -> Result<Made<S, S0>, AllocError>
     requires { IsShort words.now }
-    ensures tables { IfOk result (λ made. AreTablesOf (bits_of words.now)
-        (boxed_slice_items made.tables.l1ranks) (boxed_slice_items made.tables.l2ranks)) }
-    ensures supports { IfOk result (λ made. S.supports made.select words.now) }
-    ensures supports0 { IfOk result (λ made. S0.supports0 made.select0 words.now) }
-    ensures ones { IfOk result (λ made. made.ones ≡ ones_of (bits_of words.now)) }
+    ensures tables { IfOk result (λ parts. AreTablesOf (bits_of words.now)
+        (boxed_slice_items parts.tables.l1ranks) (boxed_slice_items parts.tables.l2ranks)) }
+    ensures supports { IfOk result (λ parts. S.supports parts.select words.now) }
+    ensures supports0 { IfOk result (λ parts. S0.supports0 parts.select0 words.now) }
+    ensures ones { IfOk result (λ parts. parts.ones ≡ ones_of (bits_of words.now)) }
 {
     let (tables, ones) = tables::make(alloc, words)?;
     let upper = tables.l1ranks.as_slice();
@@ -125,8 +125,8 @@ impl<S: SelectForRank101111, S0: Select0ForRank101111, BV: AsSlice<u64>> RankSel
     /// The tables are made in one pass over the words; then each strategy makes what it keeps.
     pub fn build(alloc: Global, content: BV) -> Result<(Self, usize), BV>
         requires { IsShort (BV.items content) }
-        ensures kept { IfOk result (λ made. made.0.content ≡ content) }
-        ensures total { IfOk result (λ made. made.1 ≡ ones_of (bits_of (BV.items content))) }
+        ensures kept { IfOk result (λ pair. pair.0.content ≡ content) }
+        ensures total { IfOk result (λ pair. pair.1 ≡ ones_of (bits_of (BV.items content))) }
         ensures content_back { IfErr result (λ back. back ≡ content) }
     {
         match make::<S, S0>(alloc, content.as_slice()) {
@@ -275,7 +275,7 @@ impl<
     BV: AsSlice<u64> + GetSize,
 > GetSize for RankSelect101111<S, S0, BV> {
     // the content, eight bytes for each begun part and each begun 32 words, and the two strategies
-    ghost dyn_bytes = { λ i. let words = length (BV.items i.content) in saturated
+    ghost dyn_bytes = { λ i. let words = length (BV.items i.content) in saturated_size
         (BV.dyn_bytes i.content + 8 * div_ceil words (2 ^ 26) + 8 * div_ceil words 32
         + S.dyn_bytes i.select + S0.dyn_bytes i.select0) };
 

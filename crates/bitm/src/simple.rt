@@ -2,15 +2,14 @@
 ghost use Rattle.std.specs.Prelude.{◌≡◌, ◌<◌, ◌≤◌, ◌+◌, ◌*◌, ◌/◌, ◌^◌, List, ℕ, length, slice_index, IfOk, IfErr, ◌-◌};
 ghost use Rattle.std.specs.Box.{boxed_slice_items};
 ghost use Rattle.std.specs.Int.{div_ceil};
-ghost use Rattle.bitm_bits.specs.Size.{saturated};
+ghost use Rattle.bitm_bits.specs.Size.{saturated_size};
 ghost use Rattle.bit_lists.specs.Bits.{bits_of, IsShort};
 ghost use Rattle.bit_lists.specs.Count.{ones_before, ones_of, IsRank};
 ghost use Rattle.bitm.specs.Simple.{HasFewOnes, simple_table_of};
 
 use crate::queries::{Access, HasBits, Rank};
 use bitm_bits::{CloneWords, GetSize, words};
-use bitm_search::search::ranking::ones_in_record;
-use bitm_search::source::Probe;
+use bitm_search::search::ranking::ones_of_words;
 use bitm_search::tables::ones_of_record;
 use broadword::ones_through;
 use std::alloc::{AllocError, Global};
@@ -56,9 +55,9 @@ fn make(alloc: Global, words: &[u64]) -> Result<(BoxedSlice<u32, Global>, u32), 
     requires short { IsShort words.now }
     requires few { HasFewOnes words.now }
     ensures table { IfOk result
-        (λ made. boxed_slice_items made.0 ≡ simple_table_of (bits_of words.now)) }
+        (λ pair. boxed_slice_items pair.0 ≡ simple_table_of (bits_of words.now)) }
     ensures total { IfOk result
-        (λ made. made.1 ≡ ones_of (bits_of words.now)) }
+        (λ pair. pair.1 ≡ ones_of (bits_of words.now)) }
 {
     let runs = words.len().div_ceil(WORDS_PER_RUN);
     let mut ranks = Vec::with_capacity(alloc, runs)?;
@@ -92,8 +91,7 @@ fn rank_from(words: &[u64], before: u32, last: usize) -> u32
 {
     let first = last / BITS_PER_RUN * WORDS_PER_RUN;
     let word = last / 64;
-    let mut source = Probe::new(words, [].as_slice(), [].as_slice());
-    let whole = ones_in_record(&mut source, first, word) as u32;
+    let whole = ones_of_words(words, first, word) as u32;
     before + whole + ones_through(words[word], last % 64)
 }
 
@@ -107,8 +105,8 @@ impl<BV: AsSlice<u64>> RankSimple<BV> {
     pub fn build(alloc: Global, content: BV) -> Result<(Self, u32), BV>
         requires short { IsShort (BV.items content) }
         requires few { HasFewOnes (BV.items content) }
-        ensures kept { IfOk result (λ made. made.0 ≡ content) }
-        ensures total { IfOk result (λ made. made.1 ≡ ones_of (bits_of (BV.items content))) }
+        ensures kept { IfOk result (λ pair. pair.0 ≡ content) }
+        ensures total { IfOk result (λ pair. pair.1 ≡ ones_of (bits_of (BV.items content))) }
         ensures content_back { IfErr result (λ back. back ≡ content) }
     {
         match make(alloc, content.as_slice()) {
@@ -198,7 +196,8 @@ impl<BV: AsSlice<u64>> AsSlice<u64> for RankSimple<BV> {
 
 impl<BV: AsSlice<u64> + GetSize> GetSize for RankSimple<BV> {
     // the content, and four bytes for each begun run of eight words
-    ghost dyn_bytes = { λ s. saturated (BV.dyn_bytes s + 4 * div_ceil (length (BV.items s)) 8) };
+    ghost dyn_bytes = { λ s. saturated_size
+        (BV.dyn_bytes s + 4 * div_ceil (length (BV.items s)) 8) };
 
     const USES_DYN_MEM: bool = true;
 

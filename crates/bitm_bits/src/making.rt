@@ -111,9 +111,9 @@ impl<A: Allocator> BitVec for Vec<u64, A> {
 
     #[inline]
     fn with_bitwords(alloc: A, word: u64, s: u8, n: usize) -> Result<Self, AllocError> {
-        let mut made = Self::with_zeroed_bits(alloc, n * s as usize)?;
-        init_fragments(made.as_mut_slice(), word, s, n);
-        Ok(made)
+        let mut bits = Self::with_zeroed_bits(alloc, n * s as usize)?;
+        init_fragments(bits.as_mut_slice(), word, s, n);
+        Ok(bits)
     }
 }
 

@@ -10,7 +10,7 @@ use Rattle.bitm_search.specs.Entry.{lower_entry}
 use Rattle.bitm_search.specs.Tables.{AreTablesOf, HasSizes, lower_of, upper_of}
 use Rattle.bitm_search.proofs.lemmas.TableLemmas.{length-upper_of, length-lower_of, get_or-upper_of, get_or-lower_of}
 use Rattle.bitm_search.proofs.lemmas.TableMakingLemmas.{parts_of_words, entries_of_words}
-use Rattle.bitm_lent.specs.Sizes.{IsFilled, listed}
+use Rattle.bitm_lent.specs.Sizes.{IsFilled, lists_of}
 
 -- one more item
 pub filled_more : (f : ℕ → ℕ) (xs : List ℕ) (n y : ℕ) → IsFilled f xs n → n < length xs → y ≡ f n → IsFilled f (slice_set xs n y) (n + 1)
@@ -25,7 +25,7 @@ filled_more f xs n y before inside is j l =
     ]
 
 -- whole tables
-pub tables_filled : (words upper lower : List ℕ) → HasSizes (listed words upper lower)
+pub tables_filled : (words upper lower : List ℕ) → HasSizes (lists_of words upper lower)
     → IsFilled (λ k. ones_before (bits_of words) (k * 2 ^ 32)) upper (length upper)
     → IsFilled (lower_entry (bits_of words)) lower (length lower) → AreTablesOf (bits_of words) upper lower
 tables_filled words upper lower s up low =

@@ -3,7 +3,7 @@ use Rattle.std.specs.Prelude.{◌≡◌, ◌≢◌, ⊤, ℕ, ◌-◌, ◌*◌, 
 use Rattle.std.specs.Int.{div_ceil}
 use Rattle.bit_lists.specs.Bits.{item}
 use Rattle.bit_lists.specs.Count.{count_before, count_of, Picks}
-use Rattle.bitm.specs.Density.{within}
+use Rattle.bitm.specs.Density.{clamped_log}
 use Rattle.bitm.specs.Samples.{samples_of, sample_starts_of}
 use Rattle.bitm_search.specs.Tables.{HasTables, Lists, bits_in}
 use Rattle.bitm_search.specs.Told.{TellsNone}
@@ -18,7 +18,7 @@ pub record AreSamples (b : List Bool) (v : Bool) (d : ℕ) (samples starts : Lis
 
 -- what is lent are the samples of the items v of the bits b
 abbrev pub AreSamplesOf : List Bool → Bool → LentSamples → Type 0
-AreSamplesOf b v lent = AreSamples b v (within lent.log2) lent.samples.now lent.starts.now
+AreSamplesOf b v lent = AreSamples b v (clamped_log lent.log2) lent.samples.now lent.starts.now
 
 -- sample number j of the items v of the bits b, over all parts
 abbrev pub sample_number : List Bool → Bool → ℕ → ℕ → ℕ
@@ -26,7 +26,7 @@ sample_number b v d j = slice_index (samples_of b v d) j
 
 -- how many samples are enough for so many words
 abbrev pub enough_samples : ℕ → ℕ → ℕ
-enough_samples words log = div_ceil words (2 ^ (within log - 6))
+enough_samples words log = div_ceil words (2 ^ (clamped_log log - 6))
 
 -- there is room for the samples of any words of so many, and for as many starts as parts
 pub record HasRoom (lists : Lists) (log : ℕ) (samples starts : List ℕ) : Type 0 where

@@ -3,8 +3,8 @@ use Rattle.std.specs.Prelude.{◌≡◌, ℕ, ◌<◌, List, slice_index}
 use Rattle.bitm_search.specs.Tables.{Lists}
 
 -- words and two tables
-abbrev pub listed : List ℕ → List ℕ → List ℕ → Lists
-listed words upper lower = record { words = words; upper = upper; lower = lower }
+abbrev pub lists_of : List ℕ → List ℕ → List ℕ → Lists
+lists_of words upper lower = record { words = words; upper = upper; lower = lower }
 
 -- item j of the list is that of the function, up to n
 abbrev pub IsFilled : (ℕ → ℕ) → List ℕ → ℕ → Type 0

@@ -1,7 +1,7 @@
 //! Words and tables that are lent, of which the last bits do not belong to the content.
 ghost use Rattle.std.specs.Prelude.{◌≡◌, ◌+◌, ◌-◌, ◌<◌, ◌≤◌, ℕ, Bool, List, MatchOption, length, min, slice_index, take};
 ghost use Rattle.std.specs.Prelude.{true, false};
-ghost use Rattle.bit_lists.specs.Count.{count_before, count_of, kind, Picks};
+ghost use Rattle.bit_lists.specs.Count.{count_before, count_of, as_bit, Picks};
 ghost use Rattle.bitm_search.specs.Tables.{HasTables, bits_in};
 ghost use Rattle.bitm_search.specs.Answers.{HasBit, IsSelected};
 ghost use Rattle.bitm_search.specs.Told.{IfAbsent, TellsNone};
@@ -61,7 +61,7 @@ impl<'a> LentBits<'a> {
     #[tactic(auto, using(bitm::proofs::BitLaws::bits_are_counted))]
     pub fn over(lent: Lent<'a>, len: usize) -> Option<LentBits<'a>>
         ensures { MatchOption result (length (bits_in lent.entry) < len)
-            (λ made. (made ≡ cut_at lent.entry len) × IsWithin made) }
+            (λ bits. (bits ≡ cut_at lent.entry len) × IsWithin bits) }
     {
         if len > lent.words().len() * 64 {
             return None;
@@ -77,7 +77,7 @@ impl<'a> LentBits<'a> {
         ensures answer { HasTables self.now.lists
             → IsRanked (bits_of_cut self.now) true index result }
     {
-        self.rank_kind::<1>(index)
+        self.rank_bit::<1>(index)
     }
 
     /// How many of the first `index` bits are zeros, as `rank`.
@@ -87,20 +87,20 @@ impl<'a> LentBits<'a> {
         ensures answer { HasTables self.now.lists
             → IsRanked (bits_of_cut self.now) false index result }
     {
-        self.rank_kind::<0>(index)
+        self.rank_bit::<0>(index)
     }
 
     /// Ranks of one kind of bits.
     #[inline(always)]
-    fn rank_kind<const ONE: u8>(&self, index: usize) -> Ranked
+    fn rank_bit<const BIT: u8>(&self, index: usize) -> Ranked
         ensures inside { IsCountWithin self.now.len index result }
         ensures answer { HasTables self.now.lists
-            → IsRanked (bits_of_cut self.now) (kind ONE) index result }
+            → IsRanked (bits_of_cut self.now) (as_bit BIT) index result }
     {
         if index > self.len {
             return Ranked::Absent;
         }
-        self.lent.rank_kind::<ONE>(index)
+        self.lent.rank_bit::<BIT>(index)
     }
 
     /// The place of the one with exactly `rank` ones before it, as `Lent::select`: places behind the content are none.

@@ -5,21 +5,21 @@ ghost use Rattle.bit_lists.specs.Bits.{bits_of};
 ghost use Rattle.bit_lists.specs.Count.{ones_before};
 ghost use Rattle.bitm_search.specs.Entry.{lower_entry};
 ghost use Rattle.bitm_search.specs.Tables.{HasSizes, HasTables};
-ghost use Rattle.bitm_lent.specs.Sizes.{IsFilled, listed};
+ghost use Rattle.bitm_lent.specs.Sizes.{IsFilled, lists_of};
 
 use bitm_search::levels::L2_ENTRIES_PER_L1_ENTRY;
 use bitm_search::tables::make_entry;
 
 /// How many ones a part has, if its lower entries are right.
 fn ones_of_part(words: &[u64], upper: &[usize], lower: &[u64], part: usize) -> Option<usize>
-    requires sized { HasSizes (listed words.now upper.now lower.now) }
+    requires sized { HasSizes (lists_of words.now upper.now lower.now) }
     requires begun { part * 2 ^ 26 < length words.now }
     requires so_far { IsFilled (lower_entry (bits_of words.now)) lower.now (part * 2 ^ 21) }
     ensures filled { IfSome result (λ _. IsFilled (lower_entry (bits_of words.now)) lower.now
         (min (div_ceil (length words.now) 32) ((part + 1) * 2 ^ 21))) }
     ensures ones { IfSome result (λ n. ones_before (bits_of words.now) (part * 2 ^ 32) + n
         ≡ ones_before (bits_of words.now) ((part + 1) * 2 ^ 32)) }
-    ensures wrong { IsNone result → HasTables (listed words.now upper.now lower.now) → ⊥ }
+    ensures wrong { IsNone result → ¬ (HasTables (lists_of words.now upper.now lower.now)) }
 {
     let first = part * L2_ENTRIES_PER_L1_ENTRY;
     let end = lower.len().min(first + L2_ENTRIES_PER_L1_ENTRY);
@@ -36,8 +36,8 @@ fn ones_of_part(words: &[u64], upper: &[usize], lower: &[u64], part: usize) -> O
 
 /// Whether the tables are those of the words: one pass over the words, which stops at the first wrong entry.
 pub(crate) fn are_tables(words: &[u64], upper: &[usize], lower: &[u64]) -> bool
-    requires { HasSizes (listed words.now upper.now lower.now) }
-    ensures { IsTrue result ↔ HasTables (listed words.now upper.now lower.now) }
+    requires { HasSizes (lists_of words.now upper.now lower.now) }
+    ensures { IsTrue result ↔ HasTables (lists_of words.now upper.now lower.now) }
 {
     let mut ones = 0;
     for part in 0..upper.len() {

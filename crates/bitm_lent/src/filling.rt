@@ -1,11 +1,11 @@
 //! The two tables, made into memory that is lent, in one pass over the words.
-ghost use Rattle.std.specs.Prelude.{◌≡◌, ◌+◌, ◌*◌, ◌^◌, ◌<◌, length, min, IsNone, IfSome, MatchOption};
+ghost use Rattle.std.specs.Prelude.{◌≡◌, ◌+◌, ◌*◌, ◌^◌, ◌<◌, length, min, IsNone, IfSome, SomeIff};
 ghost use Rattle.std.specs.Int.{div_ceil};
 ghost use Rattle.bit_lists.specs.Bits.{bits_of, IsShort};
 ghost use Rattle.bit_lists.specs.Count.{ones_before, ones_of};
 ghost use Rattle.bitm_search.specs.Entry.{lower_entry};
 ghost use Rattle.bitm_search.specs.Tables.{HasSizes, HasTables};
-ghost use Rattle.bitm_lent.specs.Sizes.{IsFilled, listed};
+ghost use Rattle.bitm_lent.specs.Sizes.{IsFilled, lists_of};
 
 use crate::lent::has_sizes;
 use bitm_search::levels::L2_ENTRIES_PER_L1_ENTRY;
@@ -36,9 +36,9 @@ fn fill_part(words: &[u64], part: usize, lower: &mut [u64]) -> usize
 
 /// Writes both tables of the words, and answers the number of ones.
 fn fill(words: &[u64], upper: &mut [usize], lower: &mut [u64]) -> usize
-    requires { HasSizes (listed words.now upper.old lower.old) }
-    ensures sizes { HasSizes (listed words.now upper.new lower.new) }
-    ensures tables { HasTables (listed words.now upper.new lower.new) }
+    requires { HasSizes (lists_of words.now upper.old lower.old) }
+    ensures sizes { HasSizes (lists_of words.now upper.new lower.new) }
+    ensures tables { HasTables (lists_of words.now upper.new lower.new) }
     ensures ones { result ≡ ones_of (bits_of words.now) }
 {
     let mut ones = 0;
@@ -55,11 +55,10 @@ fn fill(words: &[u64], upper: &mut [usize], lower: &mut [u64]) -> usize
 /// # Cost
 /// Each word is read once. What was in the tables' memory is not read.
 pub fn build(words: &[u64], upper: &mut [usize], lower: &mut [u64]) -> Option<usize>
-    ensures ones { MatchOption result (HasSizes (listed words.now upper.old lower.old) → ⊥)
-        (λ ones. HasSizes (listed words.now upper.old lower.old)
-        × (ones ≡ ones_of (bits_of words.now))) }
-    ensures sizes { IfSome result (λ _. HasSizes (listed words.now upper.new lower.new)) }
-    ensures tables { IfSome result (λ _. HasTables (listed words.now upper.new lower.new)) }
+    ensures ones { SomeIff result (HasSizes (lists_of words.now upper.old lower.old))
+        (ones_of (bits_of words.now)) }
+    ensures sizes { IfSome result (λ _. HasSizes (lists_of words.now upper.new lower.new)) }
+    ensures tables { IfSome result (λ _. HasTables (lists_of words.now upper.new lower.new)) }
     ensures kept { IsNone result → (upper.new ≡ upper.old) × (lower.new ≡ lower.old) }
 {
     if !has_sizes(words, &*upper, &*lower) {

@@ -1,14 +1,14 @@
 //! Words and tables that are lent, and how long the tables are.
-ghost use Rattle.std.specs.Prelude.{◌≡◌, ◌^◌, ◌↔◌, ◌<◌, ◌≤◌, IsTrue, MatchOption, length, true, false};
+ghost use Rattle.std.specs.Prelude.{◌≡◌, ◌^◌, ◌↔◌, ◌<◌, ◌≤◌, IsTrue, MatchOption, length, true, false, SomeIff};
 ghost use Rattle.std.specs.Int.{div_ceil};
 ghost use Rattle.bit_lists.specs.Bits.{bits_of, IsShort};
-ghost use Rattle.bit_lists.specs.Count.{kind, IsRank};
+ghost use Rattle.bit_lists.specs.Count.{as_bit, IsRank};
 ghost use Rattle.bitm_search.specs.Reads.{none_read};
 ghost use Rattle.bitm_search.specs.Tables.{HasSizes, HasTables, bits_in};
 ghost use Rattle.bitm_search.specs.Told.{IfAbsent, TellsNone};
 ghost use Rattle.bitm_search.specs.Answers.{HasBit, IsSelected};
 ghost use Rattle.bitm_lent.specs.Ranks.{IsCountWithin, IsRanked};
-ghost use Rattle.bitm_lent.specs.Sizes.{listed};
+ghost use Rattle.bitm_lent.specs.Sizes.{lists_of};
 
 mod by_samples;
 mod checks;
@@ -41,7 +41,7 @@ pub fn lower_len(words: usize) -> usize
 /// Whether there are fewer than 2^58 words and the tables have the right lengths.
 #[inline(always)]
 pub(crate) fn has_sizes(words: &[u64], upper: &[usize], lower: &[u64]) -> bool
-    ensures { IsTrue result ↔ HasSizes (listed words.now upper.now lower.now) }
+    ensures { IsTrue result ↔ HasSizes (lists_of words.now upper.now lower.now) }
 {
     words.len() < 1 << 58
         && upper.len() == upper_len(words.len())
@@ -61,13 +61,13 @@ pub struct Lent<'a> {
 
 impl<'a> Model for Lent<'a> {
     ghost use Rattle.bitm_search.specs.Tables.{HasSizes, Lists};
-    ghost use Rattle.bitm_lent.specs.Sizes.{listed};
+    ghost use Rattle.bitm_lent.specs.Sizes.{lists_of};
 
     ghost Value = { Lists };
 
-    ghost view = { λ l. listed l.words.now l.upper.now l.lower.now };
+    ghost view = { λ l. lists_of l.words.now l.upper.now l.lower.now };
 
-    ghost invariant = { λ l. HasSizes (listed l.words.now l.upper.now l.lower.now) };
+    ghost invariant = { λ l. HasSizes (lists_of l.words.now l.upper.now l.lower.now) };
 }
 
 impl<'a> Lent<'a> {
@@ -75,8 +75,8 @@ impl<'a> Lent<'a> {
     /// theirs.
     #[inline(always)]
     pub fn over(words: &'a [u64], upper: &'a [usize], lower: &'a [u64]) -> Option<Lent<'a>>
-        ensures { MatchOption result (HasSizes (listed words.now upper.now lower.now) → ⊥)
-            (λ lent. (lent ≡ listed words.now upper.now lower.now) × HasSizes lent) }
+        ensures { SomeIff result (HasSizes (lists_of words.now upper.now lower.now))
+            (lists_of words.now upper.now lower.now) }
     {
         if has_sizes(words, upper, lower) {
             Some(Lent {
@@ -127,7 +127,7 @@ impl<'a> Lent<'a> {
         ensures inside { IsCountWithin (length (bits_in self.now)) index result }
         ensures answer { HasTables self.now → IsRanked (bits_in self.now) true index result }
     {
-        self.rank_kind::<1>(index)
+        self.rank_bit::<1>(index)
     }
 
     /// How many of the first `index` bits are zeros, as `rank`.
@@ -139,21 +139,22 @@ impl<'a> Lent<'a> {
         ensures inside { IsCountWithin (length (bits_in self.now)) index result }
         ensures answer { HasTables self.now → IsRanked (bits_in self.now) false index result }
     {
-        self.rank_kind::<0>(index)
+        self.rank_bit::<0>(index)
     }
 
-    /// How many of the first `index` bits are ones; zeros in place of ones where `ONE` is 0.
+    /// How many of the first `index` bits are ones; zeros in place of ones where `BIT` is 0.
     #[inline(always)]
-    pub(crate) fn rank_kind<const ONE: u8>(&self, index: usize) -> Ranked
+    pub(crate) fn rank_bit<const BIT: u8>(&self, index: usize) -> Ranked
         ensures sized { HasSizes self.now }
         ensures inside { IsCountWithin (length (bits_in self.now)) index result }
-        ensures answer { HasTables self.now → IsRanked (bits_in self.now) (kind ONE) index result }
+        ensures answer { HasTables self.now
+            → IsRanked (bits_in self.now) (as_bit BIT) index result }
     {
         let Some(ones) = self.told_ones(index) else {
             return Ranked::Absent;
         };
         match index.checked_sub(ones) {
-            Some(zeros) => Ranked::Count(if ONE == 0 { zeros } else { ones }),
+            Some(zeros) => Ranked::Count(if BIT == 0 { zeros } else { ones }),
             None => Ranked::WrongTables,
         }
     }
@@ -183,7 +184,7 @@ impl<'a> Lent<'a> {
         ensures answer { HasTables self.now → IsSelected (bits_in self.now) true rank result }
         ensures none { IfAbsent result (TellsNone true self.now rank) }
     {
-        self.select_kind::<1>(rank)
+        self.select_bit::<1>(rank)
     }
 
     /// The place of the zero with exactly `rank` zeros before it, as `select`.
@@ -195,18 +196,18 @@ impl<'a> Lent<'a> {
         ensures answer { HasTables self.now → IsSelected (bits_in self.now) false rank result }
         ensures none { IfAbsent result (TellsNone false self.now rank) }
     {
-        self.select_kind::<0>(rank)
+        self.select_bit::<0>(rank)
     }
 
-    /// The place of the one with exactly `rank` ones before it; zeros in place of ones where `ONE` is 0.
+    /// The place of the one with exactly `rank` ones before it; zeros in place of ones where `BIT` is 0.
     #[inline(always)]
-    pub(crate) fn select_kind<const ONE: u8>(&self, rank: usize) -> Selected
+    pub(crate) fn select_bit<const BIT: u8>(&self, rank: usize) -> Selected
         ensures sized { HasSizes self.now }
-        ensures bit { HasBit (bits_in self.now) (kind ONE) result }
+        ensures bit { HasBit (bits_in self.now) (as_bit BIT) result }
         ensures answer { HasTables self.now
-            → IsSelected (bits_in self.now) (kind ONE) rank result }
-        ensures none { IfAbsent result (TellsNone (kind ONE) self.now rank) }
+            → IsSelected (bits_in self.now) (as_bit BIT) rank result }
+        ensures none { IfAbsent result (TellsNone (as_bit BIT) self.now rank) }
     {
-        total_select_on::<ONE, Probe<'_>>(&mut self.probe(), rank)
+        total_select_on::<BIT, Probe<'_>>(&mut self.probe(), rank)
     }
 }

@@ -1,6 +1,6 @@
 //! Answers to lists of queries.
 ghost use Rattle.std.specs.Prelude.{◌≡◌, ◌<◌, ◌↔◌, ℕ, IsTrue, length, slice_index, true, false};
-ghost use Rattle.bit_lists.specs.Count.{kind};
+ghost use Rattle.bit_lists.specs.Count.{as_bit};
 ghost use Rattle.bitm_search.specs.Answers.{SelectTold};
 ghost use Rattle.bitm_lent.specs.Ranks.{RankTold};
 
@@ -10,51 +10,51 @@ use bitm_search::search::many::total_select_many_on;
 use bitm_search::search::selected::{NO_ANSWER, WRONG_TABLES, told};
 use bitm_search::source::Probe;
 
-/// The rank of one place, `NO_ANSWER` or `WRONG_TABLES`; of zeros where `ONE` is 0.
+/// The rank of one place, `NO_ANSWER` or `WRONG_TABLES`; of zeros where `BIT` is 0.
 #[inline(always)]
-fn ranked<const ONE: u8>(lent: &Lent<'_>, place: usize) -> usize
-    ensures { RankTold (kind ONE) lent.now place result }
+fn rank_or_code<const BIT: u8>(lent: &Lent<'_>, place: usize) -> usize
+    ensures { RankTold (as_bit BIT) lent.now place result }
 {
-    match lent.rank_kind::<ONE>(place) {
+    match lent.rank_bit::<BIT>(place) {
         Ranked::Count(count) => count,
         Ranked::Absent => NO_ANSWER,
         Ranked::WrongTables => WRONG_TABLES,
     }
 }
 
-/// The place with one rank, `NO_ANSWER` or `WRONG_TABLES`; of a zero where `ONE` is 0.
+/// The place with one rank, `NO_ANSWER` or `WRONG_TABLES`; of a zero where `BIT` is 0.
 #[inline(always)]
-fn selected<const ONE: u8>(lent: &Lent<'_>, rank: usize) -> usize
-    ensures { SelectTold (kind ONE) lent.now rank result }
+fn place_or_code<const BIT: u8>(lent: &Lent<'_>, rank: usize) -> usize
+    ensures { SelectTold (as_bit BIT) lent.now rank result }
 {
-    told(lent.select_kind::<ONE>(rank))
+    told(lent.select_bit::<BIT>(rank))
 }
 
 /// Writes the rank of each place.
-fn rank_each<const ONE: u8>(lent: &Lent<'_>, places: &[usize], out: &mut [usize])
+fn rank_each<const BIT: u8>(lent: &Lent<'_>, places: &[usize], out: &mut [usize])
     requires { length out.old ≡ length places.now }
     ensures len { length out.new ≡ length places.now }
-    ensures told { (j : ℕ) → j < length places.now → RankTold (kind ONE) lent.now
+    ensures told { (j : ℕ) → j < length places.now → RankTold (as_bit BIT) lent.now
         (slice_index places.now j) (slice_index out.new j) }
 {
     for at in 0..places.len() {
-        out[at] = ranked::<ONE>(lent, places[at]);
+        out[at] = rank_or_code::<BIT>(lent, places[at]);
     }
 }
 
 /// Writes the place with each rank, by searches side by side where there is a word.
-fn select_each<const ONE: u8>(lent: &Lent<'_>, ranks: &[usize], out: &mut [usize])
+fn select_each<const BIT: u8>(lent: &Lent<'_>, ranks: &[usize], out: &mut [usize])
     requires { length out.old ≡ length ranks.now }
     ensures len { length out.new ≡ length ranks.now }
-    ensures told { (j : ℕ) → j < length ranks.now → SelectTold (kind ONE) lent.now
+    ensures told { (j : ℕ) → j < length ranks.now → SelectTold (as_bit BIT) lent.now
         (slice_index ranks.now j) (slice_index out.new j) }
 {
     if !lent.words().is_empty() {
-        total_select_many_on::<ONE, Probe<'_>>(&mut lent.probe(), ranks, out);
+        total_select_many_on::<BIT, Probe<'_>>(&mut lent.probe(), ranks, out);
         return;
     }
     for at in 0..ranks.len() {
-        out[at] = selected::<ONE>(lent, ranks[at]);
+        out[at] = place_or_code::<BIT>(lent, ranks[at]);
     }
 }
 

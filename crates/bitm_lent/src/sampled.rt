@@ -1,10 +1,10 @@
 //! Selection that starts at samples, over a source with any tables and samples: the samples say between which entries
 //! of a part the rank is, two entries are asked whether that is so, and a search by halves finds the entry.
-ghost use Rattle.std.specs.Prelude.{◌≡◌, ℕ, ◌+◌, ◌-◌, ◌*◌, ◌%◌, ◌^◌, ◌<◌, ◌≤◌, ◌↔◌, Bool, List, length, slice_index, IfSome, IsNone, IsTrue, MatchOption};
+ghost use Rattle.std.specs.Prelude.{◌≡◌, ℕ, ◌+◌, ◌-◌, ◌*◌, ◌%◌, ◌^◌, ◌<◌, ◌≤◌, ◌↔◌, Bool, List, length, slice_index, IfSome, IsSome, IsSomeAnd, IsTrue, MatchOption};
 ghost use Rattle.std.specs.Int.{div_ceil};
 ghost use Rattle.bit_lists.specs.Bits.{digit_count};
-ghost use Rattle.bit_lists.specs.Count.{ones_before, kind};
-ghost use Rattle.bitm.specs.Density.{within};
+ghost use Rattle.bit_lists.specs.Count.{ones_before, as_bit};
+ghost use Rattle.bitm.specs.Density.{clamped_log};
 ghost use Rattle.bitm_search.specs.Entry.{before_in_part, lower_entry};
 ghost use Rattle.bitm_search.specs.Reads.{OnlyReads, ReadsAtMost};
 ghost use Rattle.bitm.specs.Samples.{part_of, parts, sample_count_before};
@@ -14,8 +14,7 @@ ghost use Rattle.bitm_search.specs.Answers.{HasBit, IsSelected};
 ghost use Rattle.bitm_search.specs.Told.{told_entry, IfAbsent, IsLeftOf, TellsNone};
 ghost use Rattle.bitm_lent.specs.Samples.{AreSamplesOf, IsBounded, IsSelectedIfTold};
 
-use crate::samples::{Density, LentSamples};
-use bitm::CombinedSamplingDensity;
+use crate::samples::{LentSamples, clamped_log};
 use bitm::samples::first_entry;
 use bitm_search::entry::{entries_of_part, ones_to_entry};
 use bitm_search::levels::L2_ENTRIES_PER_L1_ENTRY;
@@ -30,7 +29,7 @@ use bitm_search::source::TableSource;
 fn samples_to(lent: &LentSamples<'_>, part: usize) -> usize
     ensures few { result ≤ length lent.now.samples.now }
     ensures own { (b : List Bool) → (v : Bool) → AreSamplesOf b v lent.now → part ≤ parts b
-        → result ≡ sample_count_before b v (within lent.now.log2) part }
+        → result ≡ sample_count_before b v (clamped_log lent.now.log2) part }
 {
     let all = lent.samples.len();
     match lent.starts.get(part) {
@@ -51,37 +50,39 @@ fn entry_behind(lent: &LentSamples<'_>, at: usize) -> usize
     (lent.samples[at] & 0x1F_FFFF) as usize + 1
 }
 
-/// Between which entries of a part the one is that has item `rank` of the part: its first and the one behind its last,
-/// if the samples are those of the words; `None` only where they are not.
+/// Entries of a part: from `low` on and before `end`.
+#[derive(Clone, Copy)]
+struct Bounds {
+    low: usize,
+    end: usize,
+}
+
+/// Between which entries of a part the one is that has item `rank` of the part, if the samples are those of the words;
+/// `None` only where they are not.
 #[inline(always)]
-fn bounds(
-    lent: &LentSamples<'_>,
-    part: usize,
-    entries: usize,
-    rank: usize,
-) -> Option<(usize, usize)>
+fn bounds_of(lent: &LentSamples<'_>, part: usize, entries: usize, rank: usize) -> Option<Bounds>
     requires part { part < 2 ^ 60 }
     requires some { 0 < entries }
-    ensures within { IfSome result (λ r. (r.0 < r.1) × (r.1 ≤ entries)) }
+    ensures within { IfSome result (λ r. (r.low < r.end) × (r.end ≤ entries)) }
     ensures own { (b : List Bool) → (v : Bool) → AreSamplesOf b v lent.now → part < parts b
         → entries ≡ div_ceil (length (part_of b part)) 2048
-        → MatchOption result ⊥ (λ r. IsBounded (part_of b part) v rank entries r.0 r.1) }
+        → IsSomeAnd result (λ r. IsBounded (part_of b part) v rank entries r.low r.end) }
 {
     let first = samples_to(lent, part);
     let count = samples_to(lent, part + 1).saturating_sub(first);
-    let interval = Density::divide(rank, lent.log2);
+    let log2 = clamped_log(lent.log2);
+    let interval = rank >> log2;
     if interval >= count {
-        return Some((entries - 1, entries));
+        return Some(Bounds {
+            low: entries - 1,
+            end: entries,
+        });
     }
     let at = first + interval;
-    let low = first_entry(
-        lent.samples[at],
-        rank,
-        Density::items_per_sample_log2(lent.log2),
-    );
+    let low = first_entry(lent.samples[at], rank, log2);
     if interval + 1 >= count {
         return if low < entries {
-            Some((low, entries))
+            Some(Bounds { low, end: entries })
         } else {
             None
         };
@@ -90,13 +91,13 @@ fn bounds(
     if end > entries || low >= end {
         return None;
     }
-    Some((low, end))
+    Some(Bounds { low, end })
 }
 
 /// What entry `low` of a part packs, 0 for the first, which need not be read; `None` where more than `rank` of the kind
 /// stand before it in the part.
 #[inline(always)]
-fn begun_by<const ONE: u8, T: TableSource>(
+fn begun_by<const BIT: u8, T: TableSource>(
     source: &mut T,
     part: usize,
     low: usize,
@@ -106,11 +107,11 @@ fn begun_by<const ONE: u8, T: TableSource>(
     requires inside { part < length (T.lists source.old).upper }
     requires low { low < entries_from (length (T.lists source.old).lower) part }
     ensures begun { HasTables (T.lists source.old) →
-        let m = sought_in ONE (T.lists source.old).words in
+        let m = sought_in BIT (T.lists source.old).words in
         MatchOption result (rank < before_in_part m (entry_in part low))
         (λ _. before_in_part m (entry_in part low) ≤ rank) }
     ensures packed { 0 < low → IfSome result (λ packed. packed
-        ≡ told_entry (kind ONE) (T.lists source.old) (entry_in part low)) }
+        ≡ told_entry (as_bit BIT) (T.lists source.old) (entry_in part low)) }
     ensures reads { ReadsAtMost (T.reads source.old) (T.reads source.new) 0 1 0 }
     ensures reads_first { low ≡ 0 → T.reads source.new ≡ T.reads source.old }
     ensures same { T.lists source.new ≡ T.lists source.old }
@@ -118,7 +119,7 @@ fn begun_by<const ONE: u8, T: TableSource>(
     if low == 0 {
         return Some(0);
     }
-    let packed = sought_entry::<ONE, T>(source, part * L2_ENTRIES_PER_L1_ENTRY + low);
+    let packed = sought_entry::<BIT, T>(source, part * L2_ENTRIES_PER_L1_ENTRY + low);
     if ones_to_entry(packed) <= rank {
         Some(packed)
     } else {
@@ -128,7 +129,7 @@ fn begun_by<const ONE: u8, T: TableSource>(
 
 /// Whether more than `rank` of the kind stand before entry `end` of a part in the part, if it has such an entry.
 #[inline(always)]
-fn is_behind<const ONE: u8, T: TableSource>(
+fn is_behind<const BIT: u8, T: TableSource>(
     source: &mut T,
     part: usize,
     end: usize,
@@ -137,7 +138,7 @@ fn is_behind<const ONE: u8, T: TableSource>(
     requires sized { HasSizes (T.lists source.old) }
     requires inside { part < length (T.lists source.old).upper }
     ensures behind { HasTables (T.lists source.old) →
-        let m = sought_in ONE (T.lists source.old).words in
+        let m = sought_in BIT (T.lists source.old).words in
         IsTrue result ↔ (end < entries_from (length (T.lists source.old).lower) part
         → rank < before_in_part m (entry_in part end)) }
     ensures reads { ReadsAtMost (T.reads source.old) (T.reads source.new) 0 1 0 }
@@ -146,61 +147,60 @@ fn is_behind<const ONE: u8, T: TableSource>(
     if end >= entries_of_part(source.lower_len(), part) {
         return true;
     }
-    let packed = sought_entry::<ONE, T>(source, part * L2_ENTRIES_PER_L1_ENTRY + end);
+    let packed = sought_entry::<BIT, T>(source, part * L2_ENTRIES_PER_L1_ENTRY + end);
     rank < ones_to_entry(packed)
 }
 
 /// The last entry of a part with no more than `rank` of the kind before it in the part, where the tables are those of
-/// the words, and what it packs; `None` only where it is not from entry `low` on and before `end`.
+/// the words, and what it packs; `None` only where it is not between these bounds.
 #[inline(always)]
-fn entry_between<const ONE: u8, T: TableSource>(
+fn entry_between<const BIT: u8, T: TableSource>(
     source: &mut T,
     part: usize,
-    low: usize,
-    end: usize,
+    bounds: Bounds,
     rank: usize,
 ) -> Option<(usize, u64)>
     requires sized { HasSizes (T.lists source.old) }
     requires inside { part < length (T.lists source.old).upper }
-    requires some { low < end }
-    requires within { end ≤ entries_from (length (T.lists source.old).lower) part }
+    requires some { bounds.low < bounds.end }
+    requires within { bounds.end ≤ entries_from (length (T.lists source.old).lower) part }
     ensures inside { IfSome result
         (λ r. r.0 < entries_from (length (T.lists source.old).lower) part) }
     ensures last { IfSome result (λ r. HasTables (T.lists source.old)
-        → IsLastEntry (sought_in ONE (T.lists source.old).words)
+        → IsLastEntry (sought_in BIT (T.lists source.old).words)
         (length (T.lists source.old).lower) part rank r.0) }
     ensures entry { IfSome result (λ r. HasTables (T.lists source.old) → r.1
-        ≡ lower_entry (sought_in ONE (T.lists source.old).words) (entry_in part r.0)) }
+        ≡ lower_entry (sought_in BIT (T.lists source.old).words) (entry_in part r.0)) }
     ensures packed { IfSome result (λ r. r.1
-        ≡ told_entry (kind ONE) (T.lists source.old) (entry_in part r.0)) }
+        ≡ told_entry (as_bit BIT) (T.lists source.old) (entry_in part r.0)) }
     ensures found { HasTables (T.lists source.old) →
-        let m = sought_in ONE (T.lists source.old).words in
-        before_in_part m (entry_in part low) ≤ rank
-        → (end < entries_from (length (T.lists source.old).lower) part
-        → rank < before_in_part m (entry_in part end))
-        → IsNone result → ⊥ }
+        let m = sought_in BIT (T.lists source.old).words in
+        before_in_part m (entry_in part bounds.low) ≤ rank
+        → (bounds.end < entries_from (length (T.lists source.old).lower) part
+        → rank < before_in_part m (entry_in part bounds.end))
+        → IsSome result }
     ensures reads { ReadsAtMost (T.reads source.old) (T.reads source.new) 0 23 0 }
     ensures same { T.lists source.new ≡ T.lists source.old }
 {
-    let Some(packed) = begun_by::<ONE, T>(source, part, low, rank) else {
+    let Some(packed) = begun_by::<BIT, T>(source, part, bounds.low, rank) else {
         return None;
     };
-    if !is_behind::<ONE, T>(source, part, end, rank) {
+    if !is_behind::<BIT, T>(source, part, bounds.end, rank) {
         return None;
     }
     let range = EntryRange {
-        low,
-        left: end - low,
+        low: bounds.low,
+        left: bounds.end - bounds.low,
         packed,
         above: 0,
     };
-    Some(last_in_range::<ONE, T>(source, part, range, rank))
+    Some(last_in_range::<BIT, T>(source, part, range, rank))
 }
 
 /// The last entry of a part with no more than `rank` of the kind before it in the part, where the tables are those of
 /// the words, and what it packs; `None` only where it is not where the samples say.
 #[inline(always)]
-pub(crate) fn sampled_entry<const ONE: u8, T: TableSource>(
+pub(crate) fn sampled_entry<const BIT: u8, T: TableSource>(
     source: &mut T,
     lent: &LentSamples<'_>,
     part: usize,
@@ -211,29 +211,29 @@ pub(crate) fn sampled_entry<const ONE: u8, T: TableSource>(
     ensures inside { IfSome result
         (λ r. r.0 < entries_from (length (T.lists source.old).lower) part) }
     ensures last { IfSome result (λ r. HasTables (T.lists source.old)
-        → IsLastEntry (sought_in ONE (T.lists source.old).words)
+        → IsLastEntry (sought_in BIT (T.lists source.old).words)
         (length (T.lists source.old).lower) part rank r.0) }
     ensures entry { IfSome result (λ r. HasTables (T.lists source.old) → r.1
-        ≡ lower_entry (sought_in ONE (T.lists source.old).words) (entry_in part r.0)) }
+        ≡ lower_entry (sought_in BIT (T.lists source.old).words) (entry_in part r.0)) }
     ensures packed { IfSome result (λ r. r.1
-        ≡ told_entry (kind ONE) (T.lists source.old) (entry_in part r.0)) }
+        ≡ told_entry (as_bit BIT) (T.lists source.old) (entry_in part r.0)) }
     ensures found { HasTables (T.lists source.old)
-        → AreSamplesOf (bits_in (T.lists source.old)) (kind ONE) lent.now
-        → IsNone result → ⊥ }
+        → AreSamplesOf (bits_in (T.lists source.old)) (as_bit BIT) lent.now
+        → IsSome result }
     ensures reads { ReadsAtMost (T.reads source.old) (T.reads source.new) 0 23 0 }
     ensures same { T.lists source.new ≡ T.lists source.old }
 {
     let entries = entries_of_part(source.lower_len(), part);
-    let Some((low, end)) = bounds(lent, part, entries, rank) else {
+    let Some(bounds) = bounds_of(lent, part, entries, rank) else {
         return None;
     };
-    entry_between::<ONE, T>(source, part, low, end, rank)
+    entry_between::<BIT, T>(source, part, bounds, rank)
 }
 
 /// Selection in a part by samples: the last entry with no more than `rank` of the kind before it in the part, and the
 /// bit in it.
 #[inline(always)]
-fn sampled_in_part<const ONE: u8, T: TableSource>(
+fn sampled_in_part<const BIT: u8, T: TableSource>(
     source: &mut T,
     lent: &LentSamples<'_>,
     part: usize,
@@ -242,32 +242,33 @@ fn sampled_in_part<const ONE: u8, T: TableSource>(
     requires sized { HasSizes (T.lists source.old) }
     requires inside { part < length (T.lists source.old).upper }
     requires part { HasTables (T.lists source.old) →
-        let m = sought_in ONE (T.lists source.old).words in
+        let m = sought_in BIT (T.lists source.old).words in
         IsLastPart m (length (T.lists source.old).upper)
         (ones_before m (part * 2 ^ 32) + rank) part }
-    ensures bit { HasBit (bits_in (T.lists source.old)) (kind ONE) result }
+    ensures bit { HasBit (bits_in (T.lists source.old)) (as_bit BIT) result }
     ensures told { HasTables (T.lists source.old) →
-        let m = sought_in ONE (T.lists source.old).words in
-        IsSelectedIfTold (bits_in (T.lists source.old)) (kind ONE)
+        let m = sought_in BIT (T.lists source.old).words in
+        IsSelectedIfTold (bits_in (T.lists source.old)) (as_bit BIT)
         (ones_before m (part * 2 ^ 32) + rank) result }
     ensures answer { HasTables (T.lists source.old)
-        → AreSamplesOf (bits_in (T.lists source.old)) (kind ONE) lent.now →
-        let m = sought_in ONE (T.lists source.old).words in
-        IsSelected (bits_in (T.lists source.old)) (kind ONE)
+        → AreSamplesOf (bits_in (T.lists source.old)) (as_bit BIT) lent.now →
+        let m = sought_in BIT (T.lists source.old).words in
+        IsSelected (bits_in (T.lists source.old)) (as_bit BIT)
         (ones_before m (part * 2 ^ 32) + rank) result }
-    ensures none { (all : ℕ) → all < 2 ^ 64 → IsLeftOf (kind ONE) (T.lists source.old) all part rank
-        → IfAbsent result (TellsNone (kind ONE) (T.lists source.old) all) }
+    ensures none { (all : ℕ) → all < 2 ^ 64
+        → IsLeftOf (as_bit BIT) (T.lists source.old) all part rank
+        → IfAbsent result (TellsNone (as_bit BIT) (T.lists source.old) all) }
     ensures reads { ReadsAtMost (T.reads source.old) (T.reads source.new) 0 23 8 }
     ensures same { T.lists source.new ≡ T.lists source.old }
 {
-    match sampled_entry::<ONE, T>(source, lent, part, rank) {
-        Some((entry, packed)) => in_packed::<ONE, 1, T>(source, part, entry, packed, rank),
+    match sampled_entry::<BIT, T>(source, lent, part, rank) {
+        Some((entry, packed)) => in_packed::<BIT, 1, T>(source, part, entry, packed, rank),
         None => Selected::WrongTables,
     }
 }
 
 /// The place of the one of the source's words with exactly `rank` ones before it, by samples of their ones; of zeros
-/// where `ONE` is 0.
+/// where `BIT` is 0.
 ///
 /// Whatever the tables and the samples hold, a place that is found is inside and has such a bit. Where the tables are
 /// those of the words it is the right one, `Absent` is answered only where there is none, and `WrongTables` only where
@@ -280,28 +281,28 @@ fn sampled_in_part<const ONE: u8, T: TableSource>(
 /// At most as many upper entries as their number has binary digits and one more, 23 lower entries and eight words are
 /// read, whatever the tables and samples hold; and four numbers of the samples. Where these are those of the words, two
 /// lower entries and one for each halving from the sample to the next.
-pub fn sampled_select_on<const ONE: u8, T: TableSource>(
+pub fn sampled_select_on<const BIT: u8, T: TableSource>(
     source: &mut T,
     lent: &LentSamples<'_>,
     rank: usize,
 ) -> Selected
     requires { HasSizes (T.lists source.old) }
-    ensures bit { HasBit (bits_in (T.lists source.old)) (kind ONE) result }
+    ensures bit { HasBit (bits_in (T.lists source.old)) (as_bit BIT) result }
     ensures told { HasTables (T.lists source.old)
-        → IsSelectedIfTold (bits_in (T.lists source.old)) (kind ONE) rank result }
+        → IsSelectedIfTold (bits_in (T.lists source.old)) (as_bit BIT) rank result }
     ensures answer { HasTables (T.lists source.old)
-        → AreSamplesOf (bits_in (T.lists source.old)) (kind ONE) lent.now
-        → IsSelected (bits_in (T.lists source.old)) (kind ONE) rank result }
-    ensures none { IfAbsent result (TellsNone (kind ONE) (T.lists source.old) rank) }
+        → AreSamplesOf (bits_in (T.lists source.old)) (as_bit BIT) lent.now
+        → IsSelected (bits_in (T.lists source.old)) (as_bit BIT) rank result }
+    ensures none { IfAbsent result (TellsNone (as_bit BIT) (T.lists source.old) rank) }
     ensures reads { OnlyReads T.lists T.reads source.old source.new
         (digit_count (length (T.lists source.old).upper) + 1) 23 8 }
 {
     if source.upper_len() == 0 {
         return Selected::Absent;
     }
-    let (part, in_part) = part_of_rank::<ONE, T>(source, rank);
+    let (part, in_part) = part_of_rank::<BIT, T>(source, rank);
     if in_part > rank {
         return Selected::WrongTables;
     }
-    sampled_in_part::<ONE, T>(source, lent, part, in_part)
+    sampled_in_part::<BIT, T>(source, lent, part, in_part)
 }

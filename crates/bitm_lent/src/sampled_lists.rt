@@ -1,6 +1,6 @@
 //! Answers to lists of queries, by samples.
 ghost use Rattle.std.specs.Prelude.{◌≡◌, ◌<◌, ◌↔◌, ℕ, IsTrue, length, slice_index, true, false};
-ghost use Rattle.bit_lists.specs.Count.{kind};
+ghost use Rattle.bit_lists.specs.Count.{as_bit};
 ghost use Rattle.bitm_lent.specs.Samples.{SampledTold};
 
 use crate::lent::Lent;
@@ -9,16 +9,16 @@ use crate::samples::LentSamples;
 use bitm_search::search::selected::told;
 use bitm_search::source::Probe;
 
-/// The place with one rank, `NO_ANSWER` or `WRONG_TABLES`; of a zero where `ONE` is 0.
+/// The place with one rank, `NO_ANSWER` or `WRONG_TABLES`; of a zero where `BIT` is 0.
 #[inline(always)]
-fn selected<const ONE: u8>(lent: &Lent<'_>, samples: &LentSamples<'_>, rank: usize) -> usize
-    ensures { SampledTold (kind ONE) lent.now samples.now rank result }
+fn place_or_code<const BIT: u8>(lent: &Lent<'_>, samples: &LentSamples<'_>, rank: usize) -> usize
+    ensures { SampledTold (as_bit BIT) lent.now samples.now rank result }
 {
-    told(lent.sampled_kind::<ONE>(samples, rank))
+    told(lent.sampled_bit::<BIT>(samples, rank))
 }
 
 /// Writes the place with each rank, by searches side by side where there is a word.
-fn select_each<const ONE: u8>(
+fn select_each<const BIT: u8>(
     lent: &Lent<'_>,
     samples: &LentSamples<'_>,
     ranks: &[usize],
@@ -26,15 +26,15 @@ fn select_each<const ONE: u8>(
 )
     requires { length out.old ≡ length ranks.now }
     ensures len { length out.new ≡ length ranks.now }
-    ensures told { (j : ℕ) → j < length ranks.now → SampledTold (kind ONE) lent.now samples.now
+    ensures told { (j : ℕ) → j < length ranks.now → SampledTold (as_bit BIT) lent.now samples.now
         (slice_index ranks.now j) (slice_index out.new j) }
 {
     if !lent.words().is_empty() {
-        sampled_select_many_on::<ONE, Probe<'_>>(&mut lent.probe(), samples, ranks, out);
+        sampled_select_many_on::<BIT, Probe<'_>>(&mut lent.probe(), samples, ranks, out);
         return;
     }
     for at in 0..ranks.len() {
-        out[at] = selected::<ONE>(lent, samples, ranks[at]);
+        out[at] = place_or_code::<BIT>(lent, samples, ranks[at]);
     }
 }
 

@@ -1,7 +1,7 @@
 //! Selections by samples side by side, over a source with any tables and samples.
 ghost use Rattle.std.specs.Prelude.{◌≡◌, ◌+◌, ◌*◌, ◌<◌, ◌≤◌, length};
 ghost use Rattle.bit_lists.specs.Bits.{digit_count};
-ghost use Rattle.bit_lists.specs.Count.{kind};
+ghost use Rattle.bit_lists.specs.Count.{as_bit};
 ghost use Rattle.bitm_search.specs.Answers.{ToldEach};
 ghost use Rattle.bitm_search.specs.Many.{IsSearch};
 ghost use Rattle.bitm_search.specs.Reads.{OnlyReads, ReadsAtMost};
@@ -20,7 +20,7 @@ use bitm_search::source::TableSource;
 /// The last entry of a part with no more than `rank` of the kind before it in the part, where the tables are those of
 /// the words; else some entry of the part. Where the samples do not lead to it, it is sought without them.
 #[inline(always)]
-fn entry_of<const ONE: u8, T: TableSource>(
+fn entry_of<const BIT: u8, T: TableSource>(
     source: &mut T,
     lent: &LentSamples<'_>,
     part: usize,
@@ -30,48 +30,48 @@ fn entry_of<const ONE: u8, T: TableSource>(
     requires inside { part < length (T.lists source.old).upper }
     ensures inside { result < entries_from (length (T.lists source.old).lower) part }
     ensures last { HasTables (T.lists source.old)
-        → IsLastEntry (sought_in ONE (T.lists source.old).words)
+        → IsLastEntry (sought_in BIT (T.lists source.old).words)
         (length (T.lists source.old).lower) part rank result }
     ensures reads { ReadsAtMost (T.reads source.old) (T.reads source.new) 0 46 0 }
     ensures same { T.lists source.new ≡ T.lists source.old }
 {
-    match sampled_entry::<ONE, T>(source, lent, part, rank) {
+    match sampled_entry::<BIT, T>(source, lent, part, rank) {
         Some((entry, _)) => entry,
-        None => last_entry::<ONE, T>(source, part, rank).0,
+        None => last_entry::<BIT, T>(source, part, rank).0,
     }
 }
 
 /// The query of a rank, whose entry is found, where the tables are those of the words; else with some entry.
 #[inline(always)]
-fn begin<const ONE: u8, T: TableSource>(
+fn begin<const BIT: u8, T: TableSource>(
     source: &mut T,
     lent: &LentSamples<'_>,
     rank: usize,
 ) -> Query
     requires sized { HasSizes (T.lists source.old) }
     requires some { 0 < length (T.lists source.old).upper }
-    ensures search { IsSearch ONE (T.lists source.old) rank result 0 }
+    ensures search { IsSearch BIT (T.lists source.old) rank result 0 }
     ensures reads { ReadsAtMost (T.reads source.old) (T.reads source.new)
         (digit_count (length (T.lists source.old).upper) + 1) 46 0 }
     ensures same { T.lists source.new ≡ T.lists source.old }
 {
-    let (part, rest) = part_of_rank::<ONE, T>(source, rank);
-    let entry = part * L2_ENTRIES_PER_L1_ENTRY + entry_of::<ONE, T>(source, lent, part, rest);
+    let (part, rest) = part_of_rank::<BIT, T>(source, rank);
+    let entry = part * L2_ENTRIES_PER_L1_ENTRY + entry_of::<BIT, T>(source, lent, part, rest);
     Query { rest, entry }
 }
 
-impl<'a, const ONE: u8, T: TableSource> FindsEntries<ONE, T> for LentSamples<'a> {
+impl<'a, const BIT: u8, T: TableSource> FindsEntries<BIT, T> for LentSamples<'a> {
     ghost lowers = { 46 };
 
     #[inline(always)]
     fn find(&self, source: &mut T, ranks: &[usize], queries: &mut [Query]) {
         for k in 0..ranks.len() {
-            queries[k] = begin::<ONE, T>(source, self, ranks[k]);
+            queries[k] = begin::<BIT, T>(source, self, ranks[k]);
         }
     }
 }
 
-/// For each rank what `total_select_many_on` tells, by samples of the ones; of the zeros where `ONE` is 0.
+/// For each rank what `total_select_many_on` tells, by samples of the ones; of the zeros where `BIT` is 0.
 ///
 /// Whatever the tables and samples hold, a place is inside and has such a bit. Where the tables are those of the words
 /// it is the right one, `NO_ANSWER` is told exactly where there is none, and `WRONG_TABLES` never: a rank that the
@@ -83,7 +83,7 @@ impl<'a, const ONE: u8, T: TableSource> FindsEntries<ONE, T> for LentSamples<'a>
 /// For each rank at most as many upper entries as their number has binary digits and one more, 47 lower entries and
 /// eight words are read, whatever the tables and samples hold; where these are those of the words, three lower entries
 /// and one for each halving from the sample to the next.
-pub fn sampled_select_many_on<const ONE: u8, T: TableSource>(
+pub fn sampled_select_many_on<const BIT: u8, T: TableSource>(
     source: &mut T,
     lent: &LentSamples<'_>,
     ranks: &[usize],
@@ -92,10 +92,10 @@ pub fn sampled_select_many_on<const ONE: u8, T: TableSource>(
     requires sized { HasSizes (T.lists source.old) }
     requires part { 0 < length (T.lists source.old).upper }
     requires same_length { length ranks.now ≡ length places.old }
-    ensures told { ToldEach (kind ONE) (T.lists source.old) ranks.now places.new }
+    ensures told { ToldEach (as_bit BIT) (T.lists source.old) ranks.now places.new }
     ensures reads { OnlyReads T.lists T.reads source.old source.new
         (length ranks.now * (digit_count (length (T.lists source.old).upper) + 1))
         (47 * length ranks.now) (8 * length ranks.now) }
 {
-    tell_many_on::<ONE, T, LentSamples<'_>>(source, lent, ranks, places);
+    tell_many_on::<BIT, T, LentSamples<'_>>(source, lent, ranks, places);
 }

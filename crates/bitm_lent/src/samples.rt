@@ -1,11 +1,17 @@
 //! Samples that are lent, and how many there are at most.
-ghost use Rattle.std.specs.Prelude.{◌≡◌};
+ghost use Rattle.std.specs.Prelude.{◌≡◌, ◌≤◌};
+ghost use Rattle.bitm.specs.Density.{clamped_log};
 ghost use Rattle.bitm_lent.specs.Samples.{enough_samples};
 
-use bitm::{AdaptiveCombinedSamplingDensity, CombinedSamplingDensity};
-
-/// The density of a logarithm that a caller gives.
-pub(crate) type Density = AdaptiveCombinedSamplingDensity<31>;
+/// The logarithm that is used for a caller's: 7 to 31.
+#[inline(always)]
+pub(crate) fn clamped_log(log2: u8) -> u8
+    ensures value { result ≡ clamped_log log2 }
+    ensures low { 7 ≤ result }
+    ensures high { result ≤ 31 }
+{
+    log2.clamp(7, 31)
+}
 
 /// Samples of one kind of bits, all lent: one for each 2^`log2` ones, or zeros, of a part of 2^32 bits.
 ///
@@ -28,5 +34,5 @@ pub struct LentSamples<'a> {
 pub fn samples_len(words: usize, log2: u8) -> usize
     ensures { result ≡ enough_samples words log2 }
 {
-    words.div_ceil(1 << (Density::items_per_sample_log2(log2) - 6))
+    words.div_ceil(1 << (clamped_log(log2) - 6))
 }

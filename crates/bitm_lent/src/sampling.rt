@@ -1,6 +1,6 @@
 //! Samples of tables that may hold anything, written into memory that is lent.
 ghost use Rattle.std.specs.Prelude.{◌≡◌, ℕ, ◌+◌, ◌*◌, ◌^◌, ◌<◌, ◌≤◌, Bool, List, length, slice_index, slice_set, take};
-ghost use Rattle.bit_lists.specs.Count.{kind};
+ghost use Rattle.bit_lists.specs.Count.{as_bit};
 ghost use Rattle.bitm.specs.Samples.{IsSized, IsSummaryOf, sample_count_before};
 ghost use Rattle.bitm_lent.specs.Samples.{AreSamples, sample_number};
 ghost use Rattle.bitm_lent.specs.Sizes.{IsFilled};
@@ -22,7 +22,7 @@ fn put(samples: &mut [u32], at: usize, sample: u32)
 }
 
 /// Writes the samples of a part from place `first` on, and answers how many.
-fn fill_samples<const ONE: u8>(
+fn fill_samples<const BIT: u8>(
     summary: &Summary<'_>,
     part: usize,
     log2: u8,
@@ -39,21 +39,21 @@ fn fill_samples<const ONE: u8>(
     ensures fits { first + result ≤ length samples.old }
     ensures after { (first + result) * 2 ^ log2 ≤ (part + 1) * 2 ^ 32 }
     ensures count { (b : List Bool) → IsSummaryOf b summary.now
-        → first ≡ sample_count_before b (kind ONE) log2 part
-        → first + result ≡ sample_count_before b (kind ONE) log2 (part + 1) }
+        → first ≡ sample_count_before b (as_bit BIT) log2 part
+        → first + result ≡ sample_count_before b (as_bit BIT) log2 (part + 1) }
     ensures filled { (b : List Bool) → IsSummaryOf b summary.now
-        → first ≡ sample_count_before b (kind ONE) log2 part
-        → IsFilled (sample_number b (kind ONE) log2) samples.old first
-        → IsFilled (sample_number b (kind ONE) log2) samples.new (first + result) }
+        → first ≡ sample_count_before b (as_bit BIT) log2 part
+        → IsFilled (sample_number b (as_bit BIT) log2) samples.old first
+        → IsFilled (sample_number b (as_bit BIT) log2) samples.new (first + result) }
     ensures kept { (j : ℕ) → first + result ≤ j
         → slice_index samples.new j ≡ slice_index samples.old j }
 {
-    let items = items_in::<ONE>(summary, part);
+    let items = items_in::<BIT>(summary, part);
     let count = items.div_ceil(1 << log2);
     let mut entry = 0;
     for interval in 0..count {
         let item = interval << log2;
-        let (sample, next) = sample_from::<ONE>(summary, part, log2, entry, item, items);
+        let (sample, next) = sample_from::<BIT>(summary, part, log2, entry, item, items);
         put(&mut *samples, first + interval, sample);
         entry = next;
     }
@@ -61,7 +61,7 @@ fn fill_samples<const ONE: u8>(
 }
 
 /// Writes the samples of all parts, and how many there are before each, and answers how many there are.
-pub(crate) fn fill_all<const ONE: u8>(
+pub(crate) fn fill_all<const BIT: u8>(
     summary: &Summary<'_>,
     log2: u8,
     samples: &mut [u32],
@@ -74,14 +74,14 @@ pub(crate) fn fill_all<const ONE: u8>(
     requires parts { length starts.old ≡ length summary.now.upper.now }
     ensures fits { result ≤ length samples.old }
     ensures made { (b : List Bool) → IsSummaryOf b summary.now
-        → AreSamples b (kind ONE) log2 (take result samples.new) starts.new }
+        → AreSamples b (as_bit BIT) log2 (take result samples.new) starts.new }
     ensures kept { (j : ℕ) → result ≤ j
         → slice_index samples.new j ≡ slice_index samples.old j }
 {
     let mut count = 0;
     for part in 0..summary.upper.len() {
         starts[part] = count;
-        count += fill_samples::<ONE>(summary, part, log2, count, &mut *samples);
+        count += fill_samples::<BIT>(summary, part, log2, count, &mut *samples);
     }
     count
 }

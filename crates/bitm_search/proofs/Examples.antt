@@ -2,28 +2,28 @@
 use Rattle.std.proofs.Common.{◌≡◌, ◌+◌, ◌-◌, ◌*◌, ◌^◌, [], ◌∷◌, refl}
 use Rattle.bit_lists.specs.Bits.{bits_of}
 use Rattle.bit_lists.specs.Count.{ones_before}
-use Rattle.bitm_search.specs.Entry.{packed, greatest, lower_entry, field_0, field_1, field_2, field_3}
+use Rattle.bitm_search.specs.Entry.{packed_counts, greatest_entry, lower_entry, field_0, field_1, field_2, field_3}
 
 greatest_before_an_entry : 2 ^ 32 - 2048 ≡ (2 ^ 21 - 1) * 2048
 greatest_before_an_entry = refl
 
-greatest_fields : packed 0 512 1024 1536 ≡ 0x8020_0600_0000_0000
+greatest_fields : packed_counts 0 512 1024 1536 ≡ 0x8020_0600_0000_0000
 greatest_fields = refl
 
-last_sum_repeats : packed 0 3 3 3 ≡ 0x00C0_1803_0000_0000
+last_sum_repeats : packed_counts 0 3 3 3 ≡ 0x00C0_1803_0000_0000
 last_sum_repeats = refl
 
 entry_of_one_word : lower_entry (bits_of (13 ∷ [])) 0 ≡ 0x00C0_1803_0000_0000
 unfolding bits_of ones_before
 entry_of_one_word = refl
 
-complement_of_one_word : greatest 0 - 0x00C0_1803_0000_0000 ≡ 0x7F5F_EDFD_0000_0000
+complement_of_one_word : greatest_entry 0 - 0x00C0_1803_0000_0000 ≡ 0x7F5F_EDFD_0000_0000
 complement_of_one_word = refl
 
-complement_of_a_second_entry : greatest 1 - 0x0601_8048_0000_0060 ≡ 0x7A1E_85B8_0000_07A0
+complement_of_a_second_entry : greatest_entry 1 - 0x0601_8048_0000_0060 ≡ 0x7A1E_85B8_0000_07A0
 complement_of_a_second_entry = refl
 
-complement_claims_missing_zeros : greatest 1 - 0x1002_0040_0000_0800 ≡ 0x701E_05C0_0000_0000
+complement_claims_missing_zeros : greatest_entry 1 - 0x1002_0040_0000_0800 ≡ 0x701E_05C0_0000_0000
 complement_claims_missing_zeros = refl
 
 fields_of_the_first_complement : field_1 0x7F5F_EDFD_0000_0000 ∷ field_2 0x7F5F_EDFD_0000_0000 ∷ field_3 0x7F5F_EDFD_0000_0000 ∷ field_0 0x7F5F_EDFD_0000_0000 ∷ [] ≡ 509 ∷ 1021 ∷ 1533 ∷ 0 ∷ []

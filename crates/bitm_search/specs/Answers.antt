@@ -2,7 +2,7 @@
 use Rattle.std.specs.Prelude.{◌≡◌, ⊤, ℕ, ◌+◌, ◌-◌, ◌*◌, ◌^◌, ◌<◌, ◌≤◌, Bool, List, Option, Some, None, length, slice_index}
 use Rattle.bit_lists.specs.Bits.{bits_of, item}
 use Rattle.bit_lists.specs.Count.{ones_before, count_of, Picks}
-use Rattle.bitm_search.specs.Search.{sought}
+use Rattle.bitm_search.specs.Search.{sought_bits}
 use Rattle.bitm_search.specs.Tables.{HasTables, Lists, bits_in}
 use Rattle.bitm_search.specs.Told.{TellsNone}
 use Rattle.bitm_search.specs.declared.search.selected.Selected.{Selected}
@@ -43,7 +43,7 @@ IsSelected b v r WrongTables = ⊥
 abbrev pub IsSelectedFrom : List ℕ → Bool → ℕ → ℕ → Selected → Type 0
 IsSelectedFrom words v k r (Found p) = Picks (bits_of words) v r p
 IsSelectedFrom words v k r Absent = count_of (bits_of words) v ≤ r
-IsSelectedFrom words v k r WrongTables = (k + 8 < length words) × (ones_before (sought v (bits_of words)) (64 * (k + 8)) ≤ r)
+IsSelectedFrom words v k r WrongTables = (k + 8 < length words) × (ones_before (sought_bits v (bits_of words)) (64 * (k + 8)) ≤ r)
 
 -- n tells the place with bit v and r such bits before it. Whatever the tables hold, below 2^64 - 2 it is a place with bit v, and it
 -- is 2^64 - 1 only where tables and words tell no more than r of them; where they are right it is 2^64 - 1 where there is none

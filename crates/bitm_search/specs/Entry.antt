@@ -12,12 +12,12 @@ abbrev pub in_records : List Bool → ℕ → ℕ → ℕ
 in_records b j k = ones_before b (2048 * j + 512 * k) - ones_before b (2048 * j)
 
 -- four counts in one number: 32, 10, 11 and 11 bits
-abbrev pub packed : ℕ → ℕ → ℕ → ℕ → ℕ
-packed r0 r1 r2 r3 = r0 + r3 * 2 ^ 32 + r2 * 2 ^ 43 + r1 * 2 ^ 54
+abbrev pub packed_counts : ℕ → ℕ → ℕ → ℕ → ℕ
+packed_counts r0 r1 r2 r3 = r0 + r3 * 2 ^ 32 + r2 * 2 ^ 43 + r1 * 2 ^ 54
 
 -- entry j of the lower table over the bits b
 abbrev pub lower_entry : List Bool → ℕ → ℕ
-lower_entry b j = packed (before_in_part b j) (in_records b j 1) (in_records b j 2) (in_records b j 3)
+lower_entry b j = packed_counts (before_in_part b j) (in_records b j 1) (in_records b j 2) (in_records b j 3)
 
 -- the number e is entry j of the lower table over the bits b, which has such an entry
 pub record IsEntryOf (b : List Bool) (j e : ℕ) : Type 0 where
@@ -54,8 +54,8 @@ record_field e (suc (suc zero)) = field_2 e
 record_field e (suc (suc (suc k))) = field_3 e
 
 -- the number whose fields are the greatest ones of entry j
-abbrev pub greatest : ℕ → ℕ
-greatest j = packed (j % 2 ^ 21 * 2048) 512 1024 1536
+abbrev pub greatest_entry : ℕ → ℕ
+greatest_entry j = packed_counts (j % 2 ^ 21 * 2048) 512 1024 1536
 
 -- no field of the number e exceeds the greatest one at entry j
 pub record FieldsFit (e j : ℕ) : Type 0 where

@@ -1,6 +1,6 @@
 -- Many queries at once: each answer by its query, and how far the queries of a block have come.
 use Rattle.std.specs.Prelude.{◌≡◌, ℕ, ◌+◌, ◌*◌, ◌%◌, ◌^◌, ◌<◌, ◌≤◌, Bool, List, length, slice_index, slice_index_or}
-use Rattle.bit_lists.specs.Count.{kind, ones_before, Picks}
+use Rattle.bit_lists.specs.Count.{as_bit, ones_before, Picks}
 use Rattle.bitm_search.specs.Entry.{before_in_part}
 use Rattle.bitm_search.specs.Search.{entries_from, entry_in, sought_in, IsLastPart, IsWord}
 use Rattle.bitm_search.specs.Tables.{HasTables, Lists}
@@ -18,16 +18,16 @@ PicksEach b v ranks places = (k : ℕ) → k < length ranks → Picks b v (slice
 
 -- of the items that are sought, the one of this rank is in the last part with no more before it, where rest of them stand before
 -- it, and the last entry of the part with no more before it than that is among the 2^size from entry `at` on
-pub record IsNear (one : ℕ) (lists : Lists) (rank rest at size : ℕ) : Type 0 where
+pub record IsNear (bit : ℕ) (lists : Lists) (rank rest at size : ℕ) : Type 0 where
   pub part : ℕ
   pub low : ℕ
   pub place : at ≡ entry_in part low
-  pub last : IsLastPart (sought_in one lists.words) (length lists.upper) rank part
-  pub total : rank ≡ ones_before (sought_in one lists.words) (part * 2 ^ 32) + rest
+  pub last : IsLastPart (sought_in bit lists.words) (length lists.upper) rank part
+  pub total : rank ≡ ones_before (sought_in bit lists.words) (part * 2 ^ 32) + rest
   pub inside : low < entries_from (length lists.lower) part
-  pub at_most : before_in_part (sought_in one lists.words) (entry_in part low) ≤ rest
+  pub at_most : before_in_part (sought_in bit lists.words) (entry_in part low) ≤ rest
   pub next : low + 2 ^ size < entries_from (length lists.lower) part
-      → rest < before_in_part (sought_in one lists.words) (entry_in part (low + 2 ^ size))
+      → rest < before_in_part (sought_in bit lists.words) (entry_in part (low + 2 ^ size))
   pub room : low + 2 ^ size ≤ 2 ^ 21
 
 -- a query, with 2^size entries left, is in a part, and its rest is what the upper table tells to be left of the rank there
@@ -40,24 +40,24 @@ pub record IsInPart (v : Bool) (lists : Lists) (rank : ℕ) (query : Query) (siz
   pub rest : query.rest ≡ less rank (told_part v lists part)
 
 -- a query is at an entry of a part, and where the tables are those of the words it is on its way to the item of the rank
-pub record IsSearch (one : ℕ) (lists : Lists) (rank : ℕ) (query : Query) (size : ℕ) : Type 0 where
+pub record IsSearch (bit : ℕ) (lists : Lists) (rank : ℕ) (query : Query) (size : ℕ) : Type 0 where
   pub entry : query.entry < length lists.lower
-  pub in_part : IsInPart (kind one) lists rank query size
-  pub near : HasTables lists → IsNear one lists rank query.rest query.entry size
+  pub in_part : IsInPart (as_bit bit) lists rank query size
+  pub near : HasTables lists → IsNear bit lists rank query.rest query.entry size
 
 -- query k is that of rank k
-pub record AreSearches (one : ℕ) (lists : Lists) (ranks : List ℕ) (queries : List Query) (size : ℕ) : Type 0 where
+pub record AreSearches (bit : ℕ) (lists : Lists) (ranks : List ℕ) (queries : List Query) (size : ℕ) : Type 0 where
   pub enough : length ranks ≤ length queries
-  pub each : (k : ℕ) (d : Query) → k < length ranks → IsSearch one lists (slice_index ranks k) (slice_index_or queries k d) size
+  pub each : (k : ℕ) (d : Query) → k < length ranks → IsSearch bit lists (slice_index ranks k) (slice_index_or queries k d) size
 
 -- the same where all the entries that are left are there, whatever the tables hold
-pub record IsInside (one : ℕ) (lists : Lists) (rank : ℕ) (query : Query) (size : ℕ) : Type 0 where
-  pub search : IsSearch one lists rank query size
+pub record IsInside (bit : ℕ) (lists : Lists) (rank : ℕ) (query : Query) (size : ℕ) : Type 0 where
+  pub search : IsSearch bit lists rank query size
   pub inside : query.entry + 2 ^ size < length lists.lower
 
-pub record AreInside (one : ℕ) (lists : Lists) (ranks : List ℕ) (queries : List Query) (size : ℕ) : Type 0 where
+pub record AreInside (bit : ℕ) (lists : Lists) (ranks : List ℕ) (queries : List Query) (size : ℕ) : Type 0 where
   pub enough : length ranks ≤ length queries
-  pub each : (k : ℕ) (d : Query) → k < length ranks → IsInside one lists (slice_index ranks k) (slice_index_or queries k d) size
+  pub each : (k : ℕ) (d : Query) → k < length ranks → IsInside bit lists (slice_index ranks k) (slice_index_or queries k d) size
 
 -- a record is record k of an entry, and its rest is what the tables tell to be left of the rank there, as a number of 64 bits
 pub record IsToldRecord (v : Bool) (lists : Lists) (rank : ℕ) (at : InRecord) : Type 0 where
@@ -74,14 +74,14 @@ pub record IsToldRecord (v : Bool) (lists : Lists) (rank : ℕ) (at : InRecord) 
 
 -- of the items that are sought, the one of this rank, if there is one, is in the record that begins at word first, where rest of
 -- them stand before it, if the tables are those of the words; word is the first of the record
-pub record IsInRecord (one : ℕ) (lists : Lists) (rank : ℕ) (at : InRecord) : Type 0 where
+pub record IsInRecord (bit : ℕ) (lists : Lists) (rank : ℕ) (at : InRecord) : Type 0 where
   pub fits : at.first < 2 ^ 60
-  pub told : IsToldRecord (kind one) lists rank at
-  pub word_is : at.first < length lists.words → IsWord (sought_in one lists.words) at.first at.word
-  pub total : HasTables lists → rank ≡ ones_before (sought_in one lists.words) (64 * at.first) + at.rest
-  pub next : HasTables lists → at.first + 8 < length lists.words → rank < ones_before (sought_in one lists.words) (64 * (at.first + 8))
+  pub told : IsToldRecord (as_bit bit) lists rank at
+  pub word_is : at.first < length lists.words → IsWord (sought_in bit lists.words) at.first at.word
+  pub total : HasTables lists → rank ≡ ones_before (sought_in bit lists.words) (64 * at.first) + at.rest
+  pub next : HasTables lists → at.first + 8 < length lists.words → rank < ones_before (sought_in bit lists.words) (64 * (at.first + 8))
 
 -- record k is that of rank k
-pub record AreInRecords (one : ℕ) (lists : Lists) (ranks : List ℕ) (records : List InRecord) : Type 0 where
+pub record AreInRecords (bit : ℕ) (lists : Lists) (ranks : List ℕ) (records : List InRecord) : Type 0 where
   pub enough : length ranks ≤ length records
-  pub each : (k : ℕ) (d : InRecord) → k < length ranks → IsInRecord one lists (slice_index ranks k) (slice_index_or records k d)
+  pub each : (k : ℕ) (d : InRecord) → k < length ranks → IsInRecord bit lists (slice_index ranks k) (slice_index_or records k d)

@@ -2,7 +2,7 @@
 use Rattle.std.specs.Prelude.{◌≡◌, ℕ, ◌+◌, ◌-◌, ◌*◌, ◌^◌, ◌<◌, ◌≤◌, Bool, false, not, if◌then◌else◌, List, ◌++◌, length, map, min, replicate}
 use Rattle.std.specs.Int.{div_ceil}
 use Rattle.bit_lists.specs.Bits.{bits_of}
-use Rattle.bit_lists.specs.Count.{ones_before, kind}
+use Rattle.bit_lists.specs.Count.{ones_before, as_bit}
 use Rattle.bit_lists.specs.Number.{number_at}
 use Rattle.bitm_search.specs.Entry.{before_in_part}
 use Rattle.bitm_search.specs.Tables.{HasTables, Lists}
@@ -10,21 +10,21 @@ use Rattle.bitm_search.specs.Told.{told_entry}
 use Rattle.bitm_search.specs.declared.search.entries.EntryRange.{EntryRange}
 
 -- the bits, and falses up to a multiple of 2048
-abbrev pub padded : List Bool → List Bool
-padded b = b ++ replicate (div_ceil (length b) 2048 * 2048 - length b) false
+abbrev pub padded_bits : List Bool → List Bool
+padded_bits b = b ++ replicate (div_ceil (length b) 2048 * 2048 - length b) false
 
 -- each item negated
-abbrev pub negated : List Bool → List Bool
-negated b = map not b
+abbrev pub negation : List Bool → List Bool
+negation b = map not b
 
 -- the bits in which ones are sought: the padded bits, all negated where v is false, so that a missing bit of the last
 -- entry counts as a zero
-abbrev pub sought : Bool → List Bool → List Bool
-sought v b = if v then padded b else negated (padded b)
+abbrev pub sought_bits : Bool → List Bool → List Bool
+sought_bits v b = if v then padded_bits b else negation (padded_bits b)
 
 -- the bits of words in which ones are sought, where 0 stands for zeros and each other number for ones
 abbrev pub sought_in : ℕ → List ℕ → List Bool
-sought_in one words = sought (kind one) (bits_of words)
+sought_in bit words = sought_bits (as_bit bit) (bits_of words)
 
 -- k is the last of n places whose count is at most r, as far as the next one tells
 pub record IsLast (count : ℕ → ℕ) (n r k : ℕ) : Type 0 where
@@ -45,9 +45,9 @@ abbrev pub IsLastPart : List Bool → ℕ → ℕ → ℕ → Type 0
 IsLastPart m parts r part = IsLast (λ k. ones_before m (k * 2 ^ 32)) parts r part
 
 -- the last part with no more than r of the kind before it, of which rest are left there
-pub record IsPartOf (one : ℕ) (lists : Lists) (r part rest : ℕ) : Type 0 where
-  pub last : IsLastPart (sought_in one lists.words) (length lists.upper) (ones_before (sought_in one lists.words) (part * 2 ^ 32) + rest) part
-  pub total : ones_before (sought_in one lists.words) (part * 2 ^ 32) + rest ≡ r
+pub record IsPartOf (bit : ℕ) (lists : Lists) (r part rest : ℕ) : Type 0 where
+  pub last : IsLastPart (sought_in bit lists.words) (length lists.upper) (ones_before (sought_in bit lists.words) (part * 2 ^ 32) + rest) part
+  pub total : ones_before (sought_in bit lists.words) (part * 2 ^ 32) + rest ≡ r
 
 -- how many entries a part has, of so many entries in all
 abbrev pub entries_from : ℕ → ℕ → ℕ
@@ -68,15 +68,15 @@ IsAmong m entries part r low left = Between (λ j. before_in_part m (part * 2 ^ 
 
 -- a range of the entries of a part, and what its first entry is told to pack, unless it is the part's first; where the tables are
 -- those of the words, the last entry of the part with no more than r ones before it is in the range
-pub record IsRange (one : ℕ) (lists : Lists) (part r : ℕ) (range : EntryRange) : Type 0 where
+pub record IsRange (bit : ℕ) (lists : Lists) (part r : ℕ) (range : EntryRange) : Type 0 where
   pub some : 0 < range.left
   pub within : range.low + range.left ≤ entries_from (length lists.lower) part
-  pub among : HasTables lists → IsAmong (sought_in one lists.words) (length lists.lower) part r range.low range.left
-  pub packed : 0 < range.low → range.packed ≡ told_entry (kind one) lists (entry_in part range.low)
+  pub among : HasTables lists → IsAmong (sought_in bit lists.words) (length lists.lower) part r range.low range.left
+  pub packed : 0 < range.low → range.packed ≡ told_entry (as_bit bit) lists (entry_in part range.low)
 
 -- how many of the bits that are sought stand in a part before its entry j
 abbrev pub items_to : ℕ → List Bool → ℕ → ℕ → ℕ
-items_to one b part j = before_in_part (sought (kind one) b) (entry_in part j)
+items_to bit b part j = before_in_part (sought_bits (as_bit bit) b) (entry_in part j)
 
 -- w is word k of the bits: the number that 64 of them are, lowest first
 abbrev pub IsWord : List Bool → ℕ → ℕ → Type 0

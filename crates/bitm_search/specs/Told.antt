@@ -1,7 +1,7 @@
 -- What tables tell, whatever they hold: the numbers that a search reads, and when they tell that there is no such bit.
 use Rattle.std.specs.Prelude.{◌≡◌, ⊤, ℕ, ◌+◌, ◌-◌, ◌*◌, ◌^◌, ◌%◌, ◌<◌, ◌≤◌, Bool, true, false, length, slice_index}
 use Rattle.bit_lists.specs.Count.{count_before, count_of}
-use Rattle.bitm_search.specs.Entry.{field_0, greatest, record_field}
+use Rattle.bitm_search.specs.Entry.{field_0, greatest_entry, record_field}
 use Rattle.bitm_search.specs.Tables.{Lists, bits_in}
 use Rattle.bitm_search.specs.declared.search.selected.Selected.{Selected}
 use Rattle.bitm_search.specs.declared.search.selected.Selected.TheVariants.{Found, Absent, WrongTables}
@@ -18,7 +18,7 @@ told_part false lists part = less (part * 2 ^ 32) (slice_index lists.upper part)
 -- the lower entry of the bits v that the lower table tells: for zeros, each greatest field less the field
 abbrev pub told_entry : Bool → Lists → ℕ → ℕ
 told_entry true lists at = slice_index lists.lower at
-told_entry false lists at = less (greatest at) (slice_index lists.lower at)
+told_entry false lists at = less (greatest_entry at) (slice_index lists.lower at)
 
 -- rest is what the upper table tells to be left in a part of a rank, and no more than the rank
 pub record IsLeftOf (v : Bool) (lists : Lists) (rank part rest : ℕ) : Type 0 where

@@ -1,8 +1,8 @@
 //! One entry of the lower table: its fields by shifts, and the entry of the negated bits.
 ghost use Rattle.std.specs.Prelude.{◌≡◌, ◌-◌, ◌*◌, ◌/◌, ◌%◌, ◌^◌, ◌<◌, ◌≤◌, Bool, List};
-ghost use Rattle.bitm_search.specs.Entry.{FieldsFit, FieldsAddUp, IsEntryOf, field_0, greatest, lower_entry};
+ghost use Rattle.bitm_search.specs.Entry.{FieldsFit, FieldsAddUp, IsEntryOf, field_0, greatest_entry, lower_entry};
 ghost use Rattle.bitm_search.specs.Entry.{zeros_before_in_part};
-ghost use Rattle.bitm_search.specs.Search.{entries_from, negated, padded};
+ghost use Rattle.bitm_search.specs.Search.{entries_from, negation, padded_bits};
 ghost use Rattle.bitm_search.specs.Told.{less};
 
 use crate::levels::L2_ENTRIES_PER_L1_ENTRY;
@@ -43,8 +43,8 @@ pub fn ones_to_record(entry: u64, place: usize) -> usize
 /// none borrows then.
 #[inline(always)]
 pub fn negated_entry(entry: u64, at: usize) -> u64
-    ensures fits { FieldsFit entry at → result ≡ greatest at - entry }
-    ensures told { result ≡ less (greatest at) entry }
+    ensures fits { FieldsFit entry at → result ≡ greatest_entry at - entry }
+    ensures told { result ≡ less (greatest_entry at) entry }
 {
     ((at % L2_ENTRIES_PER_L1_ENTRY) as u64 * 2048 + 0x8020_0600_0000_0000).wrapping_sub(entry)
 }
@@ -60,10 +60,10 @@ pub fn negated_entry(entry: u64, at: usize) -> u64
 #[inline(always)]
 pub fn complement_entry(entry: u64, at: usize) -> u64
     requires { FieldsFit entry at }
-    ensures value { result ≡ greatest at - entry }
+    ensures value { result ≡ greatest_entry at - entry }
     ensures fields { FieldsAddUp entry result at }
-    ensures negated { (b : List Bool) → IsEntryOf b at entry
-        → result ≡ lower_entry (negated (padded b)) at }
+    ensures negation { (b : List Bool) → IsEntryOf b at entry
+        → result ≡ lower_entry (negation (padded_bits b)) at }
     ensures zeros { (b : List Bool) → IsEntryOf b at entry
         → field_0 result ≡ zeros_before_in_part b at }
 {

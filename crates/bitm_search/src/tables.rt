@@ -5,7 +5,7 @@ ghost use Rattle.std.specs.Int.{div_ceil};
 ghost use Rattle.std.specs.List.{range_with_len};
 ghost use Rattle.bit_lists.specs.Bits.{bits_of, IsShort};
 ghost use Rattle.bit_lists.specs.Count.{ones_before, ones_of};
-ghost use Rattle.bitm_search.specs.Entry.{packed, before_in_part, lower_entry};
+ghost use Rattle.bitm_search.specs.Entry.{packed_counts, before_in_part, lower_entry};
 ghost use Rattle.bitm_search.specs.Tables.{AreTablesOf};
 
 use crate::levels::{
@@ -32,7 +32,7 @@ fn pack(before: usize, one: usize, two: usize, three: usize) -> u64
     requires one { one ≤ 512 }
     requires two { two ≤ 1024 }
     requires three { three ≤ 1536 }
-    ensures { result ≡ packed before one two three }
+    ensures { result ≡ packed_counts before one two three }
 {
     before as u64 + ((three as u64) << 32) + ((two as u64) << 43) + ((one as u64) << 54)
 }
@@ -122,9 +122,9 @@ fn push_entries(words: &[u64], part: usize, l2ranks: &mut Vec<u64>) -> Result<us
 /// `AllocError` if no memory was found for a table; nothing is left.
 pub fn make(alloc: Global, words: &[u64]) -> Result<(Tables, usize), AllocError>
     requires { IsShort words.now }
-    ensures tables { IfOk result (λ made. AreTablesOf (bits_of words.now)
-        (boxed_slice_items made.0.l1ranks) (boxed_slice_items made.0.l2ranks)) }
-    ensures ones { IfOk result (λ made. made.1 ≡ ones_of (bits_of words.now)) }
+    ensures tables { IfOk result (λ pair. AreTablesOf (bits_of words.now)
+        (boxed_slice_items pair.0.l1ranks) (boxed_slice_items pair.0.l2ranks)) }
+    ensures ones { IfOk result (λ pair. pair.1 ≡ ones_of (bits_of words.now)) }
 {
     let parts = words.len().div_ceil(U64_PER_L1_ENTRY);
     let mut l1ranks = Vec::with_capacity(alloc, parts)?;

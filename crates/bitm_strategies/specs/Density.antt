@@ -7,15 +7,15 @@ abbrev pub log2 : ℕ → ℕ
 log2 n = digit_count n - 1
 
 -- the logarithm for n items that are no more than half of the bits
-abbrev pub optimal_rare : ℕ → ℕ → ℕ → ℕ
-optimal_rare n len most = if nat_eq n 0 then 7 else max 7 (most - log2 (len / n))
+abbrev pub optimal_log_of_rare : ℕ → ℕ → ℕ → ℕ
+optimal_log_of_rare n len most = if nat_eq n 0 then 7 else max 7 (most - log2 (len / n))
 
 -- the logarithm for n items among len bits: the greatest one from three quarters on, and else the one for the rarer
 -- kind
-abbrev pub optimal : ℕ → ℕ → ℕ → ℕ
-optimal n len most =
-    if nat_le (3 * len) (4 * n) then most else optimal_rare (if nat_lt len (2 * n) then len - n else n) len most
+abbrev pub optimal_log : ℕ → ℕ → ℕ → ℕ
+optimal_log n len most =
+    if nat_le (3 * len) (4 * n) then most else optimal_log_of_rare (if nat_lt len (2 * n) then len - n else n) len most
 
 -- a logarithm brought to the nearer end of 7 to 31
-abbrev pub within : ℕ → ℕ
-within n = min 31 (max 7 n)
+abbrev pub clamped_log : ℕ → ℕ
+clamped_log n = min 31 (max 7 n)

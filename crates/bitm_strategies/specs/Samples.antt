@@ -3,11 +3,12 @@ use Rattle.std.specs.Prelude.{◌≡◌, ℕ, ◌+◌, ◌-◌, ◌*◌, ◌/◌
 use Rattle.std.specs.Int.{div_ceil}
 use Rattle.std.specs.List.{range_with_len}
 use Rattle.bit_lists.specs.Bits.{bits_of, digit, digit_count, IsShort}
-use Rattle.bit_lists.specs.Count.{ones_of, ones_before, count_before, count_of, kind, places}
+use Rattle.bit_lists.specs.Count.{ones_of, ones_before, count_before, count_of, as_bit, places}
 use Rattle.bitm_search.specs.Reads.{ReadsAtMost}
 use Rattle.bitm_search.specs.Search.{sought_in, IsLastPart}
 use Rattle.bitm_search.specs.Tables.{AreTablesOf, Lists}
 use Rattle.bitm_search.specs.declared.source.counts.ReadCounts.{ReadCounts}
+use Rattle.bitm_strategies.specs.declared.sampled.PartBegin.{PartBegin}
 use Rattle.bitm_strategies.specs.declared.samples.Summary.{Summary}
 
 -- ---- parts
@@ -149,12 +150,12 @@ SampledReads b v d rank result early late =
     (WalkedOut (part_of b last) v d (rank_in b v rank last) uppers early late)
     (λ p. WalkedTo (part_of b (part_at p)) v d (rank_in b v rank (part_at p)) (entry_at p) uppers early late)
 
--- of the samples of the words, one for 2^d items, so many stand before part k, and so many items; it is the last part with no more
--- than r items before it
-pub record IsSampledPart (one : ℕ) (lists : Lists) (sampled : List ℕ) (d k start before r : ℕ) : Type 0 where
+-- of the samples xs of the words, one for 2^d items, and of the items so many stand before the part; it is the last part with no
+-- more than r items before it
+pub record IsSampledPart (bit : ℕ) (lists : Lists) (xs : List ℕ) (d : ℕ) (begin : PartBegin) (r : ℕ) : Type 0 where
   pub low : 7 ≤ d
   pub high : d ≤ 31
-  pub samples : sampled ≡ samples_of (bits_of lists.words) (kind one) d
-  pub part : IsLastPart (sought_in one lists.words) (length lists.upper) r k
-  pub start_is : start ≡ sample_count_before (bits_of lists.words) (kind one) d k
-  pub before_is : before ≡ ones_before (sought_in one lists.words) (k * 2 ^ 32)
+  pub samples : xs ≡ samples_of (bits_of lists.words) (as_bit bit) d
+  pub part : IsLastPart (sought_in bit lists.words) (length lists.upper) r begin.part
+  pub start_is : begin.samples ≡ sample_count_before (bits_of lists.words) (as_bit bit) d begin.part
+  pub before_is : begin.items ≡ ones_before (sought_in bit lists.words) (begin.part * 2 ^ 32)

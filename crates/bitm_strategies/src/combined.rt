@@ -1,8 +1,8 @@
 //! Selection by samples: what is kept, how it is made, and the strategy of both kinds.
 ghost use Rattle.std.specs.Prelude.{◌≡◌, ◌+◌, ◌*◌, ℕ, Bool, List, length, true, false, IfOk};
 ghost use Rattle.bit_lists.specs.Bits.{bits_of, IsShort};
-ghost use Rattle.bit_lists.specs.Count.{ones_of, kind, IsSelect};
-ghost use Rattle.bitm_bits.specs.Size.{saturated};
+ghost use Rattle.bit_lists.specs.Count.{ones_of, as_bit, IsSelect};
+ghost use Rattle.bitm_bits.specs.Size.{saturated_size};
 ghost use Rattle.bitm_strategies.specs.Samples.{SampledReads, Supported, IsSampleCount};
 ghost use Rattle.bitm_search.specs.Tables.{AreTablesOf, HasTables, bits_in};
 
@@ -52,7 +52,7 @@ impl<D: CombinedSamplingDensity> Model for CombinedSampling<D> {
 }
 
 impl<D: CombinedSamplingDensity> CombinedSampling<D> {
-    fn make<const ONE: u8>(
+    fn make<const BIT: u8>(
         alloc: Global,
         content: &[u64],
         l1ranks: &[usize],
@@ -62,10 +62,10 @@ impl<D: CombinedSamplingDensity> CombinedSampling<D> {
         requires short { IsShort content.now }
         requires tables { AreTablesOf (bits_of content.now) l1ranks.now l2ranks.now }
         requires total { total_rank ≡ ones_of (bits_of content.now) }
-        ensures { IfOk result (Supported D.log D.chosen (kind ONE) content.now) }
+        ensures { IfOk result (Supported D.log D.chosen (as_bit BIT) content.now) }
     {
         let len = content.len() * 64;
-        let density = D::density_for(items_among::<ONE>(total_rank, len), len);
+        let density = D::density_for(items_among::<BIT>(total_rank, len), len);
         let summary = Summary {
             upper: l1ranks,
             lower: l2ranks,
@@ -73,7 +73,7 @@ impl<D: CombinedSamplingDensity> CombinedSampling<D> {
             len,
         };
         let log2 = D::items_per_sample_log2(density);
-        let (samples, starts) = make_samples::<ONE>(alloc, &summary, log2)?;
+        let (samples, starts) = make_samples::<BIT>(alloc, &summary, log2)?;
         Ok(CombinedSampling {
             samples,
             starts,
@@ -214,7 +214,7 @@ where
     D::SamplingDensity: GetSize,
 {
     // four bytes a sample, eight for each part, and what the density keeps
-    ghost dyn_bytes = { λ kept. saturated (4 * length kept.samples + 8 * length kept.starts
+    ghost dyn_bytes = { λ kept. saturated_size (4 * length kept.samples + 8 * length kept.starts
         + D.SamplingDensity.dyn_bytes kept.density) };
 
     const USES_DYN_MEM: bool = true;

@@ -1,7 +1,7 @@
 //! How many items one sample stands for.
 ghost use Rattle.std.specs.Prelude.{◌≡◌, ℕ, ◌-◌, ◌/◌, ◌^◌, ◌≤◌};
 ghost use Rattle.bit_lists.specs.Bits.{digit};
-ghost use Rattle.bitm_strategies.specs.Density.{optimal, within};
+ghost use Rattle.bitm_strategies.specs.Density.{optimal_log, clamped_log};
 ghost use Rattle.std.proofs.Common.{rules};
 
 use crate::optimal::optimal_combined_sampling;
@@ -63,7 +63,7 @@ pub struct ConstCombinedSamplingDensity<const VALUE_LOG2: u8>;
 impl<const VALUE_LOG2: u8> CombinedSamplingDensity for ConstCombinedSamplingDensity<VALUE_LOG2> {
     type SamplingDensity = ();
 
-    ghost log = { λ _. within VALUE_LOG2 };
+    ghost log = { λ _. clamped_log VALUE_LOG2 };
 
     ghost chosen = { λ _ _. tt };
 
@@ -86,9 +86,9 @@ pub struct AdaptiveCombinedSamplingDensity<const MAX_RESULT: u8>;
 impl<const MAX_RESULT: u8> CombinedSamplingDensity for AdaptiveCombinedSamplingDensity<MAX_RESULT> {
     type SamplingDensity = u8;
 
-    ghost log = { λ density. within density };
+    ghost log = { λ density. clamped_log density };
 
-    ghost chosen = { λ items len. optimal items len (within MAX_RESULT) };
+    ghost chosen = { λ items len. optimal_log items len (clamped_log MAX_RESULT) };
 
     #[inline(always)]
     fn density_for(items: usize, len: usize) -> u8 {

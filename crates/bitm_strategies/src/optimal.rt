@@ -1,6 +1,6 @@
 //! How densely to sample, for a share of items.
 ghost use Rattle.std.specs.Prelude.{◌≡◌, ◌+◌, ◌*◌, ◌^◌, ◌≤◌};
-ghost use Rattle.bitm_strategies.specs.Density.{optimal};
+ghost use Rattle.bitm_strategies.specs.Density.{optimal_log};
 
 /// The logarithm of how many items one sample is to stand for, where `n` of `len` bits are items: 7 to `max_result`.
 ///
@@ -13,7 +13,7 @@ ghost use Rattle.bitm_strategies.specs.Density.{optimal};
 pub fn optimal_combined_sampling(n: usize, len: usize, max_result: u8) -> u8
     requires low { 7 ≤ max_result }
     requires high { max_result ≤ 31 }
-    ensures value { result ≡ optimal n len max_result }
+    ensures value { result ≡ optimal_log n len max_result }
     ensures low { 7 ≤ result }
     ensures high { result ≤ max_result }
     ensures bound { n ≤ len → n * 2 ^ (max_result + 1) ≤ 3 * len * 2 ^ result }

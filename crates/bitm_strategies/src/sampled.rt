@@ -1,7 +1,7 @@
 //! Selection that starts at a sample, over a source, with a bound on its reads.
 ghost use Rattle.std.specs.Prelude.{◌≡◌, ◌+◌, ◌-◌, ◌*◌, ◌/◌, ◌%◌, ◌^◌, ◌<◌, ◌≤◌, length, if◌then◌else◌};
 ghost use Rattle.bit_lists.specs.Bits.{bits_of, digit, digit_count, IsShort};
-ghost use Rattle.bit_lists.specs.Count.{kind, IsSelect};
+ghost use Rattle.bit_lists.specs.Count.{as_bit, IsSelect};
 ghost use Rattle.bitm_search.specs.Reads.{ReadsAtMost};
 ghost use Rattle.bitm_strategies.specs.Samples.{parts, samples_of, sample_starts_of, IsSampledPart, SampledReads};
 ghost use Rattle.bitm_search.specs.Tables.{HasTables};
@@ -32,45 +32,53 @@ pub fn first_entry(sample: u32, rank: usize, log2: u8) -> usize
     }
 }
 
-/// Selection by the samples of the source's words, of which one stands for 2^`log2` items, in a part that is known and
-/// has `start` samples and `before` items before it: a walk over the lower entries from the sample on.
+/// A part, and how many samples and items there are before it.
+#[derive(Clone, Copy)]
+pub struct PartBegin {
+    /// Which part it is.
+    pub part: usize,
+    /// The samples of the parts before it.
+    pub samples: usize,
+    /// The items before it.
+    pub items: usize,
+}
+
+/// Selection by the samples of the source's words, of which one stands for 2^`log2` items, in a part that is known: a
+/// walk over the lower entries from the sample on.
 #[inline(always)]
-fn sampled_in_part<const ONE: u8, T: TableSource>(
-    sampled: &[u32],
-    log2: u8,
+fn sampled_in_part<const BIT: u8, T: TableSource>(
     source: &mut T,
-    part: usize,
-    start: usize,
-    before: usize,
+    samples: &[u32],
+    log2: u8,
+    begin: PartBegin,
     rank: usize,
 ) -> Option<usize>
     requires tables { HasTables (T.lists source.old) }
     requires short { IsShort (T.lists source.old).words }
-    requires sampled { IsSampledPart ONE (T.lists source.old)
-        sampled.now log2 part start before rank }
-    ensures answer { IsSelect (bits_of (T.lists source.old).words) (kind ONE) rank result }
+    requires sampled { IsSampledPart BIT (T.lists source.old) samples.now log2 begin rank }
+    ensures answer { IsSelect (bits_of (T.lists source.old).words) (as_bit BIT) rank result }
     ensures reads { (early : ReadCounts)
         → ReadsAtMost early (T.reads source.old)
         (digit_count (parts (bits_of (T.lists source.old).words)) + 1) 0 0
-        → SampledReads (bits_of (T.lists source.old).words) (kind ONE) log2 rank result
+        → SampledReads (bits_of (T.lists source.old).words) (as_bit BIT) log2 rank result
         early (T.reads source.new) }
     ensures same { T.lists source.new ≡ T.lists source.old }
 {
-    let in_part = rank - before;
-    let at = start + (in_part >> log2);
-    if at >= sampled.len() {
+    let in_part = rank - begin.items;
+    let at = begin.samples + (in_part >> log2);
+    if at >= samples.len() {
         return None;
     }
-    let from = first_entry(sampled[at], in_part, log2);
-    let (entry, packed) = walk::<ONE, T>(source, part, from, in_part);
-    found(in_packed::<ONE, 0, T>(source, part, entry, packed, in_part))
+    let from = first_entry(samples[at], in_part, log2);
+    let (entry, packed) = walk::<BIT, T>(source, begin.part, from, in_part);
+    found(in_packed::<BIT, 0, T>(source, begin.part, entry, packed, in_part))
 }
 
 /// Selection by the samples of the source's words where there are more parts than one: one read of an upper entry for
 /// each halving and one more, and a walk over the lower entries from the sample on.
 #[inline(never)]
-fn sampled_in_parts<const ONE: u8, T: TableSource>(
-    sampled: &[u32],
+fn sampled_in_parts<const BIT: u8, T: TableSource>(
+    samples: &[u32],
     starts: &[usize],
     log2: u8,
     source: &mut T,
@@ -81,25 +89,30 @@ fn sampled_in_parts<const ONE: u8, T: TableSource>(
     requires low { 7 ≤ log2 }
     requires high { log2 ≤ 31 }
     requires some { 0 < length (T.lists source.old).upper }
-    requires samples { sampled.now
-        ≡ samples_of (bits_of (T.lists source.old).words) (kind ONE) log2 }
+    requires samples { samples.now
+        ≡ samples_of (bits_of (T.lists source.old).words) (as_bit BIT) log2 }
     requires starts { starts.now
-        ≡ sample_starts_of (bits_of (T.lists source.old).words) (kind ONE) log2 }
-    ensures answer { IsSelect (bits_of (T.lists source.old).words) (kind ONE) rank result }
-    ensures reads { SampledReads (bits_of (T.lists source.old).words) (kind ONE) log2
+        ≡ sample_starts_of (bits_of (T.lists source.old).words) (as_bit BIT) log2 }
+    ensures answer { IsSelect (bits_of (T.lists source.old).words) (as_bit BIT) rank result }
+    ensures reads { SampledReads (bits_of (T.lists source.old).words) (as_bit BIT) log2
         rank result (T.reads source.old) (T.reads source.new) }
     ensures same { T.lists source.new ≡ T.lists source.old }
 {
-    let part = last_part::<ONE, T>(source, rank);
-    let before = before_part::<ONE, T>(source, part);
-    sampled_in_part::<ONE, T>(sampled, log2, source, part, starts[part], before, rank)
+    let part = last_part::<BIT, T>(source, rank);
+    let before = before_part::<BIT, T>(source, part);
+    let begin = PartBegin {
+        part,
+        samples: starts[part],
+        items: before,
+    };
+    sampled_in_part::<BIT, T>(source, samples, log2, begin, rank)
 }
 
 /// Selection by the samples of the source's words, of which one stands for 2^`log2` items: where there is one part no
 /// upper entry is read. More parts have a call of their own, so that the one for one part stands where it is asked.
 #[inline(always)]
-pub(crate) fn sampled_select_on<const ONE: u8, T: TableSource>(
-    sampled: &[u32],
+pub(crate) fn sampled_select_on<const BIT: u8, T: TableSource>(
+    samples: &[u32],
     starts: &[usize],
     log2: u8,
     source: &mut T,
@@ -109,19 +122,26 @@ pub(crate) fn sampled_select_on<const ONE: u8, T: TableSource>(
     requires short { IsShort (T.lists source.old).words }
     requires low { 7 ≤ log2 }
     requires high { log2 ≤ 31 }
-    requires samples { sampled.now
-        ≡ samples_of (bits_of (T.lists source.old).words) (kind ONE) log2 }
+    requires samples { samples.now
+        ≡ samples_of (bits_of (T.lists source.old).words) (as_bit BIT) log2 }
     requires starts { starts.now
-        ≡ sample_starts_of (bits_of (T.lists source.old).words) (kind ONE) log2 }
-    ensures answer { IsSelect (bits_of (T.lists source.old).words) (kind ONE) rank result }
-    ensures reads { SampledReads (bits_of (T.lists source.old).words) (kind ONE) log2
+        ≡ sample_starts_of (bits_of (T.lists source.old).words) (as_bit BIT) log2 }
+    ensures answer { IsSelect (bits_of (T.lists source.old).words) (as_bit BIT) rank result }
+    ensures reads { SampledReads (bits_of (T.lists source.old).words) (as_bit BIT) log2
         rank result (T.reads source.old) (T.reads source.new) }
     ensures same { T.lists source.new ≡ T.lists source.old }
 {
     match source.upper_len() {
         0 => None,
-        // Nothing stands before the only part.
-        1 => sampled_in_part::<ONE, T>(sampled, log2, source, 0, 0, 0, rank),
-        _ => sampled_in_parts::<ONE, T>(sampled, starts, log2, source, rank),
+        1 => {
+            // Nothing stands before the only part.
+            let begin = PartBegin {
+                part: 0,
+                samples: 0,
+                items: 0,
+            };
+            sampled_in_part::<BIT, T>(source, samples, log2, begin, rank)
+        }
+        _ => sampled_in_parts::<BIT, T>(samples, starts, log2, source, rank),
     }
 }

@@ -17,11 +17,11 @@
 //! The tables may hold anything: where they are not those of some bits, the samples are some numbers.
 ghost use Rattle.std.specs.Prelude.{◌≡◌, ◌+◌, ◌-◌, ◌*◌, ◌^◌, ◌<◌, ◌≤◌, ◌++◌, Bool, List, length, min, IfOk};
 ghost use Rattle.std.specs.Box.{boxed_slice_items};
-ghost use Rattle.bit_lists.specs.Count.{count_of, ones_before, ones_of, kind};
+ghost use Rattle.bit_lists.specs.Count.{count_of, ones_before, ones_of, as_bit};
 ghost use Rattle.bitm_search.specs.Entry.{lower_entry};
 ghost use Rattle.bitm_strategies.specs.Samples.{IsSized, IsSummaryOf, part_of, sample};
 ghost use Rattle.bitm_strategies.specs.Samples.{intervals, part_samples, samples_of, sample_starts_of};
-ghost use Rattle.bitm_search.specs.Search.{IsLastEntry, entries_from, items_to, sought};
+ghost use Rattle.bitm_search.specs.Search.{IsLastEntry, entries_from, items_to, sought_bits};
 
 use bitm_search::entry::{entries_of_part, negated_entry, ones_to_entry};
 use bitm_search::levels::L2_ENTRIES_PER_L1_ENTRY;
@@ -41,15 +41,15 @@ pub struct Summary<'a> {
     pub len: usize,
 }
 
-/// How many ones there are, or zeros where `ONE` is 0, of so many ones among so many bits.
+/// How many ones there are, or zeros where `BIT` is 0, of so many ones among so many bits.
 #[inline(always)]
-pub(crate) fn items_among<const ONE: u8>(total: usize, len: usize) -> usize
+pub(crate) fn items_among<const BIT: u8>(total: usize, len: usize) -> usize
     requires { total ≤ len }
     ensures most { result ≤ len }
     ensures items { (b : List Bool) → total ≡ ones_of b → len ≡ length b
-        → result ≡ count_of b (kind ONE) }
+        → result ≡ count_of b (as_bit BIT) }
 {
-    if ONE == 0 { len - total } else { total }
+    if BIT == 0 { len - total } else { total }
 }
 
 /// How many ones stand before a part's end.
@@ -66,36 +66,36 @@ fn ones_to_end(summary: &Summary<'_>, part: usize) -> usize
     }
 }
 
-/// How many ones, or zeros where `ONE` is 0, a part has, where the tables are those of some bits; else no more than it
+/// How many ones, or zeros where `BIT` is 0, a part has, where the tables are those of some bits; else no more than it
 /// has bits.
 ///
 /// # Conditions
 /// There is such a part, and the tables are as long as those of so many bits. They may hold anything.
-pub fn items_in<const ONE: u8>(summary: &Summary<'_>, part: usize) -> usize
+pub fn items_in<const BIT: u8>(summary: &Summary<'_>, part: usize) -> usize
     requires sized { IsSized summary.now }
     requires inside { part < length summary.now.upper.now }
     ensures few { result ≤ 2 ^ 32 }
     ensures fits { result ≤ summary.now.len - part * 2 ^ 32 }
     ensures items { (b : List Bool) → IsSummaryOf b summary.now
-        → result ≡ count_of (part_of b part) (kind ONE) }
+        → result ≡ count_of (part_of b part) (as_bit BIT) }
 {
     let bits = (summary.len - (part << 32)).min(1 << 32);
     let ones = ones_to_end(summary, part)
         .saturating_sub(summary.upper[part])
         .min(bits);
-    if ONE == 0 { bits - ones } else { ones }
+    if BIT == 0 { bits - ones } else { ones }
 }
 
 /// Lower entry `at` of the bits in which ones are sought.
 #[inline(always)]
-fn sought_entry<const ONE: u8>(summary: &Summary<'_>, at: usize) -> u64
+fn sought_entry<const BIT: u8>(summary: &Summary<'_>, at: usize) -> u64
     requires sized { IsSized summary.now }
     requires inside { at < length summary.now.lower.now }
     ensures { (b : List Bool) → IsSummaryOf b summary.now
-        → result ≡ lower_entry (sought (kind ONE) b) at }
+        → result ≡ lower_entry (sought_bits (as_bit BIT) b) at }
 {
     let entry = summary.lower[at];
-    if ONE == 0 {
+    if BIT == 0 {
         negated_entry(entry, at)
     } else {
         entry
@@ -113,19 +113,19 @@ fn entries_in(summary: &Summary<'_>, part: usize) -> usize
 }
 
 /// The last entry of a part, from entry `from` on, with no more than `item` items before it in the part.
-fn walk_tables<const ONE: u8>(summary: &Summary<'_>, part: usize, from: usize, item: usize) -> usize
+fn walk_tables<const BIT: u8>(summary: &Summary<'_>, part: usize, from: usize, item: usize) -> usize
     requires sized { IsSized summary.now }
     requires inside { part < length summary.now.upper.now }
     requires from { from < entries_from (length summary.now.lower.now) part }
     ensures order { from ≤ result }
     ensures inside { result < entries_from (length summary.now.lower.now) part }
-    ensures last { (b : List Bool) → IsSummaryOf b summary.now → items_to ONE b part from ≤ item
-        → IsLastEntry (sought (kind ONE) b) (length summary.now.lower.now) part item result }
+    ensures last { (b : List Bool) → IsSummaryOf b summary.now → items_to BIT b part from ≤ item
+        → IsLastEntry (sought_bits (as_bit BIT) b) (length summary.now.lower.now) part item result }
 {
     let first = part * L2_ENTRIES_PER_L1_ENTRY;
     let end = entries_in(summary, part);
     for next in from + 1..end {
-        if item < ones_to_entry(sought_entry::<ONE>(summary, first + next)) {
+        if item < ones_to_entry(sought_entry::<BIT>(summary, first + next)) {
             return next - 1;
         }
     }
@@ -138,7 +138,7 @@ fn walk_tables<const ONE: u8>(summary: &Summary<'_>, part: usize, from: usize, i
 /// # Conditions
 /// The part has so many items by `items_in`, `item` is one of them, and `from` is an entry of the part, that of an
 /// earlier item or the first. The logarithm is 7 to 31.
-pub fn sample_from<const ONE: u8>(
+pub fn sample_from<const BIT: u8>(
     summary: &Summary<'_>,
     part: usize,
     log2: u8,
@@ -155,15 +155,15 @@ pub fn sample_from<const ONE: u8>(
     requires few { items ≤ 2 ^ 32 }
     ensures inside { result.1 < entries_from (length summary.now.lower.now) part }
     ensures sample { (b : List Bool) → IsSummaryOf b summary.now
-        → items ≡ count_of (part_of b part) (kind ONE) → items_to ONE b part from ≤ item
-        → result.0 ≡ sample (part_of b part) (kind ONE) log2 item }
-    ensures at_most { (b : List Bool) → IsSummaryOf b summary.now → items_to ONE b part from ≤ item
-        → items_to ONE b part result.1 ≤ item + 2 ^ (log2 - 1) }
+        → items ≡ count_of (part_of b part) (as_bit BIT) → items_to BIT b part from ≤ item
+        → result.0 ≡ sample (part_of b part) (as_bit BIT) log2 item }
+    ensures at_most { (b : List Bool) → IsSummaryOf b summary.now → items_to BIT b part from ≤ item
+        → items_to BIT b part result.1 ≤ item + 2 ^ (log2 - 1) }
 {
-    let entry = walk_tables::<ONE>(summary, part, from, item);
+    let entry = walk_tables::<BIT>(summary, part, from, item);
     let middle = item + (1 << (log2 - 1));
     if middle < items {
-        let later = walk_tables::<ONE>(summary, part, entry, middle);
+        let later = walk_tables::<BIT>(summary, part, entry, middle);
         let distance = (later - entry).min(2047);
         ((entry + (distance << 21)) as u32, later)
     } else {
@@ -173,20 +173,20 @@ pub fn sample_from<const ONE: u8>(
 
 /// How many samples a part has.
 #[inline(always)]
-fn samples_in<const ONE: u8>(summary: &Summary<'_>, part: usize, log2: u8) -> usize
+fn samples_in<const BIT: u8>(summary: &Summary<'_>, part: usize, log2: u8) -> usize
     requires sized { IsSized summary.now }
     requires inside { part < length summary.now.upper.now }
     requires low { 7 ≤ log2 }
     requires high { log2 ≤ 31 }
     ensures few { result ≤ 2 ^ 25 }
     ensures count { (b : List Bool) → IsSummaryOf b summary.now
-        → result ≡ intervals (part_of b part) (kind ONE) log2 }
+        → result ≡ intervals (part_of b part) (as_bit BIT) log2 }
 {
-    items_in::<ONE>(summary, part).div_ceil(1 << log2)
+    items_in::<BIT>(summary, part).div_ceil(1 << log2)
 }
 
 /// How many samples there are before each part, and in all.
-fn make_starts<const ONE: u8>(
+fn make_starts<const BIT: u8>(
     alloc: Global,
     summary: &Summary<'_>,
     log2: u8,
@@ -194,20 +194,20 @@ fn make_starts<const ONE: u8>(
     requires sized { IsSized summary.now }
     requires low { 7 ≤ log2 }
     requires high { log2 ≤ 31 }
-    ensures { IfOk result (λ made. (b : List Bool) → IsSummaryOf b summary.now
-        → made.0.items ≡ sample_starts_of b (kind ONE) log2) }
+    ensures { IfOk result (λ pair. (b : List Bool) → IsSummaryOf b summary.now
+        → pair.0.items ≡ sample_starts_of b (as_bit BIT) log2) }
 {
     let mut starts = Vec::with_capacity(alloc, summary.upper.len())?;
     let mut count = 0;
     for part in 0..summary.upper.len() {
         starts.push(count)?;
-        count += samples_in::<ONE>(summary, part, log2);
+        count += samples_in::<BIT>(summary, part, log2);
     }
     Ok((starts, count))
 }
 
 /// Adds the samples of a part.
-fn push_samples<const ONE: u8>(
+fn push_samples<const BIT: u8>(
     samples: &mut Vec<u32>,
     summary: &Summary<'_>,
     part: usize,
@@ -219,12 +219,12 @@ fn push_samples<const ONE: u8>(
     requires high { log2 ≤ 31 }
     ensures { IfOk result (λ _. (b : List Bool) → IsSummaryOf b summary.now
         → samples.new.items
-        ≡ samples.old.items ++ part_samples (part_of b part) (kind ONE) log2) }
+        ≡ samples.old.items ++ part_samples (part_of b part) (as_bit BIT) log2) }
 {
-    let items = items_in::<ONE>(summary, part);
+    let items = items_in::<BIT>(summary, part);
     let mut entry = 0;
     for interval in 0..items.div_ceil(1 << log2) {
-        let (sample, next) = sample_from::<ONE>(
+        let (sample, next) = sample_from::<BIT>(
             summary,
             part,
             log2,
@@ -242,7 +242,7 @@ fn push_samples<const ONE: u8>(
 ///
 /// # Errors
 /// `AllocError` if no memory was found; nothing is left.
-pub(crate) fn make_samples<const ONE: u8>(
+pub(crate) fn make_samples<const BIT: u8>(
     alloc: Global,
     summary: &Summary<'_>,
     log2: u8,
@@ -250,15 +250,15 @@ pub(crate) fn make_samples<const ONE: u8>(
     requires sized { IsSized summary.now }
     requires low { 7 ≤ log2 }
     requires high { log2 ≤ 31 }
-    ensures samples { IfOk result (λ made. (b : List Bool) → IsSummaryOf b summary.now
-        → boxed_slice_items made.0 ≡ samples_of b (kind ONE) log2) }
-    ensures starts { IfOk result (λ made. (b : List Bool) → IsSummaryOf b summary.now
-        → boxed_slice_items made.1 ≡ sample_starts_of b (kind ONE) log2) }
+    ensures samples { IfOk result (λ pair. (b : List Bool) → IsSummaryOf b summary.now
+        → boxed_slice_items pair.0 ≡ samples_of b (as_bit BIT) log2) }
+    ensures starts { IfOk result (λ pair. (b : List Bool) → IsSummaryOf b summary.now
+        → boxed_slice_items pair.1 ≡ sample_starts_of b (as_bit BIT) log2) }
 {
-    let (starts, count) = make_starts::<ONE>(alloc, summary, log2)?;
+    let (starts, count) = make_starts::<BIT>(alloc, summary, log2)?;
     let mut samples = Vec::with_capacity(alloc, count)?;
     for part in 0..summary.upper.len() {
-        push_samples::<ONE>(&mut samples, summary, part, log2)?;
+        push_samples::<BIT>(&mut samples, summary, part, log2)?;
     }
     Ok((samples.into_boxed_slice(), starts.into_boxed_slice()))
 }

@@ -14,7 +14,7 @@ use bitm_search::source::TableSource;
 /// The last entry of a part, from entry `from` on, with no more than `rank` of the kind before it in the part: its
 /// place in the part, and what it packs.
 #[inline(always)]
-pub(crate) fn walk<const ONE: u8, T: TableSource>(
+pub(crate) fn walk<const BIT: u8, T: TableSource>(
     source: &mut T,
     part: usize,
     from: usize,
@@ -24,11 +24,11 @@ pub(crate) fn walk<const ONE: u8, T: TableSource>(
     requires short { IsShort (T.lists source.old).words }
     requires inside { part < length (T.lists source.old).upper }
     requires from { from < entries_from (length (T.lists source.old).lower) part }
-    requires at_most { items_to ONE (bits_of (T.lists source.old).words) part from ≤ rank }
-    ensures last { IsLastEntry (sought_in ONE (T.lists source.old).words)
+    requires at_most { items_to BIT (bits_of (T.lists source.old).words) part from ≤ rank }
+    ensures last { IsLastEntry (sought_in BIT (T.lists source.old).words)
         (length (T.lists source.old).lower) part rank result.0 }
     ensures entry { result.1
-        ≡ lower_entry (sought_in ONE (T.lists source.old).words) (entry_in part result.0) }
+        ≡ lower_entry (sought_in BIT (T.lists source.old).words) (entry_in part result.0) }
     ensures order { from ≤ result.0 }
     ensures reads { ReadsAtMost (T.reads source.old) (T.reads source.new)
         0 (result.0 - from + 2) 0 }
@@ -36,9 +36,9 @@ pub(crate) fn walk<const ONE: u8, T: TableSource>(
 {
     let first = part * L2_ENTRIES_PER_L1_ENTRY;
     let end = entries_of_part(source.lower_len(), part);
-    let mut packed = sought_entry::<ONE, T>(source, first + from);
+    let mut packed = sought_entry::<BIT, T>(source, first + from);
     for next in from + 1..end {
-        let entry = sought_entry::<ONE, T>(source, first + next);
+        let entry = sought_entry::<BIT, T>(source, first + next);
         if rank < ones_to_entry(entry) {
             return (next - 1, packed);
         }

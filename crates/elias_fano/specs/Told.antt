@@ -3,7 +3,7 @@ use Rattle.std.specs.Prelude.{◌≡◌, ⊤, ℕ, ◌+◌, ◌-◌, ◌/◌, �
 use Rattle.bitm.specs.Bits.{item}
 use Rattle.bitm.specs.Tables.{Lists, bits_in}
 use Rattle.bitm_search.specs.Told.{less, TellsNone}
-use Rattle.elias_fano.specs.Held.{Held}
+use Rattle.elias_fano.specs.LentParts.{LentParts}
 use Rattle.elias_fano.specs.Low.{fragment, unread}
 use Rattle.elias_fano.specs.declared.answer.Sought.{Sought}
 use Rattle.elias_fano.specs.declared.answer.Sought.TheVariants.{Found, Absent, WrongParts}
@@ -36,7 +36,7 @@ pub record PartsAt (lows : ℕ → ℕ) (width first end rest p : ℕ) : Type 0 
 
 -- the parts tell that p of their numbers are less than v: the words, where the numbers with the upper digits of v begin and end, and
 -- the low digits, where these part
-pub record TellsLess (parts : Held) (v p : ℕ) : Type 0 where
+pub record TellsLess (parts : LentParts) (v p : ℕ) : Type 0 where
   pub first : ℕ
   pub end : ℕ
   pub begins : TellsBelow parts.upper parts.len (v / 2 ^ parts.width) first
@@ -45,7 +45,7 @@ pub record TellsLess (parts : Held) (v p : ℕ) : Type 0 where
   pub parting : PartsAt (fragment (unread parts.low parts.width)) parts.width first end (v % 2 ^ parts.width) p
 
 -- the parts tell that p of their numbers are at most v: all, where v is the greatest number of 64 bits
-pub record TellsAtMost (parts : Held) (v p : ℕ) : Type 0 where
+pub record TellsAtMost (parts : LentParts) (v p : ℕ) : Type 0 where
   pub next : v + 1 < 2 ^ 64 → TellsLess parts (v + 1) p
   pub greatest : 2 ^ 64 ≤ v + 1 → p ≡ parts.len
 

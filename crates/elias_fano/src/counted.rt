@@ -3,7 +3,7 @@ ghost use Rattle.std.specs.Prelude.{◌≡◌, ◌+◌, ◌*◌, ◌<◌, ◌≤
 ghost use Rattle.std.specs.List.{Contains};
 ghost use Rattle.bitm.specs.Bits.{digit_count};
 ghost use Rattle.bitm.specs.Reads.{OnlyReads, ReadsAtMost};
-ghost use Rattle.elias_fano.specs.Held.{held_by, Holds};
+ghost use Rattle.elias_fano.specs.LentParts.{parts_with, AreParts, Holds};
 ghost use Rattle.elias_fano.specs.Low.{sharing, ReadsFragments};
 ghost use Rattle.elias_fano.specs.Sequence.{IsFirstAtLeast, IsLastAtMost, ReachesTo};
 
@@ -15,9 +15,9 @@ use bitm::{Selected, TableSource, index_laws, total_select_on};
 /// Number `at` of a sequence.
 #[inline(always)]
 fn item_on<T: TableSource>(source: &mut T, low: &mut LowDigits<'_>, n: usize, at: usize) -> u64
-    requires parts { (xs : List ℕ) × Holds xs (held_by n low.old (T.lists source.old)) }
+    requires parts { AreParts (parts_with n low.old (T.lists source.old)) }
     requires inside { at < n }
-    ensures item { (xs : List ℕ) → Holds xs (held_by n low.old (T.lists source.old))
+    ensures item { (xs : List ℕ) → Holds xs (parts_with n low.old (T.lists source.old))
         → result ≡ slice_index xs at }
     ensures reads { OnlyReads T.lists T.reads source.old source.new
         (digit_count (length (T.lists source.old).upper) + 1) 23 8 }
@@ -33,12 +33,12 @@ fn item_on<T: TableSource>(source: &mut T, low: &mut LowDigits<'_>, n: usize, at
 /// Whether the only number of a sequence is at least `v`. Its low digits are read where it has the upper digits of `v`.
 #[inline(always)]
 fn only_reaches<T: TableSource>(source: &mut T, low: &mut LowDigits<'_>, v: u64) -> bool
-    requires parts { (xs : List ℕ) × Holds xs (held_by 1 low.old (T.lists source.old)) }
-    ensures reaches { (xs : List ℕ) → Holds xs (held_by 1 low.old (T.lists source.old))
+    requires parts { AreParts (parts_with 1 low.old (T.lists source.old)) }
+    ensures reaches { (xs : List ℕ) → Holds xs (parts_with 1 low.old (T.lists source.old))
         → IsTrue result ↔ (v ≤ slice_index xs 0) }
     ensures reads { OnlyReads T.lists T.reads source.old source.new
         (digit_count (length (T.lists source.old).upper) + 1) 23 8 }
-    ensures shared { (xs : List ℕ) → Holds xs (held_by 1 low.old (T.lists source.old))
+    ensures shared { (xs : List ℕ) → Holds xs (parts_with 1 low.old (T.lists source.old))
         → ReadsFragments low.old low.new (digit_count (sharing xs low.old.width v)) }
 {
     index_laws::tables_have_sizes();
@@ -74,8 +74,8 @@ pub fn first_at_least_counted<T: TableSource>(
     n: usize,
     v: u64,
 ) -> Option<usize>
-    requires parts { (xs : List ℕ) × Holds xs (held_by n low.old (T.lists source.old)) }
-    ensures answer { (xs : List ℕ) → Holds xs (held_by n low.old (T.lists source.old))
+    requires parts { AreParts (parts_with n low.old (T.lists source.old)) }
+    ensures answer { (xs : List ℕ) → Holds xs (parts_with n low.old (T.lists source.old))
         → IsFirstAtLeast xs v result }
     ensures reads { ReadsAtMost (T.reads source.old) (T.reads source.new)
         (digit_count n * (digit_count (length (T.lists source.old).upper) + 1))
@@ -83,7 +83,7 @@ pub fn first_at_least_counted<T: TableSource>(
     ensures two { ReadsAtMost (T.reads source.old) (T.reads source.new)
         (2 * (digit_count (length (T.lists source.old).upper) + 1)) (2 * 23) (2 * 8) }
     ensures same { T.lists source.new ≡ T.lists source.old }
-    ensures shared { (xs : List ℕ) → Holds xs (held_by n low.old (T.lists source.old))
+    ensures shared { (xs : List ℕ) → Holds xs (parts_with n low.old (T.lists source.old))
         → ReadsFragments low.old low.new (digit_count (sharing xs low.old.width v)) }
 {
     index_laws::tables_have_sizes();
@@ -107,12 +107,12 @@ pub fn first_at_least_counted<T: TableSource>(
 /// How many numbers of a sequence are at most `v`: those before the first that is at least `v + 1`.
 #[inline(always)]
 fn count_at_most<T: TableSource>(source: &mut T, low: &mut LowDigits<'_>, n: usize, v: u64) -> usize
-    requires parts { (xs : List ℕ) × Holds xs (held_by n low.old (T.lists source.old)) }
-    ensures reaches { (xs : List ℕ) → Holds xs (held_by n low.old (T.lists source.old))
+    requires parts { AreParts (parts_with n low.old (T.lists source.old)) }
+    ensures reaches { (xs : List ℕ) → Holds xs (parts_with n low.old (T.lists source.old))
         → ReachesTo xs v result }
     ensures reads { OnlyReads T.lists T.reads source.old source.new
         (2 * (digit_count (length (T.lists source.old).upper) + 1)) (2 * 23) (2 * 8) }
-    ensures shared { (xs : List ℕ) → Holds xs (held_by n low.old (T.lists source.old))
+    ensures shared { (xs : List ℕ) → Holds xs (parts_with n low.old (T.lists source.old))
         → ReadsFragments low.old low.new (digit_count (sharing xs low.old.width (v + 1))) }
 {
     if v == u64::MAX {
@@ -136,12 +136,12 @@ pub fn last_at_most_counted<T: TableSource>(
     n: usize,
     v: u64,
 ) -> Option<usize>
-    requires parts { (xs : List ℕ) × Holds xs (held_by n low.old (T.lists source.old)) }
-    ensures answer { (xs : List ℕ) → Holds xs (held_by n low.old (T.lists source.old))
+    requires parts { AreParts (parts_with n low.old (T.lists source.old)) }
+    ensures answer { (xs : List ℕ) → Holds xs (parts_with n low.old (T.lists source.old))
         → IsLastAtMost xs v result }
     ensures reads { OnlyReads T.lists T.reads source.old source.new
         (2 * (digit_count (length (T.lists source.old).upper) + 1)) (2 * 23) (2 * 8) }
-    ensures shared { (xs : List ℕ) → Holds xs (held_by n low.old (T.lists source.old))
+    ensures shared { (xs : List ℕ) → Holds xs (parts_with n low.old (T.lists source.old))
         → ReadsFragments low.old low.new (digit_count (sharing xs low.old.width (v + 1))) }
 {
     match count_at_most(source, low, n, v) {
@@ -163,12 +163,12 @@ pub fn contains_counted<T: TableSource>(
     n: usize,
     v: u64,
 ) -> bool
-    requires parts { (xs : List ℕ) × Holds xs (held_by n low.old (T.lists source.old)) }
-    ensures answer { (xs : List ℕ) → Holds xs (held_by n low.old (T.lists source.old))
+    requires parts { AreParts (parts_with n low.old (T.lists source.old)) }
+    ensures answer { (xs : List ℕ) → Holds xs (parts_with n low.old (T.lists source.old))
         → IsTrue result ↔ Contains xs v }
     ensures reads { OnlyReads T.lists T.reads source.old source.new
         (3 * (digit_count (length (T.lists source.old).upper) + 1)) (3 * 23) (3 * 8) }
-    ensures shared { (xs : List ℕ) → Holds xs (held_by n low.old (T.lists source.old))
+    ensures shared { (xs : List ℕ) → Holds xs (parts_with n low.old (T.lists source.old))
         → ReadsFragments low.old low.new (digit_count (sharing xs low.old.width v) + 1) }
 {
     match first_at_least_counted(source, low, n, v) {

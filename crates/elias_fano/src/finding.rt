@@ -1,47 +1,75 @@
 //! Where numbers of a sequence stand.
-ghost use Rattle.std.specs.Prelude.{◌↔◌, IsTrue};
+ghost use Rattle.std.specs.Prelude.{◌↔◌, ◌≤◌, IsTrue, length};
 ghost use Rattle.std.specs.List.{Contains};
-ghost use Rattle.elias_fano.specs.Sequence.{IsFirstAtLeast, IsLastAtMost};
+ghost use Rattle.elias_fano.specs.Sequence.{IsFirstAtLeast, IsLastAtMost, ReachesTo};
 
-use crate::counted::{contains_counted, first_at_least_counted, last_at_most_counted};
-use crate::laws;
-use crate::sequence::EliasFano;
+use crate::answer::Sought;
+use crate::searching::place_in_bucket;
+use crate::sequence::Sequence;
+use bitm::{Select0ForRank101111, SelectForRank101111};
 
-impl EliasFano {
+impl<S: SelectForRank101111, S0: Select0ForRank101111> Sequence<S, S0> {
     /// The least place whose number is at least `v`; `None` exactly where there is none.
     ///
     /// # Cost
-    /// That of `first_at_least_counted`: at most two selections, 46 lower entries and 16 words of the upper vector,
-    /// and one fragment of the low one for each binary digit of how many numbers share the upper digits of `v`.
+    /// One selection of a zero in the upper vector, the words from there up to the next zero, and one fragment of the
+    /// low vector for each binary digit of how many numbers share the upper digits of `v`. Where reads have to be
+    /// bounded, `first_at_least_counted` makes two selections.
     #[inline]
     pub fn first_at_least(&self, v: u64) -> Option<usize>
-        ensures { IsFirstAtLeast self.now v result }
+        ensures { IsFirstAtLeast self.now.items v result }
     {
-        laws::numbers_rise(self);
-        first_at_least_counted(&mut self.probe(), &mut self.low_digits(), self.len(), v)
+        self.rise();
+        let _upper = self.upper_words();
+        let (first, end) = self.bucket(v);
+        match place_in_bucket(&mut self.low_digits(), self.len(), first, end, v) {
+            Sought::Found(place) => Some(place),
+            Sought::Absent => None,
+            Sought::WrongParts => None,
+        }
+    }
+
+    /// How many numbers are at most `v`.
+    #[inline]
+    fn count_at_most(&self, v: u64) -> usize
+        ensures { ReachesTo self.now.items v result }
+    {
+        self.rise();
+        if v == u64::MAX {
+            return self.len();
+        }
+        match self.first_at_least(v + 1) {
+            Some(place) => place,
+            None => self.len(),
+        }
     }
 
     /// The greatest place whose number is at most `v`; `None` exactly where there is none.
     ///
     /// # Cost
-    /// That of `last_at_most_counted`: as `first_at_least` of `v + 1`.
+    /// That of `first_at_least` of `v + 1`, and nothing where `v` is 2^64 - 1.
     #[inline]
     pub fn last_at_most(&self, v: u64) -> Option<usize>
-        ensures { IsLastAtMost self.now v result }
+        ensures { IsLastAtMost self.now.items v result }
     {
-        laws::numbers_rise(self);
-        last_at_most_counted(&mut self.probe(), &mut self.low_digits(), self.len(), v)
+        match self.count_at_most(v) {
+            0 => None,
+            count => Some(count - 1),
+        }
     }
 
     /// Whether `v` is one of the numbers.
     ///
     /// # Cost
-    /// That of `contains_counted`: as `first_at_least`, and as `get` where some number is at least `v`.
+    /// That of `first_at_least`, and that of `get` where some number is at least `v`.
     #[inline]
     pub fn contains(&self, v: u64) -> bool
-        ensures { IsTrue result ↔ Contains self.now v }
+        ensures { IsTrue result ↔ Contains self.now.items v }
     {
-        laws::numbers_rise(self);
-        contains_counted(&mut self.probe(), &mut self.low_digits(), self.len(), v)
+        self.rise();
+        match self.first_at_least(v) {
+            Some(place) => self.get(place) == v,
+            None => false,
+        }
     }
 }

@@ -4,12 +4,13 @@ ghost use Rattle.elias_fano.specs.Laws.{ReachedFromThere, FirstOfEqual};
 ghost use Rattle.elias_fano.specs.Laws.{OneForEachItem, ItemsArePicked, PartsHoldItems, PartsAreSmall};
 ghost use Rattle.elias_fano.specs.Sequence.{IsSequence};
 
-use crate::sequence::EliasFano;
+use crate::sequence::Sequence;
+use bitm::{Select0ForRank101111, SelectForRank101111};
 
 /// The numbers of a sequence never decrease; there are fewer than 2^56 of them, each below 2^64.
 #[inline(always)]
-pub fn numbers_rise(sequence: &EliasFano)
-    ensures { IsSequence sequence.now }
+pub fn numbers_rise<S: SelectForRank101111, S0: Select0ForRank101111>(sequence: &Sequence<S, S0>)
+    ensures { IsSequence sequence.now.items }
 {
     sequence.rise();
 }

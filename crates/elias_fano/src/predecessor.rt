@@ -1,11 +1,11 @@
 //! The last number that is at most a value, and whether a value is one of the numbers. The parts may hold anything.
-ghost use Rattle.std.specs.Prelude.{◌≡◌, ◌+◌, ◌*◌, ◌≤◌, ◌↔◌, ℕ, List, false, IfSome, IsTrue, MatchOption, length};
+ghost use Rattle.std.specs.Prelude.{◌≡◌, ◌+◌, ◌*◌, ◌≤◌, ◌↔◌, ℕ, List, false, IfSome, IsTrue, length, IsSomeAnd};
 ghost use Rattle.std.specs.List.{Contains};
 ghost use Rattle.bitm.specs.Bits.{digit_count};
 ghost use Rattle.bitm.specs.Reads.{OnlyReads};
 ghost use Rattle.bitm.specs.Tables.{HasSizes};
 ghost use Rattle.elias_fano.specs.Answers.{IsLast, IsPlaceOf};
-ghost use Rattle.elias_fano.specs.Held.{held_by, HasLengths, Holds};
+ghost use Rattle.elias_fano.specs.LentParts.{parts_with, HasLengths, Holds};
 ghost use Rattle.elias_fano.specs.Low.{sharing, ReadsFragments};
 ghost use Rattle.elias_fano.specs.Sequence.{ReachesTo};
 ghost use Rattle.elias_fano.specs.Told.{IfLast, TellsAtMost, TellsLess};
@@ -24,17 +24,17 @@ fn count_at_most<T: TableSource>(
     n: usize,
     v: u64,
 ) -> Option<usize>
-    requires lengths { HasLengths (held_by n low.old (T.lists source.old)) }
+    requires lengths { HasLengths (parts_with n low.old (T.lists source.old)) }
     requires sized { HasSizes (T.lists source.old) }
     ensures within { IfSome result (λ c. c ≤ n) }
     ensures told { IfSome result
-        (TellsAtMost (held_by n low.old (T.lists source.old)) v) }
-    ensures reaches { (xs : List ℕ) → Holds xs (held_by n low.old (T.lists source.old))
-        → MatchOption result ⊥ (ReachesTo xs v) }
+        (TellsAtMost (parts_with n low.old (T.lists source.old)) v) }
+    ensures reaches { (xs : List ℕ) → Holds xs (parts_with n low.old (T.lists source.old))
+        → IsSomeAnd result (ReachesTo xs v) }
     ensures reads { OnlyReads T.lists T.reads source.old source.new
         (2 * (digit_count (length (T.lists source.old).upper) + 1)) (2 * 23) (2 * 8) }
     ensures fragments { ReadsFragments low.old low.new (digit_count n) }
-    ensures shared { (xs : List ℕ) → Holds xs (held_by n low.old (T.lists source.old))
+    ensures shared { (xs : List ℕ) → Holds xs (parts_with n low.old (T.lists source.old))
         → ReadsFragments low.old low.new (digit_count (sharing xs low.old.width (v + 1))) }
 {
     if v == u64::MAX {
@@ -64,16 +64,16 @@ pub fn total_last_at_most_on<T: TableSource>(
     n: usize,
     v: u64,
 ) -> Sought<usize>
-    requires lengths { HasLengths (held_by n low.old (T.lists source.old)) }
+    requires lengths { HasLengths (parts_with n low.old (T.lists source.old)) }
     requires sized { HasSizes (T.lists source.old) }
     ensures inside { IsPlaceOf n result }
-    ensures told { IfLast result (TellsAtMost (held_by n low.old (T.lists source.old)) v) }
-    ensures answer { (xs : List ℕ) → Holds xs (held_by n low.old (T.lists source.old))
+    ensures told { IfLast result (TellsAtMost (parts_with n low.old (T.lists source.old)) v) }
+    ensures answer { (xs : List ℕ) → Holds xs (parts_with n low.old (T.lists source.old))
         → IsLast xs v result }
     ensures reads { OnlyReads T.lists T.reads source.old source.new
         (2 * (digit_count (length (T.lists source.old).upper) + 1)) (2 * 23) (2 * 8) }
     ensures fragments { ReadsFragments low.old low.new (digit_count n) }
-    ensures shared { (xs : List ℕ) → Holds xs (held_by n low.old (T.lists source.old))
+    ensures shared { (xs : List ℕ) → Holds xs (parts_with n low.old (T.lists source.old))
         → ReadsFragments low.old low.new (digit_count (sharing xs low.old.width (v + 1))) }
 {
     match count_at_most(source, low, n, v) {
@@ -98,16 +98,16 @@ pub fn total_contains_on<T: TableSource>(
     n: usize,
     v: u64,
 ) -> Option<bool>
-    requires lengths { HasLengths (held_by n low.old (T.lists source.old)) }
+    requires lengths { HasLengths (parts_with n low.old (T.lists source.old)) }
     requires sized { HasSizes (T.lists source.old) }
-    ensures answer { (xs : List ℕ) → Holds xs (held_by n low.old (T.lists source.old))
-        → MatchOption result ⊥ (λ is. IsTrue is ↔ Contains xs v) }
+    ensures answer { (xs : List ℕ) → Holds xs (parts_with n low.old (T.lists source.old))
+        → IsSomeAnd result (λ is. IsTrue is ↔ Contains xs v) }
     ensures told { IfSome result (λ is. (p : ℕ)
-        × TellsLess (held_by n low.old (T.lists source.old)) v p × (p ≡ n → is ≡ false)) }
+        × TellsLess (parts_with n low.old (T.lists source.old)) v p × (p ≡ n → is ≡ false)) }
     ensures reads { OnlyReads T.lists T.reads source.old source.new
         (3 * (digit_count (length (T.lists source.old).upper) + 1)) (3 * 23) (3 * 8) }
     ensures fragments { ReadsFragments low.old low.new (digit_count n + 1) }
-    ensures shared { (xs : List ℕ) → Holds xs (held_by n low.old (T.lists source.old))
+    ensures shared { (xs : List ℕ) → Holds xs (parts_with n low.old (T.lists source.old))
         → ReadsFragments low.old low.new (digit_count (sharing xs low.old.width v) + 1) }
 {
     match total_first_at_least_on(source, low, n, v) {

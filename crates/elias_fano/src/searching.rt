@@ -1,7 +1,7 @@
 //! Reads of a sequence from its parts, and the search for the first number that reaches a value. The parts may hold
 //! anything: the calls on a sequence's own are those on any parts.
-ghost use Rattle.std.specs.Prelude.{◌≡◌, ◌≢◌, ◌+◌, ◌-◌, ◌*◌, ◌/◌, ◌%◌, ◌^◌, ◌<◌, ◌≤◌, ℕ, List};
-ghost use Rattle.std.specs.Prelude.{length, slice_index, false, IfSome, MatchOption};
+ghost use Rattle.std.specs.Prelude.{◌≡◌, ◌≢◌, ◌+◌, ◌-◌, ◌*◌, ◌/◌, ◌%◌, ◌^◌, ◌<◌, ◌≤◌, ℕ, List, IsSomeAnd};
+ghost use Rattle.std.specs.Prelude.{length, slice_index, false, IfSome};
 ghost use Rattle.bitm.specs.Bits.{bits_of, digit_count};
 ghost use Rattle.bitm.specs.Count.{Picks};
 ghost use Rattle.bitm.specs.Reads.{OnlyReads};
@@ -9,7 +9,7 @@ ghost use Rattle.bitm.specs.Tables.{HasSizes, HasTables};
 ghost use Rattle.bitm_search.specs.Told.{less};
 ghost use Rattle.elias_fano.specs.Answers.{IsFirst, IsItem, IsOfPlace, IsPlaceOf};
 ghost use Rattle.elias_fano.specs.Buckets.{CountsTo, CountsBelow, HasEnds, LowsRise, Splits};
-ghost use Rattle.elias_fano.specs.Held.{held_by, HasLengths, Holds};
+ghost use Rattle.elias_fano.specs.LentParts.{parts_with, HasLengths, Holds};
 ghost use Rattle.elias_fano.specs.Low.{fragment, joined_item, sharing, HasFragments, ReadsFragments};
 ghost use Rattle.elias_fano.specs.Parts.{ArePartsOf, HasFragment, HasOneAt, IsUpper};
 ghost use Rattle.elias_fano.specs.Told.{IfPlace, PartsAt, TellsBelow, TellsLess, TellsTo};
@@ -26,7 +26,7 @@ use bitm_search::search::selecting::search_on;
 /// # Cost
 /// At most one fragment of the low digits is read.
 #[inline(always)]
-pub fn joined(above: usize, low: &mut LowDigits<'_>, at: usize) -> u64
+pub fn join_digits(above: usize, low: &mut LowDigits<'_>, at: usize) -> u64
     requires { HasFragment low.old.words at low.old.width }
     ensures number { joined_item above low.old at < 2 ^ 64 → result ≡ joined_item above low.old at }
     ensures fragments { ReadsFragments low.old low.new 1 }
@@ -53,7 +53,7 @@ pub fn item_at_one(place: usize, low: &mut LowDigits<'_>, at: usize) -> u64
         → HasOneAt xs n low.old.width low.old.words upper at place → result ≡ slice_index xs at }
     ensures fragments { ReadsFragments low.old low.new 1 }
 {
-    joined(place.wrapping_sub(at), low, at)
+    join_digits(place.wrapping_sub(at), low, at)
 }
 
 /// Number `at` of the `n` numbers whose parts are the low digits and the source's words.
@@ -74,10 +74,10 @@ pub fn total_item_on<T: TableSource>(
     n: usize,
     at: usize,
 ) -> Sought<u64>
-    requires lengths { HasLengths (held_by n low.old (T.lists source.old)) }
+    requires lengths { HasLengths (parts_with n low.old (T.lists source.old)) }
     requires sized { HasSizes (T.lists source.old) }
     ensures inside { IsOfPlace n at result }
-    ensures answer { (xs : List ℕ) → Holds xs (held_by n low.old (T.lists source.old))
+    ensures answer { (xs : List ℕ) → Holds xs (parts_with n low.old (T.lists source.old))
         → IsItem xs at result }
     ensures reads { OnlyReads T.lists T.reads source.old source.new
         (digit_count (length (T.lists source.old).upper) + 1) 23 8 }
@@ -100,7 +100,7 @@ pub fn count_at_zero(place: usize, above: usize, n: usize) -> Option<usize>
     ensures within { IfSome result (λ c. c ≤ n) }
     ensures is { IfSome result (λ c. c ≡ less place above) }
     ensures count { (xs : List ℕ) (l : ℕ) (upper : List ℕ) → IsUpper xs l upper → n ≡ length xs
-        → Picks (bits_of upper) false above place → MatchOption result ⊥ (CountsTo xs l above) }
+        → Picks (bits_of upper) false above place → IsSomeAnd result (CountsTo xs l above) }
 {
     let count = place.wrapping_sub(above);
     if count <= n { Some(count) } else { None }
@@ -118,7 +118,7 @@ fn count_to<const TESTS: u8, T: TableSource>(
     ensures within { IfSome result (λ c. c ≤ n) }
     ensures count { (xs : List ℕ) (l : ℕ) → IsUpper xs l (T.lists source.old).words
         → HasTables (T.lists source.old) → n ≡ length xs
-        → MatchOption result ⊥ (CountsTo xs l above) }
+        → IsSomeAnd result (CountsTo xs l above) }
     ensures told { TESTS ≢ 0 → IfSome result (TellsTo (T.lists source.old) n above) }
     ensures reads { OnlyReads T.lists T.reads source.old source.new
         (digit_count (length (T.lists source.old).upper) + 1) 23 8 }
@@ -142,7 +142,7 @@ fn count_below<const TESTS: u8, T: TableSource>(
     ensures within { IfSome result (λ c. c ≤ n) }
     ensures count { (xs : List ℕ) (l : ℕ) → IsUpper xs l (T.lists source.old).words
         → HasTables (T.lists source.old) → n ≡ length xs
-        → MatchOption result ⊥ (CountsBelow xs l above) }
+        → IsSomeAnd result (CountsBelow xs l above) }
     ensures told { TESTS ≢ 0 → IfSome result (TellsBelow (T.lists source.old) n above) }
     ensures reads { OnlyReads T.lists T.reads source.old source.new
         (digit_count (length (T.lists source.old).upper) + 1) 23 8 }
@@ -240,17 +240,17 @@ pub(crate) fn first_on<const TESTS: u8, T: TableSource>(
     n: usize,
     v: u64,
 ) -> Sought<usize>
-    requires lengths { HasLengths (held_by n low.old (T.lists source.old)) }
+    requires lengths { HasLengths (parts_with n low.old (T.lists source.old)) }
     requires sized { HasSizes (T.lists source.old) }
     ensures inside { IsPlaceOf n result }
     ensures told { TESTS ≢ 0
-        → IfPlace n result (TellsLess (held_by n low.old (T.lists source.old)) v) }
-    ensures answer { (xs : List ℕ) → Holds xs (held_by n low.old (T.lists source.old))
+        → IfPlace n result (TellsLess (parts_with n low.old (T.lists source.old)) v) }
+    ensures answer { (xs : List ℕ) → Holds xs (parts_with n low.old (T.lists source.old))
         → IsFirst xs v result }
     ensures reads { OnlyReads T.lists T.reads source.old source.new
         (2 * (digit_count (length (T.lists source.old).upper) + 1)) (2 * 23) (2 * 8) }
     ensures fragments { ReadsFragments low.old low.new (digit_count n) }
-    ensures shared { (xs : List ℕ) → Holds xs (held_by n low.old (T.lists source.old))
+    ensures shared { (xs : List ℕ) → Holds xs (parts_with n low.old (T.lists source.old))
         → ReadsFragments low.old low.new (digit_count (sharing xs low.old.width v)) }
 {
     let width = low.width();
@@ -287,16 +287,16 @@ pub fn total_first_at_least_on<T: TableSource>(
     n: usize,
     v: u64,
 ) -> Sought<usize>
-    requires lengths { HasLengths (held_by n low.old (T.lists source.old)) }
+    requires lengths { HasLengths (parts_with n low.old (T.lists source.old)) }
     requires sized { HasSizes (T.lists source.old) }
     ensures inside { IsPlaceOf n result }
-    ensures told { IfPlace n result (TellsLess (held_by n low.old (T.lists source.old)) v) }
-    ensures answer { (xs : List ℕ) → Holds xs (held_by n low.old (T.lists source.old))
+    ensures told { IfPlace n result (TellsLess (parts_with n low.old (T.lists source.old)) v) }
+    ensures answer { (xs : List ℕ) → Holds xs (parts_with n low.old (T.lists source.old))
         → IsFirst xs v result }
     ensures reads { OnlyReads T.lists T.reads source.old source.new
         (2 * (digit_count (length (T.lists source.old).upper) + 1)) (2 * 23) (2 * 8) }
     ensures fragments { ReadsFragments low.old low.new (digit_count n) }
-    ensures shared { (xs : List ℕ) → Holds xs (held_by n low.old (T.lists source.old))
+    ensures shared { (xs : List ℕ) → Holds xs (parts_with n low.old (T.lists source.old))
         → ReadsFragments low.old low.new (digit_count (sharing xs low.old.width v)) }
 {
     first_on::<1, T>(source, low, n, v)

@@ -1,11 +1,13 @@
 //! The type of a sequence.
-ghost use Rattle.std.specs.Prelude.{◌≡◌, ◌+◌, ◌*◌, ◌^◌, ◌<◌, ◌≤◌, ◌↔◌, IsErrOf, SomeIff, length, slice_index};
-ghost use Rattle.std.specs.Prelude.{drop, IfOk};
+ghost use Rattle.std.specs.Prelude.{◌≡◌, ◌+◌, ◌*◌, ◌^◌, ◌<◌, ◌≤◌, ◌↔◌, IsErrOf, SomeIff, MatchOption};
+ghost use Rattle.std.specs.Prelude.{length, slice_index, drop, IfOk};
 ghost use Rattle.std.specs.Int.{div_ceil};
 ghost use Rattle.bitm.specs.Bits.{IsShort};
-ghost use Rattle.bitm.specs.Size.{saturated};
+ghost use Rattle.bitm.specs.Count.{zeros_of};
+ghost use Rattle.bitm.specs.Size.{saturated_size};
 ghost use Rattle.bitm.specs.Reads.{none_read};
 ghost use Rattle.bitm.specs.Tables.{HasTables};
+ghost use Rattle.elias_fano.specs.Buckets.{BeginsAt, HasEnds};
 ghost use Rattle.elias_fano.specs.Numbers.{StandFrom};
 ghost use Rattle.elias_fano.specs.Parts.{width_of, low_words_of, upper_words_of, IsLow, IsUpper};
 ghost use Rattle.elias_fano.specs.Sequence.{IsSequence, HasFall};
@@ -16,7 +18,10 @@ use crate::iterating::Numbers;
 use crate::low::LowDigits;
 use crate::making::{make_low, make_upper, width_for};
 use crate::searching::item_at_one;
-use bitm::{ArrayWithRank101111, CloneWords, GetSize, Probe, Select};
+use bitm::{
+    AdaptiveCombinedSamplingDensity, BinaryRankSearch, CloneWords, CombinedSampling, GetSize,
+    Probe, RankSelect101111, Select, Select0, Select0ForRank101111, SelectForRank101111, words,
+};
 use std::alloc::{AllocError, Global};
 use std::boxed::BoxedSlice;
 use std::convert::AsSlice;
@@ -53,29 +58,48 @@ use std::marker::Model;
 /// bits required to implement an associative memory' (1971); as an index of lists: Vigna, 'Quasi-succinct indices'
 /// (WSDM 2013).
 #[derive(Drop)]
-pub struct EliasFano {
+pub struct Sequence<S: SelectForRank101111, S0: Select0ForRank101111> {
     len: usize,
     width: u8,
     low: BoxedSlice<u64, Global>,
-    upper: ArrayWithRank101111,
+    upper: RankSelect101111<S, S0, BoxedSlice<u64, Global>>,
 }
 
-impl Model for EliasFano {
-    ghost use Rattle.std.specs.Prelude.{List, ℕ};
+impl<S: SelectForRank101111, S0: Select0ForRank101111> Model for Sequence<S, S0> {
     ghost use Rattle.std.specs.Box.{boxed_slice_items};
     ghost use Rattle.elias_fano.specs.Parts.{items_of, ArePartsOf};
+    ghost use Rattle.elias_fano.specs.Value.{SequenceValue};
 
-    ghost Value = { List ℕ };
+    ghost Value = { SequenceValue S S0 };
 
-    ghost view = { λ e. items_of e.len e.width
-        (boxed_slice_items e.low) (boxed_slice_items e.upper.content) };
+    ghost view = { λ e. record {
+      items = items_of e.len e.width (boxed_slice_items e.low) (boxed_slice_items e.upper.content);
+      select = e.upper.select;
+      select0 = e.upper.select0;
+    } };
 
     ghost invariant = { λ e. let low = boxed_slice_items e.low in
         let upper = boxed_slice_items e.upper.content in
         ArePartsOf (items_of e.len e.width low upper) e.len e.width low upper };
 }
 
-impl EliasFano {
+/// The first place of an index with so many zeros before it; `None` exactly where it has fewer.
+#[inline(always)]
+fn first_after<I: Select0>(index: &I, zeros: usize) -> Option<usize>
+    ensures { MatchOption result (zeros_of (I.bits index.now) < zeros)
+        (BeginsAt (I.bits index.now) zeros) }
+{
+    let _len = index.len();
+    if zeros == 0 {
+        return Some(0);
+    }
+    match index.try_select0(zeros - 1) {
+        Some(place) => Some(place + 1),
+        None => None,
+    }
+}
+
+impl<S: SelectForRank101111, S0: Select0ForRank101111> Sequence<S, S0> {
     /// A sequence of the numbers, which are not changed.
     ///
     /// # Errors
@@ -83,20 +107,20 @@ impl EliasFano {
     /// the one before it; else `OutOfMemory` if memory was refused. Nothing is left then.
     /// # Cost
     /// One pass over the numbers for each of the two vectors, and one over the upper vector for its index.
-    pub fn build(alloc: Global, items: &[u64]) -> Result<EliasFano, EfError>
-        ensures ok { IfOk result (λ made. made ≡ items.now) }
+    pub fn build(alloc: Global, items: &[u64]) -> Result<Self, EfError>
+        ensures ok { IfOk result (λ made. made.items ≡ items.now) }
         ensures too_long { IsErrOf result EfError.TooLong ↔ (2 ^ 56 ≤ length items.now) }
         ensures not_sorted { IsErrOf result EfError.NotSorted
             ↔ ((length items.now < 2 ^ 56) × HasFall items.now) }
-        ensures size { IfOk result (λ made. let l = width_of made in
-            64 * (low_words_of made l + upper_words_of made l) ≤ length made * (l + 3) + 126) }
+        ensures size { IfOk result (λ made. let xs = made.items in let l = width_of xs in
+            64 * (low_words_of xs l + upper_words_of xs l) ≤ length xs * (l + 3) + 126) }
     {
         check(items)?;
         let width = width_for(items);
         let low = make_low(alloc, items, width)?;
         let upper = make_upper(alloc, items, width)?;
-        match ArrayWithRank101111::build(alloc, upper) {
-            Ok((upper, _)) => Ok(EliasFano {
+        match RankSelect101111::build(alloc, upper) {
+            Ok((upper, _)) => Ok(Sequence {
                 len: items.len(),
                 width,
                 low,
@@ -109,7 +133,7 @@ impl EliasFano {
     /// How many numbers there are: fewer than 2^56.
     #[inline(always)]
     pub fn len(&self) -> usize
-        ensures count { result ≡ length self.now }
+        ensures count { result ≡ length self.now.items }
         ensures short { result < 2 ^ 56 }
     {
         self.len
@@ -118,7 +142,7 @@ impl EliasFano {
     /// The numbers never decrease; there are fewer than 2^56 of them, each below 2^64.
     #[inline(always)]
     pub(crate) fn rise(&self)
-        ensures { IsSequence self.now }
+        ensures { IsSequence self.now.items }
     {
         let _ = &self.len; // a field that is read makes the invariant known to the proof
     }
@@ -131,8 +155,8 @@ impl EliasFano {
     /// One selection in the upper vector, and at most one fragment of the low one, as `item_at_one` says.
     #[inline(always)]
     pub fn get(&self, i: usize) -> u64
-        requires { i < length self.now }
-        ensures { result ≡ slice_index self.now i }
+        requires { i < length self.now.items }
+        ensures { result ≡ slice_index self.now.items i }
     {
         let place = self.upper.select(i);
         item_at_one(
@@ -145,7 +169,7 @@ impl EliasFano {
     /// Number `i`; `None` exactly where there is none.
     #[inline(always)]
     pub fn try_get(&self, i: usize) -> Option<u64>
-        ensures { SomeIff result (i < length self.now) (slice_index self.now i) }
+        ensures { SomeIff result (i < length self.now.items) (slice_index self.now.items i) }
     {
         if i < self.len {
             Some(self.get(i))
@@ -157,7 +181,7 @@ impl EliasFano {
     /// The low digits of each number, one number after another, and zeros after them.
     #[inline(always)]
     pub fn low_words(&self) -> &[u64]
-        ensures { IsLow self.now (width_of self.now) result.now }
+        ensures { IsLow self.now.items (width_of self.now.items) result.now }
     {
         self.low.as_slice()
     }
@@ -165,7 +189,7 @@ impl EliasFano {
     /// A one for each number, after as many zeros in all as the number says without its low digits.
     #[inline(always)]
     pub fn upper_words(&self) -> &[u64]
-        ensures { IsUpper self.now (width_of self.now) result.now }
+        ensures { IsUpper self.now.items (width_of self.now.items) result.now }
     {
         self.upper.as_slice()
     }
@@ -173,8 +197,8 @@ impl EliasFano {
     /// The low digits of each number, with no reads counted yet.
     #[inline(always)]
     pub fn low_digits(&self) -> LowDigits<'_>
-        ensures words { IsLow self.now (width_of self.now) result.words }
-        ensures width { result.width ≡ width_of self.now }
+        ensures words { IsLow self.now.items (width_of self.now.items) result.words }
+        ensures width { result.width ≡ width_of self.now.items }
         ensures read { result.read ≡ 0 }
     {
         LowDigits::new(self.low_words(), self.low_width())
@@ -183,7 +207,7 @@ impl EliasFano {
     /// A source over the upper words and the tables of their index, with no reads counted yet.
     #[inline(always)]
     pub fn probe(&self) -> Probe<'_>
-        ensures words { IsUpper self.now (width_of self.now) result.lists.words }
+        ensures words { IsUpper self.now.items (width_of self.now.items) result.lists.words }
         ensures tables { HasTables result.lists }
         ensures short { IsShort result.lists.words }
         ensures reads { result.reads ≡ none_read }
@@ -194,7 +218,7 @@ impl EliasFano {
     /// How many digits of each number are low ones, 0 to 63.
     #[inline(always)]
     pub fn low_width(&self) -> u8
-        ensures { result ≡ width_of self.now }
+        ensures { result ≡ width_of self.now.items }
     {
         self.width
     }
@@ -206,7 +230,7 @@ impl EliasFano {
     /// words and one over the low ones, and no selection.
     #[inline]
     pub fn iter(&self) -> Numbers<'_>
-        ensures { result ≡ self.now }
+        ensures { result ≡ self.now.items }
     {
         self.numbers(0, 0)
     }
@@ -219,8 +243,8 @@ impl EliasFano {
     /// One selection, and none where no number is left; then as `iter`.
     #[inline]
     pub fn iter_from(&self, place: usize) -> Numbers<'_>
-        requires { place ≤ length self.now }
-        ensures { result ≡ drop place self.now }
+        requires { place ≤ length self.now.items }
+        ensures { result ≡ drop place self.now.items }
     {
         self.numbers(place, self.first_bit(place))
     }
@@ -228,9 +252,9 @@ impl EliasFano {
     /// The numbers from number `place` on, whose ones begin at bit `first` of the upper words.
     #[inline(always)]
     fn numbers(&self, place: usize, first: usize) -> Numbers<'_>
-        requires order { place ≤ length self.now }
-        requires stand { StandFrom self.now (width_of self.now) place (length self.now) first }
-        ensures { result ≡ drop place self.now }
+        requires order { place ≤ length self.now.items }
+        requires stand { StandFrom self.now.items (width_of self.now.items) place (length self.now.items) first }
+        ensures { result ≡ drop place self.now.items }
     {
         let (low, upper) = (self.low_words(), self.upper_words());
         Numbers::new(low, upper, self.width, self.len, place, first)
@@ -239,8 +263,8 @@ impl EliasFano {
     /// A bit of the upper words after the ones of the numbers before `place`, and not after that of number `place`.
     #[inline(always)]
     fn first_bit(&self, place: usize) -> usize
-        requires { place ≤ length self.now }
-        ensures { StandFrom self.now (width_of self.now) place (length self.now) result }
+        requires { place ≤ length self.now.items }
+        ensures { StandFrom self.now.items (width_of self.now.items) place (length self.now.items) result }
     {
         if place < self.len {
             self.upper.select(place)
@@ -249,16 +273,40 @@ impl EliasFano {
         }
     }
 
+    /// The place of the first number with the upper digits of `v`, and the place after the last one; where there are
+    /// no such numbers, twice the place at which they would stand. Where no number has low digits, the second is
+    /// their count.
+    ///
+    /// # Cost
+    /// One selection of a zero, and the words from there up to the next zero.
+    #[inline(always)]
+    pub(crate) fn bucket(&self, v: u64) -> (usize, usize)
+        ensures ends { HasEnds self.now.items (width_of self.now.items) v result.0 result.1 }
+        ensures within { result.1 ≤ length self.now.items }
+    {
+        let above = (v >> self.width) as usize;
+        let Some(begin) = first_after(&self.upper, above) else {
+            return (self.len, self.len);
+        };
+        if self.width == 0 {
+            return (begin - above, self.len);
+        }
+        match words::find_bit_zero(self.upper.as_slice(), begin) {
+            Some(zero) => (begin - above, zero - above),
+            None => (begin - above, self.len),
+        }
+    }
+
     /// A sequence of the same numbers.
     ///
     /// # Errors
     /// `AllocError` if memory was refused; this value is as it was.
-    pub fn try_clone(&self, alloc: Global) -> Result<EliasFano, AllocError>
-        ensures { IfOk result (λ copy. copy ≡ self.now) }
+    pub fn try_clone(&self, alloc: Global) -> Result<Self, AllocError>
+        ensures { IfOk result (λ copy. copy.items ≡ self.now.items) }
     {
         let low = self.low.try_same(alloc)?;
         let upper = self.upper.try_clone(alloc)?;
-        Ok(EliasFano {
+        Ok(Sequence {
             len: self.len,
             width: self.width,
             low,
@@ -267,10 +315,12 @@ impl EliasFano {
     }
 }
 
-impl GetSize for EliasFano {
-    // both vectors, and eight bytes for each begun 2^32 bits and each begun 2048 bits of the upper one
-    ghost dyn_bytes = { λ xs. let l = width_of xs in let words = upper_words_of xs l in saturated
-        (8 * low_words_of xs l + 8 * words + 8 * div_ceil words (2 ^ 26) + 8 * div_ceil words 32) };
+impl<S: SelectForRank101111 + GetSize, S0: Select0ForRank101111 + GetSize> GetSize
+    for Sequence<S, S0> {
+    // both vectors, eight bytes for each begun 2^32 bits and each begun 2048 bits of the upper one, and the strategies
+    ghost dyn_bytes = { λ e. let l = width_of e.items in let words = upper_words_of e.items l in
+        saturated_size (8 * low_words_of e.items l + 8 * words + 8 * div_ceil words (2 ^ 26)
+        + 8 * div_ceil words 32 + S.dyn_bytes e.select + S0.dyn_bytes e.select0) };
 
     const USES_DYN_MEM: bool = true;
 
@@ -280,3 +330,12 @@ impl GetSize for EliasFano {
             .saturating_add(self.upper.size_bytes_dyn())
     }
 }
+
+/// Samples of the upper vector: one for each 2^13 ones or zeros, or fewer where there are fewer of these.
+type Sampled = CombinedSampling<AdaptiveCombinedSamplingDensity<13>>;
+
+/// A sequence that selects by samples, the fastest: what to take unless the reads of binary search are wanted.
+pub type EliasFano = Sequence<Sampled, Sampled>;
+
+/// A sequence that selects by binary search, with nothing kept beside the two vectors and the index.
+pub type BinaryEliasFano = Sequence<BinaryRankSearch, BinaryRankSearch>;

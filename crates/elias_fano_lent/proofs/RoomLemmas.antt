@@ -4,7 +4,7 @@ use Rattle.std.proofs.Math.Nat.{div-le_self}
 use Rattle.std.proofs.lemmas.Bool.{cases_eq}
 use Rattle.std.specs.Int.{div_ceil}
 use Rattle.bitm.specs.Tables.{HasSizes}
-use Rattle.bitm_lent.specs.Sizes.{listed}
+use Rattle.bitm_lent.specs.Sizes.{lists_of}
 use Rattle.elias_fano.proofs.lemmas.SizeLemmas.{few_of_some, upper_few_at}
 use Rattle.elias_fano.specs.Parts.{width_at, width_of, upper_words_of, IsUpper}
 use Rattle.elias_fano.specs.Sequence.{largest}
@@ -36,7 +36,7 @@ module _ (xs low words upper lower : List ℕ) (l : ℕ) (h : HasRoom xs low wor
   upper-words-few = omega (arith, h.short, upper_few_at xs l (largest xs) width refl)
 
   -- and the tables have room for theirs
-  pub room-sizes : (made : List ℕ) → IsUpper xs l made → HasSizes (listed made upper lower)
+  pub room-sizes : (made : List ℕ) → IsUpper xs l made → HasSizes (lists_of made upper lower)
   room-sizes made is =
       let same : length made ≡ upper_words_of xs (width_of xs) = is.words ∙ ap (upper_words_of xs) width in
       record {

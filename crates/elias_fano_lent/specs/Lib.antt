@@ -7,7 +7,7 @@ pub use Rattle.bitm.specs.Count
 pub use Rattle.bitm.specs.Number
 pub use Rattle.bitm.specs.Tables
 pub use Rattle.elias_fano.specs.Answers
-pub use Rattle.elias_fano.specs.Held
+pub use Rattle.elias_fano.specs.LentParts
 pub use Rattle.elias_fano.specs.Low
 pub use Rattle.elias_fano.specs.Parts
 pub use Rattle.elias_fano.specs.Sequence

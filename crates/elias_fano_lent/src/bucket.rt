@@ -1,14 +1,14 @@
 //! The first number that reaches a value, of which lists of selections tell the ends of the bucket: the numbers with the
 //! value's upper digits.
-ghost use Rattle.std.specs.Prelude.{◌≡◌, ◌-◌, ◌/◌, ◌^◌, ◌<◌, ◌≤◌, ℕ, List, length, slice_index, false};
-ghost use Rattle.std.specs.Prelude.{IfSome, MatchOption};
+ghost use Rattle.std.specs.Prelude.{◌≡◌, ◌-◌, ◌/◌, ◌^◌, ◌<◌, ◌≤◌, ℕ, List, length, slice_index, false, IsSomeAnd};
+ghost use Rattle.std.specs.Prelude.{IfSome};
 ghost use Rattle.bitm.specs.Answers.{SelectTold};
 ghost use Rattle.bitm.specs.Bits.{digit_count, IsShort};
 ghost use Rattle.bitm.specs.Tables.{HasTables, Lists};
 ghost use Rattle.elias_fano.specs.Buckets.{CountsTo, CountsBelow};
 ghost use Rattle.elias_fano.specs.Parts.{IsUpper};
 ghost use Rattle.elias_fano_lent.specs.Answers.{IsFirst, IsPlaceOf};
-ghost use Rattle.elias_fano_lent.specs.Held.{held_by, Holds};
+ghost use Rattle.elias_fano_lent.specs.LentParts.{parts_with, Holds};
 ghost use Rattle.elias_fano_lent.specs.Lists.{EndsTold};
 ghost use Rattle.elias_fano_lent.specs.Low.{sharing, HasFragments, ReadsFragments};
 ghost use Rattle.elias_fano_lent.specs.Told.{IfPlace, TellsBelow, TellsLess, TellsTo};
@@ -40,7 +40,7 @@ fn count_to(told: usize, above: usize, n: usize) -> Option<usize>
         → IfSome result (TellsTo upper n above) }
     ensures count { (xs : List ℕ) (l : ℕ) (upper : Lists) → IsUpper xs l upper.words
         → HasTables upper → IsShort upper.words → n ≡ length xs → SelectTold false upper above told
-        → MatchOption result ⊥ (CountsTo xs l above) }
+        → IsSomeAnd result (CountsTo xs l above) }
 {
     if told == NO_ANSWER {
         return Some(n);
@@ -60,7 +60,7 @@ fn count_below(told: usize, above: usize, n: usize) -> Option<usize>
     ensures count { (xs : List ℕ) (l : ℕ) (upper : Lists) → IsUpper xs l upper.words
         → HasTables upper → IsShort upper.words → n ≡ length xs
         → (0 < above → SelectTold false upper (above - 1) told)
-        → MatchOption result ⊥ (CountsBelow xs l above) }
+        → IsSomeAnd result (CountsBelow xs l above) }
 {
     if above == 0 {
         return Some(0);
@@ -80,13 +80,13 @@ pub(crate) fn place_of(
 ) -> Sought<usize>
     requires { HasFragments low.old n }
     ensures inside { IsPlaceOf n result }
-    ensures told { (upper : Lists) → EndsTold (held_by n low.old upper) v begin end
-        → IfPlace n result (TellsLess (held_by n low.old upper) v) }
-    ensures answer { (xs : List ℕ) (upper : Lists) → Holds xs (held_by n low.old upper)
-        → EndsTold (held_by n low.old upper) v begin end → IsFirst xs v result }
+    ensures told { (upper : Lists) → EndsTold (parts_with n low.old upper) v begin end
+        → IfPlace n result (TellsLess (parts_with n low.old upper) v) }
+    ensures answer { (xs : List ℕ) (upper : Lists) → Holds xs (parts_with n low.old upper)
+        → EndsTold (parts_with n low.old upper) v begin end → IsFirst xs v result }
     ensures fragments { ReadsFragments low.old low.new (digit_count n) }
-    ensures shared { (xs : List ℕ) (upper : Lists) → Holds xs (held_by n low.old upper)
-        → EndsTold (held_by n low.old upper) v begin end
+    ensures shared { (xs : List ℕ) (upper : Lists) → Holds xs (parts_with n low.old upper)
+        → EndsTold (parts_with n low.old upper) v begin end
         → ReadsFragments low.old low.new (digit_count (sharing xs low.old.width v)) }
 {
     let width = low.width();

@@ -9,9 +9,9 @@ ghost use Rattle.elias_fano.specs.Parts.{ArePartsOf, HasFragment};
 ghost use Rattle.elias_fano_lent.specs.Checks.{AreNumbers};
 
 use crate::sizes::Sizes;
-use bitm::words as slices;
+use bitm::words;
 use elias_fano::LowDigits;
-use elias_fano::building::joined;
+use elias_fano::building::join_digits;
 
 /// Number `at`, whose one stands at `place`, if it is below 2^64.
 #[inline(always)]
@@ -27,7 +27,7 @@ fn number_of(place: usize, low: &mut LowDigits<'_>, at: usize) -> Option<u64>
     if width > 0 && (above as u64) >> (64 - width) != 0 {
         return None;
     }
-    Some(joined(above, low, at))
+    Some(join_digits(above, low, at))
 }
 
 /// The last of `n` numbers, 0 where there is none, if the ones of the words and the low digits are those of `n` numbers
@@ -37,7 +37,7 @@ fn last_of(words: &[u64], low: &mut LowDigits<'_>, n: usize) -> Option<u64>
     requires short { IsShort words.now }
     requires some { HasFragments low.old n }
     ensures last { MatchOption result
-        ((xs : List ℕ) → ArePartsOf xs n low.old.width low.old.words words.now → ⊥)
+        ((xs : List ℕ) → ¬ (ArePartsOf xs n low.old.width low.old.words words.now))
         (λ last. AreNumbers low.old.width low.old.words words.now n last
         × (ones_of (bits_of words.now) ≡ n)) }
     ensures fragments { ReadsFragments low.old low.new n }
@@ -45,7 +45,7 @@ fn last_of(words: &[u64], low: &mut LowDigits<'_>, n: usize) -> Option<u64>
     let mut from = 0;
     let mut last = 0;
     for at in 0..n {
-        let place = match slices::find_bit_one(words, from) {
+        let place = match words::find_bit_one(words, from) {
             Some(place) => place,
             None => return None,
         };
@@ -59,7 +59,7 @@ fn last_of(words: &[u64], low: &mut LowDigits<'_>, n: usize) -> Option<u64>
         from = place + 1;
         last = number;
     }
-    match slices::find_bit_one(words, from) {
+    match words::find_bit_one(words, from) {
         Some(_) => None,
         None => Some(last),
     }
@@ -81,7 +81,7 @@ pub(crate) fn are_parts(words: &[u64], low: &[u64], width: u8, n: usize) -> bool
     if sizes.width != width || sizes.words != words.len() {
         return false;
     }
-    match slices::find_bit_one(low, n * width as usize) {
+    match words::find_bit_one(low, n * width as usize) {
         Some(_) => false,
         None => true,
     }

@@ -1,11 +1,11 @@
 //! The parts of a sequence, made into memory that is lent.
 ghost use Rattle.std.specs.Prelude.{◌≡◌, ◌^◌, ◌<◌, ◌≤◌, ◌↔◌, IsErrOf, IfOk, IsErr, IsTrue, SomeIff, length};
 ghost use Rattle.std.specs.Prelude.{replicate};
-ghost use Rattle.bitm_lent.specs.Sizes.{listed};
+ghost use Rattle.bitm_lent.specs.Sizes.{lists_of};
 ghost use Rattle.std.specs.List.Sorted.{IsNonDecreasing};
 ghost use Rattle.elias_fano.specs.Parts.{width_of, upper_words_of, IsUpper};
 ghost use Rattle.elias_fano.specs.Sequence.{HasFall};
-ghost use Rattle.elias_fano_lent.specs.Held.{held, Holds};
+ghost use Rattle.elias_fano_lent.specs.LentParts.{parts_of, Holds};
 ghost use Rattle.elias_fano_lent.specs.Sizes.{HasRoom};
 
 use crate::error::BuildError;
@@ -80,9 +80,9 @@ pub fn build(
 ) -> Result<u8, BuildError>
     ensures width { IfOk result (λ l. l ≡ width_of items.now) }
     ensures parts { IfOk result (λ l. Holds items.now
-        (held (length items.now) l low.new (listed words.new upper.new lower.new))) }
+        (parts_of (length items.now) l low.new (lists_of words.new upper.new lower.new))) }
     ensures wrong_length { IsErrOf result BuildError.WrongLength
-        ↔ (HasRoom items.now low.old words.old upper.old lower.old → ⊥) }
+        ↔ ¬ (HasRoom items.now low.old words.old upper.old lower.old) }
     ensures not_sorted { IsErrOf result BuildError.NotSorted
         ↔ (HasRoom items.now low.old words.old upper.old lower.old × HasFall items.now) }
     ensures kept { IsErr result → (low.new ≡ low.old) × (words.new ≡ words.old)

@@ -29,6 +29,6 @@ mod sizes;
 pub use elias_fano::{Sought, total_first_at_least_on, total_item_on};
 pub use error::BuildError;
 pub use filling::build;
-pub use lists::Listed;
+pub use lists::ListAnswer;
 pub use sequence::LentSequence;
 pub use sizes::Sizes;

@@ -1,7 +1,7 @@
 //! The numbers of a list of places.
 ghost use Rattle.std.specs.Prelude.{◌≡◌, ◌<◌, ◌↔◌, ℕ, IsTrue, List, length, slice_index, false};
-ghost use Rattle.elias_fano_lent.specs.Held.{Holds};
-ghost use Rattle.elias_fano_lent.specs.Lists.{written, AreItems, EndsTold, IsKeptFrom, IsListed, IsNeverWrong};
+ghost use Rattle.elias_fano_lent.specs.LentParts.{Holds};
+ghost use Rattle.elias_fano_lent.specs.Lists.{written_count, AreItems, EndsTold, IsKeptFrom, IsListed, IsNeverWrong};
 ghost use Rattle.elias_fano_lent.specs.Lists.{PlaceTold};
 
 use crate::sequence::LentSequence;
@@ -11,7 +11,7 @@ use elias_fano::Sought;
 
 /// How far a list of places was answered.
 #[derive(Clone, Copy, PartialEq, Eq, Debug)]
-pub enum Listed {
+pub enum ListAnswer {
     /// All numbers were written.
     All,
     /// At this place of the list stands one at which there is no number; the numbers before it were written.
@@ -26,26 +26,26 @@ pub enum Listed {
 impl<'a> LentSequence<'a> {
     /// Writes the number at each place of the list, as `get` answers it where the parts are those of a sequence, up to
     /// the first that is not found. In other parts a number may be another than `get` finds.
-    pub fn get_list(&self, places: &[usize], out: &mut [u64]) -> Listed
+    pub fn get_list(&self, places: &[usize], out: &mut [u64]) -> ListAnswer
         ensures listed { IsListed self.now.len places.now (length out.old) result }
         ensures told { (xs : List ℕ) → Holds xs self.now
-            → AreItems xs places.now (written (length places.now) result) out.new }
+            → AreItems xs places.now (written_count (length places.now) result) out.new }
         ensures right { (xs : List ℕ) → Holds xs self.now → IsNeverWrong result }
-        ensures kept { IsKeptFrom (written (length places.now) result) out.old out.new }
+        ensures kept { IsKeptFrom (written_count (length places.now) result) out.old out.new }
     {
         if out.len() != places.len() {
-            return Listed::WrongLength;
+            return ListAnswer::WrongLength;
         }
         let mut ones = [0; SIDE_BY_SIDE];
         for at in 0..places.len() {
             self.select_ahead(places, at, &mut ones);
             match self.item_told(places[at], ones[at % SIDE_BY_SIDE]) {
                 Sought::Found(number) => out[at] = number,
-                Sought::Absent => return Listed::AbsentAt(at),
-                Sought::WrongParts => return Listed::WrongAt(at),
+                Sought::Absent => return ListAnswer::AbsentAt(at),
+                Sought::WrongParts => return ListAnswer::WrongAt(at),
             }
         }
-        Listed::All
+        ListAnswer::All
     }
 
     /// Writes the place of the first number that is at least each value, as `first_at_least` answers it where the parts

@@ -1,11 +1,11 @@
 //! A sequence whose parts are lent.
-ghost use Rattle.std.specs.Prelude.{◌≡◌, ◌+◌, ◌*◌, ◌/◌, ◌^◌, ◌<◌, ◌≤◌, ◌↔◌, ℕ};
-ghost use Rattle.std.specs.Prelude.{IsTrue, List, MatchOption, length, slice_index, true};
+ghost use Rattle.std.specs.Prelude.{◌≡◌, ◌+◌, ◌*◌, ◌/◌, ◌^◌, ◌<◌, ◌≤◌, ◌↔◌, ℕ, SomeIff};
+ghost use Rattle.std.specs.Prelude.{IsTrue, List, length, slice_index, true};
 ghost use Rattle.bitm.specs.Answers.{SelectTold};
 ghost use Rattle.bitm.specs.Tables.{Lists};
 ghost use Rattle.elias_fano.specs.Parts.{HasFragment};
 ghost use Rattle.elias_fano_lent.specs.Answers.{IsFirst, IsItem, IsOfPlace, IsPlaceOf};
-ghost use Rattle.elias_fano_lent.specs.Held.{held, held_by, HasLengths, Holds};
+ghost use Rattle.elias_fano_lent.specs.LentParts.{parts_of, parts_with, AreParts, HasLengths, Holds};
 ghost use Rattle.elias_fano_lent.specs.Lists.{AreAhead, AreZerosAhead, EndsTold, ZeroTold};
 ghost use Rattle.elias_fano_lent.specs.Low.{unread, ReadsFragments};
 ghost use Rattle.elias_fano_lent.specs.Told.{IfPlace, TellsLess};
@@ -26,7 +26,7 @@ use std::marker::Model;
 fn item_of(low: &mut LowDigits<'_>, n: usize, place: usize, one: usize) -> Sought<u64>
     requires { place < n → HasFragment low.old.words place low.old.width }
     ensures inside { IsOfPlace n place result }
-    ensures answer { (xs : List ℕ) (upper : Lists) → Holds xs (held_by n low.old upper)
+    ensures answer { (xs : List ℕ) (upper : Lists) → Holds xs (parts_with n low.old upper)
         → SelectTold true upper place one → IsItem xs place result }
     ensures fragments { ReadsFragments low.old low.new 1 }
 {
@@ -53,13 +53,13 @@ pub struct LentSequence<'a> {
 }
 
 impl<'a> Model for LentSequence<'a> {
-    ghost use Rattle.elias_fano_lent.specs.Held.{held, HasLengths, Held};
+    ghost use Rattle.elias_fano_lent.specs.LentParts.{parts_of, HasLengths, LentParts};
 
-    ghost Value = { Held };
+    ghost Value = { LentParts };
 
-    ghost view = { λ s. held s.len s.width s.low.now s.upper };
+    ghost view = { λ s. parts_of s.len s.width s.low.now s.upper };
 
-    ghost invariant = { λ s. HasLengths (held s.len s.width s.low.now s.upper) };
+    ghost invariant = { λ s. HasLengths (parts_of s.len s.width s.low.now s.upper) };
 }
 
 impl<'a> LentSequence<'a> {
@@ -67,8 +67,8 @@ impl<'a> LentSequence<'a> {
     /// where there are 2^56 numbers or more, more than 63 low digits, or not as many low words as these take.
     #[inline(always)]
     pub fn over(len: usize, width: u8, low: &'a [u64], upper: Lent<'a>) -> Option<LentSequence<'a>>
-        ensures { MatchOption result (HasLengths (held len width low.now upper.entry) → ⊥)
-            (λ lent. (lent ≡ held len width low.now upper.entry) × HasLengths lent) }
+        ensures { SomeIff result (HasLengths (parts_of len width low.now upper.entry))
+            (parts_of len width low.now upper.entry) }
     {
         if len >= 1 << 56 || width > 63 {
             return None;
@@ -96,7 +96,7 @@ impl<'a> LentSequence<'a> {
     /// Whether the parts are those of some sequence, with the tables of its upper words: one pass over the upper words
     /// for the tables, and one more for the numbers, with a fragment of the low words for each.
     pub fn check(&self) -> bool
-        ensures { IsTrue result ↔ ((xs : List ℕ) × Holds xs self.now) }
+        ensures { IsTrue result ↔ AreParts self.now }
     {
         self.upper.check() && are_parts(self.upper.words(), self.low, self.width, self.len)
     }

@@ -1,5 +1,5 @@
 //! How long the parts of a sequence are.
-ghost use Rattle.std.specs.Prelude.{◌≡◌, ◌+◌, ◌*◌, ◌≤◌, IfSome, MatchOption};
+ghost use Rattle.std.specs.Prelude.{◌≡◌, ◌+◌, ◌*◌, ◌≤◌, IfSome, SomeIff};
 ghost use Rattle.elias_fano_lent.specs.Sizes.{sizes_of, IsLargest};
 
 use bitm_lent::{lower_len, upper_len};
@@ -27,10 +27,9 @@ impl Sizes {
     /// Both vectors together have at most `len * (width + 3) + 126` bits.
     #[inline]
     pub fn of(len: usize, largest: u64) -> Option<Sizes>
-        ensures sizes { MatchOption result (IsLargest len largest → ⊥)
-            (λ made. IsLargest len largest × (made ≡ sizes_of len largest)) }
-        ensures few { IfSome result (λ made.
-            64 * (made.low + made.words) ≤ len * (made.width + 3) + 126) }
+        ensures sizes { SomeIff result (IsLargest len largest) (sizes_of len largest) }
+        ensures few { IfSome result (λ sizes.
+            64 * (sizes.low + sizes.words) ≤ len * (sizes.width + 3) + 126) }
     {
         if len >= 1 << 56 {
             return None;

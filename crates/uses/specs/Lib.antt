@@ -1,3 +1,4 @@
 pub mod Guard
 pub mod Inverted
+pub mod Numbered
 pub mod Primes

@@ -1,7 +1,7 @@
 //! A density of samples as a user of the library writes it.
 ghost use Rattle.std.specs.Prelude.{◌+◌, ◌/◌, min};
 ghost use Rattle.std.proofs.Common.{rules};
-ghost use Rattle.bitm.specs.Density.{within};
+ghost use Rattle.bitm.specs.Density.{clamped_log};
 
 use bitm::CombinedSamplingDensity;
 
@@ -13,7 +13,7 @@ pub struct ByLength;
 impl CombinedSamplingDensity for ByLength {
     type SamplingDensity = u8;
 
-    ghost log = { λ density. within density };
+    ghost log = { λ density. clamped_log density };
 
     ghost chosen = { λ _ len. 7 + min (len / 1024) 24 };
 

@@ -10,10 +10,10 @@ use std::alloc::{AllocError, Global};
 
 /// The place from which on numbers are at least `number`, which may be the one after all.
 fn place_from(list: &EliasFano, number: u64) -> usize
-    ensures bound { result ≤ length list.now }
-    ensures less { (k : ℕ) → k < result → slice_index list.now k < number }
-    ensures reached { (k : ℕ) → result ≤ k → k < length list.now
-        → number ≤ slice_index list.now k }
+    ensures bound { result ≤ length list.now.items }
+    ensures less { (k : ℕ) → k < result → slice_index list.now.items k < number }
+    ensures reached { (k : ℕ) → result ≤ k → k < length list.now.items
+        → number ≤ slice_index list.now.items k }
 {
     laws::numbers_rise(list);
     match list.first_at_least(number) {
@@ -27,7 +27,7 @@ fn place_from(list: &EliasFano, number: u64) -> usize
 /// # Errors
 /// `AllocError` if no memory was found.
 pub fn common(alloc: Global, one: &EliasFano, other: &EliasFano) -> Result<Vec<u64>, AllocError>
-    ensures { IfOk result (λ found. AreCommon one.now other.now found.items) }
+    ensures { IfOk result (λ found. AreCommon one.now.items other.now.items found.items) }
 {
     laws::numbers_rise(one);
     laws::numbers_rise(other);

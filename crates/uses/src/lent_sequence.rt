@@ -1,7 +1,7 @@
 //! The parts of a sequence that came from elsewhere and may be wrong: tried once, and asked.
 ghost use Rattle.std.specs.Prelude.{◌≡◌, ◌<◌, ◌≤◌, ◌↔◌, ℕ, List, IfOk, IsErr, MatchOption};
 ghost use Rattle.std.specs.List.{All, Contains};
-ghost use Rattle.elias_fano_lent.specs.Held.{Holds};
+ghost use Rattle.elias_fano_lent.specs.LentParts.{AreParts, Holds};
 
 use elias_fano_lent::{LentSequence, Sought};
 
@@ -17,8 +17,7 @@ pub fn least_from(sequence: &LentSequence<'_>, v: u64) -> Result<Option<u64>, No
     ensures found { (xs : List ℕ) → Holds xs sequence.now → IfOk result
         (λ o. MatchOption o (All (λ x. x < v) xs)
         (λ y. Contains xs y × (v ≤ y) × All (λ x. v ≤ x → y ≤ x) xs)) }
-    ensures refused { IsErr result
-        ↔ (((xs : List ℕ) × Holds xs sequence.now) → ⊥) }
+    ensures refused { IsErr result ↔ ¬ (AreParts sequence.now) }
 {
     if !sequence.check() {
         return Err(NoSequence);

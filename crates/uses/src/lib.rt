@@ -11,11 +11,14 @@
 //! | relate rank and selection in code that is generic over the index | `inverse` |
 //! | intersect two lists of rising numbers | `inverted` |
 //! | number the members of a set densely, and find a member by its number | `dense` |
+//! | keep values by the numbers of a perfect hash | `numbered` |
 //! | keep several vectors in one content, under one index | `stretches` |
 //! | test a condition and then call | `asking` |
 //! | test a bit and rank it, in code that is generic over the index or the source | `bits_and_ranks` |
 //! | find the run of ones round a place, and a member of a range | `neighbours` |
 //! | ask for many places at once | `many` |
+//! | take the median of a range | `median` |
+//! | go up and down a tree | `family` |
 //! | know what a call reads | `counted` |
 //! | rank and select over tables of one's own | `source` |
 //! | ask tables that came with the words and may be wrong | `lent` |
@@ -31,13 +34,16 @@ pub mod bits_and_ranks;
 pub mod counted;
 pub mod dense;
 pub mod density;
+pub mod family;
 pub mod inverse;
 pub mod inverted;
 pub mod iterating;
 pub mod lent;
 pub mod lent_sequence;
 pub mod many;
+pub mod median;
 pub mod neighbours;
+pub mod numbered;
 pub mod owned;
 pub mod ranked;
 pub mod readme;

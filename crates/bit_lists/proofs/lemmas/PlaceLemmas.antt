@@ -10,7 +10,7 @@ use Rattle.bit_lists.proofs.lemmas.PickLemmas.{length-places}
 use Rattle.bit_lists.proofs.lemmas.WordLemmas.{bit_at-lowest_cleared_same, bit_at-lowest_cleared_other}
 use Rattle.bit_lists.specs.Bits.{low_digits, bits_of, item}
 use Rattle.bit_lists.specs.Coming.{word_of, coming}
-use Rattle.bit_lists.specs.Count.{count_of, places, kind}
+use Rattle.bit_lists.specs.Count.{count_of, places, as_bit}
 
 -- ---- lists
 
@@ -75,44 +75,44 @@ no_places k =
     (λ i l. item-low_digits 64 0 i (omega (arith, length-low_digits 64 0)) ∙ ap (λ d. eqb d 1) (bit_at-zero i))
 
 pub coming_end : (v first : ℕ) → coming v first 0 [] ≡ []
-coming_end v first = ap₂ (λ a b. a ++ places (kind v) (first + 64) b) (no_places first) bits_of-nil
+coming_end v first = ap₂ (λ a b. a ++ places (as_bit v) (first + 64) b) (no_places first) bits_of-nil
 
-negated : (d e : ℕ) → d < 2 → e ≡ 1 - d → eqb e 1 ≡ not (eqb d 1)
-negated zero e l is = ap (λ x. eqb x 1) is
-negated (suc zero) e l is = ap (λ x. eqb x 1) is
-negated (suc (suc d)) e l is = absurd (omega arith)
+negation : (d e : ℕ) → d < 2 → e ≡ 1 - d → eqb e 1 ≡ not (eqb d 1)
+negation zero e l is = ap (λ x. eqb x 1) is
+negation (suc zero) e l is = ap (λ x. eqb x 1) is
+negation (suc (suc d)) e l is = absurd (omega arith)
 
 -- the zeros of a word are the ones of its complement
-places_of_word : (v k w : ℕ) → w < 2 ^ 64 → places (kind v) k (low_digits 64 w) ≡ places true k (low_digits 64 (word_of v w))
+places_of_word : (v k w : ℕ) → w < 2 ^ 64 → places (as_bit v) k (low_digits 64 w) ≡ places true k (low_digits 64 (word_of v w))
 places_of_word zero k w fits =
     places_negated k (low_digits 64 w) (low_digits 64 (bit_not w64 w)) (length-low_digits 64 (bit_not w64 w) ∙ sym (length-low_digits 64 w))
     (λ i l.
     let low : i < 64 = omega (arith, length-low_digits 64 w) in
     item-low_digits 64 (bit_not w64 w) i low
-    ∙ negated (bit_at w i) (bit_at (bit_not w64 w) i) (bit_at-lt w i) (bit_at_not w64 w i fits low)
+    ∙ negation (bit_at w i) (bit_at (bit_not w64 w) i) (bit_at-lt w i) (bit_at_not w64 w i fits low)
     ∙ ap not (sym (item-low_digits 64 w i low)))
 places_of_word (suc v) k w fits = refl
 
 -- the places in a content, by its first word
-pub places-cons : (v k w : ℕ) (rest : List ℕ) → w < 2 ^ 64 → places (kind v) k (bits_of (w ∷ rest)) ≡ coming v k (word_of v w) rest
+pub places-cons : (v k w : ℕ) (rest : List ℕ) → w < 2 ^ 64 → places (as_bit v) k (bits_of (w ∷ rest)) ≡ coming v k (word_of v w) rest
 places-cons v k w rest fits =
-    ap (places (kind v) k) (bits_of-cons w rest)
-    ∙ places-append (kind v) k (low_digits 64 w) (bits_of rest)
-    ∙ ap₂ (λ l n. l ++ places (kind v) (k + n) (bits_of rest)) (places_of_word v k w fits) (length-low_digits 64 w)
+    ap (places (as_bit v) k) (bits_of-cons w rest)
+    ∙ places-append (as_bit v) k (low_digits 64 w) (bits_of rest)
+    ∙ ap₂ (λ l n. l ++ places (as_bit v) (k + n) (bits_of rest)) (places_of_word v k w fits) (length-low_digits 64 w)
 
-pub places_nil : (v k : ℕ) → places (kind v) k (bits_of []) ≡ []
-places_nil v k = ap (places (kind v) k) bits_of-nil
+pub places_nil : (v k : ℕ) → places (as_bit v) k (bits_of []) ≡ []
+places_nil v k = ap (places (as_bit v) k) bits_of-nil
 
 -- where nothing is left of the current word, the next word comes
 pub coming_turn : (v first w : ℕ) (rest : List ℕ) → w < 2 ^ 64 → coming v first 0 (w ∷ rest) ≡ coming v (first + 64) (word_of v w) rest
 coming_turn v first w rest fits =
-    ap (λ l. l ++ places (kind v) (first + 64) (bits_of (w ∷ rest))) (no_places first) ∙ places-cons v (first + 64) w rest fits
+    ap (λ l. l ++ places (as_bit v) (first + 64) (bits_of (w ∷ rest))) (no_places first) ∙ places-cons v (first + 64) w rest fits
 
 -- the lowest one of the current word comes first
 pub coming_next : (v first current : ℕ) (rest : List ℕ) → 0 < current → current < 2 ^ 64
     → coming v first current rest ≡ (first + trailing_zeros w64 current) ∷ coming v first (bit_and current (current - 1)) rest
 coming_next v first current rest some fits =
-    ap (λ l. l ++ places (kind v) (first + 64) (bits_of rest))
+    ap (λ l. l ++ places (as_bit v) (first + 64) (bits_of rest))
     (places_first first t b c (length-low_digits 64 after ∙ sym (length-low_digits 64 current))
     (omega (arith, low, length-low_digits 64 current))
     (item-low_digits 64 current t low ∙ ap (λ d. eqb d 1) lowest.1)
@@ -164,11 +164,11 @@ length-places_word k w fits =
     only (suc j) = omega arith
 
 pub length-coming : (v first current : ℕ) (rest : List ℕ) → current < 2 ^ 64
-    → length (coming v first current rest) ≡ count_ones current + count_of (bits_of rest) (kind v)
+    → length (coming v first current rest) ≡ count_ones current + count_of (bits_of rest) (as_bit v)
 length-coming v first current rest fits =
     omega (
       arith,
-      length-append (places true first (low_digits 64 current)) (places (kind v) (first + 64) (bits_of rest)),
+      length-append (places true first (low_digits 64 current)) (places (as_bit v) (first + 64) (bits_of rest)),
       length-places_word first current fits,
-      length-places (kind v) (first + 64) (bits_of rest),
+      length-places (as_bit v) (first + 64) (bits_of rest),
     )

@@ -1,7 +1,7 @@
 //! Samples of lent words, and selection by them.
 ghost use Rattle.std.specs.Prelude.{◌≡◌, ◌<◌, ◌≤◌, ℕ, length, slice_index, take, IfSome, IsNone, MatchOption, true, false};
-ghost use Rattle.bit_lists.specs.Count.{kind};
-ghost use Rattle.bitm.specs.Density.{within};
+ghost use Rattle.bit_lists.specs.Count.{as_bit};
+ghost use Rattle.bitm.specs.Density.{clamped_log};
 ghost use Rattle.bitm_search.specs.Tables.{HasSizes, HasTables, bits_in};
 ghost use Rattle.bitm_search.specs.Told.{IfAbsent, TellsNone};
 ghost use Rattle.bitm_search.specs.Answers.{HasBit, IsSelected};
@@ -9,9 +9,8 @@ ghost use Rattle.bitm_lent.specs.Samples.{AreSamples, AreSamplesOf, HasRoom, IsS
 
 use crate::lent::Lent;
 use crate::sampled::sampled_select_on;
-use crate::samples::{Density, LentSamples, samples_len};
+use crate::samples::{LentSamples, clamped_log, samples_len};
 use crate::sampling::fill_all;
-use bitm::CombinedSamplingDensity;
 use bitm::samples::Summary;
 use bitm_search::search::selected::Selected;
 use bitm_search::source::Probe;
@@ -34,17 +33,17 @@ impl<'a> Lent<'a> {
         starts: &mut [usize],
     ) -> Option<usize>
         ensures room { MatchOption result
-            (HasRoom self.now log2 samples.old starts.old → ⊥)
+            (¬ (HasRoom self.now log2 samples.old starts.old))
             (λ used. HasRoom self.now log2 samples.old starts.old
             × (used ≤ length samples.old)) }
         ensures made { IfSome result (λ used. HasTables self.now → AreSamples (bits_in self.now)
-            true (within log2) (take used samples.new) starts.new) }
+            true (clamped_log log2) (take used samples.new) starts.new) }
         ensures behind { IfSome result (λ used. (j : ℕ) → used ≤ j
             → slice_index samples.new j ≡ slice_index samples.old j) }
         ensures kept { IsNone result
             → (samples.new ≡ samples.old) × (starts.new ≡ starts.old) }
     {
-        self.build_kind::<1>(log2, samples, starts)
+        self.build_bit::<1>(log2, samples, starts)
     }
 
     /// Writes the samples of zeros, as `build_samples` those of ones.
@@ -58,32 +57,32 @@ impl<'a> Lent<'a> {
         starts: &mut [usize],
     ) -> Option<usize>
         ensures room { MatchOption result
-            (HasRoom self.now log2 samples.old starts.old → ⊥)
+            (¬ (HasRoom self.now log2 samples.old starts.old))
             (λ used. HasRoom self.now log2 samples.old starts.old
             × (used ≤ length samples.old)) }
         ensures made { IfSome result (λ used. HasTables self.now → AreSamples (bits_in self.now)
-            false (within log2) (take used samples.new) starts.new) }
+            false (clamped_log log2) (take used samples.new) starts.new) }
         ensures behind { IfSome result (λ used. (j : ℕ) → used ≤ j
             → slice_index samples.new j ≡ slice_index samples.old j) }
         ensures kept { IsNone result
             → (samples.new ≡ samples.old) × (starts.new ≡ starts.old) }
     {
-        self.build_kind::<0>(log2, samples, starts)
+        self.build_bit::<0>(log2, samples, starts)
     }
 
     /// The samples of one kind of bits.
-    fn build_kind<const ONE: u8>(
+    fn build_bit<const BIT: u8>(
         &self,
         log2: u8,
         samples: &mut [u32],
         starts: &mut [usize],
     ) -> Option<usize>
         ensures room { MatchOption result
-            (HasRoom self.now log2 samples.old starts.old → ⊥)
+            (¬ (HasRoom self.now log2 samples.old starts.old))
             (λ used. HasRoom self.now log2 samples.old starts.old
             × (used ≤ length samples.old)) }
         ensures made { IfSome result (λ used. HasTables self.now → AreSamples (bits_in self.now)
-            (kind ONE) (within log2) (take used samples.new) starts.new) }
+            (as_bit BIT) (clamped_log log2) (take used samples.new) starts.new) }
         ensures behind { IfSome result (λ used. (j : ℕ) → used ≤ j
             → slice_index samples.new j ≡ slice_index samples.old j) }
         ensures kept { IsNone result
@@ -102,8 +101,8 @@ impl<'a> Lent<'a> {
             total,
             len,
         };
-        let log2 = Density::items_per_sample_log2(log2);
-        Some(fill_all::<ONE>(&summary, log2, samples, starts))
+        let log2 = clamped_log(log2);
+        Some(fill_all::<BIT>(&summary, log2, samples, starts))
     }
 
     /// The place of the one with exactly `rank` ones before it, by samples of the ones.
@@ -125,7 +124,7 @@ impl<'a> Lent<'a> {
             → IsSelected (bits_in self.now) true rank result }
         ensures none { IfAbsent result (TellsNone true self.now rank) }
     {
-        self.sampled_kind::<1>(samples, rank)
+        self.sampled_bit::<1>(samples, rank)
     }
 
     /// The place of the zero with exactly `rank` zeros before it, by samples of the zeros, as `sampled_select`.
@@ -141,26 +140,26 @@ impl<'a> Lent<'a> {
             → IsSelected (bits_in self.now) false rank result }
         ensures none { IfAbsent result (TellsNone false self.now rank) }
     {
-        self.sampled_kind::<0>(samples, rank)
+        self.sampled_bit::<0>(samples, rank)
     }
 
-    /// The place of the one with exactly `rank` ones before it; zeros in place of ones where `ONE` is 0.
+    /// The place of the one with exactly `rank` ones before it; zeros in place of ones where `BIT` is 0.
     #[inline(always)]
-    pub(crate) fn sampled_kind<const ONE: u8>(
+    pub(crate) fn sampled_bit<const BIT: u8>(
         &self,
         samples: &LentSamples<'_>,
         rank: usize,
     ) -> Selected
         ensures sized { HasSizes self.now }
-        ensures bit { HasBit (bits_in self.now) (kind ONE) result }
+        ensures bit { HasBit (bits_in self.now) (as_bit BIT) result }
         ensures told { HasTables self.now
-            → IsSelectedIfTold (bits_in self.now) (kind ONE) rank result }
+            → IsSelectedIfTold (bits_in self.now) (as_bit BIT) rank result }
         ensures answer { HasTables self.now
-            → AreSamplesOf (bits_in self.now) (kind ONE) samples.now
-            → IsSelected (bits_in self.now) (kind ONE) rank result }
-        ensures none { IfAbsent result (TellsNone (kind ONE) self.now rank) }
+            → AreSamplesOf (bits_in self.now) (as_bit BIT) samples.now
+            → IsSelected (bits_in self.now) (as_bit BIT) rank result }
+        ensures none { IfAbsent result (TellsNone (as_bit BIT) self.now rank) }
     {
         let source = &mut Probe::new(self.words, self.upper, self.lower);
-        sampled_select_on::<ONE, Probe<'_>>(source, samples, rank)
+        sampled_select_on::<BIT, Probe<'_>>(source, samples, rank)
     }
 }

@@ -1,13 +1,12 @@
 //! Whether lent samples are those of the words.
 ghost use Rattle.std.specs.Prelude.{IsTrue, ◌↔◌, true, false};
-ghost use Rattle.bit_lists.specs.Count.{kind};
+ghost use Rattle.bit_lists.specs.Count.{as_bit};
 ghost use Rattle.bitm_search.specs.Tables.{HasTables, bits_in};
 ghost use Rattle.bitm_lent.specs.Samples.{AreSamplesOf};
 
 use crate::lent::Lent;
 use crate::sample_checks::are_samples;
-use crate::samples::{Density, LentSamples};
-use bitm::CombinedSamplingDensity;
+use crate::samples::{LentSamples, clamped_log};
 use bitm::samples::Summary;
 
 impl<'a> Lent<'a> {
@@ -21,7 +20,7 @@ impl<'a> Lent<'a> {
         ensures { HasTables self.now
             → IsTrue result ↔ AreSamplesOf (bits_in self.now) true samples.now }
     {
-        self.check_kind::<1>(samples)
+        self.check_bit::<1>(samples)
     }
 
     /// Whether the samples of zeros are those that `build_samples0` writes, as `check_samples`.
@@ -32,13 +31,13 @@ impl<'a> Lent<'a> {
         ensures { HasTables self.now
             → IsTrue result ↔ AreSamplesOf (bits_in self.now) false samples.now }
     {
-        self.check_kind::<0>(samples)
+        self.check_bit::<0>(samples)
     }
 
     /// Whether the samples of one kind of bits are those of the words.
-    fn check_kind<const ONE: u8>(&self, samples: &LentSamples<'_>) -> bool
+    fn check_bit<const BIT: u8>(&self, samples: &LentSamples<'_>) -> bool
         ensures { HasTables self.now
-            → IsTrue result ↔ AreSamplesOf (bits_in self.now) (kind ONE) samples.now }
+            → IsTrue result ↔ AreSamplesOf (bits_in self.now) (as_bit BIT) samples.now }
     {
         let len = self.words.len() * 64;
         if samples.starts.len() != self.upper.len() {
@@ -53,7 +52,7 @@ impl<'a> Lent<'a> {
             total,
             len,
         };
-        let log2 = Density::items_per_sample_log2(samples.log2);
-        are_samples::<ONE>(&summary, log2, samples.samples, samples.starts)
+        let log2 = clamped_log(samples.log2);
+        are_samples::<BIT>(&summary, log2, samples.samples, samples.starts)
     }
 }

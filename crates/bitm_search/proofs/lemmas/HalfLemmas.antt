@@ -1,49 +1,49 @@
 -- Eight words that are halved: where the item of a rank is among those that are left.
 use Rattle.std.proofs.Common.{◌≡◌, ℕ, ◌+◌, ◌-◌, ◌*◌, ◌%◌, ◌^◌, ◌<◌, ◌≤◌, Bool, List, length, count_ones, ap, subst, arith, inl, inr}
 use Rattle.std.proofs.lemmas.Bool.{cases_lt}
-use Rattle.bit_lists.specs.Count.{kind, ones_before}
+use Rattle.bit_lists.specs.Count.{as_bit, ones_before}
 use Rattle.bitm_search.specs.Search.{sought_in, IsWord}
 use Rattle.bitm_search.specs.Tables.{Lists}
-use Rattle.bitm_search.proofs.lemmas.MarkLemmas.{sought-long, word_counts}
+use Rattle.bitm_search.proofs.lemmas.MarkLemmas.{sought_bits-long, word_counts}
 
 -- the items of a word are those between its ends
 abbrev pub HasItems : ℕ → Lists → ℕ → ℕ → Type 0
-HasItems one lists k count =
-    ones_before (sought_in one lists.words) (64 * k) + count ≡ ones_before (sought_in one lists.words) (64 * (k + 1))
+HasItems bit lists k count =
+    ones_before (sought_in bit lists.words) (64 * k) + count ≡ ones_before (sought_in bit lists.words) (64 * (k + 1))
 
-pub word_items : (one : ℕ) (lists : Lists) (k w : ℕ) → k < length lists.words → w < 2 ^ 64 → IsWord (sought_in one lists.words) k w
-    → HasItems one lists k (count_ones w)
-word_items one lists k w inside fits is =
-    let m = sought_in one lists.words in
+pub word_items : (bit : ℕ) (lists : Lists) (k w : ℕ) → k < length lists.words → w < 2 ^ 64 → IsWord (sought_in bit lists.words) k w
+    → HasItems bit lists k (count_ones w)
+word_items bit lists k w inside fits is =
+    let m = sought_in bit lists.words in
     let e : 64 * k + 64 ≡ 64 * (k + 1) = omega arith in
     let whole : w % 2 ^ 64 ≡ w = omega (arith, fits) in
-    let counts = word_counts m k w (sought-long lists.words (kind one) k inside) is 64 (omega arith) in
+    let counts = word_counts m k w (sought_bits-long lists.words (as_bit bit) k inside) is 64 (omega arith) in
     omega (arith, ap (ones_before m) e, counts, ap count_ones whole)
 
 -- the items of two words side by side, and of four
-pub two_items : (one : ℕ) (lists : Lists) (k a b : ℕ) → HasItems one lists k a → HasItems one lists (k + 1) b
-    → ones_before (sought_in one lists.words) (64 * k) + (a + b) ≡ ones_before (sought_in one lists.words) (64 * (k + 2))
-two_items one lists k a b first second =
+pub two_items : (bit : ℕ) (lists : Lists) (k a b : ℕ) → HasItems bit lists k a → HasItems bit lists (k + 1) b
+    → ones_before (sought_in bit lists.words) (64 * k) + (a + b) ≡ ones_before (sought_in bit lists.words) (64 * (k + 2))
+two_items bit lists k a b first second =
     let e : k + 1 + 1 ≡ k + 2 = omega arith in
-    omega (arith, first, second, ap (λ (n : ℕ). ones_before (sought_in one lists.words) (64 * n)) e)
+    omega (arith, first, second, ap (λ (n : ℕ). ones_before (sought_in bit lists.words) (64 * n)) e)
 
-pub four_items : (one : ℕ) (lists : Lists) (k a b c d : ℕ) → HasItems one lists k a → HasItems one lists (k + 1) b
-    → HasItems one lists (k + 2) c → HasItems one lists (k + 3) d
-    → ones_before (sought_in one lists.words) (64 * k) + (a + b + c + d) ≡ ones_before (sought_in one lists.words) (64 * (k + 4))
-four_items one lists k a b c d first second third fourth =
+pub four_items : (bit : ℕ) (lists : Lists) (k a b c d : ℕ) → HasItems bit lists k a → HasItems bit lists (k + 1) b
+    → HasItems bit lists (k + 2) c → HasItems bit lists (k + 3) d
+    → ones_before (sought_in bit lists.words) (64 * k) + (a + b + c + d) ≡ ones_before (sought_in bit lists.words) (64 * (k + 4))
+four_items bit lists k a b c d first second third fourth =
     let three : k + 3 ≡ k + 2 + 1 = omega arith in
     let four : k + 2 + 2 ≡ k + 4 = omega arith in
-    let next = two_items one lists (k + 2) c d third (subst (λ (n : ℕ). HasItems one lists n d) three fourth) in
+    let next = two_items bit lists (k + 2) c d third (subst (λ (n : ℕ). HasItems bit lists n d) three fourth) in
     omega (
       arith,
-      two_items one lists k a b first second,
+      two_items bit lists k a b first second,
       next,
-      ap (λ (n : ℕ). ones_before (sought_in one lists.words) (64 * n)) four,
+      ap (λ (n : ℕ). ones_before (sought_in bit lists.words) (64 * n)) four,
     )
 
 -- also where a call left the lists as they were
-pub items_before : (one : ℕ) (old new : Lists) (k count : ℕ) → new ≡ old → HasItems one new k count → HasItems one old k count
-items_before one old new k count same items = subst (λ (l : Lists). HasItems one l k count) same items
+pub items_before : (bit : ℕ) (old new : Lists) (k count : ℕ) → new ≡ old → HasItems bit new k count → HasItems bit old k count
+items_before bit old new k count same items = subst (λ (l : Lists). HasItems bit l k count) same items
 
 -- the item of rank r is not before word at, where rest of them are left, nor behind the words that are left, unless these are the
 -- last before word end

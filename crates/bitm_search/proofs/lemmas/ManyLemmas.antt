@@ -5,7 +5,7 @@ use Rattle.std.proofs.lemmas.List.{get_or-set_same, get_or-set_other, get_or-tak
 use Rattle.std.proofs.Math.Pow.{pow_mono}
 use Rattle.std.proofs.lemmas.Nat.{pow-add}
 use Rattle.bit_lists.specs.Bits.{bits_of, IsShort}
-use Rattle.bit_lists.specs.Count.{ones_before, count_of, kind}
+use Rattle.bit_lists.specs.Count.{ones_before, count_of, as_bit}
 use Rattle.bitm_search.specs.Entry.{before_in_part, field_0, lower_entry, record_field}
 use Rattle.bitm_search.specs.Answers.{told_in, IsSelected, IsSelectedFrom, SelectTold}
 use Rattle.bitm_search.specs.Many.{IsInPart, IsNear, IsInRecord}
@@ -22,30 +22,30 @@ use Rattle.bitm_search.proofs.lemmas.SoughtLemmas.{first_none, next_is, rank_is}
 use Rattle.bitm_search.proofs.lemmas.TableLemmas.{entries}
 use borrow.Rule.Slice.PartMut.{put_mid}
 
-module _ (one : ℕ) (lists : Lists) (rank rest : ℕ) where
+module _ (bit : ℕ) (lists : Lists) (rank rest : ℕ) where
   -- a search begins at the part's first entry
-  pub near_begins : (part : ℕ) → HasTables lists → IsShort lists.words → IsPartOf one lists rank part rest
-      → IsNear one lists rank rest (part * 2 ^ 21) 21
+  pub near_begins : (part : ℕ) → HasTables lists → IsShort lists.words → IsPartOf bit lists rank part rest
+      → IsNear bit lists rank rest (part * 2 ^ 21) 21
   near_begins part t short is =
       record {
         part = part;
         low = 0;
         place = omega arith;
-        last = subst (λ (n : ℕ). IsLastPart (sought_in one lists.words) (length lists.upper) n part) is.total is.last;
+        last = subst (λ (n : ℕ). IsLastPart (sought_in bit lists.words) (length lists.upper) n part) is.total is.last;
         total = sym is.total;
         inside = omega (arith, first_of_part lists (sizes_of lists t short) part is.last.inside);
-        at_most = omega (arith, first_none (sought_in one lists.words) part);
+        at_most = omega (arith, first_none (sought_in bit lists.words) part);
         next = λ h. absurd (omega (arith, h));
         room = omega arith;
       }
 
-  module _ (at size : ℕ) (near : IsNear one lists rank rest at (size + 1)) where
+  module _ (at size : ℕ) (near : IsNear bit lists rank rest at (size + 1)) where
     doubled : 2 ^ (size + 1) ≡ 2 ^ size + 2 ^ size
     doubled = omega (arith, pow-add 2 size 1)
 
     -- where no more stand before the entry in the middle it is that one or a later one
-    pub near_up : at + 2 ^ size < length lists.lower → before_in_part (sought_in one lists.words) (at + 2 ^ size) ≤ rest
-        → IsNear one lists rank rest (at + 2 ^ size) size
+    pub near_up : at + 2 ^ size < length lists.lower → before_in_part (sought_in bit lists.words) (at + 2 ^ size) ≤ rest
+        → IsNear bit lists rank rest (at + 2 ^ size) size
     near_up inside at_most =
         let there : near.part * 2 ^ 21 + (near.low + 2 ^ size) ≡ at + 2 ^ size = omega (arith, near.place) in
         let end : near.low + 2 ^ (size + 1) ≡ near.low + 2 ^ size + 2 ^ size = omega (arith, doubled) in
@@ -56,17 +56,17 @@ module _ (one : ℕ) (lists : Lists) (rank rest : ℕ) where
           last = near.last;
           total = near.total;
           inside = omega (arith, inside, near.place, near.room, doubled);
-          at_most = subst (λ (n : ℕ). before_in_part (sought_in one lists.words) n ≤ rest) (sym there) at_most;
+          at_most = subst (λ (n : ℕ). before_in_part (sought_in bit lists.words) n ≤ rest) (sym there) at_most;
           next =
               λ h.
-              subst (λ (n : ℕ). rest < before_in_part (sought_in one lists.words) (near.part * 2 ^ 21 + n)) end
+              subst (λ (n : ℕ). rest < before_in_part (sought_in bit lists.words) (near.part * 2 ^ 21 + n)) end
               (near.next (omega (arith, h, end)));
           room = omega (arith, near.room, end);
         }
 
     -- where more stand before it, or there is no such entry, it is an earlier one
-    pub near_stays : (at + 2 ^ size < length lists.lower → rest < before_in_part (sought_in one lists.words) (at + 2 ^ size))
-        → IsNear one lists rank rest at size
+    pub near_stays : (at + 2 ^ size < length lists.lower → rest < before_in_part (sought_in bit lists.words) (at + 2 ^ size))
+        → IsNear bit lists rank rest at size
     near_stays above =
         let there : near.part * 2 ^ 21 + (near.low + 2 ^ size) ≡ at + 2 ^ size = omega (arith, near.place) in
         record {
@@ -79,16 +79,16 @@ module _ (one : ℕ) (lists : Lists) (rank rest : ℕ) where
           at_most = near.at_most;
           next =
               λ h.
-              subst (λ (n : ℕ). rest < before_in_part (sought_in one lists.words) n) (sym there) (above (omega (arith, h, there)));
+              subst (λ (n : ℕ). rest < before_in_part (sought_in bit lists.words) n) (sym there) (above (omega (arith, h, there)));
           room = omega (arith, near.room, doubled);
         }
 
 -- in one part, an entry with no more before it, and one 2^size after it with more, have it between them
-pub near_between : (one : ℕ) (lists : Lists) (rank rest at low size : ℕ) → HasTables lists → IsNear one lists rank rest at 21
+pub near_between : (bit : ℕ) (lists : Lists) (rank rest at low size : ℕ) → HasTables lists → IsNear bit lists rank rest at 21
     → length lists.upper ≡ 1 → low < 2 ^ 21 → low + 2 ^ size < length lists.lower → low + 2 ^ size ≤ 2 ^ 21
-    → before_in_part (sought_in one lists.words) low ≤ rest → rest < before_in_part (sought_in one lists.words) (low + 2 ^ size)
-    → IsNear one lists rank rest low size
-near_between one lists rank rest at low size t near one_part few inside room at_most next =
+    → before_in_part (sought_in bit lists.words) low ≤ rest → rest < before_in_part (sought_in bit lists.words) (low + 2 ^ size)
+    → IsNear bit lists rank rest low size
+near_between bit lists rank rest at low size t near one_part few inside room at_most next =
     let first : near.part ≡ 0 = omega (arith, near.last.inside, one_part) in
     let here : near.part * 2 ^ 21 + low ≡ low = omega (arith, first) in
     let there : near.part * 2 ^ 21 + (low + 2 ^ size) ≡ low + 2 ^ size = omega (arith, first) in
@@ -99,8 +99,8 @@ near_between one lists rank rest at low size t near one_part few inside room at_
       last = near.last;
       total = near.total;
       inside = omega (arith, first, few, inside);
-      at_most = subst (λ (n : ℕ). before_in_part (sought_in one lists.words) n ≤ rest) (sym here) at_most;
-      next = λ _. subst (λ (n : ℕ). rest < before_in_part (sought_in one lists.words) n) (sym there) next;
+      at_most = subst (λ (n : ℕ). before_in_part (sought_in bit lists.words) n ≤ rest) (sym here) at_most;
+      next = λ _. subst (λ (n : ℕ). rest < before_in_part (sought_in bit lists.words) n) (sym there) next;
       room = room;
     }
 
@@ -109,9 +109,9 @@ pub step_few : (size : ℕ) → size < 21 → 2 ^ size ≤ 2 ^ 20
 step_few size h = let le : size ≤ 20 = omega (arith, h) in pow_mono le
 
 -- where there are no more entries than so many, as many halvings are enough
-pub near_enough : (one : ℕ) (lists : Lists) (rank rest at size : ℕ) → IsNear one lists rank rest at 21 → size ≤ 21
-    → (size < 21 → length lists.lower ≤ 2 ^ size) → IsNear one lists rank rest at size
-near_enough one lists rank rest at size near most enough =
+pub near_enough : (bit : ℕ) (lists : Lists) (rank rest at size : ℕ) → IsNear bit lists rank rest at 21 → size ≤ 21
+    → (size < 21 → length lists.lower ≤ 2 ^ size) → IsNear bit lists rank rest at size
+near_enough bit lists rank rest at size near most enough =
     let first : near.low ≡ 0 = omega (arith, near.room) in
     let small : 2 ^ size ≤ 2 ^ 21 = pow_mono most in
     record {
@@ -134,20 +134,20 @@ near_enough one lists rank rest at size near most enough =
     }
 
 -- the search ends at the last entry
-pub near_ends : (one : ℕ) (lists : Lists) (rank rest at : ℕ) → (near : IsNear one lists rank rest at 0)
-    → IsLastEntry (sought_in one lists.words) (length lists.lower) near.part rest near.low
-near_ends one lists rank rest at near = record { inside = near.inside; at_most = near.at_most; next = near.next }
+pub near_ends : (bit : ℕ) (lists : Lists) (rank rest at : ℕ) → (near : IsNear bit lists rank rest at 0)
+    → IsLastEntry (sought_in bit lists.words) (length lists.lower) near.part rest near.low
+near_ends bit lists rank rest at near = record { inside = near.inside; at_most = near.at_most; next = near.next }
 
 -- a search that finds the last entry of the part ends there
-pub near_found : (one : ℕ) (lists : Lists) (rank rest part low : ℕ) → IsPartOf one lists rank part rest
-    → IsLastEntry (sought_in one lists.words) (length lists.lower) part rest low
-    → IsNear one lists rank rest (part * 2 ^ 21 + low) 0
-near_found one lists rank rest part low is last =
+pub near_found : (bit : ℕ) (lists : Lists) (rank rest part low : ℕ) → IsPartOf bit lists rank part rest
+    → IsLastEntry (sought_in bit lists.words) (length lists.lower) part rest low
+    → IsNear bit lists rank rest (part * 2 ^ 21 + low) 0
+near_found bit lists rank rest part low is last =
     record {
       part = part;
       low = low;
       place = omega arith;
-      last = subst (λ (n : ℕ). IsLastPart (sought_in one lists.words) (length lists.upper) n part) is.total is.last;
+      last = subst (λ (n : ℕ). IsLastPart (sought_in bit lists.words) (length lists.upper) n part) is.total is.last;
       total = sym is.total;
       inside = last.inside;
       at_most = last.at_most;
@@ -156,9 +156,9 @@ near_found one lists rank rest part low is last =
     }
 
 -- the entry that the search ends at is one of few
-pub near_few : (one : ℕ) (lists : Lists) (rank rest at : ℕ) → HasTables lists → IsShort lists.words → IsNear one lists rank rest at 0
+pub near_few : (bit : ℕ) (lists : Lists) (rank rest at : ℕ) → HasTables lists → IsShort lists.words → IsNear bit lists rank rest at 0
     → at * 32 + 32 < 2 ^ 60
-near_few one lists rank rest at t short near =
+near_few bit lists rank rest at t short near =
     omega (arith, near.place, near.inside, few_entries lists (sizes_of lists t short))
 
 -- a search of fewer entries from its own on stays in its part
@@ -182,66 +182,66 @@ part_up v lists rank rest at i is =
     }
 
 -- the record that is chosen in the entry where the search ends
-module _ (one : ℕ) (lists : Lists) (rank rest at packed count place before : ℕ) (t : HasTables lists)
-    (near : IsNear one lists rank rest at 0) (packed_is : packed ≡ lower_entry (sought_in one lists.words) at)
+module _ (bit : ℕ) (lists : Lists) (rank rest at packed count place before : ℕ) (t : HasTables lists)
+    (near : IsNear bit lists rank rest at 0) (packed_is : packed ≡ lower_entry (sought_in bit lists.words) at)
     (count_is : count ≡ field_0 packed) (small : place < 4) (before_is : before ≡ record_field packed place)
     (at_most : before ≤ rest - count) (next : place < 3 → rest - count < record_field packed (place + 1)) where
   there : ℕ
   there = near.part * 2 ^ 21 + near.low
 
-  packed_there : packed ≡ lower_entry (sought_in one lists.words) (near.part * 2 ^ 21 + near.low)
-  packed_there = packed_is ∙ ap (lower_entry (sought_in one lists.words)) near.place
+  packed_there : packed ≡ lower_entry (sought_in bit lists.words) (near.part * 2 ^ 21 + near.low)
+  packed_there = packed_is ∙ ap (lower_entry (sought_in bit lists.words)) near.place
 
-  part : IsLastPart (sought_in one lists.words) (length lists.upper)
-      (ones_before (sought_in one lists.words) (near.part * 2 ^ 32) + rest) near.part
+  part : IsLastPart (sought_in bit lists.words) (length lists.upper)
+      (ones_before (sought_in bit lists.words) (near.part * 2 ^ 32) + rest) near.part
   part =
-      subst (λ (r : ℕ). IsLastPart (sought_in one lists.words) (length lists.upper) r near.part) near.total near.last
+      subst (λ (r : ℕ). IsLastPart (sought_in bit lists.words) (length lists.upper) r near.part) near.total near.last
 
-  total : ones_before (sought_in one lists.words) (64 * ((near.part * 2 ^ 21 + near.low) * 32 + place * 8)) + (rest - count - before)
-      ≡ ones_before (sought_in one lists.words) (near.part * 2 ^ 32) + rest
+  total : ones_before (sought_in bit lists.words) (64 * ((near.part * 2 ^ 21 + near.low) * 32 + place * 8)) + (rest - count - before)
+      ≡ ones_before (sought_in bit lists.words) (near.part * 2 ^ 32) + rest
   total =
-      rank_is lists.words lists.upper lists.lower t (sought_in one lists.words) near.part rest near.low place packed count before
-      part (near_ends one lists rank rest at near) packed_there count_is small before_is at_most next
+      rank_is lists.words lists.upper lists.lower t (sought_in bit lists.words) near.part rest near.low place packed count before
+      part (near_ends bit lists rank rest at near) packed_there count_is small before_is at_most next
 
   after : (near.part * 2 ^ 21 + near.low) * 32 + place * 8 + 8 < length lists.words
-      → ones_before (sought_in one lists.words) (64 * ((near.part * 2 ^ 21 + near.low) * 32 + place * 8)) + (rest - count - before)
-      < ones_before (sought_in one lists.words) (64 * ((near.part * 2 ^ 21 + near.low) * 32 + place * 8 + 8))
+      → ones_before (sought_in bit lists.words) (64 * ((near.part * 2 ^ 21 + near.low) * 32 + place * 8)) + (rest - count - before)
+      < ones_before (sought_in bit lists.words) (64 * ((near.part * 2 ^ 21 + near.low) * 32 + place * 8 + 8))
   after =
-      next_is lists.words lists.upper lists.lower t (sought_in one lists.words) near.part rest near.low place packed count before
-      part (near_ends one lists rank rest at near) packed_there count_is small before_is at_most next
+      next_is lists.words lists.upper lists.lower t (sought_in bit lists.words) near.part rest near.low place packed count before
+      part (near_ends bit lists rank rest at near) packed_there count_is small before_is at_most next
 
-  pub near_loads : (rank ≡ ones_before (sought_in one lists.words) (64 * (at * 32 + place * 8)) + (rest - count - before))
-      × (at * 32 + place * 8 + 8 < length lists.words → rank < ones_before (sought_in one lists.words) (64 * (at * 32 + place * 8 + 8)))
+  pub near_loads : (rank ≡ ones_before (sought_in bit lists.words) (64 * (at * 32 + place * 8)) + (rest - count - before))
+      × (at * 32 + place * 8 + 8 < length lists.words → rank < ones_before (sought_in bit lists.words) (64 * (at * 32 + place * 8 + 8)))
   near_loads =
       let same : (near.part * 2 ^ 21 + near.low) * 32 + place * 8 ≡ at * 32 + place * 8 = omega (arith, near.place) in
-      let here = ap (λ (n : ℕ). ones_before (sought_in one lists.words) (64 * n)) same in
-      let end = ap (λ (n : ℕ). ones_before (sought_in one lists.words) (64 * (n + 8))) same in
+      let here = ap (λ (n : ℕ). ones_before (sought_in bit lists.words) (64 * n)) same in
+      let end = ap (λ (n : ℕ). ones_before (sought_in bit lists.words) (64 * (n + 8))) same in
       (omega (arith, near.total, total, here), λ h. omega (arith, near.total, total, after (omega (arith, h, same)), end))
 
 -- what is told of a selection in the record, where what is left of the rank did not wrap, and where it did
-module _ (one : ℕ) (lists : Lists) (rank : ℕ) (at : InRecord) (sized : HasSizes lists) (there : IsInRecord one lists rank at) where
-  right : (s : Selected) → IsSelectedFrom lists.words (kind one) at.first (ones_before (sought_in one lists.words) (64 * at.first) + at.rest) s
-      → HasTables lists → IsSelected (bits_in lists) (kind one) rank s
+module _ (bit : ℕ) (lists : Lists) (rank : ℕ) (at : InRecord) (sized : HasSizes lists) (there : IsInRecord bit lists rank at) where
+  right : (s : Selected) → IsSelectedFrom lists.words (as_bit bit) at.first (ones_before (sought_in bit lists.words) (64 * at.first) + at.rest) s
+      → HasTables lists → IsSelected (bits_in lists) (as_bit bit) rank s
   right s is t =
-      selected lists.words (kind one) at.first rank s (there.next t)
-      (subst (λ (n : ℕ). IsSelectedFrom lists.words (kind one) at.first n s) (sym (there.total t)) is)
+      selected lists.words (as_bit bit) at.first rank s (there.next t)
+      (subst (λ (n : ℕ). IsSelectedFrom lists.words (as_bit bit) at.first n s) (sym (there.total t)) is)
 
   pub told_record : (s s' : Selected) → rank < 2 ^ 64 → (at.rest ≤ rank → s' ≡ s) → (rank < at.rest → s' ≡ wrong_for_absent s)
       → IfAbsent s (length lists.words ≤ at.first + 8)
-      → IsSelectedFrom lists.words (kind one) at.first (ones_before (sought_in one lists.words) (64 * at.first) + at.rest) s
-      → SelectTold (kind one) lists rank (told_in s')
+      → IsSelectedFrom lists.words (as_bit bit) at.first (ones_before (sought_in bit lists.words) (64 * at.first) + at.rest) s
+      → SelectTold (as_bit bit) lists rank (told_in s')
   told_record s s' fits kept wrapped last is =
-      let R = ones_before (sought_in one lists.words) (64 * at.first) + at.rest in
+      let R = ones_before (sought_in bit lists.words) (64 * at.first) + at.rest in
       elim (cases_lt rank at.rest) [
         | inl over ↦
-            subst (λ (x : Selected). SelectTold (kind one) lists rank (told_in x)) (sym (wrapped over))
-            (told_is (kind one) lists rank sized.short (wrong_for_absent s)
-            (bit_kept (bits_in lists) (kind one) s (has_bit lists.words (kind one) at.first R s is)) (never_absent (TellsNone (kind one) lists rank) s)
+            subst (λ (x : Selected). SelectTold (as_bit bit) lists rank (told_in x)) (sym (wrapped over))
+            (told_is (as_bit bit) lists rank sized.short (wrong_for_absent s)
+            (bit_kept (bits_in lists) (as_bit bit) s (has_bit lists.words (as_bit bit) at.first R s is)) (never_absent (TellsNone (as_bit bit) lists rank) s)
             (λ t. absurd (omega (arith, over, there.total t))))
         | inr within ↦
-            subst (λ (x : Selected). SelectTold (kind one) lists rank (told_in x)) (sym (kept within))
-            (told_is (kind one) lists rank sized.short s (has_bit lists.words (kind one) at.first R s is)
-            (record_none lists (kind one) rank at sized there.told fits within s last is)
+            subst (λ (x : Selected). SelectTold (as_bit bit) lists rank (told_in x)) (sym (kept within))
+            (told_is (as_bit bit) lists rank sized.short s (has_bit lists.words (as_bit bit) at.first R s is)
+            (record_none lists (as_bit bit) rank at sized there.told fits within s last is)
             (right s is))
       ]
 
@@ -317,12 +317,12 @@ answers_follow P from n ranks places new inside long old added j h =
     ]
 
 -- a content that has an item of the kind has a part
-pub some_part : (one : ℕ) (lists : Lists) (rank : ℕ) → HasTables lists → rank < count_of (bits_of lists.words) (kind one)
+pub some_part : (bit : ℕ) (lists : Lists) (rank : ℕ) → HasTables lists → rank < count_of (bits_of lists.words) (as_bit bit)
     → 0 < length lists.upper
-some_part one lists rank t some =
+some_part bit lists rank t some =
     let e = entries (bits_of lists.words) lists.upper lists.lower t in
     elim (cases_lt 0 (length (bits_of lists.words))) [
       | inl long ↦ omega (arith, e.upper_length, long)
       | inr none ↦
-          absurd (omega (arith, some, none_in_nothing (bits_of lists.words) (kind one) rank (omega (arith, none))))
+          absurd (omega (arith, some, none_in_nothing (bits_of lists.words) (as_bit bit) rank (omega (arith, none))))
     ]

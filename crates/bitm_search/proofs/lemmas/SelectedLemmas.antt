@@ -5,7 +5,7 @@ use Rattle.bit_lists.proofs.lemmas.PickLemmas.{rank_below}
 use Rattle.bit_lists.specs.Bits.{bits_of, IsShort}
 use Rattle.bit_lists.specs.Count.{ones_before, count_of, IsSelect}
 use Rattle.bitm_search.specs.Answers.{place_in, told_in, HasBit, IsFoundFrom, IsSelected, IsSelectedFrom, SelectTold}
-use Rattle.bitm_search.specs.Search.{sought}
+use Rattle.bitm_search.specs.Search.{sought_bits}
 use Rattle.bitm_search.specs.Tables.{HasTables, Lists, bits_in}
 use Rattle.bitm_search.specs.Told.{wrong_for_absent, IfAbsent, TellsNone}
 use Rattle.bitm_search.specs.declared.search.selected.Selected.{Selected}
@@ -20,7 +20,7 @@ module _ (words : List ℕ) (v : Bool) (k r : ℕ) where
   has_bit WrongTables is = tt
 
   -- where the rank stands before the words that follow, the tables are not called wrong
-  pub selected : (s : Selected) → (k + 8 < length words → r < ones_before (sought v (bits_of words)) (64 * (k + 8)))
+  pub selected : (s : Selected) → (k + 8 < length words → r < ones_before (sought_bits v (bits_of words)) (64 * (k + 8)))
       → IsSelectedFrom words v k r s → IsSelected (bits_of words) v r s
   selected (Found p) next is = is
   selected Absent next is = is
@@ -28,7 +28,7 @@ module _ (words : List ℕ) (v : Bool) (k r : ℕ) where
 
   -- nothing is left where the words end
   pub absent : (count : ℕ) → length words ≤ k + 8 → count ≡ length words - k
-      → ones_before (sought v (bits_of words)) (64 * (k + count)) ≤ r → count_of (bits_of words) v ≤ r
+      → ones_before (sought_bits v (bits_of words)) (64 * (k + count)) ≤ r → count_of (bits_of words) v ≤ r
   absent count ends is le =
       none_counted (bits_of words) v r (64 * (k + count)) (omega (arith, length-bits_of words, is, ends)) le
 

@@ -3,12 +3,12 @@ use Rattle.std.proofs.Common.{◌≡◌, ◌≢◌, ℕ, ◌+◌, ◌-◌, ◌*�
 use Rattle.std.proofs.lemmas.Bool.{cases_lt}
 use Rattle.bit_lists.proofs.lemmas.BitsLemmas.{length-bits_of}
 use Rattle.bit_lists.specs.Bits.{bits_of, IsShort}
-use Rattle.bit_lists.specs.Count.{ones_before, kind}
+use Rattle.bit_lists.specs.Count.{ones_before, as_bit}
 use Rattle.bitm_search.specs.Entry.{before_in_part, in_records, lower_entry, record_field, field_0}
-use Rattle.bitm_search.specs.Search.{padded, negated, sought, sought_in, IsLastPart, IsLastEntry, entries_from}
+use Rattle.bitm_search.specs.Search.{padded_bits, negation, sought_bits, sought_in, IsLastPart, IsLastEntry, entries_from}
 use Rattle.bitm_search.specs.Tables.{AreTablesOf}
 use Rattle.bitm_search.proofs.lemmas.EntryLemmas.{entry-low, record_field_is}
-use Rattle.bitm_search.proofs.lemmas.MarkLemmas.{ones_before-sought, zeros_before-sought, marked_zero, marked_other}
+use Rattle.bitm_search.proofs.lemmas.MarkLemmas.{ones_before-sought_bits, zeros_before-sought_bits, marked_zero, marked_other}
 use Rattle.bitm_search.proofs.lemmas.StretchLemmas.{ones_before-self, ones_before-between}
 use Rattle.bitm_search.proofs.lemmas.TableLemmas.{HasEntries, entries}
 
@@ -29,24 +29,24 @@ module _ (words upper lower : List ℕ) (t : AreTablesOf (bits_of words) upper l
     pub part_below : u ≤ k * 4294967296 % 18446744073709551616
     part_below = omega (arith, part_whole, u_ones, ones_before-self (bits_of words) (k * 2 ^ 32))
 
-    pub part_zeros : (one : ℕ) → one ≡ 0 → k * 4294967296 % 18446744073709551616 - u ≡ ones_before (sought_in one words) (k * 2 ^ 32)
-    part_zeros one h =
-        let zeros = zeros_before-sought (bits_of words) (k * 2 ^ 32) (omega (arith, t'.upper_length, length-bits_of words)) in
-        rw (marked_zero (bits_of words) one h) (omega (arith, part_whole, u_ones, zeros))
+    pub part_zeros : (bit : ℕ) → bit ≡ 0 → k * 4294967296 % 18446744073709551616 - u ≡ ones_before (sought_in bit words) (k * 2 ^ 32)
+    part_zeros bit h =
+        let zeros = zeros_before-sought_bits (bits_of words) (k * 2 ^ 32) (omega (arith, t'.upper_length, length-bits_of words)) in
+        rw (marked_zero (bits_of words) bit h) (omega (arith, part_whole, u_ones, zeros))
 
-    pub part_ones : (one : ℕ) → one ≢ 0 → u ≡ ones_before (sought_in one words) (k * 2 ^ 32)
-    part_ones one h = rw (marked_other (bits_of words) one h) (u_ones ∙ sym (ones_before-sought (bits_of words) (k * 2 ^ 32)))
+    pub part_ones : (bit : ℕ) → bit ≢ 0 → u ≡ ones_before (sought_in bit words) (k * 2 ^ 32)
+    part_ones bit h = rw (marked_other (bits_of words) bit h) (u_ones ∙ sym (ones_before-sought_bits (bits_of words) (k * 2 ^ 32)))
 
 -- ---- before an entry
 
-pub entry_ones : (b : List Bool) (j one : ℕ) → one ≢ 0 → lower_entry b j ≡ lower_entry (sought (kind one) b) j
-entry_ones b j one h =
-    let e = ones_before-sought b in
+pub entry_ones : (b : List Bool) (j bit : ℕ) → bit ≢ 0 → lower_entry b j ≡ lower_entry (sought_bits (as_bit bit) b) j
+entry_ones b j bit h =
+    let e = ones_before-sought_bits b in
     rw
-    (marked_other b one h, e (2048 * j), e ((j / 2 ^ 21) * 2 ^ 32), e (2048 * j + 512 * 1), e (2048 * j + 512 * 2), e (2048 * j + 512 * 3))
+    (marked_other b bit h, e (2048 * j), e ((j / 2 ^ 21) * 2 ^ 32), e (2048 * j + 512 * 1), e (2048 * j + 512 * 2), e (2048 * j + 512 * 3))
 
-pub entry_zeros : (b : List Bool) (j one : ℕ) → one ≡ 0 → lower_entry (negated (padded b)) j ≡ lower_entry (sought (kind one) b) j
-entry_zeros b j one h = rw (marked_zero b one h)
+pub entry_zeros : (b : List Bool) (j bit : ℕ) → bit ≡ 0 → lower_entry (negation (padded_bits b)) j ≡ lower_entry (sought_bits (as_bit bit) b) j
+entry_zeros b j bit h = rw (marked_zero b bit h)
 
 -- the count before an entry is what the code reads of it
 pub low_is : (b : List Bool) (e j : ℕ) → e ≡ lower_entry b j → field_0 e ≡ before_in_part b j

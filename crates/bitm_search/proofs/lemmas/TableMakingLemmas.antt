@@ -7,7 +7,7 @@ use Rattle.bit_lists.proofs.lemmas.CountLemmas.{ones_before-bits_of_stretch, one
 use Rattle.bit_lists.specs.Bits.{bits_of}
 use Rattle.bit_lists.specs.Count.{ones_before, ones_of}
 use Rattle.bitm_search.proofs.lemmas.StretchLemmas.{ones_before-between, ones_before-most}
-use Rattle.bitm_search.specs.Entry.{packed, before_in_part, lower_entry}
+use Rattle.bitm_search.specs.Entry.{packed_counts, before_in_part, lower_entry}
 
 -- a record of eight words has at most 512 ones
 pub ones_of_record-most : (b : List Bool) (first n : ℕ) → ones_before b (64 * first) + n ≡ ones_before b (64 * (first + 8))
@@ -51,7 +51,7 @@ counted_in_part b part at n from to is =
 
 -- an entry made of the ones of its records, of which each has at most 512
 pub record CountsRecords (b : List Bool) (at one two three all : ℕ) : Type 0 where
-  pub entry : packed (before_in_part b at) one two three ≡ lower_entry b at
+  pub entry : packed_counts (before_in_part b at) one two three ≡ lower_entry b at
   pub ones : ones_before b (2048 * at) + all ≡ ones_before b (2048 * (at + 1))
 
 module _ (b : List Bool) (at w x y z : ℕ) (first : ones_before b (64 * (at * 32)) + w ≡ ones_before b (64 * (at * 32 + 8)))

@@ -1,48 +1,48 @@
 -- What tables tell is what stands in the bits where they are right, and what a search says of the end where they may hold anything.
 use Rattle.std.proofs.Common.{inl, inr, List, [], ◌∷◌, ◌≡◌, ◌≢◌, ℕ, zero, suc, ◌+◌, ◌-◌, ◌*◌, ◌%◌, ◌^◌, ◌<◌, ◌≤◌, Bool, true, false, length, ap, sym, ◌∙◌, subst, arith, refl}
 use Rattle.bit_lists.specs.Bits.{bits_of}
-use Rattle.bit_lists.specs.Count.{kind, ones_before, count_before, count_of}
+use Rattle.bit_lists.specs.Count.{as_bit, ones_before, count_before, count_of}
 use Rattle.bit_lists.proofs.BitLaws.{counts_grow, ones_and_zeros}
 use Rattle.bit_lists.proofs.lemmas.BitsLemmas.{length-bits_of}
 use Rattle.std.proofs.lemmas.Bool.{cases_lt}
-use Rattle.bitm_search.specs.Entry.{FieldsFit, greatest, lower_entry, record_field}
+use Rattle.bitm_search.specs.Entry.{FieldsFit, greatest_entry, lower_entry, record_field}
 use Rattle.bitm_search.specs.Answers.{IsSelectedFrom}
 use Rattle.bitm_search.specs.Many.{IsToldRecord}
-use Rattle.bitm_search.specs.Search.{entries_from, entry_in, sought, sought_in}
+use Rattle.bitm_search.specs.Search.{entries_from, entry_in, sought_bits, sought_in}
 use Rattle.bitm_search.specs.Tables.{HasSizes, HasTables, Lists}
 use Rattle.bitm_search.specs.Told.{count_from_word, less, told_entry, told_part, told_to, EntryTellsNone, IfAbsent, TellsNone}
 use Rattle.bitm_search.specs.declared.search.loaded.InRecord.{InRecord}
 use Rattle.bitm_search.specs.declared.search.selected.Selected.{Selected}
 use Rattle.bitm_search.specs.declared.search.selected.Selected.TheVariants.{Found, Absent, WrongTables}
 use Rattle.bitm_search.proofs.lemmas.EntryLemmas.{entry-fits, entry-complement}
-use Rattle.bitm_search.proofs.lemmas.MarkLemmas.{kind_other, none_in_nothing, ones_before-sought, zeros_before-sought}
+use Rattle.bitm_search.proofs.lemmas.MarkLemmas.{as_bit_other, none_in_nothing, ones_before-sought_bits, zeros_before-sought_bits}
 use Rattle.bitm_search.proofs.lemmas.SoughtLemmas.{entry_ones, entry_zeros}
 use Rattle.bitm_search.proofs.lemmas.TableLemmas.{entries}
 
 -- the number that is told, by the kind that the code tests
-pub told_zeros : (one : ℕ) (lists : Lists) (at : ℕ) → one ≡ 0 → told_entry (kind one) lists at ≡ told_entry false lists at
-told_zeros one lists at h = ap (λ (n : ℕ). told_entry (kind n) lists at) h
+pub told_zeros : (bit : ℕ) (lists : Lists) (at : ℕ) → bit ≡ 0 → told_entry (as_bit bit) lists at ≡ told_entry false lists at
+told_zeros bit lists at h = ap (λ (n : ℕ). told_entry (as_bit n) lists at) h
 
-pub told_ones : (one : ℕ) (lists : Lists) (at : ℕ) → one ≢ 0 → told_entry (kind one) lists at ≡ told_entry true lists at
-told_ones one lists at h = ap (λ (v : Bool). told_entry v lists at) (kind_other one h)
+pub told_ones : (bit : ℕ) (lists : Lists) (at : ℕ) → bit ≢ 0 → told_entry (as_bit bit) lists at ≡ told_entry true lists at
+told_ones bit lists at h = ap (λ (v : Bool). told_entry v lists at) (as_bit_other bit h)
 
-pub part_zeros_told : (one : ℕ) (lists : Lists) (at : ℕ) → one ≡ 0 → told_part (kind one) lists at ≡ told_part false lists at
-part_zeros_told one lists at h = ap (λ (n : ℕ). told_part (kind n) lists at) h
+pub part_zeros_told : (bit : ℕ) (lists : Lists) (at : ℕ) → bit ≡ 0 → told_part (as_bit bit) lists at ≡ told_part false lists at
+part_zeros_told bit lists at h = ap (λ (n : ℕ). told_part (as_bit n) lists at) h
 
-pub part_ones_told : (one : ℕ) (lists : Lists) (at : ℕ) → one ≢ 0 → told_part (kind one) lists at ≡ told_part true lists at
-part_ones_told one lists at h = ap (λ (v : Bool). told_part v lists at) (kind_other one h)
+pub part_ones_told : (bit : ℕ) (lists : Lists) (at : ℕ) → bit ≢ 0 → told_part (as_bit bit) lists at ≡ told_part true lists at
+part_ones_told bit lists at h = ap (λ (v : Bool). told_part v lists at) (as_bit_other bit h)
 
 -- where no field is too great the difference is that of each field
-fits_less : (e at : ℕ) → FieldsFit e at → less (greatest at) e ≡ greatest at - e
+fits_less : (e at : ℕ) → FieldsFit e at → less (greatest_entry at) e ≡ greatest_entry at - e
 fits_less e at fit = omega (arith, fit.before, fit.one, fit.two, fit.three)
 
 -- where the tables are right the entry that is told is that of the bits
-pub told_is : (one : ℕ) (lists : Lists) (at : ℕ) → HasTables lists → at < length lists.lower
-    → told_entry (kind one) lists at ≡ lower_entry (sought_in one lists.words) at
+pub told_is : (bit : ℕ) (lists : Lists) (at : ℕ) → HasTables lists → at < length lists.lower
+    → told_entry (as_bit bit) lists at ≡ lower_entry (sought_in bit lists.words) at
 told_is zero lists at t h =
     let b = bits_of lists.words in
     let e = (entries _ _ _ t).lower_is at h in
-    ap (less (greatest at)) e
+    ap (less (greatest_entry at)) e
     ∙ fits_less (lower_entry b at) at (entry-fits b at)
     ∙ entry-complement b at (omega (arith, (entries _ _ _ t).lower_length, h))
     ∙ entry_zeros b at 0 (refl {A = ℕ})
@@ -52,20 +52,20 @@ told_is (suc n) lists at t h =
 -- ---- where Absent is answered
 
 -- what stands from a word on is what a count that begins there leaves
-from_word : (words : List ℕ) (v : Bool) (k r : ℕ) → count_of (bits_of words) v ≤ ones_before (sought v (bits_of words)) (64 * k) + r
+from_word : (words : List ℕ) (v : Bool) (k r : ℕ) → count_of (bits_of words) v ≤ ones_before (sought_bits v (bits_of words)) (64 * k) + r
     → count_of (bits_of words) v - count_before (bits_of words) v (64 * k) ≤ r
-from_word words true k r le = omega (arith, le, ones_before-sought (bits_of words) (64 * k))
+from_word words true k r le = omega (arith, le, ones_before-sought_bits (bits_of words) (64 * k))
 from_word words false k r le =
     let b = bits_of words in
     elim (cases_lt (length b) (64 * k)) [
       | inl past ↦ omega (arith, counts_grow b false (length b) (64 * k) (omega (arith, past)))
-      | inr inside ↦ omega (arith, le, zeros_before-sought b (64 * k) inside, ones_and_zeros b (64 * k) inside)
+      | inr inside ↦ omega (arith, le, zeros_before-sought_bits b (64 * k) inside, ones_and_zeros b (64 * k) inside)
     ]
 
 -- an entry tells none where its last record, by what the fields leave of the rank, has none
 pub entry_none : (lists : Lists) (v : Bool) (at e r k left : ℕ) → k < 4 → told_to e k + left ≤ r → (s : Selected)
     → IfAbsent s (length lists.words ≤ at * 32 + k * 8 + 8)
-    → IsSelectedFrom lists.words v (at * 32 + k * 8) (ones_before (sought v (bits_of lists.words)) (64 * (at * 32 + k * 8)) + left) s
+    → IsSelectedFrom lists.words v (at * 32 + k * 8) (ones_before (sought_bits v (bits_of lists.words)) (64 * (at * 32 + k * 8)) + left) s
     → IfAbsent s (EntryTellsNone v lists at e r)
 entry_none lists v at e r k left inside le (Found p) last is = tt
 entry_none lists v at e r k left inside le WrongTables last is = tt
@@ -136,7 +136,7 @@ nothing_tells lists v r sized none =
 -- a record behind which no word stands tells none where what is left of the rank did not wrap and the words have no more
 pub record_none : (lists : Lists) (v : Bool) (rank : ℕ) (at : InRecord) → HasSizes lists → IsToldRecord v lists rank at → rank < 2 ^ 64
     → at.rest ≤ rank → (s : Selected) → IfAbsent s (length lists.words ≤ at.first + 8)
-    → IsSelectedFrom lists.words v at.first (ones_before (sought v (bits_of lists.words)) (64 * at.first) + at.rest) s
+    → IsSelectedFrom lists.words v at.first (ones_before (sought_bits v (bits_of lists.words)) (64 * at.first) + at.rest) s
     → IfAbsent s (TellsNone v lists rank)
 record_none lists v rank at sized told fits within (Found p) last is = tt
 record_none lists v rank at sized told fits within WrongTables last is = tt

@@ -2,7 +2,7 @@
 //! halves. Where the tables are not those of the words the search ends as well, with some entry of the part.
 ghost use Rattle.std.specs.Prelude.{◌≡◌, ◌+◌, ◌-◌, ◌*◌, ◌/◌, ◌^◌, ◌<◌, ◌≤◌, ◌⊎◌, length};
 ghost use Rattle.bit_lists.specs.Bits.{digit_count};
-ghost use Rattle.bit_lists.specs.Count.{kind};
+ghost use Rattle.bit_lists.specs.Count.{as_bit};
 ghost use Rattle.bitm_search.specs.Entry.{lower_entry};
 ghost use Rattle.bitm_search.specs.Reads.{lower_read, ReadsAtMost};
 ghost use Rattle.bitm_search.specs.Search.{entries_from, entry_in, sought_in, IsLastEntry, IsRange};
@@ -24,16 +24,16 @@ const WINDOW: usize = 32;
 /// # Conditions
 /// There is such an entry. Nothing is asked of what it holds.
 #[inline(always)]
-pub fn sought_entry<const ONE: u8, T: TableSource>(source: &mut T, at: usize) -> u64
+pub fn sought_entry<const BIT: u8, T: TableSource>(source: &mut T, at: usize) -> u64
     requires { at < length (T.lists source.old).lower }
     ensures entry { HasTables (T.lists source.old) → result
-        ≡ lower_entry (sought_in ONE (T.lists source.old).words) at }
-    ensures told { result ≡ told_entry (kind ONE) (T.lists source.old) at }
+        ≡ lower_entry (sought_in BIT (T.lists source.old).words) at }
+    ensures told { result ≡ told_entry (as_bit BIT) (T.lists source.old) at }
     ensures counted { T.reads source.new ≡ lower_read (T.reads source.old) }
     ensures same { T.lists source.new ≡ T.lists source.old }
 {
     let entry = source.lower(at);
-    if ONE == 0 {
+    if BIT == 0 {
         negated_entry(entry, at)
     } else {
         entry
@@ -58,7 +58,7 @@ pub struct EntryRange {
 /// The side of entry `cut` of a range on which the last entry is with no more than `rank` of the kind before it, where
 /// the tables are those of the words.
 #[inline(always)]
-fn side_of<const ONE: u8, T: TableSource>(
+fn side_of<const BIT: u8, T: TableSource>(
     source: &mut T,
     part: usize,
     range: EntryRange,
@@ -69,8 +69,8 @@ fn side_of<const ONE: u8, T: TableSource>(
     requires inside { part < length (T.lists source.old).upper }
     requires some { 0 < cut }
     requires in_range { cut < range.left }
-    requires range { IsRange ONE (T.lists source.old) part rank range }
-    ensures range { IsRange ONE (T.lists source.old) part rank result }
+    requires range { IsRange BIT (T.lists source.old) part rank range }
+    ensures range { IsRange BIT (T.lists source.old) part rank result }
     ensures side { ((result.low ≡ range.low) × (result.left ≡ cut))
         ⊎ ((result.low ≡ range.low + cut) × (result.left ≡ range.left - cut)) }
     ensures counted { T.reads source.new ≡ lower_read (T.reads source.old) }
@@ -82,7 +82,7 @@ fn side_of<const ONE: u8, T: TableSource>(
         packed,
         above,
     } = range;
-    let next = sought_entry::<ONE, T>(source, part * L2_ENTRIES_PER_L1_ENTRY + low + cut);
+    let next = sought_entry::<BIT, T>(source, part * L2_ENTRIES_PER_L1_ENTRY + low + cut);
     let count = ones_to_entry(next);
     if count <= rank {
         EntryRange {
@@ -123,7 +123,7 @@ fn guess(range: EntryRange, rank: usize) -> usize
 /// What is left of a large part's entries after two halvings, whose entries stay in the caches, and a window round a
 /// guess.
 #[inline(always)]
-fn guessed<const ONE: u8, T: TableSource>(
+fn narrow_by_guess<const BIT: u8, T: TableSource>(
     source: &mut T,
     part: usize,
     range: EntryRange,
@@ -133,8 +133,8 @@ fn guessed<const ONE: u8, T: TableSource>(
     requires inside { part < length (T.lists source.old).upper }
     requires many { 2 ^ 12 ≤ range.left }
     requires first { range.low ≡ 0 }
-    requires range { IsRange ONE (T.lists source.old) part rank range }
-    ensures range { IsRange ONE (T.lists source.old) part rank result }
+    requires range { IsRange BIT (T.lists source.old) part rank range }
+    ensures range { IsRange BIT (T.lists source.old) part rank result }
     ensures reads { (T.reads source.new).lower + digit_count (result.left - 1)
         ≤ (T.reads source.old).lower + 23 }
     ensures reads_first { result.low ≡ 0
@@ -144,26 +144,26 @@ fn guessed<const ONE: u8, T: TableSource>(
     ensures words { (T.reads source.new).words ≡ (T.reads source.old).words }
     ensures same { T.lists source.new ≡ T.lists source.old }
 {
-    let half = side_of::<ONE, T>(source, part, range, range.left / 2, rank);
-    let quarter = side_of::<ONE, T>(source, part, half, half.left / 2, rank);
+    let half = side_of::<BIT, T>(source, part, range, range.left / 2, rank);
+    let quarter = side_of::<BIT, T>(source, part, half, half.left / 2, rank);
     let from = guess(quarter, rank);
-    let near = side_of::<ONE, T>(source, part, quarter, from, rank);
+    let near = side_of::<BIT, T>(source, part, quarter, from, rank);
     if near.low == quarter.low {
         return near;
     }
-    side_of::<ONE, T>(source, part, near, WINDOW, rank)
+    side_of::<BIT, T>(source, part, near, WINDOW, rank)
 }
 
 /// The range in which a search by halves begins: all entries of a part where they are few, else what a guess leaves.
 #[inline(always)]
-fn search_range<const ONE: u8, T: TableSource>(
+fn search_range<const BIT: u8, T: TableSource>(
     source: &mut T,
     part: usize,
     rank: usize,
 ) -> EntryRange
     requires sized { HasSizes (T.lists source.old) }
     requires inside { part < length (T.lists source.old).upper }
-    ensures range { IsRange ONE (T.lists source.old) part rank result }
+    ensures range { IsRange BIT (T.lists source.old) part rank result }
     ensures reads { (T.reads source.new).lower + digit_count (result.left - 1)
         ≤ (T.reads source.old).lower + 23 }
     ensures reads_first { result.low ≡ 0
@@ -182,7 +182,7 @@ fn search_range<const ONE: u8, T: TableSource>(
     if range.left < FEW {
         return range;
     }
-    guessed::<ONE, T>(source, part, range, rank)
+    narrow_by_guess::<BIT, T>(source, part, range, rank)
 }
 
 /// The last entry of a range of a part with no more than `rank` of the kind before it in the part, where the tables are
@@ -196,7 +196,7 @@ fn search_range<const ONE: u8, T: TableSource>(
 // It halves with the same rounds for every rank, so only the comparison depends on what was read; the entry is kept beside
 // its place, and the compiler moves both by the comparison without a branch (docs/performance-log.md has the times).
 #[inline(always)]
-pub fn last_in_range<const ONE: u8, T: TableSource>(
+pub fn last_in_range<const BIT: u8, T: TableSource>(
     source: &mut T,
     part: usize,
     range: EntryRange,
@@ -204,16 +204,16 @@ pub fn last_in_range<const ONE: u8, T: TableSource>(
 ) -> (usize, u64)
     requires sized { HasSizes (T.lists source.old) }
     requires inside { part < length (T.lists source.old).upper }
-    requires range { IsRange ONE (T.lists source.old) part rank range }
+    requires range { IsRange BIT (T.lists source.old) part rank range }
     ensures from { range.low ≤ result.0 }
     ensures to { result.0 < range.low + range.left }
     ensures last { HasTables (T.lists source.old)
-        → IsLastEntry (sought_in ONE (T.lists source.old).words)
+        → IsLastEntry (sought_in BIT (T.lists source.old).words)
         (length (T.lists source.old).lower) part rank result.0 }
     ensures entry { HasTables (T.lists source.old) → result.1
-        ≡ lower_entry (sought_in ONE (T.lists source.old).words) (entry_in part result.0) }
+        ≡ lower_entry (sought_in BIT (T.lists source.old).words) (entry_in part result.0) }
     ensures told { result.1
-        ≡ told_entry (kind ONE) (T.lists source.old) (entry_in part result.0) }
+        ≡ told_entry (as_bit BIT) (T.lists source.old) (entry_in part result.0) }
     ensures reads { ReadsAtMost (T.reads source.old) (T.reads source.new)
         0 (digit_count (range.left - 1) + 1) 0 }
     ensures reads_later { 0 < range.low → ReadsAtMost (T.reads source.old) (T.reads source.new)
@@ -229,7 +229,7 @@ pub fn last_in_range<const ONE: u8, T: TableSource>(
     } = range;
     while left > 1 {
         let half = left / 2;
-        let next = sought_entry::<ONE, T>(source, first + low + half);
+        let next = sought_entry::<BIT, T>(source, first + low + half);
         // The entry is kept with its place: then both are moved by the compare, and no branch is taken on it.
         if ones_to_entry(next) <= rank {
             low += half;
@@ -238,7 +238,7 @@ pub fn last_in_range<const ONE: u8, T: TableSource>(
         left -= half;
     }
     if low == 0 {
-        packed = sought_entry::<ONE, T>(source, first);
+        packed = sought_entry::<BIT, T>(source, first);
     }
     (low, packed)
 }
@@ -250,7 +250,7 @@ pub fn last_in_range<const ONE: u8, T: TableSource>(
 /// There is such a part, and the tables are as long as those of the words. They may hold anything.
 /// # Cost
 /// At most 23 lower entries are read, whatever they hold.
-pub fn last_entry<const ONE: u8, T: TableSource>(
+pub fn last_entry<const BIT: u8, T: TableSource>(
     source: &mut T,
     part: usize,
     rank: usize,
@@ -259,15 +259,15 @@ pub fn last_entry<const ONE: u8, T: TableSource>(
     requires inside { part < length (T.lists source.old).upper }
     ensures inside { result.0 < entries_from (length (T.lists source.old).lower) part }
     ensures last { HasTables (T.lists source.old)
-        → IsLastEntry (sought_in ONE (T.lists source.old).words)
+        → IsLastEntry (sought_in BIT (T.lists source.old).words)
         (length (T.lists source.old).lower) part rank result.0 }
     ensures entry { HasTables (T.lists source.old) → result.1
-        ≡ lower_entry (sought_in ONE (T.lists source.old).words) (entry_in part result.0) }
+        ≡ lower_entry (sought_in BIT (T.lists source.old).words) (entry_in part result.0) }
     ensures told { result.1
-        ≡ told_entry (kind ONE) (T.lists source.old) (entry_in part result.0) }
+        ≡ told_entry (as_bit BIT) (T.lists source.old) (entry_in part result.0) }
     ensures reads { ReadsAtMost (T.reads source.old) (T.reads source.new) 0 23 0 }
     ensures same { T.lists source.new ≡ T.lists source.old }
 {
-    let range = search_range::<ONE, T>(source, part, rank);
-    last_in_range::<ONE, T>(source, part, range, rank)
+    let range = search_range::<BIT, T>(source, part, rank);
+    last_in_range::<BIT, T>(source, part, range, rank)
 }

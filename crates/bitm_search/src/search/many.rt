@@ -1,7 +1,7 @@
 //! Many queries at once over a source: selections side by side, so that one waits for the memory while the others do.
 ghost use Rattle.std.specs.Prelude.{◌≡◌, ◌+◌, ◌*◌, ◌<◌, ◌≤◌, ℕ, All, length};
 ghost use Rattle.bit_lists.specs.Bits.{digit_count};
-ghost use Rattle.bit_lists.specs.Count.{count_of, kind};
+ghost use Rattle.bit_lists.specs.Count.{count_of, as_bit};
 ghost use Rattle.bitm_search.specs.Answers.{ToldEach};
 ghost use Rattle.bitm_search.specs.Many.{RanksEach, PicksEach, AreSearches};
 ghost use Rattle.bitm_search.specs.Reads.{OnlyReads, ReadsAtMost};
@@ -38,7 +38,7 @@ pub fn rank_many_on<T: TableSource>(source: &mut T, indices: &[usize], ranks: &m
 }
 
 /// How the entries of a block of queries are found: by halves, or by samples.
-pub trait FindsEntries<const ONE: u8, T: TableSource> {
+pub trait FindsEntries<const BIT: u8, T: TableSource> {
     /// At most so many lower entries are read for each query.
     ghost lowers: { ℕ };
 
@@ -54,7 +54,7 @@ pub trait FindsEntries<const ONE: u8, T: TableSource> {
         requires some { 0 < length ranks.now }
         requires few { length ranks.now ≤ 16 }
         requires block { length queries.old ≡ 16 }
-        ensures searches { AreSearches ONE (T.lists source.old) ranks.now queries.new 0 }
+        ensures searches { AreSearches BIT (T.lists source.old) ranks.now queries.new 0 }
         ensures reads { ReadsAtMost (T.reads source.old) (T.reads source.new)
             (length ranks.now * (digit_count (length (T.lists source.old).upper) + 1))
             (lowers * length ranks.now) 0 }
@@ -65,17 +65,17 @@ pub trait FindsEntries<const ONE: u8, T: TableSource> {
 #[derive(Clone, Copy)]
 pub struct ByTables;
 
-impl<const ONE: u8, T: TableSource> FindsEntries<ONE, T> for ByTables {
+impl<const BIT: u8, T: TableSource> FindsEntries<BIT, T> for ByTables {
     ghost lowers = { 21 };
 
     #[inline(always)]
     fn find(&self, source: &mut T, ranks: &[usize], queries: &mut [Query]) {
-        find_by_halves::<ONE, T>(source, ranks, queries);
+        find_by_halves::<BIT, T>(source, ranks, queries);
     }
 }
 
 /// Selections of no more ranks than go side by side.
-fn select_block<const ONE: u8, T: TableSource, F: FindsEntries<ONE, T>>(
+fn select_block<const BIT: u8, T: TableSource, F: FindsEntries<BIT, T>>(
     source: &mut T,
     finder: &F,
     ranks: &[usize],
@@ -86,7 +86,7 @@ fn select_block<const ONE: u8, T: TableSource, F: FindsEntries<ONE, T>>(
     requires some { 0 < length ranks.now }
     requires few { length ranks.now ≤ 16 }
     requires same_length { length ranks.now ≡ length places.old }
-    ensures told { ToldEach (kind ONE) (T.lists source.old) ranks.now places.new }
+    ensures told { ToldEach (as_bit BIT) (T.lists source.old) ranks.now places.new }
     ensures reads { ReadsAtMost (T.reads source.old) (T.reads source.new)
         (length ranks.now * (digit_count (length (T.lists source.old).upper) + 1))
         ((F.lowers + 1) * length ranks.now) (8 * length ranks.now) }
@@ -94,7 +94,7 @@ fn select_block<const ONE: u8, T: TableSource, F: FindsEntries<ONE, T>>(
 {
     let mut queries = [NO_QUERY; SIDE_BY_SIDE];
     finder.find(source, ranks, &mut queries);
-    tell_entries::<ONE, T>(source, ranks, &queries, places);
+    tell_entries::<BIT, T>(source, ranks, &queries, places);
 }
 
 /// For each rank what `total_select_many_on` tells, with the entries found by `finder`.
@@ -105,7 +105,7 @@ fn select_block<const ONE: u8, T: TableSource, F: FindsEntries<ONE, T>>(
 /// For each rank at most as many upper entries as their number has binary digits and one more, one lower entry more
 /// than `finder` reads, and eight words are read, whatever the tables hold.
 #[inline(always)]
-pub fn tell_many_on<const ONE: u8, T: TableSource, F: FindsEntries<ONE, T>>(
+pub fn tell_many_on<const BIT: u8, T: TableSource, F: FindsEntries<BIT, T>>(
     source: &mut T,
     finder: &F,
     ranks: &[usize],
@@ -114,7 +114,7 @@ pub fn tell_many_on<const ONE: u8, T: TableSource, F: FindsEntries<ONE, T>>(
     requires sized { HasSizes (T.lists source.old) }
     requires part { 0 < length (T.lists source.old).upper }
     requires same_length { length ranks.now ≡ length places.old }
-    ensures told { ToldEach (kind ONE) (T.lists source.old) ranks.now places.new }
+    ensures told { ToldEach (as_bit BIT) (T.lists source.old) ranks.now places.new }
     ensures reads { OnlyReads T.lists T.reads source.old source.new
         (length ranks.now * (digit_count (length (T.lists source.old).upper) + 1))
         ((F.lowers + 1) * length ranks.now) (8 * length ranks.now) }
@@ -122,13 +122,13 @@ pub fn tell_many_on<const ONE: u8, T: TableSource, F: FindsEntries<ONE, T>>(
     let mut from = 0;
     while from < ranks.len() {
         let to = from + (ranks.len() - from).min(SIDE_BY_SIDE);
-        select_block::<ONE, T, F>(source, finder, &ranks[from..to], &mut places[from..to]);
+        select_block::<BIT, T, F>(source, finder, &ranks[from..to], &mut places[from..to]);
         from = to;
     }
 }
 
 /// For each rank the place of the one of the source's words with so many ones before it, or `NO_ANSWER`; zeros in place
-/// of ones where `ONE` is 0.
+/// of ones where `BIT` is 0.
 ///
 /// Whatever the tables hold, a place is inside and has such a bit. Where they are those of the words it is the right
 /// one, `NO_ANSWER` is told exactly where there is none, and `WRONG_TABLES` never. Sixteen searches go side by side, so
@@ -141,7 +141,7 @@ pub fn tell_many_on<const ONE: u8, T: TableSource, F: FindsEntries<ONE, T>>(
 /// # Cost
 /// For each rank at most as many upper entries as their number has binary digits and one more, 22 lower entries and
 /// eight words are read, whatever the tables hold.
-pub fn total_select_many_on<const ONE: u8, T: TableSource>(
+pub fn total_select_many_on<const BIT: u8, T: TableSource>(
     source: &mut T,
     ranks: &[usize],
     places: &mut [usize],
@@ -149,16 +149,16 @@ pub fn total_select_many_on<const ONE: u8, T: TableSource>(
     requires sized { HasSizes (T.lists source.old) }
     requires part { 0 < length (T.lists source.old).upper }
     requires same_length { length ranks.now ≡ length places.old }
-    ensures told { ToldEach (kind ONE) (T.lists source.old) ranks.now places.new }
+    ensures told { ToldEach (as_bit BIT) (T.lists source.old) ranks.now places.new }
     ensures reads { OnlyReads T.lists T.reads source.old source.new
         (length ranks.now * (digit_count (length (T.lists source.old).upper) + 1))
         (22 * length ranks.now) (8 * length ranks.now) }
 {
-    tell_many_on::<ONE, T, ByTables>(source, &ByTables, ranks, places);
+    tell_many_on::<BIT, T, ByTables>(source, &ByTables, ranks, places);
 }
 
 /// For each rank the place of the one of the source's words with so many ones before it; zeros in place of ones where
-/// `ONE` is 0.
+/// `BIT` is 0.
 ///
 /// # Conditions
 /// The source's tables are those of its words, of fewer than 2^58 words. There are as many `places` as `ranks`, and
@@ -167,15 +167,15 @@ pub fn total_select_many_on<const ONE: u8, T: TableSource>(
 /// For each rank at most as many upper entries as their number has binary digits and one more, 22 lower entries and
 /// eight words are read.
 #[inline]
-pub fn select_many_on<const ONE: u8, T: TableSource>(
+pub fn select_many_on<const BIT: u8, T: TableSource>(
     source: &mut T,
     ranks: &[usize],
     places: &mut [usize],
 )
     requires indexed { IsIndexed (T.lists source.old) }
     requires same_length { length ranks.now ≡ length places.old }
-    requires some { All (λ r. r < count_of (bits_in (T.lists source.old)) (kind ONE)) ranks.now }
-    ensures answers { PicksEach (bits_in (T.lists source.old)) (kind ONE) ranks.now places.new }
+    requires some { All (λ r. r < count_of (bits_in (T.lists source.old)) (as_bit BIT)) ranks.now }
+    ensures answers { PicksEach (bits_in (T.lists source.old)) (as_bit BIT) ranks.now places.new }
     ensures reads { OnlyReads T.lists T.reads source.old source.new
         (length ranks.now * (digit_count (length (T.lists source.old).upper) + 1))
         (22 * length ranks.now) (8 * length ranks.now) }
@@ -183,5 +183,5 @@ pub fn select_many_on<const ONE: u8, T: TableSource>(
     if ranks.len() == 0 {
         return;
     }
-    total_select_many_on::<ONE, T>(source, ranks, places);
+    total_select_many_on::<BIT, T>(source, ranks, places);
 }

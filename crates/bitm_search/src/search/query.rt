@@ -42,15 +42,15 @@ pub(crate) const NO_QUERY: Query = Query { rest: 0, entry: 1 };
 /// A query whose entry is sought in all of the last part with no more than `rank` of the kind before it, where the
 /// tables are those of the words; else in some part.
 #[inline(always)]
-fn begin<const ONE: u8, T: TableSource>(source: &mut T, rank: usize) -> Query
+fn begin<const BIT: u8, T: TableSource>(source: &mut T, rank: usize) -> Query
     requires sized { HasSizes (T.lists source.old) }
     requires some { 0 < length (T.lists source.old).upper }
-    ensures search { IsSearch ONE (T.lists source.old) rank result 21 }
+    ensures search { IsSearch BIT (T.lists source.old) rank result 21 }
     ensures reads { ReadsAtMost (T.reads source.old) (T.reads source.new)
         (digit_count (length (T.lists source.old).upper) + 1) 0 0 }
     ensures same { T.lists source.new ≡ T.lists source.old }
 {
-    let (part, rest) = part_of_rank::<ONE, T>(source, rank);
+    let (part, rest) = part_of_rank::<BIT, T>(source, rank);
     Query {
         rest,
         entry: part * L2_ENTRIES_PER_L1_ENTRY,
@@ -62,18 +62,18 @@ fn begin<const ONE: u8, T: TableSource>(source: &mut T, rank: usize) -> Query
 ///
 /// The sum has no branch on the count.
 #[inline(always)]
-fn step<const ONE: u8, T: TableSource>(source: &mut T, query: Query, size: u32) -> Query
+fn step<const BIT: u8, T: TableSource>(source: &mut T, query: Query, size: u32) -> Query
     requires sized { HasSizes (T.lists source.old) }
     requires size { size < 21 }
     requires next { query.entry + 2 ^ size < length (T.lists source.old).lower }
-    ensures search { (rank : ℕ) → IsSearch ONE (T.lists source.old) rank query (size + 1)
-        → IsSearch ONE (T.lists source.old) rank result size }
+    ensures search { (rank : ℕ) → IsSearch BIT (T.lists source.old) rank query (size + 1)
+        → IsSearch BIT (T.lists source.old) rank result size }
     ensures near { result.entry ≤ query.entry + 2 ^ size }
     ensures reads { ReadsAtMost (T.reads source.old) (T.reads source.new) 0 1 0 }
     ensures same { T.lists source.new ≡ T.lists source.old }
 {
     let Query { rest, entry } = query;
-    let count = ones_to_entry(sought_entry::<ONE, T>(source, entry + (1 << size)));
+    let count = ones_to_entry(sought_entry::<BIT, T>(source, entry + (1 << size)));
     Query {
         rest,
         entry: entry + (is_at_most(count, rest) << size),
@@ -82,12 +82,12 @@ fn step<const ONE: u8, T: TableSource>(source: &mut T, query: Query, size: u32) 
 
 /// The same where there may be no such entry.
 #[inline(always)]
-fn halve<const ONE: u8, T: TableSource>(source: &mut T, query: Query, size: u32) -> Query
+fn halve<const BIT: u8, T: TableSource>(source: &mut T, query: Query, size: u32) -> Query
     requires sized { HasSizes (T.lists source.old) }
     requires size { size < 21 }
     requires entry { query.entry < length (T.lists source.old).lower }
-    ensures search { (rank : ℕ) → IsSearch ONE (T.lists source.old) rank query (size + 1)
-        → IsSearch ONE (T.lists source.old) rank result size }
+    ensures search { (rank : ℕ) → IsSearch BIT (T.lists source.old) rank query (size + 1)
+        → IsSearch BIT (T.lists source.old) rank result size }
     ensures reads { ReadsAtMost (T.reads source.old) (T.reads source.new) 0 1 0 }
     ensures same { T.lists source.new ≡ T.lists source.old }
 {
@@ -95,28 +95,28 @@ fn halve<const ONE: u8, T: TableSource>(source: &mut T, query: Query, size: u32)
     if next >= source.lower_len() {
         return query;
     }
-    step::<ONE, T>(source, query, size)
+    step::<BIT, T>(source, query, size)
 }
 
 /// Begins the search of each rank.
 #[inline(always)]
-fn begin_each<const ONE: u8, T: TableSource>(source: &mut T, ranks: &[usize], queries: &mut [Query])
+fn begin_each<const BIT: u8, T: TableSource>(source: &mut T, ranks: &[usize], queries: &mut [Query])
     requires sized { HasSizes (T.lists source.old) }
     requires some { 0 < length (T.lists source.old).upper }
     requires enough { length ranks.now ≤ length queries.old }
-    ensures searches { AreSearches ONE (T.lists source.old) ranks.now queries.new 21 }
+    ensures searches { AreSearches BIT (T.lists source.old) ranks.now queries.new 21 }
     ensures reads { ReadsAtMost (T.reads source.old) (T.reads source.new)
         (length ranks.now * (digit_count (length (T.lists source.old).upper) + 1)) 0 0 }
     ensures same { T.lists source.new ≡ T.lists source.old }
 {
     for k in 0..ranks.len() {
-        queries[k] = begin::<ONE, T>(source, ranks[k]);
+        queries[k] = begin::<BIT, T>(source, ranks[k]);
     }
 }
 
 /// Halves the entries of each search: 2^`size` of them are left.
 #[inline(always)]
-fn halve_each<const ONE: u8, T: TableSource>(
+fn halve_each<const BIT: u8, T: TableSource>(
     source: &mut T,
     ranks: &[usize],
     queries: &mut [Query],
@@ -124,19 +124,19 @@ fn halve_each<const ONE: u8, T: TableSource>(
 )
     requires sized { HasSizes (T.lists source.old) }
     requires size { size < 21 }
-    requires searches { AreSearches ONE (T.lists source.old) ranks.now queries.old (size + 1) }
-    ensures searches { AreSearches ONE (T.lists source.old) ranks.now queries.new size }
+    requires searches { AreSearches BIT (T.lists source.old) ranks.now queries.old (size + 1) }
+    ensures searches { AreSearches BIT (T.lists source.old) ranks.now queries.new size }
     ensures reads { ReadsAtMost (T.reads source.old) (T.reads source.new) 0 (length ranks.now) 0 }
     ensures same { T.lists source.new ≡ T.lists source.old }
 {
     for k in 0..ranks.len() {
-        queries[k] = halve::<ONE, T>(source, queries[k], size);
+        queries[k] = halve::<BIT, T>(source, queries[k], size);
     }
 }
 
 /// Halves the entries of each search that is near its entry: 2^`size` of them are left.
 #[inline(always)]
-fn step_each<const ONE: u8, T: TableSource>(
+fn step_each<const BIT: u8, T: TableSource>(
     source: &mut T,
     ranks: &[usize],
     queries: &mut [Query],
@@ -144,13 +144,13 @@ fn step_each<const ONE: u8, T: TableSource>(
 )
     requires sized { HasSizes (T.lists source.old) }
     requires size { size < 21 }
-    requires near { AreInside ONE (T.lists source.old) ranks.now queries.old (size + 1) }
-    ensures near { AreInside ONE (T.lists source.old) ranks.now queries.new size }
+    requires near { AreInside BIT (T.lists source.old) ranks.now queries.old (size + 1) }
+    ensures near { AreInside BIT (T.lists source.old) ranks.now queries.new size }
     ensures reads { ReadsAtMost (T.reads source.old) (T.reads source.new) 0 (length ranks.now) 0 }
     ensures same { T.lists source.new ≡ T.lists source.old }
 {
     for k in 0..ranks.len() {
-        queries[k] = step::<ONE, T>(source, queries[k], size);
+        queries[k] = step::<BIT, T>(source, queries[k], size);
     }
 }
 
@@ -170,21 +170,21 @@ fn halvings(entries: usize) -> u32
 
 /// In how many entries an item lies, times 2^32, where the items lie evenly in one part; any number would serve.
 #[inline(always)]
-fn entries_per_item<const ONE: u8, T: TableSource>(source: &mut T) -> usize
+fn entries_per_item<const BIT: u8, T: TableSource>(source: &mut T) -> usize
     requires some { 0 < length (T.lists source.old).lower }
     requires few { length (T.lists source.old).lower ≤ 2 ^ 18 }
     ensures reads { ReadsAtMost (T.reads source.old) (T.reads source.new) 0 1 0 }
     ensures same { T.lists source.new ≡ T.lists source.old }
 {
     let last = source.lower_len() - 1;
-    let items = ones_to_entry(sought_entry::<ONE, T>(source, last));
+    let items = ones_to_entry(sought_entry::<BIT, T>(source, last));
     (last << 32) / items.max(1)
 }
 
 /// The query with its entry brought near the one that is sought, by a guess and two entries that are asked whether it is
 /// right; `None` where it is not: the entry is not among the 2^`NEAR` from there on.
 #[inline(always)]
-fn guess<const ONE: u8, T: TableSource>(
+fn guess<const BIT: u8, T: TableSource>(
     source: &mut T,
     query: Query,
     entries_per_item: usize,
@@ -193,8 +193,8 @@ fn guess<const ONE: u8, T: TableSource>(
     requires many { 2 ^ 9 ≤ length (T.lists source.old).lower }
     requires few { length (T.lists source.old).lower ≤ 2 ^ 18 }
     ensures search { IfSome result (λ near. (rank : ℕ)
-        → IsSearch ONE (T.lists source.old) rank query 21
-        → IsInside ONE (T.lists source.old) rank near 5) }
+        → IsSearch BIT (T.lists source.old) rank query 21
+        → IsInside BIT (T.lists source.old) rank near 5) }
     ensures reads { ReadsAtMost (T.reads source.old) (T.reads source.new) 0 2 0 }
     ensures same { T.lists source.new ≡ T.lists source.old }
 {
@@ -202,8 +202,8 @@ fn guess<const ONE: u8, T: TableSource>(
     let about = rest.wrapping_mul(entries_per_item) >> 32;
     let most = source.lower_len() - (1 << NEAR) - 1;
     let entry = about.saturating_sub(1 << (NEAR - 1)).min(most);
-    let below = ones_to_entry(sought_entry::<ONE, T>(source, entry));
-    let above = ones_to_entry(sought_entry::<ONE, T>(source, entry + (1 << NEAR)));
+    let below = ones_to_entry(sought_entry::<BIT, T>(source, entry));
+    let above = ones_to_entry(sought_entry::<BIT, T>(source, entry + (1 << NEAR)));
     if below <= rest && rest < above {
         Some(Query { rest, entry })
     } else {
@@ -214,7 +214,7 @@ fn guess<const ONE: u8, T: TableSource>(
 /// Writes each query, brought near its entry by a guess, and answers whether every guess was right. Where one was not,
 /// `queries` may hold anything.
 #[inline(always)]
-fn guess_each<const ONE: u8, T: TableSource>(
+fn guess_each<const BIT: u8, T: TableSource>(
     source: &mut T,
     ranks: &[usize],
     begun: &[Query],
@@ -223,17 +223,17 @@ fn guess_each<const ONE: u8, T: TableSource>(
     requires one_part { length (T.lists source.old).upper ≡ 1 }
     requires many { 2 ^ 9 ≤ length (T.lists source.old).lower }
     requires few { length (T.lists source.old).lower ≤ 2 ^ 18 }
-    requires searches { AreSearches ONE (T.lists source.old) ranks.now begun.now 21 }
+    requires searches { AreSearches BIT (T.lists source.old) ranks.now begun.now 21 }
     requires enough { length ranks.now ≤ length queries.old }
     ensures near { IsTrue result
-        → AreInside ONE (T.lists source.old) ranks.now queries.new 5 }
+        → AreInside BIT (T.lists source.old) ranks.now queries.new 5 }
     ensures reads { ReadsAtMost (T.reads source.old) (T.reads source.new)
         0 (2 * length ranks.now + 1) 0 }
     ensures same { T.lists source.new ≡ T.lists source.old }
 {
-    let each = entries_per_item::<ONE, T>(source);
+    let each = entries_per_item::<BIT, T>(source);
     for k in 0..ranks.len() {
-        match guess::<ONE, T>(source, begun[k], each) {
+        match guess::<BIT, T>(source, begun[k], each) {
             Some(query) => queries[k] = query,
             None => return false,
         }
@@ -254,10 +254,10 @@ fn guesses<T: TableSource>(source: &T) -> bool
 
 /// Finds the entries of queries that are near them: the entries that are asked are there, so no test asks whether.
 #[inline(always)]
-fn close_each<const ONE: u8, T: TableSource>(source: &mut T, ranks: &[usize], queries: &mut [Query])
+fn close_each<const BIT: u8, T: TableSource>(source: &mut T, ranks: &[usize], queries: &mut [Query])
     requires sized { HasSizes (T.lists source.old) }
-    requires near { AreInside ONE (T.lists source.old) ranks.now queries.old 5 }
-    ensures searches { AreSearches ONE (T.lists source.old) ranks.now queries.new 0 }
+    requires near { AreInside BIT (T.lists source.old) ranks.now queries.old 5 }
+    ensures searches { AreSearches BIT (T.lists source.old) ranks.now queries.new 0 }
     ensures reads { ReadsAtMost (T.reads source.old) (T.reads source.new)
         0 (5 * length ranks.now) 0 }
     ensures same { T.lists source.new ≡ T.lists source.old }
@@ -265,16 +265,16 @@ fn close_each<const ONE: u8, T: TableSource>(source: &mut T, ranks: &[usize], qu
     let mut size = NEAR;
     while size > 0 {
         size -= 1;
-        step_each::<ONE, T>(source, ranks, queries, size);
+        step_each::<BIT, T>(source, ranks, queries, size);
     }
 }
 
 /// Finds the entries of queries that were begun, by all halvings.
 #[inline(always)]
-fn halve_all<const ONE: u8, T: TableSource>(source: &mut T, ranks: &[usize], queries: &mut [Query])
+fn halve_all<const BIT: u8, T: TableSource>(source: &mut T, ranks: &[usize], queries: &mut [Query])
     requires sized { HasSizes (T.lists source.old) }
-    requires searches { AreSearches ONE (T.lists source.old) ranks.now queries.old 21 }
-    ensures searches { AreSearches ONE (T.lists source.old) ranks.now queries.new 0 }
+    requires searches { AreSearches BIT (T.lists source.old) ranks.now queries.old 21 }
+    ensures searches { AreSearches BIT (T.lists source.old) ranks.now queries.new 0 }
     ensures reads { ReadsAtMost (T.reads source.old) (T.reads source.new)
         0 (21 * length ranks.now) 0 }
     ensures reads_few { length (T.lists source.old).lower ≤ 2 ^ 18
@@ -284,7 +284,7 @@ fn halve_all<const ONE: u8, T: TableSource>(source: &mut T, ranks: &[usize], que
     let mut size = halvings(source.lower_len());
     while size > 0 {
         size -= 1;
-        halve_each::<ONE, T>(source, ranks, queries, size);
+        halve_each::<BIT, T>(source, ranks, queries, size);
     }
 }
 
@@ -311,7 +311,7 @@ fn copy_each(begun: &[Query], queries: &mut [Query])
 /// For each rank at most as many upper entries as their number has binary digits and one more, and 21 lower entries are
 /// read, whatever the tables hold.
 #[inline(always)]
-pub fn find_by_halves<const ONE: u8, T: TableSource>(
+pub fn find_by_halves<const BIT: u8, T: TableSource>(
     source: &mut T,
     ranks: &[usize],
     queries: &mut [Query],
@@ -321,18 +321,18 @@ pub fn find_by_halves<const ONE: u8, T: TableSource>(
     requires some { 0 < length ranks.now }
     requires few { length ranks.now ≤ 16 }
     requires block { length queries.old ≡ 16 }
-    ensures searches { AreSearches ONE (T.lists source.old) ranks.now queries.new 0 }
+    ensures searches { AreSearches BIT (T.lists source.old) ranks.now queries.new 0 }
     ensures reads { ReadsAtMost (T.reads source.old) (T.reads source.new)
         (length ranks.now * (digit_count (length (T.lists source.old).upper) + 1))
         (21 * length ranks.now) 0 }
     ensures same { T.lists source.new ≡ T.lists source.old }
 {
     let mut begun = [NO_QUERY; SIDE_BY_SIDE];
-    begin_each::<ONE, T>(source, ranks, &mut begun);
-    if guesses(source) && guess_each::<ONE, T>(source, ranks, &begun, queries) {
-        close_each::<ONE, T>(source, ranks, queries);
+    begin_each::<BIT, T>(source, ranks, &mut begun);
+    if guesses(source) && guess_each::<BIT, T>(source, ranks, &begun, queries) {
+        close_each::<BIT, T>(source, ranks, queries);
         return;
     }
     copy_each(&begun, queries);
-    halve_all::<ONE, T>(source, ranks, queries);
+    halve_all::<BIT, T>(source, ranks, queries);
 }

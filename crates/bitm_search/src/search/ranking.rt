@@ -10,7 +10,7 @@ use crate::entry::{ones_to_entry, ones_to_record};
 use crate::levels::{
     BITS_PER_L2_ENTRY, RECORD_BITS, RECORDS_PER_L2_ENTRY, U64_PER_L1_ENTRY, U64_PER_L2_RECORDS,
 };
-use crate::source::TableSource;
+use crate::source::{Probe, TableSource};
 use broadword::ones_through;
 
 /// So many words, 4 MiB, stay in a processor's caches. Past that a rank waits for its words, and more ranks wait side
@@ -103,6 +103,23 @@ pub fn ones_in_record<T: TableSource>(source: &mut T, first: usize, end: usize) 
     } else {
         tested_ones(source, first, end)
     }
+}
+
+/// What `ones_in_record` answers, of words that have no tables.
+///
+/// # Conditions
+/// Those of `ones_in_record`.
+#[inline(always)]
+pub fn ones_of_words(words: &[u64], first: usize, end: usize) -> usize
+    requires short { IsShort words.now }
+    requires order { first ≤ end }
+    requires near { end < first + 8 }
+    requires inside { end < length words.now }
+    ensures { let b = bits_of words.now in
+        ones_before b (64 * first) + result ≡ ones_before b (64 * end) }
+{
+    let mut source = Probe::new(words, [].as_slice(), [].as_slice());
+    ones_in_record(&mut source, first, end)
 }
 
 /// How many ones stand before a part, where the tables are those of the words. Where there is one part none do, and its

@@ -3,7 +3,7 @@
 ghost use Rattle.std.specs.Prelude.{◌≡◌, ◌+◌, ◌-◌, ◌*◌, ◌/◌, ◌%◌, ◌^◌, ◌<◌, ◌≤◌, ◌≢◌};
 ghost use Rattle.std.specs.Prelude.{length, count_ones, IfSome, MatchOption};
 ghost use Rattle.bit_lists.specs.Bits.{bits_of, IsShort};
-ghost use Rattle.bit_lists.specs.Count.{ones_before, kind, Picks};
+ghost use Rattle.bit_lists.specs.Count.{ones_before, as_bit, Picks};
 ghost use Rattle.bitm_search.specs.Answers.{HasBit, IsFoundFrom, IsSelected, IsSelectedFrom};
 ghost use Rattle.bitm_search.specs.Entry.{field_1, field_2, field_3, lower_entry, record_field};
 ghost use Rattle.bitm_search.specs.Reads.{word_read, ReadsAtMost};
@@ -60,24 +60,24 @@ pub fn select_in_word(word: u64, rank: usize) -> usize
     select64(word, rank as u8) as usize
 }
 
-/// Word `at` of the bits in which ones are sought: negated where `ONE` is 0.
+/// Word `at` of the bits in which ones are sought: negated where `BIT` is 0.
 ///
 /// # Conditions
 /// There is such a word. Nothing is asked of the tables.
 #[inline(always)]
-pub fn sought_word<const ONE: u8, T: TableSource>(source: &mut T, at: usize) -> u64
+pub fn sought_word<const BIT: u8, T: TableSource>(source: &mut T, at: usize) -> u64
     requires { at < length (T.lists source.old).words }
-    ensures word { IsWord (sought_in ONE (T.lists source.old).words) at result }
+    ensures word { IsWord (sought_in BIT (T.lists source.old).words) at result }
     ensures counted { T.reads source.new ≡ word_read (T.reads source.old) }
     ensures same { T.lists source.new ≡ T.lists source.old }
 {
     let word = source.word(at);
-    if ONE == 0 { !word } else { word }
+    if BIT == 0 { !word } else { word }
 }
 
 /// Selection among `count` words from `first` on; the rank counts from there.
 #[inline(always)]
-pub fn among<const ONE: u8, T: TableSource>(
+pub fn among<const BIT: u8, T: TableSource>(
     source: &mut T,
     first: usize,
     count: usize,
@@ -87,17 +87,17 @@ pub fn among<const ONE: u8, T: TableSource>(
     requires first { first < 2 ^ 60 }
     requires most { count ≤ 8 }
     requires inside { count ≤ length (T.lists source.old).words - first }
-    ensures answer { let m = sought_in ONE (T.lists source.old).words in
+    ensures answer { let m = sought_in BIT (T.lists source.old).words in
         MatchOption result
         (ones_before m (64 * (first + count)) ≤ ones_before m (64 * first) + rank)
-        (Picks (bits_in (T.lists source.old)) (kind ONE) (ones_before m (64 * first) + rank)) }
+        (Picks (bits_in (T.lists source.old)) (as_bit BIT) (ones_before m (64 * first) + rank)) }
     ensures inside { IfSome result (λ p. (64 * first ≤ p) × (p < 64 * (first + count))) }
     ensures reads { ReadsAtMost (T.reads source.old) (T.reads source.new) 0 0 count }
     ensures same { T.lists source.new ≡ T.lists source.old }
 {
     let mut rest = rank;
     for k in 0..count {
-        let word = sought_word::<ONE, T>(source, first + k);
+        let word = sought_word::<BIT, T>(source, first + k);
         let ones = word.count_ones() as usize;
         if rest < ones {
             return Some((first + k) * 64 + select_in_word(word, rest));
@@ -109,11 +109,11 @@ pub fn among<const ONE: u8, T: TableSource>(
 
 /// Selection among the eight words from `first` on, of which some may miss; the rank counts from there.
 #[inline(always)]
-fn in_record<const ONE: u8, T: TableSource>(source: &mut T, first: usize, rank: usize) -> Selected
+fn in_record<const BIT: u8, T: TableSource>(source: &mut T, first: usize, rank: usize) -> Selected
     requires short { IsShort (T.lists source.old).words }
     requires first { first < 2 ^ 60 }
-    ensures answer { IsSelectedFrom (T.lists source.old).words (kind ONE) first
-        (ones_before (sought_in ONE (T.lists source.old).words) (64 * first) + rank) result }
+    ensures answer { IsSelectedFrom (T.lists source.old).words (as_bit BIT) first
+        (ones_before (sought_in BIT (T.lists source.old).words) (64 * first) + rank) result }
     ensures inside { IsFoundFrom (64 * first) (64 * (first + 8)) result }
     ensures last { IfAbsent result (length (T.lists source.old).words ≤ first + 8) }
     ensures reads { ReadsAtMost (T.reads source.old) (T.reads source.new) 0 0 8 }
@@ -122,12 +122,12 @@ fn in_record<const ONE: u8, T: TableSource>(source: &mut T, first: usize, rank: 
     let len = source.words_len();
     if first + U64_PER_L2_RECORDS < len {
         // The number of words is fixed here, so that no loop is left.
-        return match among::<ONE, T>(source, first, U64_PER_L2_RECORDS, rank) {
+        return match among::<BIT, T>(source, first, U64_PER_L2_RECORDS, rank) {
             Some(place) => Selected::Found(place),
             None => Selected::WrongTables,
         };
     }
-    match among::<ONE, T>(source, first, len.saturating_sub(first), rank) {
+    match among::<BIT, T>(source, first, len.saturating_sub(first), rank) {
         Some(place) => Selected::Found(place),
         None => Selected::Absent,
     }
@@ -136,7 +136,7 @@ fn in_record<const ONE: u8, T: TableSource>(source: &mut T, first: usize, rank: 
 /// Selection in entry `entry` of a part, which packs `packed`: the last one with no more than `rank` of the kind
 /// before it in the part, if the tables are right. `TESTS` as in `search_on`.
 #[inline(always)]
-pub fn in_packed<const ONE: u8, const TESTS: u8, T: TableSource>(
+pub fn in_packed<const BIT: u8, const TESTS: u8, T: TableSource>(
     source: &mut T,
     part: usize,
     entry: usize,
@@ -146,23 +146,23 @@ pub fn in_packed<const ONE: u8, const TESTS: u8, T: TableSource>(
     requires sized { HasSizes (T.lists source.old) }
     requires inside { entry < entries_from (length (T.lists source.old).lower) part }
     requires part { HasTables (T.lists source.old) →
-        let m = sought_in ONE (T.lists source.old).words in
+        let m = sought_in BIT (T.lists source.old).words in
         IsLastPart m (length (T.lists source.old).upper)
         (ones_before m (part * 2 ^ 32) + rank) part }
     requires entry { HasTables (T.lists source.old)
-        → IsLastEntry (sought_in ONE (T.lists source.old).words)
+        → IsLastEntry (sought_in BIT (T.lists source.old).words)
         (length (T.lists source.old).lower) part rank entry }
     requires packed { HasTables (T.lists source.old) → packed
-        ≡ lower_entry (sought_in ONE (T.lists source.old).words) (entry_in part entry) }
-    ensures bit { HasBit (bits_in (T.lists source.old)) (kind ONE) result }
+        ≡ lower_entry (sought_in BIT (T.lists source.old).words) (entry_in part entry) }
+    ensures bit { HasBit (bits_in (T.lists source.old)) (as_bit BIT) result }
     ensures answer { HasTables (T.lists source.old) →
-        let m = sought_in ONE (T.lists source.old).words in
-        IsSelected (bits_in (T.lists source.old)) (kind ONE)
+        let m = sought_in BIT (T.lists source.old).words in
+        IsSelected (bits_in (T.lists source.old)) (as_bit BIT)
         (ones_before m (part * 2 ^ 32) + rank) result }
     ensures inside { IsFoundFrom
         (2048 * entry_in part entry) (2048 * (entry_in part entry + 1)) result }
     ensures none { TESTS ≢ 0 → IfAbsent result
-        (EntryTellsNone (kind ONE) (T.lists source.old) (entry_in part entry) packed rank) }
+        (EntryTellsNone (as_bit BIT) (T.lists source.old) (entry_in part entry) packed rank) }
     ensures reads { ReadsAtMost (T.reads source.old) (T.reads source.new) 0 0 8 }
     ensures same { T.lists source.new ≡ T.lists source.old }
 {
@@ -174,5 +174,5 @@ pub fn in_packed<const ONE: u8, const TESTS: u8, T: TableSource>(
     if TESTS != 0 && left > rank {
         return Selected::WrongTables;
     }
-    in_record::<ONE, T>(source, first, left)
+    in_record::<BIT, T>(source, first, left)
 }

@@ -4,7 +4,7 @@
 //! search ends as well, with some part and some entry.
 ghost use Rattle.std.specs.Prelude.{◌≡◌, ◌+◌, ◌-◌, ◌*◌, ◌/◌, ◌^◌, ◌<◌, ◌≤◌, ◌≢◌, length};
 ghost use Rattle.bit_lists.specs.Bits.{digit_count};
-ghost use Rattle.bit_lists.specs.Count.{ones_before, kind, IsSelect};
+ghost use Rattle.bit_lists.specs.Count.{ones_before, as_bit, IsSelect};
 ghost use Rattle.bitm_search.specs.Answers.{HasBit, IsSelected};
 ghost use Rattle.bitm_search.specs.Reads.{upper_read, OnlyReads, ReadsAtMost};
 ghost use Rattle.bitm_search.specs.Search.{sought_in, IsLastPart, IsPartOf};
@@ -16,7 +16,7 @@ use crate::search::record::in_packed;
 use crate::search::selected::{Selected, found};
 use crate::source::TableSource;
 
-/// The place of the one of the source's words with exactly `rank` ones before it; zeros in place of ones where `ONE`
+/// The place of the one of the source's words with exactly `rank` ones before it; zeros in place of ones where `BIT`
 /// is 0.
 ///
 /// Whatever the tables hold, a place that is found is inside and has such a bit. Where they are those of the words it
@@ -27,20 +27,20 @@ use crate::source::TableSource;
 /// # Cost
 /// At most as many upper entries as their number has binary digits and one more, 23 lower entries and eight words are
 /// read, whatever the tables hold.
-pub fn total_select_on<const ONE: u8, T: TableSource>(source: &mut T, rank: usize) -> Selected
+pub fn total_select_on<const BIT: u8, T: TableSource>(source: &mut T, rank: usize) -> Selected
     requires { HasSizes (T.lists source.old) }
-    ensures bit { HasBit (bits_in (T.lists source.old)) (kind ONE) result }
+    ensures bit { HasBit (bits_in (T.lists source.old)) (as_bit BIT) result }
     ensures answer { HasTables (T.lists source.old)
-        → IsSelected (bits_in (T.lists source.old)) (kind ONE) rank result }
-    ensures none { IfAbsent result (TellsNone (kind ONE) (T.lists source.old) rank) }
+        → IsSelected (bits_in (T.lists source.old)) (as_bit BIT) rank result }
+    ensures none { IfAbsent result (TellsNone (as_bit BIT) (T.lists source.old) rank) }
     ensures reads { OnlyReads T.lists T.reads source.old source.new
         (digit_count (length (T.lists source.old).upper) + 1) 23 8 }
 {
-    search_on::<ONE, 1, T>(source, rank)
+    search_on::<BIT, 1, T>(source, rank)
 }
 
 /// The place of the one of the source's words with exactly `rank` ones before it, and `None` exactly where there is
-/// none; zeros in place of ones where `ONE` is 0.
+/// none; zeros in place of ones where `BIT` is 0.
 ///
 /// # Conditions
 /// The source's tables are those of its words, of fewer than 2^58 words.
@@ -50,13 +50,13 @@ pub fn total_select_on<const ONE: u8, T: TableSource>(source: &mut T, rank: usiz
 /// # Source
 /// The levels are those of Zhou, Andersen and Kaminsky, 'Space-efficient, high-performance rank and select structures
 /// on uncompressed bit sequences' (SEA 2013).
-pub fn binary_select_on<const ONE: u8, T: TableSource>(source: &mut T, rank: usize) -> Option<usize>
+pub fn binary_select_on<const BIT: u8, T: TableSource>(source: &mut T, rank: usize) -> Option<usize>
     requires { IsIndexed (T.lists source.old) }
-    ensures answer { IsSelect (bits_in (T.lists source.old)) (kind ONE) rank result }
+    ensures answer { IsSelect (bits_in (T.lists source.old)) (as_bit BIT) rank result }
     ensures reads { OnlyReads T.lists T.reads source.old source.new
         (digit_count (length (T.lists source.old).upper) + 1) 23 8 }
 {
-    found(search_on::<ONE, 0, T>(source, rank))
+    found(search_on::<BIT, 0, T>(source, rank))
 }
 
 /// What `total_select_on` answers. Where `TESTS` is 0 no test looks for a difference that wrapped: a rank that did is
@@ -67,42 +67,42 @@ pub fn binary_select_on<const ONE: u8, T: TableSource>(source: &mut T, rank: usi
 /// # Cost
 /// That of `total_select_on`.
 #[inline(always)]
-pub fn search_on<const ONE: u8, const TESTS: u8, T: TableSource>(
+pub fn search_on<const BIT: u8, const TESTS: u8, T: TableSource>(
     source: &mut T,
     rank: usize,
 ) -> Selected
     requires { HasSizes (T.lists source.old) }
-    ensures bit { HasBit (bits_in (T.lists source.old)) (kind ONE) result }
+    ensures bit { HasBit (bits_in (T.lists source.old)) (as_bit BIT) result }
     ensures answer { HasTables (T.lists source.old)
-        → IsSelected (bits_in (T.lists source.old)) (kind ONE) rank result }
+        → IsSelected (bits_in (T.lists source.old)) (as_bit BIT) rank result }
     ensures none { TESTS ≢ 0
-        → IfAbsent result (TellsNone (kind ONE) (T.lists source.old) rank) }
+        → IfAbsent result (TellsNone (as_bit BIT) (T.lists source.old) rank) }
     ensures reads { OnlyReads T.lists T.reads source.old source.new
         (digit_count (length (T.lists source.old).upper) + 1) 23 8 }
 {
     if source.upper_len() == 0 {
         return Selected::Absent;
     }
-    let (part, in_part) = part_of_rank::<ONE, T>(source, rank);
+    let (part, in_part) = part_of_rank::<BIT, T>(source, rank);
     if TESTS != 0 && in_part > rank {
         return Selected::WrongTables;
     }
-    let (entry, packed) = last_entry::<ONE, T>(source, part, in_part);
-    in_packed::<ONE, TESTS, T>(source, part, entry, packed, in_part)
+    let (entry, packed) = last_entry::<BIT, T>(source, part, in_part);
+    in_packed::<BIT, TESTS, T>(source, part, entry, packed, in_part)
 }
 
-/// How many ones, or zeros where `ONE` is 0, stand before a part, where the tables are those of the words.
+/// How many ones, or zeros where `BIT` is 0, stand before a part, where the tables are those of the words.
 #[inline(always)]
-pub fn before_part<const ONE: u8, T: TableSource>(source: &mut T, part: usize) -> usize
+pub fn before_part<const BIT: u8, T: TableSource>(source: &mut T, part: usize) -> usize
     requires { part < length (T.lists source.old).upper }
     ensures count { IsIndexed (T.lists source.old) → result
-        ≡ ones_before (sought_in ONE (T.lists source.old).words) (part * 2 ^ 32) }
-    ensures told { result ≡ told_part (kind ONE) (T.lists source.old) part }
+        ≡ ones_before (sought_in BIT (T.lists source.old).words) (part * 2 ^ 32) }
+    ensures told { result ≡ told_part (as_bit BIT) (T.lists source.old) part }
     ensures counted { T.reads source.new ≡ upper_read (T.reads source.old) }
     ensures same { T.lists source.new ≡ T.lists source.old }
 {
     let ones = source.upper(part);
-    if ONE == 0 {
+    if BIT == 0 {
         (part << 32).wrapping_sub(ones)
     } else {
         ones
@@ -116,11 +116,11 @@ pub fn before_part<const ONE: u8, T: TableSource>(source: &mut T, part: usize) -
 /// There is a part. The tables may hold anything.
 /// # Cost
 /// At most as many upper entries as their number has binary digits are read, whatever they hold.
-pub fn last_part<const ONE: u8, T: TableSource>(source: &mut T, rank: usize) -> usize
+pub fn last_part<const BIT: u8, T: TableSource>(source: &mut T, rank: usize) -> usize
     requires { 0 < length (T.lists source.old).upper }
     ensures inside { result < length (T.lists source.old).upper }
     ensures last { IsIndexed (T.lists source.old)
-        → IsLastPart (sought_in ONE (T.lists source.old).words)
+        → IsLastPart (sought_in BIT (T.lists source.old).words)
         (length (T.lists source.old).upper) rank result }
     ensures reads { ReadsAtMost (T.reads source.old) (T.reads source.new)
         (digit_count (length (T.lists source.old).upper)) 0 0 }
@@ -130,7 +130,7 @@ pub fn last_part<const ONE: u8, T: TableSource>(source: &mut T, rank: usize) -> 
     let mut left = source.upper_len();
     while left > 1 {
         let half = left / 2;
-        if before_part::<ONE, T>(source, low + half) <= rank {
+        if before_part::<BIT, T>(source, low + half) <= rank {
             low += half;
         }
         left -= half;
@@ -144,19 +144,19 @@ pub fn last_part<const ONE: u8, T: TableSource>(source: &mut T, rank: usize) -> 
 /// # Conditions
 /// There is a part. The tables may hold anything.
 #[inline(always)]
-pub fn part_of_rank<const ONE: u8, T: TableSource>(source: &mut T, rank: usize) -> (usize, usize)
+pub fn part_of_rank<const BIT: u8, T: TableSource>(source: &mut T, rank: usize) -> (usize, usize)
     requires { 0 < length (T.lists source.old).upper }
     ensures inside { result.0 < length (T.lists source.old).upper }
     ensures part { IsIndexed (T.lists source.old)
-        → IsPartOf ONE (T.lists source.old) rank result.0 result.1 }
+        → IsPartOf BIT (T.lists source.old) rank result.0 result.1 }
     ensures told { result.1
-        ≡ less rank (told_part (kind ONE) (T.lists source.old) result.0) }
-    ensures fits { told_part (kind ONE) (T.lists source.old) result.0 < 2 ^ 64 }
+        ≡ less rank (told_part (as_bit BIT) (T.lists source.old) result.0) }
+    ensures fits { told_part (as_bit BIT) (T.lists source.old) result.0 < 2 ^ 64 }
     ensures reads { ReadsAtMost (T.reads source.old) (T.reads source.new)
         (digit_count (length (T.lists source.old).upper) + 1) 0 0 }
     ensures same { T.lists source.new ≡ T.lists source.old }
 {
-    let part = last_part::<ONE, T>(source, rank);
-    let before = before_part::<ONE, T>(source, part);
+    let part = last_part::<BIT, T>(source, rank);
+    let before = before_part::<BIT, T>(source, part);
     (part, rank.wrapping_sub(before))
 }

@@ -5,7 +5,7 @@ use Rattle.std.proofs.Math.Pow.{pow_mono}
 use Rattle.std.proofs.lemmas.Nat.{pow-add}
 use Rattle.std.proofs.lemmas.Bool.{cases_lt}
 use Rattle.std.proofs.lemmas.Bool.Decides.{nat_tests}
-use Rattle.bitm_strategies.specs.Density.{log2, optimal, optimal_rare}
+use Rattle.bitm_strategies.specs.Density.{log2, optimal_log, optimal_log_of_rare}
 use Rattle.bit_lists.proofs.lemmas.DigitLemmas.{digit_count_least, digit_count_most}
 
 -- the logarithm by its two powers
@@ -44,7 +44,7 @@ quotient_few n len r some is h k =
 
 module _ (n len most r l d : ℕ) (rare : 4 * n < 3 * len) (some : r ≢ 0) (is : r ≡ min n (len - n))
     (below : 2 ^ l ≤ len / r) (above : len / r < 2 * 2 ^ l) (result : d ≡ max (most - l) 7) where
-  pub optimal_is : d ≡ optimal n len most
+  pub optimal_is : d ≡ optimal_log n len most
   optimal_is =
       let t1 : nat_le (3 * len) (4 * n) ≡ false = grind (arith, nat_tests) in
       let t3 : nat_eq r 0 ≡ false = ne_eqb r 0 some in
@@ -57,7 +57,7 @@ module _ (n len most r l d : ℕ) (rare : 4 * n < 3 * len) (some : r ≢ 0) (is 
         | inr small ↦
             let t2 : nat_lt len (2 * n) ≡ false = le-ltb len (2 * n) small in
             let e : n ≡ r = omega arith in
-            rw (t1, t2) (subst (λ (x : ℕ). d ≡ optimal_rare x len most) (sym e) (rw t3 (omega arith)))
+            rw (t1, t2) (subst (λ (x : ℕ). d ≡ optimal_log_of_rare x len most) (sym e) (rw t3 (omega arith)))
       ]
 
   pub bound_is : n ≤ len → n * 2 ^ (most + 1) ≤ 3 * len * 2 ^ d

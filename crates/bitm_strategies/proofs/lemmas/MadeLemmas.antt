@@ -7,12 +7,12 @@ use Rattle.std.proofs.lemmas.List.FromFn.{map-range_with_len_more}
 use Rattle.std.specs.List.{range_with_len}
 use Rattle.std.specs.Int.{div_ceil}
 use Rattle.bit_lists.proofs.lemmas.CountLemmas.{ones_before-add-zeros_before}
-use Rattle.bit_lists.specs.Count.{count_of, ones_before, count_before, kind}
-use Rattle.bitm_search.specs.Entry.{before_in_part, lower_entry, greatest, FieldsFit}
+use Rattle.bit_lists.specs.Count.{count_of, ones_before, count_before, as_bit}
+use Rattle.bitm_search.specs.Entry.{before_in_part, lower_entry, greatest_entry, FieldsFit}
 use Rattle.bitm_strategies.specs.Samples.{Summarizes, part_of, entry_of, sample}
-use Rattle.bitm_search.specs.Search.{IsLast, IsLastEntry, entries_from, sought}
+use Rattle.bitm_search.specs.Search.{IsLast, IsLastEntry, entries_from, sought_bits}
 use Rattle.bitm_search.proofs.lemmas.EntryLemmas.{entry-complement, entry-fits}
-use Rattle.bitm_search.proofs.lemmas.MarkLemmas.{kind_other}
+use Rattle.bitm_search.proofs.lemmas.MarkLemmas.{as_bit_other}
 use Rattle.bitm_strategies.proofs.lemmas.PartLemmas.{length-part_of, count_of-part_of, last_same, last_alike, entry_last, count_before-between, count_in_part}
 use Rattle.bitm_strategies.proofs.lemmas.SampleLemmas.{ceil_less}
 use Rattle.bitm_search.proofs.lemmas.SoughtLemmas.{entry_ones, entry_zeros}
@@ -21,11 +21,11 @@ use Rattle.bitm_search.proofs.lemmas.TableLemmas.{HasEntries, entries}
 
 -- ---- zeros and ones
 
-pub items_zero : (c : List Bool) (one : ℕ) → one ≡ 0 → count_of c (kind one) ≡ count_of c false
-items_zero c one h = ap (λ (n : ℕ). count_of c (kind n)) h
+pub items_zero : (c : List Bool) (bit : ℕ) → bit ≡ 0 → count_of c (as_bit bit) ≡ count_of c false
+items_zero c bit h = ap (λ (n : ℕ). count_of c (as_bit n)) h
 
-pub items_other : (c : List Bool) (one : ℕ) → one ≢ 0 → count_of c (kind one) ≡ count_of c true
-items_other c one h = ap (count_of c) (kind_other one h)
+pub items_other : (c : List Bool) (bit : ℕ) → bit ≢ 0 → count_of c (as_bit bit) ≡ count_of c true
+items_other c bit h = ap (count_of c) (as_bit_other bit h)
 
 -- ---- a part and its entries
 
@@ -40,16 +40,16 @@ module _ (b : List Bool) (upper lower : List ℕ) (total len : ℕ) (t : Summari
   fits_at : (j : ℕ) → j < length lower → FieldsFit (slice_index lower j) j
   fits_at j h = subst (λ (e : ℕ). FieldsFit e j) (sym (t'.lower_is j h)) (entry-fits b j)
 
-  pub ones_at : (j one : ℕ) → j < length lower → one ≢ 0 → slice_index lower j ≡ lower_entry (sought (kind one) b) j
-  ones_at j one h other = t'.lower_is j h ∙ entry_ones b j one other
+  pub ones_at : (j bit : ℕ) → j < length lower → bit ≢ 0 → slice_index lower j ≡ lower_entry (sought_bits (as_bit bit) b) j
+  ones_at j bit h other = t'.lower_is j h ∙ entry_ones b j bit other
 
-  pub zeros_at : (j one r : ℕ) → j < length lower → one ≡ 0
-      → (FieldsFit (slice_index lower j) j → r ≡ greatest j - slice_index lower j) → r ≡ lower_entry (sought (kind one) b) j
-  zeros_at j one r h none f =
+  pub zeros_at : (j bit r : ℕ) → j < length lower → bit ≡ 0
+      → (FieldsFit (slice_index lower j) j → r ≡ greatest_entry j - slice_index lower j) → r ≡ lower_entry (sought_bits (as_bit bit) b) j
+  zeros_at j bit r h none f =
       f (fits_at j h)
-      ∙ ap (λ (e : ℕ). greatest j - e) (t'.lower_is j h)
+      ∙ ap (λ (e : ℕ). greatest_entry j - e) (t'.lower_is j h)
       ∙ entry-complement b j (omega (arith, t'.lower_length))
-      ∙ entry_zeros b j one none
+      ∙ entry_zeros b j bit none
 
   module _ (k : ℕ) (inside : k < length upper) where
     pub begins : k * 2 ^ 32 < length b
@@ -93,11 +93,11 @@ module _ (b : List Bool) (upper lower : List ℕ) (total len : ℕ) (t : Summari
 -- what a walk to an item finds is the item's entry
 pub advanced : (b : List Bool) (upper lower : List ℕ) (total len : ℕ) → Summarizes b upper lower total len
     → (v : Bool) (k : ℕ) → k < length upper → (item e : ℕ) → item < count_of (part_of b k) v
-    → IsLastEntry (sought v b) (length lower) k item e → e ≡ entry_of (part_of b k) v item
+    → IsLastEntry (sought_bits v b) (length lower) k item e → e ≡ entry_of (part_of b k) v item
 advanced b upper lower total len t v k inside item e some last =
     let c = part_of b k in
     let n = div_ceil (length c) 2048 in
-    let f : ℕ → ℕ = λ j. before_in_part (sought v b) (k * 2 ^ 21 + j) in
+    let f : ℕ → ℕ = λ j. before_in_part (sought_bits v b) (k * 2 ^ 21 + j) in
     let g : ℕ → ℕ = λ j. count_before c v (2048 * j) in
     let here : IsLast f n item e = subst (λ (m : ℕ). IsLast f m item e) (entries_of_part b upper lower total len t k inside) last in
     last_same g (λ i j h. count_before-between v c (2048 * i) (2048 * j) (omega arith)) n item e (entry_of c v item)

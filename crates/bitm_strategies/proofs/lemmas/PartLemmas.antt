@@ -11,9 +11,9 @@ use Rattle.bit_lists.specs.Bits.{item}
 use Rattle.bit_lists.specs.Count.{count_of, ones_before, zeros_before, count_before, Picks}
 use Rattle.bitm_search.specs.Entry.{before_in_part}
 use Rattle.bitm_strategies.specs.Samples.{part_of, place, entry_of}
-use Rattle.bitm_search.specs.Search.{IsLast, sought, negated}
-use Rattle.bitm_search.proofs.lemmas.EntryLemmas.{ones_before-negated}
-use Rattle.bitm_search.proofs.lemmas.MarkLemmas.{count_before-sought}
+use Rattle.bitm_search.specs.Search.{IsLast, sought_bits, negation}
+use Rattle.bitm_search.proofs.lemmas.EntryLemmas.{ones_before-negation}
+use Rattle.bitm_search.proofs.lemmas.MarkLemmas.{count_before-sought_bits}
 use Rattle.bitm_search.proofs.lemmas.StretchLemmas.{ones_before-between}
 
 -- ---- counting
@@ -21,7 +21,7 @@ use Rattle.bitm_search.proofs.lemmas.StretchLemmas.{ones_before-between}
 pub count_before-between : (v : Bool) (b : List Bool) (i j : ℕ) → i ≤ j → count_before b v i ≤ count_before b v j
 count_before-between true b i j h = (ones_before-between b i j h).0
 count_before-between false b i j h =
-    omega (arith, (ones_before-between (negated b) i j h).0, ones_before-negated b i, ones_before-negated b j)
+    omega (arith, (ones_before-between (negation b) i j h).0, ones_before-negation b i, ones_before-negation b j)
 
 -- the count rises at an item
 count_before-next : (b : List Bool) (v : Bool) (p : ℕ) → p < length b → item b p ≡ v → count_before b v (p + 1) ≡ count_before b v p + 1
@@ -104,11 +104,11 @@ count_of-part_of v b k e h is =
 
 -- the counts before the entries of a part
 pub count_in_part : (v : Bool) (b : List Bool) (k j : ℕ) → j < div_ceil (length (part_of b k)) 2048
-    → before_in_part (sought v b) (k * 2 ^ 21 + j) ≡ count_before (part_of b k) v (2048 * j)
+    → before_in_part (sought_bits v b) (k * 2 ^ 21 + j) ≡ count_before (part_of b k) v (2048 * j)
 count_in_part v b k j h =
     let l = length-part_of b k in
     let at : 2048 * (k * 2 ^ 21 + j) ≡ k * 2 ^ 32 + 2048 * j = omega arith in
     let from : (k * 2 ^ 21 + j) / 2 ^ 21 * 2 ^ 32 ≡ k * 2 ^ 32 = omega arith in
-    let there = count_before-sought b v (k * 2 ^ 32 + 2048 * j) (omega arith) in
-    let here = count_before-sought b v (k * 2 ^ 32) (omega arith) in
+    let there = count_before-sought_bits b v (k * 2 ^ 32 + 2048 * j) (omega arith) in
+    let here = count_before-sought_bits b v (k * 2 ^ 32) (omega arith) in
     rw (at, from, there, here) (omega (arith, count_before-part_of v b k (2048 * j) (omega arith)))

@@ -11,9 +11,9 @@ use Rattle.bit_lists.specs.Count.{count_of, ones_before, count_before, IsSelect}
 use Rattle.bitm_search.specs.Entry.{before_in_part}
 use Rattle.bitm_search.specs.Reads.{ReadsAtMost}
 use Rattle.bitm_strategies.specs.Samples.{part_of, parts, sample, intervals, first_item, walk_start, sample_count_before, samples_of, sample_count_of, rank_in, WalkedTo, WalkedOut, SampledReads, IsSampleCount}
-use Rattle.bitm_search.specs.Search.{IsLastPart, IsLastEntry, entries_from, sought}
+use Rattle.bitm_search.specs.Search.{IsLastPart, IsLastEntry, entries_from, sought_bits}
 use Rattle.bitm_search.specs.declared.source.counts.ReadCounts.{ReadCounts}
-use Rattle.bitm_search.proofs.lemmas.MarkLemmas.{count_before-sought}
+use Rattle.bitm_search.proofs.lemmas.MarkLemmas.{count_before-sought_bits}
 use Rattle.bit_lists.proofs.lemmas.CountLemmas.{count_before-none}
 use Rattle.bitm_strategies.proofs.lemmas.PartLemmas.{count_before-between, length-part_of, count_of-part_of, count_in_part, entry-small}
 use Rattle.bitm_strategies.proofs.lemmas.SampleLemmas.{sample_at, decoded, start_inside, start_at_most, ceil_more, ceil_less, before_more, before_le, length-samples, first_item_is}
@@ -26,12 +26,12 @@ by_lt a b f g = elim (cases_lt a b) [ inl h ↦ f h | inr h ↦ g h ]
 -- ---- part k is the last one with no more than the rank before it
 
 module _ (b : List Bool) (upper lower : List ℕ) (t : HasEntries b upper lower) (v : Bool) (rank k : ℕ)
-    (last : IsLastPart (sought v b) (length upper) rank k) where
+    (last : IsLastPart (sought_bits v b) (length upper) rank k) where
   part_begins : k * 2 ^ 32 ≤ length b
   part_begins = omega (arith, last.inside, t.upper_length)
 
-  pub count_is : ones_before (sought v b) (k * 2 ^ 32) ≡ count_before b v (k * 2 ^ 32)
-  count_is = count_before-sought b v (k * 2 ^ 32) part_begins
+  pub count_is : ones_before (sought_bits v b) (k * 2 ^ 32) ≡ count_before b v (k * 2 ^ 32)
+  count_is = count_before-sought_bits b v (k * 2 ^ 32) part_begins
 
   -- the items up to the part's end
   part_items : k + 1 ≡ parts b → count_before b v (k * 2 ^ 32) + count_of (part_of b k) v ≡ count_of b v
@@ -41,7 +41,7 @@ module _ (b : List Bool) (upper lower : List ℕ) (t : HasEntries b upper lower)
   rank_inside h =
       let e = count_of-part_of v b k ((k + 1) * 2 ^ 32) part_begins (omega arith) in
       let next = last.next (omega (arith, t.upper_length)) in
-      omega (arith, next, count_before-sought b v ((k + 1) * 2 ^ 32) (omega arith), e, count_is, last.at_most)
+      omega (arith, next, count_before-sought_bits b v ((k + 1) * 2 ^ 32) (omega arith), e, count_is, last.at_most)
 
   entries_are : entries_from (length lower) k ≡ div_ceil (length (part_of b k)) 2048
   entries_are = omega (arith, t.lower_length, length-part_of b k, part_begins)
@@ -89,7 +89,7 @@ module _ (b : List Bool) (upper lower : List ℕ) (t : HasEntries b upper lower)
       start_in =
           omega (arith, entries_are, start_inside (part_of b k) v d (rank_in b v rank k) pos (first_inside (interval_inside h)))
 
-      pub start_below : before_in_part (sought v b) (k * 2 ^ 21 + walk_start (part_of b k) v d (rank_in b v rank k)) ≤ rank_in b v rank k
+      pub start_below : before_in_part (sought_bits v b) (k * 2 ^ 21 + walk_start (part_of b k) v d (rank_in b v rank k)) ≤ rank_in b v rank k
       start_below =
           let r = rank_in b v rank k in
           let f = first_inside (interval_inside h) in
@@ -125,7 +125,7 @@ module _ (b : List Bool) (upper lower : List ℕ) (t : HasEntries b upper lower)
 
     -- ---- after the walk, to entry e
 
-    module _ (e uppers : ℕ) (low : IsLastEntry (sought v b) (length lower) k (rank_in b v rank k) e)
+    module _ (e uppers : ℕ) (low : IsLastEntry (sought_bits v b) (length lower) k (rank_in b v rank k) e)
         (some : first_item d (rank_in b v rank k) < count_of (part_of b k) v) (early late : ReadCounts)
         (walked : WalkedTo (part_of b k) v d (rank_in b v rank k) e uppers early late) where
       found_reads : (p : ℕ) → p / 2048 ≡ k * 2 ^ 21 + e
@@ -143,7 +143,7 @@ module _ (b : List Bool) (upper lower : List ℕ) (t : HasEntries b upper lower)
           by_lt (k + 1) (parts b)
           (λ more.
           let next = last.next (omega (arith, t.upper_length)) in
-          let here = count_before-sought b v ((k + 1) * 2 ^ 32) (omega arith) in
+          let here = count_before-sought_bits b v ((k + 1) * 2 ^ 32) (omega arith) in
           absurd (omega (arith, next, here, count_before-between v b ((k + 1) * 2 ^ 32) (length b) (omega arith))))
           (λ end. omega (arith, last.inside, t.upper_length)) in
           let whole = part_items (omega (arith, last_one, last.inside, t.upper_length)) in
@@ -158,7 +158,7 @@ module _ (b : List Bool) (upper lower : List ℕ) (t : HasEntries b upper lower)
           subst (λ (m : ℕ). WalkedOut (part_of b m) v d (rank_in b v rank m) uppers early late) last_one
           (record { walked = λ _. there; nothing = λ l. absurd (omega (arith, some)) })
 
-    pub sampled_reads : (e : ℕ) → IsLastEntry (sought v b) (length lower) k (rank_in b v rank k) e
+    pub sampled_reads : (e : ℕ) → IsLastEntry (sought_bits v b) (length lower) k (rank_in b v rank k) e
         → first_item d (rank_in b v rank k) < count_of (part_of b k) v → (early late : ReadCounts)
         → WalkedTo (part_of b k) v d (rank_in b v rank k) e (digit_count (parts b) + 1) early late
         → (o : Option ℕ) → IsSelect b v rank o → IfSome o (λ p. p / 2048 ≡ k * 2 ^ 21 + e) → SampledReads b v d rank o early late
@@ -222,7 +222,7 @@ few_over s k x n h =
     ]
 
 count_before-self : (v : Bool) (b : List Bool) (i : ℕ) → i ≤ length b → count_before b v i ≤ i
-count_before-self v b i h = omega (arith, count_before-sought b v i h, ones_before-self (sought v b) i)
+count_before-self v b i h = omega (arith, count_before-sought_bits b v i h, ones_before-self (sought_bits v b) i)
 
 -- the sum of two counts of samples fits
 pub place_fits : (b : List Bool) (v : Bool) (d n q k : ℕ) → 7 ≤ d → length b < 2 ^ 64 → k < parts b → n < 2 ^ 64 → q ≡ n / 2 ^ d

@@ -1,17 +1,17 @@
 -- Items with the same number above their low digits: how many have at most a number there, and the first that reaches a value.
-use Rattle.std.proofs.Common.{◌≡◌, ℕ, ◌+◌, ◌-◌, ◌*◌, ◌/◌, ◌%◌, ◌^◌, ◌<◌, ◌≤◌, true, false, cond, Bool, List, length, get_or, sym, ap, ◌∙◌, subst, ⊎_elim, arith, ◌⊎◌, inl, inr}
+use Rattle.std.proofs.Common.{◌≡◌, ℕ, zero, suc, ◌+◌, ◌-◌, ◌*◌, ◌/◌, ◌%◌, ◌^◌, ◌<◌, ◌≤◌, true, false, cond, Bool, List, length, get_or, sym, ap, ◌∙◌, subst, ⊎_elim, arith, ◌⊎◌, inl, inr}
 use Rattle.std.proofs.lemmas.Bool.{cases_lt, cases_order}
 use Rattle.std.proofs.lemmas.List.{get_or_default}
 use Rattle.std.proofs.lemmas.Nat.{div-add-mod', pow_pos}
 use Rattle.std.proofs.Math.Nat.{mul-le-mul_right, mod-lt}
 use Rattle.std.specs.List.{All}
 use Rattle.std.specs.List.Sorted.{IsNonDecreasing}
-use Rattle.bitm.proofs.BitLaws.{ones_and_zeros, counts_grow, count_after_item}
+use Rattle.bitm.proofs.BitLaws.{ones_and_zeros, counts_grow, count_after_item, none_before_the_first}
 use Rattle.bitm.specs.Bits.{bits_of, item}
-use Rattle.bitm.specs.Count.{ones_before, zeros_before, is_same, Picks}
+use Rattle.bitm.specs.Count.{ones_before, zeros_before, zeros_of, is_same, IsFirstFrom, Picks}
 use Rattle.elias_fano.proofs.lemmas.SplitLemmas.{Splits-same}
 use Rattle.elias_fano.proofs.lemmas.UpperLemmas.{one_is, ones_are}
-use Rattle.elias_fano.specs.Buckets.{CountsTo, CountsBelow, LowsRise, Splits}
+use Rattle.elias_fano.specs.Buckets.{BeginsAt, CountsTo, CountsBelow, HasEnds, LowsRise, Splits}
 use Rattle.elias_fano.specs.Low.{fragment, Lows}
 use Rattle.elias_fano.specs.Parts.{upper_place, IsUpper, ArePartsOf}
 use Rattle.elias_fano.specs.Sequence.{Reaches}
@@ -101,6 +101,43 @@ module _ (xs : List ℕ) (l : ℕ) (upper : List ℕ) (h : IsUpper xs l upper) w
       bound = ones_within;
       below = λ j less. ⊎_elim (λ s. s.1) (λ s. absurd (omega (arith, s.0))) (sides j (omega (arith, ones_within)));
       above = λ j from inside. ⊎_elim (λ s. absurd (omega (arith, s.0))) (λ s. s.1) (sides j inside);
+    }
+
+  -- before the least place with z zeros before it stand the ones of the items with less above their low digits
+  module _ (z p : ℕ) (at : BeginsAt (bits_of upper) z p) where
+    ones_to : ones_before (bits_of upper) p + z ≡ p
+    ones_to = omega (arith, ones_and_zeros (bits_of upper) p at.inside, at.before)
+
+    begin-bound : p - z ≤ length xs
+    begin-bound = omega (arith, ones_to, all_ones, counts_grow (bits_of upper) true p (length (bits_of upper)) at.inside)
+
+    one-before : (j : ℕ) → j < length xs → j < p - z → upper_place xs l j < p
+    one-before j inside less =
+        let place = upper_place xs l j in
+        ⊎_elim (λ before. before)
+        (λ back. absurd (omega (arith, ones_to, (one_at j inside).before, counts_grow (bits_of upper) true p place back)))
+        (cases_lt place p)
+
+    one-after : (j : ℕ) → j < length xs → p - z ≤ j → p ≤ upper_place xs l j
+    one-after j inside more =
+        let place = upper_place xs l j in
+        let one = one_at j inside in
+        ⊎_elim
+        (λ before.
+        let next : place + 1 ≤ p = omega arith in
+        absurd (omega (arith, ones_to, one.before, one_more place one.inside one.item, counts_grow (bits_of upper) true (place + 1) p next)))
+        (λ back. back)
+        (cases_lt place p)
+
+    pub CountsBelow-begin : CountsBelow xs l z (p - z)
+    CountsBelow-begin = record {
+      bound = begin-bound;
+      below = λ j less.
+          let inside : j < length xs = omega (arith, begin-bound) in
+          omega (arith, zeros_at j inside, at.least (upper_place xs l j) (one-before j inside less));
+      above = λ j from inside.
+          let back = one-after j inside from in
+          omega (arith, zeros_at j inside, at.before, counts_grow (bits_of upper) false p (upper_place xs l j) back);
     }
 
   -- where there is no such zero
@@ -239,3 +276,94 @@ whole-none xs v w first none below past =
     let P : ℕ → Type 0 = λ l. CountsBelow xs l (v / 2 ^ l) first in
     let h = subst P none below in
     λ j d inside. omega (arith, get_or_default xs j d 0 inside, h.below j (omega arith))
+
+-- ---- the zeros of the upper vector, one after another
+
+-- no zero in a stretch: as many stand before its end as before its begin
+zeros-over : (b : List Bool) (s k : ℕ) → s + k ≤ length b → ((i : ℕ) → s ≤ i → i < s + k → item b i ≡ true)
+    → zeros_before b (s + k) ≡ zeros_before b s
+zeros-over b s zero inside ones = ap (zeros_before b) (omega arith)
+zeros-over b s (suc k) inside ones =
+    let rest = zeros-over b s k (omega arith) (λ i from less. ones i from (omega arith)) in
+    let last = ones (s + k) (omega arith) (omega arith) in
+    let next : zeros_before b (s + k + 1) ≡ zeros_before b (s + k) =
+    count_after_item b false (s + k) (omega arith) ∙ ap (λ x. zeros_before b (s + k) + cond (is_same false x) 1 0) last ∙ omega arith in
+    ap (zeros_before b) (omega arith) ∙ next ∙ rest
+
+-- the first zero from a place on has as many before it as the place
+pub zero-from : (b : List Bool) (z s p : ℕ) → zeros_before b s ≡ z → IsFirstFrom b false s p → Picks b false z p
+zero-from b z s p count first =
+    let over = zeros-over b s (p - s) (omega (arith, first.from, first.inside))
+    (λ i from less. first.least i from (omega (arith, first.from))) in
+    let to = ap (zeros_before b) (let e : s + (p - s) ≡ p = omega (arith, first.from) in e) in
+    record { inside = first.inside; item = first.is; before = sym to ∙ over ∙ count }
+
+-- and where there is none, no more are left
+pub zeros-end : (b : List Bool) (z s : ℕ) → s ≤ length b → zeros_before b s ≡ z
+    → ((p : ℕ) → s ≤ p → p < length b → item b p ≡ true) → zeros_before b (length b) ≡ z
+zeros-end b z s inside count ones =
+    let over = zeros-over b s (length b - s) (omega arith) (λ i from less. ones i from (omega arith)) in
+    let to = ap (zeros_before b) (let e : s + (length b - s) ≡ length b = omega arith in e) in
+    sym to ∙ over ∙ count
+
+-- behind a zero begin those with one more before them
+pub begin-behind : (b : List Bool) (z p : ℕ) → Picks b false z p → BeginsAt b (z + 1) (p + 1)
+begin-behind b z p h = record {
+  inside = omega (arith, h.inside);
+  before =
+      let more : zeros_before b (p + 1) ≡ zeros_before b p + 1 =
+      count_after_item b false p h.inside ∙ ap (λ x. zeros_before b p + cond (is_same false x) 1 0) h.item in
+      omega (arith, more, h.before);
+  least = λ q less. let back : q ≤ p = omega arith in omega (arith, h.before, counts_grow b false q p back);
+}
+
+-- before the first place there are none
+pub begin-first : (b : List Bool) → BeginsAt b 0 0
+begin-first b = record {
+  inside = omega arith;
+  before = none_before_the_first b false;
+  least = λ q less. absurd (omega arith);
+}
+
+-- ---- the bucket of a value, from the least place with so many zeros before it
+
+-- no fewer places than zeros stand before it
+pub begin-at_most : (b : List Bool) (z p : ℕ) → BeginsAt b z p → z ≤ p
+begin-at_most b z p h = omega (arith, ones_and_zeros b p h.inside, h.before)
+
+module _ (xs : List ℕ) (l v : ℕ) (upper : List ℕ) (h : IsUpper xs l upper) where
+  -- more zeros are asked for than there are: each item has less above its low digits
+  pub ends-none : zeros_of (bits_of upper) < v / 2 ^ l → HasEnds xs l v (length xs) (length xs)
+  ends-none few =
+      let all = CountsTo-all xs l upper h (zeros_of (bits_of upper)) (omega arith) in
+      record {
+        begins = record {
+          bound = omega arith;
+          below = λ j inside. omega (arith, few, all.below j inside);
+          above = λ j from inside. absurd (omega arith);
+        };
+        ends = λ some. CountsTo-all xs l upper h (v / 2 ^ l) (omega arith);
+        order = omega arith;
+      }
+
+  module _ (p : ℕ) (at : BeginsAt (bits_of upper) (v / 2 ^ l) p) where
+    begins : CountsBelow xs l (v / 2 ^ l) (p - v / 2 ^ l)
+    begins = CountsBelow-begin xs l upper h (v / 2 ^ l) p at
+
+    -- no item has low digits
+    pub ends-whole : l ≡ 0 → HasEnds xs l v (p - v / 2 ^ l) (length xs)
+    ends-whole none = record { begins = begins; ends = λ some. absurd (omega (arith, some, none)); order = begins.bound }
+
+    -- to the next zero
+    pub ends-to : (q : ℕ) → Picks (bits_of upper) false (v / 2 ^ l) q → HasEnds xs l v (p - v / 2 ^ l) (q - v / 2 ^ l)
+    ends-to q one =
+        let to = CountsTo-zero xs l upper h (v / 2 ^ l) q one in
+        record { begins = begins; ends = λ some. to; order = bucket-order xs l _ _ _ begins to }
+
+    -- there is none, so to the end
+    pub ends-rest : zeros_of (bits_of upper) ≡ v / 2 ^ l → HasEnds xs l v (p - v / 2 ^ l) (length xs)
+    ends-rest all = record {
+      begins = begins;
+      ends = λ some. CountsTo-all xs l upper h (v / 2 ^ l) (omega (arith, all));
+      order = begins.bound;
+    }

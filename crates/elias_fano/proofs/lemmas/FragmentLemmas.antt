@@ -5,9 +5,9 @@ use Rattle.std.proofs.lemmas.List.Sums.{sum_by-cons}
 use Rattle.std.specs.List.{count_by}
 use Rattle.bitm.specs.Bits.{bits_of}
 use Rattle.bitm.specs.Number.{number_at}
-use Rattle.bitm.specs.Tables.{HasTables, Lists}
+use Rattle.bitm.specs.Tables.{Lists}
 use Rattle.elias_fano.specs.Buckets.{CountsTo, CountsBelow}
-use Rattle.elias_fano.specs.Held.{held, held_by, Holds}
+use Rattle.elias_fano.specs.LentParts.{parts_of, parts_with, Holds}
 use Rattle.elias_fano.specs.Low.{fragment, joined_item, sharing, Lows, ReadsFragments}
 use Rattle.elias_fano.specs.Parts.{width_of, ArePartsOf, IsLow, IsUpper}
 use Rattle.elias_fano.specs.Sequence.{IsSequence}
@@ -65,19 +65,16 @@ fragments-none old new many same = record {
 
 -- the parts hold the same after calls that only read
 pub holds-kept : (xs : List ℕ) (n : ℕ) (old new : Lows) (early late : Lists) (many : ℕ) → ReadsFragments old new many → late ≡ early
-    → Holds xs (held_by n old early) → Holds xs (held_by n new late)
+    → Holds xs (parts_with n old early) → Holds xs (parts_with n new late)
 holds-kept xs n old new early late many reads same h =
-    let U : Lists → Type 0 = λ lists. Holds xs (held n old.width old.words lists) in
-    let W : ℕ → Type 0 = λ w. Holds xs (held n w old.words late) in
-    let L : List ℕ → Type 0 = λ words. Holds xs (held n new.width words late) in
+    let U : Lists → Type 0 = λ lists. Holds xs (parts_of n old.width old.words lists) in
+    let W : ℕ → Type 0 = λ w. Holds xs (parts_of n w old.words late) in
+    let L : List ℕ → Type 0 = λ words. Holds xs (parts_of n new.width words late) in
     subst L (sym reads.words) (subst W (sym reads.width) (subst U (sym same) h))
 
 -- what a sequence shows of itself are its parts
-pub holds-own : (xs : List ℕ) (n : ℕ) (low : Lows) (lists : Lists) → IsSequence xs → n ≡ length xs → low.width ≡ width_of xs
-    → IsLow xs (width_of xs) low.words → IsUpper xs (width_of xs) lists.words → HasTables lists → Holds xs (held_by n low lists)
-holds-own xs n low lists sequence count width low_is upper_is tables =
-    let P : ℕ → Type 0 = λ l. ArePartsOf xs n l low.words lists.words in
-    record {
-      are = subst P (sym width) record { sequence = sequence; count = count; width = refl; low_is = low_is; upper_is = upper_is };
-      tables = tables;
-    }
+pub are-own : (xs : List ℕ) (n : ℕ) (low : Lows) (upper : List ℕ) → IsSequence xs → n ≡ length xs → low.width ≡ width_of xs
+    → IsLow xs (width_of xs) low.words → IsUpper xs (width_of xs) upper → ArePartsOf xs n low.width low.words upper
+are-own xs n low upper sequence count width low_is upper_is =
+    let P : ℕ → Type 0 = λ l. ArePartsOf xs n l low.words upper in
+    subst P (sym width) record { sequence = sequence; count = count; width = refl; low_is = low_is; upper_is = upper_is }

@@ -1,7 +1,7 @@
 -- What is told of a place among the low digits is told of the parts; and of all but the answer that they are wrong.
 use Rattle.std.proofs.Common.{◌≡◌, ℕ, ◌+◌, ◌-◌, ◌/◌, ◌%◌, ◌^◌, ◌<◌, ◌≤◌, refl, arith}
 use Rattle.bitm.specs.Tables.{Lists}
-use Rattle.elias_fano.specs.Held.{held_by, Held}
+use Rattle.elias_fano.specs.LentParts.{parts_with, LentParts}
 use Rattle.elias_fano.specs.Low.{fragment, Lows}
 use Rattle.elias_fano.specs.Told.{IfPlace, PartsAt, TellsAtMost, TellsBelow, TellsLess, TellsTo}
 use Rattle.elias_fano.specs.declared.answer.Sought.{Sought}
@@ -9,19 +9,19 @@ use Rattle.elias_fano.specs.declared.answer.Sought.TheVariants.{Found, Absent, W
 
 module _ (n : ℕ) (low : Lows) (lists : Lists) (v first end : ℕ) (begins : TellsBelow lists n (v / 2 ^ low.width) first)
     (ends : 0 < low.width → TellsTo lists n (v / 2 ^ low.width) end) (within : end ≤ n) where
-  at_place : (p : ℕ) → PartsAt (fragment low) low.width first end (v % 2 ^ low.width) p → TellsLess (held_by n low lists) v p
+  at_place : (p : ℕ) → PartsAt (fragment low) low.width first end (v % 2 ^ low.width) p → TellsLess (parts_with n low lists) v p
   at_place p parting = record { first = first; end = end; begins = begins; ends = ends; within = within; parting = parting }
 
   pub told_less : (s : Sought ℕ) → IfPlace n s (PartsAt (fragment low) low.width first end (v % 2 ^ low.width))
-      → IfPlace n s (TellsLess (held_by n low lists) v)
+      → IfPlace n s (TellsLess (parts_with n low lists) v)
   told_less (Found p) parting = at_place p parting
   told_less Absent parting = at_place n parting
   told_less WrongParts parting = parting
 
 -- all are at most the greatest number
-pub told_all : (parts : Held) (v : ℕ) → v ≡ 2 ^ 64 - 1 → TellsAtMost parts v parts.len
+pub told_all : (parts : LentParts) (v : ℕ) → v ≡ 2 ^ 64 - 1 → TellsAtMost parts v parts.len
 told_all parts v most = record { next = λ fits. absurd (omega (arith, fits, most)); greatest = λ _. refl }
 
 -- less than the next number is at most this one
-pub told_next : (parts : Held) (v p : ℕ) → v + 1 < 2 ^ 64 → TellsLess parts (v + 1) p → TellsAtMost parts v p
+pub told_next : (parts : LentParts) (v p : ℕ) → v + 1 < 2 ^ 64 → TellsLess parts (v + 1) p → TellsAtMost parts v p
 told_next parts v p fits less = record { next = λ _. less; greatest = λ past. absurd (omega (arith, fits, past)) }

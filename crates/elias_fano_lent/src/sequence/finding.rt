@@ -1,8 +1,8 @@
 //! The last number that is at most a value, and whether a value is one of the numbers.
-ghost use Rattle.std.specs.Prelude.{◌≡◌, ◌↔◌, ℕ, false, IfSome, IsTrue, List, MatchOption};
+ghost use Rattle.std.specs.Prelude.{◌≡◌, ◌↔◌, ℕ, false, IfSome, IsTrue, List, IsSomeAnd};
 ghost use Rattle.std.specs.List.{Contains};
 ghost use Rattle.elias_fano_lent.specs.Answers.{IsLast, IsPlaceOf};
-ghost use Rattle.elias_fano_lent.specs.Held.{Holds};
+ghost use Rattle.elias_fano_lent.specs.LentParts.{Holds};
 ghost use Rattle.elias_fano_lent.specs.Told.{IfLast, TellsAtMost, TellsLess};
 
 use crate::sequence::LentSequence;
@@ -32,7 +32,7 @@ impl<'a> LentSequence<'a> {
     #[inline]
     pub fn contains(&self, v: u64) -> Option<bool>
         ensures answer { (xs : List ℕ) → Holds xs self.now
-            → MatchOption result ⊥ (λ is. IsTrue is ↔ Contains xs v) }
+            → IsSomeAnd result (λ is. IsTrue is ↔ Contains xs v) }
         ensures told { IfSome result (λ is. (p : ℕ) × TellsLess self.now v p
             × (p ≡ self.now.len → is ≡ false)) }
     {

@@ -3,12 +3,12 @@ ghost use Rattle.std.specs.Prelude.{◌≡◌, ◌+◌, ◌-◌, ◌<◌, ◌≤
 ghost use Rattle.bitm.specs.Bits.{bits_of, IsShort};
 ghost use Rattle.bitm.specs.Count.{ones_before};
 ghost use Rattle.elias_fano.specs.Parts.{ArePartsOf, HasFragment};
-ghost use Rattle.elias_fano_lent.specs.Held.{Holds};
+ghost use Rattle.elias_fano_lent.specs.LentParts.{Holds};
 ghost use Rattle.elias_fano_lent.specs.Lists.{AreItemsFrom, IsKeptFrom};
 ghost use Rattle.elias_fano_lent.specs.Low.{ReadsFragments};
 
 use crate::sequence::LentSequence;
-use bitm::words as slices;
+use bitm::words;
 use bitm_lent::Selected;
 use elias_fano::LowDigits;
 use elias_fano::building::item_at_one;
@@ -36,7 +36,7 @@ fn write_items(
 {
     let mut next = first;
     for at in 0..most {
-        let place = match slices::find_bit_one(words, next) {
+        let place = match words::find_bit_one(words, next) {
             Some(place) => place,
             None => return at,
         };

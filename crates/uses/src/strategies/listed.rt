@@ -1,7 +1,7 @@
 //! Selection by a list of all places.
 ghost use Rattle.std.specs.Prelude.{◌≡◌, Bool, List, true, false, IfOk};
 ghost use Rattle.bitm.specs.Bits.{bits_of, IsShort};
-ghost use Rattle.bitm.specs.Count.{kind, places, IsSelect};
+ghost use Rattle.bitm.specs.Count.{as_bit, places, IsSelect};
 
 use bitm::{BitBIterator, Select0ForRank101111, SelectForRank101111};
 use std::alloc::{AllocError, Global};
@@ -15,11 +15,11 @@ pub struct Listed {
 }
 
 /// The places of the bits of the kind, in one allocation of just their size.
-fn places_of<const B: u8>(alloc: Global, content: &[u64]) -> Result<Vec<usize>, AllocError>
+fn places_of<const BIT: u8>(alloc: Global, content: &[u64]) -> Result<Vec<usize>, AllocError>
     requires { IsShort content.now }
-    ensures { IfOk result (λ list. list.items ≡ places (kind B) 0 (bits_of content.now)) }
+    ensures { IfOk result (λ list. list.items ≡ places (as_bit BIT) 0 (bits_of content.now)) }
 {
-    let bits = BitBIterator::<B>::new(content);
+    let bits = BitBIterator::<BIT>::new(content);
     let mut places = Vec::with_capacity(alloc, bits.len())?;
     places.extend(bits)?;
     Ok(places)
@@ -44,7 +44,7 @@ impl Listed {
 }
 
 impl SelectForRank101111 for Listed {
-    ghost supports = { λ listed words. listed ≡ places true 0 (bits_of words) };
+    ghost supports = { λ list words. list ≡ places true 0 (bits_of words) };
 
     fn new(
         alloc: Global,
@@ -69,7 +69,7 @@ impl SelectForRank101111 for Listed {
 }
 
 impl Select0ForRank101111 for Listed {
-    ghost supports0 = { λ listed words. listed ≡ places false 0 (bits_of words) };
+    ghost supports0 = { λ list words. list ≡ places false 0 (bits_of words) };
 
     fn new0(
         alloc: Global,

@@ -1,7 +1,7 @@
 //! Selection by a walk over the content.
 ghost use Rattle.std.specs.Prelude.{true, false};
 ghost use Rattle.bitm.specs.Bits.{bits_of, IsShort};
-ghost use Rattle.bitm.specs.Count.{kind, IsSelect};
+ghost use Rattle.bitm.specs.Count.{as_bit, IsSelect};
 
 use bitm::{BitBIterator, Select0ForRank101111, SelectForRank101111};
 use std::alloc::{AllocError, Global};
@@ -12,11 +12,11 @@ use std::iter::Iterator;
 pub struct Scan;
 
 /// The place of the bit of the kind with exactly `rank` such bits before it; `None` exactly where there is none.
-fn walk_to<const B: u8>(content: &[u64], rank: usize) -> Option<usize>
+fn walk_to<const BIT: u8>(content: &[u64], rank: usize) -> Option<usize>
     requires { IsShort content.now }
-    ensures { IsSelect (bits_of content.now) (kind B) rank result }
+    ensures { IsSelect (bits_of content.now) (as_bit BIT) rank result }
 {
-    BitBIterator::<B>::new(content).nth(rank)
+    BitBIterator::<BIT>::new(content).nth(rank)
 }
 
 impl SelectForRank101111 for Scan {

@@ -3,7 +3,7 @@ use Rattle.std.proofs.Common.{◌≢◌, ◌+◌, ◌∙◌, arith, take}
 use Rattle.std.proofs.lemmas.List.{get_or-set_other, length-take}
 use Rattle.bit_lists.proofs.lemmas.BitsLemmas.{length-bits_of}
 use Rattle.bit_lists.specs.Bits.{bits_of}
-use Rattle.bit_lists.specs.Count.{count_before, kind, Picks}
+use Rattle.bit_lists.specs.Count.{count_before, as_bit, Picks}
 use Rattle.bitm_lent.proofs.FilledLemmas.{placed_more}
 use Rattle.bitm_lent.proofs.OnesFromLemmas.{few_before, first_picked, next_counts, none_follows}
 use Rattle.bitm_lent.proofs.places.bits_from.Goals as goal
@@ -11,7 +11,7 @@ use Rattle.bitm_lent.proofs.places.bits_from.Goals as goal
 pub returns-in_default-clause-number : goal.returns-in_default-clause-number
 returns-in_default-clause-number g c =
     let b = take c.args.len (bits_of c.args.words.now) in
-    omega (arith, none_follows b (kind g.row.ONE) c.loop-at.next c.in_default.ensures, c.loop-at.invariant.counted, c.loop-at-test.true, c.loop-at.auto.at-end, c.loop-at.auto.out)
+    omega (arith, none_follows b (as_bit g.row.BIT) c.loop-at.next c.in_default.ensures, c.loop-at.invariant.counted, c.loop-at-test.true, c.loop-at.auto.at-end, c.loop-at.auto.out)
 
 pub overflow_add-next : goal.overflow_add-next
 overflow_add-next g c = record {
@@ -21,7 +21,7 @@ overflow_add-next g c = record {
 pub loop-at-preserved : goal.loop-at-preserved
 loop-at-preserved g c =
     let b = take c.args.len (bits_of c.args.words.now) in
-    let v = kind g.row.ONE in
+    let v = as_bit g.row.BIT in
     let i = c.loop-at.invariant in
     let f = c.in-Some.ensures in
     let R = count_before b v c.args.from in
@@ -39,7 +39,7 @@ loop-at-preserved g c =
 pub returns-clause-number : goal.returns-clause-number
 returns-clause-number g c =
     let b = take c.args.len (bits_of c.args.words.now) in
-    let v = kind g.row.ONE in
+    let v = as_bit g.row.BIT in
     omega (
       arith,
       c.loop-at.invariant.counted,

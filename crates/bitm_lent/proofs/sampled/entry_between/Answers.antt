@@ -7,10 +7,10 @@ use Rattle.bitm_lent.proofs.sampled.entry_between.Goals as goal
 
 pub returns-clause-reads : goal.returns-clause-reads
 returns-clause-reads g c =
-    let n = c.args.end - c.args.low - 1 in
+    let n = c.args.bounds.end - c.args.bounds.low - 1 in
     let r = c.last_in_range.ensures in
     let digits = digit_count_most 21 n (omega (arith, c.requires.within, c.requires.some)) in
-    elim (cases_lt 0 c.args.low) [
+    elim (cases_lt 0 c.args.bounds.low) [
       | inl later ↦
           let few = r.reads_later later in
           record {

@@ -2,7 +2,7 @@
 use Rattle.std.proofs.Common.{ℕ, ◌+◌, ◌*◌, ◌^◌, length, sym, subst, arith}
 use Rattle.bit_lists.proofs.lemmas.BitsLemmas.{length-bits_of}
 use Rattle.bit_lists.specs.Bits.{bits_of}
-use Rattle.bit_lists.specs.Count.{kind, ones_before}
+use Rattle.bit_lists.specs.Count.{as_bit, ones_before}
 use Rattle.bitm_search.specs.Answers.{IsSelected}
 use Rattle.bitm_search.specs.Search.{sought_in, IsLastPart}
 use Rattle.bitm_search.specs.Tables.{HasTables, Lists}
@@ -15,7 +15,7 @@ use Rattle.bitm_lent.proofs.sampled.sampled_select_on.Goals as goal
 pub returns-then-upper_len-eq0-clause-told : goal.returns-then-upper_len-eq0-clause-told
 returns-then-upper_len-eq0-clause-told g c = λ _.
     let words = (g.T.TableSource.lists c.args.source.now).words in
-    none_in_nothing (bits_of words) (kind g.row.ONE) c.args.rank
+    none_in_nothing (bits_of words) (as_bit g.row.BIT) c.args.rank
     (omega (arith, length-bits_of words, c.requires.upper_len, c.upper_len.ensures))
 
 pub returns-then-upper_len-eq0-clause-answer : goal.returns-then-upper_len-eq0-clause-answer
@@ -27,8 +27,8 @@ sampled_in_part-requires-clause-part g c = λ u.
     let is = c.part_of_rank-part.ensures.part (record { tables = subst HasTables same u; short = c.requires.short }) in
     subst
     (λ (l : Lists).
-    IsLastPart (sought_in g.row.ONE l.words) (length l.upper)
-    (ones_before (sought_in g.row.ONE l.words) (c.part_of_rank-part.result.0 * 2 ^ 32) + c.part_of_rank-part.result.1)
+    IsLastPart (sought_in g.row.BIT l.words) (length l.upper)
+    (ones_before (sought_in g.row.BIT l.words) (c.part_of_rank-part.result.0 * 2 ^ 32) + c.part_of_rank-part.result.1)
     c.part_of_rank-part.result.0)
     (sym same) is.last
 
@@ -39,10 +39,10 @@ returns-clause-told g c = λ t.
     let left = c.part_of_rank-part.result.1 in
     let same = c.part_of_rank-part.ensures.same in
     let is = c.part_of_rank-part.ensures.part (record { tables = t; short = c.requires.short }) in
-    subst (λ (n : ℕ). IsSelectedIfTold b (kind g.row.ONE) n c.sampled_in_part.result) is.total
+    subst (λ (n : ℕ). IsSelectedIfTold b (as_bit g.row.BIT) n c.sampled_in_part.result) is.total
     (subst
     (λ (l : Lists).
-    IsSelectedIfTold (bits_of l.words) (kind g.row.ONE) (ones_before (sought_in g.row.ONE l.words) here + left) c.sampled_in_part.result)
+    IsSelectedIfTold (bits_of l.words) (as_bit g.row.BIT) (ones_before (sought_in g.row.BIT l.words) here + left) c.sampled_in_part.result)
     same (c.sampled_in_part.ensures.told (subst HasTables (sym same) t)))
 
 pub returns-clause-answer : goal.returns-clause-answer
@@ -52,22 +52,22 @@ returns-clause-answer g c = λ t own.
     let left = c.part_of_rank-part.result.1 in
     let same = c.part_of_rank-part.ensures.same in
     let is = c.part_of_rank-part.ensures.part (record { tables = t; short = c.requires.short }) in
-    subst (λ (n : ℕ). IsSelected b (kind g.row.ONE) n c.sampled_in_part.result) is.total
+    subst (λ (n : ℕ). IsSelected b (as_bit g.row.BIT) n c.sampled_in_part.result) is.total
     (subst
     (λ (l : Lists).
-    IsSelected (bits_of l.words) (kind g.row.ONE) (ones_before (sought_in g.row.ONE l.words) here + left) c.sampled_in_part.result)
+    IsSelected (bits_of l.words) (as_bit g.row.BIT) (ones_before (sought_in g.row.BIT l.words) here + left) c.sampled_in_part.result)
     same
     (c.sampled_in_part.ensures.answer (subst HasTables (sym same) t)
-    (subst (λ (l : Lists). AreSamplesOf (bits_of l.words) (kind g.row.ONE) c.args.lent.now) (sym same) own)))
+    (subst (λ (l : Lists). AreSamplesOf (bits_of l.words) (as_bit g.row.BIT) c.args.lent.now) (sym same) own)))
 
 pub returns-then-upper_len-eq0-clause-none : goal.returns-then-upper_len-eq0-clause-none
 returns-then-upper_len-eq0-clause-none g c =
-    nothing_tells (g.T.TableSource.lists c.args.source.now) (kind g.row.ONE) c.args.rank c.requires
+    nothing_tells (g.T.TableSource.lists c.args.source.now) (as_bit g.row.BIT) c.args.rank c.requires
     (omega (arith, c.upper_len.ensures, c.if-upper_len-eq0.true))
 
 pub returns-clause-none : goal.returns-clause-none
 returns-clause-none g c =
-    let v = kind g.row.ONE in
+    let v = as_bit g.row.BIT in
     let of_rank = c.part_of_rank-part.ensures in
     let part = c.part_of_rank-part.result.0 in
     let left = c.part_of_rank-part.result.1 in

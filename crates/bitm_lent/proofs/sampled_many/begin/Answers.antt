@@ -58,8 +58,8 @@ returns-clause-search g c =
           };
       near =
           λ t.
-          near_found g.row.ONE lists c.args.rank rest part entry
+          near_found g.row.BIT lists c.args.rank rest part entry
           (c.part_of_rank-part.ensures.part (record { tables = t; short = c.requires.sized.short }))
-          (subst (λ (l : Lists). IsLastEntry (sought_in g.row.ONE l.words) (length l.lower) part rest entry) same
+          (subst (λ (l : Lists). IsLastEntry (sought_in g.row.BIT l.words) (length l.lower) part rest entry) same
           (c.entry_of.ensures.last (subst HasTables (sym same) t)));
     }

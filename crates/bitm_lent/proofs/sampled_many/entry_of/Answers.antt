@@ -6,5 +6,5 @@ use Rattle.bitm_lent.proofs.sampled_many.entry_of.Goals as goal
 
 pub returns-in-None-clause-last : goal.returns-in-None-clause-last
 returns-in-None-clause-last g c = λ t.
-    subst (λ (l : Lists). IsLastEntry (sought_in g.row.ONE l.words) (length l.lower) c.args.part c.args.rank c.last_entry.result.0)
+    subst (λ (l : Lists). IsLastEntry (sought_in g.row.BIT l.words) (length l.lower) c.args.part c.args.rank c.last_entry.result.0)
     c.in-None.ensures.same (c.last_entry.ensures.last (subst HasTables (sym c.in-None.ensures.same) t))

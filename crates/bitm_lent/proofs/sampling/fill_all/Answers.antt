@@ -1,6 +1,6 @@
 -- The parts follow one another: each has its start and its samples.
 use Rattle.std.proofs.Common.{◌≡◌, ◌∙◌, length, ap, arith}
-use Rattle.bit_lists.specs.Count.{kind}
+use Rattle.bit_lists.specs.Count.{as_bit}
 use Rattle.bitm.specs.Samples.{parts, sample_count_before}
 use Rattle.bitm_search.proofs.lemmas.TableLemmas.{entries}
 use Rattle.bitm_lent.proofs.SamplingLemmas.{all_made}
@@ -8,7 +8,7 @@ use Rattle.bitm_lent.proofs.sampling.fill_all.Goals as goal
 
 pub returns-clause-made : goal.returns-clause-made
 returns-clause-made g c b t =
-    let v = kind g.row.ONE in
+    let v = as_bit g.row.BIT in
     let d = c.args.log2 in
     let i = c.loop-part.invariant in
     let e = entries b _ _ t.tables in

@@ -1,5 +1,5 @@
 use Rattle.std.proofs.Common.{◌≡◌, ℕ, ◌*◌, ◌^◌, ◌≤◌, List, Bool, length, slice_index}
-use Rattle.bit_lists.specs.Count.{kind}
+use Rattle.bit_lists.specs.Count.{as_bit}
 use Rattle.bitm.specs.Samples.{IsSummaryOf, sample_count_before}
 use Rattle.bitm_lent.specs.Samples.{sample_number}
 use Rattle.bitm_lent.specs.Sizes.{IsFilled}
@@ -11,8 +11,8 @@ invariant-loop-part g l = record {
   len : length l.samples ≡ length l.fn.samples;
   fits : l.count ≤ length l.fn.samples;
   before : l.count * 2 ^ l.log2 ≤ l.part * 2 ^ 32;
-  count : (b : List Bool) → IsSummaryOf b l.summary → l.count ≡ sample_count_before b (kind g.row.ONE) l.log2 l.part;
-  samples : (b : List Bool) → IsSummaryOf b l.summary → IsFilled (sample_number b (kind g.row.ONE) l.log2) l.samples l.count;
-  starts : (b : List Bool) → IsSummaryOf b l.summary → IsFilled (sample_count_before b (kind g.row.ONE) l.log2) l.starts l.part;
+  count : (b : List Bool) → IsSummaryOf b l.summary → l.count ≡ sample_count_before b (as_bit g.row.BIT) l.log2 l.part;
+  samples : (b : List Bool) → IsSummaryOf b l.summary → IsFilled (sample_number b (as_bit g.row.BIT) l.log2) l.samples l.count;
+  starts : (b : List Bool) → IsSummaryOf b l.summary → IsFilled (sample_count_before b (as_bit g.row.BIT) l.log2) l.starts l.part;
   kept : (j : ℕ) → l.count ≤ j → slice_index l.samples j ≡ slice_index l.fn.samples j;
 }

@@ -3,7 +3,7 @@ use Rattle.std.proofs.Common.{◌≡◌, ◌≢◌, ℕ, ◌+◌, ◌*◌, ◌%�
 use Rattle.std.proofs.lemmas.List.{get_or-set_other}
 use Rattle.std.proofs.lemmas.Nat.{one_shl}
 use Rattle.std.specs.Int.{div_ceil}
-use Rattle.bit_lists.specs.Count.{kind}
+use Rattle.bit_lists.specs.Count.{as_bit}
 use Rattle.bitm.specs.Samples.{IsSummaryOf, intervals, part_of, parts, sample}
 use Rattle.bitm_search.specs.Search.{items_to}
 use Rattle.bitm_strategies.proofs.lemmas.MadeLemmas.{half_within, interval_item}
@@ -22,7 +22,7 @@ module _ (g : _) (c : After-div_ceil-count g) where
       c.div_ceil-count.ensures c.args.summary.now.len (length c.args.samples.now)
       (omega (arith, c.requires.inside, c.requires.sized.upper_len)) c.items_in-items.ensures.fits c.requires.room
 
-  many : (b : _) → IsSummaryOf b c.args.summary.now → c.div_ceil-count.result ≡ intervals (part_of b c.args.part) (kind g.row.ONE) c.args.log2
+  many : (b : _) → IsSummaryOf b c.args.summary.now → c.div_ceil-count.result ≡ intervals (part_of b c.args.part) (as_bit g.row.BIT) c.args.log2
   many b t =
       c.div_ceil-count.ensures
       ∙ ap (div_ceil c.items_in-items.result) (one_shl c.args.log2 64 (omega (arith, c.requires.high)))
@@ -44,7 +44,7 @@ returns-clause-after g c =
 pub returns-clause-count : goal.returns-clause-count
 returns-clause-count g c b t is =
     let d = (goal.at.returns-clause-count g c).After-div_ceil-count in
-    omega (arith, is, many g d b t, before_more b (kind g.row.ONE) c.args.log2 c.args.part)
+    omega (arith, is, many g d b t, before_more b (as_bit g.row.BIT) c.args.log2 c.args.part)
 
 pub loop-interval-preserved : goal.loop-interval-preserved
 loop-interval-preserved g c =
@@ -53,17 +53,17 @@ loop-interval-preserved g c =
     interval_item c.loop-interval.interval c.items_in-items.result c.args.log2 c.div_ceil-count.result
     c.requires.high c.items_in-items.ensures.few c.div_ceil-count.ensures (omega (arith, c.loop-interval-test.true, c.loop-interval.auto.interval-end)) in
     let e = c.sample_from-sample.ensures in
-    let v = kind g.row.ONE in
+    let v = as_bit g.row.BIT in
     let k = c.args.part in
     let d = c.args.log2 in
     let n = c.loop-interval.interval in
     let inv = c.loop-interval.invariant in
     let fits : c.args.first + n < length c.loop-interval.samples = omega (arith, room g a, c.loop-interval-test.true, c.loop-interval.auto.interval-end, c.loop-interval.auto.samples) in
-    let below : (b : _) → IsSummaryOf b c.args.summary.now → items_to g.row.ONE b k c.loop-interval.entry ≤ n * 2 ^ d % 2 ^ 64 =
+    let below : (b : _) → IsSummaryOf b c.args.summary.now → items_to g.row.BIT b k c.loop-interval.entry ≤ n * 2 ^ d % 2 ^ 64 =
     λ b t. omega (arith, inv.at_most b t, i.1) in
     record {
       inside = e.inside;
-      at_most = λ b t. half_within n d (items_to g.row.ONE b k c.sample_from-sample.result.1) (omega (arith, e.at_most b t (below b t), i.1));
+      at_most = λ b t. half_within n d (items_to g.row.BIT b k c.sample_from-sample.result.1) (omega (arith, e.at_most b t (below b t), i.1));
       samples = λ b t is filled.
           let made = e.sample b t (c.items_in-items.ensures.items b t) (below b t) ∙ ap (sample (part_of b k) v d) i.1 in
           let inside : k < parts b = omega (arith, c.requires.inside, (entries b _ _ t.tables).upper_length) in

@@ -2,7 +2,7 @@
 use Rattle.std.proofs.Common.{◌+◌, ap, ◌∙◌, arith}
 use Rattle.bit_lists.specs.Bits.{bits_of}
 use Rattle.bitm_search.proofs.lemmas.TableMakingLemmas.{counts_records, before_in_part-lt}
-use Rattle.bitm_search.specs.Entry.{packed}
+use Rattle.bitm_search.specs.Entry.{packed_counts}
 use Rattle.bitm_search.proofs.tables.make_entry.Goals as goal
 
 pub pack-requires-clause-before : goal.pack-requires-clause-before
@@ -16,4 +16,4 @@ returns c =
     let z = c.ones_of_record-3.result in
     let h = counts_records (bits_of c.args.words.now) c.args.at w x y z
     c.ones_of_record-one.ensures.ones c.ones_of_record.ensures.ones c.ones_of_record-2.ensures.ones c.ones_of_record-3.ensures.ones in
-    record { entry = c.pack.ensures ∙ ap (λ n. packed n w (w + x) (w + x + y)) c.requires.before ∙ h.entry; ones = h.ones }
+    record { entry = c.pack.ensures ∙ ap (λ n. packed_counts n w (w + x) (w + x + y)) c.requires.before ∙ h.entry; ones = h.ones }

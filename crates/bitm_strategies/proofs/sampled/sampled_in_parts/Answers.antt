@@ -2,7 +2,7 @@
 use Rattle.std.proofs.Common.{◌≡◌, ℕ, ◌*◌, ◌^◌, List, length, get_or, slice_index, sym, ap, ◌∙◌, subst, arith}
 use Rattle.bit_lists.proofs.lemmas.BitsLemmas.{length-bits_of}
 use Rattle.bit_lists.specs.Bits.{bits_of, digit_count}
-use Rattle.bit_lists.specs.Count.{kind, ones_before}
+use Rattle.bit_lists.specs.Count.{as_bit, ones_before}
 use Rattle.bitm_strategies.specs.Samples.{parts, IsSampledPart, SampledReads}
 use Rattle.bitm_search.specs.Search.{sought_in}
 use Rattle.bitm_search.specs.Tables.{Lists, HasTables, IsIndexed}
@@ -24,20 +24,21 @@ pub bounds-starts-part : goal.bounds-starts-part
 bounds-starts-part g c =
     let l = g.T.TableSource.lists c.args.source.now in
     let t = at l c.requires.tables in
-    let long = length-starts (bits_of l.words) (kind g.row.ONE) c.args.log2 in
+    let long = length-starts (bits_of l.words) (as_bit g.row.BIT) c.args.log2 in
     omega (arith, c.last_part-part.ensures.inside, t.upper_length, long, ap length c.requires.starts)
 
 pub sampled_in_part-requires-clause-sampled : goal.sampled_in_part-requires-clause-sampled
 sampled_in_part-requires-clause-sampled g c =
     let l = g.T.TableSource.lists c.args.source.now in
-    let one = g.row.ONE in
+    let bit = g.row.BIT in
     let t = at l c.requires.tables in
     let k = c.last_part-part.result in
     let last = c.last_part-part.ensures in
     let indexed : IsIndexed l = record { tables = c.requires.tables; short = c.requires.short } in
     subst
     (λ (x : Lists).
-    IsSampledPart one x c.args.sampled.now c.args.log2 k (slice_index c.args.starts.now k) c.before_part-before.result c.args.rank)
+    IsSampledPart bit x c.args.samples.now c.args.log2
+    (record { part = k; samples = slice_index c.args.starts.now k; items = c.before_part-before.result }) c.args.rank)
     (sym (c.before_part-before.ensures.same ∙ last.same))
     (record {
       low = c.requires.low;
@@ -46,9 +47,9 @@ sampled_in_part-requires-clause-sampled g c =
       part = last.last indexed;
       start_is =
           ap (λ (xs : List ℕ). get_or xs k 0) c.requires.starts
-          ∙ start_at (bits_of l.words) (kind one) c.args.log2 k (omega (arith, last.inside, t.upper_length));
+          ∙ start_at (bits_of l.words) (as_bit bit) c.args.log2 k (omega (arith, last.inside, t.upper_length));
       before_is =
-          subst (λ (x : Lists). IsIndexed x → c.before_part-before.result ≡ ones_before (sought_in one x.words) (k * 2 ^ 32)) last.same
+          subst (λ (x : Lists). IsIndexed x → c.before_part-before.result ≡ ones_before (sought_in bit x.words) (k * 2 ^ 32)) last.same
           c.before_part-before.ensures.count indexed;
     })
 
@@ -63,7 +64,7 @@ returns-clause-reads g c =
     let from = T.reads c.args.source.now in
     subst
     (λ (x : Lists).
-    SampledReads (bits_of x.words) (kind g.row.ONE) c.args.log2 c.args.rank c.sampled_in_part.result from
+    SampledReads (bits_of x.words) (as_bit g.row.BIT) c.args.log2 c.args.rank c.sampled_in_part.result from
     (T.reads c.sampled_in_part.new.source))
     same
     (c.sampled_in_part.ensures.reads from

@@ -6,7 +6,7 @@ use Rattle.bitm_strategies.proofs.samples.items_among.Goals as goal
 
 pub returns-then-this-eq0-clause-items : goal.returns-then-this-eq0-clause-items
 returns-then-this-eq0-clause-items g c b t l =
-    omega (arith, items_zero b g.row.ONE c.if-this-eq0.true, ones_before-add-zeros_before b (length b) (omega arith), t, l)
+    omega (arith, items_zero b g.row.BIT c.if-this-eq0.true, ones_before-add-zeros_before b (length b) (omega arith), t, l)
 
 pub returns-else-this-eq0-clause-items : goal.returns-else-this-eq0-clause-items
-returns-else-this-eq0-clause-items g c b t l = t ∙ sym (items_other b g.row.ONE c.if-this-eq0.false)
+returns-else-this-eq0-clause-items g c b t l = t ∙ sym (items_other b g.row.BIT c.if-this-eq0.false)

@@ -8,12 +8,12 @@ pub returns-then-this-eq0-clause-items : goal.returns-then-this-eq0-clause-items
 returns-then-this-eq0-clause-items g c b t =
     let few = few_ones_in b _ _ _ _ t c.args.part c.requires.inside c.ones_to_end.result (c.ones_to_end.ensures b t) in
     let z = zeros_in b _ _ _ _ t c.args.part c.requires.inside c.ones_to_end.result (c.ones_to_end.ensures b t) in
-    let zero = items_zero (part_of b c.args.part) g.row.ONE c.if-this-eq0.true in
+    let zero = items_zero (part_of b c.args.part) g.row.BIT c.if-this-eq0.true in
     omega (arith, few, z, zero, begins b _ _ _ _ t c.args.part c.requires.inside, t.bits_are, c.saturating_sub.ensures, c.min-bits.ensures, c.min-ones.ensures)
 
 pub returns-else-this-eq0-clause-items : goal.returns-else-this-eq0-clause-items
 returns-else-this-eq0-clause-items g c b t =
     let few = few_ones_in b _ _ _ _ t c.args.part c.requires.inside c.ones_to_end.result (c.ones_to_end.ensures b t) in
     let o = ones_in b _ _ _ _ t c.args.part c.requires.inside c.ones_to_end.result (c.ones_to_end.ensures b t) in
-    let other = items_other (part_of b c.args.part) g.row.ONE c.if-this-eq0.false in
+    let other = items_other (part_of b c.args.part) g.row.BIT c.if-this-eq0.false in
     omega (arith, few, o, other, begins b _ _ _ _ t c.args.part c.requires.inside, t.bits_are, c.saturating_sub.ensures, c.min-bits.ensures, c.min-ones.ensures)

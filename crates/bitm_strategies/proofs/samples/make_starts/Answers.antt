@@ -1,7 +1,7 @@
 -- Each part adds how many samples it has, and before that how many there are.
 use Rattle.std.proofs.Common.{◌≡◌, ℕ, [], map, ap, ◌∙◌, arith}
 use Rattle.std.specs.List.{range_with_len}
-use Rattle.bit_lists.specs.Count.{kind}
+use Rattle.bit_lists.specs.Count.{as_bit}
 use Rattle.bitm_strategies.specs.Samples.{parts, sample_count_before}
 use Rattle.bitm_strategies.proofs.lemmas.MadeLemmas.{one_more}
 use Rattle.bitm_strategies.proofs.lemmas.SampleLemmas.{before_more}
@@ -14,7 +14,7 @@ overflow_add-count g c =
 
 pub loop-part-preserved : goal.loop-part-preserved
 loop-part-preserved g c =
-    let v = kind g.row.ONE in
+    let v = as_bit g.row.BIT in
     let d = c.args.log2 in
     let k = c.loop-part.part in
     let inv = c.loop-part.invariant in
@@ -30,4 +30,4 @@ pub returns : goal.returns
 returns g c b t =
     let ended : c.loop-part.part ≡ parts b = omega (arith, (entries b _ _ t.tables).upper_length) in
     c.loop-part.invariant.starts b t
-    ∙ ap (λ (n : ℕ). map (sample_count_before b (kind g.row.ONE) c.args.log2) (range_with_len 0 n)) ended
+    ∙ ap (λ (n : ℕ). map (sample_count_before b (as_bit g.row.BIT) c.args.log2) (range_with_len 0 n)) ended

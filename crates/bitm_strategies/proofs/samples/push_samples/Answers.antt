@@ -3,9 +3,9 @@ use Rattle.std.proofs.Common.{◌≡◌, ℕ, ◌*◌, ◌%◌, ◌^◌, ◌≤�
 use Rattle.std.proofs.lemmas.Nat.{one_shl}
 use Rattle.std.specs.Int.{div_ceil}
 use Rattle.std.specs.List.{range_with_len}
-use Rattle.bit_lists.specs.Count.{kind}
+use Rattle.bit_lists.specs.Count.{as_bit}
 use Rattle.bitm_strategies.specs.Samples.{intervals, part_of, sample}
-use Rattle.bitm_search.specs.Search.{items_to, sought}
+use Rattle.bitm_search.specs.Search.{items_to, sought_bits}
 use Rattle.bitm_strategies.proofs.lemmas.MadeLemmas.{sized_first, interval_item, half_within, one_more}
 use Rattle.bitm_search.proofs.lemmas.SoughtLemmas.{first_none}
 use Rattle.bitm_strategies.proofs.samples.push_samples.Goals as goal
@@ -21,7 +21,7 @@ pub loop-interval-init : goal.loop-interval-init
 loop-interval-init g c =
     record {
       inside = omega (arith, sized_first _ _ _ c.args.part c.requires.sized.upper_len c.requires.sized.lower_len c.requires.inside);
-      at_most = λ b t. omega (arith, first_none (sought (kind g.row.ONE) b) c.args.part);
+      at_most = λ b t. omega (arith, first_none (sought_bits (as_bit g.row.BIT) b) c.args.part);
       samples = λ b t. sym (append-nil c.args.samples.now.items);
     }
 
@@ -31,7 +31,7 @@ loop-interval-preserved g c =
     interval_item c.loop-interval.interval c.items_in-items.result c.args.log2 c.div_ceil-interval-end.result
     c.requires.high c.items_in-items.ensures.few c.div_ceil-interval-end.ensures (omega arith) in
     let e = c.sample_from-sample.ensures in
-    let v = kind g.row.ONE in
+    let v = as_bit g.row.BIT in
     let k = c.args.part in
     let d = c.args.log2 in
     let n = c.loop-interval.interval in
@@ -39,10 +39,10 @@ loop-interval-preserved g c =
     record {
       inside = e.inside;
       at_most = λ b t.
-          let x : items_to g.row.ONE b k c.loop-interval.entry ≤ n * 2 ^ d % 2 ^ 64 = omega (arith, inv.at_most b t, i.1) in
-          half_within n d (items_to g.row.ONE b k c.sample_from-sample.result.1) (omega (arith, e.at_most b t x, i.1));
+          let x : items_to g.row.BIT b k c.loop-interval.entry ≤ n * 2 ^ d % 2 ^ 64 = omega (arith, inv.at_most b t, i.1) in
+          half_within n d (items_to g.row.BIT b k c.sample_from-sample.result.1) (omega (arith, e.at_most b t x, i.1));
       samples = λ b t.
-          let x : items_to g.row.ONE b k c.loop-interval.entry ≤ n * 2 ^ d % 2 ^ 64 = omega (arith, inv.at_most b t, i.1) in
+          let x : items_to g.row.BIT b k c.loop-interval.entry ≤ n * 2 ^ d % 2 ^ 64 = omega (arith, inv.at_most b t, i.1) in
           let at = e.sample b t (c.items_in-items.ensures.items b t) x ∙ ap (sample (part_of b k) v d) i.1 in
           one_more (λ j. sample (part_of b k) v d (j * 2 ^ d)) c.args.samples.now.items c.loop-interval.samples.items _ n
           c.sample_from-sample.result.0 c.in_ok-push.ensures.items (inv.samples b t) at;
@@ -50,7 +50,7 @@ loop-interval-preserved g c =
 
 pub returns : goal.returns
 returns g c b t =
-    let v = kind g.row.ONE in
+    let v = as_bit g.row.BIT in
     let k = c.args.part in
     let d = c.args.log2 in
     let end : c.loop-interval.interval ≡ intervals (part_of b k) v d =

@@ -8,6 +8,6 @@ abbrev pub invariant-loop-next : goal.invariant-loop-next
 invariant-loop-next g l = record {
   order : l.from < l.next;
   bound : l.next ≤ l.end;
-  at_most : (b : List Bool) → IsSummaryOf b l.summary → items_to g.row.ONE b l.part l.from ≤ l.item
-      → items_to g.row.ONE b l.part (l.next - 1) ≤ l.item;
+  at_most : (b : List Bool) → IsSummaryOf b l.summary → items_to g.row.BIT b l.part l.from ≤ l.item
+      → items_to g.row.BIT b l.part (l.next - 1) ≤ l.item;
 }

@@ -27,15 +27,15 @@ entries_of_part-end-requires g c =
 
 module _ (g : _) (c : After-ones_to_entry g) where
   entry_is : c.sought_entry-entry.result
-      ≡ lower_entry (sought_in g.row.ONE (g.T.TableSource.lists c.args.source.now).words) (c.args.part * 2 ^ 21 + c.loop-next.next)
+      ≡ lower_entry (sought_in g.row.BIT (g.T.TableSource.lists c.args.source.now).words) (c.args.part * 2 ^ 21 + c.loop-next.next)
   entry_is =
       let at = c.args.part * 2 ^ 21 + c.loop-next.next in
       c.sought_entry-entry.ensures.entry (subst HasTables (sym c.loop-next.invariant.same) c.requires.tables)
-      ∙ ap (λ (l : Lists). lower_entry (sought_in g.row.ONE l.words) at) c.loop-next.invariant.same
+      ∙ ap (λ (l : Lists). lower_entry (sought_in g.row.BIT l.words) at) c.loop-next.invariant.same
 
-  count : c.ones_to_entry.result ≡ items_to g.row.ONE (bits_of (g.T.TableSource.lists c.args.source.now).words) c.args.part c.loop-next.next
+  count : c.ones_to_entry.result ≡ items_to g.row.BIT (bits_of (g.T.TableSource.lists c.args.source.now).words) c.args.part c.loop-next.next
   count =
-      let m = sought_in g.row.ONE (g.T.TableSource.lists c.args.source.now).words in
+      let m = sought_in g.row.BIT (g.T.TableSource.lists c.args.source.now).words in
       c.ones_to_entry.ensures ∙ low_is m c.sought_entry-entry.result (c.args.part * 2 ^ 21 + c.loop-next.next) entry_is
 
   end_is : c.entries_of_part-end.result ≡ entries_from (length (g.T.TableSource.lists c.args.source.now).lower) c.args.part
@@ -52,7 +52,7 @@ returns-then-rank-ones_to_entry-clause-last g c =
     record {
       inside = omega (arith, e, i.order, i.bound, c.loop-next-test.true);
       at_most = i.at_most;
-      next = λ _. subst (λ (k : ℕ). c.args.rank < items_to g.row.ONE b c.args.part k) (sym back) above;
+      next = λ _. subst (λ (k : ℕ). c.args.rank < items_to g.row.BIT b c.args.part k) (sym back) above;
     }
 
 pub loop-next-preserved : goal.loop-next-preserved
@@ -61,13 +61,13 @@ loop-next-preserved g c =
     let b = bits_of (g.T.TableSource.lists c.args.source.now).words in
     let i = c.loop-next.invariant in
     let e = c.sought_entry-entry.ensures in
-    let m = sought_in g.row.ONE (g.T.TableSource.lists c.args.source.now).words in
+    let m = sought_in g.row.BIT (g.T.TableSource.lists c.args.source.now).words in
     let back : c.loop-next.next + 1 - 1 ≡ c.loop-next.next = omega arith in
     let below = subst (λ (n : ℕ). n ≤ c.args.rank) (count g d) c.if-rank-ones_to_entry.false in
     record {
       order = omega (arith, i.order);
       bound = omega (arith, c.loop-next-test.true);
-      at_most = subst (λ (k : ℕ). items_to g.row.ONE b c.args.part k ≤ c.args.rank) (sym back) below;
+      at_most = subst (λ (k : ℕ). items_to g.row.BIT b c.args.part k ≤ c.args.rank) (sym back) below;
       packed = entry_is g d ∙ ap (λ (k : ℕ). lower_entry m (c.args.part * 2 ^ 21 + k)) (sym back);
       lower = omega (arith, ap (λ (r : ReadCounts). r.lower) e.counted, i.lower);
       upper = ap (λ (r : ReadCounts). r.upper) e.counted ∙ i.upper;

@@ -12,8 +12,8 @@ invariant-loop-next g l =
     record {
       order : l.from < l.next;
       bound : l.next ≤ l.end;
-      at_most : items_to g.row.ONE b l.part (l.next - 1) ≤ l.rank;
-      packed : l.packed ≡ lower_entry (sought_in g.row.ONE (T.lists l.fn.source).words) (l.part * 2 ^ 21 + (l.next - 1));
+      at_most : items_to g.row.BIT b l.part (l.next - 1) ≤ l.rank;
+      packed : l.packed ≡ lower_entry (sought_in g.row.BIT (T.lists l.fn.source).words) (l.part * 2 ^ 21 + (l.next - 1));
       lower : (T.reads l.source).lower + l.from ≡ (T.reads l.fn.source).lower + l.next;
       upper : (T.reads l.source).upper ≡ (T.reads l.fn.source).upper;
       words : (T.reads l.source).words ≡ (T.reads l.fn.source).words;

@@ -4,17 +4,17 @@ use Rattle.std.proofs.lemmas.Bool.{cases_lt}
 use Rattle.std.proofs.lemmas.List.{get_or_default}
 use Rattle.elias_fano.proofs.lemmas.ItemLemmas.{parts-lengths, upper-short}
 use Rattle.elias_fano.proofs.lemmas.SelectionReadLemmas.{digits-allow-one, digits-allow-two}
-use Rattle.elias_fano.specs.Held.{held_by, Holds}
+use Rattle.elias_fano.specs.LentParts.{parts_with, Holds}
 use Rattle.elias_fano.proofs.counted.first_at_least_counted.Goals as goal
 use Rattle.elias_fano.proofs.counted.first_at_least_counted.Goals.{After-first_on, After-only_reaches}
 
 -- ---- one item
 
 alone : (g : _) (c : After-only_reaches g) (xs : List ℕ)
-    → Holds xs (held_by c.args.n c.args.low.now (g.T.TableSource.lists c.args.source.now))
-    → Holds xs (held_by 1 c.args.low.now (g.T.TableSource.lists c.args.source.now))
+    → Holds xs (parts_with c.args.n c.args.low.now (g.T.TableSource.lists c.args.source.now))
+    → Holds xs (parts_with 1 c.args.low.now (g.T.TableSource.lists c.args.source.now))
 alone g c xs h =
-    let P : ℕ → Type 0 = λ k. Holds xs (held_by k c.args.low.now (g.T.TableSource.lists c.args.source.now)) in
+    let P : ℕ → Type 0 = λ k. Holds xs (parts_with k c.args.low.now (g.T.TableSource.lists c.args.source.now)) in
     subst P c.if-n-eq1.true h
 
 pub returns-then-only_reaches-clause-reads : goal.returns-then-only_reaches-clause-reads

@@ -9,7 +9,7 @@ use Rattle.elias_fano.proofs.lemmas.FragmentLemmas.{fragments-more, one-shared}
 use Rattle.elias_fano.proofs.lemmas.ItemLemmas.{fragment-of, parts-width, upper-short}
 use Rattle.elias_fano.proofs.lemmas.SelectionReadLemmas.{digits-some}
 use Rattle.elias_fano.proofs.lemmas.UpperLemmas.{ones_are, place_is}
-use Rattle.elias_fano.specs.Held.{held_by, Holds}
+use Rattle.elias_fano.specs.LentParts.{parts_with, Holds}
 use Rattle.elias_fano.proofs.counted.only_reaches.Goals as goal
 use Rattle.elias_fano.proofs.counted.only_reaches.Goals.{In-Found}
 
@@ -42,7 +42,7 @@ item_at_one-requires g c =
 
 -- ---- what the number and the value say above their low digits
 
-above : (g : _) (c : In-Found g) (xs : List ℕ) → Holds xs (held_by 1 c.args.low.now (g.T.TableSource.lists c.args.source.now))
+above : (g : _) (c : In-Found g) (xs : List ℕ) → Holds xs (parts_with 1 c.args.low.now (g.T.TableSource.lists c.args.source.now))
     → c.in-Found.place ≡ get_or xs 0 0 / 2 ^ c.args.low.now.width
 above g c xs h =
     let inside : 0 < length xs = omega (arith, h.are.count) in

@@ -1,13 +1,13 @@
 -- The last of some numbers that are at most the value is the one before the place where they end.
 use Rattle.std.proofs.Common.{◌≡◌, ℕ, ◌+◌, ◌-◌, subst, arith}
-use Rattle.elias_fano.specs.Held.{held_by}
+use Rattle.elias_fano.specs.LentParts.{parts_with}
 use Rattle.elias_fano.specs.Told.{TellsAtMost}
 use Rattle.elias_fano.proofs.predecessor.total_last_at_most_on.Goals as goal
 
 pub returns-in-Some-clause-told : goal.returns-in-Some-clause-told
 returns-in-Some-clause-told g c =
     let some : c.in-Some.count ≡ c.in-Some.count - 1 + 1 = omega (arith, c.in-Some.count-test) in
-    let P : ℕ → Type 0 = TellsAtMost (held_by c.args.n c.args.low.now (g.T.TableSource.lists c.args.source.now)) c.args.v in
+    let P : ℕ → Type 0 = TellsAtMost (parts_with c.args.n c.args.low.now (g.T.TableSource.lists c.args.source.now)) c.args.v in
     subst P some c.in-Some.ensures.told
 
 pub returns-in-Some-clause-answer : goal.returns-in-Some-clause-answer

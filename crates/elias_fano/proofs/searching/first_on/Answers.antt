@@ -4,7 +4,7 @@ use Rattle.bitm.specs.Tables.{HasTables, Lists}
 use Rattle.elias_fano.proofs.lemmas.BucketLemmas.{bucket-order}
 use Rattle.elias_fano.proofs.lemmas.ToldLemmas.{told_less}
 use Rattle.elias_fano.specs.Buckets.{CountsTo, CountsBelow, HasEnds}
-use Rattle.elias_fano.specs.Held.{held_by, Holds}
+use Rattle.elias_fano.specs.LentParts.{parts_with, Holds}
 use Rattle.elias_fano.specs.Parts.{IsUpper}
 use Rattle.elias_fano.specs.Told.{TellsBelow, TellsTo}
 use Rattle.elias_fano.proofs.searching.first_on.Goals as goal
@@ -12,7 +12,7 @@ use Rattle.elias_fano.proofs.searching.first_on.Goals.{After-place_in_bucket-2, 
 
 -- the source's lists are the same after the first selection
 ends : (g : _) (c : After-place_in_bucket-2 g) (xs : List ℕ)
-    → Holds xs (held_by c.args.n c.args.low.now (g.T.TableSource.lists c.args.source.now))
+    → Holds xs (parts_with c.args.n c.args.low.now (g.T.TableSource.lists c.args.source.now))
     → HasEnds xs c.args.low.now.width c.args.v c.in-Some.first c.in-Some-count_to.end
 ends g c xs h =
     let w = c.args.low.now.width in

@@ -10,5 +10,5 @@ returns-clause-item c = λ xs n upper h.
     let after = place-after xs n _ _ upper _ _ h in
     let above : (c.args.place + (2 ^ 64 - c.args.at)) % 2 ^ 64 ≡ c.args.place - c.args.at =
     omega (arith, after, c.ranges.place.fits, c.ranges.at.fits) in
-    c.joined.ensures.number (omega (arith, ap item above, held-fits xs n _ _ upper _ _ h))
+    c.join_digits.ensures.number (omega (arith, ap item above, held-fits xs n _ _ upper _ _ h))
     ∙ ap item above ∙ held-is xs n _ _ upper _ _ h

@@ -1,11 +1,11 @@
 -- Those with less than a number have at most the one before it.
 use Rattle.std.proofs.Common.{ℕ, ◌-◌, ◌<◌, List, arith}
-use Rattle.std.specs.Prelude.{Option, Some, None, MatchOption}
+use Rattle.std.specs.Prelude.{Option, Some, None, IsSomeAnd}
 use Rattle.elias_fano.specs.Buckets.{CountsTo, CountsBelow}
 use Rattle.elias_fano_lent.proofs.bucket.count_below.Goals as goal
 
-below : (xs : List ℕ) (l above : ℕ) (o : Option ℕ) → 0 < above → MatchOption o ⊥ (CountsTo xs l (above - 1))
-    → MatchOption o ⊥ (CountsBelow xs l above)
+below : (xs : List ℕ) (l above : ℕ) (o : Option ℕ) → 0 < above → IsSomeAnd o (CountsTo xs l (above - 1))
+    → IsSomeAnd o (CountsBelow xs l above)
 below xs l above None some h = h
 below xs l above (Some c) some h = record {
   bound = h.bound;

@@ -6,14 +6,14 @@ use Rattle.elias_fano.proofs.lemmas.BucketLemmas.{bucket-order}
 use Rattle.elias_fano.proofs.lemmas.ItemLemmas.{upper-short}
 use Rattle.elias_fano.proofs.lemmas.ToldLemmas.{told_less}
 use Rattle.elias_fano.specs.Buckets.{CountsTo, CountsBelow, HasEnds}
-use Rattle.elias_fano_lent.specs.Held.{held_by, Holds}
+use Rattle.elias_fano_lent.specs.LentParts.{parts_with, Holds}
 use Rattle.elias_fano_lent.specs.Lists.{EndsTold}
 use Rattle.elias_fano_lent.specs.Told.{TellsBelow, TellsTo}
 use Rattle.elias_fano_lent.proofs.bucket.place_of.Goals as goal
 use Rattle.elias_fano_lent.proofs.bucket.place_of.Goals.{In-Some, After-place_in_bucket, After-place_in_bucket-2}
 
-begins : (c : In-Some) (xs : List ℕ) (upper : Lists) → Holds xs (held_by c.args.n c.args.low.now upper)
-    → EndsTold (held_by c.args.n c.args.low.now upper) c.args.v c.args.begin c.args.end
+begins : (c : In-Some) (xs : List ℕ) (upper : Lists) → Holds xs (parts_with c.args.n c.args.low.now upper)
+    → EndsTold (parts_with c.args.n c.args.low.now upper) c.args.v c.args.begin c.args.end
     → CountsBelow xs c.args.low.now.width (c.args.v / 2 ^ c.args.low.now.width) c.in-Some.first
 begins c xs upper h e =
     let w = c.args.low.now.width in
@@ -23,8 +23,8 @@ begins c xs upper h e =
     let told = subst T (sym c.width-width.ensures) (λ some. e.begins) in
     subst P c.width-width.ensures (c.in-Some.ensures.count xs w upper h.are.upper_is h.tables short h.are.count told)
 
-ends : (c : After-place_in_bucket-2) (xs : List ℕ) (upper : Lists) → Holds xs (held_by c.args.n c.args.low.now upper)
-    → EndsTold (held_by c.args.n c.args.low.now upper) c.args.v c.args.begin c.args.end
+ends : (c : After-place_in_bucket-2) (xs : List ℕ) (upper : Lists) → Holds xs (parts_with c.args.n c.args.low.now upper)
+    → EndsTold (parts_with c.args.n c.args.low.now upper) c.args.v c.args.begin c.args.end
     → HasEnds xs c.args.low.now.width c.args.v c.in-Some.first c.in-Some-count_to.last
 ends c xs upper h e =
     let w = c.args.low.now.width in
@@ -39,8 +39,8 @@ ends c xs upper h e =
     subst P c.width-width.ensures (c.in-Some-count_to.ensures.count xs w upper h.are.upper_is h.tables short h.are.count told) in
     record { begins = first; ends = λ narrow. last; order = bucket-order xs w _ _ _ first last }
 
-whole : (c : After-place_in_bucket) (xs : List ℕ) (upper : Lists) → Holds xs (held_by c.args.n c.args.low.now upper)
-    → EndsTold (held_by c.args.n c.args.low.now upper) c.args.v c.args.begin c.args.end
+whole : (c : After-place_in_bucket) (xs : List ℕ) (upper : Lists) → Holds xs (parts_with c.args.n c.args.low.now upper)
+    → EndsTold (parts_with c.args.n c.args.low.now upper) c.args.v c.args.begin c.args.end
     → HasEnds xs c.args.low.now.width c.args.v c.in-Some.first c.args.n
 whole c xs upper h e =
     let first = begins (goal.at.returns-then-width-eq0-clause-answer c).In-Some xs upper h e in

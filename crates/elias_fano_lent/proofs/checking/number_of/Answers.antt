@@ -34,4 +34,4 @@ returns-clause-number c =
           omega (arith, ap (λ k. 2 ^ k) whole, c.ranges.place.fits)
     ] in
     let fits = joined-fits a w _ c.requires.fragment.width low small in
-    (fits, c.joined.ensures.number fits)
+    (fits, c.join_digits.ensures.number fits)

@@ -4,13 +4,13 @@ use Rattle.std.proofs.lemmas.Nat.{ones-le}
 use Rattle.bit_lists.proofs.lemmas.CountLemmas.{ones_of-add-zeros_of}
 use Rattle.bit_lists.proofs.lemmas.PlaceLemmas.{length-coming}
 use Rattle.bit_lists.specs.Bits.{bits_of}
-use Rattle.bit_lists.specs.Count.{count_of, kind}
+use Rattle.bit_lists.specs.Count.{count_of, as_bit}
 use Rattle.bit_words.proofs.places.BitBIteratorExactSizeIterator.len.Goals as goal
 use Rattle.bit_words.proofs.places.BitBIteratorExactSizeIterator.len.Goals.{then-this-eq0, else-this-eq0}
 
-kind_one : (v : ℕ) → v ≢ 0 → kind v ≡ true
-kind_one zero apart = absurd (apart refl)
-kind_one (suc v) apart = refl
+as_bit_one : (v : ℕ) → v ≢ 0 → as_bit v ≡ true
+as_bit_one zero apart = absurd (apart refl)
+as_bit_one (suc v) apart = refl
 
 pub overflow_add-result : goal.overflow_add-result
 overflow_add-result g c =
@@ -27,14 +27,14 @@ returns-clause-value g c =
     let it = c.self.inside in
     let counted = λ (v : Bool). count_ones it.current + count_of (bits_of it.rest.now) v in
     let fits : it.current < 2 ^ 64 = search rules in
-    let coming = sym (length-coming g.row.B it.first it.current it.rest.now fits) ∙ ap length c.self.view_is in
+    let coming = sym (length-coming g.row.BIT it.first it.current it.rest.now fits) ∙ ap length c.self.view_is in
     elim c.if-this-eq0.branch [
       | then-this-eq0 w ↦
           ap (λ n. count_ones it.current + n) (w.rest-is ∙ w.count_bit_zeros-rest.ensures)
-          ∙ sym (ap counted (ap kind w.if-this-eq0.true))
+          ∙ sym (ap counted (ap as_bit w.if-this-eq0.true))
           ∙ coming
       | else-this-eq0 w ↦
           ap (λ n. count_ones it.current + n) (w.rest-is ∙ w.count_bit_ones-rest.ensures)
-          ∙ sym (ap counted (kind_one g.row.B w.if-this-eq0.false))
+          ∙ sym (ap counted (as_bit_one g.row.BIT w.if-this-eq0.false))
           ∙ coming
     ]

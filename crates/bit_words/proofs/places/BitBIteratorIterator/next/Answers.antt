@@ -7,9 +7,9 @@ use Rattle.bit_words.proofs.places.BitBIteratorIterator.next.Goals as goal
 pub returns-in_err-word-clause-steps : goal.returns-in_err-word-clause-steps
 returns-in_err-word-clause-steps g c =
     let it = c.loop-self.self-inside in
-    let ended : coming g.row.B it.first it.current it.rest.now ≡ [] =
-    ap₂ (λ x r. coming g.row.B it.first x r) c.loop-self-test.true (nil_from_length it.rest.now c.in_err-word.ensures.cases)
-    ∙ coming_end g.row.B it.first in
+    let ended : coming g.row.BIT it.first it.current it.rest.now ≡ [] =
+    ap₂ (λ x r. coming g.row.BIT it.first x r) c.loop-self-test.true (nil_from_length it.rest.now c.in_err-word.ensures.cases)
+    ∙ coming_end g.row.BIT it.first in
     rw c.from_residual.ensures (sym c.self.view_is ∙ sym c.loop-self.invariant.same ∙ ended, ended)
 
 pub loop-self-preserved : goal.loop-self-preserved
@@ -21,9 +21,9 @@ loop-self-preserved g c =
     let P : List ℕ → Type 0 = λ words. get_or words 0 0 < 2 ^ 64 in
     record {
       same =
-          ap (λ x. coming g.row.B (it.first + 64) x rest) c.word_of-self-inside.ensures
-          ∙ sym (coming_turn g.row.B it.first c.in_ok-word.word.now rest (subst P cut first_word))
-          ∙ sym (ap₂ (λ x r. coming g.row.B it.first x r) c.loop-self-test.true cut)
+          ap (λ x. coming g.row.BIT (it.first + 64) x rest) c.word_of-self-inside.ensures
+          ∙ sym (coming_turn g.row.BIT it.first c.in_ok-word.word.now rest (subst P cut first_word))
+          ∙ sym (ap₂ (λ x r. coming g.row.BIT it.first x r) c.loop-self-test.true cut)
           ∙ c.loop-self.invariant.same;
       room = omega (arith, c.in_ok-word.ensures.cases.1, c.loop-self.invariant.room);
     }
@@ -32,7 +32,7 @@ pub returns-clause-steps : goal.returns-clause-steps
 returns-clause-steps g c =
     let it = c.loop-self.self-inside in
     let fits : it.current < 2 ^ 64 = search rules in
-    sym c.self.view_is ∙ sym c.loop-self.invariant.same ∙ coming_next g.row.B it.first it.current it.rest.now (omega arith) fits
+    sym c.self.view_is ∙ sym c.loop-self.invariant.same ∙ coming_next g.row.BIT it.first it.current it.rest.now (omega arith) fits
 
 pub returns-clause-goes : goal.returns-clause-goes
 returns-clause-goes g c =

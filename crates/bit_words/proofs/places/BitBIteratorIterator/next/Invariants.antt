@@ -7,7 +7,7 @@ invariant-loop-self g l =
     let now = l.self-inside in
     let was = l.initial.self-inside in
     record {
-      same : coming g.row.B now.first now.current now.rest.now ≡ coming g.row.B was.first was.current was.rest.now;
+      same : coming g.row.BIT now.first now.current now.rest.now ≡ coming g.row.BIT was.first was.current was.rest.now;
       room : now.first + 64 * length now.rest.now + 64 < 2 ^ 64;
     }
 

@@ -16,9 +16,9 @@ loop-k-preserved g c =
     let queries = c.loop-k.queries in
     let k = c.loop-k.k in
     let ranks = c.args.ranks.now in
-    let near : ℕ → Query → Type 0 = λ j q. IsSearch g.row.ONE lists (slice_index ranks j) q 0 in
+    let near : ℕ → Query → Type 0 = λ j q. IsSearch g.row.BIT lists (slice_index ranks j) q 0 in
     let inside : k < length queries = omega (arith, i.enough, c.loop-k-test.true) in
-    let new : near k c.begin.result = subst (λ (l : Lists). IsSearch g.row.ONE l (slice_index ranks k) c.begin.result 0) i.same e.search in
+    let new : near k c.begin.result = subst (λ (l : Lists). IsSearch g.row.BIT l (slice_index ranks k) c.begin.result 0) i.same e.search in
     record {
       enough = omega (arith, i.enough, length-set queries k c.begin.result);
       found = written near queries k c.begin.result inside new i.found;

@@ -11,7 +11,7 @@ invariant-loop-k g l =
     let lists = T.lists l.fn.source in
     record {
       enough : length l.ranks ≤ length l.queries;
-      found : (j : ℕ) (d : Query) → j < l.k → IsSearch g.row.ONE lists (slice_index l.ranks j) (slice_index_or l.queries j d) 0;
+      found : (j : ℕ) (d : Query) → j < l.k → IsSearch g.row.BIT lists (slice_index l.ranks j) (slice_index_or l.queries j d) 0;
       upper : (T.reads l.source).upper ≤ (T.reads l.fn.source).upper + l.k * (digit_count (length lists.upper) + 1);
       lower : (T.reads l.source).lower ≤ (T.reads l.fn.source).lower + 46 * l.k;
       words : (T.reads l.source).words ≤ (T.reads l.fn.source).words;

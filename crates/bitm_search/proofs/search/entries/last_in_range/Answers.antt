@@ -1,6 +1,6 @@
 -- Each test halves what is left, and tells on which side the last entry of the part is if the tables are right.
 use Rattle.std.proofs.Common.{◌≡◌, ℕ, ◌+◌, ◌*◌, ◌-◌, ◌/◌, ◌^◌, ◌<◌, ◌≤◌, length, ap, sym, ◌∙◌, subst, arith, ◌⊎◌, inl, inr}
-use Rattle.bit_lists.specs.Count.{kind}
+use Rattle.bit_lists.specs.Count.{as_bit}
 use Rattle.bitm_search.specs.Entry.{before_in_part, lower_entry}
 use Rattle.bitm_search.specs.Search.{IsAmong, entries_from, sought_in}
 use Rattle.bitm_search.specs.Tables.{HasTables, Lists}
@@ -31,33 +31,33 @@ overflow_add-first-in-loop-left g c =
 
 module _ (g : _) (c : Joined-ones_to_entry-rank g) (t : HasTables (g.T.TableSource.lists c.args.source.now)) where
   next_is : c.sought_entry-next.result
-      ≡ lower_entry (sought_in g.row.ONE (g.T.TableSource.lists c.args.source.now).words)
+      ≡ lower_entry (sought_in g.row.BIT (g.T.TableSource.lists c.args.source.now).words)
       (c.args.part * 2 ^ 21 + (c.loop-left.low + c.loop-left.left / 2))
   next_is =
-      let m = sought_in g.row.ONE (g.T.TableSource.lists c.args.source.now).words in
+      let m = sought_in g.row.BIT (g.T.TableSource.lists c.args.source.now).words in
       let at = c.args.part * 2 ^ 21 + c.loop-left.low + c.loop-left.left / 2 in
       let there : at ≡ c.args.part * 2 ^ 21 + (c.loop-left.low + c.loop-left.left / 2) = omega arith in
       c.sought_entry-next.ensures.entry (subst HasTables (sym c.loop-left.invariant.same) t)
-      ∙ ap (λ (l : Lists). lower_entry (sought_in g.row.ONE l.words) at) c.loop-left.invariant.same
+      ∙ ap (λ (l : Lists). lower_entry (sought_in g.row.BIT l.words) at) c.loop-left.invariant.same
       ∙ ap (lower_entry m) there
 
   count : c.ones_to_entry.result
-      ≡ before_in_part (sought_in g.row.ONE (g.T.TableSource.lists c.args.source.now).words)
+      ≡ before_in_part (sought_in g.row.BIT (g.T.TableSource.lists c.args.source.now).words)
       (c.args.part * 2 ^ 21 + (c.loop-left.low + c.loop-left.left / 2))
   count =
-      let m = sought_in g.row.ONE (g.T.TableSource.lists c.args.source.now).words in
+      let m = sought_in g.row.BIT (g.T.TableSource.lists c.args.source.now).words in
       c.ones_to_entry.ensures
       ∙ low_is m c.sought_entry-next.result (c.args.part * 2 ^ 21 + (c.loop-left.low + c.loop-left.left / 2)) next_is
 
 -- ---- the side of it that is left
 
 among : (g : _) (c : Joined-ones_to_entry-rank g) → HasTables (g.T.TableSource.lists c.args.source.now)
-    → IsAmong (sought_in g.row.ONE (g.T.TableSource.lists c.args.source.now).words)
+    → IsAmong (sought_in g.row.BIT (g.T.TableSource.lists c.args.source.now).words)
     (length (g.T.TableSource.lists c.args.source.now).lower) c.args.part c.args.rank c.if-ones_to_entry-rank.low
     (c.loop-left.left - c.loop-left.left / 2)
 among g c t =
     let lists = g.T.TableSource.lists c.args.source.now in
-    let m = sought_in g.row.ONE lists.words in
+    let m = sought_in g.row.BIT lists.words in
     let part = c.args.part in
     let low = c.loop-left.low in
     let left = c.loop-left.left in
@@ -73,9 +73,9 @@ among g c t =
     (λ j k h l. entries_rise m part j k h (omega arith))
 
 packed : (g : _) (c : Joined-ones_to_entry-rank g) → 0 < c.if-ones_to_entry-rank.low → c.if-ones_to_entry-rank.packed
-    ≡ told_entry (kind g.row.ONE) (g.T.TableSource.lists c.args.source.now) (c.args.part * 2 ^ 21 + c.if-ones_to_entry-rank.low)
+    ≡ told_entry (as_bit g.row.BIT) (g.T.TableSource.lists c.args.source.now) (c.args.part * 2 ^ 21 + c.if-ones_to_entry-rank.low)
 packed g c =
-    let told = told_entry (kind g.row.ONE) in
+    let told = told_entry (as_bit g.row.BIT) in
     let lists = g.T.TableSource.lists c.args.source.now in
     let at : ℕ → ℕ = λ j. told lists (c.args.part * 2 ^ 21 + j) in
     let mid = c.loop-left.low + c.loop-left.left / 2 in
@@ -123,4 +123,4 @@ returns-else-low-eq0-clause-entry g c = λ t.
     let i = c.loop-left.invariant in
     let at = c.args.part * 2 ^ 21 + c.loop-left.low in
     let inside : at < length lists.lower = omega (arith, i.to, i.some, c.requires.range.within) in
-    i.packed (omega (arith, c.if-low-eq0.false)) ∙ told_is g.row.ONE lists at t inside
+    i.packed (omega (arith, c.if-low-eq0.false)) ∙ told_is g.row.BIT lists at t inside

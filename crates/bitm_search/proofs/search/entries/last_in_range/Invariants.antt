@@ -1,6 +1,6 @@
 use Rattle.std.proofs.Common.{◌≡◌, ◌+◌, ◌-◌, ◌*◌, ◌^◌, ◌<◌, ◌≤◌, length}
 use Rattle.bit_lists.specs.Bits.{digit_count}
-use Rattle.bit_lists.specs.Count.{kind}
+use Rattle.bit_lists.specs.Count.{as_bit}
 use Rattle.bitm_search.specs.Search.{IsAmong, sought_in}
 use Rattle.bitm_search.specs.Tables.{HasTables}
 use Rattle.bitm_search.specs.Told.{told_entry}
@@ -12,13 +12,13 @@ abbrev pub invariant-loop-left : goal.invariant-loop-left
 invariant-loop-left g l =
     let T = g.T.TableSource in
     let lists = T.lists l.fn.source in
-    let m = sought_in g.row.ONE lists.words in
+    let m = sought_in g.row.BIT lists.words in
     record {
       some : 0 < l.left;
       from : l.fn.range.low ≤ l.low;
       to : l.low + l.left ≤ l.fn.range.low + l.fn.range.left;
       among : HasTables lists → IsAmong m (length lists.lower) l.part l.rank l.low l.left;
-      packed : 0 < l.low → l.packed ≡ told_entry (kind g.row.ONE) lists (l.part * 2 ^ 21 + l.low);
+      packed : 0 < l.low → l.packed ≡ told_entry (as_bit g.row.BIT) lists (l.part * 2 ^ 21 + l.low);
       lower : (T.reads l.source).lower + digit_count (l.left - 1) ≤ (T.reads l.fn.source).lower + digit_count (l.fn.range.left - 1);
       upper : (T.reads l.source).upper ≡ (T.reads l.fn.source).upper;
       words : (T.reads l.source).words ≡ (T.reads l.fn.source).words;

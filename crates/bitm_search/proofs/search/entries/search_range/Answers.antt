@@ -15,11 +15,11 @@ entries_of_part-requires g c =
 
 -- all entries of the part are a range
 whole : (g : _) (c : After-entries_of_part g)
-    → IsRange g.row.ONE (g.T.TableSource.lists c.args.source.now) c.args.part c.args.rank
+    → IsRange g.row.BIT (g.T.TableSource.lists c.args.source.now) c.args.part c.args.rank
     (record { low = 0; left = c.entries_of_part.result; packed = 0; above = 0 })
 whole g c =
     let lists = g.T.TableSource.lists c.args.source.now in
-    let m = sought_in g.row.ONE lists.words in
+    let m = sought_in g.row.BIT lists.words in
     let n = entries_from (length lists.lower) c.args.part in
     let size : c.entries_of_part.result ≡ n = omega (arith, c.entries_of_part.ensures, c.lower_len.ensures) in
     let count : ℕ → ℕ = λ j. before_in_part m (c.args.part * 2 ^ 21 + j) in
@@ -34,8 +34,8 @@ whole g c =
 pub returns-then-range-lt-FEW-clause-range : goal.returns-then-range-lt-FEW-clause-range
 returns-then-range-lt-FEW-clause-range g c = whole g (goal.at.returns-then-range-lt-FEW-clause-range g c).After-entries_of_part
 
-pub guessed-requires-clause-range : goal.guessed-requires-clause-range
-guessed-requires-clause-range g c = whole g (goal.at.guessed-requires-clause-range g c).After-entries_of_part
+pub narrow_by_guess-requires-clause-range : goal.narrow_by_guess-requires-clause-range
+narrow_by_guess-requires-clause-range g c = whole g (goal.at.narrow_by_guess-requires-clause-range g c).After-entries_of_part
 
 pub returns-then-range-lt-FEW-clause-reads : goal.returns-then-range-lt-FEW-clause-reads
 returns-then-range-lt-FEW-clause-reads g c =

@@ -4,7 +4,7 @@ use Rattle.bitm_search.specs.Entry.{before_in_part, lower_entry}
 use Rattle.bitm_search.specs.Search.{entries_from, sought_in}
 use Rattle.bitm_search.specs.Tables.{HasTables}
 use Rattle.bitm_search.specs.Told.{told_entry}
-use Rattle.bit_lists.specs.Count.{kind}
+use Rattle.bit_lists.specs.Count.{as_bit}
 use Rattle.bitm_search.proofs.lemmas.SearchLemmas.{goes_over, goes_under}
 use Rattle.bitm_search.proofs.lemmas.LengthLemmas.{few_entries, first_of_part}
 use Rattle.bitm_search.proofs.lemmas.SoughtLemmas.{low_is}
@@ -32,32 +32,32 @@ overflow_add-part-2 g c =
 
 module _ (g : _) (c : After-ones_to_entry-count g) (t : HasTables (g.T.TableSource.lists c.args.source.now)) where
   next_is : c.sought_entry-next.result
-      ≡ lower_entry (sought_in g.row.ONE (g.T.TableSource.lists c.args.source.now).words)
+      ≡ lower_entry (sought_in g.row.BIT (g.T.TableSource.lists c.args.source.now).words)
       (c.args.part * 2 ^ 21 + (c.args.range.low + c.args.cut))
   next_is =
-      let m = sought_in g.row.ONE (g.T.TableSource.lists c.args.source.now).words in
+      let m = sought_in g.row.BIT (g.T.TableSource.lists c.args.source.now).words in
       let there : c.args.part * 2 ^ 21 + c.args.range.low + c.args.cut ≡ c.args.part * 2 ^ 21 + (c.args.range.low + c.args.cut) = omega arith in
       c.sought_entry-next.ensures.entry t ∙ ap (lower_entry m) there
 
   count : c.ones_to_entry-count.result
-      ≡ before_in_part (sought_in g.row.ONE (g.T.TableSource.lists c.args.source.now).words)
+      ≡ before_in_part (sought_in g.row.BIT (g.T.TableSource.lists c.args.source.now).words)
       (c.args.part * 2 ^ 21 + (c.args.range.low + c.args.cut))
   count =
-      let m = sought_in g.row.ONE (g.T.TableSource.lists c.args.source.now).words in
+      let m = sought_in g.row.BIT (g.T.TableSource.lists c.args.source.now).words in
       c.ones_to_entry-count.ensures
       ∙ low_is m c.sought_entry-next.result (c.args.part * 2 ^ 21 + (c.args.range.low + c.args.cut)) next_is
 
 next_told : (g : _) (c : After-ones_to_entry-count g) → c.sought_entry-next.result
-    ≡ told_entry (kind g.row.ONE) (g.T.TableSource.lists c.args.source.now) (c.args.part * 2 ^ 21 + (c.args.range.low + c.args.cut))
+    ≡ told_entry (as_bit g.row.BIT) (g.T.TableSource.lists c.args.source.now) (c.args.part * 2 ^ 21 + (c.args.range.low + c.args.cut))
 next_told g c =
     let there : c.args.part * 2 ^ 21 + c.args.range.low + c.args.cut ≡ c.args.part * 2 ^ 21 + (c.args.range.low + c.args.cut) = omega arith in
-    c.sought_entry-next.ensures.told ∙ ap (told_entry (kind g.row.ONE) (g.T.TableSource.lists c.args.source.now)) there
+    c.sought_entry-next.ensures.told ∙ ap (told_entry (as_bit g.row.BIT) (g.T.TableSource.lists c.args.source.now)) there
 
 pub returns-then-count-rank-clause-range : goal.returns-then-count-rank-clause-range
 returns-then-count-rank-clause-range g c =
     let d = (goal.at.returns-then-count-rank-clause-range g c).After-ones_to_entry-count in
     let lists = g.T.TableSource.lists c.args.source.now in
-    let m = sought_in g.row.ONE lists.words in
+    let m = sought_in g.row.BIT lists.words in
     record {
       some = omega (arith, c.requires.in_range);
       within = omega (arith, c.requires.in_range, c.requires.range.within);
@@ -72,7 +72,7 @@ pub returns-else-count-rank-clause-range : goal.returns-else-count-rank-clause-r
 returns-else-count-rank-clause-range g c =
     let d = (goal.at.returns-else-count-rank-clause-range g c).After-ones_to_entry-count in
     let lists = g.T.TableSource.lists c.args.source.now in
-    let m = sought_in g.row.ONE lists.words in
+    let m = sought_in g.row.BIT lists.words in
     record {
       some = c.requires.some;
       within = omega (arith, c.requires.in_range, c.requires.range.within);

@@ -1,7 +1,7 @@
 -- Each answer is written in its place.
 use Rattle.std.proofs.Common.{◌+◌, ◌*◌, ◌^◌, ◌<◌, ◌≤◌, length, slice_index, slice_index_or, ap, sym, ◌∙◌, subst, arith}
 use Rattle.std.proofs.lemmas.List.{length-set}
-use Rattle.bit_lists.specs.Count.{kind, ones_before}
+use Rattle.bit_lists.specs.Count.{as_bit, ones_before}
 use Rattle.bitm_search.specs.Answers.{IsSelectedFrom, SelectTold}
 use Rattle.bitm_search.specs.Search.{sought_in, IsWord}
 use Rattle.bitm_search.specs.Tables.{Lists}
@@ -17,7 +17,7 @@ pub finish-selected-requires-clause-word : goal.finish-selected-requires-clause-
 finish-selected-requires-clause-word g c h =
     let same = c.loop-k.invariant.same in
     let at = slice_index_or c.args.records.now c.loop-k.k (record { rest = 0; first = 0; word = 0 }) in
-    subst (λ (l : Lists). IsWord (sought_in g.row.ONE l.words) at.first at.word) (sym same)
+    subst (λ (l : Lists). IsWord (sought_in g.row.BIT l.words) at.first at.word) (sym same)
     ((c.requires.loaded.each c.loop-k.k (record { rest = 0; first = 0; word = 0 }) c.loop-k-test.true).word_is
     (omega (arith, h, ap (λ (l : Lists). length l.words) same)))
 
@@ -34,20 +34,20 @@ loop-k-preserved g c =
     let answer =
     subst
     (λ (l : Lists).
-    IsSelectedFrom l.words (kind g.row.ONE) at.first (ones_before (sought_in g.row.ONE l.words) (64 * at.first) + at.rest)
+    IsSelectedFrom l.words (as_bit g.row.BIT) at.first (ones_before (sought_in g.row.BIT l.words) (64 * at.first) + at.rest)
     c.finish-selected.result)
     i.same e.answer in
     let last =
     subst (λ (l : Lists). IfAbsent c.finish-selected.result (length l.words ≤ at.first + 8)) i.same e.last in
     let fits : slice_index ranks k < 2 ^ 64 = omega (arith, c.type_inv.ranks k) in
-    let new : SelectTold (kind g.row.ONE) lists (slice_index ranks k) c.told.result =
+    let new : SelectTold (as_bit g.row.BIT) lists (slice_index ranks k) c.told.result =
     rw c.told.ensures
-    (told_record g.row.ONE lists (slice_index ranks k) at c.requires.sized
+    (told_record g.row.BIT lists (slice_index ranks k) at c.requires.sized
     (c.requires.loaded.each k (record { rest = 0; first = 0; word = 0 }) c.loop-k-test.true) c.finish-selected.result c.unless_wrapped.result
     fits c.unless_wrapped.ensures.kept c.unless_wrapped.ensures.wrapped last answer) in
     record {
       enough = omega (arith, i.enough, length-set places k c.told.result);
-      answered = written (λ j n. SelectTold (kind g.row.ONE) lists (slice_index ranks j) n) places k c.told.result inside new i.answered;
+      answered = written (λ j n. SelectTold (as_bit g.row.BIT) lists (slice_index ranks j) n) places k c.told.result inside new i.answered;
       upper = omega (arith, i.upper, e.reads.upper);
       lower = omega (arith, i.lower, e.reads.lower);
       words = omega (arith, i.words, e.reads.words);

@@ -1,5 +1,5 @@
 use Rattle.std.proofs.Common.{◌≡◌, ℕ, ◌+◌, ◌*◌, ◌<◌, ◌≤◌, length, slice_index, slice_index_or}
-use Rattle.bit_lists.specs.Count.{kind}
+use Rattle.bit_lists.specs.Count.{as_bit}
 use Rattle.bitm_search.specs.Answers.{SelectTold}
 use Rattle.bitm_search.proofs.search.loaded.finish_each.Given as goal
 
@@ -10,7 +10,7 @@ invariant-loop-k g l =
     let lists = T.lists l.fn.source in
     record {
       enough : length l.ranks ≤ length l.places;
-      answered : (j d : ℕ) → j < l.k → SelectTold (kind g.row.ONE) lists (slice_index l.ranks j) (slice_index_or l.places j d);
+      answered : (j d : ℕ) → j < l.k → SelectTold (as_bit g.row.BIT) lists (slice_index l.ranks j) (slice_index_or l.places j d);
       upper : (T.reads l.source).upper ≤ (T.reads l.fn.source).upper;
       lower : (T.reads l.source).lower ≤ (T.reads l.fn.source).lower;
       words : (T.reads l.source).words ≤ (T.reads l.fn.source).words + 7 * l.k;

@@ -1,6 +1,6 @@
 -- The record is chosen by the fields of the entry; what is left of the rank counts from there.
 use Rattle.std.proofs.Common.{◌≡◌, ℕ, ◌+◌, ◌-◌, ◌*◌, ◌%◌, ◌^◌, ◌<◌, ◌≤◌, length, ap, refl, sym, subst, arith}
-use Rattle.bit_lists.specs.Count.{kind, ones_before}
+use Rattle.bit_lists.specs.Count.{as_bit, ones_before}
 use Rattle.bitm_search.specs.Entry.{before_in_part}
 use Rattle.bitm_search.specs.Search.{IsWord, sought_in}
 use Rattle.bitm_search.specs.Tables.{HasTables, Lists}
@@ -22,14 +22,14 @@ overflow_add-first g c =
 pub returns-clause-in_record : goal.returns-clause-in_record
 returns-clause-in_record g c rank search_is =
     let lists = g.T.TableSource.lists c.args.source.now in
-    let m = sought_in g.row.ONE lists.words in
+    let m = sought_in g.row.BIT lists.words in
     let r = c.record_of-place.ensures in
     let first = c.args.entry * 32 + c.record_of-place.result.0 * 8 in
-    let word : first < length lists.words → IsWord (sought_in g.row.ONE lists.words) first c.if-first-words_len.word =
+    let word : first < length lists.words → IsWord (sought_in g.row.BIT lists.words) first c.if-first-words_len.word =
     elim c.if-first-words_len.branch [
       | then-first-words_len w ↦ λ _.
           subst (λ (v : ℕ). IsWord m first v) (sym w.word-is)
-          (subst (λ (l : Lists). IsWord (sought_in g.row.ONE l.words) first w.sought_word-word.result) c.sought_entry-packed.ensures.same
+          (subst (λ (l : Lists). IsWord (sought_in g.row.BIT l.words) first w.sought_word-word.result) c.sought_entry-packed.ensures.same
           w.sought_word-word.ensures.word)
       | else-first-words_len w ↦ λ h.
           absurd
@@ -61,14 +61,14 @@ returns-clause-in_record g c rank search_is =
     let two = record_fields_rise m packed at 2 is (omega arith) in
     let at_most : before ≤ c.args.rest - count = omega (arith, r.at_most one two, same) in (
       omega (arith, same, at_most, c.ranges.rest.fits),
-      near_loads g.row.ONE lists rank c.args.rest at packed count place before t near is c.ones_to_entry.ensures r.inside r.before at_most
+      near_loads g.row.BIT lists rank c.args.rest at packed count place before t near is c.ones_to_entry.ensures r.inside r.before at_most
           (λ h. omega (arith, r.next one two h, same)),
     ) in
     let p = search_is.in_part in
-    let to_is : told_to (told_entry (kind g.row.ONE) lists at) place ≡ count + before =
+    let to_is : told_to (told_entry (as_bit g.row.BIT) lists at) place ≡ count + before =
     subst (λ (e : ℕ). told_to e place ≡ count + before) c.sought_entry-packed.ensures.told
     (omega (arith, c.ones_to_entry.ensures, r.before)) in
-    let rest_told : (told_part (kind g.row.ONE) lists p.part + told_to (told_entry (kind g.row.ONE) lists at) place + left) % 2 ^ 64 ≡ rank % 2 ^ 64 =
+    let rest_told : (told_part (as_bit g.row.BIT) lists p.part + told_to (told_entry (as_bit g.row.BIT) lists at) place + left) % 2 ^ 64 ≡ rank % 2 ^ 64 =
     omega (
       arith,
       to_is,

@@ -24,14 +24,14 @@ loop-k-preserved g c =
     let k = c.loop-k.k in
     let query = slice_index_or c.args.queries.now k (record { rest = 0; entry = 0 }) in
     let inside : k < length records = omega (arith, i.enough, c.loop-k-test.true) in
-    let new : IsInRecord g.row.ONE lists (slice_index ranks k) c.load.result =
-    subst (λ (l : Lists). IsInRecord g.row.ONE l (slice_index ranks k) c.load.result) i.same
+    let new : IsInRecord g.row.BIT lists (slice_index ranks k) c.load.result =
+    subst (λ (l : Lists). IsInRecord g.row.BIT l (slice_index ranks k) c.load.result) i.same
     (e.in_record (slice_index ranks k)
-    (subst (λ (l : Lists). IsSearch g.row.ONE l (slice_index ranks k) query 0) (sym i.same)
+    (subst (λ (l : Lists). IsSearch g.row.BIT l (slice_index ranks k) query 0) (sym i.same)
     (c.requires.searches.each k (record { rest = 0; entry = 0 }) c.loop-k-test.true))) in
     record {
       enough = omega (arith, i.enough, length-set records k c.load.result);
-      loaded = written (λ j r. IsInRecord g.row.ONE lists (slice_index ranks j) r) records k c.load.result inside new i.loaded;
+      loaded = written (λ j r. IsInRecord g.row.BIT lists (slice_index ranks j) r) records k c.load.result inside new i.loaded;
       upper = omega (arith, i.upper, e.reads.upper);
       lower = omega (arith, i.lower, e.reads.lower);
       words = omega (arith, i.words, e.reads.words);

@@ -10,7 +10,7 @@ invariant-loop-k g l =
     let lists = T.lists l.fn.source in
     record {
       enough : length l.ranks ≤ length l.records;
-      loaded : (j : ℕ) (d : InRecord) → j < l.k → IsInRecord g.row.ONE lists (slice_index l.ranks j) (slice_index_or l.records j d);
+      loaded : (j : ℕ) (d : InRecord) → j < l.k → IsInRecord g.row.BIT lists (slice_index l.ranks j) (slice_index_or l.records j d);
       upper : (T.reads l.source).upper ≤ (T.reads l.fn.source).upper;
       lower : (T.reads l.source).lower ≤ (T.reads l.fn.source).lower + l.k;
       words : (T.reads l.source).words ≤ (T.reads l.fn.source).words + l.k;

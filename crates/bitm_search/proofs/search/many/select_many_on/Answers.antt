@@ -9,7 +9,7 @@ total_select_many_on-requires-clause-sized g c = sizes_of _ c.requires.indexed.t
 
 pub total_select_many_on-requires-clause-part : goal.total_select_many_on-requires-clause-part
 total_select_many_on-requires-clause-part g c =
-    some_part g.row.ONE (g.T.TableSource.lists c.args.source.now) (slice_index c.args.ranks.now 0) c.requires.indexed.tables
+    some_part g.row.BIT (g.T.TableSource.lists c.args.source.now) (slice_index c.args.ranks.now 0) c.requires.indexed.tables
     (c.requires.some 0 0 (omega (arith, c.if-ranks-eq0.false)))
 
 pub returns-clause-answers : goal.returns-clause-answers

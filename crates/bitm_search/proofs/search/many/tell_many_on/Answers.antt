@@ -1,7 +1,7 @@
 -- The answers of each block are those of its ranks, and the others stay.
 use Rattle.std.proofs.Common.{◌≡◌, ℕ, ◌+◌, ◌-◌, ◌*◌, ◌≤◌, length, slice_index, take, drop, ap, ◌∙◌, subst, arith}
 use Rattle.bit_lists.specs.Bits.{digit_count}
-use Rattle.bit_lists.specs.Count.{kind}
+use Rattle.bit_lists.specs.Count.{as_bit}
 use Rattle.bitm_search.specs.Answers.{SelectTold}
 use Rattle.bitm_search.specs.Tables.{Lists}
 use Rattle.bitm_search.proofs.lemmas.ManyLemmas.{answers_follow, part_long, put_long}
@@ -38,11 +38,11 @@ loop-from-preserved g c =
       inside = few;
       long = omega (arith, i.long, put_long from n c.loop-from.places new few_places new_long);
       answered =
-          answers_follow (SelectTold (kind g.row.ONE) lists) from n ranks c.loop-from.places new few_places new_long i.answered
+          answers_follow (SelectTold (as_bit g.row.BIT) lists) from n ranks c.loop-from.places new few_places new_long i.answered
           (λ j h.
           subst
           (λ (l : Lists).
-          SelectTold (kind g.row.ONE) l (slice_index (take (from + n - from) (drop from ranks)) j) (slice_index new j))
+          SelectTold (as_bit g.row.BIT) l (slice_index (take (from + n - from) (drop from ranks)) j) (slice_index new j))
           i.same (e.told j (omega (arith, h, long))));
       upper = omega (arith, i.upper, upper, ap (λ (m : ℕ). m * digits) long, both);
       lower = omega (arith, i.lower, e.reads.lower, ap (λ (m : ℕ). each * m) long, both_lower);

@@ -1,6 +1,6 @@
 use Rattle.std.proofs.Common.{◌≡◌, ℕ, ◌+◌, ◌-◌, ◌*◌, ◌<◌, ◌≤◌, length, slice_index}
 use Rattle.bit_lists.specs.Bits.{digit_count}
-use Rattle.bit_lists.specs.Count.{kind}
+use Rattle.bit_lists.specs.Count.{as_bit}
 use Rattle.bitm_search.specs.Answers.{SelectTold}
 use Rattle.bitm_search.proofs.search.many.tell_many_on.Given as goal
 
@@ -12,7 +12,7 @@ invariant-loop-from g l =
     record {
       inside : l.from ≤ length l.ranks;
       long : length l.ranks ≡ length l.places;
-      answered : (j : ℕ) → j < l.from → SelectTold (kind g.row.ONE) lists (slice_index l.ranks j) (slice_index l.places j);
+      answered : (j : ℕ) → j < l.from → SelectTold (as_bit g.row.BIT) lists (slice_index l.ranks j) (slice_index l.places j);
       upper : (T.reads l.source).upper ≤ (T.reads l.fn.source).upper + l.from * (digit_count (length lists.upper) + 1);
       lower : (T.reads l.source).lower ≤ (T.reads l.fn.source).lower + (g.F.FindsEntries.lowers + 1) * l.from;
       words : (T.reads l.source).words ≤ (T.reads l.fn.source).words + 8 * l.from;

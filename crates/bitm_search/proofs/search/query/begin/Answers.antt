@@ -33,6 +33,6 @@ returns-clause-search g c =
           };
       near =
           λ t.
-          near_begins g.row.ONE lists c.args.rank c.part_of_rank-part.result.1 part t short
+          near_begins g.row.BIT lists c.args.rank c.part_of_rank-part.result.1 part t short
           (c.part_of_rank-part.ensures.part (record { tables = t; short = short }));
     }

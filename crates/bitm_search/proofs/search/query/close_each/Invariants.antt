@@ -10,7 +10,7 @@ invariant-loop-size g l =
     let n = length l.ranks in
     record {
       size : l.size ≤ 5;
-      near : AreInside g.row.ONE lists l.ranks l.queries l.size;
+      near : AreInside g.row.BIT lists l.ranks l.queries l.size;
       upper : (T.reads l.source).upper ≤ (T.reads l.fn.source).upper;
       lower : (T.reads l.source).lower + l.size * n ≤ (T.reads l.fn.source).lower + 5 * n;
       words : (T.reads l.source).words ≤ (T.reads l.fn.source).words;

@@ -10,7 +10,7 @@ use Rattle.bitm_search.proofs.search.query.guess.Goals as goal
 pub returns-then-rest-above-clause-search : goal.returns-then-rest-above-clause-search
 returns-then-rest-above-clause-search g c rank search_is =
     let lists = g.T.TableSource.lists c.args.source.now in
-    let m = sought_in g.row.ONE lists.words in
+    let m = sought_in g.row.BIT lists.words in
     let at = c.min-entry.result in
     let same = c.sought_entry.ensures.same in
     let inside : at + 32 < length lists.lower = omega (arith, c.min-entry.ensures, c.lower_len.ensures, c.requires.many) in
@@ -29,7 +29,7 @@ returns-then-rest-above-clause-search g c rank search_is =
       c.if-rest-above.true,
       c.ones_to_entry-above.ensures,
       low_is m c.sought_entry-2.result (at + 32)
-          (subst (λ (l : Lists). c.sought_entry-2.result ≡ lower_entry (sought_in g.row.ONE l.words) (at + 32)) same
+          (subst (λ (l : Lists). c.sought_entry-2.result ≡ lower_entry (sought_in g.row.BIT l.words) (at + 32)) same
           (c.sought_entry-2.ensures.entry (subst HasTables (sym same) t))),
     ) in
     record {
@@ -47,7 +47,7 @@ returns-then-rest-above-clause-search g c rank search_is =
                 };
             near =
                 λ t.
-                near_between g.row.ONE lists rank c.args.query.rest c.args.query.entry at 5 t (search_is.near t) c.requires.one_part
+                near_between g.row.BIT lists rank c.args.query.rest c.args.query.entry at 5 t (search_is.near t) c.requires.one_part
                 (omega (arith, inside, c.requires.few)) inside (omega (arith, inside, c.requires.few)) (below t) (above t);
           };
       inside = inside;

@@ -17,14 +17,14 @@ loop-k-preserved g c =
     let begun = slice_index_or c.args.begun.now k (record { rest = 0; entry = 0 }) in
     let query = c.in-Some.query in
     let inside : k < length queries = omega (arith, i.enough, c.loop-k-test.true) in
-    let new : IsInside g.row.ONE lists (slice_index ranks k) query 5 =
-    subst (λ (l : Lists). IsInside g.row.ONE l (slice_index ranks k) query 5) i.same
+    let new : IsInside g.row.BIT lists (slice_index ranks k) query 5 =
+    subst (λ (l : Lists). IsInside g.row.BIT l (slice_index ranks k) query 5) i.same
     (e.search (slice_index ranks k)
-    (subst (λ (l : Lists). IsSearch g.row.ONE l (slice_index ranks k) begun 21) (sym i.same)
+    (subst (λ (l : Lists). IsSearch g.row.BIT l (slice_index ranks k) begun 21) (sym i.same)
     (c.requires.searches.each k (record { rest = 0; entry = 0 }) c.loop-k-test.true))) in
     record {
       enough = omega (arith, i.enough, length-set queries k query);
-      near = written (λ j q. IsInside g.row.ONE lists (slice_index ranks j) q 5) queries k query inside new i.near;
+      near = written (λ j q. IsInside g.row.BIT lists (slice_index ranks j) q 5) queries k query inside new i.near;
       upper = omega (arith, i.upper, e.reads.upper);
       lower = omega (arith, i.lower, e.reads.lower);
       words = omega (arith, i.words, e.reads.words);

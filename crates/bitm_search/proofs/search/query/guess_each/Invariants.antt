@@ -10,7 +10,7 @@ invariant-loop-k g l =
     let lists = T.lists l.fn.source in
     record {
       enough : length l.ranks ≤ length l.queries;
-      near : (j : ℕ) (d : Query) → j < l.k → IsInside g.row.ONE lists (slice_index l.ranks j) (slice_index_or l.queries j d) 5;
+      near : (j : ℕ) (d : Query) → j < l.k → IsInside g.row.BIT lists (slice_index l.ranks j) (slice_index_or l.queries j d) 5;
       upper : (T.reads l.source).upper ≤ (T.reads l.fn.source).upper;
       lower : (T.reads l.source).lower ≤ (T.reads l.fn.source).lower + 2 * l.k + 1;
       words : (T.reads l.source).words ≤ (T.reads l.fn.source).words;

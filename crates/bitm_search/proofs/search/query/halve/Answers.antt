@@ -1,6 +1,6 @@
 -- Where there is no entry in the middle the search stays.
 use Rattle.std.proofs.Common.{◌+◌, arith}
-use Rattle.bit_lists.specs.Count.{kind}
+use Rattle.bit_lists.specs.Count.{as_bit}
 use Rattle.bitm_search.proofs.lemmas.ManyLemmas.{near_stays, part_stays, step_few}
 use Rattle.bitm_search.proofs.search.query.halve.Goals as goal
 
@@ -15,9 +15,9 @@ returns-then-next-lower_len-clause-search g c rank search_is =
     record {
       entry = search_is.entry;
       in_part =
-          part_stays (kind g.row.ONE) lists rank c.args.query.rest c.args.query.entry c.args.size (c.args.size + 1) (omega arith) search_is.in_part;
+          part_stays (as_bit g.row.BIT) lists rank c.args.query.rest c.args.query.entry c.args.size (c.args.size + 1) (omega arith) search_is.in_part;
       near =
           λ t.
-          near_stays g.row.ONE lists rank c.args.query.rest c.args.query.entry c.args.size (search_is.near t)
+          near_stays g.row.BIT lists rank c.args.query.rest c.args.query.entry c.args.size (search_is.near t)
           (λ h. absurd (omega (arith, h, small, c.lower_len.ensures, c.if-next-lower_len.true)));
     }

@@ -2,7 +2,7 @@
 use Rattle.std.proofs.Common.{◌≤◌, length, slice_index, slice_index_or, refl, arith}
 use Rattle.std.proofs.lemmas.Nat.{mul-le}
 use Rattle.bitm_search.proofs.lemmas.ManyLemmas.{near_enough, part_stays}
-use Rattle.bit_lists.specs.Count.{kind}
+use Rattle.bit_lists.specs.Count.{as_bit}
 use Rattle.bitm_search.proofs.search.query.halve_all.Goals as goal
 
 pub loop-size-init : goal.loop-size-init
@@ -22,11 +22,11 @@ loop-size-init g c =
                 record {
                   entry = (i.each k d h).entry;
                   in_part =
-                      part_stays (kind g.row.ONE) lists (slice_index c.args.ranks.now k) (slice_index_or queries k d).rest
+                      part_stays (as_bit g.row.BIT) lists (slice_index c.args.ranks.now k) (slice_index_or queries k d).rest
                       (slice_index_or queries k d).entry size 21 c.halvings-size.ensures.most (i.each k d h).in_part;
                   near =
                       λ t.
-                      near_enough g.row.ONE lists (slice_index c.args.ranks.now k) (slice_index_or queries k d).rest
+                      near_enough g.row.BIT lists (slice_index c.args.ranks.now k) (slice_index_or queries k d).rest
                       (slice_index_or queries k d).entry size ((i.each k d h).near t) c.halvings-size.ensures.most
                       (λ few. omega (arith, c.halvings-size.ensures.enough few, c.lower_len.ensures));
                 };

@@ -10,7 +10,7 @@ invariant-loop-size g l =
     let n = length l.ranks in
     record {
       size : l.size ≤ 21;
-      searches : AreSearches g.row.ONE lists l.ranks l.queries l.size;
+      searches : AreSearches g.row.BIT lists l.ranks l.queries l.size;
       upper : (T.reads l.source).upper ≤ (T.reads l.fn.source).upper;
       lower : (T.reads l.source).lower + l.size * n ≤ (T.reads l.fn.source).lower + 21 * n;
       few : length lists.lower ≤ 2 ^ 18 → (T.reads l.source).lower + l.size * n ≤ (T.reads l.fn.source).lower + 18 * n;

@@ -24,13 +24,13 @@ loop-k-preserved g c =
     let queries = c.loop-k.queries in
     let k = c.loop-k.k in
     let ranks = c.args.ranks.now in
-    let near : ℕ → ℕ → Query → Type 0 = λ size j q. IsSearch g.row.ONE lists (slice_index ranks j) q size in
+    let near : ℕ → ℕ → Query → Type 0 = λ size j q. IsSearch g.row.BIT lists (slice_index ranks j) q size in
     let inside : k < length queries = omega (arith, i.enough, c.loop-k-test.true) in
     let new : near c.args.size k c.halve.result =
-    subst (λ (l : Lists). IsSearch g.row.ONE l (slice_index ranks k) c.halve.result c.args.size) i.same
+    subst (λ (l : Lists). IsSearch g.row.BIT l (slice_index ranks k) c.halve.result c.args.size) i.same
     (e.search (slice_index ranks k)
     (subst
-    (λ (l : Lists). IsSearch g.row.ONE l (slice_index ranks k) (slice_index_or queries k (record { rest = 0; entry = 0 })) (c.args.size + 1))
+    (λ (l : Lists). IsSearch g.row.BIT l (slice_index ranks k) (slice_index_or queries k (record { rest = 0; entry = 0 })) (c.args.size + 1))
     (sym i.same) (i.left k (record { rest = 0; entry = 0 }) (omega arith) c.loop-k-test.true))) in
     record {
       enough = omega (arith, i.enough, length-set queries k c.halve.result);

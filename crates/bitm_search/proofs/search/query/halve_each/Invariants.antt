@@ -11,9 +11,9 @@ invariant-loop-k g l =
     record {
       enough : length l.ranks ≤ length l.queries;
       halved : (j : ℕ) (d : Query) → j < l.k
-          → IsSearch g.row.ONE lists (slice_index l.ranks j) (slice_index_or l.queries j d) l.size;
+          → IsSearch g.row.BIT lists (slice_index l.ranks j) (slice_index_or l.queries j d) l.size;
       left : (j : ℕ) (d : Query) → l.k ≤ j → j < length l.ranks
-          → IsSearch g.row.ONE lists (slice_index l.ranks j) (slice_index_or l.queries j d) (l.size + 1);
+          → IsSearch g.row.BIT lists (slice_index l.ranks j) (slice_index_or l.queries j d) (l.size + 1);
       upper : (T.reads l.source).upper ≤ (T.reads l.fn.source).upper;
       lower : (T.reads l.source).lower ≤ (T.reads l.fn.source).lower + l.k;
       words : (T.reads l.source).words ≤ (T.reads l.fn.source).words;

@@ -1,7 +1,7 @@
 -- The count before the entry in the middle tells on which side of it the entry is.
 use Rattle.std.proofs.Common.{◌≡◌, ℕ, ◌+◌, ◌*◌, ◌%◌, ◌^◌, ◌<◌, ◌≤◌, length, sym, ap, subst, ◌∙◌, arith, inl, inr}
 use Rattle.std.proofs.lemmas.Bool.{cases_lt}
-use Rattle.bit_lists.specs.Count.{kind}
+use Rattle.bit_lists.specs.Count.{as_bit}
 use Rattle.bitm_search.specs.Entry.{before_in_part}
 use Rattle.bitm_search.specs.Many.{IsSearch}
 use Rattle.bitm_search.specs.Search.{sought_in}
@@ -20,7 +20,7 @@ one_step r at step one small = ap (λ (n : ℕ). at + n * step % 184467440737095
 pub returns-clause-search : goal.returns-clause-search
 returns-clause-search g c rank search_is =
     let lists = g.T.TableSource.lists c.args.source.now in
-    let m = sought_in g.row.ONE lists.words in
+    let m = sought_in g.row.BIT lists.words in
     let at = c.args.query.entry in
     let step = 2 ^ c.args.size in
     let small : step ≤ 2 ^ 20 = step_few c.args.size c.requires.size in
@@ -33,24 +33,24 @@ returns-clause-search g c rank search_is =
       | inl above ↦
           let none : at + c.is_at_most.result * step % 18446744073709551616 ≡ at =
           no_step c.is_at_most.result at step (c.is_at_most.ensures.no above) in
-          subst (λ (n : ℕ). IsSearch g.row.ONE lists rank (record { rest = c.args.query.rest; entry = n }) c.args.size) (sym none)
+          subst (λ (n : ℕ). IsSearch g.row.BIT lists rank (record { rest = c.args.query.rest; entry = n }) c.args.size) (sym none)
           (record {
             entry = search_is.entry;
             in_part =
-                part_stays (kind g.row.ONE) lists rank c.args.query.rest at c.args.size (c.args.size + 1) (omega arith) search_is.in_part;
+                part_stays (as_bit g.row.BIT) lists rank c.args.query.rest at c.args.size (c.args.size + 1) (omega arith) search_is.in_part;
             near =
                 λ t.
-                near_stays g.row.ONE lists rank c.args.query.rest at c.args.size (search_is.near t) (λ _. omega (arith, above, count t));
+                near_stays g.row.BIT lists rank c.args.query.rest at c.args.size (search_is.near t) (λ _. omega (arith, above, count t));
           })
       | inr at_most ↦
           let up : at + c.is_at_most.result * step % 18446744073709551616 ≡ at + step =
           one_step c.is_at_most.result at step (c.is_at_most.ensures.yes at_most) small in
-          subst (λ (n : ℕ). IsSearch g.row.ONE lists rank (record { rest = c.args.query.rest; entry = n }) c.args.size) (sym up)
+          subst (λ (n : ℕ). IsSearch g.row.BIT lists rank (record { rest = c.args.query.rest; entry = n }) c.args.size) (sym up)
           (record {
             entry = inside;
-            in_part = part_up (kind g.row.ONE) lists rank c.args.query.rest at c.args.size search_is.in_part;
+            in_part = part_up (as_bit g.row.BIT) lists rank c.args.query.rest at c.args.size search_is.in_part;
             near =
                 λ t.
-                near_up g.row.ONE lists rank c.args.query.rest at c.args.size (search_is.near t) inside (omega (arith, at_most, count t));
+                near_up g.row.BIT lists rank c.args.query.rest at c.args.size (search_is.near t) inside (omega (arith, at_most, count t));
           })
     ]

@@ -7,7 +7,7 @@ use Rattle.bitm_search.proofs.search.record.among.Given as goal
 abbrev pub invariant-loop-k : goal.invariant-loop-k
 invariant-loop-k g l =
     let T = g.T.TableSource in
-    let m = sought_in g.row.ONE (T.lists l.fn.source).words in
+    let m = sought_in g.row.BIT (T.lists l.fn.source).words in
     record {
       rest : ones_before m (64 * l.first) + l.rank ≡ ones_before m (64 * (l.first + l.k)) + l.rest;
       words : (T.reads l.source).words ≡ (T.reads l.fn.source).words + l.k;

@@ -1,7 +1,7 @@
 -- The record is chosen by the fields of the entry; what is left of the rank counts from there.
 use Rattle.std.proofs.Common.{◌≡◌, ℕ, ◌+◌, ◌-◌, ◌*◌, ◌%◌, ◌^◌, ◌<◌, ◌≤◌, subst, arith}
 use Rattle.bit_lists.specs.Bits.{bits_of}
-use Rattle.bit_lists.specs.Count.{kind, ones_before}
+use Rattle.bit_lists.specs.Count.{as_bit, ones_before}
 use Rattle.bitm_search.specs.Entry.{record_field}
 use Rattle.bitm_search.specs.Search.{sought_in}
 use Rattle.bitm_search.specs.Tables.{HasTables}
@@ -17,7 +17,7 @@ use Rattle.bitm_search.proofs.search.record.in_packed.Goals.{else-this-ne0-via-t
 pub returns-clause-bit : goal.returns-clause-bit
 returns-clause-bit g c =
     let l = g.T.TableSource.lists c.args.source.now in
-    has_bit l.words (kind g.row.ONE) _ _ c.in_record.result c.in_record.ensures.answer
+    has_bit l.words (as_bit g.row.BIT) _ _ c.in_record.result c.in_record.ensures.answer
 
 -- where the tables are right no difference wraps
 unwrapped : (g : _) (c : After-record_of-place g) → HasTables (g.T.TableSource.lists c.args.source.now)
@@ -26,7 +26,7 @@ unwrapped : (g : _) (c : After-record_of-place g) → HasTables (g.T.TableSource
     × (((c.args.rank + (2 ^ 64 - c.ones_to_entry.result)) % 2 ^ 64 + (2 ^ 64 - c.record_of-place.result.1)) % 2 ^ 64
     ≡ c.args.rank - c.ones_to_entry.result - c.record_of-place.result.1)
 unwrapped g c t =
-    let m = sought_in g.row.ONE (g.T.TableSource.lists c.args.source.now).words in
+    let m = sought_in g.row.BIT (g.T.TableSource.lists c.args.source.now).words in
     let rank = c.args.rank in
     let packed = c.args.packed in
     let count = c.ones_to_entry.result in
@@ -48,7 +48,7 @@ returns-then-left-rank-clause-answer g c = λ t.
 pub returns-clause-answer : goal.returns-clause-answer
 returns-clause-answer g c = λ t.
     let l = g.T.TableSource.lists c.args.source.now in
-    let m = sought_in g.row.ONE l.words in
+    let m = sought_in g.row.BIT l.words in
     let r = c.record_of-place.ensures in
     let rank = c.args.rank in
     let packed = c.args.packed in
@@ -75,10 +75,10 @@ returns-clause-answer g c = λ t.
     next_is l.words l.upper l.lower t m c.args.part rank c.args.entry k packed count before
     part entry is c.ones_to_entry.ensures r.inside r.before at_most next in
     let told =
-    subst (λ (n : ℕ). IsSelectedFrom l.words (kind g.row.ONE) first (ones_before m (64 * first) + n) c.in_record.result) left
+    subst (λ (n : ℕ). IsSelectedFrom l.words (as_bit g.row.BIT) first (ones_before m (64 * first) + n) c.in_record.result) left
     c.in_record.ensures.answer in
-    subst (λ (n : ℕ). IsSelected (bits_of l.words) (kind g.row.ONE) n c.in_record.result) total
-    (selected l.words (kind g.row.ONE) first _ c.in_record.result follows told)
+    subst (λ (n : ℕ). IsSelected (bits_of l.words) (as_bit g.row.BIT) n c.in_record.result) total
+    (selected l.words (as_bit g.row.BIT) first _ c.in_record.result follows told)
 
 pub returns-clause-inside : goal.returns-clause-inside
 returns-clause-inside g c =
@@ -91,7 +91,7 @@ returns-clause-inside g c =
 pub returns-clause-none : goal.returns-clause-none
 returns-clause-none g c = λ tests.
     let lists = g.T.TableSource.lists c.args.source.now in
-    let v = kind g.row.ONE in
+    let v = as_bit g.row.BIT in
     let at = c.args.part * 2 ^ 21 + c.args.entry in
     let packed = c.args.packed in
     let rank = c.args.rank in

@@ -4,8 +4,8 @@ use Rattle.bitm_search.proofs.search.record.sought_word.Goals as goal
 
 pub returns-then-this-eq0-clause-word : goal.returns-then-this-eq0-clause-word
 returns-then-this-eq0-clause-word g c =
-    word_zeros _ c.args.at c.word-word.result g.row.ONE c.requires c.word-word.type_inv c.word-word.ensures.item c.if-this-eq0.true
+    word_zeros _ c.args.at c.word-word.result g.row.BIT c.requires c.word-word.type_inv c.word-word.ensures.item c.if-this-eq0.true
 
 pub returns-else-this-eq0-clause-word : goal.returns-else-this-eq0-clause-word
 returns-else-this-eq0-clause-word g c =
-    word_ones _ c.args.at c.word-word.result g.row.ONE c.requires c.word-word.type_inv c.word-word.ensures.item c.if-this-eq0.false
+    word_ones _ c.args.at c.word-word.result g.row.BIT c.requires c.word-word.type_inv c.word-word.ensures.item c.if-this-eq0.false

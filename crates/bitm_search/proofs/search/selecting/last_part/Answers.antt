@@ -14,7 +14,7 @@ use Rattle.bitm_search.proofs.search.selecting.last_part.Goals.{After-before_par
 pub loop-left-init : goal.loop-left-init
 loop-left-init g c =
     let lists = g.T.TableSource.lists c.args.source.now in
-    let m = sought_in g.row.ONE lists.words in
+    let m = sought_in g.row.BIT lists.words in
     let n = length lists.upper in
     let count : ℕ → ℕ = λ k. ones_before m (k * 2 ^ 32) in
     let begins = search_begins count n c.args.rank c.requires (omega (arith, ones_before_none m)) in
@@ -30,19 +30,19 @@ loop-left-init g c =
 
 count : (g : _) (c : After-before_part g) → IsIndexed (g.T.TableSource.lists c.args.source.now)
     → c.before_part.result
-    ≡ ones_before (sought_in g.row.ONE (g.T.TableSource.lists c.args.source.now).words)
+    ≡ ones_before (sought_in g.row.BIT (g.T.TableSource.lists c.args.source.now).words)
     ((c.loop-left.low + c.loop-left.left / 2) * 2 ^ 32)
 count g c t =
     let at = (c.loop-left.low + c.loop-left.left / 2) * 2 ^ 32 in
     c.before_part.ensures.count (subst IsIndexed (sym c.loop-left.invariant.same) t)
-    ∙ ap (λ (l : Lists). ones_before (sought_in g.row.ONE l.words) at) c.loop-left.invariant.same
+    ∙ ap (λ (l : Lists). ones_before (sought_in g.row.BIT l.words) at) c.loop-left.invariant.same
 
 pub loop-left-preserved : goal.loop-left-preserved
 loop-left-preserved g c =
     let i = c.loop-left.invariant in
     let e = c.before_part.ensures in
     let lists = g.T.TableSource.lists c.args.source.now in
-    let m = sought_in g.row.ONE lists.words in
+    let m = sought_in g.row.BIT lists.words in
     let n = length lists.upper in
     let low = c.loop-left.low in
     let left = c.loop-left.left in
@@ -74,6 +74,6 @@ loop-left-preserved g c =
 pub returns-clause-last : goal.returns-clause-last
 returns-clause-last g c = λ t.
     let lists = g.T.TableSource.lists c.args.source.now in
-    let m = sought_in g.row.ONE lists.words in
+    let m = sought_in g.row.BIT lists.words in
     search_ends (λ k. ones_before m (k * 2 ^ 32)) (length lists.upper) c.args.rank c.loop-left.low c.loop-left.left
     (c.loop-left.invariant.search t) c.loop-left-test.false

@@ -15,7 +15,7 @@ invariant-loop-left g l =
       some : 0 < l.left;
       bound : l.low + l.left ≤ length lists.upper;
       search :
-          IsIndexed lists → Between (λ k. ones_before (sought_in g.row.ONE lists.words) (k * 2 ^ 32)) (length lists.upper) l.rank l.low l.left;
+          IsIndexed lists → Between (λ k. ones_before (sought_in g.row.BIT lists.words) (k * 2 ^ 32)) (length lists.upper) l.rank l.low l.left;
       upper : (T.reads l.source).upper + digit_count (l.left - 1) ≤ (T.reads l.fn.source).upper + digits;
       lower : (T.reads l.source).lower ≡ (T.reads l.fn.source).lower;
       words : (T.reads l.source).words ≡ (T.reads l.fn.source).words;

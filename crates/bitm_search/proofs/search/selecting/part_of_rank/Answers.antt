@@ -9,11 +9,11 @@ pub returns-clause-part : goal.returns-clause-part
 returns-clause-part g c = λ indexed.
     let lists = g.T.TableSource.lists c.args.source.now in
     let part = c.last_part-part.result in
-    let m = sought_in g.row.ONE lists.words in
+    let m = sought_in g.row.BIT lists.words in
     let last = c.last_part-part.ensures.last indexed in
     let count : c.before_part-before.result ≡ ones_before m (part * 2 ^ 32) =
     c.before_part-before.ensures.count (subst IsIndexed (sym c.last_part-part.ensures.same) indexed)
-    ∙ ap (λ (l : Lists). ones_before (sought_in g.row.ONE l.words) (part * 2 ^ 32)) c.last_part-part.ensures.same in
+    ∙ ap (λ (l : Lists). ones_before (sought_in g.row.BIT l.words) (part * 2 ^ 32)) c.last_part-part.ensures.same in
     let total : ones_before m (part * 2 ^ 32) + (c.args.rank + (2 ^ 64 - c.before_part-before.result)) % 2 ^ 64 ≡ c.args.rank =
     omega (arith, count, last.at_most, c.ranges.rank.fits) in
     record {

@@ -2,7 +2,7 @@
 use Rattle.std.proofs.Common.{◌≡◌, ◌<◌, ◌≤◌, ℕ, ◌+◌, ◌*◌, ◌^◌, length, sym, ◌∙◌, subst, arith}
 use Rattle.bit_lists.proofs.lemmas.BitsLemmas.{length-bits_of}
 use Rattle.bit_lists.specs.Bits.{bits_of}
-use Rattle.bit_lists.specs.Count.{kind, ones_before}
+use Rattle.bit_lists.specs.Count.{as_bit, ones_before}
 use Rattle.bitm_search.specs.Answers.{IsSelected}
 use Rattle.bitm_search.specs.Search.{entries_from, entry_in, sought_in, IsLastPart}
 use Rattle.bitm_search.specs.Told.{told_entry, EntryTellsNone, IfAbsent}
@@ -15,7 +15,7 @@ use Rattle.bitm_search.proofs.search.selecting.search_on.Goals.{else-this-ne0-vi
 pub returns-then-upper_len-eq0-clause-answer : goal.returns-then-upper_len-eq0-clause-answer
 returns-then-upper_len-eq0-clause-answer g c = λ _.
     let words = (g.T.TableSource.lists c.args.source.now).words in
-    none_in_nothing (bits_of words) (kind g.row.ONE) c.args.rank
+    none_in_nothing (bits_of words) (as_bit g.row.BIT) c.args.rank
     (omega (arith, length-bits_of words, c.requires.upper_len, c.upper_len.ensures))
 
 pub in_packed-requires-clause-part : goal.in_packed-requires-clause-part
@@ -26,8 +26,8 @@ in_packed-requires-clause-part g c = λ u.
     let is = c.part_of_rank-part.ensures.part (record { tables = subst HasTables all u; short = c.requires.short }) in
     subst
     (λ (l : Lists).
-    IsLastPart (sought_in g.row.ONE l.words) (length l.upper)
-    (ones_before (sought_in g.row.ONE l.words) (part * 2 ^ 32) + left) part)
+    IsLastPart (sought_in g.row.BIT l.words) (length l.upper)
+    (ones_before (sought_in g.row.BIT l.words) (part * 2 ^ 32) + left) part)
     (sym all) is.last
 
 pub returns-clause-answer : goal.returns-clause-answer
@@ -37,21 +37,21 @@ returns-clause-answer g c = λ t.
     let left = c.part_of_rank-part.result.1 in
     let all = c.last_entry-entry.ensures.same ∙ c.part_of_rank-part.ensures.same in
     let is = c.part_of_rank-part.ensures.part (record { tables = t; short = c.requires.short }) in
-    subst (λ (n : ℕ). IsSelected (bits_of lists.words) (kind g.row.ONE) n c.in_packed.result) is.total
+    subst (λ (n : ℕ). IsSelected (bits_of lists.words) (as_bit g.row.BIT) n c.in_packed.result) is.total
     (subst
     (λ (l : Lists).
-    IsSelected (bits_of l.words) (kind g.row.ONE) (ones_before (sought_in g.row.ONE l.words) here + left) c.in_packed.result)
+    IsSelected (bits_of l.words) (as_bit g.row.BIT) (ones_before (sought_in g.row.BIT l.words) here + left) c.in_packed.result)
     all (c.in_packed.ensures.answer (subst HasTables (sym all) t)))
 
 pub returns-then-upper_len-eq0-clause-none : goal.returns-then-upper_len-eq0-clause-none
 returns-then-upper_len-eq0-clause-none g c = λ _.
-    nothing_tells (g.T.TableSource.lists c.args.source.now) (kind g.row.ONE) c.args.rank c.requires
+    nothing_tells (g.T.TableSource.lists c.args.source.now) (as_bit g.row.BIT) c.args.rank c.requires
     (omega (arith, c.upper_len.ensures, c.if-upper_len-eq0.true))
 
 pub returns-clause-none : goal.returns-clause-none
 returns-clause-none g c = λ tests.
     let lists = g.T.TableSource.lists c.args.source.now in
-    let v = kind g.row.ONE in
+    let v = as_bit g.row.BIT in
     let of_rank = c.part_of_rank-part.ensures in
     let of_entry = c.last_entry-entry.ensures in
     let part = c.part_of_rank-part.result.0 in

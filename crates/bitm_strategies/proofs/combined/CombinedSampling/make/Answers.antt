@@ -2,7 +2,7 @@
 use Rattle.std.proofs.Common.{◌≡◌, ◌*◌, length, ap, ap₂, ◌∙◌, arith}
 use Rattle.bit_lists.proofs.lemmas.BitsLemmas.{length-bits_of}
 use Rattle.bit_lists.specs.Bits.{bits_of}
-use Rattle.bit_lists.specs.Count.{count_of, kind}
+use Rattle.bit_lists.specs.Count.{count_of, as_bit}
 use Rattle.bitm_strategies.specs.Samples.{samples_of, sample_starts_of, Summarizes}
 use Rattle.bitm_search.proofs.lemmas.StretchLemmas.{ones_before-self}
 use Rattle.bitm_search.proofs.lemmas.TableLemmas.{entries}
@@ -28,7 +28,7 @@ make_samples-requires-clause-sized g c =
 pub returns : goal.returns
 returns g c =
     let b = bits_of c.args.content.now in
-    let v = kind g.row.ONE in
+    let v = as_bit g.row.BIT in
     let D = g.D.CombinedSamplingDensity in
     let long = length-bits_of c.args.content.now in
     let t = tabled g (goal.at.returns g c).Start in

@@ -1,5 +1,5 @@
 use Rattle.std.proofs.Common.{◌≡◌, ◌+◌, ◌*◌, ◌/◌, ◌<◌, ◌≤◌, ℕ, List, length, slice_index}
-use Rattle.elias_fano.specs.Held.{Holds}
+use Rattle.elias_fano.specs.LentParts.{Holds}
 use Rattle.elias_fano_lent.specs.Lists.{AreAhead, AreItems}
 use Rattle.elias_fano_lent.proofs.sequence.LentSequence.get_list.Given as goal
 

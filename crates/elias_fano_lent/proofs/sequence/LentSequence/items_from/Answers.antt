@@ -6,7 +6,7 @@ use Rattle.bitm.specs.Tables.{HasTables, Lists, bits_in}
 use Rattle.elias_fano.proofs.lemmas.UpperLemmas.{ones_are}
 use Rattle.elias_fano.specs.Low.{Lows}
 use Rattle.elias_fano.specs.Parts.{ArePartsOf}
-use Rattle.elias_fano_lent.specs.Held.{Held, Holds}
+use Rattle.elias_fano_lent.specs.LentParts.{LentParts, Holds}
 use Rattle.elias_fano_lent.specs.Lists.{AreItemsFrom}
 use Rattle.elias_fano_lent.proofs.sequence.LentSequence.items_from.Goals as goal
 use Rattle.elias_fano_lent.proofs.sequence.LentSequence.items_from.Goals.{After-write_items}
@@ -17,18 +17,18 @@ whole : (c : After-write_items) (xs : List ℕ) → Holds xs c.args.self.now
 whole c xs h =
     let P : Lows → Type 0 = λ low. ArePartsOf xs c.args.self.now.len low.width low.words c.args.self.now.upper.words in
     let W : List ℕ → Type 0 = λ words. ArePartsOf xs c.args.self.now.len c.low_digits.result.width c.low_digits.result.words words in
-    let upper : c.self.inside.upper ≡ c.args.self.now.upper = ap (λ (s : Held). s.upper) c.self.view_is in
+    let upper : c.self.inside.upper ≡ c.args.self.now.upper = ap (λ (s : LentParts). s.upper) c.self.view_is in
     let words : c.words.result.now ≡ c.args.self.now.upper.words = c.words.ensures.words ∙ ap (λ (l : Lists). l.words) upper in
     let parts = subst W (sym words) (subst P (sym c.low_digits.ensures) h.are) in
     let tables = subst (λ (l : Lists). HasTables l) (sym upper) h.tables in
     let begin = ap (λ ws. ones_before (bits_of ws) c.in-Found.first) c.words.ensures.words ∙ (c.in-Found.ensures.answer tables).before in
     let few : c.args.from + c.min-most.result ≤ c.args.self.now.len =
-    omega (arith, c.min-most.ensures, c.saturating_sub.ensures, c.if-most-eq0.false, ap (λ (s : Held). s.len) c.self.view_is) in
+    omega (arith, c.min-most.ensures, c.saturating_sub.ensures, c.if-most-eq0.false, ap (λ (s : LentParts). s.len) c.self.view_is) in
     c.write_items.ensures.items xs c.args.self.now.len parts few begin
 
 pub returns-in-Absent-clause-all : goal.returns-in-Absent-clause-all
 returns-in-Absent-clause-all c = λ xs h.
-    let upper : c.self.inside.upper ≡ c.args.self.now.upper = ap (λ (s : Held). s.upper) c.self.view_is in
+    let upper : c.self.inside.upper ≡ c.args.self.now.upper = ap (λ (s : LentParts). s.upper) c.self.view_is in
     let count = ones_are xs c.args.self.now.width c.args.self.now.upper.words h.are.upper_is in
     let few = c.in-Absent.ensures.answer (subst (λ (l : Lists). HasTables l) (sym upper) h.tables) in
     omega (
@@ -39,7 +39,7 @@ returns-in-Absent-clause-all c = λ xs h.
       c.if-most-eq0.false,
       c.min-most.ensures,
       c.saturating_sub.ensures,
-      ap (λ (s : Held). s.len) c.self.view_is,
+      ap (λ (s : LentParts). s.len) c.self.view_is,
       h.are.count,
     )
 
@@ -50,7 +50,7 @@ returns-clause-all c = λ xs h.
       (whole (goal.at.returns-clause-all c).After-write_items xs h).0,
       c.min-most.ensures,
       c.saturating_sub.ensures,
-      ap (λ (s : Held). s.len) c.self.view_is,
+      ap (λ (s : LentParts). s.len) c.self.view_is,
       h.are.count,
     )
 

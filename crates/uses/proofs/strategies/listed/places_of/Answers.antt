@@ -3,12 +3,12 @@ use Rattle.std.proofs.Common.{◌++◌, ap, ◌∙◌}
 use Rattle.std.proofs.lemmas.Iterator.Adapters.{items_from_extend}
 use Rattle.std.proofs.lemmas.Iterator.Consumers.{YieldsList-from_first}
 use Rattle.bitm.specs.Bits.{bits_of}
-use Rattle.bitm.specs.Count.{kind, places}
+use Rattle.bitm.specs.Count.{as_bit, places}
 use Rattle.uses.proofs.strategies.listed.places_of.Goals as goal
 
 pub returns : goal.returns
 returns g c =
-    let all = places (kind g.row.B) 0 (bits_of c.args.content.now) in
+    let all = places (as_bit g.row.BIT) 0 (bits_of c.args.content.now) in
     let given = YieldsList-from_first (λ x. x) (λ coming. coming) all c.new-bits.ensures in
     let pushed = items_from_extend c.extend.result c.extend.ensures.ran given in
     let added = rw c.in_ok-extend.was at pushed in

@@ -1,0 +1,16 @@
+-- The bits before a place are ones and zeros, so no more than the place says are ones.
+use Rattle.std.proofs.Common.{arith}
+use Rattle.bit_lists.proofs.lemmas.CountLemmas.{ones_before-add-zeros_before}
+use Rattle.bitm_search.specs.Tables.{bits_in}
+use Rattle.bitm_lent.proofs.lent.Lent.rank_bit.Goals as goal
+
+pub returns-in-None-clause-answer : goal.returns-in-None-clause-answer
+returns-in-None-clause-answer g c = λ t.
+    let r = c.in-Some.ensures.answer t in
+    omega (arith, r.0, r.1, ones_before-add-zeros_before (bits_in c.args.self.now) c.args.index r.0, c.in-None.ensures)
+
+pub returns-then-this-eq0-clause-answer : goal.returns-then-this-eq0-clause-answer
+returns-then-this-eq0-clause-answer g c = λ t.
+    let r = c.in-Some.ensures.answer t in
+    rw c.if-this-eq0.true
+    (r.0, omega (arith, r.0, r.1, ones_before-add-zeros_before (bits_in c.args.self.now) c.args.index r.0))

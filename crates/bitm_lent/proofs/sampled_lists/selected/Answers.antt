@@ -1,8 +1,0 @@
--- What is told of the selection.
-use Rattle.bitm_lent.proofs.SelectedLemmas.{sampled_is}
-use Rattle.bitm_lent.proofs.sampled_lists.selected.Goals as goal
-
-pub returns : goal.returns
-returns g c =
-    let s = c.sampled_kind.ensures in
-    rw c.told.ensures (sampled_is _ _ c.args.samples.now c.args.rank c.sampled_kind.result s.sized s.bit s.none s.told s.answer)

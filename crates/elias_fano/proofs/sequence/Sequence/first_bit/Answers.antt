@@ -1,0 +1,42 @@
+-- The place that is selected is that of the number; where none is left, the end comes after all ones.
+use Rattle.std.proofs.Common.{ℕ, List, length, ap, subst, arith}
+use Rattle.std.specs.Box.{boxed_slice_items}
+use Rattle.elias_fano.proofs.lemmas.CursorLemmas.{StandFrom-picked, StandFrom-end}
+use Rattle.elias_fano.proofs.lemmas.SizeLemmas.{upper_few}
+use Rattle.elias_fano.proofs.lemmas.UpperLemmas.{ones_are}
+use Rattle.elias_fano.specs.Parts.{ArePartsOf}
+use Rattle.elias_fano.specs.Numbers.{StandFrom}
+use Rattle.elias_fano.proofs.sequence.Sequence.first_bit.Goals as goal
+use Rattle.elias_fano.proofs.sequence.Sequence.first_bit.Goals.{After-self}
+
+parts : (g : _) (c : After-self g)
+    → let e = c.self.inside in
+    ArePartsOf c.args.self.now.items e.len e.width (boxed_slice_items e.low) (boxed_slice_items e.upper.content)
+parts g c =
+    let e = c.self.inside in
+    let P : List ℕ → Type 0 = λ xs. ArePartsOf xs e.len e.width (boxed_slice_items e.low) (boxed_slice_items e.upper.content) in
+    subst P (ap (λ v. v.items) c.self.view_is) c.self.invariant
+
+pub select-requires : goal.select-requires
+select-requires g c =
+    let h = parts g (goal.at.select-requires g c).After-self in
+    omega (arith, h.count, c.if-place-self.true, ones_are _ _ _ h.upper_is)
+
+pub overflow_mul-result : goal.overflow_mul-result
+overflow_mul-result g c =
+    let h = parts g (goal.at.overflow_mul-result g c).After-self in
+    let few = upper_few c.args.self.now.items in
+    omega (arith, few, h.sequence.short, c.upper_words.ensures.words)
+
+pub returns-then-place-self : goal.returns-then-place-self
+returns-then-place-self g c =
+    let h = parts g (goal.at.returns-then-place-self g c).After-self in
+    let P : ℕ → Type 0 = λ l. StandFrom c.args.self.now.items l c.args.place (length c.args.self.now.items) c.select.result in
+    subst P h.width (StandFrom-picked c.args.self.now.items _ _ _ _ c.args.place c.select.result h
+    (omega (arith, h.count, c.if-place-self.true)) c.select.ensures)
+
+pub returns-else-place-self : goal.returns-else-place-self
+returns-else-place-self g c =
+    let h = parts g (goal.at.returns-else-place-self g c).After-self in
+    StandFrom-end c.args.self.now.items _ c.args.place _ h.sequence.rising (omega (arith, h.count, c.requires, c.if-place-self.false))
+    (omega (arith, c.upper_words.ensures.words))
