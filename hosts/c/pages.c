@@ -69,12 +69,15 @@ static void ask_an_index(const struct bitm_view *view, uint64_t *queries, uint64
         TOUCHES(1, 1, 0, bitm_bits_rank0(&bits, index, one));
         TOUCHES(1, 23, 0, bitm_bits_select(&bits, rank, one));
         TOUCHES(1, 23, 0, bitm_bits_select0(&bits, rank, one));
+        TOUCHES(2, 0, 0, bitm_bits_ones(&bits, index, out, LIST, one));
+        TOUCHES(2, 0, 0, bitm_bits_zeros(&bits, index, out, LIST, one));
         for (size_t i = 0; i < LIST; i++) queries[i] = draw() % ((size_t)WORDS * 16);
         TOUCHES(LIST, LIST, 0, bitm_rank_list(view, queries, LIST, out, LIST));
         TOUCHES(LIST, LIST, 0, bitm_rank0_list(view, queries, LIST, out, LIST));
         TOUCHES(LIST, 23 * LIST, 0, bitm_select_list(view, queries, LIST, out, LIST));
         TOUCHES(LIST, 23 * LIST, 0, bitm_select0_list(view, queries, LIST, out, LIST));
     }
+    TOUCHES(WORDS, 0, 0, bitm_bits_count(&bits, one));
 }
 
 typedef uint32_t build_call(const struct bitm_view *, uint32_t, uint32_t *, size_t, uint64_t *, size_t, uint64_t *);

@@ -1,7 +1,7 @@
 -- What the numbers of a header say of its parts.
 use Rattle.std.proofs.Common.{◌≡◌, ℕ, zero, suc, ◌+◌, ◌-◌, ◌*◌, ◌/◌, ◌^◌, ◌<◌, ◌≤◌, ◌⊎◌, sym, subst, ap, ◌∙◌, ◌↔◌, inl, inr, arith}
 use Rattle.std.proofs.Math.Nat.{div-le_self, mul-le-mul_left}
-use Rattle.bitm.specs.Density.{within}
+use Rattle.bitm.specs.Density.{clamped_log}
 use Rattle.bitm_c.specs.Stored.{sample_room, IsAlike, IsBounded, IsIndex, IsLaidOut, IsSequence, LiesWithin}
 use Rattle.bitm_c.specs.declared.layout.Span.{Span}
 use Rattle.bitm_c.specs.declared.layout.Stored.{Stored}
@@ -13,7 +13,7 @@ span at len = record { at = at; len = len }
 -- no more samples than words, and one
 room_few : (words log : ℕ) → sample_room words log ≤ words + 1
 room_few words zero = omega arith
-room_few words (suc log) = omega (arith, div-le_self words (2 ^ (within (suc log) - 6)))
+room_few words (suc log) = omega (arith, div-le_self words (2 ^ (clamped_log (suc log) - 6)))
 
 -- neither an index nor a sequence has a part that is too long
 pub bounded : (h : Stored) → IsIndex h ⊎ IsSequence h → IsBounded h

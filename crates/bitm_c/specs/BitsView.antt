@@ -4,12 +4,12 @@ use Rattle.bitm.specs.Bits.{item}
 use Rattle.bitm.specs.Count.{count_before, count_of, Picks}
 use Rattle.bitm.specs.Tables.{HasSizes, HasTables}
 use Rattle.bitm_lent.specs.Cut.{Cut, bits_of_cut, cut_at, IsWithin, TellsNoneOf}
-use Rattle.bitm_c.specs.Status.{lists_of}
+use Rattle.bitm_c.specs.Status.{view_lists}
 use Rattle.bitm_c.specs.declared.bits_view.BitsView.{BitsView}
 
 -- the words and tables that a view lends, and how many bits are the content
 abbrev pub cut_of : BitsView → Cut
-cut_of view = cut_at (lists_of view.view) view.bits_len
+cut_of view = cut_at (view_lists view.view) view.bits_len
 
 -- the lengths are right, and there are so many bits
 pub record IsSizedCut (c : Cut) : Type 0 where
@@ -19,7 +19,7 @@ pub record IsSizedCut (c : Cut) : Type 0 where
 -- of a rank of the first index bits, of kind v: the status, and the number before and after the call
 pub record BitsRankAnswered (v : Bool) (c : Cut) (index status old new : ℕ) : Type 0 where
   pub kept : status ≢ 0 → new ≡ old
-  pub bad : (IsSizedCut c → ⊥) → status ≡ 2
+  pub bad : ¬ (IsSizedCut c) → status ≡ 2
   pub outside : IsSizedCut c → c.len < index → status ≡ 1
   pub inside : IsSizedCut c → index ≤ c.len → (status ≡ 0) ⊎ (status ≡ 3)
   pub most : status ≡ 0 → (index ≤ c.len) × (new ≤ index)
@@ -28,7 +28,7 @@ pub record BitsRankAnswered (v : Bool) (c : Cut) (index status old new : ℕ) : 
 -- of a selection of the bit v by rank: the status, and the number before and after the call
 pub record BitsSelectAnswered (v : Bool) (c : Cut) (rank status old new : ℕ) : Type 0 where
   pub kept : status ≢ 0 → new ≡ old
-  pub bad : (IsSizedCut c → ⊥) → status ≡ 2
+  pub bad : ¬ (IsSizedCut c) → status ≡ 2
   pub good : IsSizedCut c → (status ≡ 0) ⊎ (status ≡ 1) ⊎ (status ≡ 3)
   pub bit : status ≡ 0 → (new < length (bits_of_cut c)) × (item (bits_of_cut c) new ≡ v)
   pub absent : status ≡ 1 → TellsNoneOf v c rank

@@ -14,7 +14,7 @@ IsCountTold WrongTables status old new = (status ≡ 3) × (new ≡ old)
 -- of a rank of the first index bits, of kind v: the status, and the number before and after the call
 pub record RankAnswered (v : Bool) (lists : Lists) (index status old new : ℕ) : Type 0 where
   pub kept : status ≢ 0 → new ≡ old
-  pub bad : (HasSizes lists → ⊥) → status ≡ 2
+  pub bad : ¬ (HasSizes lists) → status ≡ 2
   pub outside : HasSizes lists → length (bits_in lists) < index → status ≡ 1
   pub inside : HasSizes lists → index ≤ length (bits_in lists) → (status ≡ 0) ⊎ (status ≡ 3)
   pub most : status ≡ 0 → (index ≤ length (bits_in lists)) × (new ≤ index)

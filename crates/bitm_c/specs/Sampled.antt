@@ -15,7 +15,7 @@ lent_samples s = record { samples = s.samples; starts = s.starts; log2 = min s.l
 -- of a selection of the bit v by rank and samples: the status, and the number before and after the call
 pub record SampledAnswered (v : Bool) (lists : Lists) (samples : Samples) (rank status old new : ℕ) : Type 0 where
   pub kept : status ≢ 0 → new ≡ old
-  pub bad : (HasSizes lists → ⊥) → status ≡ 2
+  pub bad : ¬ (HasSizes lists) → status ≡ 2
   pub good : HasSizes lists → (status ≡ 0) ⊎ (status ≡ 1) ⊎ (status ≡ 3)
   pub bit : status ≡ 0 → (new < length (bits_in lists)) × (item (bits_in lists) new ≡ v)
   pub absent : status ≡ 1 → TellsNone v lists rank

@@ -5,7 +5,7 @@ use Rattle.bitm.specs.Bits.{item}
 use Rattle.bitm.specs.Count.{count_of, Picks}
 use Rattle.bitm.specs.Tables.{HasSizes, HasTables, Lists, bits_in}
 use Rattle.bitm.specs.Told.{TellsNone}
-use Rattle.bitm_lent.specs.Sizes.{listed}
+use Rattle.bitm_lent.specs.Sizes.{lists_of}
 use Rattle.bitm.specs.Selected.{Selected}
 use Rattle.bitm.specs.Selected.TheVariants.{Found, Absent, WrongTables}
 use Rattle.bitm_c.specs.declared.header.Header.{Header}
@@ -15,8 +15,8 @@ use Rattle.bitm_c.specs.declared.view.View.{View}
 -- where the tables are not those of the words.
 
 -- the words and both tables that a view lends
-abbrev pub lists_of : View → Lists
-lists_of view = listed view.words.now view.upper.now view.lower.now
+abbrev pub view_lists : View → Lists
+view_lists view = lists_of view.words.now view.upper.now view.lower.now
 
 -- what a selection answers, as a status, and the number before and after
 abbrev pub IsTold : Selected → ℕ → ℕ → ℕ → Type 0
@@ -27,7 +27,7 @@ IsTold WrongTables status old new = (status ≡ 3) × (new ≡ old)
 -- of a selection of the bit v by rank: the status, and the number before and after the call
 pub record SelectAnswered (v : Bool) (lists : Lists) (rank status old new : ℕ) : Type 0 where
   pub kept : status ≢ 0 → new ≡ old
-  pub bad : (HasSizes lists → ⊥) → status ≡ 2
+  pub bad : ¬ (HasSizes lists) → status ≡ 2
   pub good : HasSizes lists → (status ≡ 0) ⊎ (status ≡ 1) ⊎ (status ≡ 3)
   pub bit : status ≡ 0 → (new < length (bits_in lists)) × (item (bits_in lists) new ≡ v)
   pub absent : status ≡ 1 → TellsNone v lists rank

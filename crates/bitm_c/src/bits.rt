@@ -5,7 +5,7 @@ ghost use Rattle.bitm.specs.Count.{ones_of};
 ghost use Rattle.bitm.specs.Number.{number_at, with_number, IsFragmentInRange, IsInRange};
 
 use crate::answer::{BAD_SIZE, NONE, OK, tell};
-use bitm::words as slices;
+use bitm::words;
 use bitm_lent::clear_from;
 
 /// How many ones the words have.
@@ -18,7 +18,7 @@ pub extern "C" fn bitm_count(words: &[u64], out: &mut usize) -> u32
     if words.len() >= 1 << 58 {
         return BAD_SIZE;
     }
-    *out = slices::count_bit_ones(words);
+    *out = words::count_bit_ones(words);
     OK
 }
 
@@ -32,7 +32,7 @@ pub extern "C" fn bitm_get_bit(words: &[u64], index: usize, out: &mut u64) -> u3
     if index / 64 >= words.len() {
         return NONE;
     }
-    *out = slices::get_bit(words, index) as u64;
+    *out = words::get_bit(words, index) as u64;
     OK
 }
 
@@ -46,7 +46,7 @@ pub extern "C" fn bitm_set_bit(words: &mut [u64], index: usize, value: bool) -> 
     if index / 64 >= words.len() {
         return NONE;
     }
-    slices::set_bit_to(words, index, value);
+    words::set_bit_to(words, index, value);
     OK
 }
 
@@ -70,7 +70,7 @@ pub extern "C" fn bitm_get_bits(words: &[u64], begin: usize, len: u32, out: &mut
     if len > 64 {
         return NONE;
     }
-    tell(slices::try_get_bits_0_64(words, begin, len as u8), out)
+    tell(words::try_get_bits_0_64(words, begin, len as u8), out)
 }
 
 /// Replaces the `len` bits from `begin` on by the lowest ones of `value`, lowest first; 0 to 64 bits.
@@ -84,7 +84,7 @@ pub extern "C" fn bitm_set_bits(words: &mut [u64], begin: usize, len: u32, value
     if len > 64 {
         return NONE;
     }
-    done(slices::try_set_bits_0_64(words, begin, value, len as u8))
+    done(words::try_set_bits_0_64(words, begin, value, len as u8))
 }
 
 /// Fragment `index` of the fragments of `width` bits, as a number, lowest bit first; 0 to 64 bits.
@@ -97,10 +97,7 @@ pub extern "C" fn bitm_get_fragment(words: &[u64], index: usize, width: u32, out
     if width > 64 {
         return NONE;
     }
-    tell(
-        slices::try_get_fragment_0_64(words, index, width as u8),
-        out,
-    )
+    tell(words::try_get_fragment_0_64(words, index, width as u8), out)
 }
 
 /// Replaces fragment `index` of the fragments of `width` bits by the lowest ones of `value`, lowest first; 0 to 64
@@ -115,13 +112,13 @@ pub extern "C" fn bitm_set_fragment(words: &mut [u64], index: usize, width: u32,
     if width > 64 {
         return NONE;
     }
-    done(slices::try_set_fragment_0_64(words, index, value, width as u8))
+    done(words::try_set_fragment_0_64(words, index, value, width as u8))
 }
 
 /// The status of a write that was made, or of none.
 #[inline(always)]
-fn done(made: bool) -> u32
-    ensures { result ≡ (if made then 0 else 1) }
+fn done(is_done: bool) -> u32
+    ensures { result ≡ (if is_done then 0 else 1) }
 {
-    if made { OK } else { NONE }
+    if is_done { OK } else { NONE }
 }

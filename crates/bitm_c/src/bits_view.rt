@@ -1,5 +1,5 @@
 //! Rank, select, counts and places of the first bits of words, where the content ends inside a word.
-ghost use Rattle.std.specs.Prelude.{◌≡◌, ◌≢◌, ◌↔◌, MatchOption, true, false};
+ghost use Rattle.std.specs.Prelude.{◌≡◌, ◌≢◌, ◌↔◌, true, false, SomeIff};
 ghost use Rattle.bitm.specs.Count.{count_of};
 ghost use Rattle.bitm_lent.specs.Cut.{bits_of_cut};
 ghost use Rattle.bitm_c.specs.BitsView.{cut_of, BitsRankAnswered, BitsSelectAnswered, IsSizedCut, PlacesWritten};
@@ -22,8 +22,7 @@ impl<'a> BitsView<'a> {
     /// The bits as the library asks them; `None` exactly where a length is not right.
     #[inline(always)]
     fn lent(&self) -> Option<LentBits<'a>>
-        ensures { MatchOption result (IsSizedCut (cut_of self.now) → ⊥)
-            (λ lent. (lent ≡ cut_of self.now) × IsSizedCut (cut_of self.now)) }
+        ensures { SomeIff result (IsSizedCut (cut_of self.now)) (cut_of self.now) }
     {
         let lent = self.view.lent()?;
         LentBits::over(lent, self.bits_len as usize)

@@ -24,7 +24,7 @@ pub struct Header {
 
 /// The header of so many words.
 #[inline(always)]
-fn made(words_len: usize) -> Header
+fn header_of(words_len: usize) -> Header
     ensures { result ≡ header_of words_len }
 {
     Header {
@@ -45,7 +45,7 @@ pub extern "C" fn bitm_write_header(words_len: usize, out: &mut Header) -> u32
     if words_len >= 1 << 58 {
         return BAD_SIZE;
     }
-    *out = made(words_len);
+    *out = header_of(words_len);
     OK
 }
 

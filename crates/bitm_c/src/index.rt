@@ -4,9 +4,9 @@ ghost use Rattle.std.specs.Int.{div_ceil};
 ghost use Rattle.bitm.specs.Bits.{bits_of};
 ghost use Rattle.bitm.specs.Count.{ones_of};
 ghost use Rattle.bitm.specs.Tables.{HasSizes, HasTables};
-ghost use Rattle.bitm_lent.specs.Sizes.{listed};
+ghost use Rattle.bitm_lent.specs.Sizes.{lists_of};
 ghost use Rattle.bitm_c.specs.Rank.{RankAnswered};
-ghost use Rattle.bitm_c.specs.Status.{lists_of, SelectAnswered};
+ghost use Rattle.bitm_c.specs.Status.{view_lists, SelectAnswered};
 
 use crate::answer::{BAD_SIZE, OK, WRONG, tell_count, tell_place};
 use crate::view::View;
@@ -35,10 +35,10 @@ pub extern "C" fn bitm_build(
     lower: &mut [u64],
     ones: &mut usize,
 ) -> u32
-    ensures ok { (result ≡ 0) ↔ HasSizes (listed words.now upper.old lower.old) }
+    ensures ok { (result ≡ 0) ↔ HasSizes (lists_of words.now upper.old lower.old) }
     ensures status { result ≢ 0 → result ≡ 2 }
-    ensures sizes { result ≡ 0 → HasSizes (listed words.now upper.new lower.new) }
-    ensures tables { result ≡ 0 → HasTables (listed words.now upper.new lower.new) }
+    ensures sizes { result ≡ 0 → HasSizes (lists_of words.now upper.new lower.new) }
+    ensures tables { result ≡ 0 → HasTables (lists_of words.now upper.new lower.new) }
     ensures ones { result ≡ 0 → ones.new ≡ ones_of (bits_of words.now) }
     ensures kept { result ≢ 0 → (upper.new ≡ upper.old) × (lower.new ≡ lower.old)
         × (ones.new ≡ ones.old) }
@@ -55,8 +55,8 @@ pub extern "C" fn bitm_build(
 /// Whether the tables are those of the words: one pass over the words.
 #[unsafe(no_mangle)]
 pub extern "C" fn bitm_check(view: &View<'_>) -> u32
-    ensures ok { (result ≡ 0) ↔ HasSizes (lists_of view.now) × HasTables (lists_of view.now) }
-    ensures bad { (result ≡ 2) ↔ (HasSizes (lists_of view.now) → ⊥) }
+    ensures ok { (result ≡ 0) ↔ HasSizes (view_lists view.now) × HasTables (view_lists view.now) }
+    ensures bad { (result ≡ 2) ↔ ¬ (HasSizes (view_lists view.now)) }
     ensures status { (result ≡ 0) ⊎ (result ≡ 2) ⊎ (result ≡ 3) }
 {
     match view.lent() {
@@ -68,7 +68,7 @@ pub extern "C" fn bitm_check(view: &View<'_>) -> u32
 /// How many of the first `index` bits are ones.
 #[unsafe(no_mangle)]
 pub extern "C" fn bitm_rank(view: &View<'_>, index: usize, out: &mut usize) -> u32
-    ensures { RankAnswered true (lists_of view.now) index result out.old out.new }
+    ensures { RankAnswered true (view_lists view.now) index result out.old out.new }
 {
     match view.lent() {
         Some(lent) => tell_count(lent.rank(index), out),
@@ -79,7 +79,7 @@ pub extern "C" fn bitm_rank(view: &View<'_>, index: usize, out: &mut usize) -> u
 /// How many of the first `index` bits are zeros.
 #[unsafe(no_mangle)]
 pub extern "C" fn bitm_rank0(view: &View<'_>, index: usize, out: &mut usize) -> u32
-    ensures { RankAnswered false (lists_of view.now) index result out.old out.new }
+    ensures { RankAnswered false (view_lists view.now) index result out.old out.new }
 {
     match view.lent() {
         Some(lent) => tell_count(lent.rank0(index), out),
@@ -90,7 +90,7 @@ pub extern "C" fn bitm_rank0(view: &View<'_>, index: usize, out: &mut usize) -> 
 /// The place of the one with `rank` ones before it.
 #[unsafe(no_mangle)]
 pub extern "C" fn bitm_select(view: &View<'_>, rank: usize, out: &mut usize) -> u32
-    ensures { SelectAnswered true (lists_of view.now) rank result out.old out.new }
+    ensures { SelectAnswered true (view_lists view.now) rank result out.old out.new }
 {
     match view.lent() {
         Some(lent) => tell_place(lent.select(rank), out),
@@ -101,7 +101,7 @@ pub extern "C" fn bitm_select(view: &View<'_>, rank: usize, out: &mut usize) -> 
 /// The place of the zero with `rank` zeros before it.
 #[unsafe(no_mangle)]
 pub extern "C" fn bitm_select0(view: &View<'_>, rank: usize, out: &mut usize) -> u32
-    ensures { SelectAnswered false (lists_of view.now) rank result out.old out.new }
+    ensures { SelectAnswered false (view_lists view.now) rank result out.old out.new }
 {
     match view.lent() {
         Some(lent) => tell_place(lent.select0(rank), out),

@@ -171,7 +171,7 @@ impl Stored {
         let samples = Span::from(starts0.at + starts0.len * 8, self.samples.len);
         let samples0 = Span::from(samples.at + samples.len * 4, self.samples0.len);
         let end = Span::from(samples0.at + samples0.len * 4, 0);
-        let mut made = Stored {
+        let mut stored = Stored {
             mark: MARK,
             size: end.at,
             words,
@@ -185,7 +185,7 @@ impl Stored {
             checksum: 0,
             ..*self
         };
-        made.checksum = made.sum();
-        made
+        stored.checksum = stored.sum();
+        stored
     }
 }

@@ -3,27 +3,27 @@ ghost use Rattle.std.specs.Prelude.{◌≡◌, ◌≢◌, ◌<◌, ◌↔◌, �
 ghost use Rattle.bitm_lent.specs.Answers.{SelectTold};
 ghost use Rattle.bitm_lent.specs.Ranks.{RankTold};
 ghost use Rattle.bitm.specs.Tables.{HasSizes};
-ghost use Rattle.bitm_c.specs.Status.{lists_of};
+ghost use Rattle.bitm_c.specs.Status.{view_lists};
 
 use crate::answer::{BAD_SIZE, OK};
 use crate::view::View;
 
 /// `OK` where the answers were written.
 #[inline(always)]
-pub(crate) fn done(written: bool) -> u32
-    ensures { result ≡ (if written then 0 else 2) }
+pub(crate) fn done(is_done: bool) -> u32
+    ensures { result ≡ (if is_done then 0 else 2) }
 {
-    if written { OK } else { BAD_SIZE }
+    if is_done { OK } else { BAD_SIZE }
 }
 
 /// How many of the first bits are ones, for each number of bits.
 #[unsafe(no_mangle)]
 pub extern "C" fn bitm_rank_list(view: &View<'_>, queries: &[usize], out: &mut [usize]) -> u32
-    ensures ok { (result ≡ 0) ↔ HasSizes (lists_of view.now)
+    ensures ok { (result ≡ 0) ↔ HasSizes (view_lists view.now)
         × (length out.old ≡ length queries.now) }
     ensures kept { result ≢ 0 → (result ≡ 2) × (out.new ≡ out.old) }
     ensures told { result ≡ 0 → (j : ℕ) → j < length queries.now
-        → RankTold true (lists_of view.now) (slice_index queries.now j) (slice_index out.new j) }
+        → RankTold true (view_lists view.now) (slice_index queries.now j) (slice_index out.new j) }
 {
     match view.lent() {
         Some(lent) => done(lent.rank_list(queries, out)),
@@ -34,11 +34,11 @@ pub extern "C" fn bitm_rank_list(view: &View<'_>, queries: &[usize], out: &mut [
 /// How many of the first bits are zeros, for each number of bits.
 #[unsafe(no_mangle)]
 pub extern "C" fn bitm_rank0_list(view: &View<'_>, queries: &[usize], out: &mut [usize]) -> u32
-    ensures ok { (result ≡ 0) ↔ HasSizes (lists_of view.now)
+    ensures ok { (result ≡ 0) ↔ HasSizes (view_lists view.now)
         × (length out.old ≡ length queries.now) }
     ensures kept { result ≢ 0 → (result ≡ 2) × (out.new ≡ out.old) }
     ensures told { result ≡ 0 → (j : ℕ) → j < length queries.now
-        → RankTold false (lists_of view.now) (slice_index queries.now j) (slice_index out.new j) }
+        → RankTold false (view_lists view.now) (slice_index queries.now j) (slice_index out.new j) }
 {
     match view.lent() {
         Some(lent) => done(lent.rank0_list(queries, out)),
@@ -49,11 +49,12 @@ pub extern "C" fn bitm_rank0_list(view: &View<'_>, queries: &[usize], out: &mut 
 /// The place of the one with each rank.
 #[unsafe(no_mangle)]
 pub extern "C" fn bitm_select_list(view: &View<'_>, queries: &[usize], out: &mut [usize]) -> u32
-    ensures ok { (result ≡ 0) ↔ HasSizes (lists_of view.now)
+    ensures ok { (result ≡ 0) ↔ HasSizes (view_lists view.now)
         × (length out.old ≡ length queries.now) }
     ensures kept { result ≢ 0 → (result ≡ 2) × (out.new ≡ out.old) }
     ensures told { result ≡ 0 → (j : ℕ) → j < length queries.now
-        → SelectTold true (lists_of view.now) (slice_index queries.now j) (slice_index out.new j) }
+        → SelectTold true (view_lists view.now)
+        (slice_index queries.now j) (slice_index out.new j) }
 {
     match view.lent() {
         Some(lent) => done(lent.select_list(queries, out)),
@@ -64,11 +65,12 @@ pub extern "C" fn bitm_select_list(view: &View<'_>, queries: &[usize], out: &mut
 /// The place of the zero with each rank.
 #[unsafe(no_mangle)]
 pub extern "C" fn bitm_select0_list(view: &View<'_>, queries: &[usize], out: &mut [usize]) -> u32
-    ensures ok { (result ≡ 0) ↔ HasSizes (lists_of view.now)
+    ensures ok { (result ≡ 0) ↔ HasSizes (view_lists view.now)
         × (length out.old ≡ length queries.now) }
     ensures kept { result ≢ 0 → (result ≡ 2) × (out.new ≡ out.old) }
     ensures told { result ≡ 0 → (j : ℕ) → j < length queries.now
-        → SelectTold false (lists_of view.now) (slice_index queries.now j) (slice_index out.new j) }
+        → SelectTold false (view_lists view.now)
+        (slice_index queries.now j) (slice_index out.new j) }
 {
     match view.lent() {
         Some(lent) => done(lent.select0_list(queries, out)),

@@ -1,10 +1,10 @@
 //! More questions of a sequence: the last number that is at most a value, whether a value is one of the numbers, and the
 //! numbers in order.
 ghost use Rattle.std.specs.Prelude.{◌≡◌, ◌≢◌, ◌-◌, ◌≤◌, ◌↔◌, ℕ, List, length, min};
-ghost use Rattle.elias_fano_lent.specs.Held.{Holds};
+ghost use Rattle.elias_fano_lent.specs.LentParts.{Holds};
 ghost use Rattle.elias_fano_lent.specs.Lists.{AreItemsFrom, IsKeptFrom};
 ghost use Rattle.bitm_c.specs.Numbers.{ContainsAnswered, LastAnswered};
-ghost use Rattle.bitm_c.specs.Sequence.{held_by, IsSized};
+ghost use Rattle.bitm_c.specs.Sequence.{view_parts, IsSized};
 
 use crate::answer::{BAD_SIZE, OK, WRONG};
 use crate::sequence::{SequenceView, tell_sought};
@@ -51,9 +51,9 @@ pub extern "C" fn bitm_sequence_items(
 ) -> u32
     ensures ok { (result ≡ 0) ↔ IsSized view.now }
     ensures most { result ≡ 0 → written.new ≤ min (length out.old) (view.now.len - from) }
-    ensures all { result ≡ 0 → (xs : List ℕ) → Holds xs (held_by view.now)
+    ensures all { result ≡ 0 → (xs : List ℕ) → Holds xs (view_parts view.now)
         → written.new ≡ min (length out.old) (length xs - from) }
-    ensures items { result ≡ 0 → (xs : List ℕ) → Holds xs (held_by view.now)
+    ensures items { result ≡ 0 → (xs : List ℕ) → Holds xs (view_parts view.now)
         → AreItemsFrom xs from written.new out.new }
     ensures behind { result ≡ 0 → IsKeptFrom written.new out.old out.new }
     ensures kept { result ≢ 0 → (result ≡ 2) × (out.new ≡ out.old)

@@ -7,14 +7,14 @@ ghost use Rattle.bitm.specs.Count.{ones_before};
 ghost use Rattle.bitm_c.specs.Ranges.{NextAnswered, PreviousAnswered};
 
 use crate::answer::{BAD_SIZE, NONE, OK, tell};
-use bitm::words as slices;
+use bitm::words;
 
 /// How many of the bits from `from` on and before `to` are ones.
 #[unsafe(no_mangle)]
 pub extern "C" fn bitm_count_range(words: &[u64], from: usize, to: usize, out: &mut usize) -> u32
     ensures ok { (result ≡ 0)
         ↔ (IsShort words.now × (from ≤ to) × (to ≤ 64 * length words.now)) }
-    ensures bad { (result ≡ 2) ↔ (IsShort words.now → ⊥) }
+    ensures bad { (result ≡ 2) ↔ ¬ (IsShort words.now) }
     ensures count { result ≡ 0 → out.new
         ≡ ones_before (bits_of words.now) to - ones_before (bits_of words.now) from }
     ensures kept { result ≢ 0 → ((result ≡ 1) ⊎ (result ≡ 2)) × (out.new ≡ out.old) }
@@ -25,7 +25,7 @@ pub extern "C" fn bitm_count_range(words: &[u64], from: usize, to: usize, out: &
     if !is_range(words, from, to) {
         return NONE;
     }
-    *out = slices::count_range(words, from, to);
+    *out = words::count_range(words, from, to);
     OK
 }
 
@@ -37,7 +37,7 @@ pub extern "C" fn bitm_next_one(words: &[u64], from: usize, out: &mut usize) -> 
     if words.len() >= 1 << 58 {
         return BAD_SIZE;
     }
-    tell(slices::find_bit_one(words, from), out)
+    tell(words::find_bit_one(words, from), out)
 }
 
 /// The place of the first zero from `from` on.
@@ -48,7 +48,7 @@ pub extern "C" fn bitm_next_zero(words: &[u64], from: usize, out: &mut usize) ->
     if words.len() >= 1 << 58 {
         return BAD_SIZE;
     }
-    tell(slices::find_bit_zero(words, from), out)
+    tell(words::find_bit_zero(words, from), out)
 }
 
 /// The place of the last one up to `from`.
@@ -62,7 +62,7 @@ pub extern "C" fn bitm_previous_one(words: &[u64], from: usize, out: &mut usize)
     if from / 64 >= words.len() {
         return NONE;
     }
-    tell(slices::rfind_bit_one(words, from), out)
+    tell(words::rfind_bit_one(words, from), out)
 }
 
 /// The place of the last zero up to `from`.
@@ -76,7 +76,7 @@ pub extern "C" fn bitm_previous_zero(words: &[u64], from: usize, out: &mut usize
     if from / 64 >= words.len() {
         return NONE;
     }
-    tell(slices::rfind_bit_zero(words, from), out)
+    tell(words::rfind_bit_zero(words, from), out)
 }
 
 /// Makes the bits from `from` on and before `to` equal to `value`.
@@ -92,7 +92,7 @@ pub extern "C" fn bitm_fill_range(words: &mut [u64], from: usize, to: usize, val
     if !is_range(&*words, from, to) {
         return NONE;
     }
-    slices::fill_range(words, from, to, value);
+    words::fill_range(words, from, to, value);
     OK
 }
 
@@ -109,7 +109,7 @@ pub extern "C" fn bitm_flip_range(words: &mut [u64], from: usize, to: usize) -> 
     if !is_range(&*words, from, to) {
         return NONE;
     }
-    slices::flip_range(words, from, to);
+    words::flip_range(words, from, to);
     OK
 }
 
@@ -124,7 +124,7 @@ pub extern "C" fn bitm_and(words: &mut [u64], other: &[u64]) -> u32
     if words.len() != other.len() {
         return BAD_SIZE;
     }
-    slices::and(words, other);
+    words::and(words, other);
     OK
 }
 
@@ -139,7 +139,7 @@ pub extern "C" fn bitm_or(words: &mut [u64], other: &[u64]) -> u32
     if words.len() != other.len() {
         return BAD_SIZE;
     }
-    slices::or(words, other);
+    words::or(words, other);
     OK
 }
 
@@ -155,7 +155,7 @@ pub extern "C" fn bitm_xor(words: &mut [u64], other: &[u64]) -> u32
     if words.len() != other.len() {
         return BAD_SIZE;
     }
-    slices::xor(words, other);
+    words::xor(words, other);
     OK
 }
 
@@ -170,7 +170,7 @@ pub extern "C" fn bitm_and_not(words: &mut [u64], other: &[u64]) -> u32
     if words.len() != other.len() {
         return BAD_SIZE;
     }
-    slices::and_not(words, other);
+    words::and_not(words, other);
     OK
 }
 

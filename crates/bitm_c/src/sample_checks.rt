@@ -3,7 +3,7 @@ ghost use Rattle.std.specs.Prelude.{◌≡◌, ◌↔◌, ◌⊎◌, true, false
 ghost use Rattle.bitm.specs.Tables.{HasSizes, HasTables, bits_in};
 ghost use Rattle.bitm_lent.specs.Samples.{AreSamplesOf};
 ghost use Rattle.bitm_c.specs.Sampled.{lent_samples};
-ghost use Rattle.bitm_c.specs.Status.{lists_of};
+ghost use Rattle.bitm_c.specs.Status.{view_lists};
 
 use crate::answer::{BAD_SIZE, OK, WRONG};
 use crate::sampled::Samples;
@@ -12,9 +12,9 @@ use crate::view::View;
 /// Whether the samples of ones are those that the build writes, where the tables are those of the words.
 #[unsafe(no_mangle)]
 pub extern "C" fn bitm_check_samples(view: &View<'_>, samples: &Samples<'_>) -> u32
-    ensures ok { HasSizes (lists_of view.now) → HasTables (lists_of view.now) → (result ≡ 0)
-        ↔ AreSamplesOf (bits_in (lists_of view.now)) true (lent_samples samples.now) }
-    ensures bad { (result ≡ 2) ↔ (HasSizes (lists_of view.now) → ⊥) }
+    ensures ok { HasSizes (view_lists view.now) → HasTables (view_lists view.now) → (result ≡ 0)
+        ↔ AreSamplesOf (bits_in (view_lists view.now)) true (lent_samples samples.now) }
+    ensures bad { (result ≡ 2) ↔ ¬ (HasSizes (view_lists view.now)) }
     ensures status { (result ≡ 0) ⊎ (result ≡ 2) ⊎ (result ≡ 3) }
 {
     match view.lent() {
@@ -32,9 +32,9 @@ pub extern "C" fn bitm_check_samples(view: &View<'_>, samples: &Samples<'_>) -> 
 /// Whether the samples of zeros are those that the build writes, where the tables are those of the words.
 #[unsafe(no_mangle)]
 pub extern "C" fn bitm_check_samples0(view: &View<'_>, samples: &Samples<'_>) -> u32
-    ensures ok { HasSizes (lists_of view.now) → HasTables (lists_of view.now) → (result ≡ 0)
-        ↔ AreSamplesOf (bits_in (lists_of view.now)) false (lent_samples samples.now) }
-    ensures bad { (result ≡ 2) ↔ (HasSizes (lists_of view.now) → ⊥) }
+    ensures ok { HasSizes (view_lists view.now) → HasTables (view_lists view.now) → (result ≡ 0)
+        ↔ AreSamplesOf (bits_in (view_lists view.now)) false (lent_samples samples.now) }
+    ensures bad { (result ≡ 2) ↔ ¬ (HasSizes (view_lists view.now)) }
     ensures status { (result ≡ 0) ⊎ (result ≡ 2) ⊎ (result ≡ 3) }
 {
     match view.lent() {

@@ -1,10 +1,10 @@
 //! Selection by samples that lie in the caller's memory.
 ghost use Rattle.std.specs.Prelude.{◌≡◌, ◌≢◌, ◌<◌, ◌≤◌, ◌↔◌, ℕ, length, min, slice_index, take, true, false};
-ghost use Rattle.bitm.specs.Density.{within};
+ghost use Rattle.bitm.specs.Density.{clamped_log};
 ghost use Rattle.bitm.specs.Tables.{HasSizes, HasTables, bits_in};
 ghost use Rattle.bitm_lent.specs.Samples.{AreSamples, HasRoom, SampledTold, enough_samples};
 ghost use Rattle.bitm_c.specs.Sampled.{SampledAnswered, lent_samples};
-ghost use Rattle.bitm_c.specs.Status.{lists_of};
+ghost use Rattle.bitm_c.specs.Status.{view_lists};
 
 use crate::answer::{BAD_SIZE, OK, tell_place};
 use crate::lists::done;
@@ -25,7 +25,7 @@ pub struct Samples<'a> {
 
 /// A logarithm as the library takes it, where each one above 31 is 31.
 #[inline(always)]
-fn narrowed(log2: u32) -> u8
+fn narrow_log2(log2: u32) -> u8
     ensures { result ≡ min log2 31 }
 {
     log2.min(31) as u8
@@ -40,7 +40,7 @@ impl<'a> Samples<'a> {
         LentSamples {
             samples: self.samples,
             starts: self.starts,
-            log2: narrowed(self.log2),
+            log2: narrow_log2(self.log2),
         }
     }
 }
@@ -50,7 +50,7 @@ impl<'a> Samples<'a> {
 pub extern "C" fn bitm_samples_len(words_len: usize, log2: u32) -> usize
     ensures { result ≡ enough_samples words_len log2 }
 {
-    bitm_lent::samples_len(words_len, narrowed(log2))
+    bitm_lent::samples_len(words_len, narrow_log2(log2))
 }
 
 /// Writes the samples of ones, how many there are before each part, and how many there are.
@@ -62,11 +62,12 @@ pub extern "C" fn bitm_build_samples(
     starts: &mut [usize],
     used: &mut usize,
 ) -> u32
-    ensures ok { (result ≡ 0) ↔ HasSizes (lists_of view.now)
-        × HasRoom (lists_of view.now) log2 samples.old starts.old }
+    ensures ok { (result ≡ 0) ↔ HasSizes (view_lists view.now)
+        × HasRoom (view_lists view.now) log2 samples.old starts.old }
     ensures fits { result ≡ 0 → used.new ≤ length samples.old }
-    ensures made { result ≡ 0 → HasTables (lists_of view.now) → AreSamples
-        (bits_in (lists_of view.now)) true (within log2) (take used.new samples.new) starts.new }
+    ensures made { result ≡ 0 → HasTables (view_lists view.now) → AreSamples
+        (bits_in (view_lists view.now)) true (clamped_log log2)
+        (take used.new samples.new) starts.new }
     ensures behind { result ≡ 0 → (j : ℕ) → used.new ≤ j
         → slice_index samples.new j ≡ slice_index samples.old j }
     ensures kept { result ≢ 0 → (result ≡ 2) × (samples.new ≡ samples.old)
@@ -75,7 +76,7 @@ pub extern "C" fn bitm_build_samples(
     let Some(lent) = view.lent() else {
         return BAD_SIZE;
     };
-    match lent.build_samples(narrowed(log2), samples, starts) {
+    match lent.build_samples(narrow_log2(log2), samples, starts) {
         Some(count) => {
             *used = count;
             OK
@@ -93,11 +94,12 @@ pub extern "C" fn bitm_build_samples0(
     starts: &mut [usize],
     used: &mut usize,
 ) -> u32
-    ensures ok { (result ≡ 0) ↔ HasSizes (lists_of view.now)
-        × HasRoom (lists_of view.now) log2 samples.old starts.old }
+    ensures ok { (result ≡ 0) ↔ HasSizes (view_lists view.now)
+        × HasRoom (view_lists view.now) log2 samples.old starts.old }
     ensures fits { result ≡ 0 → used.new ≤ length samples.old }
-    ensures made { result ≡ 0 → HasTables (lists_of view.now) → AreSamples
-        (bits_in (lists_of view.now)) false (within log2) (take used.new samples.new) starts.new }
+    ensures made { result ≡ 0 → HasTables (view_lists view.now) → AreSamples
+        (bits_in (view_lists view.now)) false (clamped_log log2)
+        (take used.new samples.new) starts.new }
     ensures behind { result ≡ 0 → (j : ℕ) → used.new ≤ j
         → slice_index samples.new j ≡ slice_index samples.old j }
     ensures kept { result ≢ 0 → (result ≡ 2) × (samples.new ≡ samples.old)
@@ -106,7 +108,7 @@ pub extern "C" fn bitm_build_samples0(
     let Some(lent) = view.lent() else {
         return BAD_SIZE;
     };
-    match lent.build_samples0(narrowed(log2), samples, starts) {
+    match lent.build_samples0(narrow_log2(log2), samples, starts) {
         Some(count) => {
             *used = count;
             OK
@@ -123,7 +125,7 @@ pub extern "C" fn bitm_sampled_select(
     rank: usize,
     out: &mut usize,
 ) -> u32
-    ensures { SampledAnswered true (lists_of view.now) samples.now rank result out.old out.new }
+    ensures { SampledAnswered true (view_lists view.now) samples.now rank result out.old out.new }
 {
     match view.lent() {
         Some(lent) => tell_place(lent.sampled_select(&samples.lent(), rank), out),
@@ -139,7 +141,7 @@ pub extern "C" fn bitm_sampled_select0(
     rank: usize,
     out: &mut usize,
 ) -> u32
-    ensures { SampledAnswered false (lists_of view.now) samples.now rank result out.old out.new }
+    ensures { SampledAnswered false (view_lists view.now) samples.now rank result out.old out.new }
 {
     match view.lent() {
         Some(lent) => tell_place(lent.sampled_select0(&samples.lent(), rank), out),
@@ -155,11 +157,11 @@ pub extern "C" fn bitm_sampled_select_list(
     queries: &[usize],
     out: &mut [usize],
 ) -> u32
-    ensures ok { (result ≡ 0) ↔ HasSizes (lists_of view.now)
+    ensures ok { (result ≡ 0) ↔ HasSizes (view_lists view.now)
         × (length out.old ≡ length queries.now) }
     ensures kept { result ≢ 0 → (result ≡ 2) × (out.new ≡ out.old) }
     ensures told { result ≡ 0 → (j : ℕ) → j < length queries.now
-        → SampledTold true (lists_of view.now) (lent_samples samples.now)
+        → SampledTold true (view_lists view.now) (lent_samples samples.now)
         (slice_index queries.now j) (slice_index out.new j) }
 {
     match view.lent() {
@@ -176,11 +178,11 @@ pub extern "C" fn bitm_sampled_select0_list(
     queries: &[usize],
     out: &mut [usize],
 ) -> u32
-    ensures ok { (result ≡ 0) ↔ HasSizes (lists_of view.now)
+    ensures ok { (result ≡ 0) ↔ HasSizes (view_lists view.now)
         × (length out.old ≡ length queries.now) }
     ensures kept { result ≢ 0 → (result ≡ 2) × (out.new ≡ out.old) }
     ensures told { result ≡ 0 → (j : ℕ) → j < length queries.now
-        → SampledTold false (lists_of view.now) (lent_samples samples.now)
+        → SampledTold false (view_lists view.now) (lent_samples samples.now)
         (slice_index queries.now j) (slice_index out.new j) }
 {
     match view.lent() {

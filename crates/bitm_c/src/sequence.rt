@@ -1,17 +1,17 @@
 //! Monotone integer sequences (Elias-Fano), whose parts lie in the caller's memory.
-ghost use Rattle.std.specs.Prelude.{◌≡◌, ◌≢◌, ◌<◌, ◌≤◌, ◌↔◌, ◌⊎◌, ℕ, List, MatchOption, length, slice_index};
-ghost use Rattle.bitm_lent.specs.Sizes.{listed};
+ghost use Rattle.std.specs.Prelude.{◌≡◌, ◌≢◌, ◌<◌, ◌≤◌, ◌↔◌, ◌⊎◌, ℕ, List, length, slice_index, SomeIff};
+ghost use Rattle.bitm_lent.specs.Sizes.{lists_of};
 ghost use Rattle.elias_fano.specs.Parts.{width_of};
 ghost use Rattle.elias_fano.specs.Sequence.{HasFall};
-ghost use Rattle.elias_fano_lent.specs.Held.{held, Holds};
+ghost use Rattle.elias_fano_lent.specs.LentParts.{parts_of, AreParts, Holds};
 ghost use Rattle.elias_fano_lent.specs.Lists.{AreItems, IsKeptFrom, PlaceTold};
 ghost use Rattle.elias_fano_lent.specs.Sizes.{sizes_of, HasRoom, IsLargest};
-ghost use Rattle.bitm_c.specs.Sequence.{held_by, sizes_in_c, IsListTold, IsSized, IsSoughtTold};
+ghost use Rattle.bitm_c.specs.Sequence.{view_parts, sizes_in_c, IsListTold, IsSized, IsSoughtTold};
 ghost use Rattle.bitm_c.specs.Sequence.{ItemAnswered, PlaceAnswered};
 
 use crate::answer::{BAD_SIZE, NONE, OK, UNSORTED, WRONG};
 use bitm_lent::Lent;
-use elias_fano_lent::{BuildError, LentSequence, Listed, Sizes, Sought, build};
+use elias_fano_lent::{BuildError, LentSequence, ListAnswer, Sizes, Sought, build};
 
 /// The parts of a sequence, all lent: for C two numbers and four pairs of a pointer and a length.
 #[repr(C)]
@@ -51,8 +51,7 @@ impl<'a> SequenceView<'a> {
     /// The parts as the library asks them; `None` exactly where a length is not right.
     #[inline(always)]
     pub(crate) fn lent(&self) -> Option<LentSequence<'a>>
-        ensures { MatchOption result (IsSized self.now → ⊥)
-            (λ lent. (lent ≡ held_by self.now) × IsSized self.now) }
+        ensures { SomeIff result (IsSized self.now) (view_parts self.now) }
     {
         let upper = Lent::over(self.words, self.upper, self.lower)?;
         if self.width > 63 {
@@ -110,19 +109,19 @@ pub extern "C" fn bitm_sequence_build(
     width: &mut u64,
 ) -> u32
     ensures ok { (result ≡ 0) → HasRoom items.now low.old words.old upper.old lower.old }
-    ensures bad { (result ≡ 2) ↔ (HasRoom items.now low.old words.old upper.old lower.old → ⊥) }
+    ensures bad { (result ≡ 2) ↔ ¬ (HasRoom items.now low.old words.old upper.old lower.old) }
     ensures unsorted { (result ≡ 4)
         ↔ (HasRoom items.now low.old words.old upper.old lower.old × HasFall items.now) }
     ensures status { result ≢ 0 → (result ≡ 2) ⊎ (result ≡ 4) }
     ensures width { result ≡ 0 → width.new ≡ width_of items.now }
     ensures parts { result ≡ 0 → Holds items.now
-        (held (length items.now) width.new low.new (listed words.new upper.new lower.new)) }
+        (parts_of (length items.now) width.new low.new (lists_of words.new upper.new lower.new)) }
     ensures kept { result ≢ 0 → (low.new ≡ low.old) × (words.new ≡ words.old)
         × (upper.new ≡ upper.old) × (lower.new ≡ lower.old) × (width.new ≡ width.old) }
 {
     match build(items, low, words, upper, lower) {
-        Ok(made) => {
-            *width = made as u64;
+        Ok(low_width) => {
+            *width = low_width as u64;
             OK
         }
         Err(BuildError::WrongLength) => BAD_SIZE,
@@ -134,9 +133,8 @@ pub extern "C" fn bitm_sequence_build(
 /// numbers.
 #[unsafe(no_mangle)]
 pub extern "C" fn bitm_sequence_check(view: &SequenceView<'_>) -> u32
-    ensures ok { (result ≡ 0) ↔ (IsSized view.now
-        × ((xs : List ℕ) × Holds xs (held_by view.now))) }
-    ensures bad { (result ≡ 2) ↔ (IsSized view.now → ⊥) }
+    ensures ok { (result ≡ 0) ↔ (IsSized view.now × AreParts (view_parts view.now)) }
+    ensures bad { (result ≡ 2) ↔ ¬ (IsSized view.now) }
     ensures status { (result ≡ 0) ⊎ (result ≡ 2) ⊎ (result ≡ 3) }
 {
     match view.lent() {
@@ -185,15 +183,15 @@ pub extern "C" fn bitm_sequence_get_list(
     ensures most { result ≡ 0 → written.new ≤ length queries.now }
     ensures inside { result ≡ 0 → (j : ℕ) → j < written.new
         → slice_index queries.now j < view.now.len }
-    ensures items { result ≡ 0 → (xs : List ℕ) → Holds xs (held_by view.now)
+    ensures items { result ≡ 0 → (xs : List ℕ) → Holds xs (view_parts view.now)
         → AreItems xs queries.now written.new out.new }
-    ensures whole { result ≡ 0 → (xs : List ℕ) → Holds xs (held_by view.now)
+    ensures whole { result ≡ 0 → (xs : List ℕ) → Holds xs (view_parts view.now)
         → written.new < length queries.now
         → length xs ≤ slice_index queries.now written.new }
     ensures behind { result ≡ 0 → IsKeptFrom written.new out.old out.new }
 {
     match view.lent() {
-        Some(lent) => listed_told(lent.get_list(queries, out), queries.len(), written),
+        Some(lent) => tell_list(lent.get_list(queries, out), queries.len(), written),
         None => BAD_SIZE,
     }
 }
@@ -207,7 +205,7 @@ pub extern "C" fn bitm_sequence_first_at_least_list(
 ) -> u32
     ensures ok { (result ≡ 0) ↔ IsSized view.now × (length out.old ≡ length queries.now) }
     ensures kept { result ≢ 0 → (result ≡ 2) × (out.new ≡ out.old) }
-    ensures told { result ≡ 0 → (j : ℕ) → j < length queries.now → PlaceTold (held_by view.now)
+    ensures told { result ≡ 0 → (j : ℕ) → j < length queries.now → PlaceTold (view_parts view.now)
         (slice_index queries.now j) (slice_index out.new j) }
 {
     match view.lent() {
@@ -224,14 +222,14 @@ pub extern "C" fn bitm_sequence_first_at_least_list(
 
 /// Writes how many numbers of a list were written.
 #[inline(always)]
-fn listed_told(listed: Listed, len: usize, written: &mut usize) -> u32
-    ensures { IsListTold listed len result written.old written.new }
+fn tell_list(answer: ListAnswer, len: usize, written: &mut usize) -> u32
+    ensures { IsListTold answer len result written.old written.new }
 {
-    *written = match listed {
-        Listed::All => len,
-        Listed::AbsentAt(at) => at,
-        Listed::WrongAt(at) => at,
-        Listed::WrongLength => return BAD_SIZE,
+    *written = match answer {
+        ListAnswer::All => len,
+        ListAnswer::AbsentAt(at) => at,
+        ListAnswer::WrongAt(at) => at,
+        ListAnswer::WrongLength => return BAD_SIZE,
     };
     OK
 }

@@ -1,7 +1,7 @@
 //! Words and tables as one struct lends them to C.
-ghost use Rattle.std.specs.Prelude.{◌≡◌, MatchOption};
+ghost use Rattle.std.specs.Prelude.{◌≡◌, SomeIff};
 ghost use Rattle.bitm.specs.Tables.{HasSizes};
-ghost use Rattle.bitm_c.specs.Status.{lists_of};
+ghost use Rattle.bitm_c.specs.Status.{view_lists};
 
 use bitm_lent::Lent;
 
@@ -21,8 +21,7 @@ impl<'a> View<'a> {
     /// The three as the library asks them; `None` exactly where a length is not right.
     #[inline(always)]
     pub(crate) fn lent(&self) -> Option<Lent<'a>>
-        ensures { MatchOption result (HasSizes (lists_of self.now) → ⊥)
-            (λ lent. (lent ≡ lists_of self.now) × HasSizes (lists_of self.now)) }
+        ensures { SomeIff result (HasSizes (view_lists self.now)) (view_lists self.now) }
     {
         Lent::over(self.words, self.upper, self.lower)
     }
