@@ -17,6 +17,11 @@ DRAWN = ["rank", "rank of a simple index", "select", "select0", "select, binary"
 BASES = {"original": "the original crate", "sdsl": "sdsl-lite"}
 
 
+def base_of(by):
+    """The base that a row is of, such as `original binary`, if it is one's."""
+    return next((b for b in BASES if by == b or by.startswith(b + " ")), None)
+
+
 def rows_of(path):
     """The value and the unit of each row, by its name, what answers it, the kind of content and the size."""
     with open(path, encoding="utf-8") as it:
@@ -44,7 +49,7 @@ def draw(rows, kind, base, caption, total, path):
         return [(2**s, of(v[0], s)) for (n, b, k, s), v in sorted(rows.items(), key=lambda it: it[0][3]) if (n, b, k) == (name, by, kind)]
 
     series = [it for it in dict.fromkeys((r[0], r[1]) for r in rows if r[2] == kind) if it[0] in DRAWN]
-    mine = [it for it in series if it[1] not in BASES]
+    mine = [it for it in series if not base_of(it[1])]
     figure, (times, quotients) = pyplot.subplots(1, 2, figsize=(11, 5))
     for k, (name, by) in enumerate(mine):
         look = {"color": COLOURS[k % 10], "marker": MARKERS[k % 10], "markersize": 5, "linewidth": 1.3}
@@ -52,10 +57,11 @@ def draw(rows, kind, base, caption, total, path):
         timed = next(v[1] for r, v in rows.items() if r[:2] == (name, by)) == "ns"
         if timed:
             times.plot(*zip(*line(name, by, lambda v, _: v)), label=label, **look)
-        if (name, base) in series:
-            if timed and ([n for n, _ in mine].index(name) == k):
-                times.plot(*zip(*line(name, base, lambda v, _: v)), linestyle=":", **look)
-            over = {s: v[0] for (n, b, c, s), v in rows.items() if (n, b, c) == (name, base, kind)}
+        rival = f"{base} {by}" if (name, f"{base} {by}") in series else base
+        if (name, rival) in series:
+            if timed and (rival != base or [n for n, _ in mine].index(name) == k):
+                times.plot(*zip(*line(name, rival, lambda v, _: v)), linestyle=":", **look)
+            over = {s: v[0] for (n, b, c, s), v in rows.items() if (n, b, c) == (name, rival, kind)}
             quotients.plot(*zip(*line(name, by, lambda v, s: v / over[s])), label=label, **look)
     for axes, title in ((times, "ns a query" + (f"; dotted: {BASES[base]}" if base else "")), (quotients, f"time / time of {BASES.get(base)}")):
         axes.set_xscale("log", base=2)
@@ -93,7 +99,7 @@ def main(path, folder, caption=""):
         print("plot.py: matplotlib is not installed (Debian: python3-matplotlib), so nothing is drawn", file=sys.stderr)
         return
     for kind in kinds:
-        base = next((b for b in BASES if any(r[1] == b and r[2] == kind for r in rows)), None)
+        base = next((b for b in BASES if any(base_of(r[1]) == b and r[2] == kind for r in rows)), None)
         stem = os.path.splitext(os.path.basename(path))[0]
         name = stem if len(kinds) == 1 else f"{stem}-{kind}"
         draw(rows, kind, base, caption, total, os.path.join(folder, f"{name}.svg"))

@@ -1,8 +1,9 @@
-// Times rank and selection of sdsl-lite over a random content of 2^LOG2 bits: sdsl LOG2 ROUNDS. Rows as those of `bench`.
-#include <chrono>
+// Times rank and selection of sdsl-lite over a random content of 2^LOG2 bits: sdsl LOG2 ROUNDS. Rows as those of `bench`, by
+// the same clock, the thread's processor time.
 #include <cstdint>
 #include <cstdio>
 #include <cstdlib>
+#include <ctime>
 #include <random>
 #include <sdsl/bit_vectors.hpp>
 #include <vector>
@@ -10,20 +11,27 @@
 // 0, which the compiler does not know: each call of a chained row waits for the answer before.
 uint64_t nothing = 0;
 
+// The nanoseconds of the processor that the thread has used.
+double used() {
+    timespec at;
+    clock_gettime(CLOCK_THREAD_CPUTIME_ID, &at);
+    return at.tv_sec * 1e9 + at.tv_nsec;
+}
+
 // The least time of the rounds for a call.
 template <bool CHAINED, class F>
 void row(const char* name, int log2, int rounds, const std::vector<uint64_t>& asked, F call) {
     double least = 1e18;
     uint64_t check = 0;
     for (int k = 0; k < rounds; k++) {
-        auto start = std::chrono::steady_clock::now();
+        double start = used();
         uint64_t sum = 0;
         uint64_t last = 0;
         for (uint64_t at : asked) {
             last = call(CHAINED ? at ^ (last & nothing) : at);
             sum += last;
         }
-        double nanos = std::chrono::duration<double, std::nano>(std::chrono::steady_clock::now() - start).count();
+        double nanos = used() - start;
         check = sum;
         if (nanos < least) least = nanos;
     }

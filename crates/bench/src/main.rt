@@ -15,6 +15,7 @@ mod content;
 mod many;
 mod queries;
 mod rows;
+mod sequences;
 mod timing;
 
 use content::Kind;

@@ -6,6 +6,7 @@ ghost use Rattle.bitm.specs.Simple.{HasFewOnes};
 use crate::content::{Kind, content};
 use crate::many::{self, ManyBatch};
 use crate::queries::queries;
+use crate::sequences;
 use crate::timing::{Asked, IndexBatch, WordBatch, over_index, over_words, ranks};
 use bitm::{
     AdaptiveCombinedSamplingDensity, BinaryRankSearch, CombinedSampling, GetSize, RankSelect101111,
@@ -26,7 +27,7 @@ pub(crate) struct Of {
 }
 
 /// Prints a row: so many nanoseconds for so many calls.
-fn print_row(
+pub(crate) fn print_row(
     rt: &impl Print,
     of: Of,
     row: &str,
@@ -58,7 +59,7 @@ fn print_quotient(
 }
 
 /// The nanoseconds of the processor that the thread has used.
-fn used(rt: &impl CpuClock) -> anyhow::Result<u64> {
+pub(crate) fn used(rt: &impl CpuClock) -> anyhow::Result<u64> {
     Ok(rt.thread_cpu_time()?.as_nanos().min(u64::MAX as u128) as u64)
 }
 
@@ -263,5 +264,9 @@ pub(crate) fn print(
         zeros: zeros.as_slice(),
     };
     index_rows::<BinaryRankSearch, BinaryRankSearch>(rt, of, rounds, "binary", content, asked)?;
-    index_rows::<Sampled, Sampled>(rt, of, rounds, "sampled", content, asked)
+    index_rows::<Sampled, Sampled>(rt, of, rounds, "sampled", content, asked)?;
+    match of.kind {
+        Kind::Even => sequences::print(rt, of, rounds),
+        _ => Ok(()),
+    }
 }

@@ -3,11 +3,11 @@
 //! 63. How much they read is a number that clauses alone see.
 ghost use Rattle.std.specs.Prelude.{◌<◌};
 
-use crate::expect::{Sampled, indexed};
 use bitm::{
     BinaryRankSearch, RankSelect101111, Select0ForRank101111, SelectForRank101111,
     binary_select_on, rank_on,
 };
+use index_tests::expect::{Sampled, index_over};
 use std::process::Abort;
 use uses::counted::{rank_with_reads, select_with_reads};
 
@@ -40,11 +40,11 @@ fn expect_ones<F: Fn(usize) -> Option<usize>>(rt: &impl Abort, select: F)
 {
     for word in 0..60usize {
         for (rank, place) in ones_of(word) {
-            assert_eq!(rt; select(rank), Some(place), "the one of rank {rank}");
+            assert!(rt; select(rank) == Some(place));
         }
     }
     for rank in [180, 181, usize::MAX] {
-        assert_eq!(rt; select(rank), None, "the one of rank {rank}");
+        assert!(rt; select(rank) == None);
     }
 }
 
@@ -54,18 +54,18 @@ fn expect_zeros<F: Fn(usize) -> Option<usize>>(rt: &impl Abort, select: F)
 {
     for word in 0..60usize {
         for (rank, place) in zeros_of(word) {
-            assert_eq!(rt; select(rank), Some(place), "the zero of rank {rank}");
+            assert!(rt; select(rank) == Some(place));
         }
     }
     for rank in [3660, 3661, usize::MAX] {
-        assert_eq!(rt; select(rank), None, "the zero of rank {rank}");
+        assert!(rt; select(rank) == None);
     }
 }
 
 #[test]
 fn counted_selection_by_binary_search_gives_the_places(rt: HostRuntime) {
     let words = WORDS;
-    let (index, _) = indexed::<BinaryRankSearch, BinaryRankSearch>(
+    let (index, _) = index_over::<BinaryRankSearch, BinaryRankSearch>(
         &rt,
         rt.alloc(),
         words.as_slice(),
@@ -78,7 +78,7 @@ fn counted_selection_by_binary_search_gives_the_places(rt: HostRuntime) {
 #[test]
 fn counted_selection_by_samples_gives_the_places(rt: HostRuntime) {
     let words = WORDS;
-    let (index, _) = indexed::<Sampled, Sampled>(&rt, rt.alloc(), words.as_slice());
+    let (index, _) = index_over::<Sampled, Sampled>(&rt, rt.alloc(), words.as_slice());
     let (ones, zeros) = (index.select_support(), index.select0_support());
     expect_ones(&rt, |rank| ones.select_counted(&mut index.probe(), rank));
     expect_zeros(&rt, |rank| zeros.select0_counted(&mut index.probe(), rank));
@@ -102,9 +102,9 @@ fn expect_over_probe<S: SelectForRank101111, S0: Select0ForRank101111>(
 #[test]
 fn binary_search_over_the_probe_of_sampled_ones_or_zeros_gives_the_places(rt: HostRuntime) {
     let words = WORDS;
-    let (index, _) = indexed::<Sampled, BinaryRankSearch>(&rt, rt.alloc(), words.as_slice());
+    let (index, _) = index_over::<Sampled, BinaryRankSearch>(&rt, rt.alloc(), words.as_slice());
     expect_over_probe(&rt, &index);
-    let (index, _) = indexed::<BinaryRankSearch, Sampled>(&rt, rt.alloc(), words.as_slice());
+    let (index, _) = index_over::<BinaryRankSearch, Sampled>(&rt, rt.alloc(), words.as_slice());
     expect_over_probe(&rt, &index);
 }
 
@@ -126,18 +126,14 @@ fn ranks_of(word: usize) -> [(usize, usize); 6]
 #[test]
 fn counted_ranks_of_each_word_are_three_ones_more(rt: HostRuntime) {
     let words = WORDS;
-    let (index, _) = indexed::<BinaryRankSearch, BinaryRankSearch>(
+    let (index, _) = index_over::<BinaryRankSearch, BinaryRankSearch>(
         &rt,
         rt.alloc(),
         words.as_slice(),
     );
     for word in 0..60usize {
         for (place, ones) in ranks_of(word) {
-            assert_eq!(rt;
-                rank_on(&mut index.probe(), place),
-                Some(ones),
-                "ones before {place}"
-            );
+            assert!(rt; rank_on(&mut index.probe(), place) == Some(ones));
         }
     }
     assert!(rt; rank_on(&mut index.probe(), 3840) == Some(180));
@@ -148,7 +144,7 @@ fn counted_ranks_of_each_word_are_three_ones_more(rt: HostRuntime) {
 #[test]
 fn answers_with_their_reads_are_the_places_and_ranks(rt: HostRuntime) {
     let words = WORDS;
-    let (index, _) = indexed::<BinaryRankSearch, BinaryRankSearch>(
+    let (index, _) = index_over::<BinaryRankSearch, BinaryRankSearch>(
         &rt,
         rt.alloc(),
         words.as_slice(),
@@ -156,9 +152,9 @@ fn answers_with_their_reads_are_the_places_and_ranks(rt: HostRuntime) {
     for word in 0..60usize {
         for (rank, place) in ones_of(word) {
             let (found, _reads) = select_with_reads(&index, rank);
-            assert_eq!(rt; found, Some(place), "the one of rank {rank}");
+            assert!(rt; found == Some(place));
             let (ones, _reads) = rank_with_reads(&index, place);
-            assert_eq!(rt; ones, Some(rank), "ones before {place}");
+            assert!(rt; ones == Some(rank));
         }
     }
     assert!(rt; select_with_reads(&index, 180).0 == None);

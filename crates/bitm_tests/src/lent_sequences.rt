@@ -4,7 +4,7 @@
 //! 6 + 5 and 12 + 6. The name of a test is the sentence that it shows.
 use bitm_lent::{Lent, NO_ANSWER};
 use elias_fano::EliasFano;
-use elias_fano_lent::{BuildError, LentSequence, Listed, Sizes, Sought, build};
+use elias_fano_lent::{BuildError, LentSequence, ListAnswer, Sizes, Sought, build};
 use std::process::Abort;
 use std::test::Fail;
 
@@ -35,9 +35,11 @@ fn agrees(rt: &impl Abort, primes: &LentSequence<'_>) {
 /// Asks the numbers at several places at once.
 fn numbers_agree(rt: &impl Abort, primes: &LentSequence<'_>) {
     let mut out = [0u64; 3];
-    assert!(rt; primes.get_list([6, 0, 3].as_slice(), out.as_mut_slice()) == Listed::All);
+    assert!(rt; primes.get_list([6, 0, 3].as_slice(), out.as_mut_slice()) == ListAnswer::All);
     assert!(rt; out == [24, 2, 7]);
-    assert!(rt; primes.get_list([6, 7, 3].as_slice(), out.as_mut_slice()) == Listed::AbsentAt(1));
+    assert!(rt;
+        primes.get_list([6, 7, 3].as_slice(), out.as_mut_slice()) == ListAnswer::AbsentAt(1)
+    );
 }
 
 #[test]
@@ -45,14 +47,14 @@ fn what_was_written_is_read_and_found(rt: HostRuntime) -> Result<(), Fail> {
     let (mut low, mut words, mut lower) = ([u64::MAX], [u64::MAX], [u64::MAX]);
     let mut upper = [usize::MAX];
     let items = ITEMS.as_slice();
-    let made = build(
+    let width = build(
         items,
         low.as_mut_slice(),
         words.as_mut_slice(),
         upper.as_mut_slice(),
         lower.as_mut_slice(),
     );
-    assert!(rt; made == Ok(1));
+    assert!(rt; width == Ok(1));
     assert!(rt; low == [0b0111110]);
     assert!(rt; words == [1 << 1 | 1 << 2 | 1 << 4 | 1 << 6 | 1 << 9 | 1 << 11 | 1 << 18]);
     let same = EliasFano::build(rt.alloc(), items)?;

@@ -13,33 +13,17 @@
 #![tactic(auto)]
 
 #[cfg(test)]
-mod contents;
-#[cfg(test)]
 mod counted;
-#[cfg(test)]
-mod every_place;
-#[cfg(test)]
-mod expect;
 #[cfg(test)]
 mod in_word;
 #[cfg(test)]
-mod kept_samples;
-#[cfg(test)]
-mod large;
-#[cfg(test)]
 mod lent_sequences;
-#[cfg(test)]
-mod logarithms;
 #[cfg(test)]
 mod many;
 #[cfg(test)]
 mod readme;
 #[cfg(test)]
-mod samples;
-#[cfg(test)]
 mod sequences;
-#[cfg(test)]
-mod simple;
 #[cfg(test)]
 mod sizes;
 #[cfg(test)]

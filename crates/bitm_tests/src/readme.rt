@@ -16,8 +16,8 @@ const ROWS: [Row; 3] = [
 fn the_program_of_the_readme_answers_what_the_readme_says(rt: HostRuntime) -> Result<(), Fail> {
     for (index, rank, ranked, selected) in ROWS {
         let (by_rank, by_select) = ask(rt.alloc(), index, rank)?;
-        assert_eq!(rt; by_rank, ranked, "the rank of {index}");
-        assert_eq!(rt; by_select, selected, "the selection of {rank}");
+        assert!(rt; by_rank == ranked);
+        assert!(rt; by_select == selected);
     }
     Ok(())
 }

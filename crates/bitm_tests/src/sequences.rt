@@ -6,7 +6,7 @@
 ghost use Rattle.bitm.specs.Bits.{IsShort};
 
 use bitm::{BitAccess, GetSize};
-use elias_fano::{EfError, EliasFano};
+use elias_fano::{BinaryEliasFano, EfError, EliasFano};
 use std::alloc::{AllocError, Global};
 use std::process::Abort;
 use std::test::Fail;
@@ -21,17 +21,17 @@ fn agrees(
     ones: &[usize],
     asked: &[(u64, Option<usize>)],
 ) -> Result<(), EfError> {
-    let made = EliasFano::build(alloc, items)?;
-    assert!(rt; (made.len(), made.low_width()) == (items.len(), width));
+    let sequence = EliasFano::build(alloc, items)?;
+    assert!(rt; (sequence.len(), sequence.low_width()) == (items.len(), width));
     for (i, x) in items.iter().enumerate() {
-        assert!(rt; made.try_get(i) == Some(*x));
+        assert!(rt; sequence.try_get(i) == Some(*x));
     }
-    assert!(rt; (made.try_get(items.len()), made.try_get(usize::MAX)) == (None, None));
-    ones_stand_at(rt, made.upper_words(), ones);
+    assert!(rt; (sequence.try_get(items.len()), sequence.try_get(usize::MAX)) == (None, None));
+    ones_stand_at(rt, sequence.upper_words(), ones);
     for (v, place) in asked {
-        assert!(rt; made.first_at_least(*v) == *place);
+        assert!(rt; sequence.first_at_least(*v) == *place);
     }
-    comes_in_order(rt, &made, items);
+    comes_in_order(rt, &sequence, items);
     Ok(())
 }
 
@@ -47,9 +47,9 @@ fn ones_stand_at(rt: &impl Abort, words: &[u64], ones: &[usize])
 }
 
 /// Compares the numbers that come from either end with the items.
-fn comes_in_order(rt: &impl Abort, made: &EliasFano, items: &[u64]) {
-    let mut rising = made.iter();
-    let mut falling = made.iter();
+fn comes_in_order(rt: &impl Abort, sequence: &EliasFano, items: &[u64]) {
+    let mut rising = sequence.iter();
+    let mut falling = sequence.iter();
     assert!(rt; rising.len() == items.len());
     for x in items {
         assert!(rt; rising.next() == Some(*x));
@@ -128,15 +128,15 @@ fn the_greatest_number_is_kept_and_found(rt: HostRuntime) -> Result<(), Fail> {
 
 #[test]
 fn low_digits_stand_side_by_side_in_one_word(rt: HostRuntime) -> Result<(), Fail> {
-    let made = EliasFano::build(rt.alloc(), [2u64, 3, 5, 7, 11, 13, 24].as_slice())?;
-    assert!(rt; made.low_words() == [0b0111110u64].as_slice());
-    assert!(rt; made.upper_words().len() == 1);
+    let sequence = EliasFano::build(rt.alloc(), [2u64, 3, 5, 7, 11, 13, 24].as_slice())?;
+    assert!(rt; sequence.low_words() == [0b0111110u64].as_slice());
+    assert!(rt; sequence.upper_words().len() == 1);
     Ok(())
 }
 
 #[test]
 fn values_between_the_numbers_have_the_nearest_below_them(rt: HostRuntime) -> Result<(), Fail> {
-    let made = EliasFano::build(rt.alloc(), [2u64, 3, 5, 7, 11, 13, 24].as_slice())?;
+    let sequence = EliasFano::build(rt.alloc(), [2u64, 3, 5, 7, 11, 13, 24].as_slice())?;
     let asked = [
         (1u64, None, false),
         (2, Some(0), true),
@@ -148,29 +148,29 @@ fn values_between_the_numbers_have_the_nearest_below_them(rt: HostRuntime) -> Re
         (u64::MAX, Some(6), false),
     ];
     for (v, place, is_kept) in asked {
-        assert!(rt; (made.last_at_most(v), made.contains(v)) == (place, is_kept));
+        assert!(rt; (sequence.last_at_most(v), sequence.contains(v)) == (place, is_kept));
     }
     Ok(())
 }
 
 #[test]
 fn numbers_from_a_place_on_come_from_either_end(rt: HostRuntime) -> Result<(), Fail> {
-    let made = EliasFano::build(rt.alloc(), [2u64, 3, 5, 7, 11, 13, 24].as_slice())?;
-    let mut both = made.iter_from(4);
+    let sequence = EliasFano::build(rt.alloc(), [2u64, 3, 5, 7, 11, 13, 24].as_slice())?;
+    let mut both = sequence.iter_from(4);
     let come = [both.next(), both.next_back(), both.next(), both.next_back()];
     assert!(rt; come == [Some(11), Some(24), Some(13), None]);
-    assert!(rt; made.iter_from(7).next() == None);
+    assert!(rt; sequence.iter_from(7).next() == None);
     Ok(())
 }
 
 #[test]
 fn a_copy_gives_the_same_numbers_in_as_many_bytes(rt: HostRuntime) -> Result<(), Fail> {
     let items = [2u64, 3, 5, 7, 11, 13, 24];
-    let made = EliasFano::build(rt.alloc(), items.as_slice())?;
-    let copy = made.try_clone(rt.alloc())?;
-    comes_in_order(&rt, &copy, items.as_slice());
+    let sequence = EliasFano::build(rt.alloc(), items.as_slice())?;
+    comes_in_order(&rt, &sequence.try_clone(rt.alloc())?, items.as_slice());
     // a word of each vector, and one entry of each of the index's tables
-    assert!(rt; copy.size_bytes_dyn() == 4 * 8);
+    let binary = BinaryEliasFano::build(rt.alloc(), items.as_slice())?;
+    assert!(rt; binary.try_clone(rt.alloc())?.size_bytes_dyn() == 4 * 8);
     Ok(())
 }
 
@@ -207,10 +207,10 @@ fn multiples(alloc: Global, count: u32) -> Result<Vec<u64>, AllocError> {
 #[test]
 fn each_of_many_numbers_is_found_at_its_place(rt: HostRuntime) -> Result<(), Fail> {
     let items = multiples(rt.alloc(), 1 << 18)?;
-    let made = EliasFano::build(rt.alloc(), items.as_slice())?;
+    let sequence = EliasFano::build(rt.alloc(), items.as_slice())?;
     for (i, x) in items.iter().enumerate() {
-        assert!(rt; made.get(i) == *x);
-        assert!(rt; made.first_at_least(*x) == Some(i));
+        assert!(rt; sequence.get(i) == *x);
+        assert!(rt; sequence.first_at_least(*x) == Some(i));
     }
     Ok(())
 }
@@ -240,8 +240,8 @@ fn numbers_are_found_where_all_but_one_share_their_upper_digits(
     rt: HostRuntime,
 ) -> Result<(), Fail> {
     let items = crowd(rt.alloc(), 1 << 17)?;
-    let made = EliasFano::build(rt.alloc(), items.as_slice())?;
-    assert!(rt; made.low_width() == 46);
+    let sequence = EliasFano::build(rt.alloc(), items.as_slice())?;
+    assert!(rt; sequence.low_width() == 46);
     let asked = [
         0u64,
         1,
@@ -256,7 +256,7 @@ fn numbers_are_found_where_all_but_one_share_their_upper_digits(
         u64::MAX,
     ];
     for v in asked {
-        assert!(rt; made.first_at_least(v) == first_from(items.as_slice(), v));
+        assert!(rt; sequence.first_at_least(v) == first_from(items.as_slice(), v));
     }
     Ok(())
 }
@@ -265,7 +265,7 @@ fn numbers_are_found_where_all_but_one_share_their_upper_digits(
 fn refused_memory_is_said(rt: HostRuntime) {
     let items = [2u64, 3, 5, 7, 11, 13, 24];
     match EliasFano::build(rt.alloc(), items.as_slice()) {
-        Ok(made) => assert!(rt; made.try_get(4) == Some(11)),
+        Ok(sequence) => assert!(rt; sequence.try_get(4) == Some(11)),
         Err(error) => assert!(rt; error == EfError::OutOfMemory),
     }
     assert!(rt; items.as_slice() == [2u64, 3, 5, 7, 11, 13, 24].as_slice());

@@ -1,9 +1,9 @@
 //! Which types keep bytes on the heap, which no clause can say of a constant, and how many, added up by hand.
-use crate::expect::Sampled;
 use bitm::{
     ArrayWithRank101111, ArrayWithRankSimple, BinaryRankSearch, BitVec, GetSize, RankSelect101111,
 };
 use elias_fano::EliasFano;
+use index_tests::expect::Sampled;
 use std::boxed::BoxedSlice;
 use std::convert::AsSlice;
 use std::process::Abort;

@@ -1,10 +1,9 @@
 //! The index with strategies and a density that a user wrote: all answers compared with a walk over the bits, since
 //! the proof of an index knows them by the laws of their traits alone; and who is asked, which no clause says.
-use crate::every_place::expect_borders;
-use crate::expect::{Sampled, expect_all, indexed};
 use bitm::{
     BinaryRankSearch, CombinedSampling, Select, Select0, Select0ForRank101111, SelectForRank101111,
 };
+use index_tests::expect::{Sampled, expect_all, expect_borders, index_over};
 use std::alloc::Global;
 use std::process::Abort;
 use std::test::Fail;
@@ -53,7 +52,7 @@ fn an_index_selects_by_samples_of_a_density_by_the_length(rt: HostRuntime) -> Re
 #[test]
 fn an_index_asks_the_strategy_of_its_kind_once_a_call(rt: HostRuntime) {
     let words = [0b1101, 0b110];
-    let (index, _) = indexed::<Guarded<BinaryRankSearch>, Guarded<Sampled>>(
+    let (index, _) = index_over::<Guarded<BinaryRankSearch>, Guarded<Sampled>>(
         &rt,
         rt.alloc(),
         words.as_slice(),

@@ -1,24 +1,24 @@
 //! The tables that an index keeps, its size, and ranks of a few contents, worked out by hand. An entry is the ones
 //! before its records 1, 2 and 3, from the bits 54, 43 and 32 on, and below them the ones before the entry in its
 //! part: for 64 ones in the first record of the second entry, after 2048 ones, 64 * (2^54 + 2^43 + 2^32) + 2048.
-use crate::expect::{indexed, owned};
 use bitm::{
     BinaryRankSearch, BitAccess, BitAccessMut, BitVec, GetSize, Rank, RankSelect101111, Select,
     Select0, complement_entry,
 };
+use index_tests::expect::{index_over, owned};
 use std::alloc::{AllocError, Global};
 use std::boxed::BoxedSlice;
 use std::convert::AsSlice;
 use std::process::Abort;
 use std::test::Fail;
-use uses::asking::ranked;
+use uses::asking::rank_if_inside;
 
 /// An index over words that are lent.
 type Lent<'a> = RankSelect101111<BinaryRankSearch, BinaryRankSearch, &'a [u64]>;
 
 /// An index over the words, and the number of ones.
 fn built<'a>(rt: &impl Abort, alloc: Global, words: &'a [u64]) -> (Lent<'a>, usize) {
-    indexed::<BinaryRankSearch, BinaryRankSearch>(rt, alloc, words)
+    index_over::<BinaryRankSearch, BinaryRankSearch>(rt, alloc, words)
 }
 
 /// What an index keeps: the ones, the upper table and the lower one.
@@ -45,7 +45,7 @@ fn one_word_keeps_one_entry_in_16_bytes_beside_its_own(rt: HostRuntime) -> Resul
     expect_kept(&rt, rt.alloc(), words.as_slice(), kept)?;
     let (lent, _) = built(&rt, rt.alloc(), words.as_slice());
     let (index, _) = owned(&rt, rt.alloc(), words.as_slice())?;
-    assert!(rt; (ranked(&lent, 2), ranked(&index, 2)) == (Some(1), Some(1)));
+    assert!(rt; (rank_if_inside(&lent, 2), rank_if_inside(&index, 2)) == (Some(1), Some(1)));
     assert!(rt; (lent.size_bytes_dyn(), index.size_bytes_dyn()) == (16, 24));
     Ok(())
 }
@@ -89,9 +89,9 @@ fn a_full_word_after_a_full_entry_is_counted_to_the_end(rt: HostRuntime) {
     let entries = [0x8020_0600_0000_0000, 0x1002_0040_0000_0800];
     assert!(rt; index.l2ranks() == entries.as_slice());
     assert!(rt; total == 2112);
-    assert!(rt; ranked(&index, 2048) == Some(2048));
-    assert!(rt; ranked(&index, 2111) == Some(2111));
-    assert!(rt; ranked(&index, 2112) == Some(2112));
+    assert!(rt; rank_if_inside(&index, 2048) == Some(2048));
+    assert!(rt; rank_if_inside(&index, 2111) == Some(2111));
+    assert!(rt; rank_if_inside(&index, 2112) == Some(2112));
     assert!(rt; index.try_rank(2113) == None);
     assert!(rt; (index.try_select(2111), index.try_select(2112)) == (Some(2111), None));
     assert!(rt; index.try_select0(0) == None);
@@ -102,7 +102,7 @@ fn a_full_entry_counts_512_ones_a_record(rt: HostRuntime) {
     let words = [u64::MAX; 32];
     let (index, _) = built(&rt, rt.alloc(), words.as_slice());
     assert!(rt; index.l2ranks() == [0x8020_0600_0000_0000].as_slice());
-    assert!(rt; ranked(&index, 2048) == Some(2048));
+    assert!(rt; rank_if_inside(&index, 2048) == Some(2048));
     assert!(rt; index.try_rank(2049) == None);
 }
 
@@ -112,7 +112,7 @@ fn empty_words_keep_entries_of_zero_and_zeros_alone(rt: HostRuntime) {
     let (index, total) = built(&rt, rt.alloc(), words.as_slice());
     assert!(rt; index.l2ranks() == [0, 0].as_slice());
     assert!(rt; total == 0);
-    assert!(rt; ranked(&index, 2111) == Some(0));
+    assert!(rt; rank_if_inside(&index, 2111) == Some(0));
     assert!(rt; index.try_rank0(2111) == Some(2111));
     assert!(rt; index.try_select(0) == None);
     assert!(rt; (index.try_select0(2111), index.try_select0(2112)) == (Some(2111), None));
@@ -127,7 +127,7 @@ fn one_bit_that_is_set_counts_from_the_next_place_on(rt: HostRuntime) -> Result<
     let (index, ones) = owned(&rt, rt.alloc(), content.as_slice())?;
     assert!(rt; ones == 1);
     for (place, count) in [(100, 0), (101, 1), (999, 1)] {
-        assert!(rt; ranked(&index, place) == Some(count));
+        assert!(rt; rank_if_inside(&index, place) == Some(count));
     }
     Ok(())
 }

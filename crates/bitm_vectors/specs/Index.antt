@@ -7,10 +7,10 @@ use Rattle.bitm_vectors.specs.declared.index.Index.{Index}
 use Rattle.bitm_vectors.specs.declared.index.Index.TheVariants.{Simple, Binary, Sampled}
 
 -- the words that it is built over
-abbrev pub indexed : Index → List ℕ
-indexed (Simple rank) = boxed_slice_items rank
-indexed (Binary index) = boxed_slice_items index.content
-indexed (Sampled index) = boxed_slice_items index.content
+abbrev pub indexed_words : Index → List ℕ
+indexed_words (Simple rank) = boxed_slice_items rank
+indexed_words (Binary index) = boxed_slice_items index.content
+indexed_words (Sampled index) = boxed_slice_items index.content
 
 abbrev pub kind_of_index : Index → Kind
 kind_of_index (Simple rank) = kind.Simple

@@ -25,8 +25,8 @@ start = record { bits = []; built = None }
 abbrev pub changed_answer : State → ℕ → Answer
 changed_answer state place = if nat_lt place (length state.bits) then Accepted place else Absent
 
-abbrev pub changed : State → ℕ → Bool → State
-changed state place bit = if nat_lt place (length state.bits) then record { bits = slice_set state.bits place bit; built = None } else state
+abbrev pub with_bit : State → ℕ → Bool → State
+with_bit state place bit = if nat_lt place (length state.bits) then record { bits = slice_set state.bits place bit; built = None } else state
 
 -- the answer where a number is asked of an index, if one is built
 abbrev pub indexed_answer : Option Kind → Answer → Answer
@@ -72,8 +72,8 @@ IsAnswer state (Bits begin len) answer = answer ≡ range_answer state.bits begi
 -- the state after that answer
 abbrev pub state_after : State → Request → State
 state_after state (Words words) = record { bits = bits_of words; built = None }
-state_after state (Set place) = changed state place true
-state_after state (Clear place) = changed state place false
+state_after state (Set place) = with_bit state place true
+state_after state (Clear place) = with_bit state place false
 state_after state (Build kind) = record { bits = state.bits; built = Some kind }
 state_after state (Rank index) = state
 state_after state (Bits begin len) = state

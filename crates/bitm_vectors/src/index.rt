@@ -26,7 +26,7 @@ pub(crate) enum Index {
     Sampled(SampledIndex),
 }
 
-ghost use Rattle.bitm_vectors.specs.Index.{indexed, kind_of_index};
+ghost use Rattle.bitm_vectors.specs.Index.{indexed_words, kind_of_index};
 ghost use Rattle.bitm_vectors.specs.Session.{IsPlaceAnswer};
 
 impl Index {
@@ -37,7 +37,8 @@ impl Index {
         words: &BoxedSlice<u64, Global>,
     ) -> Result<(Index, usize), AllocError>
         requires { boxed_slice_len words.now ≤ 65536 }
-        ensures content { IfOk result (λ built. indexed built.0 ≡ boxed_slice_items words.now) }
+        ensures content { IfOk result (λ built.
+            indexed_words built.0 ≡ boxed_slice_items words.now) }
         ensures kind { IfOk result (λ built. kind_of_index built.0 ≡ kind) }
         ensures total { IfOk result (λ built. built.1
             ≡ ones_before (bits_of (boxed_slice_items words.now))
@@ -62,7 +63,7 @@ impl Index {
 
     /// How many of so many bits from the front are ones; `None` exactly where there are fewer bits.
     pub(crate) fn try_rank(&self, index: usize) -> Option<usize>
-        ensures { IsRank (bits_of (indexed self.now)) index result }
+        ensures { IsRank (bits_of (indexed_words self.now)) index result }
     {
         match self {
             Index::Simple(rank) => Rank::try_rank(rank, index),
@@ -73,7 +74,7 @@ impl Index {
 
     /// How many of so many bits from the front are zeros; `None` exactly where there are fewer bits.
     pub(crate) fn try_rank0(&self, index: usize) -> Option<usize>
-        ensures { IsRank0 (bits_of (indexed self.now)) index result }
+        ensures { IsRank0 (bits_of (indexed_words self.now)) index result }
     {
         match self {
             Index::Simple(rank) => rank.try_rank0(index),
@@ -85,7 +86,7 @@ impl Index {
     /// Where the one with `rank` ones before it stands, if this kind of index selects.
     pub(crate) fn select(&self, rank: usize) -> Answer
         ensures { IsPlaceAnswer (Some (kind_of_index self.now))
-            (bits_of (indexed self.now)) true rank result }
+            (bits_of (indexed_words self.now)) true rank result }
     {
         match self {
             Index::Simple(_) => Answer::NotBuilt,
@@ -97,7 +98,7 @@ impl Index {
     /// Where the zero with `rank` zeros before it stands, if this kind of index selects.
     pub(crate) fn select0(&self, rank: usize) -> Answer
         ensures { IsPlaceAnswer (Some (kind_of_index self.now))
-            (bits_of (indexed self.now)) false rank result }
+            (bits_of (indexed_words self.now)) false rank result }
     {
         match self {
             Index::Simple(_) => Answer::NotBuilt,

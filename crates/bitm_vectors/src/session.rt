@@ -2,10 +2,10 @@
 ghost use Rattle.std.specs.Prelude.{◌≡◌, ◌≤◌, vec_len, IfSome, option_map, Some};
 ghost use Rattle.std.specs.Box.{boxed_slice_items, boxed_slice_len};
 ghost use Rattle.bitm.specs.Bits.{bits_of};
-ghost use Rattle.bitm_vectors.specs.Index.{indexed, kind_of_index};
+ghost use Rattle.bitm_vectors.specs.Index.{indexed_words, kind_of_index};
 ghost use Rattle.bitm_vectors.specs.Request.{Request, Words, Build, Rank, Rank0, Select, Select0, Bits};
 ghost use Rattle.bitm_vectors.specs.Request.{request, request_of, IsWithinLimits};
-ghost use Rattle.bitm_vectors.specs.Session.{State, start, Step, changed_answer, changed};
+ghost use Rattle.bitm_vectors.specs.Session.{State, start, Step, changed_answer, with_bit};
 
 use crate::answer::Answer;
 use crate::command::{Command, Kind, parse};
@@ -31,7 +31,7 @@ impl Model for Session {
     } };
 
     ghost invariant = { λ s. (boxed_slice_len s.words ≤ 65536)
-        × IfSome s.index (λ index. indexed index ≡ boxed_slice_items s.words) };
+        × IfSome s.index (λ index. indexed_words index ≡ boxed_slice_items s.words) };
 }
 
 impl Session {
@@ -87,7 +87,7 @@ impl Session {
     #[tactic(auto, using(crate::proofs::lemmas::SessionLemmas::count_of_bits))]
     fn change(&mut self, place: u64, value: bool) -> Answer
         ensures answer { result ≡ changed_answer self.old place }
-        ensures state { self.new ≡ changed self.old place value }
+        ensures state { self.new ≡ with_bit self.old place value }
     {
         if place >= 64 * self.words.len() as u64 {
             return Answer::Absent;

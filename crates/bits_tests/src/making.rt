@@ -93,15 +93,15 @@ fn sizes_are_those_of_the_items(rt: HostRuntime) {
 }
 
 /// A copy by the bound alone.
-fn copied<V: CloneWords>(alloc: Global, value: &V) -> Result<V, AllocError> {
+fn copy_of<V: CloneWords>(alloc: Global, value: &V) -> Result<V, AllocError> {
     value.try_same(alloc)
 }
 
 #[test]
 fn copies_have_the_same_words(rt: HostRuntime) {
     let words = BoxedSlice::from_slice(rt.alloc(), &[13u64, 6]).expect(&rt, "memory is left");
-    let copy = copied(rt.alloc(), &words).expect(&rt, "memory is left");
-    let lent = copied(rt.alloc(), &words.as_slice()).expect(&rt, "no memory is taken");
+    let copy = copy_of(rt.alloc(), &words).expect(&rt, "memory is left");
+    let lent = copy_of(rt.alloc(), &words.as_slice()).expect(&rt, "no memory is taken");
     assert!(rt; copy.as_slice() == [13, 6].as_slice());
     assert!(rt; lent == [13, 6].as_slice());
 }
@@ -124,6 +124,6 @@ fn bits_to_store_is_how_many_binary_digits_there_are(rt: HostRuntime) {
         (u64::MAX, 64),
     ];
     for (value, width) in rows {
-        assert_eq!(rt; bits_to_store(value), width, "at {value}");
+        assert!(rt; bits_to_store(value) == width);
     }
 }

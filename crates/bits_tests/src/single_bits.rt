@@ -7,7 +7,7 @@ use bitm_bits::{BitAccess, BitAccessMut, ceiling_div, n_lowest_bits};
 #[test]
 fn ceiling_div_rounds_up(rt: HostRuntime) {
     for (n, quotient) in [(7, 4), (8, 4), (9, 5)] {
-        assert_eq!(rt; ceiling_div(n, 2), quotient, "at {n}");
+        assert!(rt; ceiling_div(n, 2) == quotient);
     }
     assert!(rt; ceiling_div(10, 3) == 4);
 }

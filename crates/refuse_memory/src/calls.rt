@@ -1,7 +1,7 @@
 //! Each call that takes memory, under the name of its line.
 use crate::outcome::Outcome;
 use crate::packed::{Listed, Samples};
-use crate::{packed, sequences, simple, words};
+use crate::{numbers, packed, sequences, simple, trees, words};
 use bitm::BinaryRankSearch;
 use std::alloc::Global;
 
@@ -37,11 +37,20 @@ pub enum Call {
     SequenceBuilt,
     SequenceClone,
     SequencesShared,
+    MatrixBuilt,
+    MatrixStarts,
+    MatrixClone,
+    MatrixShared,
+    HashBuilt,
+    HashClone,
+    DictionaryBuilt,
+    TreeBuilt,
+    TreeClone,
     PackedUncopied,
 }
 
 /// Each call once, in the order in which they are made.
-pub fn all() -> [Call; 30] {
+pub fn all() -> [Call; 39] {
     [
         Call::Segments,
         Call::ZeroedSegments,
@@ -72,6 +81,15 @@ pub fn all() -> [Call; 30] {
         Call::SequenceBuilt,
         Call::SequenceClone,
         Call::SequencesShared,
+        Call::MatrixBuilt,
+        Call::MatrixStarts,
+        Call::MatrixClone,
+        Call::MatrixShared,
+        Call::HashBuilt,
+        Call::HashClone,
+        Call::DictionaryBuilt,
+        Call::TreeBuilt,
+        Call::TreeClone,
         Call::PackedUncopied,
     ]
 }
@@ -98,6 +116,22 @@ impl Call {
             Call::SequenceBuilt => "sequence-build",
             Call::SequenceClone => "sequence-try-clone",
             Call::SequencesShared => "sequences-common",
+            _ => self.name_of_numbers(),
+        }
+    }
+
+    /// The word of a call of a matrix, of a perfect hash, of a dictionary or of a tree.
+    fn name_of_numbers(self) -> &'static str {
+        match self {
+            Call::MatrixBuilt => "matrix-build",
+            Call::MatrixStarts => "matrix-build-with-starts",
+            Call::MatrixClone => "matrix-try-clone",
+            Call::MatrixShared => "matrix-intersect",
+            Call::HashBuilt => "hash-build",
+            Call::HashClone => "hash-try-clone",
+            Call::DictionaryBuilt => "dictionary-build",
+            Call::TreeBuilt => "tree-build",
+            Call::TreeClone => "tree-try-clone",
             _ => self.name_of_packed(),
         }
     }
@@ -141,6 +175,22 @@ impl Call {
             Call::SequenceBuilt => sequences::built(alloc),
             Call::SequenceClone => sequences::cloned(alloc),
             Call::SequencesShared => sequences::shared(alloc),
+            _ => self.run_numbers(alloc),
+        }
+    }
+
+    /// Makes the call of a matrix, of a perfect hash, of a dictionary or of a tree.
+    fn run_numbers(self, alloc: Global) -> Outcome {
+        match self {
+            Call::MatrixBuilt => numbers::matrix_built(alloc),
+            Call::MatrixStarts => numbers::starts_kept(alloc),
+            Call::MatrixClone => numbers::matrix_cloned(alloc),
+            Call::MatrixShared => numbers::matrix_shared(alloc),
+            Call::HashBuilt => numbers::hash_built(alloc),
+            Call::HashClone => numbers::hash_cloned(alloc),
+            Call::DictionaryBuilt => numbers::dictionary_built(alloc),
+            Call::TreeBuilt => trees::built(alloc),
+            Call::TreeClone => trees::cloned(alloc),
             _ => self.run_packed(alloc),
         }
     }

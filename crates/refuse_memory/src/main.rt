@@ -7,10 +7,12 @@
 #![tactic(auto)]
 
 mod calls;
+mod numbers;
 mod outcome;
 mod packed;
 mod sequences;
 mod simple;
+mod trees;
 mod uncopied;
 mod words;
 

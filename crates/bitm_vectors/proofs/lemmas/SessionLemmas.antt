@@ -10,7 +10,7 @@ use Rattle.bitm.proofs.Callers.{length-bits_of, bits_of-nil}
 use Rattle.bitm.specs.Bits.{bits_of}
 use Rattle.bitm_vectors.specs.Answer.{answer_text, text_of, is_good}
 use Rattle.bitm_vectors.specs.Request.{request_of}
-use Rattle.bitm_vectors.specs.Session.{State, start, Step, Answers, Wrote, WroteAnswer, changed}
+use Rattle.bitm_vectors.specs.Session.{State, start, Step, Answers, Wrote, WroteAnswer, with_bit}
 use Rattle.bitm_vectors.specs.declared.answer.Answer.{Answer}
 
 chosen : (b : Bool) → b ≡ true → (x y z : State) → z ≡ x → z ≡ cond b x y
@@ -21,7 +21,7 @@ and_true : (b : Bool) → (b && true) ≡ b
 and_true true = refl
 and_true false = refl
 
-pub changed_inside : (s : State) (place : ℕ) (bit : Bool) (bits : List Bool) → place < length s.bits → bits ≡ set s.bits place bit → record { bits = bits; built = None } ≡ changed s place bit
+pub changed_inside : (s : State) (place : ℕ) (bit : Bool) (bits : List Bool) → place < length s.bits → bits ≡ set s.bits place bit → record { bits = bits; built = None } ≡ with_bit s place bit
 changed_inside s place bit bits h e = chosen (nat_lt place (length s.bits)) (grind (arith, nat_tests)) _ s _ (ap (λ (l : List Bool). record { bits = l; built = None }) e)
 
 answers_more : (s mid t : State) (lines : List (List ℕ)) (answers : List Answer) (line : List ℕ) (answer : Answer) → Answers s lines answers mid

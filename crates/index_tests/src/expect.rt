@@ -8,6 +8,7 @@ use std::alloc::{AllocError, Global};
 use std::boxed::BoxedSlice;
 use std::convert::AsSlice;
 use std::process::Abort;
+use std::test::Fail;
 
 /// Selection by samples, as the tests use it.
 pub type Sampled = CombinedSampling<AdaptiveCombinedSamplingDensity<13>>;
@@ -54,7 +55,7 @@ pub fn words_of(alloc: Global, runs: &[(u64, usize)]) -> Result<Vec<u64>, AllocE
 }
 
 /// An index over the words, which are lent, and the number of ones.
-pub fn indexed<'a, S: SelectForRank101111, S0: Select0ForRank101111>(
+pub fn index_over<'a, S: SelectForRank101111, S0: Select0ForRank101111>(
     rt: &impl Abort,
     alloc: Global,
     words: &'a [u64],
@@ -83,8 +84,8 @@ pub fn owned(
 /// Compares the calls of rank at one place with the ones before it.
 pub fn expect_rank<I: Rank>(rt: &impl Abort, index: &I, place: usize, ones: Option<usize>) {
     let zeros = ones.map(|count| place.wrapping_sub(count));
-    assert_eq!(rt; index.try_rank(place), ones, "ones before {place}");
-    assert_eq!(rt; index.try_rank0(place), zeros, "zeros before {place}");
+    assert!(rt; index.try_rank(place) == ones);
+    assert!(rt; index.try_rank0(place) == zeros);
     if index.try_rank(place).is_some() {
         let plain_forms = (index.rank(place), index.rank_unchecked(place));
         assert!(rt; (Some(plain_forms.0), Some(plain_forms.1)) == (ones, ones));
@@ -97,7 +98,7 @@ pub fn expect_rank<I: Rank>(rt: &impl Abort, index: &I, place: usize, ones: Opti
 #[tactic(auto, using(bitm::proofs::Callers::one_below))]
 pub fn expect_one<I: Select>(rt: &impl Abort, index: &I, rank: usize, place: Option<usize>) {
     let found = index.try_select(rank);
-    assert_eq!(rt; found, place, "the one of rank {rank}");
+    assert!(rt; found == place);
     if let Some(_) = found {
         let plain_forms = (index.select(rank), index.select_unchecked(rank));
         assert!(rt; (Some(plain_forms.0), Some(plain_forms.1)) == (place, place));
@@ -108,7 +109,7 @@ pub fn expect_one<I: Select>(rt: &impl Abort, index: &I, rank: usize, place: Opt
 #[tactic(auto, using(bitm::proofs::Callers::zero_below))]
 pub fn expect_zero<I: Select0>(rt: &impl Abort, index: &I, rank: usize, place: Option<usize>) {
     let found = index.try_select0(rank);
-    assert_eq!(rt; found, place, "the zero of rank {rank}");
+    assert!(rt; found == place);
     if let Some(_) = found {
         let plain_forms = (index.select0(rank), index.select0_unchecked(rank));
         assert!(rt; (Some(plain_forms.0), Some(plain_forms.1)) == (place, place));
@@ -131,7 +132,7 @@ pub fn expect_all<S: SelectForRank101111, S0: Select0ForRank101111>(
     words: &[u64],
 ) -> Result<(), AllocError> {
     let found = walk(rt, alloc, words)?;
-    let (index, total) = indexed::<S, S0>(rt, alloc, words);
+    let (index, total) = index_over::<S, S0>(rt, alloc, words);
     assert!(rt; total == found.ones.len());
     expect_found(rt, &index, &found);
     Ok(())
@@ -143,5 +144,34 @@ pub fn expect_all_owned(rt: &impl Abort, alloc: Global, words: &[u64]) -> Result
     let (index, total) = owned(rt, alloc, words)?;
     assert!(rt; total == found.ones.len());
     expect_found(rt, &index, &found);
+    Ok(())
+}
+
+/// Compares all answers over so many words: all zeros, all ones, and with the last bit alone set.
+fn expect_forms<S: SelectForRank101111, S0: Select0ForRank101111>(
+    rt: &impl Abort,
+    alloc: Global,
+    len: usize,
+) -> Result<(), Fail> {
+    let zeros = vec![in alloc; 0; len]?;
+    expect_all::<S, S0>(rt, alloc, zeros.as_slice())?;
+    let ones = vec![in alloc; u64::MAX; len]?;
+    expect_all::<S, S0>(rt, alloc, ones.as_slice())?;
+    let mut last = zeros;
+    if let Some(word) = last.last_mut() {
+        *word = 1 << 63;
+    }
+    expect_all::<S, S0>(rt, alloc, last.as_slice())?;
+    Ok(())
+}
+
+/// Compares all answers over each of these forms, of no words up to 60.
+pub fn expect_borders<S: SelectForRank101111, S0: Select0ForRank101111>(
+    rt: &impl Abort,
+    alloc: Global,
+) -> Result<(), Fail> {
+    for len in [0, 1, 9, 32, 33, 60] {
+        expect_forms::<S, S0>(rt, alloc, len)?;
+    }
     Ok(())
 }

@@ -1,5 +1,5 @@
 //! Selection by samples: how many are kept, and what the index selects by them, worked out by hand.
-use crate::expect::{Sampled, expect_one, expect_zero, indexed};
+use crate::expect::{Sampled, expect_one, expect_zero, index_over};
 use bitm::{
     BinaryRankSearch, BitVec, CombinedSampling, ConstCombinedSamplingDensity, RankSelect101111,
 };
@@ -15,7 +15,7 @@ type Each<const LOG: u8> = CombinedSampling<ConstCombinedSamplingDensity<LOG>>;
 #[test]
 fn full_words_keep_one_sample_of_ones_and_none_of_zeros(rt: HostRuntime) {
     let words = [u64::MAX; 35];
-    let (index, _) = indexed::<Sampled, Sampled>(&rt, rt.alloc(), words.as_slice());
+    let (index, _) = index_over::<Sampled, Sampled>(&rt, rt.alloc(), words.as_slice());
     let entries = [0x8020_0600_0000_0000, 0x3006_00C0_0000_0800];
     assert!(rt; index.l2ranks() == entries.as_slice());
     let (ones, zeros) = (index.select_support(), index.select0_support());
@@ -27,7 +27,7 @@ fn full_words_keep_one_sample_of_ones_and_none_of_zeros(rt: HostRuntime) {
 #[test]
 fn a_sample_for_each_128_zeros_is_17_in_33_empty_words(rt: HostRuntime) {
     let words = [0; 33];
-    let (index, _) = indexed::<BinaryRankSearch, Each<7>>(&rt, rt.alloc(), words.as_slice());
+    let (index, _) = index_over::<BinaryRankSearch, Each<7>>(&rt, rt.alloc(), words.as_slice());
     let entries = [0, 0, 0, 0, 0, 0, 0, 0, 0, 0, 0, 0, 0, 0, 0, 0, 1];
     assert!(rt; index.select0_support().samples() == entries.as_slice());
     assert!(rt; index.select0_support().sample_count() == 17);
@@ -37,7 +37,7 @@ fn a_sample_for_each_128_zeros_is_17_in_33_empty_words(rt: HostRuntime) {
 #[test]
 fn a_logarithm_below_seven_keeps_the_samples_of_seven(rt: HostRuntime) {
     let words = [0; 33];
-    let (index, _) = indexed::<BinaryRankSearch, Each<3>>(&rt, rt.alloc(), words.as_slice());
+    let (index, _) = index_over::<BinaryRankSearch, Each<3>>(&rt, rt.alloc(), words.as_slice());
     assert!(rt; index.select0_support().sample_count() == 17);
     expect_zero(&rt, &index, 2048, Some(2048));
 }

@@ -1,7 +1,7 @@
 //! Rank and selection over small contents, lent and owned, by each strategy. The rows are worked out by hand, so that
 //! they test the definitions of rank and selection; every other place and rank is compared with a walk over the bits.
 use crate::expect::{
-    Sampled, expect_all, expect_all_owned, expect_one, expect_rank, expect_zero, indexed, owned,
+    Sampled, expect_all, expect_all_owned, expect_one, expect_rank, expect_zero, index_over, owned,
 };
 use bitm::{BinaryRankSearch, Rank, Select, Select0, Select0ForRank101111, SelectForRank101111};
 use std::alloc::Global;
@@ -153,7 +153,7 @@ fn expect_lent<S: SelectForRank101111, S0: Select0ForRank101111>(
     alloc: Global,
     case: &Case<'_>,
 ) -> Result<(), Fail> {
-    let (index, _) = indexed::<S, S0>(rt, alloc, case.words);
+    let (index, _) = index_over::<S, S0>(rt, alloc, case.words);
     expect_rows(rt, &index, case);
     expect_all::<S, S0>(rt, alloc, case.words)?;
     Ok(())

@@ -16,7 +16,7 @@ fn expect_rows(rt: &impl Abort, greatest: u8, rows: &[Row])
 {
     for (items, len, log) in rows {
         let found = optimal_combined_sampling(*items, *len, greatest);
-        assert_eq!(rt; found, *log, "{items} of {len}");
+        assert!(rt; found == *log);
     }
 }
 

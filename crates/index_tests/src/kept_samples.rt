@@ -12,7 +12,7 @@ use std::process::Abort;
 type Index<'a, D> = RankSelect101111<CombinedSampling<D>, CombinedSampling<D>, &'a [u64]>;
 
 /// An index over the words.
-fn indexed<'a, D: CombinedSamplingDensity>(
+fn index_over<'a, D: CombinedSamplingDensity>(
     rt: &impl Abort,
     alloc: Global,
     words: &'a [u64],
@@ -32,7 +32,11 @@ fn full_ends(alloc: Global) -> Result<Vec<u64>, AllocError> {
 #[test]
 fn an_adaptive_density_is_sparse_where_items_are_many(rt: HostRuntime) -> Result<(), AllocError> {
     let words = full_ends(rt.alloc())?;
-    let index = indexed::<AdaptiveCombinedSamplingDensity<13>>(&rt, rt.alloc(), words.as_slice());
+    let index = index_over::<AdaptiveCombinedSamplingDensity<13>>(
+        &rt,
+        rt.alloc(),
+        words.as_slice(),
+    );
     let ones = [0xFFE0_0000];
     let kept = index.select_support();
     assert!(rt; kept.samples() == ones.as_slice());
@@ -51,7 +55,7 @@ fn an_adaptive_density_is_sparse_where_items_are_many(rt: HostRuntime) -> Result
 #[test]
 fn a_sample_has_the_distance_to_its_middle_item(rt: HostRuntime) -> Result<(), AllocError> {
     let words = words_of(rt.alloc(), &[(u64::MAX, 1), (0, 62), (u64::MAX, 1)])?;
-    let index = indexed::<ConstCombinedSamplingDensity<7>>(&rt, rt.alloc(), words.as_slice());
+    let index = index_over::<ConstCombinedSamplingDensity<7>>(&rt, rt.alloc(), words.as_slice());
     let ones = [0x0020_0000];
     assert!(rt; index.select_support().samples() == ones.as_slice());
     Ok(())
@@ -89,7 +93,7 @@ fn expect_walked<D: CombinedSamplingDensity>(
     alloc: Global,
     words: &[u64],
 ) -> Result<(), AllocError> {
-    let index = indexed::<D>(rt, alloc, words);
+    let index = index_over::<D>(rt, alloc, words);
     let kept = index.select_support();
     let ones = walked(alloc, words, true, kept.items_per_sample_log2())?;
     assert!(rt; kept.samples() == ones.as_slice());

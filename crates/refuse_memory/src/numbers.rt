@@ -1,0 +1,129 @@
+//! The calls of a matrix, of a perfect hash and of a dictionary that take memory.
+use crate::outcome::{Outcome, answered, refused};
+use bitm::ArrayWithRank101111;
+use perfect_hash::{BuildError, Dictionary, PerfectHash, Seeded, build};
+use std::alloc::{AllocError, Global};
+use wavelet_matrix::BinaryWaveletMatrix;
+
+const NUMBERS: [u64; 6] = [3, 1, 4, 1, 5, 1];
+
+const KEYS: [u64; 8] = [3, 1, 4, 15, 9, 26, 5, 35];
+
+type Numbered = PerfectHash<Seeded, ArrayWithRank101111>;
+
+/// Whether a matrix of `NUMBERS` answers as it has to.
+fn is_right(matrix: &BinaryWaveletMatrix) -> bool {
+    matrix.try_get(2) == Some(4)
+        && matrix.try_get(6) == None
+        && matrix.try_rank(1, 4) == Some(2)
+        && matrix.try_select(1, 2) == Some(5)
+        && matrix.try_select(1, 3) == None
+}
+
+/// A matrix of `NUMBERS`.
+fn matrix(alloc: Global) -> Result<BinaryWaveletMatrix, AllocError> {
+    BinaryWaveletMatrix::build(alloc, NUMBERS.as_slice(), 3)
+}
+
+/// A matrix.
+pub fn matrix_built(alloc: Global) -> Outcome {
+    let numbers = NUMBERS;
+    match BinaryWaveletMatrix::build(alloc, numbers.as_slice(), 3) {
+        Ok(made) => answered(is_right(&made)),
+        Err(AllocError) => refused(numbers.as_slice() == NUMBERS.as_slice()),
+    }
+}
+
+/// A matrix that keeps where each number starts: of 2000 ones of one digit.
+pub fn starts_kept(alloc: Global) -> Outcome {
+    let numbers = [1u64; 2000];
+    match BinaryWaveletMatrix::build(alloc, numbers.as_slice(), 1) {
+        Ok(made) => {
+            let (levels, _probe) = made.parts();
+            answered(levels.starts() == 2 && made.try_rank(1, 1700) == Some(1700))
+        }
+        Err(AllocError) => refused(numbers.as_slice() == [1u64; 2000].as_slice()),
+    }
+}
+
+/// A clone of one.
+pub fn matrix_cloned(alloc: Global) -> Outcome {
+    let Ok(made) = matrix(alloc) else {
+        return Outcome::Unready;
+    };
+    match made.try_clone(alloc) {
+        Ok(copy) => answered(is_right(&copy) && is_right(&made)),
+        Err(_) => refused(is_right(&made)),
+    }
+}
+
+/// The numbers that two ranges of one share.
+pub fn matrix_shared(alloc: Global) -> Outcome {
+    let Ok(made) = matrix(alloc) else {
+        return Outcome::Unready;
+    };
+    if made.len() != 6 {
+        return Outcome::Wrong;
+    }
+    match made.intersect(alloc, 0..3, 1..6) {
+        Ok(found) => answered(found.as_slice() == [1u64, 4].as_slice()),
+        Err(_) => refused(is_right(&made)),
+    }
+}
+
+/// Whether a perfect hash of `KEYS` gives each of them a number of its own below their count.
+fn numbers_each(made: &Numbered) -> bool {
+    let keys = KEYS;
+    let mut seen = [false; 8];
+    for key in keys.as_slice() {
+        let Some(number) = made.get(key) else {
+            return false;
+        };
+        if number >= 8 || seen[number] {
+            return false;
+        }
+        seen[number] = true;
+    }
+    true
+}
+
+/// A perfect hash. Its hasher comes back.
+pub fn hash_built(alloc: Global) -> Outcome {
+    let keys = KEYS;
+    match build(alloc, Seeded { seed: 1 }, keys.as_slice(), 100) {
+        Ok(made) => answered(numbers_each(&made)),
+        Err(it) => {
+            if it.error == BuildError::OutOfMemory {
+                refused(it.hasher.seed == 1 && keys.as_slice() == KEYS.as_slice())
+            } else {
+                Outcome::Wrong
+            }
+        }
+    }
+}
+
+/// A clone of one.
+pub fn hash_cloned(alloc: Global) -> Outcome {
+    let Ok(made) = build(alloc, Seeded { seed: 1 }, KEYS.as_slice(), 100) else {
+        return Outcome::Unready;
+    };
+    match made.try_clone(alloc) {
+        Ok(copy) => answered(numbers_each(&copy) && numbers_each(&made)),
+        Err(_) => refused(numbers_each(&made)),
+    }
+}
+
+/// A dictionary. Its perfect hash comes back.
+pub fn dictionary_built(alloc: Global) -> Outcome {
+    let keys = KEYS;
+    let Ok(made) = build(alloc, Seeded { seed: 1 }, keys.as_slice(), 100) else {
+        return Outcome::Unready;
+    };
+    match Dictionary::build(alloc, made, keys.as_slice(), 32) {
+        Ok(found) => {
+            let all = keys.as_slice().iter().all(|key| found.get(key).is_some());
+            answered(all && numbers_each(found.numbers()))
+        }
+        Err(back) => refused(numbers_each(&back)),
+    }
+}

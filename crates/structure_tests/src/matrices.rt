@@ -1,0 +1,112 @@
+//! Answers of a wavelet matrix worked by hand, and compared with plain loops over the numbers.
+use std::alloc::Global;
+use std::process::Abort;
+use std::test::Fail;
+use wavelet_matrix::{BinaryWaveletMatrix, all_fit};
+
+/// Some numbers below 2^width, which repeat.
+fn draw(alloc: Global, len: usize, width: u8) -> Result<Vec<u64>, Fail> {
+    let mut made = Vec::new(alloc);
+    let mut state: u64 = 88172645463325252;
+    for _ in 0..len {
+        state ^= state << 13;
+        state ^= state >> 7;
+        state ^= state << 17;
+        let number = if width == 64 {
+            state
+        } else {
+            state & ((1u64 << (width % 64)) - 1)
+        };
+        made.push(number)?;
+    }
+    Ok(made)
+}
+
+/// Compares access, ranks and selections with a walk over the numbers.
+fn expect_each(rt: &impl Abort, matrix: &BinaryWaveletMatrix, list: &[u64]) {
+    assert!(rt; matrix.len() == list.len());
+    for i in 0..list.len() {
+        assert!(rt; matrix.try_get(i) == Some(list[i]));
+        let number = list[i];
+        let mut before = 0usize;
+        for k in 0..i {
+            if list[k] == number {
+                before = before.wrapping_add(1);
+            }
+        }
+        assert!(rt; matrix.try_rank(number, i) == Some(before));
+        assert!(rt; matrix.try_select(number, before) == Some(i));
+    }
+    assert!(rt; matrix.try_get(list.len()) == None);
+}
+
+/// Compares what is asked of ranges with a walk over each.
+fn expect_ranges(rt: &impl Abort, matrix: &BinaryWaveletMatrix, list: &[u64], bound: u64) {
+    assert!(rt; matrix.len() == list.len());
+    for start in 0..list.len() {
+        for end in start..list.len() {
+            let mut less = 0usize;
+            let mut next: Option<u64> = None;
+            let mut previous: Option<u64> = None;
+            for x in &list[start..end] {
+                if *x < bound {
+                    less = less.wrapping_add(1);
+                    previous = Some(previous.map_or(*x, |y| (*x).max(y)));
+                } else {
+                    next = Some(next.map_or(*x, |y| (*x).min(y)));
+                }
+            }
+            assert!(rt; matrix.count_less(start..end, bound) == less);
+            assert!(rt; matrix.next_value(start..end, bound) == next);
+            assert!(rt; matrix.previous_value(start..end, bound) == previous);
+        }
+    }
+}
+
+fn check(rt: &impl Abort, alloc: Global, len: usize, width: u8) -> Result<(), Fail> {
+    let list = draw(alloc, len, width)?;
+    let list = list.as_slice();
+    assert!(rt; 1 <= width && width <= 64 && list.len() < 1000);
+    assert!(rt; all_fit(list, width));
+    let matrix = BinaryWaveletMatrix::build(alloc, list, width)?;
+    expect_each(rt, &matrix, list);
+    for bound in 0..10 {
+        expect_ranges(rt, &matrix, list, bound);
+    }
+    Ok(())
+}
+
+#[test]
+fn numbers_of_one_three_and_all_digits_are_answered_as_a_walk_answers(
+    rt: HostRuntime,
+) -> Result<(), Fail> {
+    check(&rt, rt.alloc(), 100, 1)?;
+    check(&rt, rt.alloc(), 60, 3)?;
+    check(&rt, rt.alloc(), 40, 64)?;
+    check(&rt, rt.alloc(), 0, 5)
+}
+
+#[test]
+fn the_numbers_of_the_picture_are_answered_as_worked_out(rt: HostRuntime) -> Result<(), Fail> {
+    let list = [3u64, 1, 4, 1, 5, 1];
+    let matrix = BinaryWaveletMatrix::build(rt.alloc(), list.as_slice(), 3)?;
+    assert!(rt; matrix.len() == 6);
+    assert!(rt; matrix.try_get(2) == Some(4));
+    assert!(rt; matrix.try_rank(1, 4) == Some(2));
+    assert!(rt; matrix.try_select(1, 2) == Some(5));
+    assert!(rt; matrix.try_select(1, 3) == None);
+    assert!(rt; matrix.quantile(1..5, 2) == 4);
+    assert!(rt; matrix.next_value(0..6, 2) == Some(3));
+    assert!(rt; matrix.previous_value(0..6, 3) == Some(1));
+    assert!(rt; matrix.range_count(0..6, 2, 5) == 2);
+    let mut ranks = [9usize; 3];
+    matrix.rank_many(
+        [1u64, 4, 7].as_slice(),
+        [4usize, 6, 6].as_slice(),
+        ranks.as_mut_slice(),
+    );
+    assert!(rt; ranks.as_slice() == [2usize, 1, 0].as_slice());
+    let shared = matrix.intersect(rt.alloc(), 0..2, 3..6)?;
+    assert!(rt; shared.as_slice() == [1].as_slice());
+    Ok(())
+}
