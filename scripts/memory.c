@@ -3,8 +3,9 @@
 //     REFUSE=N      request N for memory is refused, the first being 1
 //     FAIL_READ=N   read N fails
 //     FAIL_WRITE=N  write N fails
-//     COUNTS=FILE   at the end of the program FILE is made, with a line 'REQUESTS BLOCKS READS WRITES': how many
-//                   requests, reads and writes there were, and how many blocks of memory were not given back
+//     COUNTS=FILE   at the end of the program FILE is made, with a line 'REQUESTS BLOCKS READS WRITES SHRINKS': how many
+//                   requests, reads and writes there were, how many blocks of memory were not given back, and how
+//                   many of the refused requests were for less than the block had
 //
 // It is built without headers and libraries, so that the toolchain's own compiler suffices. `rt try --fail-alloc N` would
 // build the program anew for each N and count no blocks.
@@ -17,12 +18,13 @@ extern void __libc_free(void *);
 extern long syscall(long, ...);
 extern char *getenv(const char *);
 extern int atoi(const char *);
+extern size malloc_usable_size(void *);
 extern int dprintf(int, const char *, ...);
 extern int *__errno_location(void);
 
 enum { READ = 0, WRITE = 1, OPEN = 2, WRITE_ANEW = 01101, ANYONE = 0666, IO_ERROR = 5, NO_MEMORY = 12 };
 
-static long requests, blocks, reads, writes, refuse, fail_read, fail_write;
+static long requests, blocks, reads, writes, shrinks, refuse, fail_read, fail_write;
 
 static long number(const char *name) {
     const char *text = getenv(name);
@@ -43,7 +45,7 @@ __attribute__((destructor)) static void end(void) {
     if (!file) return;
     fail_write = 0;
     int to = syscall(OPEN, file, WRITE_ANEW, ANYONE);
-    dprintf(to, "%ld %ld %ld %ld\n", all_requests, all_blocks, all_reads, all_writes);
+    dprintf(to, "%ld %ld %ld %ld %ld\n", all_requests, all_blocks, all_reads, all_writes, shrinks);
 }
 
 static int is_refused(void) {
@@ -68,7 +70,10 @@ void *calloc(size items, size bytes) {
 }
 
 void *realloc(void *old, size bytes) {
-    if (is_refused()) return 0;
+    if (is_refused()) {
+        shrinks += old && bytes <= malloc_usable_size(old);
+        return 0;
+    }
     void *block = __libc_realloc(old, bytes);
     if (block && !old) blocks++;
     if (!block && old && !bytes) blocks--;
