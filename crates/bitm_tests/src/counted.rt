@@ -7,7 +7,8 @@ use bitm::{
     BinaryRankSearch, RankSelect101111, Select0ForRank101111, SelectForRank101111,
     binary_select_on, rank_on,
 };
-use index_tests::expect::{Sampled, index_over};
+use index_tests::walk::{Sampled, index_over};
+use std::alloc::AllocError;
 use std::process::Abort;
 use uses::counted::{rank_with_reads, select_with_reads};
 
@@ -63,25 +64,26 @@ fn expect_zeros<F: Fn(usize) -> Option<usize>>(rt: &impl Abort, select: F)
 }
 
 #[test]
-fn counted_selection_by_binary_search_gives_the_places(rt: HostRuntime) {
+fn counted_selection_by_binary_search_gives_the_places(rt: HostRuntime) -> Result<(), AllocError> {
     let words = WORDS;
     let (index, _) = index_over::<BinaryRankSearch, BinaryRankSearch>(
-        &rt,
         rt.alloc(),
         words.as_slice(),
-    );
+    )?;
     let (ones, zeros) = (index.select_support(), index.select0_support());
     expect_ones(&rt, |rank| ones.select_counted(&mut index.probe(), rank));
     expect_zeros(&rt, |rank| zeros.select0_counted(&mut index.probe(), rank));
+    Ok(())
 }
 
 #[test]
-fn counted_selection_by_samples_gives_the_places(rt: HostRuntime) {
+fn counted_selection_by_samples_gives_the_places(rt: HostRuntime) -> Result<(), AllocError> {
     let words = WORDS;
-    let (index, _) = index_over::<Sampled, Sampled>(&rt, rt.alloc(), words.as_slice());
+    let (index, _) = index_over::<Sampled, Sampled>(rt.alloc(), words.as_slice())?;
     let (ones, zeros) = (index.select_support(), index.select0_support());
     expect_ones(&rt, |rank| ones.select_counted(&mut index.probe(), rank));
     expect_zeros(&rt, |rank| zeros.select0_counted(&mut index.probe(), rank));
+    Ok(())
 }
 
 /// Compares binary search over an index's probe, for ones and for zeros, with the places worked out.
@@ -100,12 +102,15 @@ fn expect_over_probe<S: SelectForRank101111, S0: Select0ForRank101111>(
 }
 
 #[test]
-fn binary_search_over_the_probe_of_sampled_ones_or_zeros_gives_the_places(rt: HostRuntime) {
+fn binary_search_over_the_probe_of_sampled_ones_or_zeros_gives_the_places(
+    rt: HostRuntime,
+) -> Result<(), AllocError> {
     let words = WORDS;
-    let (index, _) = index_over::<Sampled, BinaryRankSearch>(&rt, rt.alloc(), words.as_slice());
+    let (index, _) = index_over::<Sampled, BinaryRankSearch>(rt.alloc(), words.as_slice())?;
     expect_over_probe(&rt, &index);
-    let (index, _) = index_over::<BinaryRankSearch, Sampled>(&rt, rt.alloc(), words.as_slice());
+    let (index, _) = index_over::<BinaryRankSearch, Sampled>(rt.alloc(), words.as_slice())?;
     expect_over_probe(&rt, &index);
+    Ok(())
 }
 
 /// Places in a word, each with the ones before it.
@@ -124,13 +129,12 @@ fn ranks_of(word: usize) -> [(usize, usize); 6]
 }
 
 #[test]
-fn counted_ranks_of_each_word_are_three_ones_more(rt: HostRuntime) {
+fn counted_ranks_of_each_word_are_three_ones_more(rt: HostRuntime) -> Result<(), AllocError> {
     let words = WORDS;
     let (index, _) = index_over::<BinaryRankSearch, BinaryRankSearch>(
-        &rt,
         rt.alloc(),
         words.as_slice(),
-    );
+    )?;
     for word in 0..60usize {
         for (place, ones) in ranks_of(word) {
             assert!(rt; rank_on(&mut index.probe(), place) == Some(ones));
@@ -139,16 +143,16 @@ fn counted_ranks_of_each_word_are_three_ones_more(rt: HostRuntime) {
     assert!(rt; rank_on(&mut index.probe(), 3840) == Some(180));
     assert!(rt; rank_on(&mut index.probe(), 3841) == None);
     assert!(rt; rank_on(&mut index.probe(), usize::MAX) == None);
+    Ok(())
 }
 
 #[test]
-fn answers_with_their_reads_are_the_places_and_ranks(rt: HostRuntime) {
+fn answers_with_their_reads_are_the_places_and_ranks(rt: HostRuntime) -> Result<(), AllocError> {
     let words = WORDS;
     let (index, _) = index_over::<BinaryRankSearch, BinaryRankSearch>(
-        &rt,
         rt.alloc(),
         words.as_slice(),
-    );
+    )?;
     for word in 0..60usize {
         for (rank, place) in ones_of(word) {
             let (found, _reads) = select_with_reads(&index, rank);
@@ -159,4 +163,5 @@ fn answers_with_their_reads_are_the_places_and_ranks(rt: HostRuntime) {
     }
     assert!(rt; select_with_reads(&index, 180).0 == None);
     assert!(rt; rank_with_reads(&index, 3841).0 == None);
+    Ok(())
 }

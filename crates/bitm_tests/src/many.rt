@@ -3,7 +3,7 @@
 //! before place p are p / 64, rounded up; of empty words before full ones, the one of rank r is r after the empty ones,
 //! and the zero of rank r is at r. Full words at the end mislead a guess.
 use bitm::RankSelect101111;
-use index_tests::expect::{Sampled, index_over, words_of};
+use index_tests::walk::{Sampled, index_over, words_of};
 use std::alloc::{AllocError, Global};
 use std::process::Abort;
 use uses::many::{try_rank_many, try_select_many, try_select0_many};
@@ -74,7 +74,7 @@ fn many_queries_of_the_lowest_bit_of_each_word_are_answered(
 ) -> Result<(), AllocError> {
     for len in [3, 140_000usize] {
         let words = words_of(rt.alloc(), &[(1, len)])?;
-        let (index, _) = index_over::<Sampled, Sampled>(&rt, rt.alloc(), words.as_slice());
+        let (index, _) = index_over::<Sampled, Sampled>(rt.alloc(), words.as_slice())?;
         let (bits, zeros) = (len.wrapping_mul(64), len.wrapping_mul(63));
         let (alloc, ask) = (rt.alloc(), &index);
         expect_each(
@@ -104,7 +104,7 @@ fn many_queries_of_full_words_behind_empty_ones_are_answered(
 ) -> Result<(), AllocError> {
     for (empty, full) in [(2usize, 1usize), (20_000, 500), (139_000, 1_000)] {
         let words = words_of(rt.alloc(), &[(0, empty), (u64::MAX, full)])?;
-        let (index, _) = index_over::<Sampled, Sampled>(&rt, rt.alloc(), words.as_slice());
+        let (index, _) = index_over::<Sampled, Sampled>(rt.alloc(), words.as_slice())?;
         let (zeros, ones) = (empty.wrapping_mul(64), full.wrapping_mul(64));
         let limit = zeros.wrapping_add(ones).wrapping_add(1);
         let (alloc, ask) = (rt.alloc(), &index);

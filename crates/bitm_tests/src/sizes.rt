@@ -3,7 +3,7 @@ use bitm::{
     ArrayWithRank101111, ArrayWithRankSimple, BinaryRankSearch, BitVec, GetSize, RankSelect101111,
 };
 use elias_fano::EliasFano;
-use index_tests::expect::Sampled;
+use index_tests::walk::Sampled;
 use std::boxed::BoxedSlice;
 use std::convert::AsSlice;
 use std::process::Abort;

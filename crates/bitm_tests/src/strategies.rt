@@ -3,7 +3,7 @@
 use bitm::{
     BinaryRankSearch, CombinedSampling, Select, Select0, Select0ForRank101111, SelectForRank101111,
 };
-use index_tests::expect::{Sampled, expect_all, expect_borders, index_over};
+use index_tests::walk::{Sampled, all_agree, borders_agree, index_over};
 use std::alloc::Global;
 use std::process::Abort;
 use std::test::Fail;
@@ -17,11 +17,12 @@ fn expect_contents<S: SelectForRank101111, S0: Select0ForRank101111>(
     rt: &impl Abort,
     alloc: Global,
 ) -> Result<(), Fail> {
-    expect_all::<S, S0>(rt, alloc, &[])?;
-    expect_all::<S, S0>(rt, alloc, [u64::MAX; 35].as_slice())?;
-    expect_all::<S, S0>(rt, alloc, [0b1101, 0b110].as_slice())?;
-    expect_all::<S, S0>(rt, alloc, [0b1101; 60].as_slice())?;
-    expect_borders::<S, S0>(rt, alloc)
+    assert!(rt; all_agree::<S, S0>(alloc, &[])?);
+    assert!(rt; all_agree::<S, S0>(alloc, [u64::MAX; 35].as_slice())?);
+    assert!(rt; all_agree::<S, S0>(alloc, [0b1101, 0b110].as_slice())?);
+    assert!(rt; all_agree::<S, S0>(alloc, [0b1101; 60].as_slice())?);
+    assert!(rt; borders_agree::<S, S0>(alloc)?);
+    Ok(())
 }
 
 #[test]
@@ -46,17 +47,18 @@ fn an_index_selects_by_a_guard_round_samples(rt: HostRuntime) -> Result<(), Fail
 
 #[test]
 fn an_index_selects_by_samples_of_a_density_by_the_length(rt: HostRuntime) -> Result<(), Fail> {
-    expect_borders::<CombinedSampling<ByLength>, CombinedSampling<ByLength>>(&rt, rt.alloc())
+    type ByTheLength = CombinedSampling<ByLength>;
+    assert!(rt; borders_agree::<ByTheLength, ByTheLength>(rt.alloc())?);
+    Ok(())
 }
 
 #[test]
-fn an_index_asks_the_strategy_of_its_kind_once_a_call(rt: HostRuntime) {
+fn an_index_asks_the_strategy_of_its_kind_once_a_call(rt: HostRuntime) -> Result<(), Fail> {
     let words = [0b1101, 0b110];
     let (index, _) = index_over::<Guarded<BinaryRankSearch>, Guarded<Sampled>>(
-        &rt,
         rt.alloc(),
         words.as_slice(),
-    );
+    )?;
     for (rank, place, rank0, place0) in [(0, 0, 0, 1), (2, 3, 60, 63), (4, 66, 61, 64)] {
         let found = (index.try_select(rank), index.try_select0(rank0));
         assert!(rt; found == (Some(place), Some(place0)));
@@ -67,4 +69,5 @@ fn an_index_asks_the_strategy_of_its_kind_once_a_call(rt: HostRuntime) {
         index.select0_support().calls(),
     );
     assert!(rt; calls == (4, 3));
+    Ok(())
 }

@@ -1,7 +1,7 @@
 //! Rank and selection over small contents, lent and owned, by each strategy. The rows are worked out by hand, so that
 //! they test the definitions of rank and selection; every other place and rank is compared with a walk over the bits.
-use crate::expect::{
-    Sampled, expect_all, expect_all_owned, expect_one, expect_rank, expect_zero, index_over, owned,
+use crate::walk::{
+    Sampled, all_agree, all_agree_owned, index_over, one_agrees, owned, rank_agrees, zero_agrees,
 };
 use bitm::{BinaryRankSearch, Rank, Select, Select0, Select0ForRank101111, SelectForRank101111};
 use std::alloc::Global;
@@ -137,13 +137,13 @@ const SIXTY_WORDS: Case<'static> = Case {
 /// Compares what an index answers with the rows.
 fn expect_rows<I: Rank + Select + Select0>(rt: &impl Abort, index: &I, case: &Case<'_>) {
     for (place, count) in case.ranks {
-        expect_rank(rt, index, *place, *count);
+        assert!(rt; rank_agrees(index, *place, *count));
     }
     for (rank, place) in case.ones {
-        expect_one(rt, index, *rank, *place);
+        assert!(rt; one_agrees(index, *rank, *place));
     }
     for (rank, place) in case.zeros {
-        expect_zero(rt, index, *rank, *place);
+        assert!(rt; zero_agrees(index, *rank, *place));
     }
 }
 
@@ -153,17 +153,17 @@ fn expect_lent<S: SelectForRank101111, S0: Select0ForRank101111>(
     alloc: Global,
     case: &Case<'_>,
 ) -> Result<(), Fail> {
-    let (index, _) = index_over::<S, S0>(rt, alloc, case.words);
+    let (index, _) = index_over::<S, S0>(alloc, case.words)?;
     expect_rows(rt, &index, case);
-    expect_all::<S, S0>(rt, alloc, case.words)?;
+    assert!(rt; all_agree::<S, S0>(alloc, case.words)?);
     Ok(())
 }
 
 /// Compares an index over words of its own with the rows and with a plain count.
 fn expect_owned(rt: &impl Abort, alloc: Global, case: &Case<'_>) -> Result<(), Fail> {
-    let (index, _) = owned(rt, alloc, case.words)?;
+    let (index, _) = owned(alloc, case.words)?;
     expect_rows(rt, &index, case);
-    expect_all_owned(rt, alloc, case.words)?;
+    assert!(rt; all_agree_owned(alloc, case.words)?);
     Ok(())
 }
 

@@ -1,6 +1,6 @@
 //! The samples that are kept: worked out by hand, and as one walk over the bits finds them. `replay_original` compares
 //! them with those of the original crate.
-use crate::expect::words_of;
+use crate::walk::words_of;
 use bitm::{
     AdaptiveCombinedSamplingDensity, BitAccess, CombinedSampling, CombinedSamplingDensity,
     ConstCombinedSamplingDensity, RankSelect101111,

@@ -1,7 +1,7 @@
 //! A content of 2^20 words with ones at the even places, asked at each step of 256 bits. By hand: half of the bits
 //! before an even place are ones, and each two places have one bit of each kind. So the compiled code runs over
 //! tables of many entries.
-use crate::expect::Sampled;
+use crate::walk::Sampled;
 use bitm::{
     BinaryRankSearch, BitVec, Rank, RankSelect101111, RankSimple, Select, Select0,
     Select0ForRank101111, SelectForRank101111,

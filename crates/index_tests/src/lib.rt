@@ -1,12 +1,11 @@
 //! Tests of the index and of its strategies, a file a topic; the name of a test is the sentence that it shows. Why they
-//! are tested, although they are proved, stands in `bitm_tests`, whose tests compare by `expect` too.
+//! are tested, although they are proved, stands in `bitm_tests`, whose tests compare by `walk` too.
 #![tactic(auto)]
 
 #[cfg(test)]
 mod contents;
 #[cfg(test)]
 mod every_place;
-pub mod expect;
 #[cfg(test)]
 mod kept_samples;
 #[cfg(test)]
@@ -17,3 +16,4 @@ mod logarithms;
 mod samples;
 #[cfg(test)]
 mod simple;
+pub mod walk;

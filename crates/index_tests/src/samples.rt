@@ -1,5 +1,5 @@
 //! Selection by samples: how many are kept, and what the index selects by them, worked out by hand.
-use crate::expect::{Sampled, expect_one, expect_zero, index_over};
+use crate::walk::{Sampled, index_over, one_agrees, zero_agrees};
 use bitm::{
     BinaryRankSearch, BitVec, CombinedSampling, ConstCombinedSamplingDensity, RankSelect101111,
 };
@@ -13,33 +13,36 @@ use std::test::Fail;
 type Each<const LOG: u8> = CombinedSampling<ConstCombinedSamplingDensity<LOG>>;
 
 #[test]
-fn full_words_keep_one_sample_of_ones_and_none_of_zeros(rt: HostRuntime) {
+fn full_words_keep_one_sample_of_ones_and_none_of_zeros(rt: HostRuntime) -> Result<(), Fail> {
     let words = [u64::MAX; 35];
-    let (index, _) = index_over::<Sampled, Sampled>(&rt, rt.alloc(), words.as_slice());
+    let (index, _) = index_over::<Sampled, Sampled>(rt.alloc(), words.as_slice())?;
     let entries = [0x8020_0600_0000_0000, 0x3006_00C0_0000_0800];
     assert!(rt; index.l2ranks() == entries.as_slice());
     let (ones, zeros) = (index.select_support(), index.select0_support());
     assert!(rt; (ones.sample_count(), zeros.sample_count()) == (1, 0));
-    expect_one(&rt, &index, 2239, Some(2239));
-    expect_zero(&rt, &index, 0, None);
+    assert!(rt; one_agrees(&index, 2239, Some(2239)));
+    assert!(rt; zero_agrees(&index, 0, None));
+    Ok(())
 }
 
 #[test]
-fn a_sample_for_each_128_zeros_is_17_in_33_empty_words(rt: HostRuntime) {
+fn a_sample_for_each_128_zeros_is_17_in_33_empty_words(rt: HostRuntime) -> Result<(), Fail> {
     let words = [0; 33];
-    let (index, _) = index_over::<BinaryRankSearch, Each<7>>(&rt, rt.alloc(), words.as_slice());
+    let (index, _) = index_over::<BinaryRankSearch, Each<7>>(rt.alloc(), words.as_slice())?;
     let entries = [0, 0, 0, 0, 0, 0, 0, 0, 0, 0, 0, 0, 0, 0, 0, 0, 1];
     assert!(rt; index.select0_support().samples() == entries.as_slice());
     assert!(rt; index.select0_support().sample_count() == 17);
-    expect_zero(&rt, &index, 2048, Some(2048));
+    assert!(rt; zero_agrees(&index, 2048, Some(2048)));
+    Ok(())
 }
 
 #[test]
-fn a_logarithm_below_seven_keeps_the_samples_of_seven(rt: HostRuntime) {
+fn a_logarithm_below_seven_keeps_the_samples_of_seven(rt: HostRuntime) -> Result<(), Fail> {
     let words = [0; 33];
-    let (index, _) = index_over::<BinaryRankSearch, Each<3>>(&rt, rt.alloc(), words.as_slice());
+    let (index, _) = index_over::<BinaryRankSearch, Each<3>>(rt.alloc(), words.as_slice())?;
     assert!(rt; index.select0_support().sample_count() == 17);
-    expect_zero(&rt, &index, 2048, Some(2048));
+    assert!(rt; zero_agrees(&index, 2048, Some(2048)));
+    Ok(())
 }
 
 /// Words of which the first and the last are full and the others empty.
@@ -68,7 +71,7 @@ fn expect_full_ends(
         Ok((index, _)) => {
             assert!(rt; index.select_support().sample_count() == 1);
             for (rank, place) in rows {
-                expect_one(rt, &index, *rank, *place);
+                assert!(rt; one_agrees(&index, *rank, *place));
             }
         }
         Err(_) => panic!(rt; "no memory"),

@@ -1,5 +1,5 @@
 //! The simple rank: rows worked out by hand, by the calls of its trait and by its own, which answer 32 bits.
-use crate::expect::expect_rank;
+use crate::walk::rank_agrees;
 use bitm::{ArrayWithRankSimple, GetSize, Rank, RankSimple};
 use std::alloc::Global;
 use std::boxed::BoxedSlice;
@@ -13,7 +13,7 @@ type Row = (usize, Option<usize>);
 /// Compares what the calls of the trait answer with the rows.
 fn expect_ranks<R: Rank>(rt: &impl Abort, index: &R, rows: &[Row]) {
     for (place, ones) in rows {
-        expect_rank(rt, index, *place, *ones);
+        assert!(rt; rank_agrees(index, *place, *ones));
         index.prefetch(*place);
     }
 }
