@@ -5,8 +5,8 @@
 //! 2, 3 + 3, 5 + 4, 6 + 5 and 12 + 6. The name of a test is the sentence that it shows.
 ghost use Rattle.bitm.specs.Bits.{IsShort};
 
-use bitm::{BitAccess, GetSize};
-use elias_fano::{BinaryEliasFano, EfError, EliasFano};
+use bitm::{BitAccess, GetSize, Select0ForRank101111, SelectForRank101111};
+use elias_fano::{BinaryEliasFano, EfError, EliasFano, Sequence};
 use std::alloc::{AllocError, Global};
 use std::process::Abort;
 use std::test::Fail;
@@ -23,16 +23,21 @@ fn agrees(
 ) -> Result<(), EfError> {
     let sequence = EliasFano::build(alloc, items)?;
     assert!(rt; (sequence.len(), sequence.low_width()) == (items.len(), width));
-    for (i, x) in items.iter().enumerate() {
-        assert!(rt; sequence.try_get(i) == Some(*x));
-    }
-    assert!(rt; (sequence.try_get(items.len()), sequence.try_get(usize::MAX)) == (None, None));
+    gives_each(rt, &sequence, items);
     ones_stand_at(rt, sequence.upper_words(), ones);
     for (v, place) in asked {
         assert!(rt; sequence.first_at_least(*v) == *place);
     }
     comes_in_order(rt, &sequence, items);
     Ok(())
+}
+
+/// Compares the numbers that are asked by their places, and past the end, with the items.
+fn gives_each(rt: &impl Abort, sequence: &EliasFano, items: &[u64]) {
+    for (i, x) in items.iter().enumerate() {
+        assert!(rt; sequence.try_get(i) == Some(*x));
+    }
+    assert!(rt; (sequence.try_get(items.len()), sequence.try_get(usize::MAX)) == (None, None));
 }
 
 /// Compares the places of the ones of words with these.
@@ -163,14 +168,31 @@ fn numbers_from_a_place_on_come_from_either_end(rt: HostRuntime) -> Result<(), F
     Ok(())
 }
 
+/// A copy of a sequence of the items, which is gone.
+fn copied<S: SelectForRank101111, S0: Select0ForRank101111>(
+    alloc: Global,
+    items: &[u64],
+) -> Result<Sequence<S, S0>, EfError> {
+    let sequence = Sequence::<S, S0>::build(alloc, items)?;
+    let copy = sequence.try_clone(alloc)?;
+    Ok(copy)
+}
+
 #[test]
-fn a_copy_gives_the_same_numbers_in_as_many_bytes(rt: HostRuntime) -> Result<(), Fail> {
+fn a_copy_gives_the_same_numbers(rt: HostRuntime) -> Result<(), Fail> {
     let items = [2u64, 3, 5, 7, 11, 13, 24];
-    let sequence = EliasFano::build(rt.alloc(), items.as_slice())?;
-    comes_in_order(&rt, &sequence.try_clone(rt.alloc())?, items.as_slice());
-    // a word of each vector, and one entry of each of the index's tables
-    let binary = BinaryEliasFano::build(rt.alloc(), items.as_slice())?;
-    assert!(rt; binary.try_clone(rt.alloc())?.size_bytes_dyn() == 4 * 8);
+    let copy: EliasFano = copied(rt.alloc(), items.as_slice())?;
+    comes_in_order(&rt, &copy, items.as_slice());
+    Ok(())
+}
+
+#[test]
+fn a_copy_takes_a_word_of_each_vector_and_an_entry_of_each_table(
+    rt: HostRuntime,
+) -> Result<(), Fail> {
+    let items = [2u64, 3, 5, 7, 11, 13, 24];
+    let copy: BinaryEliasFano = copied(rt.alloc(), items.as_slice())?;
+    assert!(rt; copy.size_bytes_dyn() == 4 * 8);
     Ok(())
 }
 
