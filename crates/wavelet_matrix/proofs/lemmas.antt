@@ -1,6 +1,7 @@
 pub mod BackLemmas
 pub mod ColumnLemmas
 pub mod CountLemmas
+pub mod DistinctLemmas
 pub mod FilterLemmas
 pub mod MakeLemmas
 pub mod ManyLemmas
