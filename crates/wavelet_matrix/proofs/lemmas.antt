@@ -1,7 +1,9 @@
 pub mod BackLemmas
 pub mod ColumnLemmas
 pub mod CountLemmas
+pub mod DistinctLemmas
 pub mod FilterLemmas
+pub mod FrequentLemmas
 pub mod MakeLemmas
 pub mod ManyLemmas
 pub mod MatrixLemmas

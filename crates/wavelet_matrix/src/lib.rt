@@ -10,11 +10,15 @@
 //! m.try_select(1, 2)       // Some(5): the place of the third 1
 //! m.quantile(1..5, 2)      // 4: of 1 4 1 5 the third smallest
 //! m.next_value(0..6, 2)    // Some(3): the least that is at least 2
+//! m.distinct(1..5)         // (1, 2), (4, 1), (5, 1): each number of 1 4 1 5, and how often
+//! m.top_k(alloc, 0..6, 2)? // (1, 3), (3, 1): the most frequent two, the least of equally frequent ones first
 //! ```
 #![tactic(auto)]
 
 mod asking;
 mod digits;
+mod distinct;
+mod frequent;
 mod many;
 mod matrix;
 mod range_queries;
@@ -25,5 +29,6 @@ mod walk;
 mod writing;
 
 pub use digits::all_fit;
+pub use distinct::DistinctValues;
 pub use matrix::{BinaryWaveletMatrix, WaveletMatrix};
 pub use walk::Levels;

@@ -1,5 +1,6 @@
 //! What is asked of the numbers of a range, over any source: how many are less than a number, and the k-th smallest.
 ghost use Rattle.std.specs.Prelude.{◌≡◌, ◌*◌, ◌-◌, ◌<◌, ◌≤◌, true, false, take, count_by, slice_range};
+ghost use Rattle.wavelet_matrix.specs.Distinct.{count_equal};
 ghost use Rattle.wavelet_matrix.specs.Levels.{has_digit, partition_place};
 ghost use Rattle.wavelet_matrix.specs.Matrix.{IsMatrix, OnlyRanks, digit_place, level_in, numbers_in};
 ghost use Rattle.wavelet_matrix.specs.Numbers.{count_less, IsSmallest};
@@ -101,6 +102,34 @@ impl Levels {
             k result }
         ensures reads { OnlyRanks T.lists T.reads source.old source.new (2 * self.now.width) }
     {
+        let (number, _count) = self.quantile_and_count_on(source, start, end, k);
+        number
+    }
+
+    /// The number that `quantile_on` answers, and how often it is in the range.
+    ///
+    /// # Conditions
+    /// Those of `quantile_on`.
+    /// # Cost
+    /// That of `quantile_on`.
+    #[inline(always)]
+    pub fn quantile_and_count_on<T: TableSource>(
+        &self,
+        source: &mut T,
+        start: usize,
+        end: usize,
+        k: usize,
+    ) -> (u64, usize)
+        requires matrix { IsMatrix self.now (T.lists source.old) }
+        requires order { start ≤ end }
+        requires inside { end ≤ self.now.len }
+        requires some { k < end - start }
+        ensures number { IsSmallest (slice_range (numbers_in self.now (T.lists source.old)) start end)
+            k result.0 }
+        ensures count { result.1 ≡ count_equal
+            (slice_range (numbers_in self.now (T.lists source.old)) start end) result.0 }
+        ensures reads { OnlyRanks T.lists T.reads source.old source.new (2 * self.now.width) }
+    {
         let (mut first, mut last) = (start, end);
         let mut left = k;
         let mut number = 0;
@@ -114,6 +143,6 @@ impl Levels {
             last = self.place_after(source, depth, digit, last, through);
             number = 2 * number + digit as u64;
         }
-        number
+        (number, last - first)
     }
 }

@@ -51,7 +51,7 @@ between-some ys v x j d inside above below =
     )
 
 -- at most x is less than the number after x
-at_most-is : (ys : List ℕ) (x : ℕ) → count_by (λ y. nat_le y x) ys ≡ count_less ys (x + 1)
+pub at_most-is : (ys : List ℕ) (x : ℕ) → count_by (λ y. nat_le y x) ys ≡ count_less ys (x + 1)
 at_most-is ys x =
     count-agree (λ y. nat_le y x) (λ y. nat_lt y (x + 1))
     (λ y. ⊎_elim

@@ -175,7 +175,7 @@ less-all-wide xs w s e v fit order inside wide =
 -- ---- the k-th smallest
 
 -- at most is less or equal
-at-most : (x : ℕ) (ys : List ℕ) → count_by (λ y. nat_le y x) ys ≡ count_less ys x + count_by (λ y. y == x) ys
+pub at-most : (x : ℕ) (ys : List ℕ) → count_by (λ y. nat_le y x) ys ≡ count_less ys x + count_by (λ y. y == x) ys
 at-most x ys =
     count-two (λ y. nat_le y x) (λ y. nat_lt y x) (λ y. y == x)
     (λ y. ⊎_elim
@@ -189,7 +189,7 @@ at-most x ys =
     (cases_order y x)) ys
 
 -- what is counted is an item
-contained : (x : ℕ) (ys : List ℕ) → 0 < count_by (λ y. y == x) ys → Contains ys x
+pub contained : (x : ℕ) (ys : List ℕ) → 0 < count_by (λ y. y == x) ys → Contains ys x
 contained x [] some = absurd (omega arith)
 contained x (y ∷ ys) some =
     ⊎_elim
@@ -198,12 +198,18 @@ contained x (y ∷ ys) some =
     (suc rest.0, omega (arith, rest.1), rest.2))
     (cases_Bool (y == x))
 
+-- the numbers that begin with all its digits are equal to the number
+pub equal-last : (xs : List ℕ) (w d h : ℕ) (ys : List ℕ) (f l : ℕ) → d ≡ w → IsPrefixRange xs w d h ys f l
+    → l - f ≡ count_by (λ y. y == h) ys
+equal-last xs w d h ys f l e n =
+    sym (length-range (level xs w w) f l n.order (omega (arith, n.inside, length-level xs w w)))
+    ∙ ap length (IsPrefixRange-last xs w d h ys f l e n)
+    ∙ length-filter (λ y. y == h) ys
+
 pub smallest : (xs : List ℕ) (w d h : ℕ) (ys : List ℕ) (f l left k : ℕ) → d ≡ w → IsPrefixRange xs w d h ys f l
     → left + count_by (has_lesser_prefix (w - d) h) ys ≡ k → left < l - f → IsSmallest ys k h
 smallest xs w d h ys f l left k e n less some =
-    let items = IsPrefixRange-last xs w d h ys f l e n in
-    let equal : l - f ≡ count_by (λ y. y == h) ys =
-    sym (length-range (level xs w w) f l n.order (omega (arith, n.inside, length-level xs w w))) ∙ ap length items ∙ length-filter (λ y. y == h) ys in
+    let equal = equal-last xs w d h ys f l e n in
     let lower = less-last w d h ys e in
     record {
       item = contained h ys (omega arith);

@@ -4,11 +4,11 @@ use Rattle.std.proofs.lemmas.Bool.{le-leb, lt-leb}
 use Rattle.bitm.specs.Tables.{Lists}
 use Rattle.wavelet_matrix.specs.Matrix.{level_in, numbers_in}
 use Rattle.wavelet_matrix.proofs.lemmas.PrefixLemmas.{IsPrefixRange-first}
-use Rattle.wavelet_matrix.proofs.lemmas.RangeLemmas.{IsQuantilePrefix-next, less-first, part-zeros, smallest}
+use Rattle.wavelet_matrix.proofs.lemmas.RangeLemmas.{IsQuantilePrefix-next, equal-last, less-first, part-zeros, smallest}
 use Rattle.wavelet_matrix.proofs.lemmas.ReadsLemmas.{ranks-none, ranks-more}
 use Rattle.wavelet_matrix.proofs.lemmas.WalkLemmas.{place-same}
-use Rattle.wavelet_matrix.proofs.walk.Levels.quantile_on.Goals as goal
-use Rattle.wavelet_matrix.proofs.walk.Levels.quantile_on.Goals.{then-digit, else-digit}
+use Rattle.wavelet_matrix.proofs.walk.Levels.quantile_and_count_on.Goals as goal
+use Rattle.wavelet_matrix.proofs.walk.Levels.quantile_and_count_on.Goals.{then-digit, else-digit}
 use mir.Val.{bool_byte}
 
 pub loop-depth-init : goal.loop-depth-init
@@ -56,9 +56,19 @@ loop-depth-preserved g c =
       reads = ranks-more T.lists T.reads c.args.source.now c.loop-depth.source _ (2 * d) 2 (2 * (d + 1)) i.reads c.part_on-before.ensures.reads (omega arith);
     }
 
+pub overflow_sub-result : goal.overflow_sub-result
+overflow_sub-result g c = c.loop-depth.invariant.prefix.range.order
+
 pub returns-clause-number : goal.returns-clause-number
 returns-clause-number g c =
     let l = c.args.self.now in
     let p = c.loop-depth.invariant.prefix in
     smallest (numbers_in l (g.T.TableSource.lists c.args.source.now)) l.width c.loop-depth.depth c.loop-depth.number _ c.loop-depth.first c.loop-depth.last
     c.loop-depth.left c.args.k (omega (arith, c.loop-depth-test.false, c.loop-depth.auto.depth-end, c.width-depth-end.ensures)) p.range p.less p.some
+
+pub returns-clause-count : goal.returns-clause-count
+returns-clause-count g c =
+    let l = c.args.self.now in
+    let p = c.loop-depth.invariant.prefix in
+    equal-last (numbers_in l (g.T.TableSource.lists c.args.source.now)) l.width c.loop-depth.depth c.loop-depth.number _ c.loop-depth.first c.loop-depth.last
+    (omega (arith, c.loop-depth-test.false, c.loop-depth.auto.depth-end, c.width-depth-end.ensures)) p.range

@@ -1,7 +1,7 @@
 use Rattle.std.proofs.Common.{◌*◌, slice_range}
 use Rattle.wavelet_matrix.specs.Matrix.{OnlyRanks, numbers_in}
 use Rattle.wavelet_matrix.proofs.lemmas.RangeLemmas.{IsQuantilePrefix}
-use Rattle.wavelet_matrix.proofs.walk.Levels.quantile_on.Given as goal
+use Rattle.wavelet_matrix.proofs.walk.Levels.quantile_and_count_on.Given as goal
 
 -- the first digits of the number, and which of those that begin with them it is
 abbrev pub invariant-loop-depth : goal.invariant-loop-depth
