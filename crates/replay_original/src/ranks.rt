@@ -33,7 +33,25 @@ fn simple_total(alloc: Global, words: &[u64]) -> Result<Option<u32>, Fault>
     }
 }
 
-/// Compares the number of ones, as both `build` give it and as it is counted.
+/// Compares the number of ones of words, as both `build` give it and as it is counted.
+fn compare_totals<'a>(
+    alloc: Global,
+    words: &[u64],
+    theirs: &str,
+    found: &mut Found<'a>,
+) -> Result<(), Fault>
+    requires { IsShort words.now }
+{
+    if let Some(total) = simple_total(alloc, words)? {
+        found.compare("simple", Base::Decimal, Some(u64::from(total)), theirs)?;
+    }
+    let total = index::total(alloc, words)? as u64;
+    found.compare("build", Base::Decimal, Some(total), theirs)?;
+    let counted = words::count_bit_ones(words) as u64;
+    found.compare("count_bit_ones", Base::Decimal, Some(counted), theirs)
+}
+
+/// Takes the number of ones of a line, and compares it.
 pub fn ones<'a>(
     alloc: Global,
     state: &mut State<'a>,
@@ -42,13 +60,7 @@ pub fn ones<'a>(
 ) -> Result<(), Fault> {
     state.set_ones(line)?;
     let (words, theirs) = state.content(line)?;
-    if let Some(total) = simple_total(alloc, words)? {
-        found.compare("simple", Base::Decimal, Some(u64::from(total)), theirs)?;
-    }
-    let total = index::total(alloc, words)? as u64;
-    found.compare("build", Base::Decimal, Some(total), theirs)?;
-    let counted = words::count_bit_ones(words) as u64;
-    found.compare("count_bit_ones", Base::Decimal, Some(counted), theirs)
+    compare_totals(alloc, words, theirs, found)
 }
 
 /// The ones before each begun run of 512 bits.

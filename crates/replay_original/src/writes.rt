@@ -66,12 +66,17 @@ pub fn xor<'a>(
     compare(alloc, call, ours, found)
 }
 
+/// As many zero words as a text writes words.
+fn zeros(alloc: Global, theirs: &str) -> Result<BoxedSlice<u64, Global>, Fault> {
+    let count = text::list(alloc, theirs, Base::Hexadecimal)?.len();
+    Ok(BoxedSlice::with_zeroed_64bit_segments(alloc, count)?)
+}
+
 /// Compares the words after a number was written to zero words.
 pub fn init<'a>(alloc: Global, line: &'a str, found: &mut Found<'a>) -> Result<(), Fault> {
     let (call, theirs) = text::halves(line)?;
     let Arguments { begin, len, number } = read_arguments(call, 64)?;
-    let count = text::list(alloc, theirs, Base::Hexadecimal)?.len();
-    let mut ours = BoxedSlice::with_zeroed_64bit_segments(alloc, count)?;
+    let mut ours = zeros(alloc, theirs)?;
     init_zeros(ours.as_mut_slice(), begin, number, len)?;
     found.compare_list(alloc, call, Base::Hexadecimal, ours.as_slice(), theirs)
 }
