@@ -43,34 +43,77 @@ pub fn get25<'a>(state: &State<'a>, line: &'a str, found: &mut Found<'a>) -> Res
     found.compare(first_bit, Base::Hexadecimal, Some(u64::from(ours)), theirs)
 }
 
-/// Compares the bytes after a number was written to eight zero bytes among others.
-pub fn init57<'a>(alloc: Global, line: &'a str, found: &mut Found<'a>) -> Result<(), Fault> {
-    let (call, theirs) = text::halves(line)?;
-    let (first_bit, number) = text::first_word(call);
-    let place = text::place(first_bit)?;
+/// A write as a line has it: its text, its first bit, the words that follow that, and the bytes after it.
+#[derive(Clone, Copy)]
+struct Write<'a> {
+    text: &'a str,
+    place: usize,
+    numbers: &'a str,
+    theirs: &'a str,
+}
+
+/// The write that a line has.
+fn read_write(line: &str) -> Result<Write<'_>, Fault> {
+    let (text, theirs) = text::halves(line)?;
+    let (first_bit, numbers) = text::first_word(text);
+    Ok(Write {
+        text,
+        place: text::place(first_bit)?,
+        numbers,
+        theirs,
+    })
+}
+
+/// As many zero bytes as a text writes bytes.
+fn zeros(alloc: Global, theirs: &str) -> Result<Vec<u8>, Fault> {
     let count = text::byte_list(alloc, theirs)?.len();
-    let mut ours = vec![in alloc; 0u8; count]?;
-    if place / 8 + 8 > ours.len() {
+    Ok(vec![in alloc; 0u8; count]?)
+}
+
+/// Writes a number to eight zero bytes.
+fn write_init57(bytes: &mut [u8], place: usize, number: &str) -> Result<(), Fault> {
+    if place / 8 + 8 > bytes.len() {
         return Err(Fault::Condition);
     }
-    let value = text::number(number, Base::Hexadecimal)?;
-    init_bits57(ours.as_mut_slice(), place, value);
-    compare(alloc, call, ours.as_slice(), theirs, found)
+    init_bits57(bytes, place, text::number(number, Base::Hexadecimal)?);
+    Ok(())
+}
+
+/// Compares the bytes after a number was written to eight zero bytes among others.
+pub fn init57<'a>(alloc: Global, line: &'a str, found: &mut Found<'a>) -> Result<(), Fault> {
+    let call = read_write(line)?;
+    let mut ours = zeros(alloc, call.theirs)?;
+    write_init57(ours.as_mut_slice(), call.place, call.numbers)?;
+    compare(alloc, call.text, ours.as_slice(), call.theirs, found)
+}
+
+/// Writes a number to four zero bytes.
+fn write_init25(bytes: &mut [u8], place: usize, number: &str) -> Result<(), Fault> {
+    if place / 8 + 4 > bytes.len() {
+        return Err(Fault::Condition);
+    }
+    init_bits25(bytes, place, text::short_number(number)?);
+    Ok(())
 }
 
 /// Compares the bytes after a number was written to four zero bytes among others.
 pub fn init25<'a>(alloc: Global, line: &'a str, found: &mut Found<'a>) -> Result<(), Fault> {
-    let (call, theirs) = text::halves(line)?;
-    let (first_bit, number) = text::first_word(call);
-    let place = text::place(first_bit)?;
-    let count = text::byte_list(alloc, theirs)?.len();
-    let mut ours = vec![in alloc; 0u8; count]?;
-    if place / 8 + 4 > ours.len() {
+    let call = read_write(line)?;
+    let mut ours = zeros(alloc, call.theirs)?;
+    write_init25(ours.as_mut_slice(), call.place, call.numbers)?;
+    compare(alloc, call.text, ours.as_slice(), call.theirs, found)
+}
+
+/// Puts a number over eight bytes under a mask.
+fn write_set57(bytes: &mut [u8], place: usize, numbers: &str) -> Result<(), Fault> {
+    if place / 8 + 8 > bytes.len() {
         return Err(Fault::Condition);
     }
-    let value = text::short_number(number)?;
-    init_bits25(ours.as_mut_slice(), place, value);
-    compare(alloc, call, ours.as_slice(), theirs, found)
+    let (number, mask) = text::first_word(numbers);
+    let value = text::number(number, Base::Hexadecimal)?;
+    let mask = text::number(mask, Base::Hexadecimal)?;
+    set_bits57(bytes, place, value, mask);
+    Ok(())
 }
 
 /// Compares the bytes after a number was put over eight of them.
@@ -80,18 +123,21 @@ pub fn set57<'a>(
     line: &'a str,
     found: &mut Found<'a>,
 ) -> Result<(), Fault> {
-    let (call, theirs) = text::halves(line)?;
-    let (first_bit, rest) = text::first_word(call);
-    let (number, mask) = text::first_word(rest);
-    let place = text::place(first_bit)?;
+    let call = read_write(line)?;
     let mut ours = Vec::from_slice(alloc, state.bytes())?;
-    if place / 8 + 8 > ours.len() {
+    write_set57(ours.as_mut_slice(), call.place, call.numbers)?;
+    compare(alloc, call.text, ours.as_slice(), call.theirs, found)
+}
+
+/// Puts a number over four bytes under a mask.
+fn write_set25(bytes: &mut [u8], place: usize, numbers: &str) -> Result<(), Fault> {
+    if place / 8 + 4 > bytes.len() {
         return Err(Fault::Condition);
     }
-    let value = text::number(number, Base::Hexadecimal)?;
-    let mask = text::number(mask, Base::Hexadecimal)?;
-    set_bits57(ours.as_mut_slice(), place, value, mask);
-    compare(alloc, call, ours.as_slice(), theirs, found)
+    let (number, mask) = text::first_word(numbers);
+    let (value, mask) = (text::short_number(number)?, text::short_number(mask)?);
+    set_bits25(bytes, place, value, mask);
+    Ok(())
 }
 
 /// Compares the bytes after a number was put over four of them.
@@ -101,15 +147,8 @@ pub fn set25<'a>(
     line: &'a str,
     found: &mut Found<'a>,
 ) -> Result<(), Fault> {
-    let (call, theirs) = text::halves(line)?;
-    let (first_bit, rest) = text::first_word(call);
-    let (number, mask) = text::first_word(rest);
-    let place = text::place(first_bit)?;
+    let call = read_write(line)?;
     let mut ours = Vec::from_slice(alloc, state.bytes())?;
-    if place / 8 + 4 > ours.len() {
-        return Err(Fault::Condition);
-    }
-    let (value, mask) = (text::short_number(number)?, text::short_number(mask)?);
-    set_bits25(ours.as_mut_slice(), place, value, mask);
-    compare(alloc, call, ours.as_slice(), theirs, found)
+    write_set25(ours.as_mut_slice(), call.place, call.numbers)?;
+    compare(alloc, call.text, ours.as_slice(), call.theirs, found)
 }

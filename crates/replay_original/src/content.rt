@@ -21,6 +21,8 @@ struct Content<'a> {
 pub struct Totals {
     pub len: usize,
     pub items: u64,
+    /// Whether the items are the ones.
+    pub of_ones: bool,
 }
 
 /// A call on the content as a line writes it: its text, the words that it is on, its arguments, and what came of it.
@@ -84,6 +86,7 @@ impl<'a> State<'a> {
             Some(content) => Ok(Totals {
                 len: content.words.len().checked_mul(64).ok_or(Fault::Condition)?,
                 items: content.ones.ok_or(Fault::NoTotal)?,
+                of_ones: true,
             }),
             None => Err(Fault::OtherContent),
         }
@@ -91,9 +94,12 @@ impl<'a> State<'a> {
 
     /// How many bits the content has, and how many of them are zeros.
     pub fn zeros(&self) -> Result<Totals, Fault> {
-        let Totals { len, items } = self.ones()?;
-        let items = (len as u64).checked_sub(items).ok_or(Fault::Malformed)?;
-        Ok(Totals { len, items })
+        let Totals { len, items, .. } = self.ones()?;
+        Ok(Totals {
+            len,
+            items: (len as u64).checked_sub(items).ok_or(Fault::Malformed)?,
+            of_ones: false,
+        })
     }
 
     /// Takes the bytes of a line; none are left where that fails.

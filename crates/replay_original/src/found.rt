@@ -2,7 +2,7 @@
 use crate::content::Totals;
 use crate::fault::Fault;
 use crate::text;
-use crate::text::Base;
+use crate::text::{Base, PlacePair};
 use std::alloc::Global;
 use std::fmt;
 
@@ -41,6 +41,19 @@ impl fmt::Display for Written {
     }
 }
 
+/// The item of a list that an answer is about, or none.
+#[derive(Clone, Copy)]
+struct Item(Option<usize>);
+
+impl fmt::Display for Item {
+    fn fmt<W: fmt::Write>(&self, f: &mut fmt::Formatter<W>) -> fmt::Result {
+        match self.0 {
+            Some(item) => write!(f, " item {item}"),
+            None => Ok(()),
+        }
+    }
+}
+
 /// What follows the kind of the line.
 impl fmt::Display for Difference<'_> {
     fn fmt<W: fmt::Write>(&self, f: &mut fmt::Formatter<W>) -> fmt::Result {
@@ -52,13 +65,10 @@ impl fmt::Display for Difference<'_> {
                 ours,
                 theirs,
             } => {
-                write!(f, " {argument}")?;
-                if let Some(item) = item {
-                    write!(f, " item {item}")?;
-                }
+                let item = Item(*item);
                 let ours = Written(*ours, *base);
                 let theirs = Written(*theirs, *base);
-                write!(f, ": ours {ours}, theirs {theirs}")
+                write!(f, " {argument}{item}: ours {ours}, theirs {theirs}")
             }
             Difference::AtLength {
                 argument,
@@ -211,16 +221,31 @@ impl<'a> Found<'a> {
         requires { F.IsAlwaysCallable call }
     {
         for pair in pairs.split_ascii_whitespace() {
-            let (argument, theirs) = text::pair(pair)?;
-            let place = text::place(argument)?;
-            let ours = call(place).map(|number| number as u64);
-            if place == totals.len && theirs == "-" {
-                self.compare_at_length(argument, ours, totals.items);
-            } else {
-                self.compare(argument, Base::Decimal, ours, theirs)?;
-            }
+            let asked = text::place_pair(pair)?;
+            let ours = call(asked.place).map(|number| number as u64);
+            self.compare_rank(asked, totals, ours)?;
         }
         Ok(())
+    }
+
+    /// Compares a rank with its answer, or with the total.
+    fn compare_rank(
+        &mut self,
+        asked: PlacePair<'a>,
+        totals: Totals,
+        ours: Option<u64>,
+    ) -> Result<(), Fault> {
+        let PlacePair {
+            argument,
+            place,
+            theirs,
+        } = asked;
+        if place == totals.len && theirs == "-" {
+            self.compare_at_length(argument, ours, totals.items);
+            Ok(())
+        } else {
+            self.compare(argument, Base::Decimal, ours, theirs)
+        }
     }
 
     /// Compares a rank at the exact length with the total.
@@ -239,6 +264,18 @@ impl<'a> Found<'a> {
     /// Compares two numbers.
     pub fn compare_numbers(&mut self, argument: &'a str, ours: u64, theirs: u64) {
         self.compare_values(argument, None, Base::Decimal, Some(ours), Some(theirs));
+    }
+
+    /// Compares a list of sizes with the one that a text writes.
+    pub fn compare_sizes(
+        &mut self,
+        alloc: Global,
+        argument: &'a str,
+        ours: &[usize],
+        theirs: &str,
+    ) -> Result<(), Fault> {
+        let ours: Vec<u64> = ours.iter().map(|size| *size as u64).collect(alloc)?;
+        self.compare_list(alloc, argument, Base::Decimal, ours.as_slice(), theirs)
     }
 
     /// Compares a list, item by item, with the one that a text writes: where one is longer, its items differ from

@@ -4,7 +4,7 @@ ghost use Rattle.bitm.specs.Bits.{bits_of, IsShort};
 ghost use Rattle.bitm.specs.Count.{ones_of};
 
 use crate::fault::Fault;
-use bitm::{RankSelect101111, Select0ForRank101111, SelectForRank101111};
+use bitm::{BinaryRankSearch, RankSelect101111, Select0ForRank101111, SelectForRank101111};
 use std::alloc::Global;
 
 /// An index over words, with one strategy for both kinds of bit.
@@ -19,4 +19,13 @@ pub fn build<'a, S: SelectForRank101111 + Select0ForRank101111>(
     ensures { IfOk result (λ made. made.1 ≡ ones_of (bits_of words.now)) }
 {
     RankSelect101111::build(alloc, words).map_err(|_| Fault::NoMemory)
+}
+
+/// The number of ones that an index over the words counts.
+pub fn total(alloc: Global, words: &[u64]) -> Result<usize, Fault>
+    requires { IsShort words.now }
+    ensures { IfOk result (λ total. total ≡ ones_of (bits_of words.now)) }
+{
+    let (_, total) = build::<BinaryRankSearch>(alloc, words)?;
+    Ok(total)
 }

@@ -66,18 +66,23 @@ mod word;
 mod writes;
 
 use std::process::ExitCode;
+use std::rt::Files;
 use std::{env, fs, io};
 
 fn main(rt: HostRuntime) -> io::Result<ExitCode> {
-    let alloc = rt.alloc();
     let mut args = env::args(&rt)?.skip(1);
     let (Some(path), None) = (args.next(), args.next()) else {
         eprintln!(rt; "usage: replay_original FILE")?;
         return Ok(ExitCode::FAILURE);
     };
-    let text = fs::read_to_string(&rt, path.as_str())?;
-    let report = replay::replay(alloc, text.as_str())?;
-    report.print(&rt)?;
+    replay_file(&rt, path.as_str())
+}
+
+/// Replays the lines of a file, and answers the status that the program ends with.
+fn replay_file(rt: &(impl Files + Print + AllocGlobal), path: &str) -> io::Result<ExitCode> {
+    let text = fs::read_to_string(rt, path)?;
+    let report = replay::replay(rt.alloc(), text.as_str())?;
+    report.print(rt)?;
     if report.is_clean() {
         Ok(ExitCode::SUCCESS)
     } else {

@@ -2,7 +2,7 @@
 ghost use Rattle.std.specs.Prelude.{◌≡◌, IfOk, IfSome};
 ghost use Rattle.bitm.specs.Bits.{IsShort};
 
-use crate::content::State;
+use crate::content::{State, Totals};
 use crate::fault::Fault;
 use crate::found::Found;
 use crate::index;
@@ -23,7 +23,35 @@ fn build(alloc: Global, words: &[u64]) -> Result<Option<(RankSimple<&[u64]>, u32
     Ok(Some(built))
 }
 
-/// Compares the number of ones, as both `build` give it and as it is counted.
+/// The number of ones that a simple rank counts; `None` where its numbers are too narrow for them.
+fn simple_total(alloc: Global, words: &[u64]) -> Result<Option<u32>, Fault>
+    requires { IsShort words.now }
+{
+    match build(alloc, words)? {
+        Some((_, total)) => Ok(Some(total)),
+        None => Ok(None),
+    }
+}
+
+/// Compares the number of ones of words, as both `build` give it and as it is counted.
+fn compare_totals<'a>(
+    alloc: Global,
+    words: &[u64],
+    theirs: &str,
+    found: &mut Found<'a>,
+) -> Result<(), Fault>
+    requires { IsShort words.now }
+{
+    if let Some(total) = simple_total(alloc, words)? {
+        found.compare("simple", Base::Decimal, Some(u64::from(total)), theirs)?;
+    }
+    let total = index::total(alloc, words)? as u64;
+    found.compare("build", Base::Decimal, Some(total), theirs)?;
+    let counted = words::count_bit_ones(words) as u64;
+    found.compare("count_bit_ones", Base::Decimal, Some(counted), theirs)
+}
+
+/// Takes the number of ones of a line, and compares it.
 pub fn ones<'a>(
     alloc: Global,
     state: &mut State<'a>,
@@ -32,13 +60,7 @@ pub fn ones<'a>(
 ) -> Result<(), Fault> {
     state.set_ones(line)?;
     let (words, theirs) = state.content(line)?;
-    if let Some((_, total)) = build(alloc, words)? {
-        found.compare("simple", Base::Decimal, Some(u64::from(total)), theirs)?;
-    }
-    let (_, total) = index::build::<BinaryRankSearch>(alloc, words)?;
-    found.compare("build", Base::Decimal, Some(total as u64), theirs)?;
-    let counted = words::count_bit_ones(words) as u64;
-    found.compare("count_bit_ones", Base::Decimal, Some(counted), theirs)
+    compare_totals(alloc, words, theirs, found)
 }
 
 /// The ones before each begun run of 512 bits.
@@ -52,6 +74,16 @@ fn table(alloc: Global, index: &RankSimple<&[u64]>) -> Result<Vec<u64>, AllocErr
     Ok(ranks)
 }
 
+/// The ones before each begun run of 512 bits of words, by a simple rank over them.
+fn simple_table(alloc: Global, words: &[u64]) -> Result<Vec<u64>, Fault>
+    requires { IsShort words.now }
+{
+    match build(alloc, words)? {
+        Some((index, _)) => Ok(table(alloc, &index)?),
+        None => Err(Fault::Condition),
+    }
+}
+
 /// Compares the ranks at each begun run of 512 bits.
 pub fn simple<'a>(
     alloc: Global,
@@ -60,9 +92,46 @@ pub fn simple<'a>(
     found: &mut Found<'a>,
 ) -> Result<(), Fault> {
     let (words, theirs) = state.content(line)?;
-    let (index, _) = build(alloc, words)?.ok_or(Fault::Condition)?;
-    let ours = table(alloc, &index)?;
+    let ours = simple_table(alloc, words)?;
     found.compare_list(alloc, line, Base::Decimal, ours.as_slice(), theirs)
+}
+
+/// Compares ranks by the simple rank, where its numbers are wide enough.
+fn compare_simple<'a>(
+    alloc: Global,
+    words: &[u64],
+    pairs: &'a str,
+    totals: Totals,
+    found: &mut Found<'a>,
+) -> Result<(), Fault>
+    requires { IsShort words.now }
+{
+    let Some((simple, _)) = build(alloc, words)? else {
+        return Ok(());
+    };
+    if totals.of_ones {
+        found.compare_ranks(pairs, totals, |place| Rank::try_rank(&simple, place))
+    } else {
+        found.compare_ranks(pairs, totals, |place| simple.try_rank0(place))
+    }
+}
+
+/// Compares ranks by the tables of an index.
+fn compare_tables<'a>(
+    alloc: Global,
+    words: &[u64],
+    pairs: &'a str,
+    totals: Totals,
+    found: &mut Found<'a>,
+) -> Result<(), Fault>
+    requires { IsShort words.now }
+{
+    let (index, _) = index::build::<BinaryRankSearch>(alloc, words)?;
+    if totals.of_ones {
+        found.compare_ranks(pairs, totals, |place| index.try_rank(place))
+    } else {
+        found.compare_ranks(pairs, totals, |place| index.try_rank0(place))
+    }
 }
 
 /// Compares the ones before places and before the end, by the simple rank and by the tables of an index.
@@ -74,11 +143,8 @@ pub fn rank<'a>(
 ) -> Result<(), Fault> {
     let (words, pairs) = state.content(line)?;
     let ones = state.ones()?;
-    if let Some((simple, _)) = build(alloc, words)? {
-        found.compare_ranks(pairs, ones, |place| Rank::try_rank(&simple, place))?;
-    }
-    let (index, _) = index::build::<BinaryRankSearch>(alloc, words)?;
-    found.compare_ranks(pairs, ones, |place| index.try_rank(place))
+    compare_simple(alloc, words, pairs, ones, found)?;
+    compare_tables(alloc, words, pairs, ones, found)
 }
 
 /// Compares the zeros before places and before the end, by the simple rank and by the tables of an index.
@@ -90,9 +156,6 @@ pub fn rank0<'a>(
 ) -> Result<(), Fault> {
     let (words, pairs) = state.content(line)?;
     let zeros = state.zeros()?;
-    if let Some((simple, _)) = build(alloc, words)? {
-        found.compare_ranks(pairs, zeros, |place| simple.try_rank0(place))?;
-    }
-    let (index, _) = index::build::<BinaryRankSearch>(alloc, words)?;
-    found.compare_ranks(pairs, zeros, |place| index.try_rank0(place))
+    compare_simple(alloc, words, pairs, zeros, found)?;
+    compare_tables(alloc, words, pairs, zeros, found)
 }

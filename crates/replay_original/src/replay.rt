@@ -15,13 +15,19 @@ pub fn replay<'a>(alloc: Global, text: &'a str) -> Result<Report<'a>, AllocError
             continue;
         }
         let (kind, rest) = text::first_word(line);
-        let mut found = Found::new(alloc);
-        if let Err(fault) = replay_line(alloc, &mut state, kind, rest, &mut found) {
-            found.fails(fault);
-        }
+        let found = found_in(alloc, &mut state, kind, rest);
         report.add(kind, index, found)?;
     }
     Ok(report)
+}
+
+/// What a line of a kind shows.
+fn found_in<'a>(alloc: Global, state: &mut State<'a>, kind: &str, line: &'a str) -> Found<'a> {
+    let mut found = Found::new(alloc);
+    if let Err(fault) = replay_line(alloc, state, kind, line, &mut found) {
+        found.fails(fault);
+    }
+    found
 }
 
 /// Replays what follows the kind of a line: here the kinds of an index over a content.

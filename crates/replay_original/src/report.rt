@@ -32,7 +32,7 @@ impl<'a> Tally<'a> {
 }
 
 /// A difference, and the number of its line, the first being 1, with its kind.
-#[derive(Drop)]
+#[derive(Clone, Copy)]
 struct Located<'a> {
     line: usize,
     kind: &'a str,
@@ -59,20 +59,31 @@ impl<'a> Report<'a> {
 
     /// Adds what a line shows; lines before it are `index`.
     pub fn add(&mut self, kind: &'a str, index: usize, found: Found<'a>) -> Result<(), AllocError> {
-        let known = self.tallies.iter().position(|tally| tally.kind == kind);
-        match known {
-            Some(place) => self.tallies[place].add(&found),
-            None => self.tallies.push(Tally::of(kind, &found))?,
-        }
+        self.tally(kind, &found)?;
         self.at_length.add(found.at_length);
         for difference in found.differences.iter() {
-            if self.differences.len() < MOST_PRINTED {
-                self.differences.push(Located {
-                    line: index.saturating_add(1),
-                    kind,
-                    difference: *difference,
-                })?;
-            }
+            self.keep(Located {
+                line: index.saturating_add(1),
+                kind,
+                difference: *difference,
+            })?;
+        }
+        Ok(())
+    }
+
+    /// Adds what a line shows to the tally of its kind.
+    fn tally(&mut self, kind: &'a str, found: &Found<'a>) -> Result<(), AllocError> {
+        match self.tallies.iter().position(|tally| tally.kind == kind) {
+            Some(place) => self.tallies[place].add(found),
+            None => self.tallies.push(Tally::of(kind, found))?,
+        }
+        Ok(())
+    }
+
+    /// Keeps a difference, where it is to be printed.
+    fn keep(&mut self, located: Located<'a>) -> Result<(), AllocError> {
+        if self.differences.len() < MOST_PRINTED {
+            self.differences.push(located)?;
         }
         Ok(())
     }
@@ -82,9 +93,8 @@ impl<'a> Report<'a> {
         self.at_length.differ == 0 && self.tallies.iter().all(|tally| tally.count.differ == 0)
     }
 
-    /// Prints the differences, as far as they are kept, a line for each kind, and one for the ranks at the exact
-    /// length.
-    pub fn print(&self, rt: &impl Print) -> io::Result<()> {
+    /// Prints the differences, as far as they are kept.
+    fn print_differences(&self, rt: &impl Print) -> io::Result<()> {
         for located in self.differences.iter() {
             let Located {
                 line,
@@ -93,6 +103,13 @@ impl<'a> Report<'a> {
             } = located;
             println!(rt; "line {line}: {kind}{difference}")?;
         }
+        Ok(())
+    }
+
+    /// Prints the differences, as far as they are kept, a line for each kind, and one for the ranks at the exact
+    /// length.
+    pub fn print(&self, rt: &impl Print) -> io::Result<()> {
+        self.print_differences(rt)?;
         for tally in self.tallies.iter() {
             let Tally { kind, lines, count } = tally;
             let Count { answers, differ } = count;

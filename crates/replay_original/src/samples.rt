@@ -82,6 +82,19 @@ fn compare_samples<'a>(
 }
 
 /// Compares the logarithm of a density, the numbers of samples before each part, and the samples with those of a line.
+fn compare_kept<'a, D: CombinedSamplingDensity>(
+    alloc: Global,
+    kept: &CombinedSampling<D>,
+    claim: Claim<'a>,
+    found: &mut Found<'a>,
+) -> Result<(), Fault> {
+    let logarithm = u64::from(kept.items_per_sample_log2());
+    found.compare_numbers("logarithm", logarithm, claim.logarithm);
+    found.compare_sizes(alloc, claim.text, kept.starts(), claim.starts)?;
+    compare_samples(alloc, kept.samples(), claim, found)
+}
+
+/// Compares what a line says with the samples of a density.
 fn compare_at<'a, D: CombinedSamplingDensity>(
     alloc: Global,
     words: &[u64],
@@ -91,26 +104,11 @@ fn compare_at<'a, D: CombinedSamplingDensity>(
     requires { IsShort words.now }
 {
     let (index, _) = index::build::<CombinedSampling<D>>(alloc, words)?;
-    let kept = if claim.of_ones {
-        index.select_support()
+    if claim.of_ones {
+        compare_kept(alloc, index.select_support(), claim, found)
     } else {
-        index.select0_support()
-    };
-    let logarithm = u64::from(kept.items_per_sample_log2());
-    found.compare_numbers("logarithm", logarithm, claim.logarithm);
-    let starts: Vec<u64> = kept
-        .starts()
-        .iter()
-        .map(|start| *start as u64)
-        .collect(alloc)?;
-    found.compare_list(
-        alloc,
-        claim.text,
-        Base::Decimal,
-        starts.as_slice(),
-        claim.starts,
-    )?;
-    compare_samples(alloc, kept.samples(), claim, found)
+        compare_kept(alloc, index.select0_support(), claim, found)
+    }
 }
 
 /// Compares what a line says with the samples of the density that it names.

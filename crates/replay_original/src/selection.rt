@@ -1,13 +1,36 @@
 //! Selection by each strategy: the kinds `select` and `select0`.
+ghost use Rattle.bitm.specs.Bits.{IsShort};
+
 use crate::content::State;
 use crate::fault::Fault;
 use crate::found::Found;
 use crate::index;
-use bitm::{AdaptiveCombinedSamplingDensity, BinaryRankSearch, CombinedSampling, Select, Select0};
+use bitm::{
+    AdaptiveCombinedSamplingDensity, BinaryRankSearch, CombinedSampling, Select, Select0,
+    Select0ForRank101111, SelectForRank101111,
+};
 use std::alloc::Global;
 
 /// Selection by samples, with a density for the share of items.
 type Sampled = CombinedSampling<AdaptiveCombinedSamplingDensity<13>>;
+
+/// Compares the places of ones or zeros of ranks, by an index of one strategy.
+fn compare_by<'a, S: SelectForRank101111 + Select0ForRank101111>(
+    alloc: Global,
+    words: &[u64],
+    pairs: &'a str,
+    of_ones: bool,
+    found: &mut Found<'a>,
+) -> Result<(), Fault>
+    requires { IsShort words.now }
+{
+    let (index, _) = index::build::<S>(alloc, words)?;
+    if of_ones {
+        found.compare_places(pairs, |rank| index.try_select(rank))
+    } else {
+        found.compare_places(pairs, |rank| index.try_select0(rank))
+    }
+}
 
 /// Compares the places of ones of ranks, by binary search and by samples.
 pub fn select<'a>(
@@ -17,10 +40,8 @@ pub fn select<'a>(
     found: &mut Found<'a>,
 ) -> Result<(), Fault> {
     let (words, pairs) = state.content(line)?;
-    let (index, _) = index::build::<BinaryRankSearch>(alloc, words)?;
-    found.compare_places(pairs, |rank| index.try_select(rank))?;
-    let (index, _) = index::build::<Sampled>(alloc, words)?;
-    found.compare_places(pairs, |rank| index.try_select(rank))
+    compare_by::<BinaryRankSearch>(alloc, words, pairs, true, found)?;
+    compare_by::<Sampled>(alloc, words, pairs, true, found)
 }
 
 /// Compares the places of zeros of ranks, by binary search and by samples.
@@ -31,8 +52,6 @@ pub fn select0<'a>(
     found: &mut Found<'a>,
 ) -> Result<(), Fault> {
     let (words, pairs) = state.content(line)?;
-    let (index, _) = index::build::<BinaryRankSearch>(alloc, words)?;
-    found.compare_places(pairs, |rank| index.try_select0(rank))?;
-    let (index, _) = index::build::<Sampled>(alloc, words)?;
-    found.compare_places(pairs, |rank| index.try_select0(rank))
+    compare_by::<BinaryRankSearch>(alloc, words, pairs, false, found)?;
+    compare_by::<Sampled>(alloc, words, pairs, false, found)
 }

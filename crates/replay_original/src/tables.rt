@@ -16,12 +16,7 @@ pub fn l1<'a>(
 ) -> Result<(), Fault> {
     let (words, theirs) = state.content(line)?;
     let (index, _) = index::build::<BinaryRankSearch>(alloc, words)?;
-    let ours: Vec<u64> = index
-        .l1ranks()
-        .iter()
-        .map(|count| *count as u64)
-        .collect(alloc)?;
-    found.compare_list(alloc, line, Base::Decimal, ours.as_slice(), theirs)
+    found.compare_sizes(alloc, line, index.l1ranks(), theirs)
 }
 
 /// Compares the lower table.

@@ -32,6 +32,24 @@ pub fn pair(text: &str) -> Result<(&str, &str), Fault> {
     text.split_once(':').ok_or(Fault::Malformed)
 }
 
+/// The argument of a pair, the place that it writes, and the answer.
+#[derive(Clone, Copy)]
+pub struct PlacePair<'a> {
+    pub argument: &'a str,
+    pub place: usize,
+    pub theirs: &'a str,
+}
+
+/// A pair whose argument is a place.
+pub fn place_pair(text: &str) -> Result<PlacePair<'_>, Fault> {
+    let (argument, theirs) = pair(text)?;
+    Ok(PlacePair {
+        argument,
+        place: place(argument)?,
+        theirs,
+    })
+}
+
 /// The number that a word writes.
 pub fn number(text: &str, base: Base) -> Result<u64, Fault> {
     let number = match base {
@@ -72,7 +90,7 @@ pub fn short_number(text: &str) -> Result<u32, Fault> {
 }
 
 /// A run of items: `first`, and then each greater by `step` than the one before it.
-#[derive(Drop)]
+#[derive(Clone, Copy)]
 struct Run {
     first: u64,
     step: u64,
@@ -96,15 +114,20 @@ fn read_run(text: &str, base: Base) -> Result<Run, Fault> {
     }
 }
 
+/// Adds the items of a run to a list.
+fn push_run(items: &mut Vec<u64>, run: Run) -> Result<(), Fault> {
+    for index in 0..run.count {
+        let more = run.step.checked_mul(index).ok_or(Fault::Malformed)?;
+        items.push(run.first.checked_add(more).ok_or(Fault::Malformed)?)?;
+    }
+    Ok(())
+}
+
 /// The items of a list.
 pub fn list(alloc: Global, text: &str, base: Base) -> Result<Vec<u64>, Fault> {
     let mut items = Vec::new(alloc);
     for word in text.split_ascii_whitespace() {
-        let Run { first, step, count } = read_run(word, base)?;
-        for index in 0..count {
-            let more = step.checked_mul(index).ok_or(Fault::Malformed)?;
-            items.push(first.checked_add(more).ok_or(Fault::Malformed)?)?;
-        }
+        push_run(&mut items, read_run(word, base)?)?;
     }
     Ok(items)
 }

@@ -2,7 +2,7 @@
 ghost use Rattle.std.specs.Prelude.{◌≤◌, IfOk};
 
 use crate::conditions::{fits, is_clear, is_fragment_in_range, is_in_range};
-use crate::content::State;
+use crate::content::{Call, State};
 use crate::fault::Fault;
 use crate::found::Found;
 use crate::text;
@@ -46,13 +46,7 @@ pub fn set<'a>(
     }
     let mut ours = Vec::from_slice(alloc, call.words)?;
     ours.as_mut_slice().set_bits(begin, number, len);
-    found.compare_list(
-        alloc,
-        call.text,
-        Base::Hexadecimal,
-        ours.as_slice(),
-        call.theirs,
-    )
+    compare(alloc, call, ours, found)
 }
 
 /// Compares the words after bits were negated.
@@ -69,21 +63,20 @@ pub fn xor<'a>(
     }
     let mut ours = Vec::from_slice(alloc, call.words)?;
     ours.as_mut_slice().xor_bits(begin, number, len);
-    found.compare_list(
-        alloc,
-        call.text,
-        Base::Hexadecimal,
-        ours.as_slice(),
-        call.theirs,
-    )
+    compare(alloc, call, ours, found)
+}
+
+/// As many zero words as a text writes words.
+fn zeros(alloc: Global, theirs: &str) -> Result<BoxedSlice<u64, Global>, Fault> {
+    let count = text::list(alloc, theirs, Base::Hexadecimal)?.len();
+    Ok(BoxedSlice::with_zeroed_64bit_segments(alloc, count)?)
 }
 
 /// Compares the words after a number was written to zero words.
 pub fn init<'a>(alloc: Global, line: &'a str, found: &mut Found<'a>) -> Result<(), Fault> {
     let (call, theirs) = text::halves(line)?;
     let Arguments { begin, len, number } = read_arguments(call, 64)?;
-    let count = text::list(alloc, theirs, Base::Hexadecimal)?.len();
-    let mut ours = BoxedSlice::with_zeroed_64bit_segments(alloc, count)?;
+    let mut ours = zeros(alloc, theirs)?;
     init_zeros(ours.as_mut_slice(), begin, number, len)?;
     found.compare_list(alloc, call, Base::Hexadecimal, ours.as_slice(), theirs)
 }
@@ -104,6 +97,43 @@ fn init_zeros(words: &mut [u64], begin: usize, number: u64, len: u8) -> Result<(
     Ok(())
 }
 
+/// Two fragments that change places, and their width.
+#[derive(Clone, Copy)]
+struct Fragments {
+    i: usize,
+    j: usize,
+    len: u8,
+}
+
+/// The fragments that a line writes.
+fn read_fragments(text: &str) -> Result<Fragments, Fault>
+    ensures { IfOk result (λ fragments. fragments.len ≤ 63) }
+{
+    let (i, rest) = text::first_word(text);
+    let (j, len) = text::first_word(rest);
+    Ok(Fragments {
+        i: text::place(i)?,
+        j: text::place(j)?,
+        len: text::width(len, 63)?,
+    })
+}
+
+/// Compares words with those that came of a call.
+fn compare<'a>(
+    alloc: Global,
+    call: Call<'_, 'a>,
+    ours: Vec<u64>,
+    found: &mut Found<'a>,
+) -> Result<(), Fault> {
+    found.compare_list(
+        alloc,
+        call.text,
+        Base::Hexadecimal,
+        ours.as_slice(),
+        call.theirs,
+    )
+}
+
 /// Compares the words after two fragments have changed places.
 pub fn swap<'a>(
     alloc: Global,
@@ -112,19 +142,11 @@ pub fn swap<'a>(
     found: &mut Found<'a>,
 ) -> Result<(), Fault> {
     let call = state.call(line)?;
-    let (i, arguments) = text::first_word(call.arguments);
-    let (j, len) = text::first_word(arguments);
-    let (i, j, len) = (text::place(i)?, text::place(j)?, text::width(len, 63)?);
+    let Fragments { i, j, len } = read_fragments(call.arguments)?;
     if !is_fragment_in_range(call.words, i, len) || !is_fragment_in_range(call.words, j, len) {
         return Err(Fault::Condition);
     }
     let mut ours = Vec::from_slice(alloc, call.words)?;
     ours.as_mut_slice().swap_fragments(i, j, len);
-    found.compare_list(
-        alloc,
-        call.text,
-        Base::Hexadecimal,
-        ours.as_slice(),
-        call.theirs,
-    )
+    compare(alloc, call, ours, found)
 }
