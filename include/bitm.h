@@ -30,9 +30,9 @@
  *     those of one sequence of numbers.
  *
  * Cost: the reads that single queries and lists of selections name below are upper bounds for all tables, right or
- * wrong, and proved of the library calls that these exports make (crates/bitm_search, crates/bitm_lent,
- * crates/elias_fano). That an export makes just this call, and the passes over words and items that builds and checks
- * name, are read in the code. Time is not proved.
+ * wrong, and proved of the library calls that these exports make (crates/bitm_tables, crates/bitm_search,
+ * crates/bitm_lent, crates/elias_fano). That an export makes just this call, and the passes over words and items that
+ * builds and checks name, are read in the code. Time is not proved.
  *
  * Lengths: each call tests those that it needs. bitm_build, bitm_write_header, the calls with a view, and those that
  * count ones or look for the next or previous bit return BITM_BAD_SIZE for 2^58 words or more; those that get or write

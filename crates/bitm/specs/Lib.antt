@@ -20,6 +20,6 @@ pub use Rattle.bitm_search.specs.Search
 pub use Rattle.bitm_search.specs.Tables
 pub use Rattle.bitm_search.specs.Told
 pub use Rattle.bitm_search.specs.declared.search.selected.Selected
-pub use Rattle.bitm_search.specs.declared.source.counts.ReadCounts
+pub use Rattle.bitm_search.specs.ReadCounts
 pub use Rattle.bitm_strategies.specs.Density
 pub use Rattle.bitm_strategies.specs.Samples

@@ -1,10 +1,11 @@
 pub mod Answers
-pub mod Entry
 pub mod Many
-pub mod Reads
 pub mod Search
-pub mod Tables
 pub mod Told
 pub use Rattle.bit_lists.specs.Bits
 pub use Rattle.bit_lists.specs.Count
 pub use Rattle.bit_lists.specs.Number
+pub use Rattle.bitm_tables.specs.Entry
+pub use Rattle.bitm_tables.specs.Reads
+pub use Rattle.bitm_tables.specs.Tables
+pub use Rattle.bitm_tables.specs.declared.source.counts.ReadCounts

@@ -1,10 +1,10 @@
 -- Many queries at once: each answer by its query, and how far the queries of a block have come.
 use Rattle.std.specs.Prelude.{◌≡◌, ℕ, ◌+◌, ◌*◌, ◌%◌, ◌^◌, ◌<◌, ◌≤◌, Bool, List, length, slice_index, slice_index_or}
 use Rattle.bit_lists.specs.Count.{as_bit, ones_before, Picks}
-use Rattle.bitm_search.specs.Entry.{before_in_part}
-use Rattle.bitm_search.specs.Search.{entries_from, entry_in, sought_in, IsLastPart, IsWord}
-use Rattle.bitm_search.specs.Tables.{HasTables, Lists}
-use Rattle.bitm_search.specs.Told.{less, told_entry, told_part, told_to}
+use Rattle.bitm_tables.specs.Entry.{before_in_part, entries_from, less}
+use Rattle.bitm_search.specs.Search.{entry_in, sought_in, IsLastPart, IsWord}
+use Rattle.bitm_tables.specs.Tables.{HasTables, Lists}
+use Rattle.bitm_search.specs.Told.{told_entry, told_part, told_to}
 use Rattle.bitm_search.specs.declared.search.loaded.InRecord.{InRecord}
 use Rattle.bitm_search.specs.declared.search.query.Query.{Query}
 

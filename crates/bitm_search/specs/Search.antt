@@ -1,21 +1,13 @@
 -- The bits in which ones are sought, and where the tables tell that one of a rank is.
-use Rattle.std.specs.Prelude.{◌≡◌, ℕ, ◌+◌, ◌-◌, ◌*◌, ◌^◌, ◌<◌, ◌≤◌, Bool, false, not, if◌then◌else◌, List, ◌++◌, length, map, min, replicate}
-use Rattle.std.specs.Int.{div_ceil}
+use Rattle.std.specs.Prelude.{◌≡◌, ℕ, ◌+◌, ◌*◌, ◌^◌, ◌<◌, ◌≤◌, Bool, if◌then◌else◌, List, length}
 use Rattle.bit_lists.specs.Bits.{bits_of}
 use Rattle.bit_lists.specs.Count.{ones_before, as_bit}
 use Rattle.bit_lists.specs.Number.{number_at}
-use Rattle.bitm_search.specs.Entry.{before_in_part}
-use Rattle.bitm_search.specs.Tables.{HasTables, Lists}
+use Rattle.bitm_tables.specs.Entry.{before_in_part}
+pub use Rattle.bitm_tables.specs.Entry.{entries_from, negation, padded_bits}
+use Rattle.bitm_tables.specs.Tables.{HasTables, Lists}
 use Rattle.bitm_search.specs.Told.{told_entry}
 use Rattle.bitm_search.specs.declared.search.entries.EntryRange.{EntryRange}
-
--- the bits, and falses up to a multiple of 2048
-abbrev pub padded_bits : List Bool → List Bool
-padded_bits b = b ++ replicate (div_ceil (length b) 2048 * 2048 - length b) false
-
--- each item negated
-abbrev pub negation : List Bool → List Bool
-negation b = map not b
 
 -- the bits in which ones are sought: the padded bits, all negated where v is false, so that a missing bit of the last
 -- entry counts as a zero
@@ -48,10 +40,6 @@ IsLastPart m parts r part = IsLast (λ k. ones_before m (k * 2 ^ 32)) parts r pa
 pub record IsPartOf (bit : ℕ) (lists : Lists) (r part rest : ℕ) : Type 0 where
   pub last : IsLastPart (sought_in bit lists.words) (length lists.upper) (ones_before (sought_in bit lists.words) (part * 2 ^ 32) + rest) part
   pub total : ones_before (sought_in bit lists.words) (part * 2 ^ 32) + rest ≡ r
-
--- how many entries a part has, of so many entries in all
-abbrev pub entries_from : ℕ → ℕ → ℕ
-entries_from entries part = min (entries - part * 2 ^ 21) (2 ^ 21)
 
 -- entry j of a part, counted from the first entry of all
 abbrev pub entry_in : ℕ → ℕ → ℕ

@@ -1,14 +1,11 @@
 -- What tables tell, whatever they hold: the numbers that a search reads, and when they tell that there is no such bit.
 use Rattle.std.specs.Prelude.{◌≡◌, ⊤, ℕ, ◌+◌, ◌-◌, ◌*◌, ◌^◌, ◌%◌, ◌<◌, ◌≤◌, Bool, true, false, length, slice_index}
 use Rattle.bit_lists.specs.Count.{count_before, count_of}
-use Rattle.bitm_search.specs.Entry.{field_0, greatest_entry, record_field}
-use Rattle.bitm_search.specs.Tables.{Lists, bits_in}
+use Rattle.bitm_tables.specs.Entry.{field_0, greatest_entry, record_field}
+pub use Rattle.bitm_tables.specs.Entry.{less}
+use Rattle.bitm_tables.specs.Tables.{Lists, bits_in}
 use Rattle.bitm_search.specs.declared.search.selected.Selected.{Selected}
 use Rattle.bitm_search.specs.declared.search.selected.Selected.TheVariants.{Found, Absent, WrongTables}
-
--- a less b, as numbers of 64 bits
-abbrev pub less : ℕ → ℕ → ℕ
-less a b = (a + (2 ^ 64 - b)) % 2 ^ 64
 
 -- how many bits v the upper table tells before a part
 abbrev pub told_part : Bool → Lists → ℕ → ℕ

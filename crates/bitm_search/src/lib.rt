@@ -1,11 +1,8 @@
-//! What an index is made of and searched by: the levels of its tables, their entries, the making of them, sources that
-//! count their reads, and rank and selection over a source. No table is kept: the index of `bitm` asks its own, and
-//! `bitm_lent` those that it is lent. So most functions ask nothing of what the tables hold, and say what they answer
-//! where the tables are those of the words.
+//! Selection over a source of words and tables, and many queries side by side. The tables, their entries, the sources and
+//! rank stand in `bitm_tables`, whose names this crate hands on. No table is kept, and most functions ask nothing of what
+//! the tables hold, and say what they answer where the tables are those of the words.
 #![tactic(auto)]
 
-pub mod entry;
-pub mod levels;
 pub mod search;
-pub mod source;
-pub mod tables;
+
+pub use bitm_tables::{entry, levels, source, tables};

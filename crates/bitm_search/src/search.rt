@@ -4,7 +4,8 @@ pub mod entries;
 pub mod loaded;
 pub mod many;
 pub mod query;
-pub mod ranking;
 pub mod record;
 pub mod selected;
 pub mod selecting;
+
+pub use bitm_tables::ranking;

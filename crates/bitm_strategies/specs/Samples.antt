@@ -7,7 +7,7 @@ use Rattle.bit_lists.specs.Count.{ones_of, ones_before, count_before, count_of, 
 use Rattle.bitm_search.specs.Reads.{ReadsAtMost}
 use Rattle.bitm_search.specs.Search.{sought_in, IsLastPart}
 use Rattle.bitm_search.specs.Tables.{AreTablesOf, Lists}
-use Rattle.bitm_search.specs.declared.source.counts.ReadCounts.{ReadCounts}
+use Rattle.bitm_search.specs.ReadCounts.{ReadCounts}
 use Rattle.bitm_strategies.specs.declared.sampled.PartBegin.{PartBegin}
 use Rattle.bitm_strategies.specs.declared.samples.Summary.{Summary}
 

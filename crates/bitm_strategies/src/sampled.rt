@@ -5,7 +5,7 @@ ghost use Rattle.bit_lists.specs.Count.{as_bit, IsSelect};
 ghost use Rattle.bitm_search.specs.Reads.{ReadsAtMost};
 ghost use Rattle.bitm_strategies.specs.Samples.{parts, samples_of, sample_starts_of, IsSampledPart, SampledReads};
 ghost use Rattle.bitm_search.specs.Tables.{HasTables};
-ghost use Rattle.bitm_search.specs.declared.source.counts.ReadCounts.{ReadCounts};
+ghost use Rattle.bitm_search.specs.ReadCounts.{ReadCounts};
 
 use crate::walking::walk;
 use bitm_search::search::record::in_packed;

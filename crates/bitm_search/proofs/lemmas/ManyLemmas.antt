@@ -6,20 +6,20 @@ use Rattle.std.proofs.Math.Pow.{pow_mono}
 use Rattle.std.proofs.lemmas.Nat.{pow-add}
 use Rattle.bit_lists.specs.Bits.{bits_of, IsShort}
 use Rattle.bit_lists.specs.Count.{ones_before, count_of, as_bit}
-use Rattle.bitm_search.specs.Entry.{before_in_part, field_0, lower_entry, record_field}
+use Rattle.bitm_tables.specs.Entry.{before_in_part, field_0, lower_entry, record_field}
 use Rattle.bitm_search.specs.Answers.{told_in, IsSelected, IsSelectedFrom, SelectTold}
 use Rattle.bitm_search.specs.Many.{IsInPart, IsNear, IsInRecord}
 use Rattle.bitm_search.specs.Search.{sought_in, IsLastPart, IsLastEntry, IsPartOf}
-use Rattle.bitm_search.specs.Tables.{Lists, HasSizes, HasTables, bits_in}
+use Rattle.bitm_tables.specs.Tables.{Lists, HasSizes, HasTables, bits_in}
 use Rattle.bitm_search.specs.Told.{wrong_for_absent, IfAbsent, TellsNone}
 use Rattle.bitm_search.specs.declared.search.loaded.InRecord.{InRecord}
 use Rattle.bitm_search.specs.declared.search.selected.Selected.{Selected}
 use Rattle.bitm_search.proofs.lemmas.MarkLemmas.{none_in_nothing}
-use Rattle.bitm_search.proofs.lemmas.LengthLemmas.{few_entries, first_of_part, sizes_of}
+use Rattle.bitm_tables.proofs.lemmas.LengthLemmas.{few_entries, first_of_part, sizes_of}
 use Rattle.bitm_search.proofs.lemmas.SelectedLemmas.{bit_kept, has_bit, never_absent, selected, told_is}
 use Rattle.bitm_search.proofs.lemmas.ToldLemmas.{record_none}
 use Rattle.bitm_search.proofs.lemmas.SoughtLemmas.{first_none, next_is, rank_is}
-use Rattle.bitm_search.proofs.lemmas.TableLemmas.{entries}
+use Rattle.bitm_tables.proofs.lemmas.TableLemmas.{entries}
 use borrow.Rule.Slice.PartMut.{put_mid}
 
 module _ (bit : ℕ) (lists : Lists) (rank rest : ℕ) where

@@ -11,9 +11,10 @@ use Rattle.bit_lists.proofs.lemmas.WordLemmas.{truth}
 use Rattle.bit_lists.specs.Bits.{bits_of, item}
 use Rattle.bit_lists.specs.Count.{ones_before, count_before, as_bit, Picks}
 use Rattle.bit_lists.specs.Number.{number_at}
-use Rattle.bitm_search.specs.Search.{padded_bits, sought_bits, sought_in, IsWord}
-use Rattle.bitm_search.proofs.lemmas.EntryLemmas.{ones_before-padded_bits, ones_before-complement}
-use Rattle.bitm_search.proofs.lemmas.StretchLemmas.{ones_before-self, ones_before-between}
+use Rattle.bitm_tables.specs.Entry.{padded_bits}
+use Rattle.bitm_search.specs.Search.{sought_bits, sought_in, IsWord}
+use Rattle.bitm_tables.proofs.lemmas.EntryLemmas.{ones_before-padded_bits, ones_before-complement}
+use Rattle.bitm_tables.proofs.lemmas.StretchLemmas.{ones_before-self, ones_before-between}
 
 -- ---- counts
 

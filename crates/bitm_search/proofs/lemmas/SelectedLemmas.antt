@@ -6,7 +6,7 @@ use Rattle.bit_lists.specs.Bits.{bits_of, IsShort}
 use Rattle.bit_lists.specs.Count.{ones_before, count_of, IsSelect}
 use Rattle.bitm_search.specs.Answers.{place_in, told_in, HasBit, IsFoundFrom, IsSelected, IsSelectedFrom, SelectTold}
 use Rattle.bitm_search.specs.Search.{sought_bits}
-use Rattle.bitm_search.specs.Tables.{HasTables, Lists, bits_in}
+use Rattle.bitm_tables.specs.Tables.{HasTables, Lists, bits_in}
 use Rattle.bitm_search.specs.Told.{wrong_for_absent, IfAbsent, TellsNone}
 use Rattle.bitm_search.specs.declared.search.selected.Selected.{Selected}
 use Rattle.bitm_search.specs.declared.search.selected.Selected.TheVariants.{Found, Absent, WrongTables}

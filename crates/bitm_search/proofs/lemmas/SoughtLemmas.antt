@@ -4,13 +4,13 @@ use Rattle.std.proofs.lemmas.Bool.{cases_lt}
 use Rattle.bit_lists.proofs.lemmas.BitsLemmas.{length-bits_of}
 use Rattle.bit_lists.specs.Bits.{bits_of, IsShort}
 use Rattle.bit_lists.specs.Count.{ones_before, as_bit}
-use Rattle.bitm_search.specs.Entry.{before_in_part, in_records, lower_entry, record_field, field_0}
-use Rattle.bitm_search.specs.Search.{padded_bits, negation, sought_bits, sought_in, IsLastPart, IsLastEntry, entries_from}
-use Rattle.bitm_search.specs.Tables.{AreTablesOf}
-use Rattle.bitm_search.proofs.lemmas.EntryLemmas.{entry-low, record_field_is}
+use Rattle.bitm_tables.specs.Entry.{before_in_part, in_records, lower_entry, record_field, field_0, padded_bits, negation, entries_from}
+use Rattle.bitm_search.specs.Search.{sought_bits, sought_in, IsLastPart, IsLastEntry}
+use Rattle.bitm_tables.specs.Tables.{AreTablesOf}
+use Rattle.bitm_tables.proofs.lemmas.EntryLemmas.{entry-low, record_field_is}
 use Rattle.bitm_search.proofs.lemmas.MarkLemmas.{ones_before-sought_bits, zeros_before-sought_bits, marked_zero, marked_other}
-use Rattle.bitm_search.proofs.lemmas.StretchLemmas.{ones_before-self, ones_before-between}
-use Rattle.bitm_search.proofs.lemmas.TableLemmas.{HasEntries, entries}
+use Rattle.bitm_tables.proofs.lemmas.StretchLemmas.{ones_before-self, ones_before-between}
+use Rattle.bitm_tables.proofs.lemmas.TableLemmas.{HasEntries, entries}
 
 -- ---- before a part
 

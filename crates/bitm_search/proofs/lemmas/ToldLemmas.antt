@@ -5,19 +5,19 @@ use Rattle.bit_lists.specs.Count.{as_bit, ones_before, count_before, count_of}
 use Rattle.bit_lists.proofs.BitLaws.{counts_grow, ones_and_zeros}
 use Rattle.bit_lists.proofs.lemmas.BitsLemmas.{length-bits_of}
 use Rattle.std.proofs.lemmas.Bool.{cases_lt}
-use Rattle.bitm_search.specs.Entry.{FieldsFit, greatest_entry, lower_entry, record_field}
+use Rattle.bitm_tables.specs.Entry.{FieldsFit, greatest_entry, lower_entry, record_field, entries_from, less}
 use Rattle.bitm_search.specs.Answers.{IsSelectedFrom}
 use Rattle.bitm_search.specs.Many.{IsToldRecord}
-use Rattle.bitm_search.specs.Search.{entries_from, entry_in, sought_bits, sought_in}
-use Rattle.bitm_search.specs.Tables.{HasSizes, HasTables, Lists}
-use Rattle.bitm_search.specs.Told.{count_from_word, less, told_entry, told_part, told_to, EntryTellsNone, IfAbsent, TellsNone}
+use Rattle.bitm_search.specs.Search.{entry_in, sought_bits, sought_in}
+use Rattle.bitm_tables.specs.Tables.{HasSizes, HasTables, Lists}
+use Rattle.bitm_search.specs.Told.{count_from_word, told_entry, told_part, told_to, EntryTellsNone, IfAbsent, TellsNone}
 use Rattle.bitm_search.specs.declared.search.loaded.InRecord.{InRecord}
 use Rattle.bitm_search.specs.declared.search.selected.Selected.{Selected}
 use Rattle.bitm_search.specs.declared.search.selected.Selected.TheVariants.{Found, Absent, WrongTables}
-use Rattle.bitm_search.proofs.lemmas.EntryLemmas.{entry-fits, entry-complement}
+use Rattle.bitm_tables.proofs.lemmas.EntryLemmas.{entry-fits, entry-complement}
 use Rattle.bitm_search.proofs.lemmas.MarkLemmas.{as_bit_other, none_in_nothing, ones_before-sought_bits, zeros_before-sought_bits}
 use Rattle.bitm_search.proofs.lemmas.SoughtLemmas.{entry_ones, entry_zeros}
-use Rattle.bitm_search.proofs.lemmas.TableLemmas.{entries}
+use Rattle.bitm_tables.proofs.lemmas.TableLemmas.{entries}
 
 -- the number that is told, by the kind that the code tests
 pub told_zeros : (bit : ℕ) (lists : Lists) (at : ℕ) → bit ≡ 0 → told_entry (as_bit bit) lists at ≡ told_entry false lists at

@@ -3,15 +3,15 @@
 ghost use Rattle.std.specs.Prelude.{◌≡◌, ◌+◌, ◌-◌, ◌*◌, ◌/◌, ◌^◌, ◌<◌, ◌≤◌, ◌⊎◌, length};
 ghost use Rattle.bit_lists.specs.Bits.{digit_count};
 ghost use Rattle.bit_lists.specs.Count.{as_bit};
-ghost use Rattle.bitm_search.specs.Entry.{lower_entry};
-ghost use Rattle.bitm_search.specs.Reads.{lower_read, ReadsAtMost};
-ghost use Rattle.bitm_search.specs.Search.{entries_from, entry_in, sought_in, IsLastEntry, IsRange};
-ghost use Rattle.bitm_search.specs.Tables.{HasSizes, HasTables};
+ghost use Rattle.bitm_tables.specs.Entry.{lower_entry, entries_from};
+ghost use Rattle.bitm_tables.specs.Reads.{lower_read, ReadsAtMost};
+ghost use Rattle.bitm_search.specs.Search.{entry_in, sought_in, IsLastEntry, IsRange};
+ghost use Rattle.bitm_tables.specs.Tables.{HasSizes, HasTables};
 ghost use Rattle.bitm_search.specs.Told.{told_entry};
 
-use crate::entry::{entries_of_part, negated_entry, ones_to_entry};
-use crate::levels::L2_ENTRIES_PER_L1_ENTRY;
-use crate::source::TableSource;
+use bitm_tables::entry::{entries_of_part, negated_entry, ones_to_entry};
+use bitm_tables::levels::L2_ENTRIES_PER_L1_ENTRY;
+use bitm_tables::source::TableSource;
 
 /// A search over fewer entries than this is by halving alone: the first caches hold them.
 const FEW: usize = 1 << 12;

@@ -4,18 +4,18 @@ ghost use Rattle.bit_lists.specs.Bits.{IsShort};
 ghost use Rattle.bit_lists.specs.Count.{as_bit, ones_before, Picks};
 ghost use Rattle.bitm_search.specs.Answers.{IsSelectedFrom, ToldEach};
 ghost use Rattle.bitm_search.specs.Many.{IsSearch, AreSearches, IsInRecord, AreInRecords};
-ghost use Rattle.bitm_search.specs.Reads.{word_read, ReadsAtMost};
+ghost use Rattle.bitm_tables.specs.Reads.{word_read, ReadsAtMost};
 ghost use Rattle.bitm_search.specs.Search.{sought_in, IsWord};
-ghost use Rattle.bitm_search.specs.Tables.{HasSizes, bits_in};
+ghost use Rattle.bitm_tables.specs.Tables.{HasSizes, bits_in};
 ghost use Rattle.bitm_search.specs.Told.{wrong_for_absent, IfAbsent};
 
-use crate::entry::ones_to_entry;
-use crate::levels::{U64_PER_L2_ENTRY, U64_PER_L2_RECORDS};
 use crate::search::entries::sought_entry;
 use crate::search::query::{Query, SIDE_BY_SIDE};
 use crate::search::record::{among, is_at_most, record_of, select_in_word, sought_word};
 use crate::search::selected::{Selected, told};
-use crate::source::TableSource;
+use bitm_tables::entry::ones_to_entry;
+use bitm_tables::levels::{U64_PER_L2_ENTRY, U64_PER_L2_RECORDS};
+use bitm_tables::source::TableSource;
 
 /// A query whose record is found. Contracts say of it `IsInRecord`.
 #[derive(Clone, Copy, PartialEq, Eq, Debug)]

@@ -4,14 +4,14 @@ ghost use Rattle.bit_lists.specs.Bits.{digit_count};
 ghost use Rattle.bit_lists.specs.Count.{count_of, as_bit};
 ghost use Rattle.bitm_search.specs.Answers.{ToldEach};
 ghost use Rattle.bitm_search.specs.Many.{RanksEach, PicksEach, AreSearches};
-ghost use Rattle.bitm_search.specs.Reads.{OnlyReads, ReadsAtMost};
-ghost use Rattle.bitm_search.specs.Tables.{HasSizes, IsIndexed, bits_in};
+ghost use Rattle.bitm_tables.specs.Reads.{OnlyReads, ReadsAtMost};
+ghost use Rattle.bitm_tables.specs.Tables.{HasSizes, IsIndexed, bits_in};
 
 use crate::search::loaded::tell_entries;
 pub use crate::search::query::SIDE_BY_SIDE;
 use crate::search::query::{NO_QUERY, Query, find_by_halves};
-use crate::search::ranking::rank_on;
-use crate::source::TableSource;
+use bitm_tables::ranking::rank_on;
+use bitm_tables::source::TableSource;
 
 /// For each index how many of the first so many bits of the source's words are ones.
 ///

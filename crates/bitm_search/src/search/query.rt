@@ -3,15 +3,15 @@
 ghost use Rattle.std.specs.Prelude.{◌≡◌, ◌+◌, ◌*◌, ◌^◌, ◌<◌, ◌≤◌, ℕ, IfSome, IsTrue, length};
 ghost use Rattle.bit_lists.specs.Bits.{digit_count};
 ghost use Rattle.bitm_search.specs.Many.{AreInside, AreSearches, IsInside, IsSearch};
-ghost use Rattle.bitm_search.specs.Reads.{ReadsAtMost};
-ghost use Rattle.bitm_search.specs.Tables.{HasSizes};
+ghost use Rattle.bitm_tables.specs.Reads.{ReadsAtMost};
+ghost use Rattle.bitm_tables.specs.Tables.{HasSizes};
 
-use crate::entry::ones_to_entry;
-use crate::levels::L2_ENTRIES_PER_L1_ENTRY;
 use crate::search::entries::sought_entry;
 use crate::search::record::is_at_most;
 use crate::search::selecting::part_of_rank;
-use crate::source::TableSource;
+use bitm_tables::entry::ones_to_entry;
+use bitm_tables::levels::L2_ENTRIES_PER_L1_ENTRY;
+use bitm_tables::source::TableSource;
 
 /// So many selections are under way side by side: more than a processor waits for at once.
 pub const SIDE_BY_SIDE: usize = 16;

@@ -5,16 +5,16 @@ ghost use Rattle.std.specs.Prelude.{length, count_ones, IfSome, MatchOption};
 ghost use Rattle.bit_lists.specs.Bits.{bits_of, IsShort};
 ghost use Rattle.bit_lists.specs.Count.{ones_before, as_bit, Picks};
 ghost use Rattle.bitm_search.specs.Answers.{HasBit, IsFoundFrom, IsSelected, IsSelectedFrom};
-ghost use Rattle.bitm_search.specs.Entry.{field_1, field_2, field_3, lower_entry, record_field};
-ghost use Rattle.bitm_search.specs.Reads.{word_read, ReadsAtMost};
-ghost use Rattle.bitm_search.specs.Search.{entries_from, entry_in, sought_in, IsLastPart, IsLastEntry, IsWord};
-ghost use Rattle.bitm_search.specs.Tables.{HasSizes, HasTables, bits_in};
+ghost use Rattle.bitm_tables.specs.Entry.{field_1, field_2, field_3, lower_entry, record_field, entries_from};
+ghost use Rattle.bitm_tables.specs.Reads.{word_read, ReadsAtMost};
+ghost use Rattle.bitm_search.specs.Search.{entry_in, sought_in, IsLastPart, IsLastEntry, IsWord};
+ghost use Rattle.bitm_tables.specs.Tables.{HasSizes, HasTables, bits_in};
 ghost use Rattle.bitm_search.specs.Told.{EntryTellsNone, IfAbsent};
 
-use crate::entry::{ones_to_entry, ones_to_record};
-use crate::levels::{L2_ENTRIES_PER_L1_ENTRY, U64_PER_L2_ENTRY, U64_PER_L2_RECORDS};
 use crate::search::selected::Selected;
-use crate::source::TableSource;
+use bitm_tables::entry::{ones_to_entry, ones_to_record};
+use bitm_tables::levels::{L2_ENTRIES_PER_L1_ENTRY, U64_PER_L2_ENTRY, U64_PER_L2_RECORDS};
+use bitm_tables::source::TableSource;
 use broadword::select64;
 
 /// 1 where no more than `rank` were counted, else 0.

@@ -6,15 +6,16 @@ ghost use Rattle.std.specs.Prelude.{◌≡◌, ◌+◌, ◌-◌, ◌*◌, ◌/�
 ghost use Rattle.bit_lists.specs.Bits.{digit_count};
 ghost use Rattle.bit_lists.specs.Count.{ones_before, as_bit, IsSelect};
 ghost use Rattle.bitm_search.specs.Answers.{HasBit, IsSelected};
-ghost use Rattle.bitm_search.specs.Reads.{upper_read, OnlyReads, ReadsAtMost};
+ghost use Rattle.bitm_tables.specs.Reads.{upper_read, OnlyReads, ReadsAtMost};
 ghost use Rattle.bitm_search.specs.Search.{sought_in, IsLastPart, IsPartOf};
-ghost use Rattle.bitm_search.specs.Tables.{HasSizes, HasTables, IsIndexed, bits_in};
-ghost use Rattle.bitm_search.specs.Told.{less, told_part, IfAbsent, TellsNone};
+ghost use Rattle.bitm_tables.specs.Tables.{HasSizes, HasTables, IsIndexed, bits_in};
+ghost use Rattle.bitm_tables.specs.Entry.{less};
+ghost use Rattle.bitm_search.specs.Told.{told_part, IfAbsent, TellsNone};
 
 use crate::search::entries::last_entry;
 use crate::search::record::in_packed;
 use crate::search::selected::{Selected, found};
-use crate::source::TableSource;
+use bitm_tables::source::TableSource;
 
 /// The place of the one of the source's words with exactly `rank` ones before it; zeros in place of ones where `BIT`
 /// is 0.

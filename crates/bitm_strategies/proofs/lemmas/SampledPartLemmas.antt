@@ -6,7 +6,7 @@ use Rattle.bit_lists.specs.Count.{as_bit, count_of, ones_before, IsSelect}
 use Rattle.bitm_search.specs.Reads.{ReadsAtMost}
 use Rattle.bitm_search.specs.Search.{IsLastEntry, entries_from, items_to, sought_in}
 use Rattle.bitm_search.specs.Tables.{Lists, HasTables}
-use Rattle.bitm_search.specs.declared.source.counts.ReadCounts.{ReadCounts}
+use Rattle.bitm_search.specs.ReadCounts.{ReadCounts}
 use Rattle.bitm_search.proofs.lemmas.TableLemmas.{HasEntries, entries}
 use Rattle.bitm_strategies.specs.Samples.{part_of, parts, walk_start, samples_of, sample_count_before, rank_in, IsSampledPart, SampledReads}
 use Rattle.bitm_strategies.specs.declared.sampled.PartBegin.{PartBegin}

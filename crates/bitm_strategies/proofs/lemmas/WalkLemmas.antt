@@ -12,7 +12,7 @@ use Rattle.bitm_search.specs.Entry.{before_in_part}
 use Rattle.bitm_search.specs.Reads.{ReadsAtMost}
 use Rattle.bitm_strategies.specs.Samples.{part_of, parts, sample, intervals, first_item, walk_start, sample_count_before, samples_of, sample_count_of, rank_in, WalkedTo, WalkedOut, SampledReads, IsSampleCount}
 use Rattle.bitm_search.specs.Search.{IsLastPart, IsLastEntry, entries_from, sought_bits}
-use Rattle.bitm_search.specs.declared.source.counts.ReadCounts.{ReadCounts}
+use Rattle.bitm_search.specs.ReadCounts.{ReadCounts}
 use Rattle.bitm_search.proofs.lemmas.MarkLemmas.{count_before-sought_bits}
 use Rattle.bit_lists.proofs.lemmas.CountLemmas.{count_before-none}
 use Rattle.bitm_strategies.proofs.lemmas.PartLemmas.{count_before-between, length-part_of, count_of-part_of, count_in_part, entry-small}

@@ -6,7 +6,7 @@ use Rattle.bit_lists.specs.Count.{as_bit, ones_before}
 use Rattle.bitm_strategies.specs.Samples.{parts, IsSampledPart, SampledReads}
 use Rattle.bitm_search.specs.Search.{sought_in}
 use Rattle.bitm_search.specs.Tables.{Lists, HasTables, IsIndexed}
-use Rattle.bitm_search.specs.declared.source.counts.ReadCounts.{ReadCounts}
+use Rattle.bitm_search.specs.ReadCounts.{ReadCounts}
 use Rattle.bitm_strategies.proofs.lemmas.SampleLemmas.{length-starts, start_at}
 use Rattle.bitm_search.proofs.lemmas.TableLemmas.{HasEntries, entries}
 use Rattle.bitm_strategies.proofs.sampled.sampled_in_parts.Goals as goal

@@ -4,7 +4,7 @@ use Rattle.bit_lists.specs.Bits.{bits_of}
 use Rattle.bitm_search.specs.Entry.{lower_entry}
 use Rattle.bitm_search.specs.Search.{entries_from, items_to, sought_in}
 use Rattle.bitm_search.specs.Tables.{HasTables, Lists}
-use Rattle.bitm_search.specs.declared.source.counts.ReadCounts.{ReadCounts}
+use Rattle.bitm_search.specs.ReadCounts.{ReadCounts}
 use Rattle.bitm_search.proofs.lemmas.LengthLemmas.{few_entries, first_of_part, sizes_of}
 use Rattle.bitm_search.proofs.lemmas.SoughtLemmas.{low_is}
 use Rattle.bitm_strategies.proofs.walking.walk.Goals as goal

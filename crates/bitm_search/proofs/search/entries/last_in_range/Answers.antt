@@ -1,13 +1,13 @@
 -- Each test halves what is left, and tells on which side the last entry of the part is if the tables are right.
 use Rattle.std.proofs.Common.{◌≡◌, ℕ, ◌+◌, ◌*◌, ◌-◌, ◌/◌, ◌^◌, ◌<◌, ◌≤◌, length, ap, sym, ◌∙◌, subst, arith, ◌⊎◌, inl, inr}
 use Rattle.bit_lists.specs.Count.{as_bit}
-use Rattle.bitm_search.specs.Entry.{before_in_part, lower_entry}
-use Rattle.bitm_search.specs.Search.{IsAmong, entries_from, sought_in}
-use Rattle.bitm_search.specs.Tables.{HasTables, Lists}
+use Rattle.bitm_tables.specs.Entry.{before_in_part, lower_entry, entries_from}
+use Rattle.bitm_search.specs.Search.{IsAmong, sought_in}
+use Rattle.bitm_tables.specs.Tables.{HasTables, Lists}
 use Rattle.bitm_search.specs.Told.{told_entry}
-use Rattle.bitm_search.specs.declared.source.counts.ReadCounts.{ReadCounts}
+use Rattle.bitm_tables.specs.declared.source.counts.ReadCounts.{ReadCounts}
 use Rattle.bitm_search.proofs.lemmas.SearchLemmas.{halves, halves_left}
-use Rattle.bitm_search.proofs.lemmas.LengthLemmas.{few_entries, first_of_part}
+use Rattle.bitm_tables.proofs.lemmas.LengthLemmas.{few_entries, first_of_part}
 use Rattle.bitm_search.proofs.lemmas.SoughtLemmas.{low_is, entries_rise}
 use Rattle.bitm_search.proofs.lemmas.ToldLemmas.{told_is}
 use Rattle.bitm_search.proofs.search.entries.last_in_range.Goals as goal

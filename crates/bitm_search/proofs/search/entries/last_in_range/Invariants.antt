@@ -2,7 +2,7 @@ use Rattle.std.proofs.Common.{◌≡◌, ◌+◌, ◌-◌, ◌*◌, ◌^◌, ◌
 use Rattle.bit_lists.specs.Bits.{digit_count}
 use Rattle.bit_lists.specs.Count.{as_bit}
 use Rattle.bitm_search.specs.Search.{IsAmong, sought_in}
-use Rattle.bitm_search.specs.Tables.{HasTables}
+use Rattle.bitm_tables.specs.Tables.{HasTables}
 use Rattle.bitm_search.specs.Told.{told_entry}
 use Rattle.bitm_search.proofs.search.entries.last_in_range.Given as goal
 

@@ -1,6 +1,6 @@
 -- Two halvings leave 2^19 entries at most; below a guess one read more tells so, and in its window or above it two.
 use Rattle.std.proofs.Common.{◌≡◌, ◌⊎◌, ℕ, ◌+◌, ◌*◌, ◌-◌, ◌/◌, ◌^◌, ◌<◌, ◌≤◌, ap, arith, inl, inr}
-use Rattle.bitm_search.specs.declared.source.counts.ReadCounts.{ReadCounts}
+use Rattle.bitm_tables.specs.declared.source.counts.ReadCounts.{ReadCounts}
 use Rattle.bit_lists.proofs.lemmas.DigitLemmas.{digit_count_most}
 use Rattle.bitm_search.proofs.search.entries.narrow_by_guess.Goals as goal
 use Rattle.bitm_search.proofs.search.entries.narrow_by_guess.Goals.{After-side_of-near}

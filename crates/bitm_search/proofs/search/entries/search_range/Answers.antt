@@ -1,10 +1,10 @@
 -- All entries of the part are a range, and as many halvings serve as their number has digits.
 use Rattle.std.proofs.Common.{◌≡◌, ℕ, ◌+◌, ◌*◌, ◌-◌, ◌^◌, ◌<◌, length, sym, subst, arith}
-use Rattle.bitm_search.specs.Entry.{before_in_part}
-use Rattle.bitm_search.specs.Search.{Between, IsRange, entries_from, sought_in}
+use Rattle.bitm_tables.specs.Entry.{before_in_part, entries_from}
+use Rattle.bitm_search.specs.Search.{Between, IsRange, sought_in}
 use Rattle.bit_lists.proofs.lemmas.DigitLemmas.{digit_count_most}
 use Rattle.bitm_search.proofs.lemmas.SearchLemmas.{search_begins}
-use Rattle.bitm_search.proofs.lemmas.LengthLemmas.{first_of_part}
+use Rattle.bitm_tables.proofs.lemmas.LengthLemmas.{first_of_part}
 use Rattle.bitm_search.proofs.lemmas.SoughtLemmas.{first_none}
 use Rattle.bitm_search.proofs.search.entries.search_range.Goals as goal
 use Rattle.bitm_search.proofs.search.entries.search_range.Goals.{After-entries_of_part}

@@ -1,12 +1,12 @@
 -- The entry tells on which side of it the last one is.
 use Rattle.std.proofs.Common.{◌≡◌, ℕ, ◌+◌, ◌*◌, ◌^◌, ◌<◌, ◌≤◌, length, ap, ◌∙◌, subst, arith}
-use Rattle.bitm_search.specs.Entry.{before_in_part, lower_entry}
-use Rattle.bitm_search.specs.Search.{entries_from, sought_in}
-use Rattle.bitm_search.specs.Tables.{HasTables}
+use Rattle.bitm_tables.specs.Entry.{before_in_part, lower_entry, entries_from}
+use Rattle.bitm_search.specs.Search.{sought_in}
+use Rattle.bitm_tables.specs.Tables.{HasTables}
 use Rattle.bitm_search.specs.Told.{told_entry}
 use Rattle.bit_lists.specs.Count.{as_bit}
 use Rattle.bitm_search.proofs.lemmas.SearchLemmas.{goes_over, goes_under}
-use Rattle.bitm_search.proofs.lemmas.LengthLemmas.{few_entries, first_of_part}
+use Rattle.bitm_tables.proofs.lemmas.LengthLemmas.{few_entries, first_of_part}
 use Rattle.bitm_search.proofs.lemmas.SoughtLemmas.{low_is}
 use Rattle.bitm_search.proofs.search.entries.side_of.Goals as goal
 use Rattle.bitm_search.proofs.search.entries.side_of.Goals.{After-ones_to_entry-count}

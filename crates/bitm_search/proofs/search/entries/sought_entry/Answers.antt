@@ -1,7 +1,6 @@
 -- The entry is what the table tells, and where the tables are right that of the bits.
 use Rattle.std.proofs.Common.{◌∙◌, ap, sym}
-use Rattle.bitm_search.specs.Entry.{greatest_entry}
-use Rattle.bitm_search.specs.Told.{less}
+use Rattle.bitm_tables.specs.Entry.{greatest_entry, less}
 use Rattle.bitm_search.proofs.lemmas.ToldLemmas.{told_is, told_ones, told_zeros}
 use Rattle.bitm_search.proofs.search.entries.sought_entry.Goals as goal
 

@@ -4,7 +4,7 @@ use Rattle.std.proofs.lemmas.List.{length-set}
 use Rattle.bit_lists.specs.Count.{as_bit, ones_before}
 use Rattle.bitm_search.specs.Answers.{IsSelectedFrom, SelectTold}
 use Rattle.bitm_search.specs.Search.{sought_in, IsWord}
-use Rattle.bitm_search.specs.Tables.{Lists}
+use Rattle.bitm_tables.specs.Tables.{Lists}
 use Rattle.bitm_search.specs.Told.{IfAbsent}
 use Rattle.bitm_search.proofs.lemmas.ManyLemmas.{told_record, written}
 use Rattle.bitm_search.proofs.search.loaded.finish_each.Goals as goal

@@ -3,7 +3,7 @@
 use Rattle.std.proofs.Common.{◌≡◌, ◌+◌, ◌*◌, subst, ◌∙◌, arith, count_ones}
 use Rattle.bit_lists.specs.Count.{as_bit, ones_before}
 use Rattle.bitm_search.specs.Search.{sought_in, IsWord}
-use Rattle.bitm_search.specs.Tables.{Lists}
+use Rattle.bitm_tables.specs.Tables.{Lists}
 use Rattle.bitm_search.proofs.lemmas.MarkLemmas.{CountsWord, picked_in_word, sought_bits-long, word_counts}
 use Rattle.bitm_search.proofs.lemmas.HalfLemmas.{HasItems, IsRun, four_items, items_before, run_ends, run_passes, two_items, word_items}
 use Rattle.bitm_search.proofs.search.loaded.in_whole.Goals as goal

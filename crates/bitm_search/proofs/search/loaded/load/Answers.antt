@@ -1,11 +1,11 @@
 -- The record is chosen by the fields of the entry; what is left of the rank counts from there.
 use Rattle.std.proofs.Common.{◌≡◌, ℕ, ◌+◌, ◌-◌, ◌*◌, ◌%◌, ◌^◌, ◌<◌, ◌≤◌, length, ap, refl, sym, subst, arith}
 use Rattle.bit_lists.specs.Count.{as_bit, ones_before}
-use Rattle.bitm_search.specs.Entry.{before_in_part}
+use Rattle.bitm_tables.specs.Entry.{before_in_part}
 use Rattle.bitm_search.specs.Search.{IsWord, sought_in}
-use Rattle.bitm_search.specs.Tables.{HasTables, Lists}
+use Rattle.bitm_tables.specs.Tables.{HasTables, Lists}
 use Rattle.bitm_search.specs.Told.{told_entry, told_part, told_to}
-use Rattle.bitm_search.proofs.lemmas.LengthLemmas.{few_entries}
+use Rattle.bitm_tables.proofs.lemmas.LengthLemmas.{few_entries}
 use Rattle.bitm_search.proofs.lemmas.ManyLemmas.{near_loads}
 use Rattle.bitm_search.proofs.lemmas.SoughtLemmas.{low_is, record_fields_rise}
 use Rattle.bitm_search.proofs.lemmas.ToldLemmas.{few_in_records}

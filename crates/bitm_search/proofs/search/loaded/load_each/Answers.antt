@@ -2,7 +2,7 @@
 use Rattle.std.proofs.Common.{◌<◌, length, slice_index, slice_index_or, ap, sym, ◌∙◌, subst, arith}
 use Rattle.std.proofs.lemmas.List.{length-set}
 use Rattle.bitm_search.specs.Many.{IsInRecord, IsSearch}
-use Rattle.bitm_search.specs.Tables.{Lists}
+use Rattle.bitm_tables.specs.Tables.{Lists}
 use Rattle.bitm_search.proofs.lemmas.ManyLemmas.{written}
 use Rattle.bitm_search.proofs.search.loaded.load_each.Goals as goal
 

@@ -2,7 +2,7 @@
 use Rattle.std.proofs.Common.{slice_index, subst}
 use Rattle.bit_lists.specs.Count.{as_bit}
 use Rattle.bitm_search.specs.Answers.{SelectTold}
-use Rattle.bitm_search.specs.Tables.{Lists}
+use Rattle.bitm_tables.specs.Tables.{Lists}
 use Rattle.bitm_search.proofs.search.loaded.tell_entries.Goals as goal
 
 pub returns-clause-told : goal.returns-clause-told

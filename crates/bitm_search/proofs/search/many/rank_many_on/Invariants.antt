@@ -1,6 +1,6 @@
 use Rattle.std.proofs.Common.{◌≡◌, ℕ, ◌+◌, ◌*◌, ◌<◌, ◌≤◌, length, slice_index}
 use Rattle.bit_lists.specs.Count.{ones_before}
-use Rattle.bitm_search.specs.Tables.{bits_in}
+use Rattle.bitm_tables.specs.Tables.{bits_in}
 use Rattle.bitm_search.proofs.search.many.rank_many_on.Given as goal
 
 -- the ranks so far, and the reads of each

@@ -1,6 +1,6 @@
 -- Where each rank has its item, what is told is its place.
 use Rattle.std.proofs.Common.{slice_index, arith}
-use Rattle.bitm_search.proofs.lemmas.LengthLemmas.{sizes_of}
+use Rattle.bitm_tables.proofs.lemmas.LengthLemmas.{sizes_of}
 use Rattle.bitm_search.proofs.lemmas.ManyLemmas.{some_part}
 use Rattle.bitm_search.proofs.search.many.select_many_on.Goals as goal
 

@@ -3,7 +3,7 @@ use Rattle.std.proofs.Common.{◌≡◌, ℕ, ◌+◌, ◌-◌, ◌*◌, ◌≤�
 use Rattle.bit_lists.specs.Bits.{digit_count}
 use Rattle.bit_lists.specs.Count.{as_bit}
 use Rattle.bitm_search.specs.Answers.{SelectTold}
-use Rattle.bitm_search.specs.Tables.{Lists}
+use Rattle.bitm_tables.specs.Tables.{Lists}
 use Rattle.bitm_search.proofs.lemmas.ManyLemmas.{answers_follow, part_long, put_long}
 use Rattle.bitm_search.proofs.search.many.tell_many_on.Goals as goal
 

@@ -1,7 +1,7 @@
 -- The part's first entry begins the search.
 use Rattle.std.proofs.Common.{arith}
 use Rattle.bitm_search.proofs.lemmas.ManyLemmas.{near_begins}
-use Rattle.bitm_search.proofs.lemmas.LengthLemmas.{few_entries, first_of_part}
+use Rattle.bitm_tables.proofs.lemmas.LengthLemmas.{few_entries, first_of_part}
 use Rattle.bitm_search.proofs.search.query.begin.Goals as goal
 
 pub overflow_mul-result : goal.overflow_mul-result

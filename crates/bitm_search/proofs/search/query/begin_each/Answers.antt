@@ -3,7 +3,7 @@ use Rattle.std.proofs.Common.{ℕ, ◌<◌, length, slice_index, ap, ◌∙◌, 
 use Rattle.std.proofs.lemmas.List.{length-set}
 use Rattle.bit_lists.specs.Bits.{digit_count}
 use Rattle.bitm_search.specs.Many.{IsSearch}
-use Rattle.bitm_search.specs.Tables.{Lists}
+use Rattle.bitm_tables.specs.Tables.{Lists}
 use Rattle.bitm_search.specs.declared.search.query.Query.{Query}
 use Rattle.bitm_search.proofs.lemmas.ManyLemmas.{written}
 use Rattle.bitm_search.proofs.search.query.begin_each.Goals as goal

@@ -1,8 +1,8 @@
 -- What two entries tell is that the one of the rank is between them.
 use Rattle.std.proofs.Common.{◌≡◌, ◌+◌, ◌<◌, ◌≤◌, length, sym, subst, arith}
-use Rattle.bitm_search.specs.Entry.{before_in_part, lower_entry}
+use Rattle.bitm_tables.specs.Entry.{before_in_part, lower_entry}
 use Rattle.bitm_search.specs.Search.{sought_in}
-use Rattle.bitm_search.specs.Tables.{Lists, HasTables}
+use Rattle.bitm_tables.specs.Tables.{Lists, HasTables}
 use Rattle.bitm_search.proofs.lemmas.ManyLemmas.{near_between}
 use Rattle.bitm_search.proofs.lemmas.SoughtLemmas.{low_is}
 use Rattle.bitm_search.proofs.search.query.guess.Goals as goal

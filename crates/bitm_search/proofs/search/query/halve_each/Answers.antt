@@ -2,7 +2,7 @@
 use Rattle.std.proofs.Common.{ℕ, ◌+◌, ◌<◌, length, slice_index, slice_index_or, ap, sym, ◌∙◌, subst, arith}
 use Rattle.std.proofs.lemmas.List.{length-set}
 use Rattle.bitm_search.specs.Many.{IsSearch}
-use Rattle.bitm_search.specs.Tables.{Lists}
+use Rattle.bitm_tables.specs.Tables.{Lists}
 use Rattle.bitm_search.specs.declared.search.query.Query.{Query}
 use Rattle.bitm_search.proofs.lemmas.ManyLemmas.{written, unwritten}
 use Rattle.bitm_search.proofs.search.query.halve_each.Goals as goal

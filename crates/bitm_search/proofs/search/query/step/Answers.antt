@@ -2,10 +2,10 @@
 use Rattle.std.proofs.Common.{◌≡◌, ℕ, ◌+◌, ◌*◌, ◌%◌, ◌^◌, ◌<◌, ◌≤◌, length, sym, ap, subst, ◌∙◌, arith, inl, inr}
 use Rattle.std.proofs.lemmas.Bool.{cases_lt}
 use Rattle.bit_lists.specs.Count.{as_bit}
-use Rattle.bitm_search.specs.Entry.{before_in_part}
+use Rattle.bitm_tables.specs.Entry.{before_in_part}
 use Rattle.bitm_search.specs.Many.{IsSearch}
 use Rattle.bitm_search.specs.Search.{sought_in}
-use Rattle.bitm_search.specs.Tables.{HasTables}
+use Rattle.bitm_tables.specs.Tables.{HasTables}
 use Rattle.bitm_search.proofs.lemmas.ManyLemmas.{near_stays, near_up, part_stays, part_up, step_few}
 use Rattle.bitm_search.proofs.lemmas.SoughtLemmas.{low_is}
 use Rattle.bitm_search.proofs.search.query.step.Goals as goal

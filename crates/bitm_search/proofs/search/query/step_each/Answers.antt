@@ -3,7 +3,7 @@ use Rattle.std.proofs.Common.{ℕ, ◌+◌, ◌<◌, length, slice_index, slice_
 use Rattle.std.proofs.lemmas.List.{length-set}
 use Rattle.std.proofs.lemmas.Nat.{pow-add}
 use Rattle.bitm_search.specs.Many.{IsInside, IsSearch}
-use Rattle.bitm_search.specs.Tables.{Lists}
+use Rattle.bitm_tables.specs.Tables.{Lists}
 use Rattle.bitm_search.specs.declared.search.query.Query.{Query}
 use Rattle.bitm_search.proofs.lemmas.ManyLemmas.{written, unwritten}
 use Rattle.bitm_search.proofs.search.query.step_each.Goals as goal

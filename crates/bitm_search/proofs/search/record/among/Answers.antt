@@ -2,8 +2,8 @@
 use Rattle.std.proofs.Common.{◌≡◌, ℕ, ◌+◌, ◌-◌, ◌*◌, ap, ◌∙◌, subst, arith, count_ones}
 use Rattle.bit_lists.specs.Count.{ones_before, as_bit}
 use Rattle.bitm_search.specs.Search.{IsWord, sought_in}
-use Rattle.bitm_search.specs.Tables.{Lists}
-use Rattle.bitm_search.specs.declared.source.counts.ReadCounts.{ReadCounts}
+use Rattle.bitm_tables.specs.Tables.{Lists}
+use Rattle.bitm_tables.specs.declared.source.counts.ReadCounts.{ReadCounts}
 use Rattle.bitm_search.proofs.lemmas.MarkLemmas.{CountsWord, sought_bits-long, word_counts, picked_in_word, word_passed}
 use Rattle.bitm_search.proofs.search.record.among.Goals as goal
 use Rattle.bitm_search.proofs.search.record.among.Goals.{After-sought_word-word}

@@ -2,9 +2,9 @@
 use Rattle.std.proofs.Common.{◌≡◌, ℕ, ◌+◌, ◌-◌, ◌*◌, ◌%◌, ◌^◌, ◌<◌, ◌≤◌, subst, arith}
 use Rattle.bit_lists.specs.Bits.{bits_of}
 use Rattle.bit_lists.specs.Count.{as_bit, ones_before}
-use Rattle.bitm_search.specs.Entry.{record_field}
+use Rattle.bitm_tables.specs.Entry.{record_field}
 use Rattle.bitm_search.specs.Search.{sought_in}
-use Rattle.bitm_search.specs.Tables.{HasTables}
+use Rattle.bitm_tables.specs.Tables.{HasTables}
 use Rattle.bitm_search.proofs.lemmas.SoughtLemmas.{low_is, rank_is, next_is, record_fields_rise}
 use Rattle.bitm_search.specs.Answers.{IsSelected, IsSelectedFrom}
 use Rattle.bitm_search.proofs.lemmas.SelectedLemmas.{found_within, has_bit, selected}

@@ -1,7 +1,7 @@
 -- The three counts rise, so the record is the number of those that are at most the rank.
 use Rattle.std.proofs.Common.{◌≡◌, ℕ, zero, suc, ◌+◌, ◌-◌, ◌*◌, ◌/◌, ◌%◌, ◌^◌, ◌<◌, ◌≤◌, refl, arith}
 use Rattle.std.proofs.lemmas.Nat.{and_mask}
-use Rattle.bitm_search.specs.Entry.{field_1, field_2, field_3, record_field}
+use Rattle.bitm_tables.specs.Entry.{field_1, field_2, field_3, record_field}
 use Rattle.bitm_search.proofs.lemmas.SoughtLemmas.{record_chosen}
 use Rattle.bitm_search.proofs.search.record.record_of.Goals as goal
 use Rattle.bitm_search.proofs.search.record.record_of.Goals.{After-is_at_most-3}

@@ -1,5 +1,5 @@
 -- Where the tables are right the place is the one that is sought.
-use Rattle.bitm_search.proofs.lemmas.LengthLemmas.{sizes_of}
+use Rattle.bitm_tables.proofs.lemmas.LengthLemmas.{sizes_of}
 use Rattle.bitm_search.proofs.lemmas.SelectedLemmas.{is_select}
 use Rattle.bitm_search.proofs.search.selecting.binary_select_on.Goals as goal
 

@@ -4,8 +4,8 @@ use Rattle.bit_lists.proofs.lemmas.CountLemmas.{ones_before_none}
 use Rattle.bit_lists.proofs.lemmas.DigitLemmas.{digit_count-mono}
 use Rattle.bit_lists.specs.Count.{ones_before}
 use Rattle.bitm_search.specs.Search.{Between, sought_in}
-use Rattle.bitm_search.specs.Tables.{IsIndexed, Lists}
-use Rattle.bitm_search.specs.declared.source.counts.ReadCounts.{ReadCounts}
+use Rattle.bitm_tables.specs.Tables.{IsIndexed, Lists}
+use Rattle.bitm_tables.specs.declared.source.counts.ReadCounts.{ReadCounts}
 use Rattle.bitm_search.proofs.lemmas.SearchLemmas.{search_begins, halves, search_ends, halves_left}
 use Rattle.bitm_search.proofs.lemmas.SoughtLemmas.{parts_rise}
 use Rattle.bitm_search.proofs.search.selecting.last_part.Goals as goal

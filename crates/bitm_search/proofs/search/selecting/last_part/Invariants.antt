@@ -2,7 +2,7 @@ use Rattle.std.proofs.Common.{◌≡◌, ◌+◌, ◌-◌, ◌*◌, ◌^◌, ◌
 use Rattle.bit_lists.specs.Bits.{digit_count}
 use Rattle.bit_lists.specs.Count.{ones_before}
 use Rattle.bitm_search.specs.Search.{Between, sought_in}
-use Rattle.bitm_search.specs.Tables.{IsIndexed}
+use Rattle.bitm_tables.specs.Tables.{IsIndexed}
 use Rattle.bitm_search.proofs.search.selecting.last_part.Given as goal
 
 -- some part is left, and where the last one is if the tables are right; no more reads than halvings

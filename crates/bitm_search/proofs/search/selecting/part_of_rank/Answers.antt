@@ -2,7 +2,7 @@
 use Rattle.std.proofs.Common.{◌≡◌, ℕ, ◌+◌, ◌-◌, ◌*◌, ◌%◌, ◌^◌, length, ap, sym, ◌∙◌, subst, arith}
 use Rattle.bit_lists.specs.Count.{ones_before}
 use Rattle.bitm_search.specs.Search.{sought_in, IsLastPart}
-use Rattle.bitm_search.specs.Tables.{IsIndexed, Lists}
+use Rattle.bitm_tables.specs.Tables.{IsIndexed, Lists}
 use Rattle.bitm_search.proofs.search.selecting.part_of_rank.Goals as goal
 
 pub returns-clause-part : goal.returns-clause-part

@@ -4,9 +4,10 @@ use Rattle.bit_lists.proofs.lemmas.BitsLemmas.{length-bits_of}
 use Rattle.bit_lists.specs.Bits.{bits_of}
 use Rattle.bit_lists.specs.Count.{as_bit, ones_before}
 use Rattle.bitm_search.specs.Answers.{IsSelected}
-use Rattle.bitm_search.specs.Search.{entries_from, entry_in, sought_in, IsLastPart}
+use Rattle.bitm_tables.specs.Entry.{entries_from}
+use Rattle.bitm_search.specs.Search.{entry_in, sought_in, IsLastPart}
 use Rattle.bitm_search.specs.Told.{told_entry, EntryTellsNone, IfAbsent}
-use Rattle.bitm_search.specs.Tables.{HasTables, Lists}
+use Rattle.bitm_tables.specs.Tables.{HasTables, Lists}
 use Rattle.bitm_search.proofs.lemmas.MarkLemmas.{none_in_nothing}
 use Rattle.bitm_search.proofs.lemmas.ToldLemmas.{all_none, nothing_tells}
 use Rattle.bitm_search.proofs.search.selecting.search_on.Goals as goal

@@ -1,0 +1,6 @@
+pub mod EntryLemmas
+pub mod LengthLemmas
+pub mod RankLemmas
+pub mod StretchLemmas
+pub mod TableLemmas
+pub mod TableMakingLemmas

@@ -1,0 +1,6 @@
+-- The tables are those of the words.
+use Rattle.bitm_tables.proofs.lemmas.LengthLemmas.{sizes_of}
+use Rattle.bitm_tables.proofs.ranking.rank_on.Goals as goal
+
+pub total_rank_on-requires : goal.total_rank_on-requires
+total_rank_on-requires g c = sizes_of _ c.requires.tables c.requires.short

@@ -1,0 +1,5 @@
+pub mod Entry
+pub mod Reads
+pub mod Tables
+pub use Rattle.bit_lists.specs.Bits
+pub use Rattle.bit_lists.specs.Count

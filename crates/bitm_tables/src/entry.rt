@@ -1,0 +1,69 @@
+//! One entry of the lower table: its fields by shifts, and the entry of the negated bits.
+ghost use Rattle.std.specs.Prelude.{◌≡◌, ◌-◌, ◌*◌, ◌/◌, ◌%◌, ◌^◌, ◌<◌, ◌≤◌, Bool, List};
+ghost use Rattle.bitm_tables.specs.Entry.{FieldsFit, FieldsAddUp, IsEntryOf, field_0, greatest_entry, lower_entry};
+ghost use Rattle.bitm_tables.specs.Entry.{zeros_before_in_part, entries_from, negation, padded_bits, less};
+
+use crate::levels::L2_ENTRIES_PER_L1_ENTRY;
+
+/// How many of so many lower entries a part has.
+///
+/// # Conditions
+/// The parts before it are full.
+#[inline(always)]
+pub fn entries_of_part(entries: usize, part: usize) -> usize
+    requires { part * 2 ^ 21 ≤ entries }
+    ensures { result ≡ entries_from entries part }
+{
+    (entries - part * L2_ENTRIES_PER_L1_ENTRY).min(L2_ENTRIES_PER_L1_ENTRY)
+}
+
+/// How many ones stand before an entry in its part.
+#[inline(always)]
+pub fn ones_to_entry(entry: u64) -> usize
+    ensures { result ≡ field_0 entry }
+{
+    (entry & 0xFFFF_FFFF) as usize
+}
+
+/// How many ones stand in an entry before one of its four records: by two shifts, and no branch for the first record.
+///
+/// # Conditions
+/// `place` is below 4.
+#[inline(always)]
+pub fn ones_to_record(entry: u64, place: usize) -> usize
+    requires { place < 4 }
+    ensures { result ≡ entry / 2 ^ (11 * (3 - place)) / 2 ^ 32 % 2 ^ 11 }
+{
+    (entry >> (33 - 11 * place) >> 32 & 0x7FF) as usize
+}
+
+/// Each field's greatest number at entry `at` less the field, where none exceeds it: one subtraction does all four, and
+/// none borrows then.
+#[inline(always)]
+pub fn negated_entry(entry: u64, at: usize) -> u64
+    ensures fits { FieldsFit entry at → result ≡ greatest_entry at - entry }
+    ensures told { result ≡ less (greatest_entry at) entry }
+{
+    ((at % L2_ENTRIES_PER_L1_ENTRY) as u64 * 2048 + 0x8020_0600_0000_0000).wrapping_sub(entry)
+}
+
+/// Lower entry `at` of the negated bits, from that of the bits: each field's greatest number less the field.
+///
+/// The four fields count the ones before the entry in its part of 2^32 bits, and in its first record, first two and
+/// first three records of 512 bits. Bits that miss in the last entry count as zeros.
+///
+/// # Conditions
+/// No field of `entry` exceeds its greatest number at entry `at`: so it is for each entry of a lower table
+/// (`index_laws::entries_fit`).
+#[inline(always)]
+pub fn complement_entry(entry: u64, at: usize) -> u64
+    requires { FieldsFit entry at }
+    ensures value { result ≡ greatest_entry at - entry }
+    ensures fields { FieldsAddUp entry result at }
+    ensures negation { (b : List Bool) → IsEntryOf b at entry
+        → result ≡ lower_entry (negation (padded_bits b)) at }
+    ensures zeros { (b : List Bool) → IsEntryOf b at entry
+        → field_0 result ≡ zeros_before_in_part b at }
+{
+    negated_entry(entry, at)
+}

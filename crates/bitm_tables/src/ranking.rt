@@ -1,0 +1,255 @@
+//! Rank over a source, with a bound on its reads.
+ghost use Rattle.std.specs.Prelude.{◌≡◌, ◌+◌, ◌*◌, ◌/◌, ◌^◌, ◌<◌, ◌≤◌};
+ghost use Rattle.std.specs.Prelude.{length, slice_index, count_ones, MatchOption, SomeIff};
+ghost use Rattle.bit_lists.specs.Bits.{bits_of, item, IsShort};
+ghost use Rattle.bit_lists.specs.Count.{ones_before, IsRank};
+ghost use Rattle.bitm_tables.specs.Reads.{OnlyReads, ReadsAtMost};
+ghost use Rattle.bitm_tables.specs.Tables.{HasSizes, HasTables, IsIndexed, bits_in};
+
+use crate::entry::{ones_to_entry, ones_to_record};
+use crate::levels::{
+    BITS_PER_L2_ENTRY, RECORD_BITS, RECORDS_PER_L2_ENTRY, U64_PER_L1_ENTRY, U64_PER_L2_RECORDS,
+};
+use crate::source::{Probe, TableSource};
+use broadword::ones_through;
+
+/// So many words, 4 MiB, stay in a processor's caches. Past that a rank waits for its words, and more ranks wait side
+/// by side if each takes no more instructions than it needs.
+const WORDS_IN_CACHE: usize = 1 << 19;
+
+/// A word of ones.
+const ALL: u64 = u64::MAX;
+
+/// Seven words of ones and seven of zeros: the seven from `7 - n` on keep the first `n` of seven words.
+const KEPT: [u64; 14] = [ALL, ALL, ALL, ALL, ALL, ALL, ALL, 0, 0, 0, 0, 0, 0, 0];
+
+/// How many ones of a word are kept by number `at` of `KEPT`: all for the first seven, else none.
+#[inline(always)]
+fn kept_ones(word: u64, at: usize) -> usize
+    requires { at < 14 }
+    ensures all { at < 7 → result ≡ count_ones word }
+    ensures none { 7 ≤ at → result ≡ 0 }
+{
+    (word & KEPT[at]).count_ones() as usize
+}
+
+/// What `ones_in_record` answers, of a record that the content has in full: seven words are counted in a straight line,
+/// and those from `end` on are left out by a mask.
+#[inline(always)]
+fn masked_ones<T: TableSource>(source: &mut T, first: usize, end: usize) -> usize
+    requires order { first ≤ end }
+    requires near { end < first + 8 }
+    requires whole { first + 8 ≤ length (T.lists source.old).words }
+    requires short { IsShort (T.lists source.old).words }
+    ensures ones { let b = bits_of (T.lists source.old).words in
+        ones_before b (64 * first) + result ≡ ones_before b (64 * end) }
+    ensures reads { ReadsAtMost (T.reads source.old) (T.reads source.new) 0 0 7 }
+    ensures same { T.lists source.new ≡ T.lists source.old }
+{
+    let mut ones = 0;
+    let from = first + 7 - end;
+    for k in 0..7 {
+        ones += kept_ones(source.word(first + k), from + k);
+    }
+    ones
+}
+
+/// What `ones_in_record` answers, with a test before each of its words.
+#[inline(always)]
+fn tested_ones<T: TableSource>(source: &mut T, first: usize, end: usize) -> usize
+    requires order { first ≤ end }
+    requires near { end < first + 8 }
+    requires inside { end < length (T.lists source.old).words }
+    requires short { IsShort (T.lists source.old).words }
+    ensures ones { let b = bits_of (T.lists source.old).words in
+        ones_before b (64 * first) + result ≡ ones_before b (64 * end) }
+    ensures reads { ReadsAtMost (T.reads source.old) (T.reads source.new) 0 0 7 }
+    ensures same { T.lists source.new ≡ T.lists source.old }
+{
+    let mut ones = 0;
+    for k in 0..7 {
+        if first + k == end {
+            return ones;
+        }
+        ones += source.word(first + k).count_ones() as usize;
+    }
+    ones
+}
+
+/// How many ones stand in the record that begins at word `first`, before word `end` of it.
+///
+/// In a small content each word up to the seventh is counted, and those from `end` on are left out by a mask, since the
+/// processor would guess wrongly at which of them a test ends the count. In a large one there are these tests, since
+/// they leave fewer instructions.
+///
+/// # Conditions
+/// There is a word `end`, and it is among the eight from `first` on. Nothing is asked of the tables.
+/// # Cost
+/// At most seven words are read.
+#[inline(always)]
+pub fn ones_in_record<T: TableSource>(source: &mut T, first: usize, end: usize) -> usize
+    requires short { IsShort (T.lists source.old).words }
+    requires order { first ≤ end }
+    requires near { end < first + 8 }
+    requires inside { end < length (T.lists source.old).words }
+    ensures ones { let b = bits_of (T.lists source.old).words in
+        ones_before b (64 * first) + result ≡ ones_before b (64 * end) }
+    ensures reads { ReadsAtMost (T.reads source.old) (T.reads source.new) 0 0 7 }
+    ensures same { T.lists source.new ≡ T.lists source.old }
+{
+    let len = source.words_len();
+    if len <= WORDS_IN_CACHE && first + U64_PER_L2_RECORDS <= len {
+        masked_ones(source, first, end)
+    } else {
+        tested_ones(source, first, end)
+    }
+}
+
+/// What `ones_in_record` answers, of words that have no tables.
+///
+/// # Conditions
+/// Those of `ones_in_record`.
+#[inline(always)]
+pub fn ones_of_words(words: &[u64], first: usize, end: usize) -> usize
+    requires short { IsShort words.now }
+    requires order { first ≤ end }
+    requires near { end < first + 8 }
+    requires inside { end < length words.now }
+    ensures { let b = bits_of words.now in
+        ones_before b (64 * first) + result ≡ ones_before b (64 * end) }
+{
+    let mut source = Probe::new(words, [].as_slice(), [].as_slice());
+    ones_in_record(&mut source, first, end)
+}
+
+/// How many ones stand before a part, where the tables are those of the words. Where there is one part none do, and its
+/// entry is not read: the test takes fewer instructions than the read.
+///
+/// # Conditions
+/// There is such a part. The tables may hold anything.
+/// # Cost
+/// At most one upper entry is read.
+#[inline(always)]
+pub fn ones_to_part<T: TableSource>(source: &mut T, part: usize) -> usize
+    requires { part < length (T.lists source.old).upper }
+    ensures count { HasTables (T.lists source.old)
+        → result ≡ ones_before (bits_of (T.lists source.old).words) (part * 2 ^ 32) }
+    ensures reads { ReadsAtMost (T.reads source.old) (T.reads source.new) 1 0 0 }
+    ensures same { T.lists source.new ≡ T.lists source.old }
+{
+    if source.words_len() <= U64_PER_L1_ENTRY {
+        0
+    } else {
+        source.upper(part)
+    }
+}
+
+/// The bit at `place` of the source's words; `None` exactly where the place is past the end, whatever the tables hold.
+///
+/// # Cost
+/// At most one word is read.
+#[tactic(auto, using(bit_lists::proofs::BitLaws::bits_are_counted, bit_lists::proofs::lemmas::BitsLemmas::item_tested))]
+#[inline(always)]
+pub fn bit_on<T: TableSource>(source: &mut T, place: usize) -> Option<bool>
+    ensures answer { SomeIff result (place < length (bits_in (T.lists source.old)))
+        (item (bits_in (T.lists source.old)) place) }
+    ensures reads { OnlyReads T.lists T.reads source.old source.new 0 0 1 }
+{
+    if place / 64 >= source.words_len() {
+        return None;
+    }
+    Some(source.word(place / 64) & (1u64 << (place % 64)) != 0)
+}
+
+/// How many of the first `index` bits of the source's words are ones; `None` exactly where there are fewer bits.
+///
+/// # Conditions
+/// The source's tables are those of its words, of fewer than 2^58 words.
+/// # Cost
+/// At most one upper entry, one lower entry and eight words are read: those of the last bit that counts.
+/// # Source
+/// The three levels are those of Zhou, Andersen and Kaminsky, 'Space-efficient, high-performance rank and select
+/// structures on uncompressed bit sequences' (SEA 2013), with the fields of an entry turned round so that rank needs no
+/// branch.
+#[inline(always)]
+pub fn rank_on<T: TableSource>(source: &mut T, index: usize) -> Option<usize>
+    requires { IsIndexed (T.lists source.old) }
+    ensures answer { IsRank (bits_in (T.lists source.old)) index result }
+    ensures reads { OnlyReads T.lists T.reads source.old source.new 1 1 8 }
+{
+    total_rank_on(source, index)
+}
+
+/// How many of the first `index` bits of the source's words are ones, where its tables are those of its words; `None`
+/// exactly where there are fewer bits, whatever the tables hold.
+///
+/// # Conditions
+/// There are fewer than 2^58 words, and the tables have the right lengths. They may hold anything.
+/// # Cost
+/// At most one upper entry, one lower entry and eight words are read: those of the last bit that counts.
+#[inline(always)]
+pub fn total_rank_on<T: TableSource>(source: &mut T, index: usize) -> Option<usize>
+    requires { HasSizes (T.lists source.old) }
+    ensures inside { MatchOption result (length (bits_in (T.lists source.old)) < index)
+        (λ _. index ≤ length (bits_in (T.lists source.old))) }
+    ensures answer { HasTables (T.lists source.old)
+        → IsRank (bits_in (T.lists source.old)) index result }
+    ensures reads { OnlyReads T.lists T.reads source.old source.new 1 1 8 }
+{
+    // The last bit that counts: at the exact length too it has a word, a record and an entry of each table, which the
+    // place itself may lack. Where no bit counts this is above every place, so one test tells both.
+    let last = index.wrapping_sub(1);
+    if last / 64 >= source.words_len() {
+        return if index == 0 { Some(0) } else { None };
+    }
+    Some(word_and_ones(source, last).1)
+}
+
+/// The word that has bit `last`, and how many of the bits to that one are ones, it too, where the tables are those of
+/// the words; else any number.
+///
+/// # Conditions
+/// There is such a bit.
+#[inline(always)]
+fn word_and_ones<T: TableSource>(source: &mut T, last: usize) -> (u64, usize)
+    requires sized { HasSizes (T.lists source.old) }
+    requires inside { last / 64 < length (T.lists source.old).words }
+    ensures word { result.0 ≡ slice_index (T.lists source.old).words (last / 64) }
+    ensures ones { HasTables (T.lists source.old)
+        → result.1 ≡ ones_before (bits_in (T.lists source.old)) (last + 1) }
+    ensures reads { OnlyReads T.lists T.reads source.old source.new 1 1 8 }
+{
+    let record = last / RECORD_BITS;
+    // The words first: then nothing of the entry is held in registers while they are counted.
+    let in_record = ones_in_record(source, record * U64_PER_L2_RECORDS, last / 64);
+    let word = source.word(last / 64);
+    let in_word = ones_through(word, last % 64) as usize;
+    let entry = source.lower(last / BITS_PER_L2_ENTRY);
+    let to_record = ones_to_entry(entry) + ones_to_record(entry, record % RECORDS_PER_L2_ENTRY);
+    let to_part = ones_to_part(source, last >> 32);
+    (word, to_part.wrapping_add(to_record + in_record + in_word))
+}
+
+/// The bit at `place` of the source's words, and how many ones stand before it; `None` exactly where the place is past
+/// the end.
+///
+/// # Conditions
+/// The source's tables are those of its words, of fewer than 2^58 words.
+/// # Cost
+/// At most one upper entry, one lower entry and eight words are read: the record that has the bit.
+#[tactic(auto, using(bit_lists::proofs::BitLaws::bits_are_counted, bit_lists::proofs::lemmas::BitsLemmas::item_tested))]
+#[inline(always)]
+pub fn bit_and_rank_on<T: TableSource>(source: &mut T, place: usize) -> Option<(bool, usize)>
+    requires { IsIndexed (T.lists source.old) }
+    ensures answer { let b = bits_in (T.lists source.old) in
+        MatchOption result (length b ≤ place)
+        (λ r. (place < length b) × (r.0 ≡ item b place) × (r.1 ≡ ones_before b place)) }
+    ensures reads { OnlyReads T.lists T.reads source.old source.new 1 1 8 }
+{
+    if place / 64 >= source.words_len() {
+        return None;
+    }
+    let (word, ones) = word_and_ones(source, place);
+    let bit = word & (1u64 << (place % 64)) != 0;
+    Some((bit, ones.wrapping_sub(bit as usize)))
+}
