@@ -109,11 +109,13 @@ fn compare_simple<'a>(
     let Some((simple, _)) = build(alloc, words)? else {
         return Ok(());
     };
-    if totals.of_ones {
-        found.compare_ranks(pairs, totals, |place| Rank::try_rank(&simple, place))
-    } else {
-        found.compare_ranks(pairs, totals, |place| simple.try_rank0(place))
-    }
+    found.compare_ranks(pairs, totals, |place| {
+        if totals.of_ones {
+            Rank::try_rank(&simple, place)
+        } else {
+            simple.try_rank0(place)
+        }
+    })
 }
 
 /// Compares ranks by the tables of an index.
@@ -127,11 +129,13 @@ fn compare_tables<'a>(
     requires { IsShort words.now }
 {
     let (index, _) = index::build::<BinaryRankSearch>(alloc, words)?;
-    if totals.of_ones {
-        found.compare_ranks(pairs, totals, |place| index.try_rank(place))
-    } else {
-        found.compare_ranks(pairs, totals, |place| index.try_rank0(place))
-    }
+    found.compare_ranks(pairs, totals, |place| {
+        if totals.of_ones {
+            index.try_rank(place)
+        } else {
+            index.try_rank0(place)
+        }
+    })
 }
 
 /// Compares the ones before places and before the end, by the simple rank and by the tables of an index.

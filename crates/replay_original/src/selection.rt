@@ -25,11 +25,13 @@ fn compare_by<'a, S: SelectForRank101111 + Select0ForRank101111>(
     requires { IsShort words.now }
 {
     let (index, _) = index::build::<S>(alloc, words)?;
-    if of_ones {
-        found.compare_places(pairs, |rank| index.try_select(rank))
-    } else {
-        found.compare_places(pairs, |rank| index.try_select0(rank))
-    }
+    found.compare_places(pairs, |rank| {
+        if of_ones {
+            index.try_select(rank)
+        } else {
+            index.try_select0(rank)
+        }
+    })
 }
 
 /// Compares the places of ones of ranks, by binary search and by samples.
