@@ -63,6 +63,43 @@ fn expect_ranges(rt: &impl Abort, matrix: &BinaryWaveletMatrix, list: &[u64], bo
     }
 }
 
+/// Compares what is asked of the numbers of a range by their order and by how often they are there with the sorted range.
+fn expect_counts(
+    rt: &impl Abort,
+    alloc: Global,
+    matrix: &BinaryWaveletMatrix,
+    list: &[u64],
+    start: usize,
+    end: usize,
+) -> Result<(), Fail> {
+    assert!(rt; matrix.len() == list.len() && start <= end && end <= list.len());
+    let mut sorted = list[start..end].to_vec(alloc)?;
+    sorted.sort_unstable();
+    for (k, x) in sorted.iter().enumerate() {
+        assert!(rt; k < end - start && matrix.quantile(start..end, k) == *x);
+        let between = sorted.iter().filter(|y| *x / 2 <= **y && **y < *x).count();
+        assert!(rt; matrix.range_count(start..end, *x / 2, *x) == between);
+    }
+    let mut pairs = Vec::new(alloc);
+    let mut passed = 0usize;
+    for (number, count) in matrix.distinct(start..end) {
+        assert!(rt; passed == sorted.iter().filter(|y| **y < number).count());
+        assert!(rt; count == sorted.iter().filter(|y| **y == number).count());
+        passed = passed.wrapping_add(count);
+        pairs.push((usize::MAX - count, number))?;
+    }
+    assert!(rt; passed == end - start);
+    pairs.sort_unstable();
+    for k in [0usize, 1, 3, 100].iter() {
+        let top = matrix.top_k(alloc, start..end, *k)?;
+        assert!(rt; top.len() == pairs.len().min(*k));
+        for (found, pair) in top.iter().zip(pairs.iter()) {
+            assert!(rt; found.0 == pair.1 && found.1 == usize::MAX - pair.0);
+        }
+    }
+    Ok(())
+}
+
 fn check(rt: &impl Abort, alloc: Global, len: usize, width: u8) -> Result<(), Fail> {
     let list = draw(alloc, len, width)?;
     let list = list.as_slice();
@@ -72,6 +109,10 @@ fn check(rt: &impl Abort, alloc: Global, len: usize, width: u8) -> Result<(), Fa
     expect_each(rt, &matrix, list);
     for bound in 0..10 {
         expect_ranges(rt, &matrix, list, bound);
+    }
+    for start in 0..list.len() {
+        expect_counts(rt, alloc, &matrix, list, start, list.len())?;
+        expect_counts(rt, alloc, &matrix, list, start / 2, start)?;
     }
     Ok(())
 }
@@ -108,5 +149,12 @@ fn the_numbers_of_the_picture_are_answered_as_worked_out(rt: HostRuntime) -> Res
     assert!(rt; ranks.as_slice() == [2usize, 1, 0].as_slice());
     let shared = matrix.intersect(rt.alloc(), 0..2, 3..6)?;
     assert!(rt; shared.as_slice() == [1].as_slice());
+    let mut distinct = matrix.distinct(1..5);
+    assert!(rt; distinct.next() == Some((1, 2)));
+    assert!(rt; distinct.next() == Some((4, 1)));
+    assert!(rt; distinct.next() == Some((5, 1)));
+    assert!(rt; distinct.next() == None);
+    let top = matrix.top_k(rt.alloc(), 0..6, 2)?;
+    assert!(rt; top.as_slice() == [(1, 3), (3, 1)].as_slice());
     Ok(())
 }
