@@ -63,6 +63,65 @@ fn expect_ranges(rt: &impl Abort, matrix: &BinaryWaveletMatrix, list: &[u64], bo
     }
 }
 
+/// Compares what stands where in a sorted range with that range.
+fn expect_order(
+    rt: &impl Abort,
+    matrix: &BinaryWaveletMatrix,
+    sorted: &[u64],
+    start: usize,
+    end: usize,
+) {
+    assert!(rt; start <= end && end <= matrix.len());
+    for (k, x) in sorted.iter().enumerate() {
+        assert!(rt; k < end - start && matrix.quantile(start..end, k) == *x);
+        let between = sorted.iter().filter(|y| *x / 2 <= **y && **y < *x).count();
+        assert!(rt; matrix.range_count(start..end, *x / 2, *x) == between);
+    }
+}
+
+/// Compares the distinct numbers of a range, and the most frequent ones, with the sorted range.
+fn expect_tallies(
+    rt: &impl Abort,
+    alloc: Global,
+    matrix: &BinaryWaveletMatrix,
+    sorted: &[u64],
+    start: usize,
+    end: usize,
+) -> Result<(), Fail> {
+    assert!(rt; start <= end && end <= matrix.len());
+    let mut pairs = Vec::new(alloc);
+    let mut passed = 0usize;
+    for (number, count) in matrix.distinct(start..end) {
+        assert!(rt; passed == sorted.iter().filter(|y| **y < number).count());
+        assert!(rt; count == sorted.iter().filter(|y| **y == number).count());
+        passed = passed.wrapping_add(count);
+        pairs.push((usize::MAX - count, number))?;
+    }
+    assert!(rt; passed == sorted.len());
+    pairs.sort_unstable();
+    let top = matrix.top_k(alloc, start..end, 3)?;
+    assert!(rt; top.len() == pairs.len().min(3));
+    for (found, pair) in top.iter().zip(pairs.iter()) {
+        assert!(rt; found.0 == pair.1 && found.1 == usize::MAX - pair.0);
+    }
+    Ok(())
+}
+
+fn expect_range(
+    rt: &impl Abort,
+    alloc: Global,
+    matrix: &BinaryWaveletMatrix,
+    list: &[u64],
+    start: usize,
+    end: usize,
+) -> Result<(), Fail> {
+    assert!(rt; start <= end && end <= list.len());
+    let mut sorted = list[start..end].to_vec(alloc)?;
+    sorted.sort_unstable();
+    expect_order(rt, matrix, sorted.as_slice(), start, end);
+    expect_tallies(rt, alloc, matrix, sorted.as_slice(), start, end)
+}
+
 fn check(rt: &impl Abort, alloc: Global, len: usize, width: u8) -> Result<(), Fail> {
     let list = draw(alloc, len, width)?;
     let list = list.as_slice();
@@ -72,6 +131,10 @@ fn check(rt: &impl Abort, alloc: Global, len: usize, width: u8) -> Result<(), Fa
     expect_each(rt, &matrix, list);
     for bound in 0..10 {
         expect_ranges(rt, &matrix, list, bound);
+    }
+    for start in 0..list.len() {
+        expect_range(rt, alloc, &matrix, list, start, list.len())?;
+        expect_range(rt, alloc, &matrix, list, start / 2, start)?;
     }
     Ok(())
 }
@@ -108,5 +171,18 @@ fn the_numbers_of_the_picture_are_answered_as_worked_out(rt: HostRuntime) -> Res
     assert!(rt; ranks.as_slice() == [2usize, 1, 0].as_slice());
     let shared = matrix.intersect(rt.alloc(), 0..2, 3..6)?;
     assert!(rt; shared.as_slice() == [1].as_slice());
+    Ok(())
+}
+
+#[test]
+fn the_most_frequent_numbers_of_the_picture_come_first(rt: HostRuntime) -> Result<(), Fail> {
+    let list = [3u64, 1, 4, 1, 5, 1];
+    let matrix = BinaryWaveletMatrix::build(rt.alloc(), list.as_slice(), 3)?;
+    assert!(rt; matrix.len() == 6);
+    let mut distinct = matrix.distinct(1..5);
+    assert!(rt; distinct.next() == Some((1, 2)));
+    assert!(rt; distinct.next() == Some((4, 1)));
+    let top = matrix.top_k(rt.alloc(), 0..6, 2)?;
+    assert!(rt; top.as_slice() == [(1, 3), (3, 1)].as_slice());
     Ok(())
 }
