@@ -1,4 +1,5 @@
--- Each law by its own name, for attributes and answers of callers: `#[tactic(auto, using(bitm::proofs::BitLaws::counts_grow))]`.
+-- Each law by its own name, for attributes and answers of callers:
+-- `#[tactic(auto, using(bitm::proofs::BitLaws::counts_grow))]`.
 use Rattle.std.proofs.Common.{arith}
 use Rattle.bit_lists.specs.Count.{count_before}
 use Rattle.bit_lists.specs.Laws.{ReadAfterWrite, NegatedTwice, SwappedTwice, SwappedWithItself, DigitsBoundPowers}

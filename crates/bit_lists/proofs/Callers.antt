@@ -1,5 +1,6 @@
--- What callers name in an attribute, as `#[tactic(auto, using(bitm::proofs::Callers::after_writes))]`: lemmas whose names
--- Rust can write, and sets of them. The lemmas that are handed on here with a hyphen in their names are for answers.
+-- What callers name in an attribute, as `#[tactic(auto, using(bitm::proofs::Callers::after_writes))]`:
+-- lemmas whose names Rust can write, and sets of them. The lemmas that are handed on here with a hyphen in
+-- their names are for answers.
 use Rattle.std.proofs.Common.{◌≡◌, ℕ, ◌+◌, ◌*◌, ◌<◌, ◌≤◌, Bool, true, false, if◌then◌else◌, List, [], ◌∷◌, length, Option, ap, sym, ◌∙◌, arith}
 use Rattle.bit_lists.specs.Bits.{bits_of, digit, item}
 use Rattle.bit_lists.specs.Coming.{all_bits_left, bits_left}

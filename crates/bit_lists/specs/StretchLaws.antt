@@ -1,5 +1,5 @@
--- What the definitions say of a stretch of items, of two contents one behind the other, of equal items, and of lists that agree.
--- Each law is the contract of a function of `laws`.
+-- What the definitions say of a stretch of items, of two contents one behind the other, of equal items, and of lists
+-- that agree. Each law is the contract of a function of `laws`.
 use Rattle.std.specs.Prelude.{◌≡◌, ◌≢◌, ℕ, ◌+◌, ◌*◌, ◌/◌, ◌%◌, ◌<◌, ◌≤◌, ◌↔◌, Bool, not, List, ◌++◌, length, take, drop, count_by, slice_index}
 use Rattle.bit_lists.specs.Bits.{bits_of, digit, item}
 use Rattle.bit_lists.specs.Count.{count_before, is_same, Picks}

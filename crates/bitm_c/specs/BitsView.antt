@@ -36,8 +36,8 @@ pub record BitsSelectAnswered (v : Bool) (c : Cut) (rank status old new : ℕ) :
       → (status ≡ 0) × Picks (bits_of_cut c) v rank new
   pub none : IsSizedCut c → HasTables c.lists → count_of (bits_of_cut c) v ≤ rank → status ≡ 1
 
--- of the places of the bits v from a place on: the list before and after the call, and how many were written, as many as there
--- is room for; the rest stays
+-- of the places of the bits v from a place on: the list before and after the call, and how many were written, as many
+-- as there is room for; the rest stays
 pub record PlacesWritten (v : Bool) (b : List Bool) (from : ℕ) (old new : List ℕ) (written : ℕ) : Type 0 where
   pub number : written ≡ min (length old) (count_of b v - count_before b v from)
   pub places : (j : ℕ) → j < written → Picks b v (count_before b v from + j) (slice_index new j)

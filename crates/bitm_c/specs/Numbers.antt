@@ -7,8 +7,8 @@ use Rattle.elias_fano_lent.specs.Told.{TellsAtMost, TellsLess}
 use Rattle.bitm_c.specs.Sequence.{view_parts, IsSized}
 use Rattle.bitm_c.specs.declared.sequence.SequenceView.{SequenceView}
 
--- of the last number that is at most value: the status, and the place before and after the call; whatever the parts hold, they
--- tell that all up to the place are at most value, or none where there is none
+-- of the last number that is at most value: the status, and the place before and after the call; whatever the parts
+-- hold, they tell that all up to the place are at most value, or none where there is none
 pub record LastAnswered (view : SequenceView) (value status old new : ℕ) : Type 0 where
   pub kept : status ≢ 0 → new ≡ old
   pub bad : ¬ (IsSized view) → status ≡ 2
@@ -20,8 +20,8 @@ pub record LastAnswered (view : SequenceView) (value status old new : ℕ) : Typ
   pub right : (xs : List ℕ) → Holds xs (view_parts view) → status ≡ 0 → StaysWithin xs value new
   pub none : (xs : List ℕ) → Holds xs (view_parts view) → status ≡ 1 → All (λ x. value < x) xs
 
--- of whether value is one of the numbers: the status, and the answer before and after the call; whatever the parts hold, they tell
--- how many numbers are less, and the answer is 0 where these are all
+-- of whether value is one of the numbers: the status, and the answer before and after the call; whatever the parts
+-- hold, they tell how many numbers are less, and the answer is 0 where these are all
 pub record ContainsAnswered (view : SequenceView) (value status old new : ℕ) : Type 0 where
   pub kept : status ≢ 0 → new ≡ old
   pub bad : ¬ (IsSized view) → status ≡ 2

@@ -15,8 +15,8 @@ use Rattle.elias_fano_lent.specs.declared.sizes.Sizes.{Sizes}
 use Rattle.bitm_c.specs.declared.sequence.SequenceLens.{SequenceLens}
 use Rattle.bitm_c.specs.declared.sequence.SequenceView.{SequenceView}
 
--- A status is 0 where the answer was written, 1 where there is no such number, 2 where a length is not as it has to be, 3 where the
--- parts are not those of a sequence, and 4 where a number is less than the one before it.
+-- A status is 0 where the answer was written, 1 where there is no such number, 2 where a length is not as it has to be,
+-- 3 where the parts are not those of a sequence, and 4 where a number is less than the one before it.
 
 -- the lengths as C sees them
 abbrev pub sizes_in_c : Sizes → SequenceLens
@@ -50,8 +50,8 @@ pub record ItemAnswered (view : SequenceView) (index status old new : ℕ) : Typ
   pub inside : IsSized view → index < view.len → (status ≡ 0) ⊎ (status ≡ 3)
   pub right : IsSized view → (xs : List ℕ) → Holds xs (view_parts view) → index < length xs → (status ≡ 0) × (new ≡ slice_index xs index)
 
--- of the first number that is at least value: the status, and the place before and after the call; whatever the parts hold, they
--- tell that all before the place are less, or all where there is none
+-- of the first number that is at least value: the status, and the place before and after the call; whatever the parts
+-- hold, they tell that all before the place are less, or all where there is none
 pub record PlaceAnswered (view : SequenceView) (value status old new : ℕ) : Type 0 where
   pub kept : status ≢ 0 → new ≡ old
   pub bad : ¬ (IsSized view) → status ≡ 2

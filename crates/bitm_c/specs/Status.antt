@@ -11,8 +11,8 @@ use Rattle.bitm.specs.Selected.TheVariants.{Found, Absent, WrongTables}
 use Rattle.bitm_c.specs.declared.header.Header.{Header}
 use Rattle.bitm_c.specs.declared.view.View.{View}
 
--- A status is 0 where the answer was written, 1 where there is no such place or bit, 2 where a length is not as it has to be, and 3
--- where the tables are not those of the words.
+-- A status is 0 where the answer was written, 1 where there is no such place or bit, 2 where a length is not as it has
+-- to be, and 3 where the tables are not those of the words.
 
 -- the words and both tables that a view lends
 abbrev pub view_lists : View → Lists

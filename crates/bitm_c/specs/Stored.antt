@@ -43,8 +43,8 @@ checksum_of h =
     let vectors = span_mixed (span_mixed (span_mixed (span_mixed numbers h.words) h.upper) h.lower) h.low in
     span_mixed (span_mixed (span_mixed (span_mixed vectors h.starts) h.starts0) h.samples) h.samples0
 
--- each part stands at the first multiple of 64 bytes behind the one before it, the words behind the 192 bytes of the header, and is
--- as long as the words, the low digits and the samples want it
+-- each part stands at the first multiple of 64 bytes behind the one before it, the words behind the 192 bytes of the
+-- header, and is as long as the words, the low digits and the samples want it
 pub record IsLaidOut (h : Stored) : Type 0 where
   pub mark : h.mark ≡ 0x0262_6174_6d74_6962
   pub words : h.words.at ≡ 192

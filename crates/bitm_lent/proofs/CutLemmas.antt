@@ -1,4 +1,5 @@
--- The first items of a list of bits: their counts are those of all, and a place that all have is one of them or behind them.
+-- The first items of a list of bits: their counts are those of all, and a place that all have is one of
+-- them or behind them.
 use Rattle.std.proofs.Common.{◌≡◌, ℕ, ◌<◌, ◌≤◌, Bool, List, length, take, inl, inr, sym, ap, ◌∙◌, arith}
 use Rattle.std.proofs.lemmas.List.{get_or-take, length-take-le}
 use Rattle.bit_lists.proofs.lemmas.CutLemmas.{same_count}

@@ -38,15 +38,16 @@ pub record IsBounded (c : List Bool) (v : Bool) (r entries low end : ℕ) : Type
   pub at_most : count_before c v (2048 * low) ≤ r
   pub above : end < entries → r < count_before c v (2048 * end)
 
--- the place with bit v and r such bits before it, Absent exactly where there are no more than r of them; or nothing is told
+-- the place with bit v and r such bits before it, Absent exactly where there are no more than r of
+-- them; or nothing is told
 abbrev pub IsSelectedIfTold : List Bool → Bool → ℕ → Selected → Type 0
 IsSelectedIfTold b v r (Found p) = Picks b v r p
 IsSelectedIfTold b v r Absent = count_of b v ≤ r
 IsSelectedIfTold b v r WrongTables = ⊤
 
--- n tells the place with bit v and r such bits before it. Whatever is lent, below 2^64 - 2 it is a place with bit v, and it is
--- 2^64 - 1 only where tables and words tell no more than r of them. Where the tables are right the place is the right one, it is
--- 2^64 - 1 only where there is none, and 2^64 - 2 only where the samples are wrong
+-- n tells the place with bit v and r such bits before it. Whatever is lent, below 2^64 - 2 it is a place with bit v,
+-- and it is 2^64 - 1 only where tables and words tell no more than r of them. Where the tables are right the place is
+-- the right one, it is 2^64 - 1 only where there is none, and 2^64 - 2 only where the samples are wrong
 pub record SampledTold (v : Bool) (lists : Lists) (lent : LentSamples) (r n : ℕ) : Type 0 where
   pub bit : n < 2 ^ 64 - 2 → (n < length (bits_in lists)) × (item (bits_in lists) n ≡ v)
   pub place : HasTables lists → n < 2 ^ 64 - 2 → Picks (bits_in lists) v r n

@@ -117,8 +117,8 @@ impl<'a> Lent<'a> {
 
     /// How many of the first `index` bits are ones.
     ///
-    /// Whatever the tables hold, `Absent` is answered exactly where there are fewer bits, and a count is at most `index`.
-    /// Where they are those of the words it is the right one, and `WrongTables` is never answered.
+    /// Whatever the tables hold, `Absent` is answered exactly where there are fewer bits, and a count is at most
+    /// `index`. Where they are those of the words it is the right one, and `WrongTables` is never answered.
     ///
     /// # Cost
     /// At most one upper entry, one lower entry and eight words are read.

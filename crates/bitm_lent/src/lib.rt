@@ -1,9 +1,9 @@
-//! Rank and select over borrowed words and tables, such as a mapped file: nothing is allocated or copied, and no call has
-//! a condition on what the tables hold.
+//! Rank and select over borrowed words and tables, such as a mapped file: nothing is allocated or copied, and no call
+//! has a condition on what the tables hold.
 //!
 //! With the tables of the words the answers are plain counting. If the tables are stale or hostile, every call still
-//! terminates within its read bound, a rank is at most its place, and any place that is returned is inside and holds the
-//! requested bit.
+//! terminates within its read bound, a rank is at most its place, and any place that is returned is inside and
+//! holds the requested bit.
 //!
 //! ```
 //! let (mut upper, mut lower) = ([0], [0; 2]);         // upper_len(40) and lower_len(40) entries

@@ -60,8 +60,8 @@ fn select_each<const BIT: u8>(lent: &Lent<'_>, ranks: &[usize], out: &mut [usize
 
 impl<'a> Lent<'a> {
     /// Writes the rank of each place, as `rank` answers it: `NO_ANSWER` for `Absent` and `WRONG_TABLES` for
-    /// `WrongTables`, and no count is one of these. Answers false exactly where there is not room for as many answers as
-    /// places, and nothing is written then.
+    /// `WrongTables`, and no count is one of these. Answers false exactly where there is not room for as many answers
+    /// as places, and nothing is written then.
     pub fn rank_list(&self, places: &[usize], out: &mut [usize]) -> bool
         ensures room { IsTrue result ↔ length out.old ≡ length places.now }
         ensures told { IsTrue result → (j : ℕ) → j < length places.now → RankTold true self.now

@@ -38,15 +38,16 @@ IsSelected b v r (Found p) = Picks b v r p
 IsSelected b v r Absent = count_of b v ≤ r
 IsSelected b v r WrongTables = ⊥
 
--- the same by rank r among the eight words from word k on, of which some may miss: WrongTables where more words follow and no
--- more than r bits v stand before them
+-- the same by rank r among the eight words from word k on, of which some may miss: WrongTables where more words follow
+-- and no more than r bits v stand before them
 abbrev pub IsSelectedFrom : List ℕ → Bool → ℕ → ℕ → Selected → Type 0
 IsSelectedFrom words v k r (Found p) = Picks (bits_of words) v r p
 IsSelectedFrom words v k r Absent = count_of (bits_of words) v ≤ r
 IsSelectedFrom words v k r WrongTables = (k + 8 < length words) × (ones_before (sought_bits v (bits_of words)) (64 * (k + 8)) ≤ r)
 
--- n tells the place with bit v and r such bits before it. Whatever the tables hold, below 2^64 - 2 it is a place with bit v, and it
--- is 2^64 - 1 only where tables and words tell no more than r of them; where they are right it is 2^64 - 1 where there is none
+-- n tells the place with bit v and r such bits before it. Whatever the tables hold, below 2^64 - 2 it is a place with
+-- bit v, and it is 2^64 - 1 only where tables and words tell no more than r of them; where they are right it is
+-- 2^64 - 1 where there is none
 pub record SelectTold (v : Bool) (lists : Lists) (r n : ℕ) : Type 0 where
   pub bit : n < 2 ^ 64 - 2 → (n < length (bits_in lists)) × (item (bits_in lists) n ≡ v)
   pub absent : n ≡ 2 ^ 64 - 1 → TellsNone v lists r

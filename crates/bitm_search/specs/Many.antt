@@ -16,8 +16,9 @@ RanksEach b indices ranks = (k : ℕ) → k < length indices → slice_index ran
 abbrev pub PicksEach : List Bool → Bool → List ℕ → List ℕ → Type 0
 PicksEach b v ranks places = (k : ℕ) → k < length ranks → Picks b v (slice_index ranks k) (slice_index places k)
 
--- of the items that are sought, the one of this rank is in the last part with no more before it, where rest of them stand before
--- it, and the last entry of the part with no more before it than that is among the 2^size from entry `at` on
+-- of the items that are sought, the one of this rank is in the last part with no more before it, where rest of
+-- them stand before it, and the last entry of the part with no more before it than that is among the 2^size
+-- from entry `at` on
 pub record IsNear (bit : ℕ) (lists : Lists) (rank rest at size : ℕ) : Type 0 where
   pub part : ℕ
   pub low : ℕ
@@ -30,7 +31,8 @@ pub record IsNear (bit : ℕ) (lists : Lists) (rank rest at size : ℕ) : Type 0
       → rest < before_in_part (sought_in bit lists.words) (entry_in part (low + 2 ^ size))
   pub room : low + 2 ^ size ≤ 2 ^ 21
 
--- a query, with 2^size entries left, is in a part, and its rest is what the upper table tells to be left of the rank there
+-- a query, with 2^size entries left, is in a part, and its rest is what the upper table tells to be
+-- left of the rank there
 pub record IsInPart (v : Bool) (lists : Lists) (rank : ℕ) (query : Query) (size : ℕ) : Type 0 where
   pub part : ℕ
   pub there : part < length lists.upper
@@ -39,7 +41,8 @@ pub record IsInPart (v : Bool) (lists : Lists) (rank : ℕ) (query : Query) (siz
   pub fits : told_part v lists part < 2 ^ 64
   pub rest : query.rest ≡ less rank (told_part v lists part)
 
--- a query is at an entry of a part, and where the tables are those of the words it is on its way to the item of the rank
+-- a query is at an entry of a part, and where the tables are those of the words it is on its way to the
+-- item of the rank
 pub record IsSearch (bit : ℕ) (lists : Lists) (rank : ℕ) (query : Query) (size : ℕ) : Type 0 where
   pub entry : query.entry < length lists.lower
   pub in_part : IsInPart (as_bit bit) lists rank query size
@@ -59,7 +62,8 @@ pub record AreInside (bit : ℕ) (lists : Lists) (ranks : List ℕ) (queries : L
   pub enough : length ranks ≤ length queries
   pub each : (k : ℕ) (d : Query) → k < length ranks → IsInside bit lists (slice_index ranks k) (slice_index_or queries k d) size
 
--- a record is record k of an entry, and its rest is what the tables tell to be left of the rank there, as a number of 64 bits
+-- a record is record k of an entry, and its rest is what the tables tell to be left of the rank there, as a
+-- number of 64 bits
 pub record IsToldRecord (v : Bool) (lists : Lists) (rank : ℕ) (at : InRecord) : Type 0 where
   pub part : ℕ
   pub entry : ℕ
@@ -72,8 +76,8 @@ pub record IsToldRecord (v : Bool) (lists : Lists) (rank : ℕ) (at : InRecord) 
   pub first : at.first ≡ entry * 32 + k * 8
   pub total : (told_part v lists part + told_to (told_entry v lists entry) k + at.rest) % 2 ^ 64 ≡ rank % 2 ^ 64
 
--- of the items that are sought, the one of this rank, if there is one, is in the record that begins at word first, where rest of
--- them stand before it, if the tables are those of the words; word is the first of the record
+-- of the items that are sought, the one of this rank, if there is one, is in the record that begins at word first,
+-- where rest of them stand before it, if the tables are those of the words; word is the first of the record
 pub record IsInRecord (bit : ℕ) (lists : Lists) (rank : ℕ) (at : InRecord) : Type 0 where
   pub fits : at.first < 2 ^ 60
   pub told : IsToldRecord (as_bit bit) lists rank at

@@ -54,8 +54,8 @@ IsLastEntry m entries part r e = IsLast (λ j. before_in_part m (entry_in part j
 abbrev pub IsAmong : List Bool → ℕ → ℕ → ℕ → ℕ → ℕ → Type 0
 IsAmong m entries part r low left = Between (λ j. before_in_part m (part * 2 ^ 21 + j)) (entries_from entries part) r low left
 
--- a range of the entries of a part, and what its first entry is told to pack, unless it is the part's first; where the tables are
--- those of the words, the last entry of the part with no more than r ones before it is in the range
+-- a range of the entries of a part, and what its first entry is told to pack, unless it is the part's first; where the
+-- tables are those of the words, the last entry of the part with no more than r ones before it is in the range
 pub record IsRange (bit : ℕ) (lists : Lists) (part r : ℕ) (range : EntryRange) : Type 0 where
   pub some : 0 < range.left
   pub within : range.low + range.left ≤ entries_from (length lists.lower) part

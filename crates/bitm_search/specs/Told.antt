@@ -31,16 +31,16 @@ told_to e k = field_0 e + record_field e k
 abbrev pub count_from_word : Lists → Bool → ℕ → ℕ
 count_from_word lists v k = count_of (bits_in lists) v - count_before (bits_in lists) v (64 * k)
 
--- an entry that packs e tells no more than r bits v to the end: to one of its records, behind which no word stands, and in the
--- words from there on
+-- an entry that packs e tells no more than r bits v to the end: to one of its records, behind which no word stands, and
+-- in the words from there on
 pub record EntryTellsNone (v : Bool) (lists : Lists) (at e r : ℕ) : Type 0 where
   pub k : ℕ
   pub inside : k < 4
   pub last : length lists.words ≤ 32 * at + 8 * k + 8
   pub count : told_to e k + count_from_word lists v (32 * at + 8 * k) ≤ r
 
--- tables and words tell no more than r bits v in all, as numbers of 64 bits: before the last part, in it to a record of its last
--- entry, behind which no word stands, and in the words from there on
+-- tables and words tell no more than r bits v in all, as numbers of 64 bits: before the last part, in it to a record of
+-- its last entry, behind which no word stands, and in the words from there on
 pub record TellsNone (v : Bool) (lists : Lists) (r : ℕ) : Type 0 where
   pub k : ℕ
   pub inside : k < 4

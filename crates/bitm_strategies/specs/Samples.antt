@@ -150,8 +150,8 @@ SampledReads b v d rank result early late =
     (WalkedOut (part_of b last) v d (rank_in b v rank last) uppers early late)
     (λ p. WalkedTo (part_of b (part_at p)) v d (rank_in b v rank (part_at p)) (entry_at p) uppers early late)
 
--- of the samples xs of the words, one for 2^d items, and of the items so many stand before the part; it is the last part with no
--- more than r items before it
+-- of the samples xs of the words, one for 2^d items, and of the items so many stand before the part; it is the last
+-- part with no more than r items before it
 pub record IsSampledPart (bit : ℕ) (lists : Lists) (xs : List ℕ) (d : ℕ) (begin : PartBegin) (r : ℕ) : Type 0 where
   pub low : 7 ≤ d
   pub high : d ≤ 31

@@ -92,8 +92,8 @@ impl<D: CombinedSamplingDensity> CombinedSampling<D> {
         self.samples.len()
     }
 
-    /// The samples that are kept, part after part, each with its entry in the low 21 bits and its distance in the others:
-    /// for code that stores them.
+    /// The samples that are kept, part after part, each with its entry in the low 21 bits and its distance in the
+    /// others: for code that stores them.
     #[inline(always)]
     pub fn samples(&self) -> &[u32]
         ensures { result.now ≡ self.now.samples }

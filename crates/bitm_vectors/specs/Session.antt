@@ -106,8 +106,8 @@ Answers old (line ∷ lines) (answer ∷ answers) new = (mid : State) × Step ol
 Answers old [] (answer ∷ answers) new = ⊥
 Answers old (line ∷ lines) [] new = ⊥
 
--- From old, a session answered a line and went on to new, and it was written: the writer's bytes, where it tells them, went
--- from before to after by just the answer and a line feed, and good says that it was not `bad command`.
+-- From old, a session answered a line and went on to new, and it was written: the writer's bytes, where it tells them,
+-- went from before to after by just the answer and a line feed, and good says that it was not `bad command`.
 pub record WroteAnswer (line : List ℕ) (old new : State) (before after : Option (List ℕ)) (good : Bool) : Type 0 where
   pub answer : Answer
   pub step : Step old (request_of line) answer new

@@ -5,7 +5,8 @@ use Rattle.bitm.specs.Tables.{HasTables, Lists}
 use Rattle.elias_fano.specs.Low.{Lows}
 use Rattle.elias_fano.specs.Parts.{ArePartsOf}
 
--- a number of items, how many of their digits are low ones, words of these digits, and the upper words with their tables
+-- a number of items, how many of their digits are low ones, words of these digits, and the upper
+-- words with their tables
 pub record LentParts : Type 0 where
   pub len : ℕ
   pub width : ℕ

@@ -11,8 +11,8 @@ pub record StandFrom (xs : List ℕ) (l start n first : ℕ) : Type 0 where
   pub before : (j : ℕ) → j < start → upper_place xs l j < first
   pub from : (j : ℕ) → start ≤ j → j < n → first ≤ upper_place xs l j
 
--- these are the parts of a sequence, the ones of the items in the range stand from bit first on and before bit limit, and
--- those of no other item do
+-- these are the parts of a sequence, the ones of the items in the range stand from bit first on and before bit limit,
+-- and those of no other item do
 pub record IsCursor (xs : List ℕ) (n l : ℕ) (low upper : List ℕ) (start end first limit : ℕ) : Type 0 where
   pub parts : ArePartsOf xs n l low upper
   pub order : start ≤ end

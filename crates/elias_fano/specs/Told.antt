@@ -15,8 +15,8 @@ pub record HasZeroAfter (lists : Lists) (z c : ℕ) : Type 0 where
   pub zero : item (bits_in lists) place ≡ false
   pub count : c ≡ less place z
 
--- the words tell that c of n numbers have at most z above their low digits: by the zero of z, or all, where words and tables tell
--- no more than z zeros
+-- the words tell that c of n numbers have at most z above their low digits: by the zero of z, or all, where words and
+-- tables tell no more than z zeros
 abbrev pub TellsTo : Lists → ℕ → ℕ → ℕ → Type 0
 TellsTo lists n z c = HasZeroAfter lists z c ⊎ ((c ≡ n) × TellsNone false lists z)
 
@@ -25,8 +25,8 @@ pub record TellsBelow (lists : Lists) (n h c : ℕ) : Type 0 where
   pub none : h ≡ 0 → c ≡ 0
   pub some : 0 < h → TellsTo lists n (h - 1) c
 
--- place p parts low digits from first on to end: the one before it is below rest, and its own is not; the first place where there
--- are no low digits
+-- place p parts low digits from first on to end: the one before it is below rest, and its own is not; the first place
+-- where there are no low digits
 pub record PartsAt (lows : ℕ → ℕ) (width first end rest p : ℕ) : Type 0 where
   pub from : first ≤ p
   pub to : p ≤ end
@@ -34,8 +34,8 @@ pub record PartsAt (lows : ℕ → ℕ) (width first end rest p : ℕ) : Type 0 
   pub less : first < p → lows (p - 1) < rest
   pub at_least : p < end → rest ≤ lows p
 
--- the parts tell that p of their numbers are less than v: the words, where the numbers with the upper digits of v begin and end, and
--- the low digits, where these part
+-- the parts tell that p of their numbers are less than v: the words, where the numbers with the upper digits of v begin
+-- and end, and the low digits, where these part
 pub record TellsLess (parts : LentParts) (v p : ℕ) : Type 0 where
   pub first : ℕ
   pub end : ℕ

@@ -57,8 +57,8 @@ fn only_reaches<T: TableSource>(source: &mut T, low: &mut LowDigits<'_>, v: u64)
 
 /// The least place of a sequence whose number is at least `v`; `None` exactly where there is none.
 ///
-/// The sequence is handed in by its parts: the low digits are those of `EliasFano::low_digits`, `n` is the number of its
-/// items, and the source has its `upper_words`.
+/// The sequence is handed in by its parts: the low digits are those of `EliasFano::low_digits`, `n` is the number of
+/// its items, and the source has its `upper_words`.
 ///
 /// # Conditions
 /// The parts are those of one sequence of fewer than 2^56 numbers; the source's tables are those of its words.

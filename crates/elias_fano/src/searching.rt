@@ -153,8 +153,8 @@ fn count_below<const TESTS: u8, T: TableSource>(
     count_to::<TESTS, T>(source, above - 1, n)
 }
 
-/// The least place from `first` up to `end` whose low digits are at least `rest`, and `end` where there is none; `first`
-/// where there are no low digits.
+/// The least place from `first` up to `end` whose low digits are at least `rest`, and `end` where there is none;
+/// `first` where there are no low digits.
 ///
 /// # Conditions
 /// The places are in order, and there are so many fragments, in words that may hold anything. Where the low digits fall

@@ -29,11 +29,12 @@ use std::marker::Model;
 
 /// A monotone integer sequence (Elias-Fano): numbers, each at least the one before it.
 ///
-/// The `l` lowest binary digits of the numbers lie side by side in the low words, those of number `i` as fragment `i`. The
-/// rest of number `i`, `x >> l`, is how many zeros stand before its one in the upper words, so that one is at
-/// `(x >> l) + i`. With `n` numbers and `u` the largest, `l` is the number of digits of `u / n` less one, 0 where there is
-/// none; the upper vector has `n + (u >> l) + 1` bits, fewer than `3 n + 2`. Both have as few words as hold them, and all
-/// other bits are zeros. So a sequence takes at most `n * (l + 3) + 126` bits and the index over the upper vector.
+/// The `l` lowest binary digits of the numbers lie side by side in the low words, those of number `i` as fragment
+/// `i`. The rest of number `i`, `x >> l`, is how many zeros stand before its one in the upper words, so that one is
+/// at `(x >> l) + i`. With `n` numbers and `u` the largest, `l` is the number of digits of `u / n` less one, 0
+/// where there is none; the upper vector has `n + (u >> l) + 1` bits, fewer than `3 n + 2`. Both have as few words
+/// as hold them, and all other bits are zeros. So a sequence takes at most `n * (l + 3) + 126` bits and the index
+/// over the upper vector.
 ///
 /// For 2, 3, 5, 7, 11, 13, 24 the width `l` is 1, since 24 / 7 is 3, and there are 7 + 12 + 1 = 20 upper bits:
 ///
@@ -49,9 +50,9 @@ use std::marker::Model;
 ///
 /// Number 4 is at the one with four ones before it, place 9: 9 - 4 = 5 zeros stand before it, its low digit is 1, and
 /// 5 * 2 + 1 = 11. The first number that is at least 8 has a rest of at least 8 >> 1 = 4. The zero with three zeros
-/// before it is at 7, so 7 - 3 = 4 numbers have a rest of at most 3; the next zero is at 8, and 8 - 4 = 4 have one of at
-/// most 4. So no number has the rest 4, and the first one with more, number 4, is the answer. `specs/Parts.antt` has the
-/// definitions.
+/// before it is at 7, so 7 - 3 = 4 numbers have a rest of at most 3; the next zero is at 8, and 8 - 4 = 4 have one
+/// of at most 4. So no number has the rest 4, and the first one with more, number 4, is the answer.
+/// `specs/Parts.antt` has the definitions.
 ///
 /// # Source
 /// Elias, 'Efficient storage and retrieval by content and address of static files' (1974), and Fano, 'On the number of

@@ -66,9 +66,9 @@ IsKeptFrom n old new = (length new ≡ length old) × ((j : ℕ) → n ≤ j →
 abbrev pub IsAllLess : List ℕ → ℕ → Type 0
 IsAllLess xs v = (j : ℕ) → j < length xs → slice_index xs j < v
 
--- n tells the least place whose number is at least v: below 2^64 - 2 it is a place, whatever the parts hold, and where they are
--- those of a sequence it is the right one, or 2^64 - 1 exactly where each number is less. Whatever they hold, they tell that all
--- before that place are less, or all where it is 2^64 - 1
+-- n tells the least place whose number is at least v: below 2^64 - 2 it is a place, whatever the parts hold, and where
+-- they are those of a sequence it is the right one, or 2^64 - 1 exactly where each number is less. Whatever they hold,
+-- they tell that all before that place are less, or all where it is 2^64 - 1
 pub record PlaceTold (parts : LentParts) (v n : ℕ) : Type 0 where
   pub place : n < 2 ^ 64 - 2 → n < parts.len
   pub before : n < 2 ^ 64 - 2 → TellsLess parts v n

@@ -1,5 +1,5 @@
-//! The first number that reaches a value, of which lists of selections tell the ends of the bucket: the numbers with the
-//! value's upper digits.
+//! The first number that reaches a value, of which lists of selections tell the ends of the bucket: the numbers with
+//! the value's upper digits.
 ghost use Rattle.std.specs.Prelude.{◌≡◌, ◌-◌, ◌/◌, ◌^◌, ◌<◌, ◌≤◌, ℕ, List, length, slice_index, false, IsSomeAnd};
 ghost use Rattle.std.specs.Prelude.{IfSome};
 ghost use Rattle.bitm.specs.Answers.{SelectTold};
@@ -68,8 +68,8 @@ fn count_below(told: usize, above: usize, n: usize) -> Option<usize>
     count_to(told, above - 1, n)
 }
 
-/// The least place whose number is at least `v`, of `n` numbers, of which lists of selections tell the zeros at the ends
-/// of its bucket. It reads as many fragments of the low digits as `place_in_bucket`.
+/// The least place whose number is at least `v`, of `n` numbers, of which lists of selections tell the zeros at the
+/// ends of its bucket. It reads as many fragments of the low digits as `place_in_bucket`.
 #[inline(always)]
 pub(crate) fn place_of(
     low: &mut LowDigits<'_>,

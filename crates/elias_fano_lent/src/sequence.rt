@@ -126,8 +126,8 @@ impl<'a> LentSequence<'a> {
             .select_list(&places[at..at + count], &mut ones[0..count]);
     }
 
-    /// At the first place of each sixteen, selects the zeros before the buckets of them all side by side, where `less` is
-    /// 1, and those after them where it is 0.
+    /// At the first place of each sixteen, selects the zeros before the buckets of them all side by side, where `less`
+    /// is 1, and those after them where it is 0.
     #[inline(always)]
     pub(crate) fn zeros_ahead(&self, values: &[u64], at: usize, less: usize, zeros: &mut [usize])
         requires at { at < length values.now }

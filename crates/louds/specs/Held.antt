@@ -20,8 +20,8 @@ pub record IsWritten (d : List ℕ) (n : ℕ) (b : List Bool) : Type 0 where
 abbrev pub words_of : ℕ → ℕ
 words_of n = div_ceil (2 * n + 1) 64
 
--- the bits hold the tree of the degrees, in no more words than it takes: zero j stands at its place, for each node and at
--- the end
+-- the bits hold the tree of the degrees, in no more words than it takes: zero j stands at its place, for each node
+-- and at the end
 pub record IsHeld (d : List ℕ) (n : ℕ) (b : List Bool) : Type 0 where
   pub count : n ≡ length d
   pub tree : IsTree d

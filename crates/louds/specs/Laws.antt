@@ -6,8 +6,8 @@ use Rattle.louds.specs.Tree.{IsTree, IsChild}
 abbrev pub OneParent : Type 0
 OneParent = (d : List ℕ) (i j k l v : ℕ) → IsChild d i k v → IsChild d j l v → (i ≡ j) × (k ≡ l)
 
--- a list of degrees is a tree exactly where it has one child for each node but the root, and each of these is a child of a
--- node before it
+-- a list of degrees is a tree exactly where it has one child for each node but the root, and each of these is a child
+-- of a node before it
 abbrev pub TreesHaveParents : Type 0
 TreesHaveParents =
     (d : List ℕ) → IsTree d

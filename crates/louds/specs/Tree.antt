@@ -7,8 +7,8 @@ pub record IsChild (d : List ℕ) (i k v : ℕ) : Type 0 where
   pub some : k < slice_index d i
   pub number : v ≡ 1 + sum (take i d) + k
 
--- there is one child for each node but the root, and each node v but the root is a child of a node before it: the first v
--- nodes have at least v children
+-- there is one child for each node but the root, and each node v but the root is a child of a node before it: the first
+-- v nodes have at least v children
 pub record IsTree (d : List ℕ) : Type 0 where
   pub count : sum d + 1 ≡ length d
   pub parents : (v : ℕ) → 0 < v → v < length d → v ≤ sum (take v d)

@@ -1,5 +1,5 @@
-//! Laws of the definitions that contracts cite. A function here does nothing: its contract is the law, and a caller that
-//! wants the law calls it.
+//! Laws of the definitions that contracts cite. A function here does nothing: its contract is the law, and a caller
+//! that wants the law calls it.
 ghost use Rattle.louds.specs.Laws.{OneParent, TreesHaveParents};
 
 /// A node is a child of one node alone, in one place.
@@ -7,8 +7,8 @@ pub fn one_parent()
     ensures { OneParent }
 {}
 
-/// A list of degrees is a tree exactly where it has one child for each node but the root, and each of these is a child of
-/// a node before it.
+/// A list of degrees is a tree exactly where it has one child for each node but the root, and each of these is a child
+/// of a node before it.
 pub fn trees_have_parents()
     ensures { TreesHaveParents }
 {}

@@ -24,9 +24,9 @@ const TOO_MANY: usize = 1 << 60;
 /// A tree whose nodes are numbered level by level from the root, node 0: child `k` of node `i` is one more than the
 /// children of all nodes before `i`, and `k`.
 ///
-/// It is held as 10 and then for each node its degree in ones and a zero, `2 * n + 1` bits for `n` nodes, with an index.
-/// The one of rank `v` is that of node `v`, among those of its parent; the zero of rank `v` stands before the ones of
-/// node `v`. Generic in the two strategies that select ones and zeros.
+/// It is held as 10 and then for each node its degree in ones and a zero, `2 * n + 1` bits for `n` nodes, with an
+/// index. The one of rank `v` is that of node `v`, among those of its parent; the zero of rank `v` stands before the
+/// ones of node `v`. Generic in the two strategies that select ones and zeros.
 #[derive(Drop)]
 pub struct Louds<S: SelectForRank101111, S0: Select0ForRank101111> {
     len: usize,

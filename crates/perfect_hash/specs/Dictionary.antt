@@ -46,8 +46,8 @@ abbrev pub ArePrints : {K : Type 0} → (K → Option ℕ) → (K → ℕ) → L
 ArePrints {K} number print keys prints width =
     (i v : ℕ) (k : K) → slice_get keys i ≡ Some k → number k ≡ Some v → print_at prints width v ≡ print k
 
--- each key is found, at a number of its own below their count; what is found of any value is the number of a key that has
--- its fingerprint
+-- each key is found, at a number of its own below their count; what is found of any value is the number of a key
+-- that has its fingerprint
 pub record IsDictionary {K : Type 0} (found : K → Option ℕ) (print : K → ℕ) (keys : List K) : Type 0 where
   pub perfect : IsMinimalPerfect found keys
   pub alike : (k : K) (v : ℕ) → found k ≡ Some v

@@ -108,11 +108,11 @@ impl Levels {
     /// The levels of the keys, over which an index of any kind makes a perfect hash (`PerfectHash::over`).
     ///
     /// # Errors
-    /// `TooLarge` exactly where the first level would have 2^50 words or more; else `KeysCollide` where keys are left after
-    /// 256 levels, with how many; else `OutOfMemory` if memory was refused.
+    /// `TooLarge` exactly where the first level would have 2^50 words or more; else `KeysCollide` where keys are left
+    /// after 256 levels, with how many; else `OutOfMemory` if memory was refused.
     /// # Cost
-    /// Each level is two passes over the hashes that are left, of which each goes to two random words. While it works it
-    /// takes 8 bytes a key for the hashes, two buffers as long as the first level, and the levels.
+    /// Each level is two passes over the hashes that are left, of which each goes to two random words. While it works
+    /// it takes 8 bytes a key for the hashes, two buffers as long as the first level, and the levels.
     pub fn build<K, H: KeyHash<K>>(
         alloc: Global,
         hasher: &H,
@@ -137,8 +137,8 @@ impl Levels {
 
 /// Numbers the keys, each by a number of its own below their count, over an index with rank.
 ///
-/// `percent` is how many bits a level has for each 100 keys: 100 takes least memory, 200 less time; less than 50 is taken
-/// as 50.
+/// `percent` is how many bits a level has for each 100 keys: 100 takes least memory, 200 less time; less than
+/// 50 is taken as 50.
 ///
 /// # Errors
 /// As `Levels::build`; the hasher comes back.

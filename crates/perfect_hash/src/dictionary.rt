@@ -18,8 +18,8 @@ const PRINT: u32 = 256;
 
 /// A perfect hash with a fingerprint of each key, by which it tells almost all values that are no keys.
 ///
-/// The fingerprint of a key stands at its number, as a fragment of so many bits. A value that is no key is found only if
-/// its fingerprint is that of the key with its number: where hashes are as good as drawn, one in 2^`width` is.
+/// The fingerprint of a key stands at its number, as a fragment of so many bits. A value that is no key is found only
+/// if its fingerprint is that of the key with its number: where hashes are as good as drawn, one in 2^`width` is.
 #[derive(Drop)]
 pub struct Dictionary<H, I: Access = ArrayWithRank101111> {
     numbers: PerfectHash<H, I>,
@@ -146,7 +146,8 @@ impl<H, I: Access> Dictionary<H, I> {
         &self.numbers
     }
 
-    /// The number of a key; of a value that is no key, `None`, unless its fingerprint is that of the key with its number.
+    /// The number of a key; of a value that is no key, `None`, unless its fingerprint is that of the
+    /// key with its number.
     ///
     /// # Cost
     /// What `PerfectHash::get` takes, and one fragment.

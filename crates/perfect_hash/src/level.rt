@@ -67,7 +67,8 @@ fn fill(hashes: &[u64], level: u32, ones: &mut [u64], again: &mut [u64])
     words::and_not(ones, again);
 }
 
-/// Makes `buffers.hit` the level of the hashes: so many words, whose ones are the bits that exactly one of them falls on.
+/// Makes `buffers.hit` the level of the hashes: so many words, whose ones are the bits that exactly one
+/// of them falls on.
 ///
 /// # Conditions
 /// There is a word, and fewer than 2^58.

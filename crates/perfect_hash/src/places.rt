@@ -33,7 +33,8 @@ pub(crate) fn spread_at(hash: u64, level: u32) -> u64
 /// A fraction `x / 2^64` of so many bits, rounded down: a product and a shift, which take less time than a remainder.
 ///
 /// # Source
-/// Lemire, 'Fast random integer generation in an interval' (ACM Transactions on Modeling and Computer Simulation, 2019).
+/// Lemire, 'Fast random integer generation in an interval' (ACM Transactions on Modeling
+/// and Computer Simulation, 2019).
 #[inline(always)]
 fn scaled(x: u64, bits: usize) -> usize
     requires { 0 < bits }

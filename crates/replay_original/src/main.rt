@@ -4,11 +4,11 @@
 //! computed again from the definitions by a second program, which shares no code with that crate: none differed. The
 //! answers stay as they were printed.
 //!
-//! A line is a kind and then words, with one space between two of them; `#` begins a comment. Numbers are decimal, words
-//! and bytes hexadecimal; V is decimal but where a line below says hexadecimal. `-` stands for `None`. A list has items
-//! X, runs X*COUNT (COUNT items X), and runs X+STEP*COUNT (COUNT items X, X+STEP, X+2*STEP, ..). ID is the name of the
-//! last `content` above. A:V is an argument and its answer; a line may have several. KIND is the density of samples: cM
-//! is the same for each content, aM adapts to it; D is its logarithm.
+//! A line is a kind and then words, with one space between two of them; `#` begins a comment. Numbers are decimal,
+//! words and bytes hexadecimal; V is decimal but where a line below says hexadecimal. `-` stands for `None`. A list has
+//! items X, runs X*COUNT (COUNT items X), and runs X+STEP*COUNT (COUNT items X, X+STEP, X+2*STEP, ..). ID is the name
+//! of the last `content` above. A:V is an argument and its answer; a line may have several. KIND is the density of
+//! samples: cM is the same for each content, aM adapts to it; D is its logarithm.
 //!
 //! | Line | What it says |
 //! |---|---|

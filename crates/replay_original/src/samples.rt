@@ -1,4 +1,5 @@
-//! The samples, how many there are before each part, and how dense they are: the kinds `samples`, `samplesat` and `ocs`.
+//! The samples, how many there are before each part, and how dense they are: the kinds
+//! `samples`, `samplesat` and `ocs`.
 ghost use Rattle.bitm.specs.Bits.{IsShort};
 
 use crate::content::State;

@@ -5,8 +5,8 @@ ghost use Rattle.bitm.specs.Tables.{HasTables, bits_in};
 
 use bitm_lent::{Lent, Ranked};
 
-/// The item of an array of one's own at the rank of a place, by tables that may be wrong; the array has an item for each
-/// bit and one more. `None` where there are fewer bits, or the tables are wrong.
+/// The item of an array of one's own at the rank of a place, by tables that may be wrong; the array has an item for
+/// each bit and one more. `None` where there are fewer bits, or the tables are wrong.
 pub fn item_at_rank(lent: &Lent<'_>, place: usize, items: &[u64]) -> Option<u64>
     requires { length (bits_in lent.now) < length items.now }
     ensures item { HasTables lent.now → place ≤ length (bits_in lent.now)

@@ -17,9 +17,9 @@ pub record Numbers (S S0 : Type 0) : Type 0 where
   pub select : S
   pub select0 : S0
 
--- what the levels are seen as: `len` numbers of `width` digits; for each level how many ones stand before it among the bits
--- of all levels, and how many of its items have the digit 0; and for the least numbers, where those that are equal to one
--- start after the last level
+-- what the levels are seen as: `len` numbers of `width` digits; for each level how many ones stand before it among the
+-- bits of all levels, and how many of its items have the digit 0; and for the least numbers, where those that are equal
+-- to one start after the last level
 pub record LevelTables : Type 0 where
   pub len : ℕ
   pub width : ℕ

@@ -82,8 +82,8 @@ impl Levels {
         (first, last)
     }
 
-    /// Where the numbers that are equal to this one start after the last level, and where those among the first `end` end
-    /// there.
+    /// Where the numbers that are equal to this one start after the last level, and where those among the
+    /// first `end` end there.
     #[inline(always)]
     pub(crate) fn block_on<T: TableSource>(
         &self,

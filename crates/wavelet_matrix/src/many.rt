@@ -13,7 +13,8 @@ impl Levels {
     /// All go from level to level together, so that each waits for memory while the others do.
     ///
     /// # Conditions
-    /// The levels are those of the source, there are as many `numbers` as `places`, and there is a number at each place.
+    /// The levels are those of the source, there are as many `numbers` as `places`, and there is a
+    /// number at each place.
     /// # Cost
     /// For each place what `get_on` reads.
     #[inline(always)]

@@ -20,11 +20,11 @@ use std::marker::Model;
 
 /// Numbers of up to 64 binary digits, kept digit by digit, and generic in the strategies that select ones and zeros.
 ///
-/// Level `d` has one bit for each number, its digit `width - 1 - d`; before the next level the numbers are partitioned by
-/// that digit, those with a 0 first, each kind in its order. All levels stand side by side in one content under one
-/// index: `n` numbers of `w` digits take `n * w` bits and the index, and sixteen bytes for each level. Where 2^w words take
-/// no more than an eighth of these bits, there is one for each number of `w` digits: it says where those that are equal to
-/// the number start after the last level, so that a rank walks once and not twice.
+/// Level `d` has one bit for each number, its digit `width - 1 - d`; before the next level the numbers are partitioned
+/// by that digit, those with a 0 first, each kind in its order. All levels stand side by side in one content under one
+/// index: `n` numbers of `w` digits take `n * w` bits and the index, and sixteen bytes for each level. Where 2^w words
+/// take no more than an eighth of these bits, there is one for each number of `w` digits: it says where those that are
+/// equal to the number start after the last level, so that a rank walks once and not twice.
 ///
 /// For 3, 1, 4, 1, 5, 1 of three digits:
 ///
@@ -36,8 +36,8 @@ use std::marker::Model;
 /// ```
 ///
 /// # Source
-/// Claude, Navarro and Ordóñez, 'The wavelet matrix: An efficient wavelet tree for large alphabets' (Information Systems
-/// 47, 2015).
+/// Claude, Navarro and Ordóñez, 'The wavelet matrix: An efficient wavelet tree for large alphabets'
+/// (Information Systems 47, 2015).
 #[derive(Drop)]
 pub struct WaveletMatrix<S: SelectForRank101111, S0: Select0ForRank101111> {
     levels: Levels,
@@ -282,8 +282,8 @@ impl<S: SelectForRank101111, S0: Select0ForRank101111> WaveletMatrix<S, S0> {
 
 impl<S: SelectForRank101111 + GetSize, S0: Select0ForRank101111 + GetSize> GetSize
     for WaveletMatrix<S, S0> {
-    // the words, eight bytes for each begun 2^26 and each begun 32 of them, sixteen for each level, eight for each start, and
-    // the two strategies
+    // the words, eight bytes for each begun 2^26 and each begun 32 of them, sixteen for each level, eight for each
+    // start, and the two strategies
     ghost dyn_bytes = { λ m. let n = length m.items in let words = words_of n m.width in saturated_size
         (8 * words + 8 * div_ceil words (2 ^ 26) + 8 * div_ceil words 32
         + S.dyn_bytes m.select + S0.dyn_bytes m.select0

@@ -10,8 +10,8 @@ use crate::walk::Levels;
 use bitm::TableSource;
 
 impl Levels {
-    /// Of a range of a level: how many items before its start and how many before its end have the digit 1, and how many
-    /// of its own have the digit 0.
+    /// Of a range of a level: how many items before its start and how many before its end have the digit 1, and how
+    /// many of its own have the digit 0.
     #[inline(always)]
     fn part_on<T: TableSource>(
         &self,

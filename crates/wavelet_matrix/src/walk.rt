@@ -15,8 +15,8 @@ use std::boxed::BoxedSlice;
 use std::marker::Model;
 
 /// Where the levels of a matrix are among the bits of a source: how many numbers there are, of how many digits, and for
-/// each level how many ones stand before it, and how many of its items have the digit 0. Where there are many numbers of
-/// few digits, also where those that are equal start after the last level, for each number of so many digits.
+/// each level how many ones stand before it, and how many of its items have the digit 0. Where there are many numbers
+/// of few digits, also where those that are equal start after the last level, for each number of so many digits.
 #[derive(Drop)]
 pub struct Levels {
     len: usize,

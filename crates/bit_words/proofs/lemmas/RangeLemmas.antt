@@ -1,4 +1,5 @@
--- The places of a range, word by word: which digits of a word they are, and items that are combined there and kept beside.
+-- The places of a range, word by word: which digits of a word they are, and items that are combined
+-- there and kept beside.
 use Rattle.std.proofs.Common.{◌≡◌, ◌≢◌, ℕ, zero, suc, ◌+◌, ◌-◌, ◌*◌, ◌/◌, ◌%◌, ◌^◌, ◌<◌, ◌≤◌, ◌⊎◌, Bool, true, false, not, ◌&&◌, ◌||◌, List, length, get_or, min, refl, sym, ap, ◌∙◌, inl, inr, arith, eqb, ltb, bit_and, set, length-set, get_or-set_same, get_or-set_other, ⊎_elim}
 use Rattle.std.proofs.lemmas.Bool.{cases_lt, le-leb, lt-leb, lt-ltb, le-ltb}
 use Rattle.std.proofs.lemmas.List.{get_or_past}

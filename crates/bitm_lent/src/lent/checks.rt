@@ -10,8 +10,8 @@ use crate::samples::{LentSamples, clamped_log};
 use bitm::samples::Summary;
 
 impl<'a> Lent<'a> {
-    /// Whether the samples of ones, and how many there are before each part, are those that `build_samples` writes, where
-    /// the tables are those of the words, as `check` says; else either is answered.
+    /// Whether the samples of ones, and how many there are before each part, are those that `build_samples` writes,
+    /// where the tables are those of the words, as `check` says; else either is answered.
     ///
     /// # Cost
     /// Each lower entry is read at most once, and up to two are read again for each sample; of the words at most eight

@@ -45,8 +45,8 @@ four_items bit lists k a b c d first second third fourth =
 pub items_before : (bit : ℕ) (old new : Lists) (k count : ℕ) → new ≡ old → HasItems bit new k count → HasItems bit old k count
 items_before bit old new k count same items = subst (λ (l : Lists). HasItems bit l k count) same items
 
--- the item of rank r is not before word at, where rest of them are left, nor behind the words that are left, unless these are the
--- last before word end
+-- the item of rank r is not before word at, where rest of them are left, nor behind the words that are left, unless
+-- these are the last before word end
 pub record IsRun (m : List Bool) (r end at rest left : ℕ) : Type 0 where
   pub total : r ≡ ones_before m (64 * at) + rest
   pub bound : at + left ≤ end

@@ -1,4 +1,5 @@
--- What tables tell is what stands in the bits where they are right, and what a search says of the end where they may hold anything.
+-- What tables tell is what stands in the bits where they are right, and what a search says of the end where
+-- they may hold anything.
 use Rattle.std.proofs.Common.{inl, inr, List, [], ◌∷◌, ◌≡◌, ◌≢◌, ℕ, zero, suc, ◌+◌, ◌-◌, ◌*◌, ◌%◌, ◌^◌, ◌<◌, ◌≤◌, Bool, true, false, length, ap, sym, ◌∙◌, subst, arith, refl}
 use Rattle.bit_lists.specs.Bits.{bits_of}
 use Rattle.bit_lists.specs.Count.{as_bit, ones_before, count_before, count_of}
@@ -133,7 +134,8 @@ pub nothing_tells : (lists : Lists) (v : Bool) (r : ℕ) → HasSizes lists → 
 nothing_tells lists v r sized none =
     nothing_in lists.words lists.upper lists.lower v r (omega (arith, sized.upper_len, none)) none (omega (arith, sized.upper_len, sized.lower_len, none))
 
--- a record behind which no word stands tells none where what is left of the rank did not wrap and the words have no more
+-- a record behind which no word stands tells none where what is left of the rank did not wrap and the
+-- words have no more
 pub record_none : (lists : Lists) (v : Bool) (rank : ℕ) (at : InRecord) → HasSizes lists → IsToldRecord v lists rank at → rank < 2 ^ 64
     → at.rest ≤ rank → (s : Selected) → IfAbsent s (length lists.words ≤ at.first + 8)
     → IsSelectedFrom lists.words v at.first (ones_before (sought_bits v (bits_of lists.words)) (64 * at.first) + at.rest) s

@@ -193,8 +193,9 @@ fn search_range<const BIT: u8, T: TableSource>(
 /// # Cost
 /// At most as many lower entries are read as one less than the range's entries has binary digits, and one more where
 /// the range begins with the part's first entry; whatever the tables hold.
-// It halves with the same rounds for every rank, so only the comparison depends on what was read; the entry is kept beside
-// its place, and the compiler moves both by the comparison without a branch (docs/performance-log.md has the times).
+// It halves with the same rounds for every rank, so only the comparison depends on what was read; the entry is
+// kept beside its place, and the compiler moves both by the comparison without a branch
+// (docs/performance-log.md has the times).
 #[inline(always)]
 pub fn last_in_range<const BIT: u8, T: TableSource>(
     source: &mut T,

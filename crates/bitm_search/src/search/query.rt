@@ -1,5 +1,5 @@
-//! Queries of a block under way side by side: the entry of each is sought by halves, near a guess where there are neither
-//! few entries nor many.
+//! Queries of a block under way side by side: the entry of each is sought by halves, near a guess where there are
+//! neither few entries nor many.
 ghost use Rattle.std.specs.Prelude.{◌≡◌, ◌+◌, ◌*◌, ◌^◌, ◌<◌, ◌≤◌, ℕ, IfSome, IsTrue, length};
 ghost use Rattle.bit_lists.specs.Bits.{digit_count};
 ghost use Rattle.bitm_search.specs.Many.{AreInside, AreSearches, IsInside, IsSearch};
@@ -19,8 +19,8 @@ pub const SIDE_BY_SIDE: usize = 16;
 /// A guess is made where there are so many entries: in fewer, halving alone is as fast.
 const FEWEST_TO_GUESS: usize = 1 << 9;
 
-/// No guess is made where there are more entries: with one that is wrong and all halvings more of them would be read than
-/// is promised.
+/// No guess is made where there are more entries: with one that is wrong and all halvings more of them would be
+/// read than is promised.
 const MOST_TO_GUESS: usize = 1 << 18;
 
 /// The entry is sought among so many after a guess, as a logarithm.
@@ -35,8 +35,8 @@ pub struct Query {
     pub entry: usize,
 }
 
-/// What stands in a block before its queries begin. Its numbers differ: a block of zeros would be made by `memset`, which
-/// the archive for C does not have.
+/// What stands in a block before its queries begin. Its numbers differ: a block of zeros would be made by `memset`,
+/// which the archive for C does not have.
 pub(crate) const NO_QUERY: Query = Query { rest: 0, entry: 1 };
 
 /// A query whose entry is sought in all of the last part with no more than `rank` of the kind before it, where the
@@ -181,8 +181,8 @@ fn entries_per_item<const BIT: u8, T: TableSource>(source: &mut T) -> usize
     (last << 32) / items.max(1)
 }
 
-/// The query with its entry brought near the one that is sought, by a guess and two entries that are asked whether it is
-/// right; `None` where it is not: the entry is not among the 2^`NEAR` from there on.
+/// The query with its entry brought near the one that is sought, by a guess and two entries that are asked whether it
+/// is right; `None` where it is not: the entry is not among the 2^`NEAR` from there on.
 #[inline(always)]
 fn guess<const BIT: u8, T: TableSource>(
     source: &mut T,
@@ -301,8 +301,8 @@ fn copy_each(begun: &[Query], queries: &mut [Query])
     }
 }
 
-/// Finds the entry of each rank, sixteen searches at once: near a guess where there are neither few entries nor many and
-/// every guess is right, else by halves of all.
+/// Finds the entry of each rank, sixteen searches at once: near a guess where there are neither few entries nor many
+/// and every guess is right, else by halves of all.
 ///
 /// # Conditions
 /// There is a rank, and there are no more than sixteen; there is room for sixteen queries. Nothing is asked of what the

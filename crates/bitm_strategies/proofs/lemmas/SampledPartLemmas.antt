@@ -1,5 +1,5 @@
--- Selection by samples in one part: which sample is that of the rank, where it lets the walk begin, and what is so where there is
--- no such sample.
+-- Selection by samples in one part: which sample is that of the rank, where it lets the walk begin, and what is so
+-- where there is no such sample.
 use Rattle.std.proofs.Common.{◌≡◌, ℕ, ◌+◌, ◌-◌, ◌*◌, ◌/◌, ◌%◌, ◌^◌, ◌<◌, ◌≤◌, List, Option, None, IfSome, length, get_or, slice_index_or, if◌then◌else◌, refl, sym, ap, ap₂, ◌∙◌, subst, arith}
 use Rattle.bit_lists.specs.Bits.{bits_of, digit, digit_count}
 use Rattle.bit_lists.specs.Count.{as_bit, count_of, ones_before, IsSelect}

@@ -1,4 +1,5 @@
--- A number cut into k fields of w bits each, and what `&`, `|`, `+`, `-`, a masked shift and a count of ones do to all fields at once.
+-- A number cut into k fields of w bits each, and what `&`, `|`, `+`, `-`, a masked shift and a count of ones do to
+-- all fields at once.
 use Rattle.std.proofs.Common.{List, [], ◌∷◌, All, Bool, cond, count_by, get_or, suc-le-suc, zero-lt-suc, add_comm, zero-add, not-suc-le-zero, le_of_suc-le-suc, ◌≡◌, ℕ, zero, suc, ◌+◌, ◌-◌, ◌*◌, ◌/◌, ◌%◌, ◌^◌, ◌<◌, ◌≤◌, bit_and, bit_or, count_ones, refl, sym, ap, ap₂, add-zero, ◌∙◌, arith, zero-mul, suc-mul}
 use Rattle.std.proofs.Math.Nat.{mul-add-div_right}
 use Rattle.std.proofs.lemmas.List.Sums.{sum_by-cons}

@@ -24,8 +24,8 @@ impl<'a> LentSequence<'a> {
         total_last_at_most_on(&mut self.upper.probe(), &mut self.low_digits(), self.len, v)
     }
 
-    /// Whether `v` is one of the numbers, where the parts are those of a sequence; else either, or `None`. Whatever they
-    /// hold, with an answer they tell how many numbers are less than `v`; it is false where that are all.
+    /// Whether `v` is one of the numbers, where the parts are those of a sequence; else either, or `None`. Whatever
+    /// they hold, with an answer they tell how many numbers are less than `v`; it is false where that are all.
     ///
     /// # Cost
     /// That of `total_contains_on`: as `first_at_least`, and as `get` where a place is found.

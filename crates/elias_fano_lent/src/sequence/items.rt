@@ -13,8 +13,8 @@ use bitm_lent::Selected;
 use elias_fano::LowDigits;
 use elias_fano::building::item_at_one;
 
-/// Writes the `most` numbers from number `from` on, whose ones begin at bit `first` of the words, or those up to where the
-/// ones end, and answers how many. One fragment of the low digits is read for each.
+/// Writes the `most` numbers from number `from` on, whose ones begin at bit `first` of the words, or those up to where
+/// the ones end, and answers how many. One fragment of the low digits is read for each.
 fn write_items(
     words: &[u64],
     low: &mut LowDigits<'_>,

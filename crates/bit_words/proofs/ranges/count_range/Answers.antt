@@ -1,4 +1,5 @@
--- The whole words between, with the ones of the last word before the end and without those of the first before the beginning.
+-- The whole words between, with the ones of the last word before the end and without those of the
+-- first before the beginning.
 use Rattle.std.proofs.Common.{rules, ◌≡◌, ◌+◌, ◌-◌, ◌*◌, ◌/◌, ◌≤◌, true, ap, arith}
 use Rattle.bit_lists.proofs.lemmas.BitsLemmas.{length-bits_of}
 use Rattle.bit_lists.proofs.lemmas.CountLemmas.{count_before-le, ones_before-add-zeros_before, ones_before-bits_of_stretch}

@@ -1,4 +1,5 @@
--- The place is among the items with the upper digits of the value, or the one after them; without low digits it is the first.
+-- The place is among the items with the upper digits of the value, or the one after them; without low
+-- digits it is the first.
 use Rattle.std.proofs.Common.{◌≡◌, ℕ, ◌-◌, ◌%◌, ◌^◌, ◌<◌, ◌≤◌, List, ap, sym, ◌∙◌, subst, ⊎_elim, bit_and, arith}
 use Rattle.std.proofs.lemmas.Bool.{cases_eq}
 use Rattle.std.proofs.lemmas.Nat.{and_mask}

@@ -6,8 +6,8 @@ use Rattle.bitm_tables.specs.Tables.{HasTables}
 use Rattle.bitm_search.specs.Told.{told_entry}
 use Rattle.bitm_search.proofs.search.entries.last_in_range.Given as goal
 
--- some entry of the range is left, and where the last one is if the tables are right; no more reads than halvings; the first
--- entry of the part is left to read
+-- some entry of the range is left, and where the last one is if the tables are right; no more reads than halvings; the
+-- first entry of the part is left to read
 abbrev pub invariant-loop-left : goal.invariant-loop-left
 invariant-loop-left g l =
     let T = g.T.TableSource in

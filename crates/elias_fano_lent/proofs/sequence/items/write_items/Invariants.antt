@@ -6,7 +6,8 @@ use Rattle.elias_fano_lent.specs.Lists.{AreItemsFrom}
 use Rattle.elias_fano_lent.specs.Low.{ReadsFragments}
 use Rattle.elias_fano_lent.proofs.sequence.items.write_items.Given as goal
 
--- the numbers so far, as many ones before the next search as before the first and numbers, and what stands behind as it was
+-- the numbers so far, as many ones before the next search as before the first and numbers, and what stands
+-- behind as it was
 abbrev pub invariant-loop-at : goal.invariant-loop-at
 invariant-loop-at l = record {
   counted : ones_before (bits_of l.words) l.next ≡ ones_before (bits_of l.words) l.first + l.at;

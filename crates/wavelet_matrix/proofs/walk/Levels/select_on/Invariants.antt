@@ -5,7 +5,8 @@ use Rattle.wavelet_matrix.specs.Matrix.{level_in}
 use Rattle.wavelet_matrix.specs.Numbers.{PicksItem}
 use Rattle.wavelet_matrix.proofs.walk.Levels.select_on.Given as goal
 
--- where the number stands so many levels above the last; a rank was read for each level, and a selection for each level above
+-- where the number stands so many levels above the last; a rank was read for each level, and a selection
+-- for each level above
 abbrev pub invariant-loop-up : goal.invariant-loop-up
 invariant-loop-up g l =
     let T = g.T.TableSource in
