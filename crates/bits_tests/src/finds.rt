@@ -47,17 +47,25 @@ fn finds_reach_a_fragment_from_both_sides(rt: HostRuntime) {
 fn finds_pass_over_words(rt: HostRuntime) {
     let array = [1u64, 4];
     let content = array.as_slice();
-    let found = [0, 1, 66, 67, 128, usize::MAX].map(|start| content.find_bit_one(start));
-    assert!(rt; found == [Some(0), Some(66), Some(66), None, None, None]);
-    let array = [0, 4u64];
-    let content = array.as_slice();
-    assert!(rt; content.trailing_zero_bits() == 66);
-    let array = [0u64, 0];
-    let content = array.as_slice();
-    assert!(rt; (content.trailing_zero_bits(), content.find_bit_one(0)) == (128, None));
+    for (start, place) in [
+        (0, Some(0)),
+        (1, Some(66)),
+        (66, Some(66)),
+        (67, None),
+        (128, None),
+        (usize::MAX, None),
+    ] {
+        assert!(rt; content.find_bit_one(start) == place);
+    }
     let array = [1u64, 0];
-    let content = array.as_slice();
-    assert!(rt; last_to(&content, 127, 0) == Some(0));
+    assert!(rt; last_to(&array.as_slice(), 127, 0) == Some(0));
+}
+
+#[test]
+fn leading_words_of_zeros_are_counted(rt: HostRuntime) {
+    for (array, zeros) in [([0u64, 4], 66), ([0, 0], 128), ([8, 0], 3)] {
+        assert!(rt; words::trailing_zero_bits(array.as_slice()) == zeros);
+    }
 }
 
 #[test]

@@ -7,23 +7,15 @@ fn places_of_ones_come_with_how_many_are_left(rt: HostRuntime) {
     let array = [0b101u64, 0b10];
     let content = array.as_slice();
     let mut ones = content.bit_ones();
-    let steps = [
-        (ones.len(), ones.next()),
-        (ones.len(), ones.next()),
-        (ones.len(), ones.next()),
-        (ones.len(), ones.next()),
-        (ones.len(), ones.next()),
-    ];
-    assert!(rt;
-        steps
-            == [
-                (3, Some(0)),
-                (2, Some(2)),
-                (1, Some(65)),
-                (0, None),
-                (0, None)
-            ]
-    );
+    for step in [
+        (3, Some(0)),
+        (2, Some(2)),
+        (1, Some(65)),
+        (0, None),
+        (0, None),
+    ] {
+        assert!(rt; (ones.len(), ones.next()) == step);
+    }
 }
 
 #[test]
@@ -31,13 +23,18 @@ fn bits_come_with_how_many_are_left(rt: HostRuntime) {
     let array = [0b101u64, 0b10];
     let content = array.as_slice();
     let mut bits = content.bit_iter();
-    assert!(rt; bits.len() == 128);
-    let first = [bits.next(), bits.next(), bits.next()];
-    assert!(rt; first == [Some(true), Some(false), Some(true)]);
-    assert!(rt; (bits.len(), bits.nth(60), bits.len()) == (125, Some(false), 64));
-    assert!(rt; [bits.next(), bits.next()] == [Some(false), Some(true)]);
-    assert!(rt; (bits.len(), bits.nth(61)) == (62, Some(false)));
-    assert!(rt; (bits.len(), bits.next()) == (0, None));
+    for (left, passed, bit) in [
+        (128, 0, Some(true)),
+        (127, 0, Some(false)),
+        (126, 0, Some(true)),
+        (125, 60, Some(false)),
+        (64, 0, Some(false)),
+        (63, 0, Some(true)),
+        (62, 61, Some(false)),
+        (0, 0, None),
+    ] {
+        assert!(rt; (bits.len(), bits.nth(passed)) == (left, bit));
+    }
 }
 
 #[test]
@@ -57,16 +54,18 @@ fn places_of_zeros_come_with_how_many_are_left(rt: HostRuntime) {
     let array = [0, u64::MAX];
     let content = array.as_slice();
     let mut zeros = content.bit_zeros();
-    assert!(rt; (zeros.len(), zeros.next(), zeros.len()) == (64, Some(0), 63));
-    assert!(rt; (zeros.nth(62), zeros.len(), zeros.next()) == (Some(63), 0, None));
+    for (left, passed, place) in [(64, 0, Some(0)), (63, 62, Some(63)), (0, 0, None)] {
+        assert!(rt; (zeros.len(), zeros.nth(passed)) == (left, place));
+    }
+}
+
+#[test]
+fn a_word_of_ones_has_no_zeros(rt: HostRuntime) {
     let array = [u64::MAX];
     let content = array.as_slice();
     let mut none = content.bit_zeros();
     assert!(rt; (none.len(), none.next()) == (0, None));
-    let array = [u64::MAX, 0];
-    let content = array.as_slice();
-    let ones = content.bit_ones();
-    assert!(rt; (ones.len(), ones.size_hint()) == (64, (64, Some(64))));
+    assert!(rt; content.bit_ones().size_hint() == (64, Some(64)));
 }
 
 /// Whether of the bits that come exactly those at the places are ones.
@@ -91,20 +90,26 @@ fn each_bit_of_a_range_comes_once(rt: HostRuntime) {
     assert!(rt; has_ones_at(content.bit_iter(), &ones));
     assert!(rt; has_ones_at(content.bit_in_range_iter(3..66), &ones));
     assert!(rt; has_ones_at(content.bit_in_unchecked_range_iter(8..66), &ones));
+}
+
+#[test]
+fn as_many_bits_of_a_range_come_as_it_has_places(rt: HostRuntime) {
+    let array = [0b1011_0011u64, 1];
+    let content = array.as_slice();
     assert!(rt; how_many(content.bit_iter()) == 128);
     assert!(rt; how_many(content.bit_in_range_iter(3..66)) == 63);
     assert!(rt; how_many(content.bit_in_unchecked_range_iter(8..66)) == 58);
-    let mut none = content.bit_in_range_iter(7..7);
-    assert!(rt; (none.len(), none.next()) == (0, None));
-    let mut word = content.bit_in_range_iter(0..64);
-    assert!(rt; (word.len(), word.nth(63), word.next()) == (64, Some(false), None));
+    assert!(rt; how_many(content.bit_in_range_iter(7..7)) == 0);
+}
+
+#[test]
+fn bits_go_on_in_the_next_word(rt: HostRuntime) {
     let array = [u64::MAX, 0, u64::MAX];
     let content = array.as_slice();
     let mut bits = content.bit_iter();
-    assert!(rt;
-        [bits.nth(63), bits.next(), bits.nth(63), bits.next()]
-            == [Some(true), Some(false), Some(true), Some(true)]
-    );
+    for (passed, bit) in [(63, true), (0, false), (63, true), (0, true)] {
+        assert!(rt; bits.nth(passed) == Some(bit));
+    }
 }
 
 #[test]
@@ -112,17 +117,22 @@ fn bits_come_from_both_ends(rt: HostRuntime) {
     let array = [0b101u64];
     let content = array.as_slice();
     let mut bits = content.bit_in_range_iter(0..3);
-    assert!(rt;
-        [
-            bits.next(),
-            bits.next_back(),
-            bits.next(),
-            bits.next(),
-            bits.next_back()
-        ] == [Some(true), Some(true), Some(false), None, None]
-    );
-    let mut none = content.bit_in_range_iter(5..2);
-    assert!(rt; (none.len(), none.next()) == (0, None));
+    for (is_last, bit) in [
+        (false, Some(true)),
+        (true, Some(true)),
+        (false, Some(false)),
+        (false, None),
+        (true, None),
+    ] {
+        let given = if is_last { bits.next_back() } else { bits.next() };
+        assert!(rt; given == bit);
+    }
+}
+
+#[test]
+fn a_reversed_range_has_no_bits_and_stays(rt: HostRuntime) {
+    let array = [0b101u64];
+    let content = array.as_slice();
     let mut reversed = BitIterator::with_range_unchecked(content, 5..2);
     assert!(rt; (reversed.len(), reversed.next(), reversed.next_back()) == (0, None, None));
     let left = reversed.bit_range();
