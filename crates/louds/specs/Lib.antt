@@ -1,5 +1,6 @@
 pub mod Tree
 pub mod Held
+pub mod Counted
 pub mod Laws
 pub mod Error
 pub mod Value

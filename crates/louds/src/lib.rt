@@ -15,6 +15,7 @@
 #![tactic(auto)]
 
 mod checking;
+pub mod counted;
 mod error;
 pub mod laws;
 mod making;

@@ -1,16 +1,19 @@
 //! The type of a tree, and what it is asked.
 ghost use Rattle.std.specs.Prelude.{◌≡◌, ◌==◌, ◌+◌, ◌*◌, ◌^◌, ◌<◌, ◌≤◌, ◌↔◌, IfOk, IfSome, IsErrOf, length, slice_index};
 ghost use Rattle.std.specs.Int.{div_ceil};
+ghost use Rattle.bitm.specs.Reads.{none_read};
 ghost use Rattle.bitm.specs.Size.{saturated_size};
+ghost use Rattle.louds.specs.Counted.{degrees_in, IsLouds};
 ghost use Rattle.louds.specs.Held.{words_of, zero_place, IsOneOf};
 ghost use Rattle.louds.specs.Tree.{AreChildren, IsTree, MatchesChild, MatchesLastChild};
 ghost use Rattle.louds.specs.Tree.{MatchesParent, MatchesChildRank, MatchesNextSibling};
+ghost use Rattle.louds.specs.Tree.{MatchesPreviousSibling};
 
 use crate::checking::is_tree;
 use crate::error::LoudsError;
 use crate::making::make_bits;
 use bitm::{
-    Access, AdaptiveCombinedSamplingDensity, BinaryRankSearch, CombinedSampling, GetSize,
+    Access, AdaptiveCombinedSamplingDensity, BinaryRankSearch, CombinedSampling, GetSize, Probe,
     RankSelect101111, Select, Select0, Select0ForRank101111, SelectForRank101111,
 };
 use std::alloc::{AllocError, Global};
@@ -19,7 +22,7 @@ use std::marker::Model;
 use std::ops::Range;
 
 /// As many degrees as are not taken.
-const TOO_MANY: usize = 1 << 60;
+pub(crate) const TOO_MANY: usize = 1 << 60;
 
 /// A tree whose nodes are numbered level by level from the root, node 0: child `k` of node `i` is one more than the
 /// children of all nodes before `i`, and `k`.
@@ -91,9 +94,19 @@ impl<S: SelectForRank101111, S0: Select0ForRank101111> Louds<S, S0> {
         self.len
     }
 
+    /// A source over the bits and the tables, with no reads counted yet: what the calls of `counted` take.
+    #[inline(always)]
+    pub fn probe(&self) -> Probe<'_>
+        ensures tree { IsLouds (length self.now.degrees) result.lists }
+        ensures degrees { degrees_in (length self.now.degrees) result.lists ≡ self.now.degrees }
+        ensures reads { result.reads ≡ none_read }
+    {
+        self.index.probe()
+    }
+
     /// The place of the zero before the ones of a node, or of the last zero.
     #[inline(always)]
-    fn zero(&self, node: usize) -> usize
+    pub(crate) fn zero(&self, node: usize) -> usize
         requires { node ≤ length self.now.degrees }
         ensures place { result ≡ zero_place self.now.degrees node }
         ensures small { result < 2 ^ 62 }
@@ -269,6 +282,36 @@ impl<S: SelectForRank101111, S0: Select0ForRank101111> Louds<S, S0> {
         }
     }
 
+    /// The child of a node's parent before it; `None` exactly where the node is the first child or the root.
+    ///
+    /// # Conditions
+    /// There is such a node.
+    /// # Cost
+    /// One selection, and one word of the bits; none of them at the root.
+    #[inline]
+    pub fn previous_sibling(&self, node: usize) -> Option<usize>
+        requires { node < length self.now.degrees }
+        ensures { MatchesPreviousSibling self.now.degrees node result }
+    {
+        if node == 0 {
+            return None;
+        }
+        if self.index.get_bit(self.one(node) - 1) {
+            Some(node - 1)
+        } else {
+            None
+        }
+    }
+
+    /// All nodes, level by level from the root: an iterator from either end, which reads nothing.
+    #[inline(always)]
+    pub fn nodes(&self) -> Range<usize>
+        ensures first { result.start ≡ 0 }
+        ensures past { result.end ≡ length self.now.degrees }
+    {
+        0..self.len
+    }
+
     /// A tree of the same degrees, with bits, tables and strategies of its own.
     ///
     /// # Errors
@@ -300,7 +343,7 @@ impl<S: SelectForRank101111 + GetSize, S0: Select0ForRank101111 + GetSize> GetSi
 }
 
 /// Samples of the bits: one for each 2^13 ones or zeros, or fewer where there are fewer of these.
-type Sampled = CombinedSampling<AdaptiveCombinedSamplingDensity<13>>;
+pub(crate) type Sampled = CombinedSampling<AdaptiveCombinedSamplingDensity<13>>;
 
 /// A tree that selects by samples, the fastest: what to take unless the reads of binary search are wanted.
 pub type SampledLouds = Louds<Sampled, Sampled>;

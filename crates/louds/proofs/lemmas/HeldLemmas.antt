@@ -1,5 +1,5 @@
 -- The bits of a tree: where their zeros and ones stand.
-use Rattle.std.proofs.Common.{◌≡◌, ℕ, zero, suc, ◌+◌, ◌-◌, ◌*◌, ◌^◌, ◌<◌, ◌≤◌, Bool, true, false, not, cond, List, length, take, get_or, refl, sym, ap, ◌∙◌, ⊎_elim, arith, subst, eqb}
+use Rattle.std.proofs.Common.{◌≡◌, ℕ, zero, suc, ◌+◌, ◌-◌, ◌*◌, ◌^◌, ◌<◌, ◌≤◌, ◌⊎◌, inl, inr, Bool, true, false, not, cond, List, length, take, get_or, refl, sym, ap, ◌∙◌, ⊎_elim, arith, subst, eqb}
 use Rattle.std.proofs.lemmas.Bool.{cases_lt, cases_eq, eq-eqb, ne_eqb}
 use Rattle.std.proofs.lemmas.Grind.{same_number_lists}
 use Rattle.std.proofs.lemmas.List.FromFn.{length-map-range_with_len, get_or-map-range_with_len}
@@ -10,7 +10,7 @@ use Rattle.bitm.proofs.BitLaws.{at_most_one_picked, count_after_item, counts_gro
 use Rattle.bitm.proofs.Callers.{one_below, zero_below}
 use Rattle.louds.proofs.lemmas.TreeLemmas.{sum_all, sum_part, sum_order, zero_place_more, parent_of, one_parent}
 use Rattle.louds.specs.Held.{zero_place, IsWritten, IsHeld, degrees_of, IsOneOf, words_of}
-use Rattle.louds.specs.Tree.{IsChild, IsTree, IsLast, IsNextSibling}
+use Rattle.louds.specs.Tree.{IsChild, IsTree, IsFirst, IsLast, IsNextSibling}
 
 -- what is not false
 true_of : (x : Bool) → (x ≡ false → ⊥) → x ≡ true
@@ -245,6 +245,59 @@ module _ (d : List ℕ) (n : ℕ) (b : List Bool) (h : IsHeld d n b) where
     where
       clash : (q : ℕ) → item b q ≡ true → item b q ≡ false → ⊥
       clash q one none = let both : true ≡ false = sym one ∙ none in cc
+
+  -- ---- the bit before a one
+
+  -- a node's one that is not the root's stands after the first bit, and before the end
+  pub before_one_inside : (v p : ℕ) → v < n → 0 < v → IsOneOf d v p → (0 < p) × (p < length b)
+  before_one_inside v p less some one =
+      let o = one.1 some in (omega (arith, o.4), omega (arith, after_one_inside v p less one))
+
+  pub previous_of_one : (v p q : ℕ) → 0 < v → IsOneOf d v p → q + 1 ≡ p → item b q ≡ true → IsNextSibling d (v - 1) v
+  previous_of_one v p q some one at is =
+      let o = one.1 some in
+      let i = o.0 in
+      let k = o.1 in
+      let c = o.3 in
+      ⊎_elim
+      (λ none.
+      let there : q ≡ zero_place d i = omega (arith, o.4) in
+      absurd (clash q is (ap (item b) there ∙ (h.zeros i (omega (arith, h.count, c.node))).item)))
+      (λ more.
+      let next : k - 1 + 1 ≡ k = omega arith in (
+        i,
+        k - 1,
+        record { node = c.node; some = omega (arith, c.some); number = omega (arith, c.number) },
+        subst (λ (j : ℕ). IsChild d i j v) (sym next) c,
+      ))
+      (cases_zero k)
+    where
+      clash : (q : ℕ) → item b q ≡ true → item b q ≡ false → ⊥
+      clash q one none = let both : true ≡ false = sym one ∙ none in cc
+
+      cases_zero : (k : ℕ) → (k ≡ 0) ⊎ (0 < k)
+      cases_zero zero = inl refl
+      cases_zero (suc k) = inr (omega arith)
+
+  pub first_of_one : (v p q : ℕ) → 0 < v → IsOneOf d v p → q + 1 ≡ p → item b q ≡ false → IsFirst d v
+  first_of_one v p q some one at is i k c =
+      let o = one.1 some in
+      let same = one_parent d i o.0 k o.1 v c o.3 in
+      let here : zero_place d i + k ≡ q = omega (arith, o.4, ap (zero_place d) same.0, same.1) in
+      ⊎_elim
+      (λ none. omega arith)
+      (λ more.
+      let at_k : zero_place d i + 1 + (k - 1) ≡ q = omega arith in
+      let before : IsChild d i (k - 1) (v - 1) = record { node = c.node; some = omega (arith, c.some); number = omega (arith, c.number) } in
+      absurd (clash q (ap (item b) (sym at_k) ∙ (child_one i (k - 1) (v - 1) before).item) is))
+      (cases_lt k 1)
+    where
+      clash : (q : ℕ) → item b q ≡ true → item b q ≡ false → ⊥
+      clash q one none = let both : true ≡ false = sym one ∙ none in cc
+
+  -- the places of ones are well below the greatest number
+  pub one_small : (v p : ℕ) → Picks b true v p → p < 2 ^ 62
+  one_small v p picked = omega (arith, picked.inside, h.tight, h.short)
 
   -- they hold what they hold
   pub held_degrees : IsHeld (degrees_of b n) n b
