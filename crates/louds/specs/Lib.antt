@@ -1,4 +1,5 @@
 pub mod Tree
+pub mod Above
 pub mod Held
 pub mod Counted
 pub mod Laws

@@ -15,6 +15,7 @@
 #![tactic(auto)]
 
 mod checking;
+mod climbing;
 pub mod counted;
 mod error;
 pub mod laws;
