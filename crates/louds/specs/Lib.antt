@@ -1,5 +1,6 @@
 pub mod Tree
 pub mod Above
+pub mod Parents
 pub mod Held
 pub mod Counted
 pub mod Laws

@@ -20,8 +20,10 @@ pub mod counted;
 mod error;
 pub mod laws;
 mod making;
+mod parents;
 mod tree;
 
 pub use checking::is_tree;
 pub use error::LoudsError;
+pub use parents::are_parents;
 pub use tree::{BinaryLouds, Louds, SampledLouds};
