@@ -14,7 +14,7 @@ use crate::error::LoudsError;
 use crate::making::make_bits;
 use bitm::{
     Access, AdaptiveCombinedSamplingDensity, BinaryRankSearch, CombinedSampling, GetSize, Probe,
-    RankSelect101111, Select, Select0, Select0ForRank101111, SelectForRank101111,
+    RankSelect101111, Select, Select0, Select0ForRank101111, SelectForRank101111, words,
 };
 use std::alloc::{AllocError, Global};
 use std::boxed::BoxedSlice;
@@ -114,6 +114,23 @@ impl<S: SelectForRank101111, S0: Select0ForRank101111> Louds<S, S0> {
         self.index.select0(node)
     }
 
+    /// The place of the zero after the ones of a node, where that before them stands at `start`. It is mostly in one of
+    /// the two words that have the bits behind `start`; else it is selected.
+    #[inline(always)]
+    fn end(&self, node: usize, start: usize) -> usize
+        requires node { node < length self.now.degrees }
+        requires start { start ≡ zero_place self.now.degrees node }
+        ensures place { result ≡ zero_place self.now.degrees (node + 1) }
+        ensures small { result < 2 ^ 62 }
+    {
+        let words = self.index.content().as_slice();
+        let near = &words[..words.len().min((start + 1) / 64 + 2)];
+        match words::find_bit_zero(near, start + 1) {
+            Some(place) => place,
+            None => self.zero(node + 1),
+        }
+    }
+
     /// The place of the one of a node.
     #[inline(always)]
     fn one(&self, node: usize) -> usize
@@ -128,7 +145,7 @@ impl<S: SelectForRank101111, S0: Select0ForRank101111> Louds<S, S0> {
     /// # Conditions
     /// There is such a node.
     /// # Cost
-    /// Two selections.
+    /// One selection and two words; two selections where it has more than 64 children.
     #[inline]
     #[tactic(auto, using(crate::proofs::lemmas::TreeLemmas::zero_place_more))]
     pub fn degree(&self, node: usize) -> usize
@@ -136,7 +153,7 @@ impl<S: SelectForRank101111, S0: Select0ForRank101111> Louds<S, S0> {
         ensures { result ≡ slice_index self.now.degrees node }
     {
         let start = self.zero(node);
-        let end = self.zero(node + 1);
+        let end = self.end(node, start);
         end - start - 1
     }
 
@@ -160,7 +177,7 @@ impl<S: SelectForRank101111, S0: Select0ForRank101111> Louds<S, S0> {
     /// # Conditions
     /// There is such a node.
     /// # Cost
-    /// Two selections.
+    /// One selection and two words; two selections where it has more than 64 children.
     #[inline]
     #[tactic(auto, using(crate::proofs::lemmas::TreeLemmas::zero_place_more))]
     pub fn child(&self, node: usize, k: usize) -> Option<usize>
@@ -170,7 +187,7 @@ impl<S: SelectForRank101111, S0: Select0ForRank101111> Louds<S, S0> {
     {
         let _nodes = self.len();
         let start = self.zero(node);
-        let end = self.zero(node + 1);
+        let end = self.end(node, start);
         if k < end - start - 1 {
             Some(start + k - node)
         } else {
@@ -183,7 +200,7 @@ impl<S: SelectForRank101111, S0: Select0ForRank101111> Louds<S, S0> {
     /// # Conditions
     /// There is such a node.
     /// # Cost
-    /// Two selections.
+    /// One selection and two words; two selections where it has more than 64 children.
     #[inline]
     pub fn first_child(&self, node: usize) -> Option<usize>
         requires { node < length self.now.degrees }
@@ -198,14 +215,14 @@ impl<S: SelectForRank101111, S0: Select0ForRank101111> Louds<S, S0> {
     /// # Conditions
     /// There is such a node.
     /// # Cost
-    /// Two selections.
+    /// One selection and two words; two selections where it has more than 64 children.
     #[inline]
     pub fn children(&self, node: usize) -> Range<usize>
         requires { node < length self.now.degrees }
         ensures { AreChildren self.now.degrees node result.start result.end }
     {
         let start = self.zero(node);
-        let end = self.zero(node + 1);
+        let end = self.end(node, start);
         start - node..end - node - 1
     }
 
@@ -214,7 +231,7 @@ impl<S: SelectForRank101111, S0: Select0ForRank101111> Louds<S, S0> {
     /// # Conditions
     /// There is such a node.
     /// # Cost
-    /// Two selections.
+    /// One selection and two words; two selections where it has more than 64 children.
     #[inline]
     pub fn last_child(&self, node: usize) -> Option<usize>
         requires { node < length self.now.degrees }

@@ -78,8 +78,7 @@ returns-then-get-label-2-clause-child g c =
     let low = c.loop-low.low in
     let rise = subst (λ (x : _). Rise x.degrees x.labels) c.self.view_is c.self.invariant.rise in
     let are = subst (λ (x : _). AreChildren x.degrees c.args.node first past) c.self.view_is c.children-children.ensures in
-    let value : c.get-then-low-children.result ≡ get_or ls low 0 = c.get-then-low-children.ensures ∙ ap (λ x. get_or x.labels low 0) c.self.view_is in
-    (
+    let value : c.get-then-low-children.result ≡ get_or ls low 0 = c.get-then-low-children.ensures ∙ ap (λ x. get_or x.labels low 0) c.self.view_is in (
       (low - first, child_between d ls c.args.node first past are rise low c.loop-low.invariant.from c.if-low-children.true),
       omega (arith, value, c.if-get-label-2.true),
     )
