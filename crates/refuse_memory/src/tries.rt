@@ -4,7 +4,9 @@ use louds::{BinaryLouds, LabelsError, LoudsError, SampledTrie};
 use std::alloc::Global;
 
 const PARENTS: [usize; 4] = [0, 0, 1, 1];
+
 const DEGREES: [usize; 5] = [2, 2, 0, 0, 0];
+
 const LABELS: [u64; 5] = [0, 1, 9, 4, 7];
 
 /// A call that takes memory.

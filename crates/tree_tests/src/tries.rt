@@ -7,8 +7,12 @@ const DEGREES: [usize; 5] = [2, 2, 0, 0, 0];
 
 #[test]
 fn words_lead_where_they_do_by_hand(rt: HostRuntime) -> Result<(), Fail> {
-    let Ok(trie) = SampledTrie::build(rt.alloc(), DEGREES.as_slice(), [0u64, 1, 9, 4, 7].as_slice(), 4)
-    else {
+    let Ok(trie) = SampledTrie::build(
+        rt.alloc(),
+        DEGREES.as_slice(),
+        [0u64, 1, 9, 4, 7].as_slice(),
+        4,
+    ) else {
         return Err("refused".into());
     };
     assert!(rt; trie.tree().len() == 5);
