@@ -1,5 +1,10 @@
 pub mod Tree
+pub mod Above
+pub mod Parents
+pub mod Labels
 pub mod Held
+pub mod Counted
 pub mod Laws
 pub mod Error
+pub mod LabelsError
 pub mod Value

@@ -37,6 +37,14 @@ IsLast d v = (i k : ℕ) → IsChild d i k v → k + 1 ≡ slice_index d i
 abbrev pub MatchesNextSibling : List ℕ → ℕ → Option ℕ → Type 0
 MatchesNextSibling d v o = MatchOption o (IsLast d v) (IsNextSibling d v)
 
+-- v is the first child of any parent that it has
+abbrev pub IsFirst : List ℕ → ℕ → Type 0
+IsFirst d v = (i k : ℕ) → IsChild d i k v → k ≡ 0
+
+-- the child before v of its parent, and None exactly where v is the first one or the root
+abbrev pub MatchesPreviousSibling : List ℕ → ℕ → Option ℕ → Type 0
+MatchesPreviousSibling d v o = MatchOption o (IsFirst d v) (λ u. IsNextSibling d u v)
+
 -- the last child of node i, and None exactly where i has none
 abbrev pub MatchesLastChild : List ℕ → ℕ → Option ℕ → Type 0
 MatchesLastChild d i o = MatchOption o (slice_index d i ≡ 0) (IsChild d i (slice_index d i - 1))

@@ -1,6 +1,6 @@
 //! Laws of the definitions that contracts cite. A function here does nothing: its contract is the law, and a caller
 //! that wants the law calls it.
-ghost use Rattle.louds.specs.Laws.{OneParent, TreesHaveParents};
+ghost use Rattle.louds.specs.Laws.{OneDepth, OneParent, TreesHaveParents};
 
 /// A node is a child of one node alone, in one place.
 pub fn one_parent()
@@ -11,4 +11,9 @@ pub fn one_parent()
 /// of a node before it.
 pub fn trees_have_parents()
     ensures { TreesHaveParents }
+{}
+
+/// A node stands one number of levels below the root.
+pub fn one_depth()
+    ensures { OneDepth }
 {}

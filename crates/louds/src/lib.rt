@@ -15,11 +15,18 @@
 #![tactic(auto)]
 
 mod checking;
+mod climbing;
+pub mod counted;
 mod error;
+mod labelled;
+mod labels;
 pub mod laws;
 mod making;
+mod parents;
 mod tree;
 
 pub use checking::is_tree;
-pub use error::LoudsError;
+pub use error::{LabelsError, LoudsError};
+pub use labelled::{LabelledLouds, SampledTrie, are_labels};
+pub use parents::are_parents;
 pub use tree::{BinaryLouds, Louds, SampledLouds};

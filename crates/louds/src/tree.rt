@@ -1,17 +1,20 @@
 //! The type of a tree, and what it is asked.
 ghost use Rattle.std.specs.Prelude.{◌≡◌, ◌==◌, ◌+◌, ◌*◌, ◌^◌, ◌<◌, ◌≤◌, ◌↔◌, IfOk, IfSome, IsErrOf, length, slice_index};
 ghost use Rattle.std.specs.Int.{div_ceil};
+ghost use Rattle.bitm.specs.Reads.{none_read};
 ghost use Rattle.bitm.specs.Size.{saturated_size};
+ghost use Rattle.louds.specs.Counted.{degrees_in, IsLouds};
 ghost use Rattle.louds.specs.Held.{words_of, zero_place, IsOneOf};
 ghost use Rattle.louds.specs.Tree.{AreChildren, IsTree, MatchesChild, MatchesLastChild};
 ghost use Rattle.louds.specs.Tree.{MatchesParent, MatchesChildRank, MatchesNextSibling};
+ghost use Rattle.louds.specs.Tree.{MatchesPreviousSibling};
 
 use crate::checking::is_tree;
 use crate::error::LoudsError;
 use crate::making::make_bits;
 use bitm::{
-    Access, AdaptiveCombinedSamplingDensity, BinaryRankSearch, CombinedSampling, GetSize,
-    RankSelect101111, Select, Select0, Select0ForRank101111, SelectForRank101111,
+    Access, AdaptiveCombinedSamplingDensity, BinaryRankSearch, CombinedSampling, GetSize, Probe,
+    RankSelect101111, Select, Select0, Select0ForRank101111, SelectForRank101111, words,
 };
 use std::alloc::{AllocError, Global};
 use std::boxed::BoxedSlice;
@@ -19,7 +22,7 @@ use std::marker::Model;
 use std::ops::Range;
 
 /// As many degrees as are not taken.
-const TOO_MANY: usize = 1 << 60;
+pub(crate) const TOO_MANY: usize = 1 << 60;
 
 /// A tree whose nodes are numbered level by level from the root, node 0: child `k` of node `i` is one more than the
 /// children of all nodes before `i`, and `k`.
@@ -91,14 +94,41 @@ impl<S: SelectForRank101111, S0: Select0ForRank101111> Louds<S, S0> {
         self.len
     }
 
+    /// A source over the bits and the tables, with no reads counted yet: what the calls of `counted` take.
+    #[inline(always)]
+    pub fn probe(&self) -> Probe<'_>
+        ensures tree { IsLouds (length self.now.degrees) result.lists }
+        ensures degrees { degrees_in (length self.now.degrees) result.lists ≡ self.now.degrees }
+        ensures reads { result.reads ≡ none_read }
+    {
+        self.index.probe()
+    }
+
     /// The place of the zero before the ones of a node, or of the last zero.
     #[inline(always)]
-    fn zero(&self, node: usize) -> usize
+    pub(crate) fn zero(&self, node: usize) -> usize
         requires { node ≤ length self.now.degrees }
         ensures place { result ≡ zero_place self.now.degrees node }
         ensures small { result < 2 ^ 62 }
     {
         self.index.select0(node)
+    }
+
+    /// The place of the zero after the ones of a node, where that before them stands at `start`. It is mostly in one of
+    /// the two words that have the bits behind `start`; else it is selected.
+    #[inline(always)]
+    fn end(&self, node: usize, start: usize) -> usize
+        requires node { node < length self.now.degrees }
+        requires start { start ≡ zero_place self.now.degrees node }
+        ensures place { result ≡ zero_place self.now.degrees (node + 1) }
+        ensures small { result < 2 ^ 62 }
+    {
+        let words = self.index.content().as_slice();
+        let near = &words[..words.len().min((start + 1) / 64 + 2)];
+        match words::find_bit_zero(near, start + 1) {
+            Some(place) => place,
+            None => self.zero(node + 1),
+        }
     }
 
     /// The place of the one of a node.
@@ -115,7 +145,7 @@ impl<S: SelectForRank101111, S0: Select0ForRank101111> Louds<S, S0> {
     /// # Conditions
     /// There is such a node.
     /// # Cost
-    /// Two selections.
+    /// One selection and two words; two selections where it has more than 64 children.
     #[inline]
     #[tactic(auto, using(crate::proofs::lemmas::TreeLemmas::zero_place_more))]
     pub fn degree(&self, node: usize) -> usize
@@ -123,7 +153,7 @@ impl<S: SelectForRank101111, S0: Select0ForRank101111> Louds<S, S0> {
         ensures { result ≡ slice_index self.now.degrees node }
     {
         let start = self.zero(node);
-        let end = self.zero(node + 1);
+        let end = self.end(node, start);
         end - start - 1
     }
 
@@ -147,7 +177,7 @@ impl<S: SelectForRank101111, S0: Select0ForRank101111> Louds<S, S0> {
     /// # Conditions
     /// There is such a node.
     /// # Cost
-    /// Two selections.
+    /// One selection and two words; two selections where it has more than 64 children.
     #[inline]
     #[tactic(auto, using(crate::proofs::lemmas::TreeLemmas::zero_place_more))]
     pub fn child(&self, node: usize, k: usize) -> Option<usize>
@@ -157,7 +187,7 @@ impl<S: SelectForRank101111, S0: Select0ForRank101111> Louds<S, S0> {
     {
         let _nodes = self.len();
         let start = self.zero(node);
-        let end = self.zero(node + 1);
+        let end = self.end(node, start);
         if k < end - start - 1 {
             Some(start + k - node)
         } else {
@@ -170,7 +200,7 @@ impl<S: SelectForRank101111, S0: Select0ForRank101111> Louds<S, S0> {
     /// # Conditions
     /// There is such a node.
     /// # Cost
-    /// Two selections.
+    /// One selection and two words; two selections where it has more than 64 children.
     #[inline]
     pub fn first_child(&self, node: usize) -> Option<usize>
         requires { node < length self.now.degrees }
@@ -185,14 +215,14 @@ impl<S: SelectForRank101111, S0: Select0ForRank101111> Louds<S, S0> {
     /// # Conditions
     /// There is such a node.
     /// # Cost
-    /// Two selections.
+    /// One selection and two words; two selections where it has more than 64 children.
     #[inline]
     pub fn children(&self, node: usize) -> Range<usize>
         requires { node < length self.now.degrees }
         ensures { AreChildren self.now.degrees node result.start result.end }
     {
         let start = self.zero(node);
-        let end = self.zero(node + 1);
+        let end = self.end(node, start);
         start - node..end - node - 1
     }
 
@@ -201,7 +231,7 @@ impl<S: SelectForRank101111, S0: Select0ForRank101111> Louds<S, S0> {
     /// # Conditions
     /// There is such a node.
     /// # Cost
-    /// Two selections.
+    /// One selection and two words; two selections where it has more than 64 children.
     #[inline]
     pub fn last_child(&self, node: usize) -> Option<usize>
         requires { node < length self.now.degrees }
@@ -269,6 +299,36 @@ impl<S: SelectForRank101111, S0: Select0ForRank101111> Louds<S, S0> {
         }
     }
 
+    /// The child of a node's parent before it; `None` exactly where the node is the first child or the root.
+    ///
+    /// # Conditions
+    /// There is such a node.
+    /// # Cost
+    /// One selection, and one word of the bits; none of them at the root.
+    #[inline]
+    pub fn previous_sibling(&self, node: usize) -> Option<usize>
+        requires { node < length self.now.degrees }
+        ensures { MatchesPreviousSibling self.now.degrees node result }
+    {
+        if node == 0 {
+            return None;
+        }
+        if self.index.get_bit(self.one(node) - 1) {
+            Some(node - 1)
+        } else {
+            None
+        }
+    }
+
+    /// All nodes, level by level from the root: an iterator from either end, which reads nothing.
+    #[inline(always)]
+    pub fn nodes(&self) -> Range<usize>
+        ensures first { result.start ≡ 0 }
+        ensures past { result.end ≡ length self.now.degrees }
+    {
+        0..self.len
+    }
+
     /// A tree of the same degrees, with bits, tables and strategies of its own.
     ///
     /// # Errors
@@ -300,7 +360,7 @@ impl<S: SelectForRank101111 + GetSize, S0: Select0ForRank101111 + GetSize> GetSi
 }
 
 /// Samples of the bits: one for each 2^13 ones or zeros, or fewer where there are fewer of these.
-type Sampled = CombinedSampling<AdaptiveCombinedSamplingDensity<13>>;
+pub(crate) type Sampled = CombinedSampling<AdaptiveCombinedSamplingDensity<13>>;
 
 /// A tree that selects by samples, the fastest: what to take unless the reads of binary search are wanted.
 pub type SampledLouds = Louds<Sampled, Sampled>;

@@ -13,6 +13,7 @@ mod packed;
 mod sequences;
 mod simple;
 mod trees;
+mod tries;
 mod uncopied;
 mod words;
 
@@ -20,18 +21,30 @@ use calls::all;
 use outcome::Outcome;
 use std::io;
 use std::process::ExitCode;
+use tries::TrieCall;
 
 fn main(rt: HostRuntime) -> io::Result<ExitCode> {
     let alloc = rt.alloc();
     let mut ended = ExitCode::SUCCESS;
     for call in all() {
-        let outcome = call.run(alloc);
-        let name = call.name();
-        let word = outcome.name();
-        println!(rt; "{name} {word}")?;
-        if let Outcome::Wrong = outcome {
+        if !report(&rt, call.name(), call.run(alloc))? {
+            ended = ExitCode::FAILURE;
+        }
+    }
+    for call in TrieCall::ALL {
+        if !report(&rt, call.name(), call.run(alloc))? {
             ended = ExitCode::FAILURE;
         }
     }
     Ok(ended)
+}
+
+/// Prints how a call ended, and answers whether that is right.
+fn report(rt: &HostRuntime, name: &str, outcome: Outcome) -> io::Result<bool> {
+    let word = outcome.name();
+    println!(rt; "{name} {word}")?;
+    match outcome {
+        Outcome::Wrong => Ok(false),
+        _ => Ok(true),
+    }
 }

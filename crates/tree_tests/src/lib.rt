@@ -3,3 +3,7 @@
 
 #[cfg(test)]
 mod trees;
+#[cfg(test)]
+mod tries;
+#[cfg(test)]
+mod ways;

@@ -1,16 +1,17 @@
 -- The bits of a tree: where their zeros and ones stand.
-use Rattle.std.proofs.Common.{◌≡◌, ℕ, zero, suc, ◌+◌, ◌-◌, ◌*◌, ◌^◌, ◌<◌, ◌≤◌, Bool, true, false, not, cond, List, length, take, get_or, refl, sym, ap, ◌∙◌, ⊎_elim, arith, subst, eqb}
-use Rattle.std.proofs.lemmas.Bool.{cases_lt, cases_eq, eq-eqb, ne_eqb}
+use Rattle.std.proofs.Common.{◌≡◌, ℕ, zero, suc, ◌+◌, ◌-◌, ◌*◌, ◌/◌, ◌%◌, ◌^◌, ◌<◌, ◌≤◌, ◌⊎◌, inl, inr, Bool, true, false, not, cond, List, length, length-take, take, get_or, refl, sym, ap, ◌∙◌, ⊎_elim, arith, subst, eqb}
+use Rattle.std.proofs.lemmas.Bool.{cases_lt, cases_eq, cases_order, eq-eqb, ne_eqb}
 use Rattle.std.proofs.lemmas.Grind.{same_number_lists}
 use Rattle.std.proofs.lemmas.List.FromFn.{length-map-range_with_len, get_or-map-range_with_len}
+use Rattle.std.proofs.lemmas.List.{get_or-take}
 use Rattle.std.specs.List.{sum}
-use Rattle.bitm.specs.Bits.{item}
-use Rattle.bitm.specs.Count.{zeros_before, ones_of, zeros_of, is_same, places, Picks}
-use Rattle.bitm.proofs.BitLaws.{at_most_one_picked, count_after_item, counts_grow, none_before_the_first, ones_and_zeros, places_are_counted, places_are_picked}
+use Rattle.bitm.specs.Bits.{bits_of, digit, item}
+use Rattle.bitm.specs.Count.{zeros_before, ones_of, zeros_of, is_same, places, IsFirstFrom, Picks}
+use Rattle.bitm.proofs.BitLaws.{at_most_one_picked, bit_is_digit, bits_are_counted, count_after_item, counts_grow, equal_items_count_for_one, none_before_the_first, ones_and_zeros, places_are_counted, places_are_picked}
 use Rattle.bitm.proofs.Callers.{one_below, zero_below}
 use Rattle.louds.proofs.lemmas.TreeLemmas.{sum_all, sum_part, sum_order, zero_place_more, parent_of, one_parent}
 use Rattle.louds.specs.Held.{zero_place, IsWritten, IsHeld, degrees_of, IsOneOf, words_of}
-use Rattle.louds.specs.Tree.{IsChild, IsTree, IsLast, IsNextSibling}
+use Rattle.louds.specs.Tree.{IsChild, IsTree, IsFirst, IsLast, IsNextSibling}
 
 -- what is not false
 true_of : (x : Bool) → (x ≡ false → ⊥) → x ≡ true
@@ -29,16 +30,6 @@ zero_after_zero : (b : List Bool) (p : ℕ) → p < length b → item b p ≡ fa
 zero_after_zero b p inside is =
     count_after_item b false p inside ∙ ap (λ x. zeros_before b p + cond (is_same false x) 1 0) is
 
--- no zeros in a run of ones
-none_in_run : (b : List Bool) (i m : ℕ) → i + m ≤ length b → ((p : ℕ) → i ≤ p → p < i + m → item b p ≡ true)
-    → zeros_before b (i + m) ≡ zeros_before b i
-none_in_run b i zero inside ones = let e : i + 0 ≡ i = omega arith in ap (zeros_before b) e
-none_in_run b i (suc m) inside ones =
-    let e : i + suc m ≡ i + m + 1 = omega arith in
-    ap (zeros_before b) e
-    ∙ zero_after_one b (i + m) (omega arith) (ones (i + m) (omega arith) (omega arith))
-    ∙ none_in_run b i m (omega arith) (λ p from to. ones p from (omega arith))
-
 -- so many zeros stand before each zero
 count_zeros : (d : List ℕ) (b : List Bool) → IsWritten d (length d) b → 1 + length d + sum d < length b
     → (j : ℕ) → j ≤ length d → zeros_before b (zero_place d j) ≡ j
@@ -54,7 +45,7 @@ count_zeros d b w room (suc j) within =
     let here : zero_place d j < length b = omega (arith, more, end, all) in
     ap (λ k. zeros_before b (zero_place d k)) next
     ∙ ap (zeros_before b) more
-    ∙ none_in_run b (zero_place d j + 1) (get_or d j 0) (omega (arith, more, end, all))
+    ∙ equal_items_count_for_one b true (zero_place d j + 1) (get_or d j 0) (omega (arith, more, end, all))
     (λ p from to. w.ones j p inside (omega arith) (omega (arith, more)))
     ∙ zero_after_zero b (zero_place d j) here (w.zeros j (omega arith))
     ∙ ap (λ k. k + 1) (count_zeros d b w room j (omega arith))
@@ -246,6 +237,106 @@ module _ (d : List ℕ) (n : ℕ) (b : List Bool) (h : IsHeld d n b) where
       clash : (q : ℕ) → item b q ≡ true → item b q ≡ false → ⊥
       clash q one none = let both : true ≡ false = sym one ∙ none in cc
 
+  -- ---- the bit before a one
+
+  -- a node's one that is not the root's stands after the first bit, and before the end
+  pub before_one_inside : (v p : ℕ) → v < n → 0 < v → IsOneOf d v p → (0 < p) × (p < length b)
+  before_one_inside v p less some one =
+      let o = one.1 some in (omega (arith, o.4), omega (arith, after_one_inside v p less one))
+
+  pub previous_of_one : (v p q : ℕ) → 0 < v → IsOneOf d v p → q + 1 ≡ p → item b q ≡ true → IsNextSibling d (v - 1) v
+  previous_of_one v p q some one at is =
+      let o = one.1 some in
+      let i = o.0 in
+      let k = o.1 in
+      let c = o.3 in
+      ⊎_elim
+      (λ none.
+      let there : q ≡ zero_place d i = omega (arith, o.4) in
+      absurd (clash q is (ap (item b) there ∙ (h.zeros i (omega (arith, h.count, c.node))).item)))
+      (λ more.
+      let next : k - 1 + 1 ≡ k = omega arith in (
+        i,
+        k - 1,
+        record { node = c.node; some = omega (arith, c.some); number = omega (arith, c.number) },
+        subst (λ (j : ℕ). IsChild d i j v) (sym next) c,
+      ))
+      (cases_zero k)
+    where
+      clash : (q : ℕ) → item b q ≡ true → item b q ≡ false → ⊥
+      clash q one none = let both : true ≡ false = sym one ∙ none in cc
+
+      cases_zero : (k : ℕ) → (k ≡ 0) ⊎ (0 < k)
+      cases_zero zero = inl refl
+      cases_zero (suc k) = inr (omega arith)
+
+  pub first_of_one : (v p q : ℕ) → 0 < v → IsOneOf d v p → q + 1 ≡ p → item b q ≡ false → IsFirst d v
+  first_of_one v p q some one at is i k c =
+      let o = one.1 some in
+      let same = one_parent d i o.0 k o.1 v c o.3 in
+      let here : zero_place d i + k ≡ q = omega (arith, o.4, ap (zero_place d) same.0, same.1) in
+      ⊎_elim
+      (λ none. omega arith)
+      (λ more.
+      let at_k : zero_place d i + 1 + (k - 1) ≡ q = omega arith in
+      let before : IsChild d i (k - 1) (v - 1) = record { node = c.node; some = omega (arith, c.some); number = omega (arith, c.number) } in
+      absurd (clash q (ap (item b) (sym at_k) ∙ (child_one i (k - 1) (v - 1) before).item) is))
+      (cases_lt k 1)
+    where
+      clash : (q : ℕ) → item b q ≡ true → item b q ≡ false → ⊥
+      clash q one none = let both : true ≡ false = sym one ∙ none in cc
+
+  -- the places of ones are well below the greatest number
+  pub one_small : (v p : ℕ) → Picks b true v p → p < 2 ^ 62
+  one_small v p picked = omega (arith, picked.inside, h.tight, h.short)
+
   -- they hold what they hold
   pub held_degrees : IsHeld (degrees_of b n) n b
   held_degrees = subst (λ (xs : List ℕ). IsHeld xs n b) (sym degrees_of-is) h
+
+-- ---- the run of a node's ones
+
+-- the bits of the first words are those of all
+item_front : (ws : List ℕ) (m i : ℕ) → i < length (bits_of (take m ws)) → item (bits_of (take m ws)) i ≡ item (bits_of ws) i
+item_front ws m i inside =
+    let len = bits_are_counted (take m ws) in
+    let cut = length-take m ws in
+    bit_is_digit (take m ws) i (omega (arith, len))
+    ∙ ap (λ x. digit x (i % 64)) (get_or-take m ws (i / 64) 0 (omega (arith, len, cut)))
+    ∙ sym (bit_is_digit ws i (omega (arith, len, cut)))
+
+-- the first zero behind that before a node's ones, in the first words, is that after them
+pub run_end : (d : List ℕ) (n : ℕ) (ws : List ℕ) (m v p : ℕ) → IsHeld d n (bits_of ws) → v < n
+    → IsFirstFrom (bits_of (take m ws)) false (zero_place d v + 1) p → p ≡ zero_place d (v + 1)
+run_end d n ws m v p h less first =
+    ⊎_elim (λ same. same) (λ apart. absurd (⊎_elim early late apart)) (cases_order p e)
+  where
+    b : List Bool
+    b = bits_of ws
+
+    e : ℕ
+    e = zero_place d (v + 1)
+
+    inside : v < length d
+    inside = omega (arith, h.count)
+
+    more : e ≡ zero_place d v + 1 + get_or d v 0
+    more = zero_place_more d v inside
+
+    clash : (q : ℕ) → item b q ≡ true → item b q ≡ false → ⊥
+    clash q one none = let both : true ≡ false = sym one ∙ none in cc
+
+    early : p < e → ⊥
+    early before =
+        let k = p - (zero_place d v + 1) in
+        let at : zero_place d v + 1 + k ≡ p = omega (arith, first.from) in
+        let child : IsChild d v k (1 + sum (take v d) + k) =
+        record { node = inside; some = omega (arith, more, before, first.from); number = refl } in
+        clash p (ap (item b) (sym at) ∙ (child_one d n b h v k (1 + sum (take v d) + k) child).item)
+        (sym (item_front ws m p first.inside) ∙ first.is)
+
+    late : e < p → ⊥
+    late behind =
+        clash e
+        (sym (item_front ws m e (omega (arith, behind, first.inside))) ∙ first.least e (omega (arith, more)) behind)
+        (h.zeros (v + 1) (omega arith)).item

@@ -10,7 +10,7 @@ returns-then-k-end-clause-inside g c =
       arith,
       c.len-nodes.ensures.tree.count,
       c.zero-start.ensures.place,
-      c.zero-end.ensures.place,
+      c.end-end.ensures.place,
       c.if-k-end.true,
       sum_part d (c.args.node + 1),
     )

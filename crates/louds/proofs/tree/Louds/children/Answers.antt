@@ -7,4 +7,4 @@ pub returns : goal.returns
 returns g c =
     let more = zero_place_more c.args.self.now.degrees c.args.node c.requires in
     children_of c.args.self.now.degrees c.args.node _ _ c.requires (omega (arith, c.zero-start.ensures.place))
-    (omega (arith, c.zero-start.ensures.place, c.zero-end.ensures.place, more))
+    (omega (arith, c.zero-start.ensures.place, c.end-end.ensures.place, more))

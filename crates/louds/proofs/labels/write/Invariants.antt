@@ -1,0 +1,6 @@
+use Rattle.louds.proofs.lemmas.LabelLemmas.{ArePacked}
+use Rattle.louds.proofs.labels.write.Given as goal
+
+-- the numbers so far stand at their places
+abbrev pub invariant-loop-i : goal.invariant-loop-i
+invariant-loop-i l = ArePacked l.words l.numbers l.width l.i

@@ -1,0 +1,135 @@
+//! The calls of a tree over any source, by binary search: what they read is counted.
+ghost use Rattle.std.specs.Prelude.{◌≡◌, ◌==◌, ◌+◌, ◌^◌, ◌<◌, ◌≤◌, slice_index};
+ghost use Rattle.louds.specs.Counted.{degrees_in, IsLouds, OnlySelects};
+ghost use Rattle.louds.specs.Held.{zero_place, IsOneOf};
+ghost use Rattle.louds.specs.Tree.{MatchesChild, MatchesParent, MatchesNextSibling};
+
+use bitm::{TableSource, binary_select_on, bit_on};
+
+/// The place of the zero before the ones of a node, or of the last zero.
+#[inline(always)]
+fn zero_on<T: TableSource>(source: &mut T, len: usize, node: usize) -> usize
+    requires tree { IsLouds len (T.lists source.old) }
+    requires node { node ≤ len }
+    ensures place { result ≡ zero_place (degrees_in len (T.lists source.old)) node }
+    ensures small { result < 2 ^ 62 }
+    ensures reads { OnlySelects T.lists T.reads source.old source.new 1 0 }
+{
+    match binary_select_on::<0, T>(source, node) {
+        Some(place) => place,
+        None => unreachable!(),
+    }
+}
+
+/// The place of the one of a node.
+#[inline(always)]
+fn one_on<T: TableSource>(source: &mut T, len: usize, node: usize) -> usize
+    requires tree { IsLouds len (T.lists source.old) }
+    requires node { node < len }
+    ensures place { IsOneOf (degrees_in len (T.lists source.old)) node result }
+    ensures small { result < 2 ^ 62 }
+    ensures reads { OnlySelects T.lists T.reads source.old source.new 1 0 }
+{
+    match binary_select_on::<1, T>(source, node) {
+        Some(place) => place,
+        None => unreachable!(),
+    }
+}
+
+/// How many children a node has.
+///
+/// # Conditions
+/// The source holds a tree of `len` nodes, and there is such a node.
+/// # Cost
+/// What two selections by binary search read.
+#[tactic(auto, using(crate::proofs::lemmas::TreeLemmas::zero_place_more))]
+pub fn degree_on<T: TableSource>(source: &mut T, len: usize, node: usize) -> usize
+    requires tree { IsLouds len (T.lists source.old) }
+    requires node { node < len }
+    ensures degree { result ≡ slice_index (degrees_in len (T.lists source.old)) node }
+    ensures reads { OnlySelects T.lists T.reads source.old source.new 2 0 }
+{
+    let start = zero_on(source, len, node);
+    let end = zero_on(source, len, node + 1);
+    end - start - 1
+}
+
+/// Whether a node has no children.
+///
+/// # Conditions
+/// The source holds a tree of `len` nodes, and there is such a node.
+/// # Cost
+/// What a selection by binary search reads, and one word.
+pub fn is_leaf_on<T: TableSource>(source: &mut T, len: usize, node: usize) -> bool
+    requires tree { IsLouds len (T.lists source.old) }
+    requires node { node < len }
+    ensures leaf { result ≡ (slice_index (degrees_in len (T.lists source.old)) node == 0) }
+    ensures reads { OnlySelects T.lists T.reads source.old source.new 1 1 }
+{
+    let next = zero_on(source, len, node) + 1;
+    match bit_on(source, next) {
+        Some(bit) => !bit,
+        None => unreachable!(),
+    }
+}
+
+/// Child `k` of a node; `None` exactly where it has no more than `k` children.
+///
+/// # Conditions
+/// The source holds a tree of `len` nodes, and there is such a node.
+/// # Cost
+/// What two selections by binary search read.
+#[tactic(auto, using(crate::proofs::lemmas::TreeLemmas::zero_place_more))]
+pub fn child_on<T: TableSource>(source: &mut T, len: usize, node: usize, k: usize) -> Option<usize>
+    requires tree { IsLouds len (T.lists source.old) }
+    requires node { node < len }
+    ensures child { MatchesChild (degrees_in len (T.lists source.old)) node k result }
+    ensures reads { OnlySelects T.lists T.reads source.old source.new 2 0 }
+{
+    let start = zero_on(source, len, node);
+    let end = zero_on(source, len, node + 1);
+    if k < end - start - 1 {
+        Some(start + k - node)
+    } else {
+        None
+    }
+}
+
+/// The parent of a node; `None` exactly where it is the root.
+///
+/// # Conditions
+/// The source holds a tree of `len` nodes, and there is such a node.
+/// # Cost
+/// What a selection by binary search reads.
+pub fn parent_on<T: TableSource>(source: &mut T, len: usize, node: usize) -> Option<usize>
+    requires tree { IsLouds len (T.lists source.old) }
+    requires node { node < len }
+    ensures parent { MatchesParent (degrees_in len (T.lists source.old)) node result }
+    ensures reads { OnlySelects T.lists T.reads source.old source.new 1 0 }
+{
+    if node == 0 {
+        None
+    } else {
+        Some(one_on(source, len, node) - node - 1)
+    }
+}
+
+/// The next child of a node's parent; `None` exactly where the node is the last child or the root.
+///
+/// # Conditions
+/// The source holds a tree of `len` nodes, and there is such a node.
+/// # Cost
+/// What a selection by binary search reads, and one word.
+pub fn next_sibling_on<T: TableSource>(source: &mut T, len: usize, node: usize) -> Option<usize>
+    requires tree { IsLouds len (T.lists source.old) }
+    requires node { node < len }
+    ensures sibling { MatchesNextSibling (degrees_in len (T.lists source.old)) node result }
+    ensures reads { OnlySelects T.lists T.reads source.old source.new 1 1 }
+{
+    let next = one_on(source, len, node) + 1;
+    match bit_on(source, next) {
+        Some(true) => Some(node + 1),
+        Some(false) => None,
+        None => unreachable!(),
+    }
+}
