@@ -1,5 +1,5 @@
 -- Many look-ups side by side. 2^64 - 1 stands where a hash has no number, or has no place yet.
-use Rattle.std.specs.Prelude.{◌≡◌, ◌≢◌, ℕ, ◌-◌, ◌^◌, ◌<◌, Bool, List, length, slice_get, slice_index, Option, Some, None}
+use Rattle.std.specs.Prelude.{◌≡◌, ◌≢◌, ℕ, ◌-◌, ◌^◌, ◌<◌, ◌≤◌, Bool, List, length, slice_get, slice_index, Option, Some, None}
 use Rattle.bitm.specs.Count.{ones_before}
 use Rattle.perfect_hash.specs.Levels.{place_from, GoesOn}
 use Rattle.perfect_hash.specs.Places.{place_in}
@@ -26,10 +26,14 @@ pub record IsLookedUp (fall : ℕ → ℕ → ℕ) (b : List Bool) (sizes : List
   pub goes_on : place ≡ 2 ^ 64 - 1 → GoesOn fall b sizes level begin
   pub found : place ≢ 2 ^ 64 - 1 → place_from fall b 0 0 sizes ≡ Some place
 
--- that of each hash has
-abbrev pub AreLookedUp : List Bool → List ℕ → ℕ → ℕ → List ℕ → List ℕ → Type 0
-AreLookedUp b sizes level begin hashes places =
-    (k : ℕ) → k < length hashes → IsLookedUp (place_in (slice_index hashes k)) b sizes level begin (slice_index places k)
+-- before a level, each look-up has found its place, or its hash is among the first `count` that wait, and all these go on
+pub record AreLookedUp (b : List Bool) (sizes : List ℕ) (level begin : ℕ) (hashes places waiting : List ℕ) (count : ℕ) : Type 0 where
+  pub room : count ≤ length waiting
+  pub inside : (a : ℕ) → a < count → slice_index waiting a < length hashes
+  pub go_on : (a : ℕ) → a < count → GoesOn (place_in (slice_index hashes (slice_index waiting a))) b sizes level begin
+  pub found : (k : ℕ) → k < length hashes → slice_index places k ≢ 2 ^ 64 - 1
+      → place_from (place_in (slice_index hashes k)) b 0 0 sizes ≡ Some (slice_index places k)
+  pub wait : (k : ℕ) → k < length hashes → slice_index places k ≡ 2 ^ 64 - 1 → (a : ℕ) × (a < count) × (slice_index waiting a ≡ k)
 
 -- number k is that of the ones before place k
 pub record IsRanked (b : List Bool) (place number : ℕ) : Type 0 where

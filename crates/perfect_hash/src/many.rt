@@ -1,7 +1,7 @@
 //! Many look-ups at once: they go from level to level side by side, so that each waits for memory while the others do.
-ghost use Rattle.std.specs.Prelude.{◌≡◌, ◌≢◌, ◌+◌, ◌^◌, ◌-◌, ◌<◌, ◌≤◌, ℕ, All, length, slice_index, false};
+ghost use Rattle.std.specs.Prelude.{◌≡◌, ◌≢◌, ◌+◌, ◌^◌, ◌-◌, ◌<◌, ◌≤◌, ℕ, length, slice_index};
 ghost use Rattle.bitm.specs.Count.{ones_before};
-ghost use Rattle.perfect_hash.specs.Levels.{place_from};
+ghost use Rattle.perfect_hash.specs.Levels.{place_from, GoesOn};
 ghost use Rattle.perfect_hash.specs.Many.{told, AreHashes, AreLookedUp, AreNumbersOf, AreNumbersOfKeys, AreRanks, IsLookedUp};
 ghost use Rattle.perfect_hash.specs.Parts.{number_by, number_of, AreSizes};
 ghost use Rattle.perfect_hash.specs.Places.{place_in};
@@ -14,31 +14,25 @@ use bitm::{Access, NO_ANSWER};
 /// So many look-ups go side by side.
 const SIDE_BY_SIDE: usize = 32;
 
-/// The place of the one that a hash falls on at this level, unless it has a place already; `NO_ANSWER` where it falls
-/// on none.
+/// The place of the one that a hash falls on at this level; `NO_ANSWER` where it falls on none.
 #[inline(always)]
-fn look<I: Access>(
-    index: &I,
-    sizes: &[usize],
-    level: usize,
-    begin: usize,
-    hash: u64,
-    place: usize,
-) -> usize
+fn look<I: Access>(index: &I, sizes: &[usize], level: usize, begin: usize, hash: u64) -> usize
     requires sizes { AreSizes sizes.now (I.bits index.now) }
     requires level { level < length sizes.now }
-    requires before { IsLookedUp (place_in hash) (I.bits index.now) sizes.now level begin place }
+    requires goes_on { GoesOn (place_in hash) (I.bits index.now) sizes.now level begin }
     ensures { IsLookedUp (place_in hash) (I.bits index.now) sizes.now (level + 1)
         (begin + slice_index sizes.now level) result }
 {
-    if place != NO_ANSWER {
-        return place;
+    let place = 64 * begin + place_of(hash, level as u32, sizes[level]);
+    if index.get_bit(place) {
+        place
+    } else {
+        NO_ANSWER
     }
-    let here = 64 * begin + place_of(hash, level as u32, sizes[level]);
-    if index.get_bit(here) { here } else { NO_ANSWER }
 }
 
-/// Looks at one level for those hashes that have no place yet. False only if each has one then.
+/// Looks at one level for those of the hashes that wait, the first `count` of the list. Those that go on come to its
+/// front, without a branch that the processor would have to guess, and the answer is how many they are.
 #[inline(always)]
 fn look_at_level<I: Access>(
     index: &I,
@@ -47,23 +41,28 @@ fn look_at_level<I: Access>(
     begin: usize,
     hashes: &[u64],
     places: &mut [usize],
-) -> bool
+    waiting: &mut [usize],
+    count: usize,
+) -> usize
     requires sizes { AreSizes sizes.now (I.bits index.now) }
     requires level { level < length sizes.now }
     requires same_length { length places.old ≡ length hashes.now }
-    requires before { AreLookedUp (I.bits index.now) sizes.now level begin hashes.now places.old }
+    requires before { AreLookedUp (I.bits index.now) sizes.now level begin
+        hashes.now places.old waiting.old count }
     ensures after { AreLookedUp (I.bits index.now) sizes.now (level + 1)
-        (begin + slice_index sizes.now level) hashes.now places.new }
-    ensures found { result ≡ false
-        → (k : ℕ) → k < length hashes.now → slice_index places.new k ≢ 2 ^ 64 - 1 }
+        (begin + slice_index sizes.now level) hashes.now places.new waiting.new result }
 {
-    let mut left = false;
-    for k in 0..hashes.len() {
-        let place = look(index, sizes, level, begin, hashes[k], places[k]);
+    let mut kept = 0;
+    for i in 0..count {
+        let k = waiting[i];
+        let place = look(index, sizes, level, begin, hashes[k]);
         places[k] = place;
-        left |= place == NO_ANSWER;
+        waiting[kept] = k;
+        if place == NO_ANSWER {
+            kept += 1;
+        }
     }
-    left
+    kept
 }
 
 /// The place of each hash, or `NO_ANSWER`.
@@ -71,17 +70,31 @@ fn look_at_level<I: Access>(
 fn find_places<I: Access>(index: &I, sizes: &[usize], hashes: &[u64], places: &mut [usize])
     requires sizes { AreSizes sizes.now (I.bits index.now) }
     requires same_length { length places.old ≡ length hashes.now }
+    requires few { length hashes.now ≤ 32 }
     ensures { (k : ℕ) → k < length hashes.now → slice_index places.new k
         ≡ told (place_from (place_in (slice_index hashes.now k)) (I.bits index.now) 0 0 sizes.now) }
 {
-    for k in 0..places.len() {
+    let mut waiting = [0; SIDE_BY_SIDE];
+    for k in 0..hashes.len() {
         places[k] = NO_ANSWER;
+        waiting[k] = k;
     }
+    let mut count = hashes.len();
     let mut begin = 0;
     for level in 0..sizes.len() {
-        if !look_at_level(index, sizes, level, begin, hashes, places) {
+        if count == 0 {
             return;
         }
+        count = look_at_level(
+            index,
+            sizes,
+            level,
+            begin,
+            hashes,
+            &mut *places,
+            &mut waiting,
+            count,
+        );
         begin += sizes[level];
     }
 }
@@ -105,6 +118,7 @@ impl<H, I: Access> PerfectHash<H, I> {
     #[inline(always)]
     fn number_block(&self, hashes: &[u64], numbers: &mut [usize])
         requires same_length { length numbers.old ≡ length hashes.now }
+        requires few { length hashes.now ≤ 32 }
         ensures { AreNumbersOf (number_by self.now.sizes self.now.bits) hashes.now numbers.new }
     {
         find_places(self.index(), self.sizes(), hashes, numbers);

@@ -1,18 +1,25 @@
--- What was found tells the places, after the level where all were, or after the last.
-use Rattle.std.proofs.Common.{slice_index, arith}
-use Rattle.perfect_hash.specs.Places.{place_in}
+-- All wait at first; what was found tells the places once none waits, or after the last level.
+use Rattle.std.proofs.Common.{inl, inr, arith}
 use Rattle.perfect_hash.proofs.lemmas.ManyLemmas.{last_is_told, looked_up-first}
 use Rattle.perfect_hash.proofs.many.find_places.Goals as goal
 
 pub loop-level-init : goal.loop-level-init
-loop-level-init g c = record {
-  long = c.loop-k.invariant.long;
-  begins = omega arith;
-  each = λ k less. looked_up-first (place_in (slice_index c.args.hashes.now k)) (g.I.HasBits.bits c.args.index.now) c.args.sizes.now _
-      (c.loop-k.invariant.none k (omega (arith, less, c.loop-k-test.false, c.loop-k.invariant.long)));
-}
+loop-level-init g c =
+    let i = c.loop-k.invariant in
+    record {
+      long = i.long;
+      begins = omega arith;
+      each = looked_up-first (g.I.HasBits.bits c.args.index.now) c.args.sizes.now c.args.hashes.now c.loop-k.places c.loop-k.waiting
+          (omega (arith, i.room, c.requires.few))
+          (λ k less. i.none k (omega (arith, less, c.loop-k-test.false))) (λ k less. i.own k (omega (arith, less, c.loop-k-test.false)));
+    }
+
+pub returns-then-count-eq0 : goal.returns-then-count-eq0
+returns-then-count-eq0 g c =
+    last_is_told (g.I.HasBits.bits c.args.index.now) c.args.sizes.now c.loop-level.level c.loop-level.begin c.args.hashes.now
+    c.loop-level.places c.loop-level.waiting c.loop-level.count c.loop-level.invariant.each (inr c.if-count-eq0.true)
 
 pub returns : goal.returns
-returns g c k less =
-    last_is_told (place_in (slice_index c.args.hashes.now k)) (g.I.HasBits.bits c.args.index.now) c.args.sizes.now c.loop-level.level
-    c.loop-level.begin _ (c.loop-level.invariant.each k less) c.loop-level-test.false
+returns g c =
+    last_is_told (g.I.HasBits.bits c.args.index.now) c.args.sizes.now c.loop-level.level c.loop-level.begin c.args.hashes.now
+    c.loop-level.places c.loop-level.waiting c.loop-level.count c.loop-level.invariant.each (inl c.loop-level-test.false)
