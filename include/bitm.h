@@ -405,6 +405,36 @@ BITM_MUST_USE uint32_t bitm_bits_ones(const struct bitm_bits_view *view, size_t 
 BITM_MUST_USE uint32_t bitm_bits_zeros(const struct bitm_bits_view *view, size_t from, uint64_t *out, size_t out_len,
                                        uint64_t *written);
 
+/* ---- minimal perfect hashes
+ *
+ * Each of n keys gets a number of its own below n, in some three bits a key; no key is kept. You hash each key to 64
+ * bits. Levels are made one after another, each for the hashes that are left, and their words stand one behind another
+ * under one index:
+ *
+ *     uint64_t left = n, begin = 0, levels = 0, sizes[256];
+ *     for (; left > 0 && levels < 256; levels++) {
+ *         sizes[levels] = left / 64 + 1; // takes least memory; left / 32 + 1 less time
+ *         if (bitm_hash_level(hashes, left, levels, words + begin, sizes[levels], again, sizes[levels], &left)) ..
+ *         begin += sizes[levels];
+ *     } // where some are left, keys are equal, or their hashes are
+ *     if (bitm_build(words, begin, ..)) ..
+ *     if (bitm_hash_get(&view, sizes, levels, n, hash, &number) == BITM_OK) .. */
+
+/* Makes the words of a level: their ones are the bits that exactly one of the hashes falls on. The hashes that fall on
+ * no one go to the front, in their order, and left is how many they are; what stands behind them and in again means
+ * nothing then. BITM_OK, or BITM_BAD_SIZE if ones_len is 0 or 2^58 or more, or again_len is not ones_len. Two passes
+ * over the hashes. */
+BITM_MUST_USE uint32_t bitm_hash_level(uint64_t *hashes, size_t hashes_len, uint32_t level, uint64_t *ones,
+                                       size_t ones_len, uint64_t *again, size_t again_len, uint64_t *left);
+
+/* The number of a hash: BITM_OK with a number below keys, WHATEVER tables and sizes hold; BITM_NONE where it falls on no
+ * one of a level; BITM_WRONG where tables or sizes are not those of the words, or there are more numbers than keys;
+ * BITM_BAD_SIZE also if sizes_len is over 256. Over right tables, of levels of these sizes with no more ones than keys,
+ * it is the number of the hash, and BITM_WRONG is not returned. A hash that was none of those may get any number below
+ * keys. At most one word a level, and what bitm_rank reads. */
+BITM_MUST_USE uint32_t bitm_hash_get(const struct bitm_view *view, const uint64_t *sizes, size_t sizes_len, size_t keys,
+                                     uint64_t hash, uint64_t *out);
+
 /* ---- stored
  *
  * A file is a header of 192 bytes and the parts that it names, in this order, each from a multiple of 64 bytes on:

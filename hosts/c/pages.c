@@ -7,7 +7,7 @@
 
 #include <signal.h>
 
-enum { WORDS = 1 << 19, LOWERS = WORDS / 32, ITEMS = 1 << 19, LIST = 3 };
+enum { WORDS = 1 << 19, LOWERS = WORDS / 32, ITEMS = 1 << 19, LIST = 3, LEVELS = 8 };
 enum { OF_WORDS, OF_UPPER, OF_LOWER, OF_LOW, OF_SAMPLES, OF_STARTS, OF_QUERIES, OF_OUT, OF_ONE, BLOCKS };
 
 static struct guarded blocks[BLOCKS];
@@ -175,6 +175,22 @@ static void ask_a_sequence(uint64_t *one)
     }
 }
 
+/* A number touches a word of each level, and one lower entry; a level is made in arrays of its own. */
+static void ask_a_hash(const struct bitm_view *view, uint64_t *one)
+{
+    uint64_t *sizes = placed(OF_QUERIES, 8 * LEVELS);
+    for (size_t i = 0; i < LEVELS; i++) sizes[i] = WORDS / LEVELS;
+    for (unsigned turn = 0; turn < 20; turn++) {
+        uint64_t hash = draw();
+        while (bitm_hash_get(view, sizes, LEVELS, SIZE_MAX, hash, one) != BITM_OK) hash++;
+        TOUCHES(LEVELS, 1, 0, bitm_hash_get(view, sizes, LEVELS, SIZE_MAX, hash, one));
+    }
+    uint64_t *hashes = placed(OF_LOW, 8 * LIST), *ones = placed(OF_OUT, 8 * LIST), *again = placed(OF_STARTS, 8 * LIST);
+    for (size_t i = 0; i < LIST; i++) hashes[i] = draw();
+    TOUCHES_ANY(bitm_hash_level(hashes, LIST, 0, ones, LIST, again, LIST, one));
+    MUST(*one < LIST);
+}
+
 /* A header, of which the first 24 words are read; and those of no samples and of a sequence are written. */
 static void ask_a_file(void)
 {
@@ -199,6 +215,7 @@ static void ask_everything(void)
     const struct bitm_view view = {words, WORDS, upper, 1, lower, LOWERS};
     TOUCHES_ANY(bitm_check(&view));
     ask_an_index(&view, queries, out, one);
+    ask_a_hash(&view, one);
     ask_by_samples(&view, true, queries, out, one);
     ask_by_samples(&view, false, queries, out, one);
     ask_bits(words, out, one);

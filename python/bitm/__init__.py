@@ -1,4 +1,5 @@
-"""Bit vectors with rank and select, and monotone integer sequences (Elias-Fano), over a library proved correct.
+"""Bit vectors with rank and select, monotone integer sequences (Elias-Fano) and minimal perfect hashes, over a library
+proved correct.
 
 >>> import bitm
 >>> bits = bitm.BitVector.from_indices([1, 3, 4, 6], 7)
@@ -16,18 +17,20 @@ from typing import Union
 
 from ._bits import BitVector
 from ._buffers import WrongTables
+from ._hash import PerfectHash
 from ._index import Index, build, tables_of
 from ._sequence import EliasFano
 from ._stored import Path, read
 
 __version__ = "0.2.0"
-__all__ = ["BitVector", "EliasFano", "Index", "WrongTables", "build", "load", "tables_of"]
+__all__ = ["BitVector", "EliasFano", "Index", "PerfectHash", "WrongTables", "build", "load", "tables_of"]
 
 
-def load(path: Path, *, mmap: bool = False) -> Union[Index, EliasFano]:
-    """The index or sequence that `save` wrote, read into memory, or with `mmap` mapped from the file.
+def load(path: Path, *, mmap: bool = False) -> Union[Index, EliasFano, PerfectHash]:
+    """The index, sequence or perfect hash that `save` wrote, read into memory, or with `mmap` mapped from the file.
 
     ValueError if the file has no header of this format and byte order, or is shorter than its header says. The parts'
     contents are not checked: call `check`. A mapped file must not be truncated while it is used."""
     header, whole = read(path, mmap)
-    return (Index if header.kind == 1 else EliasFano)._stored(header, whole)
+    numbers = PerfectHash._stored(header, whole)
+    return (Index if header.kind == 1 else EliasFano)._stored(header, whole) if numbers is None else numbers

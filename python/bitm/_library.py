@@ -125,6 +125,8 @@ DECLARATIONS = {
     "bitm_bits_count": (STATUS, [BITS, OUT]),
     "bitm_bits_ones": (STATUS, [BITS, SIZE] + ROOM + [OUT]),
     "bitm_bits_zeros": (STATUS, [BITS, SIZE] + ROOM + [OUT]),
+    "bitm_hash_level": (STATUS, ROOM + [U32] + ROOM + ROOM + [OUT]),
+    "bitm_hash_get": (STATUS, [VIEW] + LIST + [SIZE, U64, OUT]),
     "bitm_stored_index": (STATUS, [U64, U32, U64, U32, U64, STORED]),
     "bitm_stored_sequence": (STATUS, [U64, SIZES, STORED]),
     "bitm_read_stored": (STATUS, WORDS + [STORED]),

@@ -16,18 +16,18 @@ Path = Union[str, "os.PathLike[str]"]
 Piece = Tuple[int, Optional[int], int]
 
 
-def write(path: Path, header: Stored, pieces: Iterable[Piece]) -> None:
-    """Writes the header and the pieces: beside the path first, so that a file that is mapped, or a write that fails,
+def write(path: Path, header: Stored, pieces: Iterable[Piece], size: Optional[int] = None) -> None:
+    """Writes the header and the pieces, in all so many bytes or those of the header: beside the path first, so that a file that is mapped, or a write that fails,
     leaves what stood there as it was."""
     beside = f"{os.fspath(path)}.{os.getpid()}.{threading.get_ident()}.part"
     try:
         with open(beside, "wb") as file:
             file.write(bytes(header))
-            for at, address, size in pieces:
+            for at, address, length in pieces:
                 file.seek(at)
-                if address is not None and size:
-                    file.write((ctypes.c_char * size).from_address(address))
-            file.truncate(header.size)
+                if address is not None and length:
+                    file.write((ctypes.c_char * length).from_address(address))
+            file.truncate(header.size if size is None else size)
         os.replace(beside, path)
     except BaseException:
         if os.path.exists(beside):

@@ -1,5 +1,6 @@
-//! Rank, select and Elias-Fano sequences for C: the caller owns the memory of words and tables, and no call allocates,
-//! keeps a pointer or has state. Each call is defined for all numbers: it tests what it needs, and answers by a status.
+//! Rank, select, Elias-Fano sequences and perfect hashes for C: the caller owns the memory of words and tables, and no
+//! call allocates, keeps a pointer or has state. Each call is defined for all numbers: it tests what it needs, and
+//! answers by a status.
 //!
 //! `include/bitm.h` declares the exports for C and C++ and says what each one answers.
 #![tactic(auto)]
@@ -7,6 +8,7 @@
 mod answer;
 mod bits;
 mod bits_view;
+mod hash;
 mod header;
 mod index;
 mod layout;

@@ -5,6 +5,7 @@ pub mod DictionaryLemmas
 pub mod GetLemmas
 pub mod KeyLemmas
 pub mod LevelLemmas
+pub mod ManyLemmas
 pub mod MarkLemmas
 pub mod NumberLemmas
 pub mod PerfectLemmas

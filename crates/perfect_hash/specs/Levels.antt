@@ -1,6 +1,6 @@
 -- Keys that fall on bits, level by level. A key is seen by where it falls: `fall key level words` is its bit of a level
 -- of so many words.
-use Rattle.std.specs.Prelude.{◌≡◌, ℕ, ◌+◌, ◌*◌, ◌<◌, ◌≤◌, ◌==◌, Bool, not, if◌then◌else◌, List, [], ◌∷◌, ◌++◌, All, Contains, length, filter, count_by, Option, Some, None, sum}
+use Rattle.std.specs.Prelude.{◌≡◌, ℕ, ◌+◌, ◌*◌, ◌<◌, ◌≤◌, ◌==◌, Bool, not, if◌then◌else◌, List, [], ◌∷◌, ◌++◌, All, Contains, length, filter, count_by, Option, Some, None, sum, take, drop}
 use Rattle.bitm.specs.Bits.{bits_of, item}
 
 -- how many keys fall on bit p of a level of so many words
@@ -29,6 +29,11 @@ place_from fall b level begin [] = None
 place_from fall b level begin (words ∷ sizes) =
     let place = begin + fall level words in
     if item b place then Some place else place_from fall b (level + 1) (begin + 64 * words) sizes
+
+-- levels before number `level` have `begin` words, and a look-up that goes on there finds what the whole one does
+pub record GoesOn (fall : ℕ → ℕ → ℕ) (b : List Bool) (sizes : List ℕ) (level begin : ℕ) : Type 0 where
+  pub begins : begin ≡ sum (take level sizes)
+  pub found : place_from fall b level (64 * begin) (drop level sizes) ≡ place_from fall b 0 0 sizes
 
 -- a level is added for the keys, after those of these sizes and words
 pub record AddsLevel {K : Type 0} (fall : K → ℕ → ℕ → ℕ) (keys : List K) (sizes words new_sizes new_words : List ℕ) (left : List K) : Type 0 where

@@ -1,6 +1,9 @@
+pub mod Asking
 pub mod Dictionary
 pub mod Hashing
 pub mod Levels
+pub mod Many
 pub mod Parts
 pub mod Perfect
+pub mod Placed
 pub mod Places

@@ -61,7 +61,8 @@ fn add_level(
         (length levels.new.words.items ≡ length levels.old.words.items + size) }
 {
     make_level(buffers, hashes.as_slice(), level, size)?;
-    keep_left(hashes, level, buffers.hit.as_slice());
+    let left = keep_left(hashes.as_mut_slice(), level, buffers.hit.as_slice());
+    hashes.truncate(left);
     levels.sizes.push(size)?;
     levels.words.extend_from_slice(buffers.hit.as_slice())?;
     Ok(())

@@ -1,5 +1,5 @@
 //! One level: which bits exactly one hash falls on, and which hashes go on.
-ghost use Rattle.std.specs.Prelude.{◌≡◌, ℕ, ◌*◌, ◌<◌, ◌^◌, false, length, nat_lt, replicate, OnOk};
+ghost use Rattle.std.specs.Prelude.{◌≡◌, ℕ, ◌*◌, ◌<◌, ◌≤◌, ◌^◌, false, length, nat_lt, replicate, take, OnOk};
 ghost use Rattle.bitm.specs.Bits.{bits_of, item, IsShort};
 ghost use Rattle.perfect_hash.specs.Levels.{hits, IsLevel, left_of};
 ghost use Rattle.perfect_hash.specs.Places.{place_in};
@@ -98,15 +98,16 @@ pub(crate) fn make_level(
     Ok(())
 }
 
-/// Leaves the hashes that do not fall on a one, in their order and in their place.
+/// Moves the hashes that do not fall on a one to the front, in their order, and answers how many they are.
 ///
 /// # Conditions
 /// There is a word, and fewer than 2^58.
-pub(crate) fn keep_left(hashes: &mut Vec<u64>, level: u32, ones: &[u64])
+pub(crate) fn keep_left(hashes: &mut [u64], level: u32, ones: &[u64]) -> usize
     requires some { 0 < length ones.now }
     requires short { IsShort ones.now }
-    ensures { hashes.new.items
-        ≡ left_of place_in hashes.old.items (bits_of ones.now) level 0 (length ones.now) }
+    ensures left { take result hashes.new
+        ≡ left_of place_in hashes.old (bits_of ones.now) level 0 (length ones.now) }
+    ensures few { result ≤ length hashes.old }
 {
     let mut kept = 0;
     for i in 0..hashes.len() {
@@ -116,5 +117,30 @@ pub(crate) fn keep_left(hashes: &mut Vec<u64>, level: u32, ones: &[u64])
             kept += 1;
         }
     }
-    hashes.truncate(kept);
+    kept
+}
+
+/// Makes `ones` a level of the hashes, whose ones are the bits that exactly one of them falls on. The hashes that fall
+/// on no one go to the front of `hashes`, in their order, and the answer is how many they are.
+///
+/// For those who build without an allocator: level after level for the hashes that are left, until none is, numbers
+/// them as `Levels::build` does. What `again` holds afterwards means nothing.
+///
+/// # Conditions
+/// All bits are zeros; there are as many words of both, and some, but fewer than 2^58.
+/// # Cost
+/// Two passes over the hashes, each of which goes to two random words.
+pub fn split_level(hashes: &mut [u64], level: u32, ones: &mut [u64], again: &mut [u64]) -> usize
+    requires same { length again.old ≡ length ones.old }
+    requires some { 0 < length ones.old }
+    requires short { IsShort ones.old }
+    requires clear { (i : ℕ) → item (bits_of ones.old) i ≡ false }
+    requires clear_again { (i : ℕ) → item (bits_of again.old) i ≡ false }
+    ensures level { IsLevel place_in hashes.old (bits_of ones.new) level 0 (length ones.old) }
+    ensures left { take result hashes.new
+        ≡ left_of place_in hashes.old (bits_of ones.new) level 0 (length ones.old) }
+    ensures few { result ≤ length hashes.old }
+{
+    fill(&*hashes, level, &mut *ones, again);
+    keep_left(hashes, level, &*ones)
 }

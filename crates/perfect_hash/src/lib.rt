@@ -10,16 +10,20 @@
 //! ```
 #![tactic(auto)]
 
+mod asking;
 mod building;
 mod dictionary;
 mod error;
 mod hashing;
 mod level;
+mod many;
 mod places;
 mod table;
 
+pub use asking::{number_on, total_number_on};
 pub use building::{Levels, build};
 pub use dictionary::Dictionary;
 pub use error::{BuildError, Refused};
 pub use hashing::{KeyHash, Seeded, SeededBytes};
-pub use table::{PerfectHash, number_on};
+pub use level::split_level;
+pub use table::PerfectHash;

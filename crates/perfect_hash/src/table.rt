@@ -3,15 +3,15 @@ ghost use Rattle.std.specs.Prelude.{◌≡◌, ◌+◌, ◌*◌, ◌<◌, ◌≤
 ghost use Rattle.bitm.specs.Bits.{bits_of};
 ghost use Rattle.bitm.specs.Count.{ones_of};
 ghost use Rattle.bitm.specs.Size.{saturated_size};
-ghost use Rattle.bitm.specs.Reads.{none_read, OnlyReads, ReadsAtMost};
-ghost use Rattle.bitm.specs.Tables.{bits_in, IsIndexed};
+ghost use Rattle.bitm.specs.Reads.{none_read, ReadsAtMost};
 ghost use Rattle.perfect_hash.specs.Parts.{number_by, number_of, AreSizes};
 
+use crate::asking::number_on;
 use crate::hashing::KeyHash;
 use crate::places::place_of;
 use bitm::{
     Access, ArrayWithRank101111, CloneWords, GetSize, RankSelect101111, ReadCounts,
-    Select0ForRank101111, SelectForRank101111, TableSource, bit_on, rank_on,
+    Select0ForRank101111, SelectForRank101111,
 };
 use std::alloc::{AllocError, Global};
 use std::boxed::BoxedSlice;
@@ -49,30 +49,6 @@ impl<H, I: Access> Model for PerfectHash<H, I> {
     ghost invariant = { λ p. AreSizes (boxed_slice_items p.sizes) (I.bits p.index) };
 }
 
-/// The number of a hash over any source: of the first level where it falls on a one, how many ones stand before that.
-///
-/// # Conditions
-/// The source's tables are those of its words, which are those of levels of these sizes.
-/// # Cost
-/// At most one word a level is read, and what `rank_on` reads: one upper entry, one lower entry and eight words.
-#[inline]
-pub fn number_on<T: TableSource>(source: &mut T, sizes: &[usize], hash: u64) -> Option<usize>
-    requires indexed { IsIndexed (T.lists source.old) }
-    requires sizes { AreSizes sizes.now (bits_in (T.lists source.old)) }
-    ensures value { result ≡ number_by sizes.now (bits_in (T.lists source.old)) hash }
-    ensures reads { OnlyReads T.lists T.reads source.old source.new 1 1 (length sizes.now + 8) }
-{
-    let mut begin = 0;
-    for (level, size) in sizes.iter().enumerate() {
-        let place = 64 * begin + place_of(hash, level as u32, *size);
-        if let Some(true) = bit_on(source, place) {
-            return rank_on(source, place);
-        }
-        begin += *size;
-    }
-    None
-}
-
 impl<H, I: Access> PerfectHash<H, I> {
     /// A perfect hash over an index of the bits of levels.
     ///
@@ -101,6 +77,15 @@ impl<H, I: Access> PerfectHash<H, I> {
         ensures bound { result ≤ 256 }
     {
         self.sizes.len()
+    }
+
+    /// How many words each level has.
+    #[inline(always)]
+    pub fn sizes(&self) -> &[usize]
+        ensures value { result.now ≡ self.now.sizes }
+        ensures sizes { AreSizes result.now self.now.bits }
+    {
+        self.sizes.as_slice()
     }
 
     /// The index over the bits of all levels.

@@ -1,6 +1,7 @@
 -- A hash that falls on no one stays.
 use Rattle.std.proofs.Common.{◌≡◌, ℕ, ◌+◌, Bool, List, not, ap, sym, ◌∙◌, arith}
 use Rattle.std.proofs.lemmas.List.Filters.{FiltersInPlace-more_set, FiltersInPlace-more_no}
+use Rattle.std.proofs.lemmas.List.{get_or_default}
 use Rattle.bitm.specs.Bits.{bits_of, item}
 use Rattle.perfect_hash.proofs.level.keep_left.Goals as goal
 use Rattle.perfect_hash.proofs.level.keep_left.Goals.{then-not-get_bit, else-not-get_bit}
@@ -17,9 +18,9 @@ loop-i-preserved c = elim c.if-not-get_bit.branch [
   | then-not-get_bit w ↦ rw (w.hashes-is, w.kept-is)
       (FiltersInPlace-more_set c.loop-i.invariant (omega arith)
       (tested (bits_of c.args.ones.now) c.place_of.result _ _ _ c.place_of.ensures.at c.get_bit.ensures w.if-not-get_bit.true)
-      c.index-hash.ensures)
+      (get_or_default c.loop-i.hashes c.loop-i.i 0 _ (omega arith)))
   | else-not-get_bit w ↦ rw (w.hashes-is, w.kept-is)
       (FiltersInPlace-more_no c.loop-i.invariant (omega arith)
       (tested (bits_of c.args.ones.now) c.place_of.result _ _ _ c.place_of.ensures.at c.get_bit.ensures w.if-not-get_bit.false)
-      c.index-hash.ensures)
+      (get_or_default c.loop-i.hashes c.loop-i.i 0 _ (omega arith)))
 ]

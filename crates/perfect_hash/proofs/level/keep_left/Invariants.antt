@@ -8,4 +8,4 @@ use Rattle.perfect_hash.proofs.level.keep_left.Given as goal
 abbrev pub invariant-loop-i : goal.invariant-loop-i
 invariant-loop-i l =
     FiltersInPlace (λ h. not (item (bits_of l.ones) (0 + place_in h l.level (length l.ones))))
-    l.initial.hashes.items l.hashes.items l.kept l.i
+    l.initial.hashes l.hashes l.kept l.i

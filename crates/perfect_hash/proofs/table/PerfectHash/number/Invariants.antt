@@ -1,5 +1,5 @@
+use Rattle.perfect_hash.specs.Levels.{GoesOn}
 use Rattle.perfect_hash.specs.Places.{place_in}
-use Rattle.perfect_hash.proofs.lemmas.GetLemmas.{GoesOn}
 use Rattle.perfect_hash.proofs.table.PerfectHash.number.Given as goal
 
 -- the look-up goes on from here

@@ -1,0 +1,18 @@
+-- A level of right sizes lies within the words.
+use Rattle.std.proofs.Common.{length, ap, arith}
+use Rattle.bitm.proofs.BitLaws.{bits_are_counted}
+use Rattle.bitm.specs.Tables.{bits_in, Lists}
+use Rattle.perfect_hash.proofs.lemmas.GetLemmas.{level_within}
+use Rattle.perfect_hash.proofs.asking.place_on.Goals as goal
+use Rattle.perfect_hash.proofs.asking.place_on.Goals.{then-size-eq0-via-then-size-eq0, then-size-eq0-via-else-size-eq0+then-size-words_len}
+
+pub returns-then-size-eq0-clause-place : goal.returns-then-size-eq0-clause-place
+returns-then-size-eq0-clause-place g c sizes =
+    let lists = g.T.TableSource.lists c.args.source.now in
+    let within = level_within c.args.sizes.now (bits_in lists) (length lists.words) c.loop-level.level c.loop-level.begin sizes
+    (omega (arith, bits_are_counted lists.words)) c.loop-level-test.true c.loop-level.invariant.goes_on.begins in
+    elim c.then-size-eq0.branch [
+      | then-size-eq0-via-then-size-eq0 w ↦ omega (arith, within.0, w.if-size-eq0.true)
+      | then-size-eq0-via-else-size-eq0+then-size-words_len w ↦
+          omega (arith, within.1, w.if-size-words_len.true, w.words_len.ensures, ap (λ (l : Lists). length l.words) c.loop-level.invariant.same)
+    ]

@@ -1,0 +1,15 @@
+-- A place that was found has a one, so there is a rank, below the count of ones.
+use Rattle.std.proofs.Common.{◌≡◌, ◌≤◌, length, subst, arith}
+use Rattle.bitm.specs.Count.{ones_before}
+use Rattle.bitm.specs.Tables.{bits_in, HasTables, Lists}
+use Rattle.perfect_hash.proofs.lemmas.GetLemmas.{one_counted}
+use Rattle.perfect_hash.proofs.asking.total_number_on.Goals as goal
+
+pub returns-in_default-clause-number : goal.returns-in_default-clause-number
+returns-in_default-clause-number g c tables sizes most =
+    let lists = g.T.TableSource.lists c.args.source.now in
+    let place = c.in-Found.place in
+    let P : Lists → Type 0 = λ l. HasTables l → (place ≤ length (bits_in l)) × (c.in-Some.number ≡ ones_before (bits_in l) place) in
+    let answer : (place ≤ length (bits_in lists)) × (c.in-Some.number ≡ ones_before (bits_in lists) place) =
+    subst P c.place_on.ensures.reads.same c.in-Some.ensures.answer tables in
+    omega (arith, answer.1, one_counted (bits_in lists) place c.in-Found.ensures.one.1, most, c.if-number-count.false)

@@ -1,0 +1,239 @@
+-- Look-ups side by side, and lists that are written block after block.
+use Rattle.std.proofs.Common.{◌≡◌, ◌≢◌, ℕ, ◌+◌, ◌-◌, ◌*◌, ◌^◌, ◌<◌, ◌≤◌, ◌⊎◌, Bool, List, length, slice_index, slice_set, Option, Some, None, refl, sym, ap, ◌∙◌, subst, arith, inl, inr}
+use Rattle.std.proofs.lemmas.Bool.{cases_eq, cases_lt}
+use Rattle.std.proofs.lemmas.List.{drop_all, get_or-set_other, get_or-set_same, length-set}
+use Rattle.std.specs.List.{sum}
+use Rattle.std.specs.Option.{option_map, IfSome}
+use Rattle.bitm.specs.Count.{ones_before}
+use Rattle.perfect_hash.specs.Levels.{place_from, GoesOn}
+use Rattle.perfect_hash.specs.Many.{told, AreLookedUp, IsLookedUp, IsRanked}
+use Rattle.perfect_hash.specs.Parts.{number_by, AreSizes}
+use Rattle.perfect_hash.specs.Places.{place_in}
+use Rattle.perfect_hash.proofs.lemmas.NumberLemmas.{IsOneBefore, place_from-one}
+use Rattle.perfect_hash.proofs.lemmas.PlaceLemmas.{falls_inside}
+
+-- at a level, of the first `count` that wait those before i are looked up, and those of them that go on are the first `kept`
+pub record Midway (b : List Bool) (sizes : List ℕ) (level begin next : ℕ) (hashes places waiting : List ℕ) (kept i count : ℕ) : Type 0 where
+  pub order : kept ≤ i
+  pub most : i ≤ count
+  pub room : count ≤ length waiting
+  pub inside : (a : ℕ) → a < kept → slice_index waiting a < length hashes
+  pub inside_rest : (a : ℕ) → i ≤ a → a < count → slice_index waiting a < length hashes
+  pub go_on : (a : ℕ) → a < kept → GoesOn (place_in (slice_index hashes (slice_index waiting a))) b sizes (level + 1) next
+  pub rest : (a : ℕ) → i ≤ a → a < count → GoesOn (place_in (slice_index hashes (slice_index waiting a))) b sizes level begin
+  pub found : (k : ℕ) → k < length hashes → slice_index places k ≢ 2 ^ 64 - 1
+      → place_from (place_in (slice_index hashes k)) b 0 0 sizes ≡ Some (slice_index places k)
+  pub wait : (k : ℕ) → k < length hashes → slice_index places k ≡ 2 ^ 64 - 1
+      → ((a : ℕ) × (a < kept) × (slice_index waiting a ≡ k)) ⊎ ((a : ℕ) × (i ≤ a) × (a < count) × (slice_index waiting a ≡ k))
+
+pub Midway-start : (b : List Bool) (sizes : List ℕ) (level begin next : ℕ) (hashes places waiting : List ℕ) (count : ℕ)
+    → AreLookedUp b sizes level begin hashes places waiting count → Midway b sizes level begin next hashes places waiting 0 0 count
+Midway-start b sizes level begin next hashes places waiting count h = record {
+  order = omega arith;
+  most = omega arith;
+  room = h.room;
+  inside = λ a less. absurd (omega (arith, less));
+  inside_rest = λ a _ less. h.inside a less;
+  go_on = λ a less. absurd (omega (arith, less));
+  rest = λ a _ less. h.go_on a less;
+  found = h.found;
+  wait = λ k less none. let w = h.wait k less none in inr (w.0, omega arith, w.1, w.2);
+}
+
+pub Midway-end : (b : List Bool) (sizes : List ℕ) (level begin next : ℕ) (hashes places waiting : List ℕ) (kept i count : ℕ)
+    → Midway b sizes level begin next hashes places waiting kept i count → count ≤ i
+    → AreLookedUp b sizes (level + 1) next hashes places waiting kept
+Midway-end b sizes level begin next hashes places waiting kept i count h end = record {
+  room = omega (arith, h.order, h.most, h.room);
+  inside = h.inside;
+  go_on = h.go_on;
+  found = h.found;
+  wait = λ k less none.
+      elim (h.wait k less none) [
+        | inl w ↦ w
+        | inr w ↦ absurd (omega (arith, w.1, w.2, end))
+      ];
+}
+
+-- one of those that wait is looked up
+module _ (b : List Bool) (sizes : List ℕ) (level begin next : ℕ) (hashes places waiting : List ℕ) (kept i count place : ℕ)
+    (h : Midway b sizes level begin next hashes places waiting kept i count) (less : i < count) (long : length places ≡ length hashes)
+    (is : IsLookedUp (place_in (slice_index hashes (slice_index waiting i))) b sizes (level + 1) next place) where
+  at : ℕ
+  at = slice_index waiting i
+
+  at_inside : slice_index waiting i < length places
+  at_inside = omega (arith, h.inside_rest i (omega arith) less, long)
+
+  kept_inside : kept < length waiting
+  kept_inside = omega (arith, h.order, less, h.room)
+
+  -- those behind stay
+  behind : (a : ℕ) → i + 1 ≤ a → slice_index (slice_set waiting kept (slice_index waiting i)) a ≡ slice_index waiting a
+  behind a after = get_or-set_other waiting kept a (slice_index waiting i) 0 (λ e. omega (arith, e, after, h.order))
+
+  -- those in front stay, and the one that was looked up follows
+  front : (a : ℕ) → a < kept → slice_index (slice_set waiting kept (slice_index waiting i)) a ≡ slice_index waiting a
+  front a below = get_or-set_other waiting kept a (slice_index waiting i) 0 (λ e. omega (arith, e, below))
+
+  here : slice_index (slice_set waiting kept (slice_index waiting i)) kept ≡ slice_index waiting i
+  here = get_or-set_same waiting kept (slice_index waiting i) 0 kept_inside
+
+  -- the others stay where they were
+  other_wait : (k : ℕ) (kept' : ℕ) → kept ≤ kept' → k ≢ slice_index waiting i
+      → ((a : ℕ) × (a < kept) × (slice_index waiting a ≡ k)) ⊎ ((a : ℕ) × (i ≤ a) × (a < count) × (slice_index waiting a ≡ k))
+      → ((a : ℕ) × (a < kept') × (slice_index (slice_set waiting kept (slice_index waiting i)) a ≡ k))
+      ⊎ ((a : ℕ) × (i + 1 ≤ a) × (a < count) × (slice_index (slice_set waiting kept (slice_index waiting i)) a ≡ k))
+  other_wait k kept' more not w =
+      elim w [
+        | inl v ↦ inl (v.0, omega (arith, v.1, more), front v.0 v.1 ∙ v.2)
+        | inr v ↦
+            elim (cases_lt i v.0) [
+              | inl after ↦ inr (v.0, omega (arith, after), v.2, behind v.0 (omega (arith, after)) ∙ v.3)
+              | inr before ↦
+                  let e : i ≡ v.0 = omega (arith, before, v.1) in
+                  absurd (not (sym (ap (slice_index waiting) e ∙ v.3)))
+            ]
+      ]
+
+  found_then : (k : ℕ) → k < length hashes → slice_index (slice_set places (slice_index waiting i) place) k ≢ 2 ^ 64 - 1
+      → place_from (place_in (slice_index hashes k)) b 0 0 sizes ≡ Some (slice_index (slice_set places (slice_index waiting i) place) k)
+  found_then k low some =
+      elim (cases_eq k (slice_index waiting i)) [
+        | inl e ↦
+            let now : slice_index (slice_set places (slice_index waiting i) place) k ≡ place =
+            ap (slice_index (slice_set places (slice_index waiting i) place)) e
+            ∙ get_or-set_same places (slice_index waiting i) place 0 at_inside in
+            ap (λ (j : ℕ). place_from (place_in (slice_index hashes j)) b 0 0 sizes) e
+            ∙ is.found (λ none. some (now ∙ none)) ∙ ap Some (sym now)
+        | inr not ↦
+            let now = get_or-set_other places (slice_index waiting i) k place 0 not in
+            h.found k low (λ none. some (now ∙ none)) ∙ ap Some (sym now)
+      ]
+
+  still : (k : ℕ) → k ≢ slice_index waiting i → slice_index (slice_set places (slice_index waiting i) place) k ≡ 2 ^ 64 - 1
+      → slice_index places k ≡ 2 ^ 64 - 1
+  still k not none = sym (get_or-set_other places (slice_index waiting i) k place 0 not) ∙ none
+
+  -- where it goes on
+  pub Midway-on : place ≡ 2 ^ 64 - 1
+      → Midway b sizes level begin next hashes (slice_set places (slice_index waiting i) place)
+      (slice_set waiting kept (slice_index waiting i)) (kept + 1) (i + 1) count
+  Midway-on none = record {
+    order = omega (arith, h.order);
+    most = omega (arith, less);
+    room = omega (arith, h.room, length-set waiting kept (slice_index waiting i));
+    inside = λ a low.
+        elim (cases_lt a kept) [
+          | inl below ↦ omega (arith, front a below, h.inside a below)
+          | inr over ↦
+              let e : kept ≡ a = omega (arith, over, low) in
+              subst (λ (j : ℕ). slice_index (slice_set waiting kept (slice_index waiting i)) j < length hashes) e
+              (omega (arith, here, h.inside_rest i (omega arith) less))
+        ];
+    inside_rest = λ a after low. omega (arith, behind a after, h.inside_rest a (omega (arith, after)) low);
+    go_on = λ a low.
+        elim (cases_lt a kept) [
+          | inl below ↦
+              subst (λ (j : ℕ). GoesOn (place_in (slice_index hashes j)) b sizes (level + 1) next) (sym (front a below)) (h.go_on a below)
+          | inr over ↦
+              let e : kept ≡ a = omega (arith, over, low) in
+              subst (λ (j : ℕ). GoesOn (place_in (slice_index hashes (slice_index (slice_set waiting kept (slice_index waiting i)) j))) b sizes (level + 1) next) e
+              (subst (λ (j : ℕ). GoesOn (place_in (slice_index hashes j)) b sizes (level + 1) next) (sym here) (is.goes_on none))
+        ];
+    rest = λ a after low.
+        subst (λ (j : ℕ). GoesOn (place_in (slice_index hashes j)) b sizes level begin) (sym (behind a after)) (h.rest a (omega (arith, after)) low);
+    found = found_then;
+    wait = λ k low then.
+        elim (cases_eq k (slice_index waiting i)) [
+          | inl e ↦ inl (kept, omega arith, here ∙ sym e)
+          | inr not ↦ other_wait k (kept + 1) (omega arith) not (h.wait k low (still k not then))
+        ];
+  }
+
+  -- where it was found
+  pub Midway-found : place ≢ 2 ^ 64 - 1
+      → Midway b sizes level begin next hashes (slice_set places (slice_index waiting i) place)
+      (slice_set waiting kept (slice_index waiting i)) kept (i + 1) count
+  Midway-found some = record {
+    order = omega (arith, h.order);
+    most = omega (arith, less);
+    room = omega (arith, h.room, length-set waiting kept (slice_index waiting i));
+    inside = λ a below. omega (arith, front a below, h.inside a below);
+    inside_rest = λ a after low. omega (arith, behind a after, h.inside_rest a (omega (arith, after)) low);
+    go_on = λ a below.
+        subst (λ (j : ℕ). GoesOn (place_in (slice_index hashes j)) b sizes (level + 1) next) (sym (front a below)) (h.go_on a below);
+    rest = λ a after low.
+        subst (λ (j : ℕ). GoesOn (place_in (slice_index hashes j)) b sizes level begin) (sym (behind a after)) (h.rest a (omega (arith, after)) low);
+    found = found_then;
+    wait = λ k low then.
+        elim (cases_eq k (slice_index waiting i)) [
+          | inl e ↦
+              absurd (some (sym (ap (slice_index (slice_set places (slice_index waiting i) place)) e
+              ∙ get_or-set_same places (slice_index waiting i) place 0 at_inside) ∙ then))
+          | inr not ↦ other_wait k kept (omega arith) not (h.wait k low (still k not then))
+        ];
+  }
+
+-- before the first level all wait
+pub looked_up-first : (b : List Bool) (sizes hashes places waiting : List ℕ) → length hashes ≤ length waiting
+    → ((k : ℕ) → k < length hashes → slice_index places k ≡ 2 ^ 64 - 1) → ((k : ℕ) → k < length hashes → slice_index waiting k ≡ k)
+    → AreLookedUp b sizes 0 0 hashes places waiting (length hashes)
+looked_up-first b sizes hashes places waiting room none own = record {
+  room = room;
+  inside = λ a less. omega (arith, own a less, less);
+  go_on = λ a less. record { begins = refl; found = refl };
+  found = λ k less some. absurd (some (none k less));
+  wait = λ k less _. (k, less, own k less);
+}
+
+-- after the last level, or where none waits, the places are told
+pub last_is_told : (b : List Bool) (sizes : List ℕ) (level begin : ℕ) (hashes places waiting : List ℕ) (count : ℕ)
+    → AreLookedUp b sizes level begin hashes places waiting count → length sizes ≤ level ⊎ count ≡ 0
+    → (k : ℕ) → k < length hashes → slice_index places k ≡ told (place_from (place_in (slice_index hashes k)) b 0 0 sizes)
+last_is_told b sizes level begin hashes places waiting count h end k less =
+    elim (cases_eq (slice_index places k) (2 ^ 64 - 1)) [
+      | inl none ↦
+          let w = h.wait k less none in
+          elim end [
+            | inl last ↦
+                let on = h.go_on w.0 w.1 in
+                let own = ap (λ (j : ℕ). place_from (place_in (slice_index hashes j)) b 0 0 sizes) (sym w.2) in
+                none ∙ sym (ap told (own ∙ sym on.found
+                ∙ ap (place_from (place_in (slice_index hashes (slice_index waiting w.0))) b level (64 * begin)) (drop_all level sizes last)))
+            | inr zero ↦ absurd (omega (arith, w.1, zero))
+          ]
+      | inr some ↦ sym (ap told (h.found k less some))
+    ]
+
+-- a place that was told is inside, and its rank tells the number
+told_inside : (b : List Bool) (o : Option ℕ) (end old : ℕ) → end ≤ length b → IfSome o (IsOneBefore b end)
+    → old ≡ told o → old ≢ 2 ^ 64 - 1 → old ≤ length b
+told_inside b None end old inside one is some = absurd (some is)
+told_inside b (Some p) end old inside one is some = omega (arith, is, one.1, inside)
+
+rank_is_told : (b : List Bool) (o : Option ℕ) (end old new : ℕ) → end ≤ length b → length b < 2 ^ 64 → IfSome o (IsOneBefore b end)
+    → old ≡ told o → IsRanked b old new → new ≡ told (option_map (ones_before b) o)
+rank_is_told b None end old new inside short one is r = r.none is
+rank_is_told b (Some p) end old new inside short one is r =
+    r.some (λ none. omega (arith, none, is, one.1, inside, short)) ∙ ap (ones_before b) is
+
+-- the same of a hash, for bits and sizes under two names each
+module _ (sizes s : List ℕ) (b b' : List Bool) (hash old : ℕ) (h : AreSizes s b) (same : b' ≡ b)
+    (is : old ≡ told (place_from (place_in hash) b' 0 0 s)) where
+  one : IfSome (place_from (place_in hash) b 0 0 s) (IsOneBefore b (0 + 64 * sum s))
+  one = place_from-one (place_in hash) (falls_inside hash) b 0 0 (0 + 64 * sum s) s refl h.some
+
+  told_here : old ≡ told (place_from (place_in hash) b 0 0 s)
+  told_here = is ∙ ap (λ (c : List Bool). told (place_from (place_in hash) c 0 0 s)) same
+
+  pub place_inside : (b2 : List Bool) → b2 ≡ b → old ≢ 2 ^ 64 - 1 → old ≤ length b2
+  place_inside b2 same2 some =
+      subst (λ (c : List Bool). old ≤ length c) (sym same2)
+      (told_inside b (place_from (place_in hash) b 0 0 s) (0 + 64 * sum s) old (omega (arith, h.all)) one told_here some)
+
+  pub number_is_told : (new : ℕ) (b2 : List Bool) → b2 ≡ b → s ≡ sizes → IsRanked b2 old new → new ≡ told (number_by sizes b hash)
+  number_is_told new b2 same2 same_sizes ranked =
+      rank_is_told b (place_from (place_in hash) b 0 0 s) (0 + 64 * sum s) old new (omega (arith, h.all)) h.short one told_here
+      (subst (λ (c : List Bool). IsRanked c old new) same2 ranked)
+      ∙ ap (λ (z : List ℕ). told (number_by z b hash)) same_sizes

@@ -1,0 +1,20 @@
+use Rattle.std.proofs.Common.{◌≡◌, ℕ, ◌-◌, ◌^◌, ◌<◌, length, slice_index, sum, take}
+use Rattle.perfect_hash.specs.Many.{AreLookedUp}
+use Rattle.perfect_hash.proofs.many.find_places.Given as goal
+
+-- no places yet, and those so far wait
+abbrev pub invariant-loop-k : goal.invariant-loop-k
+invariant-loop-k g l = record {
+  long : length l.places ≡ length l.hashes;
+  room : length l.waiting ≡ 32;
+  none : (k : ℕ) → k < l.k → slice_index l.places k ≡ 2 ^ 64 - 1;
+  own : (k : ℕ) → k < l.k → slice_index l.waiting k ≡ k;
+}
+
+-- all are before the level
+abbrev pub invariant-loop-level : goal.invariant-loop-level
+invariant-loop-level g l = record {
+  long : length l.places ≡ length l.hashes;
+  begins : l.begin ≡ sum (take l.level l.sizes);
+  each : AreLookedUp (g.I.HasBits.bits l.index) l.sizes l.level l.begin l.hashes l.places l.waiting l.count;
+}

@@ -1,0 +1,44 @@
+-- Many look-ups side by side. 2^64 - 1 stands where a hash has no number, or has no place yet.
+use Rattle.std.specs.Prelude.{◌≡◌, ◌≢◌, ℕ, ◌-◌, ◌^◌, ◌<◌, ◌≤◌, Bool, List, length, slice_get, slice_index, Option, Some, None}
+use Rattle.bitm.specs.Count.{ones_before}
+use Rattle.perfect_hash.specs.Levels.{place_from, GoesOn}
+use Rattle.perfect_hash.specs.Places.{place_in}
+
+-- the number, or 2^64 - 1
+abbrev pub told : Option ℕ → ℕ
+told None = 2 ^ 64 - 1
+told (Some n) = n
+
+-- number k is that of hash k
+abbrev pub AreNumbersOf : (ℕ → Option ℕ) → List ℕ → List ℕ → Type 0
+AreNumbersOf number hashes numbers = (k : ℕ) → k < length hashes → slice_index numbers k ≡ told (number (slice_index hashes k))
+
+-- hash k is that of key k
+abbrev pub AreHashes : {K : Type 0} → (K → ℕ) → List K → List ℕ → Type 0
+AreHashes {K} hash keys hashes = (k : ℕ) (key : K) → slice_get keys k ≡ Some key → slice_index hashes k ≡ hash key
+
+-- number k is that of key k
+abbrev pub AreNumbersOfKeys : {K : Type 0} → (K → Option ℕ) → List K → List ℕ → Type 0
+AreNumbersOfKeys {K} number keys numbers = (k : ℕ) (key : K) → slice_get keys k ≡ Some key → slice_index numbers k ≡ told (number key)
+
+-- before a level, a look-up has found its place, or goes on there
+pub record IsLookedUp (fall : ℕ → ℕ → ℕ) (b : List Bool) (sizes : List ℕ) (level begin place : ℕ) : Type 0 where
+  pub goes_on : place ≡ 2 ^ 64 - 1 → GoesOn fall b sizes level begin
+  pub found : place ≢ 2 ^ 64 - 1 → place_from fall b 0 0 sizes ≡ Some place
+
+-- before a level, each look-up has found its place, or its hash is among the first `count` that wait, and all these go on
+pub record AreLookedUp (b : List Bool) (sizes : List ℕ) (level begin : ℕ) (hashes places waiting : List ℕ) (count : ℕ) : Type 0 where
+  pub room : count ≤ length waiting
+  pub inside : (a : ℕ) → a < count → slice_index waiting a < length hashes
+  pub go_on : (a : ℕ) → a < count → GoesOn (place_in (slice_index hashes (slice_index waiting a))) b sizes level begin
+  pub found : (k : ℕ) → k < length hashes → slice_index places k ≢ 2 ^ 64 - 1
+      → place_from (place_in (slice_index hashes k)) b 0 0 sizes ≡ Some (slice_index places k)
+  pub wait : (k : ℕ) → k < length hashes → slice_index places k ≡ 2 ^ 64 - 1 → (a : ℕ) × (a < count) × (slice_index waiting a ≡ k)
+
+-- number k is that of the ones before place k
+pub record IsRanked (b : List Bool) (place number : ℕ) : Type 0 where
+  pub none : place ≡ 2 ^ 64 - 1 → number ≡ 2 ^ 64 - 1
+  pub some : place ≢ 2 ^ 64 - 1 → number ≡ ones_before b place
+
+abbrev pub AreRanks : List Bool → List ℕ → List ℕ → Type 0
+AreRanks b places numbers = (k : ℕ) → k < length places → IsRanked b (slice_index places k) (slice_index numbers k)

@@ -1,0 +1,94 @@
+//! The number of a hash over any source of words and tables, and over what may hold anything.
+ghost use Rattle.std.specs.Prelude.{◌≡◌, ◌+◌, ◌<◌, ◌≤◌, length, true, MatchOption};
+ghost use Rattle.bitm.specs.Answers.{HasBit};
+ghost use Rattle.bitm.specs.Bits.{IsShort};
+ghost use Rattle.bitm.specs.Count.{ones_of, IsRank};
+ghost use Rattle.bitm.specs.Reads.{OnlyReads};
+ghost use Rattle.bitm.specs.Tables.{bits_in, HasSizes, HasTables, IsIndexed};
+ghost use Rattle.perfect_hash.specs.Asking.{IsBelow, IsNumbered};
+ghost use Rattle.perfect_hash.specs.Levels.{place_from};
+ghost use Rattle.perfect_hash.specs.Parts.{number_by, AreSizes};
+ghost use Rattle.perfect_hash.specs.Placed.{IsPlaced};
+ghost use Rattle.perfect_hash.specs.Places.{place_in};
+
+use crate::places::place_of;
+use bitm::{Selected, TableSource, bit_on, rank_on, total_rank_on};
+use bitm_lent::Ranked;
+
+/// The place of the one that a hash falls on, in the first of the levels where it falls on one; `WrongTables` where the
+/// sizes turn out not to be those of levels.
+#[inline(always)]
+fn place_on<T: TableSource>(source: &mut T, sizes: &[usize], hash: u64) -> Selected
+    requires short { IsShort (T.lists source.old).words }
+    requires few { length sizes.now ≤ 256 }
+    ensures one { HasBit (bits_in (T.lists source.old)) true result }
+    ensures place { let b = bits_in (T.lists source.old) in
+        AreSizes sizes.now b → IsPlaced (place_from (place_in hash) b 0 0 sizes.now) result }
+    ensures reads { OnlyReads T.lists T.reads source.old source.new 0 0 (length sizes.now) }
+{
+    let mut begin = 0;
+    for (level, size) in sizes.iter().enumerate() {
+        if *size == 0 || *size > source.words_len() - begin {
+            return Selected::WrongTables;
+        }
+        let place = 64 * begin + place_of(hash, level as u32, *size);
+        if let Some(true) = bit_on(source, place) {
+            return Selected::Found(place);
+        }
+        begin += *size;
+    }
+    Selected::Absent
+}
+
+/// The number of a hash over any source, whatever words, tables and sizes hold: `Count` of a number below `count`,
+/// `Absent` where the hash falls on no one, or `WrongTables`. Where the tables are those of the words, and these those
+/// of levels of these sizes with no more ones than `count`, it is the right number, and `WrongTables` is never answered.
+///
+/// # Conditions
+/// There are fewer than 2^58 words, the tables have the right lengths, and there are no more than 256 sizes.
+/// # Cost
+/// At most one word a level is read, and what `rank_on` reads: one upper entry, one lower entry and eight words.
+#[inline]
+pub fn total_number_on<T: TableSource>(
+    source: &mut T,
+    sizes: &[usize],
+    count: usize,
+    hash: u64,
+) -> Ranked
+    requires sized { HasSizes (T.lists source.old) }
+    requires few { length sizes.now ≤ 256 }
+    ensures below { IsBelow count result }
+    ensures number { let b = bits_in (T.lists source.old) in
+        HasTables (T.lists source.old) → AreSizes sizes.now b → ones_of b ≤ count
+        → IsNumbered (number_by sizes.now b hash) result }
+    ensures reads { OnlyReads T.lists T.reads source.old source.new 1 1 (length sizes.now + 8) }
+{
+    match place_on(source, sizes, hash) {
+        Selected::Found(place) => match total_rank_on(source, place) {
+            Some(number) if number < count => Ranked::Count(number),
+            _ => Ranked::WrongTables,
+        },
+        Selected::Absent => Ranked::Absent,
+        Selected::WrongTables => Ranked::WrongTables,
+    }
+}
+
+/// The number of a hash over any source: of the first level where it falls on a one, how many ones stand before that.
+///
+/// # Conditions
+/// The source's tables are those of its words, which are those of levels of these sizes.
+/// # Cost
+/// At most one word a level is read, and what `rank_on` reads: one upper entry, one lower entry and eight words.
+#[inline]
+pub fn number_on<T: TableSource>(source: &mut T, sizes: &[usize], hash: u64) -> Option<usize>
+    requires indexed { IsIndexed (T.lists source.old) }
+    requires sizes { AreSizes sizes.now (bits_in (T.lists source.old)) }
+    ensures value { result ≡ number_by sizes.now (bits_in (T.lists source.old)) hash }
+    ensures reads { OnlyReads T.lists T.reads source.old source.new 1 1 (length sizes.now + 8) }
+{
+    match place_on(source, sizes, hash) {
+        Selected::Found(place) => rank_on(source, place),
+        Selected::Absent => None,
+        Selected::WrongTables => unreachable!(),
+    }
+}

@@ -1,0 +1,182 @@
+//! Many look-ups at once: they go from level to level side by side, so that each waits for memory while the others do.
+ghost use Rattle.std.specs.Prelude.{◌≡◌, ◌≢◌, ◌+◌, ◌^◌, ◌-◌, ◌<◌, ◌≤◌, ℕ, length, slice_index};
+ghost use Rattle.bitm.specs.Count.{ones_before};
+ghost use Rattle.perfect_hash.specs.Levels.{place_from, GoesOn};
+ghost use Rattle.perfect_hash.specs.Many.{told, AreHashes, AreLookedUp, AreNumbersOf, AreNumbersOfKeys, AreRanks, IsLookedUp};
+ghost use Rattle.perfect_hash.specs.Parts.{number_by, number_of, AreSizes};
+ghost use Rattle.perfect_hash.specs.Places.{place_in};
+
+use crate::hashing::KeyHash;
+use crate::places::place_of;
+use crate::table::PerfectHash;
+use bitm::{Access, NO_ANSWER};
+
+/// So many look-ups go side by side.
+const SIDE_BY_SIDE: usize = 32;
+
+/// The place of the one that a hash falls on at this level; `NO_ANSWER` where it falls on none.
+#[inline(always)]
+fn look<I: Access>(index: &I, sizes: &[usize], level: usize, begin: usize, hash: u64) -> usize
+    requires sizes { AreSizes sizes.now (I.bits index.now) }
+    requires level { level < length sizes.now }
+    requires goes_on { GoesOn (place_in hash) (I.bits index.now) sizes.now level begin }
+    ensures { IsLookedUp (place_in hash) (I.bits index.now) sizes.now (level + 1)
+        (begin + slice_index sizes.now level) result }
+{
+    let place = 64 * begin + place_of(hash, level as u32, sizes[level]);
+    if index.get_bit(place) {
+        place
+    } else {
+        NO_ANSWER
+    }
+}
+
+/// Looks at one level for those of the hashes that wait, the first `count` of the list. Those that go on come to its
+/// front, without a branch that the processor would have to guess, and the answer is how many they are.
+#[inline(always)]
+fn look_at_level<I: Access>(
+    index: &I,
+    sizes: &[usize],
+    level: usize,
+    begin: usize,
+    hashes: &[u64],
+    places: &mut [usize],
+    waiting: &mut [usize],
+    count: usize,
+) -> usize
+    requires sizes { AreSizes sizes.now (I.bits index.now) }
+    requires level { level < length sizes.now }
+    requires same_length { length places.old ≡ length hashes.now }
+    requires before { AreLookedUp (I.bits index.now) sizes.now level begin
+        hashes.now places.old waiting.old count }
+    ensures after { AreLookedUp (I.bits index.now) sizes.now (level + 1)
+        (begin + slice_index sizes.now level) hashes.now places.new waiting.new result }
+{
+    let mut kept = 0;
+    for i in 0..count {
+        let k = waiting[i];
+        let place = look(index, sizes, level, begin, hashes[k]);
+        places[k] = place;
+        waiting[kept] = k;
+        if place == NO_ANSWER {
+            kept += 1;
+        }
+    }
+    kept
+}
+
+/// The place of each hash, or `NO_ANSWER`.
+#[inline(always)]
+fn find_places<I: Access>(index: &I, sizes: &[usize], hashes: &[u64], places: &mut [usize])
+    requires sizes { AreSizes sizes.now (I.bits index.now) }
+    requires same_length { length places.old ≡ length hashes.now }
+    requires few { length hashes.now ≤ 32 }
+    ensures { (k : ℕ) → k < length hashes.now → slice_index places.new k
+        ≡ told (place_from (place_in (slice_index hashes.now k)) (I.bits index.now) 0 0 sizes.now) }
+{
+    let mut waiting = [0; SIDE_BY_SIDE];
+    for k in 0..hashes.len() {
+        places[k] = NO_ANSWER;
+        waiting[k] = k;
+    }
+    let mut count = hashes.len();
+    let mut begin = 0;
+    for level in 0..sizes.len() {
+        if count == 0 {
+            return;
+        }
+        count = look_at_level(
+            index,
+            sizes,
+            level,
+            begin,
+            hashes,
+            &mut *places,
+            &mut waiting,
+            count,
+        );
+        begin += sizes[level];
+    }
+}
+
+/// Makes each place how many ones stand before it; `NO_ANSWER` stays.
+#[inline(always)]
+fn rank_places<I: Access>(index: &I, places: &mut [usize])
+    requires { (k : ℕ) → k < length places.old → slice_index places.old k ≢ 2 ^ 64 - 1
+        → slice_index places.old k ≤ length (I.bits index.now) }
+    ensures { AreRanks (I.bits index.now) places.old places.new }
+{
+    for k in 0..places.len() {
+        if places[k] != NO_ANSWER {
+            places[k] = index.rank(places[k]);
+        }
+    }
+}
+
+impl<H, I: Access> PerfectHash<H, I> {
+    /// The numbers of no more hashes than go side by side.
+    #[inline(always)]
+    fn number_block(&self, hashes: &[u64], numbers: &mut [usize])
+        requires same_length { length numbers.old ≡ length hashes.now }
+        requires few { length hashes.now ≤ 32 }
+        ensures { AreNumbersOf (number_by self.now.sizes self.now.bits) hashes.now numbers.new }
+    {
+        find_places(self.index(), self.sizes(), hashes, numbers);
+        rank_places(self.index(), numbers);
+    }
+
+    /// The number of each hash, as `get` answers it for a key of that hash; they go to `numbers` in the order of the
+    /// hashes, `NO_ANSWER` where there is none.
+    ///
+    /// # Conditions
+    /// There are as many `numbers` as `hashes`.
+    /// # Cost
+    /// That of `get` for each; 32 go from level to level together.
+    pub fn numbers_of(&self, hashes: &[u64], numbers: &mut [usize])
+        requires same_length { length numbers.old ≡ length hashes.now }
+        ensures { AreNumbersOf (number_by self.now.sizes self.now.bits) hashes.now numbers.new }
+    {
+        let mut from = 0;
+        while from < hashes.len() {
+            let to = from + (hashes.len() - from).min(SIDE_BY_SIDE);
+            self.number_block(&hashes[from..to], &mut numbers[from..to]);
+            from = to;
+        }
+    }
+
+    /// Writes the hash of each key.
+    #[inline(always)]
+    fn hash_each<K>(&self, keys: &[K], hashes: &mut [u64])
+    where
+        H: KeyHash<K>,
+        requires same_length { length hashes.old ≡ length keys.now }
+        ensures { AreHashes (H.hash self.now.hasher) keys.now hashes.new }
+    {
+        for k in 0..keys.len() {
+            hashes[k] = self.hash(&keys[k]);
+        }
+    }
+
+    /// The number of each key, as `get` answers it; they go to `numbers` in the order of the keys, `NO_ANSWER` for
+    /// `None`.
+    ///
+    /// # Conditions
+    /// There are as many `numbers` as `keys`.
+    /// # Cost
+    /// That of `numbers_of`, and of the hashes.
+    pub fn get_many<K>(&self, keys: &[K], numbers: &mut [usize])
+    where
+        H: KeyHash<K>,
+        requires same_length { length numbers.old ≡ length keys.now }
+        ensures { AreNumbersOfKeys (number_of H.hash self.now) keys.now numbers.new }
+    {
+        let mut hashes = [0; SIDE_BY_SIDE];
+        let mut from = 0;
+        while from < keys.len() {
+            let to = from + (keys.len() - from).min(SIDE_BY_SIDE);
+            self.hash_each(&keys[from..to], &mut hashes[..to - from]);
+            self.number_block(&hashes[..to - from], &mut numbers[from..to]);
+            from = to;
+        }
+    }
+}
