@@ -13,7 +13,7 @@ impl Levels {
     /// Of a range of a level: how many items before its start and how many before its end have the digit 1, and how
     /// many of its own have the digit 0.
     #[inline(always)]
-    fn part_on<T: TableSource>(
+    pub(crate) fn part_on<T: TableSource>(
         &self,
         source: &mut T,
         depth: u8,

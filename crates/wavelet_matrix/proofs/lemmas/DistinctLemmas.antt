@@ -43,7 +43,7 @@ filter-first p q (x ∷ xs) (suc k) inside is none passed later =
     ∙ filter-first p q xs k (omega arith) is (λ j h. none (suc j) (omega arith)) (λ j h. passed (suc j) (omega arith)) (λ j h i. later (suc j) (omega arith) (omega arith))
     ∙ ap (λ b. get_or xs k 0 ∷ cond b (x ∷ filter q xs) (filter q xs)) (sym (passed 0 (omega arith)))
 
-contains-filter : (p : ℕ → Bool) (xs : List ℕ) (k x : ℕ) → k < length xs → get_or xs k x ≡ x → p x ≡ true → Contains (filter p xs) x
+pub contains-filter : (p : ℕ → Bool) (xs : List ℕ) (k x : ℕ) → k < length xs → get_or xs k x ≡ x → p x ≡ true → Contains (filter p xs) x
 contains-filter p xs k x inside is passes =
     let yes = ap p is ∙ passes in
     (count_by p (take k xs), omega (arith, count-at p k xs x inside yes, length-filter p xs), filter-at p k xs x inside yes ∙ is)
