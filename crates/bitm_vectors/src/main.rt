@@ -2,17 +2,7 @@
 //! bits.
 #![tactic(auto)]
 
-mod answer;
-mod command;
-mod index;
-mod program;
-mod session;
-#[cfg(test)]
-mod tests;
-mod text;
-
-use program::CANNOT_READ;
-pub use program::{WriteFailed, run, start};
+use line_session::{CANNOT_READ, start};
 use std::env::Env;
 use std::io::BufWriter;
 use std::process::ExitCode;
