@@ -1,10 +1,9 @@
 //! Every place and every rank, to past the end, of contents that end inside an entry, at its end or behind it:
 //! compared with a walk over the bits, and at the ends with rows worked out by hand. A slip at a border would show
 //! here, were it in a definition, the compiler or the toolchain.
-use crate::walk::{Sampled, borders_agree, index_over};
+use crate::walk::{Sampled, borders_agree, index_over, one_agrees, rank_agrees, zero_agrees};
 use bitm::{BinaryRankSearch, Rank, Select, Select0, Select0ForRank101111, SelectForRank101111};
 use std::alloc::Global;
-use std::process::Abort;
 use std::test::Fail;
 
 #[test]
@@ -19,29 +18,49 @@ fn samples_agree_with_a_walk_at_every_place_and_rank(rt: HostRuntime) -> Result<
     Ok(())
 }
 
-/// Nine words whose last bit alone is set, and 32 words of ones.
-fn expect_rows<S: SelectForRank101111, S0: Select0ForRank101111>(
-    rt: &impl Abort,
+/// Whether an index selects each of the ones and of the zeros where the rows say, and ranks no place past its end.
+fn rows_agree<I: Rank + Select + Select0>(
+    index: &I,
+    ones: &[(usize, Option<usize>)],
+    zeros: &[(usize, Option<usize>)],
+) -> bool {
+    ones.iter().all(|row| one_agrees(index, row.0, row.1))
+        && zeros.iter().all(|row| zero_agrees(index, row.0, row.1))
+        && rank_agrees(index, usize::MAX, None)
+}
+
+/// Nine words whose last bit alone is set.
+fn last_bit_agrees<S: SelectForRank101111, S0: Select0ForRank101111>(
     alloc: Global,
-) -> Result<(), Fail> {
+) -> Result<bool, Fail> {
     let words = [0, 0, 0, 0, 0, 0, 0, 0, 1 << 63];
     let (index, _) = index_over::<S, S0>(alloc, words.as_slice())?;
-    assert!(rt; (index.try_select(0), index.try_rank(575)) == (Some(575), Some(0)));
-    assert!(rt; (index.try_select0(574), index.try_select0(575)) == (Some(574), None));
+    let (ones, zeros) = ([(0, Some(575))], [(574, Some(574)), (575, None)]);
+    let rows = rows_agree(&index, ones.as_slice(), zeros.as_slice());
+    Ok(rows && rank_agrees(&index, 575, Some(0)))
+}
+
+/// 32 words of ones.
+fn full_words_agree<S: SelectForRank101111, S0: Select0ForRank101111>(
+    alloc: Global,
+) -> Result<bool, Fail> {
     let words = [u64::MAX; 32];
     let (index, _) = index_over::<S, S0>(alloc, words.as_slice())?;
-    assert!(rt; (index.try_select(2047), index.try_select(2048)) == (Some(2047), None));
-    assert!(rt; index.try_select0(0) == None);
-    let far = usize::MAX;
-    assert!(rt; (index.try_rank(far), index.try_select(far)) == (None, None));
-    assert!(rt; index.try_select0(far) == None);
+    let ones = [(2047, Some(2047)), (2048, None), (usize::MAX, None)];
+    let zeros = [(0, None), (usize::MAX, None)];
+    Ok(rows_agree(&index, ones.as_slice(), zeros.as_slice()))
+}
+
+#[test]
+fn the_last_bit_alone_is_selected(rt: HostRuntime) -> Result<(), Fail> {
+    assert!(rt; last_bit_agrees::<BinaryRankSearch, BinaryRankSearch>(rt.alloc())?);
+    assert!(rt; last_bit_agrees::<Sampled, Sampled>(rt.alloc())?);
     Ok(())
 }
 
 #[test]
-fn the_last_bit_alone_and_the_last_of_32_full_words_are_selected(
-    rt: HostRuntime,
-) -> Result<(), Fail> {
-    expect_rows::<BinaryRankSearch, BinaryRankSearch>(&rt, rt.alloc())?;
-    expect_rows::<Sampled, Sampled>(&rt, rt.alloc())
+fn the_last_of_32_full_words_is_selected(rt: HostRuntime) -> Result<(), Fail> {
+    assert!(rt; full_words_agree::<BinaryRankSearch, BinaryRankSearch>(rt.alloc())?);
+    assert!(rt; full_words_agree::<Sampled, Sampled>(rt.alloc())?);
+    Ok(())
 }

@@ -87,6 +87,17 @@ fn walked(alloc: Global, words: &[u64], kind: bool, log2: u8) -> Result<Vec<u32>
     Ok(samples)
 }
 
+/// Whether the samples that are kept of a kind of bit are those that a walk finds.
+fn are_walked<D: CombinedSamplingDensity>(
+    alloc: Global,
+    kept: &CombinedSampling<D>,
+    words: &[u64],
+    kind: bool,
+) -> Result<bool, AllocError> {
+    let found = walked(alloc, words, kind, kept.items_per_sample_log2())?;
+    Ok(kept.samples() == found.as_slice())
+}
+
 /// Compares what is kept at a density with a walk over the bits.
 fn expect_walked<D: CombinedSamplingDensity>(
     rt: &impl Abort,
@@ -94,12 +105,9 @@ fn expect_walked<D: CombinedSamplingDensity>(
     words: &[u64],
 ) -> Result<(), AllocError> {
     let index = index_over::<D>(rt, alloc, words);
-    let kept = index.select_support();
-    let ones = walked(alloc, words, true, kept.items_per_sample_log2())?;
-    assert!(rt; kept.samples() == ones.as_slice());
-    let kept = index.select0_support();
-    let zeros = walked(alloc, words, false, kept.items_per_sample_log2())?;
-    assert!(rt; kept.samples() == zeros.as_slice());
+    let ones = are_walked(alloc, index.select_support(), words, true)?;
+    let zeros = are_walked(alloc, index.select0_support(), words, false)?;
+    assert!(rt; ones && zeros);
     Ok(())
 }
 
