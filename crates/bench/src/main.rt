@@ -17,6 +17,7 @@ mod queries;
 mod rows;
 mod sequences;
 mod timing;
+mod trees;
 
 use content::Kind;
 use rows::Of;

@@ -33,6 +33,7 @@ fn agrees(rt: &impl Abort, tree: &BinaryLouds, parents: &[usize]) {
     assert!(rt; tree.len() == parents.len().saturating_add(1));
     for one in tree.nodes() {
         assert!(rt; one < tree.len());
+        assert!(rt; tree.parent(one) == one.checked_sub(1).and_then(|at| parents.get(at).copied()));
         assert!(rt; Some(tree.depth(one)) == steps(parents, one, 0));
         for other in tree.nodes() {
             assert!(rt; other < tree.len());
@@ -63,6 +64,40 @@ fn taken(rt: &impl Abort, alloc: Global, len: usize) -> Result<u32, Fail> {
         }
     }
     Ok(taken)
+}
+
+/// The next list of parents in the order of a dictionary; `false` after the last one.
+fn go_on(parents: &mut [usize; 8]) -> bool {
+    for back in 0..8usize {
+        let at = 7usize.saturating_sub(back);
+        let next = parents[at].saturating_add(1);
+        if next <= at {
+            for later in at..8usize {
+                parents[later] = next;
+            }
+            return true;
+        }
+    }
+    false
+}
+
+#[test]
+fn all_trees_of_nine_nodes_agree_with_their_parents(rt: HostRuntime) -> Result<(), Fail> {
+    // as many as ordered trees of nine nodes, a Catalan number
+    let mut parents = [0usize; 8];
+    let mut trees = 1u32;
+    for _ in 0..2000 {
+        match BinaryLouds::from_parents(rt.alloc(), parents.as_slice()) {
+            Ok(tree) => agrees(&rt, &tree, parents.as_slice()),
+            Err(_) => return Err("refused".into()),
+        }
+        if !go_on(&mut parents) {
+            break;
+        }
+        trees = trees.wrapping_add(1);
+    }
+    assert!(rt; trees == 1430);
+    Ok(())
 }
 
 #[test]

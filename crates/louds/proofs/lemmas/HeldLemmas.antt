@@ -18,6 +18,10 @@ true_of : (x : Bool) → (x ≡ false → ⊥) → x ≡ true
 true_of true h = refl
 true_of false h = absurd (h refl)
 
+-- no bit is both
+clash : (b : List Bool) (q : ℕ) → item b q ≡ true → item b q ≡ false → ⊥
+clash b q one none = let both : true ≡ false = sym one ∙ none in cc
+
 -- zeros do not stand after the last one
 pub zero_place_order : (d : List ℕ) (i j : ℕ) → i ≤ j → j ≤ length d → zero_place d i ≤ zero_place d j
 zero_place_order d i j order inside = omega (arith, sum_order d i j order inside)
@@ -197,7 +201,7 @@ module _ (d : List ℕ) (n : ℕ) (b : List Bool) (h : IsHeld d n b) where
       ⊎_elim
       (λ none.
       let there : p + 1 ≡ zero_place d 0 = omega (arith, one.0 none, first) in
-      absurd (clash (p + 1) is (ap (item b) there ∙ (h.zeros 0 (omega arith)).item)))
+      absurd (clash b (p + 1) is (ap (item b) there ∙ (h.zeros 0 (omega arith)).item)))
       (λ other.
       let o = one.1 (omega arith) in
       let i = o.0 in
@@ -208,15 +212,12 @@ module _ (d : List ℕ) (n : ℕ) (b : List Bool) (h : IsHeld d n b) where
       (λ some. (i, k, c, record { node = c.node; some = some; number = omega (arith, c.number) }))
       (λ last.
       let there : p + 1 ≡ zero_place d (i + 1) = omega (arith, o.4, more, c.some) in
-      absurd (clash (p + 1) is (ap (item b) there ∙ (h.zeros (i + 1) (omega (arith, h.count, c.node))).item)))
+      absurd (clash b (p + 1) is (ap (item b) there ∙ (h.zeros (i + 1) (omega (arith, h.count, c.node))).item)))
       (cases_lt (k + 1) (get_or d i 0)))
       (cases_eq v 0)
     where
       first : zero_place d 0 ≡ 1
       first = refl
-
-      clash : (q : ℕ) → item b q ≡ true → item b q ≡ false → ⊥
-      clash q one none = let both : true ≡ false = sym one ∙ none in cc
 
   pub last_of_one : (v p : ℕ) → v < n → IsOneOf d v p → item b (p + 1) ≡ false → IsLast d v
   last_of_one v p less one is i k c =
@@ -229,13 +230,10 @@ module _ (d : List ℕ) (n : ℕ) (b : List Bool) (h : IsHeld d n b) where
       ⊎_elim
       (λ some.
       let next : IsChild d i (k + 1) (v + 1) = record { node = c.node; some = some; number = omega (arith, c.number) } in
-      absurd (clash (p + 1) (ap (item b) (sym at) ∙ (child_one i (k + 1) (v + 1) next).item) is))
+      absurd (clash b (p + 1) (ap (item b) (sym at) ∙ (child_one i (k + 1) (v + 1) next).item) is))
       (λ last. omega (arith, c.some))
       (cases_lt (k + 1) (get_or d i 0)))
       (cases_eq v 0)
-    where
-      clash : (q : ℕ) → item b q ≡ true → item b q ≡ false → ⊥
-      clash q one none = let both : true ≡ false = sym one ∙ none in cc
 
   -- ---- the bit before a one
 
@@ -253,7 +251,7 @@ module _ (d : List ℕ) (n : ℕ) (b : List Bool) (h : IsHeld d n b) where
       ⊎_elim
       (λ none.
       let there : q ≡ zero_place d i = omega (arith, o.4) in
-      absurd (clash q is (ap (item b) there ∙ (h.zeros i (omega (arith, h.count, c.node))).item)))
+      absurd (clash b q is (ap (item b) there ∙ (h.zeros i (omega (arith, h.count, c.node))).item)))
       (λ more.
       let next : k - 1 + 1 ≡ k = omega arith in (
         i,
@@ -263,9 +261,6 @@ module _ (d : List ℕ) (n : ℕ) (b : List Bool) (h : IsHeld d n b) where
       ))
       (cases_zero k)
     where
-      clash : (q : ℕ) → item b q ≡ true → item b q ≡ false → ⊥
-      clash q one none = let both : true ≡ false = sym one ∙ none in cc
-
       cases_zero : (k : ℕ) → (k ≡ 0) ⊎ (0 < k)
       cases_zero zero = inl refl
       cases_zero (suc k) = inr (omega arith)
@@ -280,11 +275,8 @@ module _ (d : List ℕ) (n : ℕ) (b : List Bool) (h : IsHeld d n b) where
       (λ more.
       let at_k : zero_place d i + 1 + (k - 1) ≡ q = omega arith in
       let before : IsChild d i (k - 1) (v - 1) = record { node = c.node; some = omega (arith, c.some); number = omega (arith, c.number) } in
-      absurd (clash q (ap (item b) (sym at_k) ∙ (child_one i (k - 1) (v - 1) before).item) is))
+      absurd (clash b q (ap (item b) (sym at_k) ∙ (child_one i (k - 1) (v - 1) before).item) is))
       (cases_lt k 1)
-    where
-      clash : (q : ℕ) → item b q ≡ true → item b q ≡ false → ⊥
-      clash q one none = let both : true ≡ false = sym one ∙ none in cc
 
   -- the places of ones are well below the greatest number
   pub one_small : (v p : ℕ) → Picks b true v p → p < 2 ^ 62
@@ -323,20 +315,17 @@ run_end d n ws m v p h less first =
     more : e ≡ zero_place d v + 1 + get_or d v 0
     more = zero_place_more d v inside
 
-    clash : (q : ℕ) → item b q ≡ true → item b q ≡ false → ⊥
-    clash q one none = let both : true ≡ false = sym one ∙ none in cc
-
     early : p < e → ⊥
     early before =
         let k = p - (zero_place d v + 1) in
         let at : zero_place d v + 1 + k ≡ p = omega (arith, first.from) in
         let child : IsChild d v k (1 + sum (take v d) + k) =
         record { node = inside; some = omega (arith, more, before, first.from); number = refl } in
-        clash p (ap (item b) (sym at) ∙ (child_one d n b h v k (1 + sum (take v d) + k) child).item)
+        clash b p (ap (item b) (sym at) ∙ (child_one d n b h v k (1 + sum (take v d) + k) child).item)
         (sym (item_front ws m p first.inside) ∙ first.is)
 
     late : e < p → ⊥
     late behind =
-        clash e
+        clash b e
         (sym (item_front ws m e (omega (arith, behind, first.inside))) ∙ first.least e (omega (arith, more)) behind)
         (h.zeros (v + 1) (omega arith)).item
