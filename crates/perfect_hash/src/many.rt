@@ -2,7 +2,8 @@
 ghost use Rattle.std.specs.Prelude.{◌≡◌, ◌≢◌, ◌+◌, ◌^◌, ◌-◌, ◌<◌, ◌≤◌, ℕ, length, slice_index};
 ghost use Rattle.bitm.specs.Count.{ones_before};
 ghost use Rattle.perfect_hash.specs.Levels.{place_from, GoesOn};
-ghost use Rattle.perfect_hash.specs.Many.{told, AreHashes, AreLookedUp, AreNumbersOf, AreNumbersOfKeys, AreRanks, IsLookedUp};
+ghost use Rattle.perfect_hash.specs.Many.{told, AreHashes, AreLookedUp, AreNumbersOf};
+ghost use Rattle.perfect_hash.specs.Many.{AreNumbersOfKeys, AreRanks, IsLookedUp};
 ghost use Rattle.perfect_hash.specs.Parts.{number_by, number_of, AreSizes};
 ghost use Rattle.perfect_hash.specs.Places.{place_in};
 
@@ -11,7 +12,7 @@ use crate::places::place_of;
 use crate::table::PerfectHash;
 use bitm::{Access, NO_ANSWER};
 
-/// So many look-ups go side by side.
+/// So many look-ups go side by side. Of fewer, the last levels would leave too few to wait together.
 const SIDE_BY_SIDE: usize = 256;
 
 /// The place of the one that a hash falls on at this level; `NO_ANSWER` where it falls on none.
