@@ -1,5 +1,5 @@
 /* Succinct bit vectors with rank and select: words, and two tables of counts beside them. And monotone integer
- * sequences (Elias-Fano), in words with such tables.
+ * sequences (Elias-Fano) and minimal perfect hashes, in words with such tables.
  *
  * Bit i of the words is bit i % 64, lowest first, of words[i / 64]. You own the memory of words and tables, which may
  * be a mapped file. No call allocates, keeps a pointer or has state, so any number of threads may ask at once.
@@ -31,8 +31,8 @@
  *
  * Cost: the reads that single queries and lists of selections name below are upper bounds for all tables, right or
  * wrong, and proved of the library calls that these exports make (crates/bitm_tables, crates/bitm_search,
- * crates/bitm_lent, crates/elias_fano). That an export makes just this call, and the passes over words and items that
- * builds and checks name, are read in the code. Time is not proved.
+ * crates/bitm_lent, crates/elias_fano, crates/perfect_hash). That an export makes just this call, and the passes over
+ * words and items that builds and checks name, are read in the code. Time is not proved.
  *
  * Lengths: each call tests those that it needs. bitm_build, bitm_write_header, the calls with a view, and those that
  * count ones or look for the next or previous bit return BITM_BAD_SIZE for 2^58 words or more; those that get or write
@@ -427,8 +427,8 @@ BITM_MUST_USE uint32_t bitm_bits_zeros(const struct bitm_bits_view *view, size_t
 BITM_MUST_USE uint32_t bitm_hash_level(uint64_t *hashes, size_t hashes_len, uint32_t level, uint64_t *ones,
                                        size_t ones_len, uint64_t *again, size_t again_len, uint64_t *left);
 
-/* The number of a hash: BITM_OK with a number below keys, WHATEVER tables and sizes hold; BITM_NONE where it falls on no
- * one of a level; BITM_WRONG where tables or sizes are not those of the words, or there are more numbers than keys;
+/* The number of a hash: BITM_OK with a number below keys, WHATEVER tables and sizes hold; BITM_NONE where it falls on
+ * no one of a level; BITM_WRONG where tables or sizes are not those of the words, or there are more numbers than keys;
  * BITM_BAD_SIZE also if sizes_len is over 256. Over right tables, of levels of these sizes with no more ones than keys,
  * it is the number of the hash, and BITM_WRONG is not returned. A hash that was none of those may get any number below
  * keys. At most one word a level, and what bitm_rank reads. */

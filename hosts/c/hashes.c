@@ -1,5 +1,5 @@
 /* Minimal perfect hashes: levels that are those of a plain loop, numbers of their own for all keys, statuses, and
- * numbers below the count of keys whatever the tables and sizes hold. With LARGE in the environment, also of 10^7 keys. */
+ * numbers below the count of keys whatever the tables and sizes hold. With LARGE in the environment: also 10^7 keys. */
 #include "common.h"
 
 #include <string.h>
@@ -51,8 +51,8 @@ static uint64_t right_level(uint64_t *hashes, uint64_t count, uint32_t level, ui
 static void number(uint64_t count, uint64_t bits_for_64)
 {
     const size_t most = count * bits_for_64 / 1024 + LEVELS; /* four bits a key at 64 for 64 */
-    uint64_t *keys = room(count, sizeof *keys), *hashes = room(count, sizeof *hashes), *words = room(most, sizeof *words);
-    uint64_t upper[1], ones, out, left = count;
+    uint64_t *keys = room(count, sizeof *keys), *hashes = room(count, sizeof *hashes);
+    uint64_t *words = room(most, sizeof *words), upper[1], ones, out, left = count;
     bool *used = room(count, sizeof *used);
     size_t begin = 0, levels = 0;
     for (uint64_t i = 0; i < count; i++) hashes[i] = keys[i] = draw();
@@ -113,7 +113,8 @@ static void refused(void)
     MUST(bitm_hash_get(&view, sizes, LEVELS + 1, 1, 7, &out) == BITM_BAD_SIZE);
     MUST(bitm_hash_get(&view, NULL, 0, 1, 7, &out) == BITM_NONE);
     const uint64_t none[1] = {0}, more[1] = {3};
-    MUST(bitm_hash_get(&view, none, 1, 1, 7, &out) == BITM_WRONG && bitm_hash_get(&view, more, 1, 1, 7, &out) == BITM_WRONG);
+    MUST(bitm_hash_get(&view, none, 1, 1, 7, &out) == BITM_WRONG);
+    MUST(bitm_hash_get(&view, more, 1, 1, 7, &out) == BITM_WRONG);
     MUST(some[0] == 5 && some[1] == 6 && some[2] == 7 && zeros[0] == 8 && zeros[1] == 9);
     MUST(out == UNTOUCHED && left == UNTOUCHED);
 }

@@ -2,16 +2,19 @@
 //!
 //! ```text
 //! bench LOG2 KIND ROUNDS
+//! bench keys COUNT ROUNDS
 //! ```
 //!
 //! The content has 2^LOG2 bits. KIND is `sparse`, `even` or `dense` (ones drawn one in 64, one in two and seven in
 //! eight), or one that misleads a guess: `end` (ones in the last sixteenth alone), `blocks` (ones and zeros by turns,
 //! 2^16 words of each) or `ramp` (ever more ones). A value is the least of the rounds, of the thread's processor time;
 //! a row is `row,by,log2,kind,value,unit,check`, where the check is a sum of the answers, or the number of the
-//! writes. With no argument the program prints its usage.
+//! writes. The second form times perfect hashes of so many keys, with rows `row,by,keys,value,unit,check`. With no
+//! argument the program prints its usage.
 #![tactic(auto)]
 
 mod content;
+mod hashes;
 mod many;
 mod queries;
 mod rows;
@@ -27,7 +30,8 @@ use std::time::CpuClock;
 use std::{env, io};
 
 /// What is printed where the arguments are not a size, a kind and a number of rounds.
-const USAGE: &str = "usage: bench LOG2 sparse|even|dense|end|blocks|ramp ROUNDS";
+const USAGE: &str =
+    "usage: bench LOG2 sparse|even|dense|end|blocks|ramp ROUNDS | bench keys COUNT ROUNDS";
 
 fn main(rt: HostRuntime) -> ExitCode {
     match bench(&rt) {
@@ -45,6 +49,9 @@ fn bench(rt: &(impl Print + CpuClock + Env + AllocGlobal)) -> anyhow::Result<()>
         println!(rt; "{USAGE}")?;
         return Ok(());
     };
+    if log2.as_str() == "keys" {
+        return hash_rows(rt, kind.as_str(), rounds.as_str());
+    }
     let (Ok(log2), Ok(rounds)) = (log2.parse::<u32>(), rounds.parse::<u32>()) else {
         println!(rt; "{USAGE}")?;
         return Ok(());
@@ -58,4 +65,17 @@ fn bench(rt: &(impl Print + CpuClock + Env + AllocGlobal)) -> anyhow::Result<()>
         kind,
     };
     rows::print(rt, of, rounds)
+}
+
+/// Prints the rows of perfect hashes.
+fn hash_rows(
+    rt: &(impl Print + CpuClock + AllocGlobal),
+    count: &str,
+    rounds: &str,
+) -> anyhow::Result<()> {
+    let (Ok(count), Ok(rounds)) = (count.parse::<usize>(), rounds.parse::<u32>()) else {
+        println!(rt; "{USAGE}")?;
+        return Ok(());
+    };
+    hashes::print(rt, count, rounds)
 }

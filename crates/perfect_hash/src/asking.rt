@@ -42,7 +42,7 @@ fn place_on<T: TableSource>(source: &mut T, sizes: &[usize], hash: u64) -> Selec
 
 /// The number of a hash over any source, whatever words, tables and sizes hold: `Count` of a number below `count`,
 /// `Absent` where the hash falls on no one, or `WrongTables`. Where the tables are those of the words, and these those
-/// of levels of these sizes with no more ones than `count`, it is the right number, and `WrongTables` is never answered.
+/// of levels of these sizes with no more ones than `count`, the number is right, and `WrongTables` is never answered.
 ///
 /// # Conditions
 /// There are fewer than 2^58 words, the tables have the right lengths, and there are no more than 256 sizes.

@@ -2,7 +2,8 @@
 ghost use Rattle.std.specs.Prelude.{◌≡◌, ◌≢◌, ◌+◌, ◌^◌, ◌-◌, ◌<◌, ◌≤◌, ℕ, length, slice_index};
 ghost use Rattle.bitm.specs.Count.{ones_before};
 ghost use Rattle.perfect_hash.specs.Levels.{place_from, GoesOn};
-ghost use Rattle.perfect_hash.specs.Many.{told, AreHashes, AreLookedUp, AreNumbersOf, AreNumbersOfKeys, AreRanks, IsLookedUp};
+ghost use Rattle.perfect_hash.specs.Many.{told, AreHashes, AreLookedUp, AreNumbersOf};
+ghost use Rattle.perfect_hash.specs.Many.{AreNumbersOfKeys, AreRanks, IsLookedUp};
 ghost use Rattle.perfect_hash.specs.Parts.{number_by, number_of, AreSizes};
 ghost use Rattle.perfect_hash.specs.Places.{place_in};
 
@@ -11,8 +12,8 @@ use crate::places::place_of;
 use crate::table::PerfectHash;
 use bitm::{Access, NO_ANSWER};
 
-/// So many look-ups go side by side.
-const SIDE_BY_SIDE: usize = 32;
+/// So many look-ups go side by side. Of fewer, the last levels would leave too few to wait together.
+const SIDE_BY_SIDE: usize = 256;
 
 /// The place of the one that a hash falls on at this level; `NO_ANSWER` where it falls on none.
 #[inline(always)]
@@ -70,7 +71,7 @@ fn look_at_level<I: Access>(
 fn find_places<I: Access>(index: &I, sizes: &[usize], hashes: &[u64], places: &mut [usize])
     requires sizes { AreSizes sizes.now (I.bits index.now) }
     requires same_length { length places.old ≡ length hashes.now }
-    requires few { length hashes.now ≤ 32 }
+    requires few { length hashes.now ≤ 256 }
     ensures { (k : ℕ) → k < length hashes.now → slice_index places.new k
         ≡ told (place_from (place_in (slice_index hashes.now k)) (I.bits index.now) 0 0 sizes.now) }
 {
@@ -118,7 +119,7 @@ impl<H, I: Access> PerfectHash<H, I> {
     #[inline(always)]
     fn number_block(&self, hashes: &[u64], numbers: &mut [usize])
         requires same_length { length numbers.old ≡ length hashes.now }
-        requires few { length hashes.now ≤ 32 }
+        requires few { length hashes.now ≤ 256 }
         ensures { AreNumbersOf (number_by self.now.sizes self.now.bits) hashes.now numbers.new }
     {
         find_places(self.index(), self.sizes(), hashes, numbers);
@@ -131,7 +132,7 @@ impl<H, I: Access> PerfectHash<H, I> {
     /// # Conditions
     /// There are as many `numbers` as `hashes`.
     /// # Cost
-    /// That of `get` for each; 32 go from level to level together.
+    /// That of `get` for each; 256 go from level to level together.
     pub fn numbers_of(&self, hashes: &[u64], numbers: &mut [usize])
         requires same_length { length numbers.old ≡ length hashes.now }
         ensures { AreNumbersOf (number_by self.now.sizes self.now.bits) hashes.now numbers.new }

@@ -21,6 +21,11 @@ fn are_numbered(rt: &impl Abort, alloc: Global, count: u64, percent: u16) -> Res
         assert!(rt; !seen[number]);
         seen[number] = true;
     }
+    let mut many = vec![in alloc; 0usize; keys.len()]?;
+    numbers.get_many(keys.as_slice(), many.as_mut_slice());
+    for i in 0..keys.len() {
+        assert!(rt; numbers.get(&keys[i]) == Some(many[i]));
+    }
     Ok(())
 }
 

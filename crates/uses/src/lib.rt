@@ -12,6 +12,7 @@
 //! | intersect two lists of rising numbers | `inverted` |
 //! | number the members of a set densely, and find a member by its number | `dense` |
 //! | keep values by the numbers of a perfect hash | `numbered` |
+//! | find them over levels that came from elsewhere and may be wrong | `numbered_lent` |
 //! | keep several vectors in one content, under one index | `stretches` |
 //! | test a condition and then call | `asking` |
 //! | test a bit and rank it, in code that is generic over the index or the source | `bits_and_ranks` |
@@ -44,6 +45,7 @@ pub mod many;
 pub mod median;
 pub mod neighbours;
 pub mod numbered;
+pub mod numbered_lent;
 pub mod owned;
 pub mod ranked;
 pub mod readme;

@@ -316,24 +316,6 @@ extern "C" {
     pub(crate) fn bitm_bits_select0(view: *const BitsView, rank: usize, out: *mut u64) -> u32;
     pub(crate) fn bitm_check_samples(view: *const View, samples: *const Samples) -> u32;
     pub(crate) fn bitm_check_samples0(view: *const View, samples: *const Samples) -> u32;
-    pub(crate) fn bitm_hash_level(
-        hashes: *mut u64,
-        hashes_len: usize,
-        level: u32,
-        ones: *mut u64,
-        ones_len: usize,
-        again: *mut u64,
-        again_len: usize,
-        left: *mut u64,
-    ) -> u32;
-    pub(crate) fn bitm_hash_get(
-        view: *const View,
-        sizes: *const u64,
-        sizes_len: usize,
-        keys: usize,
-        hash: u64,
-        out: *mut u64,
-    ) -> u32;
     pub(crate) fn bitm_stored_index(
         bits_len: u64,
         ones_log2: u32,

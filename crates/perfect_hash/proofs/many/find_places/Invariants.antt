@@ -6,7 +6,7 @@ use Rattle.perfect_hash.proofs.many.find_places.Given as goal
 abbrev pub invariant-loop-k : goal.invariant-loop-k
 invariant-loop-k g l = record {
   long : length l.places ≡ length l.hashes;
-  room : length l.waiting ≡ 32;
+  room : length l.waiting ≡ 256;
   none : (k : ℕ) → k < l.k → slice_index l.places k ≡ 2 ^ 64 - 1;
   own : (k : ℕ) → k < l.k → slice_index l.waiting k ≡ k;
 }
