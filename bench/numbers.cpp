@@ -72,7 +72,7 @@ int main(int argc, char** argv) {
         sdsl::int_vector<> numbers(len, 0, width);
         uint64_t state = 88172645463325252;
         for (uint64_t k = 0; k < len; k++) numbers[k] = draw(state) & ((uint64_t(1) << width) - 1);
-        std::vector<uint64_t> places(1 << 16);
+        std::vector<uint64_t> places(1 << 17);
         state = 2463534242088117;
         for (auto& at : places) at = draw(state) % len;
         rows<sdsl::wm_int<>>({"wm_int", log2, width}, rounds, numbers, places);

@@ -13,6 +13,7 @@
 
 mod content;
 mod many;
+mod numbers;
 mod queries;
 mod rows;
 mod sequences;

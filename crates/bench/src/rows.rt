@@ -6,8 +6,8 @@ ghost use Rattle.bitm.specs.Simple.{HasFewOnes};
 use crate::content::{Kind, content};
 use crate::many::{self, ManyBatch};
 use crate::queries::queries;
-use crate::sequences;
 use crate::timing::{Asked, IndexBatch, WordBatch, over_index, over_words, ranks};
+use crate::{numbers, sequences};
 use bitm::{
     AdaptiveCombinedSamplingDensity, BinaryRankSearch, CombinedSampling, GetSize, RankSelect101111,
     RankSimple, Select0ForRank101111, SelectForRank101111, words,
@@ -40,7 +40,7 @@ pub(crate) fn print_row(
 }
 
 /// Prints a row: so much for so many, in a unit.
-fn print_quotient(
+pub(crate) fn print_quotient(
     rt: &impl Print,
     of: Of,
     row: &str,
@@ -266,7 +266,10 @@ pub(crate) fn print(
     index_rows::<BinaryRankSearch, BinaryRankSearch>(rt, of, rounds, "binary", content, asked)?;
     index_rows::<Sampled, Sampled>(rt, of, rounds, "sampled", content, asked)?;
     match of.kind {
-        Kind::Even => sequences::print(rt, of, rounds),
+        Kind::Even => {
+            sequences::print(rt, of, rounds)?;
+            numbers::print(rt, of, rounds)
+        }
         _ => Ok(()),
     }
 }
