@@ -16,6 +16,7 @@
 mod content;
 mod hashes;
 mod many;
+mod numbers;
 mod queries;
 mod rows;
 mod sequences;

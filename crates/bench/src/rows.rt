@@ -7,7 +7,7 @@ use crate::content::{Kind, content};
 use crate::many::{self, ManyBatch};
 use crate::queries::queries;
 use crate::timing::{Asked, IndexBatch, WordBatch, over_index, over_words, ranks};
-use crate::{sequences, trees};
+use crate::{numbers, sequences, trees};
 use bitm::{
     AdaptiveCombinedSamplingDensity, BinaryRankSearch, CombinedSampling, GetSize, RankSelect101111,
     RankSimple, Select0ForRank101111, SelectForRank101111, words,
@@ -268,7 +268,8 @@ pub(crate) fn print(
     match of.kind {
         Kind::Even => {
             sequences::print(rt, of, rounds)?;
-            trees::print(rt, of, rounds)
+            trees::print(rt, of, rounds)?;
+            numbers::print(rt, of, rounds)
         }
         _ => Ok(()),
     }

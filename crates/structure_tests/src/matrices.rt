@@ -40,6 +40,24 @@ fn expect_each(rt: &impl Abort, matrix: &BinaryWaveletMatrix, list: &[u64]) {
     assert!(rt; matrix.try_get(list.len()) == None);
 }
 
+/// Compares access, ranks and selections with a count, for each number, of those passed; there are as many `counts`,
+/// which are 0, as the numbers have values.
+fn expect_counted(
+    rt: &impl Abort,
+    matrix: &BinaryWaveletMatrix,
+    list: &[u64],
+    counts: &mut [usize],
+) {
+    for (i, number) in matrix.iter().enumerate() {
+        assert!(rt; i < list.len() && list[i] == number && number < counts.len() as u64);
+        let before = counts[number as usize];
+        assert!(rt; matrix.try_get(i) == Some(number));
+        assert!(rt; matrix.try_rank(number, i) == Some(before));
+        assert!(rt; matrix.try_select(number, before) == Some(i));
+        counts[number as usize] = before.wrapping_add(1);
+    }
+}
+
 /// Compares what is asked of ranges with a walk over each.
 fn expect_ranges(rt: &impl Abort, matrix: &BinaryWaveletMatrix, list: &[u64], bound: u64) {
     assert!(rt; matrix.len() == list.len());
@@ -147,6 +165,17 @@ fn numbers_of_one_three_and_all_digits_are_answered_as_a_walk_answers(
     check(&rt, rt.alloc(), 60, 3)?;
     check(&rt, rt.alloc(), 40, 64)?;
     check(&rt, rt.alloc(), 0, 5)
+}
+
+#[test]
+fn a_million_answers_are_those_of_a_count(rt: HostRuntime) -> Result<(), Fail> {
+    let list = draw(rt.alloc(), 1 << 18, 10)?;
+    let list = list.as_slice();
+    assert!(rt; list.len() == 1 << 18 && all_fit(list, 10));
+    let matrix = BinaryWaveletMatrix::build(rt.alloc(), list, 10)?;
+    let mut counts = [0usize; 1024];
+    expect_counted(&rt, &matrix, list, counts.as_mut_slice());
+    Ok(())
 }
 
 #[test]

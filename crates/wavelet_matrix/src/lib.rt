@@ -19,6 +19,7 @@ mod asking;
 mod digits;
 mod distinct;
 mod frequent;
+mod iterating;
 mod many;
 mod matrix;
 mod range_queries;
@@ -30,5 +31,6 @@ mod writing;
 
 pub use digits::all_fit;
 pub use distinct::DistinctValues;
+pub use iterating::Numbers;
 pub use matrix::{BinaryWaveletMatrix, WaveletMatrix};
 pub use walk::Levels;

@@ -84,7 +84,7 @@ impl Levels {
     /// # Errors
     /// `AllocError` if memory was refused.
     /// # Cost
-    /// Four ranks for each beginning, of fewer than all digits, that is one of a number of either range.
+    /// Four ranks for each beginning, of none to all but one of the digits, that numbers of both ranges have.
     /// # Source
     /// Gagie, Navarro and Puglisi, 'New algorithms on wavelet trees and applications to information retrieval'
     /// (Theoretical Computer Science 426-427, 2012).

@@ -227,11 +227,10 @@ impl Levels {
             (level_in self.now (T.lists source.now) depth) place }
     {
         let _source = source;
-        if digit {
-            self.zeros_of_level(depth) + ones
-        } else {
-            place - ones
-        }
+        // Both before the choice: a processor cannot guess a digit, and chooses between two numbers without a branch.
+        let among_ones = self.zeros_of_level(depth) + ones;
+        let among_zeros = place - ones;
+        if digit { among_ones } else { among_zeros }
     }
 
     /// Where an item with this digit at a place of a level stands at the next level.

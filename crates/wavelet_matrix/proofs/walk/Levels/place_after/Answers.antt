@@ -1,14 +1,15 @@
 -- Those with a 1 stand after all zeros, those with a 0 where the ones before them leave.
-use Rattle.std.proofs.Common.{◌∙◌, arith}
+use Rattle.std.proofs.Common.{take, ◌∙◌, arith}
+use Rattle.std.proofs.lemmas.List.{length-take}
 use Rattle.bitm.specs.Tables.{bits_in}
 use Rattle.wavelet_matrix.specs.Matrix.{digit_place, level_in, numbers_in}
 use Rattle.wavelet_matrix.proofs.lemmas.ColumnLemmas.{length-level}
 use Rattle.wavelet_matrix.proofs.lemmas.MatrixLemmas.{few}
-use Rattle.wavelet_matrix.proofs.lemmas.PartLemmas.{moved-one, moved-zero, counts-fit}
+use Rattle.wavelet_matrix.proofs.lemmas.PartLemmas.{both-digits, moved-one, moved-zero, counts-fit}
 use Rattle.wavelet_matrix.proofs.walk.Levels.place_after.Goals as goal
 
-pub overflow_add-result : goal.overflow_add-result
-overflow_add-result g c =
+pub overflow_add-among_ones : goal.overflow_add-among_ones
+overflow_add-among_ones g c =
     let h = c.requires.matrix.numbers in
     let l = c.args.self.now in
     let lists = g.T.TableSource.lists c.args.source.now in
@@ -19,6 +20,12 @@ overflow_add-result g c =
       counts-fit (digit_place l c.args.depth) (level_in l lists c.args.depth) c.args.place _ c.args.ones
           (c.zeros_of_level.ensures ∙ h.zeros_are c.args.depth c.requires.depth) c.requires.ones,
     )
+
+pub overflow_sub-among_zeros : goal.overflow_sub-among_zeros
+overflow_sub-among_zeros g c =
+    let l = c.args.self.now in
+    let items = level_in l (g.T.TableSource.lists c.args.source.now) c.args.depth in
+    omega (arith, c.requires.ones, both-digits (digit_place l c.args.depth) (take c.args.place items), length-take c.args.place items)
 
 pub returns-then-digit : goal.returns-then-digit
 returns-then-digit g c =
