@@ -1,6 +1,6 @@
-// Times the louds_tree of sdsl-lite over the tree that `bench` draws, of 2^LOG2 nodes: sdsl_trees LOG2 ROUNDS. Rows as those
-// of `bench`, by the same clock. A node of sdsl-lite is its number and its place among the bits, which are looked up before
-// the clock starts; each call answers both.
+// Times the louds_tree of sdsl-lite over the tree that `bench` draws, of 2^LOG2 nodes: sdsl_trees LOG2 ROUNDS. Rows as
+// those of `bench`, by the same clock. A node of sdsl-lite is its number and its place among the bits, which are looked
+// up before the clock starts, but in the rows `by_number`; each call answers both.
 #include <cstdint>
 #include <cstdio>
 #include <cstdlib>

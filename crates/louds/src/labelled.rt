@@ -1,5 +1,6 @@
 //! A tree whose nodes have labels: words of labels lead down it.
-ghost use Rattle.std.specs.Prelude.{◌≡◌, ◌+◌, ◌*◌, ◌^◌, ◌<◌, ◌≤◌, ◌↔◌, IfOk, IfSome, IsErrOf, IsTrue, length, slice_index};
+ghost use Rattle.std.specs.Prelude.{◌≡◌, ◌+◌, ◌*◌, ◌^◌, ◌<◌, ◌≤◌, ◌↔◌, IfOk, IfSome, IsErrOf, IsTrue};
+ghost use Rattle.std.specs.Prelude.{length, slice_index};
 ghost use Rattle.std.specs.Int.{div_ceil};
 ghost use Rattle.bitm.specs.Size.{saturated_size};
 ghost use Rattle.louds.specs.Held.{words_of};

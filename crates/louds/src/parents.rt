@@ -47,7 +47,7 @@ impl<S: SelectForRank101111, S0: Select0ForRank101111> Louds<S, S0> {
     ///
     /// # Errors
     /// `TooLong` exactly where there are 2^60 - 1 parents or more; else `NotATree` exactly where they are not those of
-    /// nodes level by level (`are_parents` tests it); else `OutOfMemory` where memory was refused. Nothing is left then.
+    /// nodes level by level (`are_parents` tests it); else `OutOfMemory` where memory was refused; nothing is left.
     /// # Cost
     /// Two passes over the parents, with one number kept for each node, and `build`.
     pub fn from_parents(alloc: Global, parents: &[usize]) -> Result<Self, LoudsError>

@@ -1,5 +1,6 @@
 //! Ways up and down trees, compared with lists of parents, and answers worked by hand.
 use bitm::BinaryRankSearch;
+use louds::counted::{child_on, degree_on, is_leaf_on, next_sibling_on, parent_on};
 use louds::{BinaryLouds, Louds, LoudsError, are_parents};
 use std::alloc::Global;
 use std::process::Abort;
@@ -129,5 +130,22 @@ fn ways_are_those_worked_by_hand(rt: HostRuntime) -> Result<(), Fail> {
     let below = tree.children_of_range(1..3);
     assert!(rt; below.start == 4);
     assert!(rt; below.end == 6);
+    Ok(())
+}
+
+#[test]
+fn counted_walks_are_those_worked_by_hand(rt: HostRuntime) -> Result<(), Fail> {
+    // 0 has the children 1 2 3; 1 has 4 5; 3 has 6
+    let Ok(tree) = BinaryLouds::build(rt.alloc(), [3usize, 2, 0, 1, 0, 0, 0].as_slice()) else {
+        return Err("refused".into());
+    };
+    let len = tree.len();
+    assert!(rt; len == 7);
+    assert!(rt; degree_on(&mut tree.probe(), len, 1) == 2);
+    assert!(rt; is_leaf_on(&mut tree.probe(), len, 2));
+    assert!(rt; child_on(&mut tree.probe(), len, 3, 0) == Some(6));
+    assert!(rt; parent_on(&mut tree.probe(), len, 5) == Some(1));
+    assert!(rt; next_sibling_on(&mut tree.probe(), len, 4) == Some(5));
+    assert!(rt; next_sibling_on(&mut tree.probe(), len, 5) == None);
     Ok(())
 }
