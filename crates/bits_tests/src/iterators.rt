@@ -124,7 +124,11 @@ fn bits_come_from_both_ends(rt: HostRuntime) {
         (false, None),
         (true, None),
     ] {
-        let given = if is_last { bits.next_back() } else { bits.next() };
+        let given = if is_last {
+            bits.next_back()
+        } else {
+            bits.next()
+        };
         assert!(rt; given == bit);
     }
 }
