@@ -1,4 +1,5 @@
-//! Contents and queries to be timed on.
+//! Contents, numbers and queries that are drawn.
+ghost use Rattle.std.specs.Prelude.{◌<◌};
 
 use std::alloc::{AllocError, Global};
 
@@ -19,30 +20,25 @@ pub(crate) enum Kind {
     Ramp,
 }
 
+/// The kinds by their names.
+const KINDS: [(&str, Kind); 6] = [
+    ("sparse", Kind::Sparse),
+    ("even", Kind::Even),
+    ("dense", Kind::Dense),
+    ("end", Kind::End),
+    ("blocks", Kind::Blocks),
+    ("ramp", Kind::Ramp),
+];
+
 impl Kind {
     /// The kind of this name.
     pub(crate) fn named(name: &str) -> Option<Kind> {
-        match name {
-            "sparse" => Some(Kind::Sparse),
-            "even" => Some(Kind::Even),
-            "dense" => Some(Kind::Dense),
-            "end" => Some(Kind::End),
-            "blocks" => Some(Kind::Blocks),
-            "ramp" => Some(Kind::Ramp),
-            _ => None,
+        for (of, kind) in KINDS {
+            if of == name {
+                return Some(kind);
+            }
         }
-    }
-
-    /// Its name.
-    pub(crate) fn name(self) -> &'static str {
-        match self {
-            Kind::Sparse => "sparse",
-            Kind::Even => "even",
-            Kind::Dense => "dense",
-            Kind::End => "end",
-            Kind::Blocks => "blocks",
-            Kind::Ramp => "ramp",
-        }
+        None
     }
 }
 
@@ -84,4 +80,14 @@ pub(crate) fn content(alloc: Global, kind: Kind, len: usize) -> Result<Vec<u64>,
         words.push(word(kind, at, len, &mut state))?;
     }
     Ok(words)
+}
+
+/// So many numbers below a limit, drawn evenly.
+pub(crate) fn queries(alloc: Global, limit: usize) -> Result<Vec<usize>, AllocError> {
+    let mut state = 2_463_534_242_088_117;
+    let mut drawn = Vec::with_capacity(alloc, 1 << 17)?;
+    for _ in 0..1 << 17 {
+        drawn.push((draw(&mut state) % limit.max(1) as u64) as usize)?;
+    }
+    Ok(drawn)
 }

@@ -1,32 +1,17 @@
-//! Batches that are asked at once.
+//! Rows of queries that are asked at once.
 ghost use Rattle.std.specs.Prelude.{◌<◌, All, IsTrue};
 
-use crate::timing::Asked;
+use crate::bench::{Bench, Label};
+use crate::index::Asked;
 use bitm::{Rank, RankSelect101111, Select0ForRank101111, SelectForRank101111};
+use std::alloc::AllocError;
 
-/// A batch that is asked at once.
+/// What is asked at once.
 #[derive(Clone, Copy)]
-pub(crate) enum ManyBatch {
-    /// Ranks.
+enum Call {
     Rank,
-    /// Selections of ones.
     Select,
-    /// Selections of zeros.
     Select0,
-}
-
-impl ManyBatch {
-    /// Each batch once.
-    pub(crate) const ALL: [ManyBatch; 3] = [ManyBatch::Rank, ManyBatch::Select, ManyBatch::Select0];
-
-    /// Its row's name.
-    pub(crate) fn name(self) -> &'static str {
-        match self {
-            ManyBatch::Rank => "rank_many",
-            ManyBatch::Select => "select_many",
-            ManyBatch::Select0 => "select0_many",
-        }
-    }
 }
 
 /// Whether each of the numbers is below a limit.
@@ -50,36 +35,79 @@ fn sum(answers: &[usize]) -> usize {
     sum
 }
 
-/// Asks a batch of an index, and adds up its answers; 0 where some of them has none. The numbers are tested first, and
-/// the time of that is the batch's too.
+/// Asks all queries of an index, and adds up their answers; 0 where some of them has none. The numbers are tested
+/// first, and the time of that is the calls' too.
 #[inline(never)]
 #[tactic(auto, using(bitm::proofs::BitLaws::bits_are_counted))]
-pub(crate) fn over_index<S: SelectForRank101111, S0: Select0ForRank101111>(
-    batch: ManyBatch,
+fn ask<S: SelectForRank101111, S0: Select0ForRank101111>(
+    call: Call,
     index: &RankSelect101111<S, S0, &[u64]>,
-    asked: Asked<'_>,
+    queries: &[usize],
     answers: &mut [usize],
 ) -> usize {
     let bits = index.content().len() * 64;
-    match batch {
-        ManyBatch::Rank => {
-            if answers.len() != asked.places.len() || !all_below(asked.places, bits) {
-                return 0;
-            }
-            index.rank_many(asked.places, answers)
-        }
-        ManyBatch::Select => {
-            if answers.len() != asked.ones.len() || !all_below(asked.ones, index.rank(bits)) {
-                return 0;
-            }
-            index.select_many(asked.ones, answers)
-        }
-        ManyBatch::Select0 => {
-            if answers.len() != asked.zeros.len() || !all_below(asked.zeros, index.rank0(bits)) {
-                return 0;
-            }
-            index.select0_many(asked.zeros, answers)
-        }
+    let limit = match call {
+        Call::Rank => bits,
+        Call::Select => index.rank(bits),
+        Call::Select0 => index.rank0(bits),
+    };
+    if answers.len() != queries.len() || !all_below(queries, limit) {
+        return 0;
+    }
+    match call {
+        Call::Rank => index.rank_many(queries, answers),
+        Call::Select => index.select_many(queries, answers),
+        Call::Select0 => index.select0_many(queries, answers),
     }
     sum(answers)
+}
+
+/// Times one of the calls, and adds its row.
+fn add_call<S: SelectForRank101111, S0: Select0ForRank101111>(
+    bench: &mut Bench<'_>,
+    (name, call): (&'static str, Call),
+    index: &RankSelect101111<S, S0, &[u64]>,
+    queries: &[usize],
+    answers: &mut [usize],
+) {
+    let mut least = u64::MAX;
+    let mut check = 0;
+    for _ in 0..bench.rounds() {
+        let begun = bench.used();
+        check = ask(call, index, queries, answers);
+        least = least.min(bench.used().saturating_sub(begun));
+    }
+    bench.add_time(Label(name, "binary"), least, queries.len(), check);
+}
+
+/// Times the calls that are asked at once, and adds their rows.
+pub(crate) fn add_many<S: SelectForRank101111, S0: Select0ForRank101111>(
+    bench: &mut Bench<'_>,
+    index: &RankSelect101111<S, S0, &[u64]>,
+    asked: Asked<'_>,
+) -> Result<(), AllocError> {
+    let mut kept = Vec::from_slice(bench.alloc(), asked.places)?;
+    let answers = kept.as_mut_slice();
+    add_call(
+        bench,
+        ("rank_many", Call::Rank),
+        index,
+        asked.places,
+        answers,
+    );
+    add_call(
+        bench,
+        ("select_many", Call::Select),
+        index,
+        asked.ones,
+        answers,
+    );
+    add_call(
+        bench,
+        ("select0_many", Call::Select0),
+        index,
+        asked.zeros,
+        answers,
+    );
+    Ok(())
 }

@@ -2,22 +2,33 @@
 //! and by binary search.
 ghost use Rattle.std.specs.Prelude.{◌^◌, ◌<◌, ◌≤◌, All, length};
 
-use crate::content::draw;
-use crate::queries::queries;
-use crate::rows::{Of, print_quotient, print_row, used};
-use bitm::{
-    AdaptiveCombinedSamplingDensity, BinaryRankSearch, CombinedSampling, GetSize,
-    Select0ForRank101111, SelectForRank101111,
-};
+use crate::bench::{Bench, Label};
+use crate::content::{draw, queries};
+use bitm::{GetSize, Select0ForRank101111, SelectForRank101111};
 use std::alloc::{AllocError, Global};
-use std::time::CpuClock;
 use wavelet_matrix::{WaveletMatrix, all_fit};
 
-/// Queries of a row.
-const QUERIES: usize = 1 << 17;
+/// The names of the rows of a matrix: a number to build, its bits, and the calls.
+type Names = [&'static str; 5];
+
+const OF_8: Names = [
+    "numbers8_build_a_number",
+    "numbers8_space_a_number",
+    "numbers8_get",
+    "numbers8_rank",
+    "numbers8_select",
+];
+
+const OF_16: Names = [
+    "numbers16_build_a_number",
+    "numbers16_space_a_number",
+    "numbers16_get",
+    "numbers16_rank",
+    "numbers16_select",
+];
 
 /// So many numbers of so many digits, drawn evenly.
-fn numbers(alloc: Global, count: usize, width: u8) -> Result<Vec<u64>, AllocError>
+pub(crate) fn numbers(alloc: Global, count: usize, width: u8) -> Result<Vec<u64>, AllocError>
     requires { width < 64 }
 {
     let mut state = 88_172_645_463_325_252;
@@ -28,207 +39,111 @@ fn numbers(alloc: Global, count: usize, width: u8) -> Result<Vec<u64>, AllocErro
     Ok(numbers)
 }
 
-/// Adds up the numbers at the places.
-#[inline(never)]
-fn gets<S: SelectForRank101111, S0: Select0ForRank101111>(
-    matrix: &WaveletMatrix<S, S0>,
-    places: &[usize],
-) -> usize {
-    let mut sum = 0usize;
-    for place in places {
-        if let Some(number) = matrix.try_get(*place) {
-            sum = sum.wrapping_add(number as usize);
-        }
-    }
-    sum
-}
+/// A number and a place before which it is counted, or with how many like it stand before the one that is sought.
+type Pair = (u64, usize);
 
-/// Adds up how often the numbers stand before the places.
-#[inline(never)]
-fn ranks<S: SelectForRank101111, S0: Select0ForRank101111>(
-    matrix: &WaveletMatrix<S, S0>,
-    asked: &[(u64, usize)],
-) -> usize {
-    let mut sum = 0usize;
-    for (number, place) in asked {
-        if let Some(rank) = matrix.try_rank(*number, *place) {
-            sum = sum.wrapping_add(rank);
-        }
-    }
-    sum
-}
-
-/// Adds up the places of the numbers that have so many like them before.
-#[inline(never)]
-fn selects<S: SelectForRank101111, S0: Select0ForRank101111>(
-    matrix: &WaveletMatrix<S, S0>,
-    asked: &[(u64, usize)],
-) -> usize {
-    let mut sum = 0usize;
-    for (number, rank) in asked {
-        if let Some(place) = matrix.try_select(*number, *rank) {
-            sum = sum.wrapping_add(place);
-        }
-    }
-    sum
-}
-
-/// What is asked of a matrix.
-#[derive(Clone, Copy)]
-enum Batch {
-    /// Numbers by their places.
-    Get,
-    /// How often numbers stand before places.
-    Rank,
-    /// Places of numbers.
-    Select,
-}
-
-impl Batch {
-    /// Each batch once.
-    const ALL: [Batch; 3] = [Batch::Get, Batch::Rank, Batch::Select];
-
-    /// Its row's name, of numbers of 8 or of 16 digits.
-    fn name(self, width: u8) -> &'static str {
-        match (self, width) {
-            (Batch::Get, 8) => "numbers8_get",
-            (Batch::Rank, 8) => "numbers8_rank",
-            (Batch::Select, 8) => "numbers8_select",
-            (Batch::Get, _) => "numbers16_get",
-            (Batch::Rank, _) => "numbers16_rank",
-            (Batch::Select, _) => "numbers16_select",
-        }
-    }
-}
-
-/// Places, and numbers with a place before which they are counted, or with how many like them stand before the one
-/// that is sought.
-#[derive(Clone, Copy)]
-struct Asked<'a> {
-    places: &'a [usize],
-    ranked: &'a [(u64, usize)],
-    selected: &'a [(u64, usize)],
-}
-
-/// For each place the number there, and how many like it stand before.
-fn selected<S: SelectForRank101111, S0: Select0ForRank101111>(
-    alloc: Global,
-    matrix: &WaveletMatrix<S, S0>,
-    places: &[usize],
-) -> Result<Vec<(u64, usize)>, AllocError> {
-    let mut asked = Vec::with_capacity(alloc, places.len())?;
-    for place in places {
-        let number = matrix.try_get(*place).unwrap_or(0);
-        asked.push((number, matrix.try_rank(number, *place).unwrap_or(0)))?;
-    }
-    Ok(asked)
-}
-
-/// For each place another's number.
+/// For each place the number of another with that place.
 fn ranked<S: SelectForRank101111, S0: Select0ForRank101111>(
     alloc: Global,
     matrix: &WaveletMatrix<S, S0>,
     places: &[usize],
-) -> Result<Vec<(u64, usize)>, AllocError> {
-    let mut asked = Vec::with_capacity(alloc, places.len())?;
+) -> Result<Vec<Pair>, AllocError> {
+    let mut ranked = Vec::with_capacity(alloc, places.len())?;
     for place in places {
         let other = place.wrapping_add(1) % matrix.len().max(1);
-        asked.push((matrix.try_get(other).unwrap_or(0), *place))?;
+        ranked.push((matrix.try_get(other).unwrap_or(0), *place))?;
     }
-    Ok(asked)
+    Ok(ranked)
 }
 
-/// Times the calls of a matrix, and prints their rows.
-fn call_rows<S: SelectForRank101111, S0: Select0ForRank101111>(
-    rt: &(impl Print + CpuClock),
-    of: Of,
-    rounds: u32,
-    by: &str,
+/// For each place the number there, with how many like it stand before.
+fn selected<S: SelectForRank101111, S0: Select0ForRank101111>(
+    alloc: Global,
     matrix: &WaveletMatrix<S, S0>,
-    asked: Asked<'_>,
-) -> anyhow::Result<()> {
-    for batch in Batch::ALL {
-        let mut least = u64::MAX;
-        let mut check = 0;
-        for _ in 0..rounds {
-            let start = used(rt)?;
-            check = match batch {
-                Batch::Get => gets(matrix, asked.places),
-                Batch::Rank => ranks(matrix, asked.ranked),
-                Batch::Select => selects(matrix, asked.selected),
-            };
-            least = least.min(used(rt)?.saturating_sub(start));
-        }
-        print_row(
-            rt,
-            of,
-            batch.name(matrix.width()),
-            by,
-            least,
-            QUERIES,
-            check,
-        )?;
+    places: &[usize],
+) -> Result<Vec<Pair>, AllocError> {
+    let mut selected = Vec::with_capacity(alloc, places.len())?;
+    for place in places {
+        let number = matrix.try_get(*place).unwrap_or(0);
+        selected.push((number, matrix.try_rank(number, *place).unwrap_or(0)))?;
     }
+    Ok(selected)
+}
+
+/// Adds the row of numbers by their places.
+fn add_get<'a, S: SelectForRank101111, S0: Select0ForRank101111>(
+    bench: &mut Bench<'a>,
+    label: Label<'a>,
+    matrix: &WaveletMatrix<S, S0>,
+    places: &[usize],
+) {
+    bench.each(label, places, |place| Some(matrix.try_get(place)? as usize));
+}
+
+/// Adds the row of ranks.
+fn add_rank<'a, S: SelectForRank101111, S0: Select0ForRank101111>(
+    bench: &mut Bench<'a>,
+    label: Label<'a>,
+    matrix: &WaveletMatrix<S, S0>,
+    places: &[usize],
+) -> Result<(), AllocError> {
+    let ranked = ranked(bench.alloc(), matrix, places)?;
+    bench.each(
+        label,
+        ranked.as_slice(),
+        |it: Pair| matrix.try_rank(it.0, it.1),
+    );
     Ok(())
 }
 
-/// Builds a matrix and prints its rows.
-fn matrix_rows<S: SelectForRank101111 + GetSize, S0: Select0ForRank101111 + GetSize>(
-    rt: &(impl Print + CpuClock + AllocGlobal),
-    of: Of,
-    rounds: u32,
-    by: &str,
+/// Adds the row of selections.
+fn add_select<'a, S: SelectForRank101111, S0: Select0ForRank101111>(
+    bench: &mut Bench<'a>,
+    label: Label<'a>,
+    matrix: &WaveletMatrix<S, S0>,
+    places: &[usize],
+) -> Result<(), AllocError> {
+    let selected = selected(bench.alloc(), matrix, places)?;
+    bench.each(
+        label,
+        selected.as_slice(),
+        |it: Pair| matrix.try_select(it.0, it.1),
+    );
+    Ok(())
+}
+
+/// Builds a matrix and adds its rows.
+pub(crate) fn add_matrix<'a, S: SelectForRank101111 + GetSize, S0: Select0ForRank101111 + GetSize>(
+    bench: &mut Bench<'a>,
+    by: &'a str,
     numbers: &[u64],
     width: u8,
-) -> anyhow::Result<()>
+) -> Result<(), AllocError>
     requires some { 1 ≤ width }
     requires few { width ≤ 16 }
     requires fit { All (λ x. x < 2 ^ width) numbers.now }
     requires short { length numbers.now < 2 ^ 40 }
 {
-    let len = numbers.len();
-    let start = used(rt)?;
-    let matrix = WaveletMatrix::<S, S0>::build(rt.alloc(), numbers, width)?;
-    let built = used(rt)?.saturating_sub(start);
-    let (build, space) = match width {
-        8 => ("numbers8_build_a_number", "numbers8_space_a_number"),
-        _ => ("numbers16_build_a_number", "numbers16_space_a_number"),
-    };
-    print_row(rt, of, build, by, built, len, len)?;
-    let bytes = matrix.size_bytes_dyn();
-    let bits = (bytes as u64).saturating_mul(8);
-    print_quotient(rt, of, space, by, (bits, len, "bits"), bytes)?;
-    let places = queries(rt.alloc(), QUERIES, len)?;
-    let ranked = ranked(rt.alloc(), &matrix, places.as_slice())?;
-    let selected = selected(rt.alloc(), &matrix, places.as_slice())?;
-    let asked = Asked {
-        places: places.as_slice(),
-        ranked: ranked.as_slice(),
-        selected: selected.as_slice(),
-    };
-    call_rows(rt, of, rounds, by, &matrix, asked)
+    let [build, space, get, rank, select] = if width == 8 { OF_8 } else { OF_16 };
+    let begun = bench.used();
+    let matrix = WaveletMatrix::<S, S0>::build(bench.alloc(), numbers, width)?;
+    bench.add_since(begun, Label(build, by), numbers.len());
+    bench.add_space(Label(space, by), matrix.size_bytes_dyn(), numbers.len());
+    add_calls(
+        bench,
+        [Label(get, by), Label(rank, by), Label(select, by)],
+        &matrix,
+    )
 }
 
-/// Samples of the density that the documents speak of.
-type Sampled = CombinedSampling<AdaptiveCombinedSamplingDensity<13>>;
-
-/// Prints the rows of so many numbers, of 8 and of 16 digits, as a sixteenth of the content's bits.
-pub(crate) fn print(
-    rt: &(impl Print + CpuClock + AllocGlobal),
-    of: Of,
-    rounds: u32,
-) -> anyhow::Result<()>
-    requires { of.log2 < 40 }
-{
-    for width in [8u8, 16] {
-        let drawn = numbers(rt.alloc(), 1 << of.log2 >> 4, width)?;
-        let list = drawn.as_slice();
-        if list.len() < 1 << 40 && all_fit(list, width) {
-            matrix_rows::<BinaryRankSearch, BinaryRankSearch>(
-                rt, of, rounds, "binary", list, width,
-            )?;
-            matrix_rows::<Sampled, Sampled>(rt, of, rounds, "sampled", list, width)?;
-        }
-    }
-    Ok(())
+/// Adds the rows of a matrix's calls.
+fn add_calls<'a, S: SelectForRank101111, S0: Select0ForRank101111>(
+    bench: &mut Bench<'a>,
+    [get, rank, select]: [Label<'a>; 3],
+    matrix: &WaveletMatrix<S, S0>,
+) -> Result<(), AllocError> {
+    let places = queries(bench.alloc(), matrix.len())?;
+    add_get(bench, get, matrix, places.as_slice());
+    add_rank(bench, rank, matrix, places.as_slice())?;
+    add_select(bench, select, matrix, places.as_slice())
 }

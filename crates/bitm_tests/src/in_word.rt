@@ -22,56 +22,41 @@ fn found(n: u64, rank: u8) -> Option<u8> {
 }
 
 #[test]
-fn each_of_eight_ones_is_selected_by_its_rank(rt: HostRuntime) {
-    for place in [0, 1, 7, 12, 23, 31, 46, 53, 63] {
-        assert!(rt; selected_in_word(1 << place, 0) == Some(place));
-    }
-    let places = [
-        (0, 2),
-        (1, 7),
-        (2, 15),
-        (3, 25),
-        (4, 33),
-        (5, 47),
-        (6, 60),
-        (7, 61),
-    ];
-    for (rank, place) in places {
-        assert!(rt; selected_in_word(EIGHT_ONES, rank) == Some(place));
-        assert!(rt; found(EIGHT_ONES, rank) == Some(place));
-    }
-    assert!(rt; selected_in_word(EIGHT_ONES, 8) == None);
-}
-
-#[test]
-fn ones_at_the_ends_of_words_and_bytes_are_selected(rt: HostRuntime) {
+fn ones_are_selected_by_their_ranks(rt: HostRuntime) {
     let rows = [
+        (EIGHT_ONES, 0, Some(2)),
+        (EIGHT_ONES, 1, Some(7)),
+        (EIGHT_ONES, 2, Some(15)),
+        (EIGHT_ONES, 3, Some(25)),
+        (EIGHT_ONES, 4, Some(33)),
+        (EIGHT_ONES, 5, Some(47)),
+        (EIGHT_ONES, 6, Some(60)),
+        (EIGHT_ONES, 7, Some(61)),
+        (EIGHT_ONES, 8, None),
         (0x8000_0000_0000_0001, 1, Some(63)),
         (0xFF00_0000_0000_0000, 0, Some(56)),
         (0xFF00_0000_0000_0000, 7, Some(63)),
         (0, 0, None),
-        (u64::MAX, 63, Some(63)),
         (u64::MAX, 64, None),
     ];
     for (n, rank, place) in rows {
         assert!(rt; selected_in_word(n, rank) == place);
-        assert!(rt; found(n, rank) == place);
     }
 }
 
 #[test]
 fn each_rank_is_selected_as_bit_by_bit(rt: HostRuntime) {
     for rank in 0..64u8 {
-        assert!(rt; selected_in_word(u64::MAX, rank) == Some(rank));
-        assert!(rt; found(u64::MAX, rank) == Some(rank));
-        assert!(rt; selected_in_word(1 << rank, 0) == Some(rank));
-        assert!(rt; found(1 << rank, 0) == Some(rank));
+        for n in [
+            u64::MAX,
+            1 << rank,
+            0x0101_0101_0101_0101,
+            EIGHT_ONES,
+            0xFFFF_0000_0000_0000,
+        ] {
+            assert!(rt; selected_in_word(n, rank) == found(n, rank));
+        }
     }
-    for rank in 0..8u8 {
-        assert!(rt; selected_in_word(0x0101_0101_0101_0101, rank) == Some(8 * rank));
-        assert!(rt; found(0x0101_0101_0101_0101, rank) == Some(8 * rank));
-    }
-    assert!(rt; selected_in_word(0x0101_0101_0101_0101, 8) == None);
 }
 
 /// How many sums of bytes are at most `r`.

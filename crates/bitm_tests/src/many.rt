@@ -2,31 +2,66 @@
 //! with their lowest bit alone set, the one of rank r is at 64 r and the zero of rank r at r + r / 63 + 1, and the ones
 //! before place p are p / 64, rounded up; of empty words before full ones, the one of rank r is r after the empty ones,
 //! and the zero of rank r is at r. Full words at the end mislead a guess.
-use bitm::RankSelect101111;
-use index_tests::walk::{Sampled, index_over, words_of};
+use bitm::{BinaryRankSearch, RankSelect101111};
 use std::alloc::{AllocError, Global};
-use std::process::Abort;
 use uses::many::{try_rank_many, try_select_many, try_select0_many};
 
 /// An index over words that are lent.
-type Index<'a> = RankSelect101111<Sampled, Sampled, &'a [u64]>;
+type Index<'a> = RankSelect101111<BinaryRankSearch, BinaryRankSearch, &'a [u64]>;
 
-/// So many numbers below a limit, the greatest of them first, and the others far apart.
-fn spread(alloc: Global, count: usize, limit: usize) -> Result<Vec<usize>, AllocError> {
-    let mut numbers = Vec::new(alloc);
-    for k in 0..count {
-        let below = k.wrapping_mul(1_000_003).checked_rem(limit).unwrap_or(0);
-        numbers.push(limit.wrapping_sub(1).wrapping_sub(below))?;
-    }
-    Ok(numbers)
-}
-
-/// The three calls, by their bits.
-#[derive(Clone, Copy, Debug)]
+/// The three calls.
+#[derive(Clone, Copy)]
 enum Call {
     Rank,
     Select,
     Select0,
+}
+
+/// A content: so many empty words before so many full ones, or, with none empty, so many with their lowest bit set.
+#[derive(Clone, Copy)]
+struct Content {
+    empty: usize,
+    rest: usize,
+}
+
+impl Content {
+    /// Its words.
+    fn words(self, alloc: Global) -> Result<Vec<u64>, AllocError> {
+        let mut words = vec![in alloc; 0u64; self.empty]?;
+        let word = if self.empty == 0 { 1 } else { u64::MAX };
+        for _ in 0..self.rest {
+            words.push(word)?;
+        }
+        Ok(words)
+    }
+
+    /// What a call of it has an answer below.
+    fn limit(self, call: Call) -> usize {
+        let lowest = self.empty == 0;
+        let (ones, zeros) = if lowest { (1, 63) } else { (64, 0) };
+        let zeros = 64usize
+            .wrapping_mul(self.empty)
+            .wrapping_add(self.rest.wrapping_mul(zeros));
+        let ones = self.rest.wrapping_mul(ones);
+        match call {
+            Call::Rank => ones.wrapping_add(zeros).wrapping_add(1),
+            Call::Select => ones,
+            Call::Select0 => zeros,
+        }
+    }
+
+    /// What it answers.
+    fn expected(self, call: Call, asked: usize) -> usize {
+        let before = self.empty.wrapping_mul(64);
+        match (call, self.empty) {
+            (Call::Rank, 0) => asked.div_ceil(64),
+            (Call::Select, 0) => asked.wrapping_mul(64),
+            (Call::Select0, 0) => asked.wrapping_add(asked / 63).wrapping_add(1),
+            (Call::Rank, _) => asked.saturating_sub(before),
+            (Call::Select, _) => asked.wrapping_add(before),
+            (Call::Select0, _) => asked,
+        }
+    }
 }
 
 /// Asks one of the calls; says whether each query has an answer.
@@ -41,90 +76,51 @@ fn ask(index: &Index<'_>, call: Call, queries: &[usize], answers: &mut [usize]) 
     }
 }
 
-/// Compares the answers to no query, to one, and to blocks of queries that are whole and that are not, each below a
-/// limit, with what is expected of each query. The limit itself has no answer, and then none is written.
-fn expect_each<F: Fn(usize) -> usize>(
-    rt: &impl Abort,
+/// Whether so many queries below the limit, far apart, are answered, and with the limit beside them none is.
+fn agrees(
     alloc: Global,
     index: &Index<'_>,
+    content: Content,
     call: Call,
-    limit: usize,
-    expected: F,
-) -> Result<(), AllocError>
-    requires { F.IsAlwaysCallable expected }
-{
-    for count in [0, 1, 16, 17, 33, 1000] {
-        let mut queries = spread(alloc, count, limit)?;
-        let mut answers = vec![in alloc; usize::MAX; count]?;
-        assert!(rt; ask(index, call, queries.as_slice(), answers.as_mut_slice()));
-        for (query, answer) in queries.iter().zip(answers.iter()) {
-            assert!(rt; *answer == expected(*query));
+    count: usize,
+) -> Result<bool, AllocError> {
+    let limit = content.limit(call);
+    let mut queries = Vec::new(alloc);
+    for k in 0..count {
+        let below = k.wrapping_mul(1_000_003) % limit.max(1);
+        queries.push(limit.wrapping_sub(1).wrapping_sub(below))?;
+    }
+    let mut answers = vec![in alloc; usize::MAX; count]?;
+    let mut agrees = ask(index, call, queries.as_slice(), answers.as_mut_slice());
+    for (query, answer) in queries.iter().zip(answers.iter()) {
+        agrees &= *answer == content.expected(call, *query);
+    }
+    queries.push(limit)?;
+    answers.push(7)?;
+    agrees &= !ask(index, call, queries.as_slice(), answers.as_mut_slice());
+    Ok(agrees && answers.last().copied() == Some(7))
+}
+
+#[test]
+fn many_queries_are_answered(rt: HostRuntime) -> Result<(), AllocError> {
+    for (empty, rest) in [
+        (0, 3),
+        (0, 140_000),
+        (2, 1),
+        (20_000, 500),
+        (139_000, 1_000),
+    ] {
+        let content = Content { empty, rest };
+        let words = content.words(rt.alloc())?;
+        assert!(rt; words.len() < 1_000_000);
+        let Ok((index, _)) = Index::build(rt.alloc(), words.as_slice()) else {
+            return Err(AllocError);
+        };
+        for call in [Call::Rank, Call::Select, Call::Select0] {
+            for count in [0, 1, 16, 17, 33, 1000] {
+                assert!(rt; agrees(rt.alloc(), &index, content, call, count)?);
+            }
         }
-        queries.push(limit)?;
-        answers.push(7)?;
-        assert!(rt; !ask(index, call, queries.as_slice(), answers.as_mut_slice()));
-        assert!(rt; answers.last().copied() == Some(7));
-    }
-    Ok(())
-}
-
-#[test]
-fn many_queries_of_the_lowest_bit_of_each_word_are_answered(
-    rt: HostRuntime,
-) -> Result<(), AllocError> {
-    for len in [3, 140_000usize] {
-        let words = words_of(rt.alloc(), &[(1, len)])?;
-        let (index, _) = index_over::<Sampled, Sampled>(rt.alloc(), words.as_slice())?;
-        let (bits, zeros) = (len.wrapping_mul(64), len.wrapping_mul(63));
-        let (alloc, ask) = (rt.alloc(), &index);
-        expect_each(
-            &rt,
-            alloc,
-            ask,
-            Call::Rank,
-            bits.wrapping_add(1),
-            |p| p.div_ceil(64),
-        )?;
-        expect_each(&rt, alloc, ask, Call::Select, len, |r| r.wrapping_mul(64))?;
-        expect_each(
-            &rt,
-            alloc,
-            ask,
-            Call::Select0,
-            zeros,
-            |r| r.wrapping_add(r / 63).wrapping_add(1),
-        )?;
-    }
-    Ok(())
-}
-
-#[test]
-fn many_queries_of_full_words_behind_empty_ones_are_answered(
-    rt: HostRuntime,
-) -> Result<(), AllocError> {
-    for (empty, full) in [(2usize, 1usize), (20_000, 500), (139_000, 1_000)] {
-        let words = words_of(rt.alloc(), &[(0, empty), (u64::MAX, full)])?;
-        let (index, _) = index_over::<Sampled, Sampled>(rt.alloc(), words.as_slice())?;
-        let (zeros, ones) = (empty.wrapping_mul(64), full.wrapping_mul(64));
-        let limit = zeros.wrapping_add(ones).wrapping_add(1);
-        let (alloc, ask) = (rt.alloc(), &index);
-        expect_each(
-            &rt,
-            alloc,
-            ask,
-            Call::Rank,
-            limit,
-            |p| p.saturating_sub(zeros),
-        )?;
-        expect_each(
-            &rt,
-            alloc,
-            ask,
-            Call::Select,
-            ones,
-            |r| r.wrapping_add(zeros),
-        )?;
-        expect_each(&rt, alloc, ask, Call::Select0, zeros, |r| r)?;
     }
     Ok(())
 }

@@ -1,13 +1,11 @@
 //! Tests of the index and of its strategies, a file a topic; the name of a test is the sentence that it shows. Why they
-//! are tested, although they are proved, stands in `bitm_tests`, whose tests compare by `walk` too.
+//! are tested, although they are proved, stands in `bitm_tests`.
 #![tactic(auto)]
 
 #[cfg(test)]
 mod contents;
 #[cfg(test)]
 mod every_place;
-#[cfg(test)]
-mod kept_samples;
 #[cfg(test)]
 mod large;
 #[cfg(test)]
@@ -16,4 +14,5 @@ mod logarithms;
 mod samples;
 #[cfg(test)]
 mod simple;
-pub mod walk;
+#[cfg(test)]
+mod walk;

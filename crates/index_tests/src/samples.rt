@@ -1,12 +1,7 @@
-//! Selection by samples: how many are kept, and what the index selects by them, worked out by hand.
-use crate::walk::{Sampled, index_over, one_agrees, zero_agrees};
-use bitm::{
-    BinaryRankSearch, BitVec, CombinedSampling, ConstCombinedSamplingDensity, RankSelect101111,
-};
-use std::alloc::{AllocError, Global};
-use std::boxed::BoxedSlice;
-use std::convert::AsSlice;
-use std::process::Abort;
+//! Selection by samples: those that are kept, and what the index selects by them, worked out by hand.
+//! `replay_original` compares others with those of the original crate.
+use crate::walk::{Sampled, index_over, one_agrees, words_of, zero_agrees};
+use bitm::{BinaryRankSearch, CombinedSampling, ConstCombinedSamplingDensity};
 use std::test::Fail;
 
 /// One sample for each 2^`LOG` items.
@@ -45,48 +40,32 @@ fn a_logarithm_below_seven_keeps_the_samples_of_seven(rt: HostRuntime) -> Result
     Ok(())
 }
 
-/// Words of which the first and the last are full and the others empty.
-fn full_ends(alloc: Global, len: usize) -> Result<BoxedSlice<u64, Global>, AllocError> {
-    let mut content = BoxedSlice::with_zeroed_64bit_segments(alloc, len)?;
-    let words = content.as_mut_slice();
-    if let Some(word) = words.first_mut() {
-        *word = u64::MAX;
-    }
-    if let Some(word) = words.last_mut() {
-        *word = u64::MAX;
-    }
-    Ok(content)
-}
-
-/// Compares what an index over full ends selects, by one sample, with the rows.
-fn expect_full_ends(
-    rt: &impl Abort,
-    alloc: Global,
-    len: usize,
-    rows: &[(usize, Option<usize>)],
-) -> Result<(), Fail> {
-    let content = full_ends(alloc, len)?;
-    assert!(rt; content.as_slice().len() < 100_000);
-    match RankSelect101111::<Each<7>, BinaryRankSearch, _>::build(alloc, content) {
-        Ok((index, _)) => {
-            assert!(rt; index.select_support().sample_count() == 1);
-            for (rank, place) in rows {
-                assert!(rt; one_agrees(&index, *rank, *place));
-            }
-        }
-        Err(_) => panic!(rt; "no memory"),
+#[test]
+fn a_sample_has_the_distance_to_its_middle_item(rt: HostRuntime) -> Result<(), Fail> {
+    let words = words_of(rt.alloc(), &[(u64::MAX, 1), (0, 62), (u64::MAX, 1)])?;
+    let (index, _) = index_over::<Each<7>, BinaryRankSearch>(rt.alloc(), words.as_slice())?;
+    assert!(rt; index.select_support().samples() == [0x0020_0000].as_slice());
+    for (rank, place) in [(64, Some(4032)), (127, Some(4095)), (128, None)] {
+        assert!(rt; one_agrees(&index, rank, place));
     }
     Ok(())
 }
 
 #[test]
-fn one_sample_selects_in_two_entries(rt: HostRuntime) -> Result<(), Fail> {
-    let rows = [(64, Some(4032)), (127, Some(4095))];
-    expect_full_ends(&rt, rt.alloc(), 64, rows.as_slice())
-}
-
-#[test]
 fn one_sample_selects_past_the_distance_that_it_keeps(rt: HostRuntime) -> Result<(), Fail> {
-    let rows = [(63, Some(63)), (64, Some(6_144_000)), (128, None)];
-    expect_full_ends(&rt, rt.alloc(), 96_001, rows.as_slice())
+    let words = words_of(rt.alloc(), &[(u64::MAX, 1), (0, 95_999), (u64::MAX, 1)])?;
+    let (index, _) = index_over::<Sampled, Sampled>(rt.alloc(), words.as_slice())?;
+    let (ones, zeros) = (index.select_support(), index.select0_support());
+    assert!(rt; ones.samples() == [0xFFE0_0000].as_slice());
+    assert!(rt; (ones.starts(), zeros.starts()) == ([0].as_slice(), [0].as_slice()));
+    for (rank, place) in [(63, Some(63)), (64, Some(6_144_000)), (128, None)] {
+        assert!(rt; one_agrees(&index, rank, place));
+    }
+    assert!(rt; zeros.samples().len() == 750);
+    let mut wanted = 0x40_0000u32;
+    for sample in zeros.samples() {
+        assert!(rt; *sample == wanted);
+        wanted = wanted.wrapping_add(4);
+    }
+    Ok(())
 }

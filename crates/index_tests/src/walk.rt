@@ -1,6 +1,6 @@
 //! What the tests share: indexes over words, one walk over their bits, which counts them one by one, and whether what
-//! an index answers agrees with it. The walk stands on a read of one bit and on nothing of the index. A library may
-//! not end its caller, so each call says whether all agrees, and a test asserts it.
+//! an index answers agrees with it. The walk stands on a read of one bit and on nothing of the index. Each call says
+//! whether all agrees, and a test asserts it.
 use bitm::{
     AdaptiveCombinedSamplingDensity, ArrayWithRank101111, BitAccess, CombinedSampling, Rank,
     RankSelect101111, Select, Select0, Select0ForRank101111, SelectForRank101111,
@@ -132,13 +132,6 @@ pub fn all_agree<S: SelectForRank101111, S0: Select0ForRank101111>(
 ) -> Result<bool, AllocError> {
     let found = walk(alloc, words)?;
     let (index, total) = index_over::<S, S0>(alloc, words)?;
-    Ok(total == found.ones.len() && all_found(&index, &found))
-}
-
-/// Whether all answers over words that the index owns, and the number of ones, are those of a walk.
-pub fn all_agree_owned(alloc: Global, words: &[u64]) -> Result<bool, AllocError> {
-    let found = walk(alloc, words)?;
-    let (index, total) = owned(alloc, words)?;
     Ok(total == found.ones.len() && all_found(&index, &found))
 }
 

@@ -6,7 +6,6 @@
 //! one line has to say so: else a call has overlooked it.
 #![tactic(auto)]
 
-mod calls;
 mod numbers;
 mod outcome;
 mod packed;
@@ -17,34 +16,28 @@ mod tries;
 mod uncopied;
 mod words;
 
-use calls::all;
-use outcome::Outcome;
+use outcome::{Ended, Outcome};
 use std::io;
 use std::process::ExitCode;
-use tries::TrieCall;
 
 fn main(rt: HostRuntime) -> io::Result<ExitCode> {
     let alloc = rt.alloc();
-    let mut ended = ExitCode::SUCCESS;
-    for call in all() {
-        if !report(&rt, call.name(), call.run(alloc))? {
-            ended = ExitCode::FAILURE;
-        }
-    }
-    for call in TrieCall::ALL {
-        if !report(&rt, call.name(), call.run(alloc))? {
-            ended = ExitCode::FAILURE;
-        }
-    }
-    Ok(ended)
+    let mut wrong = report(&rt, words::ended(alloc).as_slice())?;
+    wrong |= report(&rt, simple::ended(alloc).as_slice())?;
+    wrong |= report(&rt, packed::ended(alloc).as_slice())?;
+    wrong |= report(&rt, sequences::ended(alloc).as_slice())?;
+    wrong |= report(&rt, numbers::ended(alloc).as_slice())?;
+    wrong |= report(&rt, trees::ended(alloc).as_slice())?;
+    wrong |= report(&rt, tries::ended(alloc).as_slice())?;
+    Ok(ExitCode::from(wrong as u8))
 }
 
-/// Prints how a call ended, and answers whether that is right.
-fn report(rt: &HostRuntime, name: &str, outcome: Outcome) -> io::Result<bool> {
-    let word = outcome.name();
-    println!(rt; "{name} {word}")?;
-    match outcome {
-        Outcome::Wrong => Ok(false),
-        _ => Ok(true),
+/// Prints how each call ended, and answers whether one is wrong.
+fn report(rt: &HostRuntime, calls: &[Ended]) -> io::Result<bool> {
+    let mut wrong = false;
+    for (name, outcome) in calls {
+        println!(rt; "{name} {}", outcome.name())?;
+        wrong |= matches!(outcome, Outcome::Wrong);
     }
+    Ok(wrong)
 }

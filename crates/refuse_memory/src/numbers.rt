@@ -1,5 +1,5 @@
 //! The calls of a matrix, of a perfect hash and of a dictionary that take memory.
-use crate::outcome::{Outcome, answered, refused};
+use crate::outcome::{Ended, Outcome, answered, refused};
 use bitm::ArrayWithRank101111;
 use perfect_hash::{BuildError, Dictionary, PerfectHash, Seeded, build};
 use std::alloc::{AllocError, Global};
@@ -13,11 +13,22 @@ type Numbered = PerfectHash<Seeded, ArrayWithRank101111>;
 
 /// Whether a matrix of `NUMBERS` answers as it has to.
 fn is_right(matrix: &BinaryWaveletMatrix) -> bool {
-    matrix.try_get(2) == Some(4)
-        && matrix.try_get(6) == None
-        && matrix.try_rank(1, 4) == Some(2)
-        && matrix.try_select(1, 2) == Some(5)
-        && matrix.try_select(1, 3) == None
+    let places = [2, 3].map(|rank| matrix.try_select(1, rank));
+    let at = (matrix.try_get(2), matrix.try_get(6), matrix.try_rank(1, 4));
+    at == (Some(4), None, Some(2)) && places == [Some(5), None]
+}
+
+/// Each call of a matrix, of a perfect hash and of a dictionary.
+pub fn ended(alloc: Global) -> [Ended; 7] {
+    [
+        ("matrix-build", matrix_built(alloc)),
+        ("matrix-build-with-starts", starts_kept(alloc)),
+        ("matrix-try-clone", matrix_cloned(alloc)),
+        ("matrix-intersect", matrix_shared(alloc)),
+        ("hash-build", hash_built(alloc)),
+        ("hash-try-clone", hash_cloned(alloc)),
+        ("dictionary-build", dictionary_built(alloc)),
+    ]
 }
 
 /// A matrix of `NUMBERS`.
@@ -26,7 +37,7 @@ fn matrix(alloc: Global) -> Result<BinaryWaveletMatrix, AllocError> {
 }
 
 /// A matrix.
-pub fn matrix_built(alloc: Global) -> Outcome {
+fn matrix_built(alloc: Global) -> Outcome {
     let numbers = NUMBERS;
     match BinaryWaveletMatrix::build(alloc, numbers.as_slice(), 3) {
         Ok(made) => answered(is_right(&made)),
@@ -35,7 +46,7 @@ pub fn matrix_built(alloc: Global) -> Outcome {
 }
 
 /// A matrix that keeps where each number starts: of 2000 ones of one digit.
-pub fn starts_kept(alloc: Global) -> Outcome {
+fn starts_kept(alloc: Global) -> Outcome {
     let numbers = [1u64; 2000];
     match BinaryWaveletMatrix::build(alloc, numbers.as_slice(), 1) {
         Ok(made) => {
@@ -47,7 +58,7 @@ pub fn starts_kept(alloc: Global) -> Outcome {
 }
 
 /// A clone of one.
-pub fn matrix_cloned(alloc: Global) -> Outcome {
+fn matrix_cloned(alloc: Global) -> Outcome {
     let Ok(made) = matrix(alloc) else {
         return Outcome::Unready;
     };
@@ -58,7 +69,7 @@ pub fn matrix_cloned(alloc: Global) -> Outcome {
 }
 
 /// The numbers that two ranges of one share.
-pub fn matrix_shared(alloc: Global) -> Outcome {
+fn matrix_shared(alloc: Global) -> Outcome {
     let Ok(made) = matrix(alloc) else {
         return Outcome::Unready;
     };
@@ -88,7 +99,7 @@ fn numbers_each(made: &Numbered) -> bool {
 }
 
 /// A perfect hash. Its hasher comes back.
-pub fn hash_built(alloc: Global) -> Outcome {
+fn hash_built(alloc: Global) -> Outcome {
     let keys = KEYS;
     match build(alloc, Seeded { seed: 1 }, keys.as_slice(), 100) {
         Ok(made) => answered(numbers_each(&made)),
@@ -103,7 +114,7 @@ pub fn hash_built(alloc: Global) -> Outcome {
 }
 
 /// A clone of one.
-pub fn hash_cloned(alloc: Global) -> Outcome {
+fn hash_cloned(alloc: Global) -> Outcome {
     let Ok(made) = build(alloc, Seeded { seed: 1 }, KEYS.as_slice(), 100) else {
         return Outcome::Unready;
     };
@@ -114,7 +125,7 @@ pub fn hash_cloned(alloc: Global) -> Outcome {
 }
 
 /// A dictionary. Its perfect hash comes back.
-pub fn dictionary_built(alloc: Global) -> Outcome {
+fn dictionary_built(alloc: Global) -> Outcome {
     let keys = KEYS;
     let Ok(made) = build(alloc, Seeded { seed: 1 }, keys.as_slice(), 100) else {
         return Outcome::Unready;

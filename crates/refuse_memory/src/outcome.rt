@@ -25,6 +25,9 @@ impl Outcome {
     }
 }
 
+/// A call, by the word that its line begins with, and how it ended.
+pub type Ended = (&'static str, Outcome);
+
 /// The outcome of a call that answered.
 pub fn answered(right: bool) -> Outcome {
     if right {

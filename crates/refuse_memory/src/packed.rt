@@ -1,7 +1,7 @@
 //! The calls of the packed index and of its strategies that take memory.
 ghost use Rattle.bitm.specs.Bits.{IsShort};
 
-use crate::outcome::{Outcome, WORDS, answered, refused};
+use crate::outcome::{Ended, Outcome, WORDS, answered, refused};
 use crate::uncopied::Uncopied;
 use bitm::{
     AdaptiveCombinedSamplingDensity, BinaryRankSearch, CombinedSampling, Rank, RankSelect101111,
@@ -12,10 +12,10 @@ use std::boxed::BoxedSlice;
 use std::convert::AsSlice;
 
 /// The strategy that keeps a list of all places, as a user writes it.
-pub use uses::strategies::listed::Listed;
+use uses::strategies::listed::Listed;
 
 /// Samples that each stand for 128 bits of the kind.
-pub type Samples = CombinedSampling<AdaptiveCombinedSamplingDensity<7>>;
+type Samples = CombinedSampling<AdaptiveCombinedSamplingDensity<7>>;
 
 /// An index over words that are lent.
 type LentIndex<'a> = RankSelect101111<BinaryRankSearch, BinaryRankSearch, &'a [u64]>;
@@ -27,17 +27,34 @@ type OwnedIndex<S> = RankSelect101111<S, S, BoxedSlice<u64, Global>>;
 fn is_right<S: SelectForRank101111, S0: Select0ForRank101111, BV: AsSlice<u64>>(
     index: &RankSelect101111<S, S0, BV>,
 ) -> bool {
+    let ranks = [66, 8256, 8320, 8321].map(|place| index.try_rank(place));
+    let ones = [4, 389, 390].map(|rank| index.try_select(rank));
+    let zeros = [0, 7929, 7930].map(|rank| index.try_select0(rank));
     index.as_slice() == WORDS.as_slice()
-        && index.try_rank(66) == Some(4)
-        && index.try_rank(8256) == Some(387)
-        && index.try_rank(8320) == Some(390)
-        && index.try_rank(8321) == None
-        && index.try_select(4) == Some(66)
-        && index.try_select(389) == Some(8259)
-        && index.try_select(390) == None
-        && index.try_select0(0) == Some(1)
-        && index.try_select0(7929) == Some(8319)
-        && index.try_select0(7930) == None
+        && ranks == [Some(4), Some(387), Some(390), None]
+        && ones == [Some(66), Some(8259), None]
+        && zeros == [Some(1), Some(8319), None]
+}
+
+/// Each call of a packed index and of its strategies.
+pub fn ended(alloc: Global) -> [Ended; 12] {
+    [
+        ("packed-build-lent-binary", lent::<BinaryRankSearch>(alloc)),
+        (
+            "packed-build-owned-binary",
+            owned::<BinaryRankSearch>(alloc),
+        ),
+        ("packed-build-lent-sampled", lent::<Samples>(alloc)),
+        ("packed-build-owned-sampled", owned::<Samples>(alloc)),
+        ("packed-build-lent-listed", lent::<Listed>(alloc)),
+        ("packed-build-owned-listed", owned::<Listed>(alloc)),
+        ("sampled-new", sampled_new(alloc)),
+        ("sampled-new0", sampled_new0(alloc)),
+        ("packed-try-clone-binary", cloned::<BinaryRankSearch>(alloc)),
+        ("packed-try-clone-sampled", cloned::<Samples>(alloc)),
+        ("packed-try-clone-listed", cloned::<Listed>(alloc)),
+        ("packed-try-clone-uncopied", uncopied(alloc)),
+    ]
 }
 
 /// An index over the content, which has the words of `WORDS`, with the strategy for both kinds of
@@ -56,12 +73,12 @@ fn over<S: SelectForRank101111 + Select0ForRank101111, BV: AsSlice<u64> + Drop>(
 }
 
 /// Over words that are lent.
-pub fn lent<S: SelectForRank101111 + Select0ForRank101111>(alloc: Global) -> Outcome {
+fn lent<S: SelectForRank101111 + Select0ForRank101111>(alloc: Global) -> Outcome {
     over::<S, &[u64]>(alloc, WORDS.as_slice())
 }
 
 /// Over words that it owns.
-pub fn owned<S: SelectForRank101111 + Select0ForRank101111>(alloc: Global) -> Outcome {
+fn owned<S: SelectForRank101111 + Select0ForRank101111>(alloc: Global) -> Outcome {
     match BoxedSlice::from_slice(alloc, WORDS.as_slice()) {
         Ok(content) => over::<S, BoxedSlice<u64, Global>>(alloc, content),
         Err(AllocError) => Outcome::Unready,
@@ -69,7 +86,7 @@ pub fn owned<S: SelectForRank101111 + Select0ForRank101111>(alloc: Global) -> Ou
 }
 
 /// A clone of one over words that it owns.
-pub fn cloned<S: SelectForRank101111 + Select0ForRank101111>(alloc: Global) -> Outcome {
+fn cloned<S: SelectForRank101111 + Select0ForRank101111>(alloc: Global) -> Outcome {
     let Ok(content) = BoxedSlice::from_slice(alloc, WORDS.as_slice()) else {
         return Outcome::Unready;
     };
@@ -83,7 +100,7 @@ pub fn cloned<S: SelectForRank101111 + Select0ForRank101111>(alloc: Global) -> O
 }
 
 /// A clone of one over a content of which there are no copies.
-pub fn uncopied(alloc: Global) -> Outcome {
+fn uncopied(alloc: Global) -> Outcome {
     type Index<'a> = RankSelect101111<BinaryRankSearch, BinaryRankSearch, Uncopied<'a>>;
     let words = WORDS.as_slice();
     match Index::build(alloc, Uncopied { words }) {
@@ -96,7 +113,7 @@ pub fn uncopied(alloc: Global) -> Outcome {
 }
 
 /// Samples of the ones of an index's content.
-pub fn sampled_new(alloc: Global) -> Outcome {
+fn sampled_new(alloc: Global) -> Outcome {
     let Ok((index, total)) = LentIndex::build(alloc, WORDS.as_slice()) else {
         return Outcome::Unready;
     };
@@ -117,7 +134,7 @@ pub fn sampled_new(alloc: Global) -> Outcome {
 }
 
 /// Samples of the zeros of an index's content.
-pub fn sampled_new0(alloc: Global) -> Outcome {
+fn sampled_new0(alloc: Global) -> Outcome {
     let Ok((index, total)) = LentIndex::build(alloc, WORDS.as_slice()) else {
         return Outcome::Unready;
     };

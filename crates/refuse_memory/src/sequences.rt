@@ -1,5 +1,5 @@
 //! The calls of a sequence that take memory, and those of its users.
-use crate::outcome::{Outcome, answered, refused};
+use crate::outcome::{Ended, Outcome, answered, refused};
 use elias_fano::{EfError, EliasFano};
 use std::alloc::Global;
 use uses::inverted::common;
@@ -8,14 +8,21 @@ const NUMBERS: [u64; 7] = [2, 3, 5, 7, 11, 13, 24];
 
 /// Whether a sequence of `NUMBERS` answers as it has to.
 fn is_right(made: &EliasFano) -> bool {
-    made.try_get(4) == Some(11)
-        && made.try_get(7) == None
-        && made.first_at_least(8) == Some(4)
-        && made.first_at_least(25) == None
+    let places = [8, 25].map(|value| made.first_at_least(value));
+    (made.try_get(4), made.try_get(7)) == (Some(11), None) && places == [Some(4), None]
+}
+
+/// Each call of a sequence.
+pub fn ended(alloc: Global) -> [Ended; 3] {
+    [
+        ("sequence-build", built(alloc)),
+        ("sequence-try-clone", cloned(alloc)),
+        ("sequences-common", shared(alloc)),
+    ]
 }
 
 /// A sequence. Numbers that fall are told before memory is asked for.
-pub fn built(alloc: Global) -> Outcome {
+fn built(alloc: Global) -> Outcome {
     let falls = EliasFano::build(alloc, [3u64, 2].as_slice()).err() == Some(EfError::NotSorted);
     let numbers = NUMBERS;
     match EliasFano::build(alloc, numbers.as_slice()) {
@@ -26,7 +33,7 @@ pub fn built(alloc: Global) -> Outcome {
 }
 
 /// A clone of one.
-pub fn cloned(alloc: Global) -> Outcome {
+fn cloned(alloc: Global) -> Outcome {
     let Ok(made) = EliasFano::build(alloc, NUMBERS.as_slice()) else {
         return Outcome::Unready;
     };
@@ -37,7 +44,7 @@ pub fn cloned(alloc: Global) -> Outcome {
 }
 
 /// The numbers that two of them share.
-pub fn shared(alloc: Global) -> Outcome {
+fn shared(alloc: Global) -> Outcome {
     let Ok(one) = EliasFano::build(alloc, NUMBERS.as_slice()) else {
         return Outcome::Unready;
     };

@@ -1,5 +1,5 @@
 //! The calls of a simple rank that take memory.
-use crate::outcome::{Outcome, WORDS, answered, refused};
+use crate::outcome::{Ended, Outcome, WORDS, answered, refused};
 use crate::uncopied::Uncopied;
 use bitm::{ArrayWithRankSimple, RankSimple};
 use std::alloc::{AllocError, Global};
@@ -8,11 +8,18 @@ use std::convert::AsSlice;
 
 /// Whether a simple rank over `WORDS` answers as it has to.
 fn is_right<BV: AsSlice<u64>>(index: &RankSimple<BV>) -> bool {
-    index.as_slice() == WORDS.as_slice()
-        && index.try_rank(66) == Some(4)
-        && index.try_rank(8256) == Some(387)
-        && index.try_rank(8320) == Some(390)
-        && index.try_rank(8321) == None
+    let ranks = [66, 8256, 8320, 8321].map(|place| index.try_rank(place));
+    index.as_slice() == WORDS.as_slice() && ranks == [Some(4), Some(387), Some(390), None]
+}
+
+/// Each call of a simple rank.
+pub fn ended(alloc: Global) -> [Ended; 4] {
+    [
+        ("simple-build-lent", over(alloc, WORDS.as_slice())),
+        ("simple-build-owned", owned(alloc)),
+        ("simple-try-clone", cloned(alloc)),
+        ("simple-try-clone-uncopied", uncopied(alloc)),
+    ]
 }
 
 /// A simple rank over the content, which has the words of `WORDS`.
@@ -27,13 +34,8 @@ fn over<BV: AsSlice<u64> + Drop>(alloc: Global, content: BV) -> Outcome {
     }
 }
 
-/// Over words that are lent.
-pub fn lent(alloc: Global) -> Outcome {
-    over(alloc, WORDS.as_slice())
-}
-
 /// Over words that it owns.
-pub fn owned(alloc: Global) -> Outcome {
+fn owned(alloc: Global) -> Outcome {
     match BoxedSlice::from_slice(alloc, WORDS.as_slice()) {
         Ok(content) => over(alloc, content),
         Err(_) => Outcome::Unready,
@@ -42,7 +44,7 @@ pub fn owned(alloc: Global) -> Outcome {
 
 /// A clone of one over words that it owns.
 #[tactic(auto, using(bitm::proofs::Callers::few_ones))]
-pub fn cloned(alloc: Global) -> Outcome {
+fn cloned(alloc: Global) -> Outcome {
     let Ok(content) = BoxedSlice::from_slice(alloc, WORDS.as_slice()) else {
         return Outcome::Unready;
     };
@@ -57,7 +59,7 @@ pub fn cloned(alloc: Global) -> Outcome {
 
 /// A clone of one over a content of which there are no copies.
 #[tactic(auto, using(bitm::proofs::Callers::few_ones))]
-pub fn uncopied(alloc: Global) -> Outcome {
+fn uncopied(alloc: Global) -> Outcome {
     let words = WORDS.as_slice();
     match RankSimple::build(alloc, Uncopied { words }) {
         Ok((index, _)) => match index.try_clone(alloc) {

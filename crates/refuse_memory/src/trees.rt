@@ -1,5 +1,5 @@
 //! The calls of a tree that take memory.
-use crate::outcome::{Outcome, answered, refused};
+use crate::outcome::{Ended, Outcome, answered, refused};
 use louds::{BinaryLouds, LoudsError};
 use std::alloc::Global;
 
@@ -13,8 +13,16 @@ fn is_right(tree: &BinaryLouds) -> bool {
     tree.parent(6) == Some(3) && tree.child(1, 1) == Some(5) && tree.child(2, 0) == None
 }
 
+/// Each call of a tree.
+pub fn ended(alloc: Global) -> [Ended; 2] {
+    [
+        ("tree-build", built(alloc)),
+        ("tree-try-clone", cloned(alloc)),
+    ]
+}
+
 /// A tree.
-pub fn built(alloc: Global) -> Outcome {
+fn built(alloc: Global) -> Outcome {
     let degrees = DEGREES;
     match BinaryLouds::build(alloc, degrees.as_slice()) {
         Ok(tree) => answered(is_right(&tree)),
@@ -24,7 +32,7 @@ pub fn built(alloc: Global) -> Outcome {
 }
 
 /// A clone of one.
-pub fn cloned(alloc: Global) -> Outcome {
+fn cloned(alloc: Global) -> Outcome {
     let Ok(tree) = BinaryLouds::build(alloc, DEGREES.as_slice()) else {
         return Outcome::Unready;
     };

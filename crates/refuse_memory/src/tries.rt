@@ -1,5 +1,5 @@
 //! The calls of trees by their parents and of trees with labels that take memory.
-use crate::outcome::{Outcome, answered, refused};
+use crate::outcome::{Ended, Outcome, answered, refused};
 use louds::{BinaryLouds, LabelsError, LoudsError, SampledTrie};
 use std::alloc::Global;
 
@@ -9,43 +9,14 @@ const DEGREES: [usize; 5] = [2, 2, 0, 0, 0];
 
 const LABELS: [u64; 5] = [0, 1, 9, 4, 7];
 
-/// A call that takes memory.
-#[derive(Clone, Copy)]
-pub enum TrieCall {
-    FromParents,
-    Built,
-    Word,
-    Clone,
-}
-
-impl TrieCall {
-    /// Each call once, in the order in which they are made.
-    pub const ALL: [TrieCall; 4] = [
-        TrieCall::FromParents,
-        TrieCall::Built,
-        TrieCall::Word,
-        TrieCall::Clone,
-    ];
-
-    /// The word that its line begins with.
-    pub fn name(self) -> &'static str {
-        match self {
-            TrieCall::FromParents => "tree-from-parents",
-            TrieCall::Built => "trie-build",
-            TrieCall::Word => "trie-word",
-            TrieCall::Clone => "trie-try-clone",
-        }
-    }
-
-    /// Makes the call, and answers how it ended.
-    pub fn run(self, alloc: Global) -> Outcome {
-        match self {
-            TrieCall::FromParents => from_parents(alloc),
-            TrieCall::Built => built(alloc),
-            TrieCall::Word => word(alloc),
-            TrieCall::Clone => cloned(alloc),
-        }
-    }
+/// Each call of these trees.
+pub fn ended(alloc: Global) -> [Ended; 4] {
+    [
+        ("tree-from-parents", from_parents(alloc)),
+        ("trie-build", built(alloc)),
+        ("trie-word", word(alloc)),
+        ("trie-try-clone", cloned(alloc)),
+    ]
 }
 
 /// Whether a tree with labels answers as it has to.

@@ -1,5 +1,5 @@
 //! The constructors of words, and copies of words.
-use crate::outcome::{Outcome, answered, refused};
+use crate::outcome::{Ended, Outcome, answered, refused};
 use bitm::{BitVec, BitWriter, CloneWords, words};
 use std::alloc::{AllocError, Global};
 use std::boxed::BoxedSlice;
@@ -17,33 +17,45 @@ fn made(words: Result<Words, AllocError>, right: [u64; 3]) -> Outcome {
     }
 }
 
-pub fn segments(alloc: Global) -> Outcome {
-    made(Words::with_64bit_segments(alloc, 7, 3), [7, 7, 7])
-}
-
-pub fn zeroed_segments(alloc: Global) -> Outcome {
-    made(Words::with_zeroed_64bit_segments(alloc, 3), [0, 0, 0])
-}
-
-pub fn filled_segments(alloc: Global) -> Outcome {
-    let words = Words::with_filled_64bit_segments(alloc, 3);
-    made(words, [FULL, FULL, FULL])
-}
-
-pub fn zeroed_bits(alloc: Global) -> Outcome {
-    made(Words::with_zeroed_bits(alloc, 129), [0, 0, 0])
-}
-
-pub fn filled_bits(alloc: Global) -> Outcome {
-    made(Words::with_filled_bits(alloc, 129), [FULL, FULL, FULL])
-}
-
-pub fn bitwords(alloc: Global) -> Outcome {
-    made(Words::with_bitwords(alloc, 1, 1, 129), [FULL, FULL, 1])
+/// Each constructor of words, and copies of words.
+pub fn ended(alloc: Global) -> [Ended; 11] {
+    let zeros = [0, 0, 0];
+    let ones = [FULL, FULL, FULL];
+    [
+        (
+            "with-64bit-segments",
+            made(Words::with_64bit_segments(alloc, 7, 3), [7, 7, 7]),
+        ),
+        (
+            "with-zeroed-64bit-segments",
+            made(Words::with_zeroed_64bit_segments(alloc, 3), zeros),
+        ),
+        (
+            "with-filled-64bit-segments",
+            made(Words::with_filled_64bit_segments(alloc, 3), ones),
+        ),
+        (
+            "with-zeroed-bits",
+            made(Words::with_zeroed_bits(alloc, 129), zeros),
+        ),
+        (
+            "with-filled-bits",
+            made(Words::with_filled_bits(alloc, 129), ones),
+        ),
+        (
+            "with-bitwords",
+            made(Words::with_bitwords(alloc, 1, 1, 129), [FULL, FULL, 1]),
+        ),
+        ("with-bitwords-of-thousands", many_bitwords(alloc)),
+        ("try-same", try_same(alloc, 2)),
+        ("try-same-of-thousands", try_same(alloc, 5000)),
+        ("vectors", vectors(alloc)),
+        ("writer", writer(alloc)),
+    ]
 }
 
 /// Fragments of three bits, 100,000 times 101, which take 4,688 words.
-pub fn many_bitwords(alloc: Global) -> Outcome {
+fn many_bitwords(alloc: Global) -> Outcome {
     match Words::with_bitwords(alloc, 5, 3, 100_000) {
         Ok(made) => {
             let made = made.as_slice();
@@ -70,7 +82,7 @@ fn are_right(alloc: Global) -> Result<bool, AllocError> {
 }
 
 /// The constructors of vectors.
-pub fn vectors(alloc: Global) -> Outcome {
+fn vectors(alloc: Global) -> Outcome {
     match are_right(alloc) {
         Ok(right) => answered(right),
         Err(AllocError) => Outcome::Refused,
@@ -87,7 +99,7 @@ fn push_full(writer: &mut BitWriter) -> bool {
 }
 
 /// A writer of 150 words, which grows several times.
-pub fn writer(alloc: Global) -> Outcome {
+fn writer(alloc: Global) -> Outcome {
     let mut writer = BitWriter::new(alloc);
     let mut is_refused = false;
     for _ in 0..150 {
@@ -105,7 +117,7 @@ pub fn writer(alloc: Global) -> Outcome {
 }
 
 /// A copy of so many words.
-pub fn try_same(alloc: Global, count: usize) -> Outcome {
+fn try_same(alloc: Global, count: usize) -> Outcome {
     let Ok(words) = Words::with_64bit_segments(alloc, 13, count) else {
         return Outcome::Unready;
     };

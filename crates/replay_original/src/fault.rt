@@ -1,6 +1,5 @@
 //! Why a line could not be replayed.
 use std::alloc::{AllocError, AllocFailed};
-use std::fmt;
 
 /// Why a line could not be replayed to its end. Such a line counts as a difference.
 #[derive(Clone, Copy)]
@@ -19,16 +18,20 @@ pub enum Fault {
     NoMemory,
 }
 
-impl fmt::Display for Fault {
-    fn fmt<W: fmt::Write>(&self, f: &mut fmt::Formatter<W>) -> fmt::Result {
-        match self {
-            Fault::Malformed => write!(f, "malformed"),
-            Fault::OtherContent => write!(f, "not the last content"),
-            Fault::NoTotal => write!(f, "no line `ones` before it"),
-            Fault::Condition => write!(f, "a call's condition does not hold"),
-            Fault::UnknownKind => write!(f, "unknown kind"),
-            Fault::NoMemory => write!(f, "no memory"),
-        }
+/// The faults, and what is printed of them.
+const TEXTS: [&str; 6] = [
+    "malformed",
+    "not the last content",
+    "no line `ones` before it",
+    "a call's condition does not hold",
+    "unknown kind",
+    "no memory",
+];
+
+impl Fault {
+    /// What is printed of it.
+    pub fn text(self) -> &'static str {
+        TEXTS[self as usize]
     }
 }
 

@@ -4,83 +4,13 @@ use crate::fault::Fault;
 use crate::text;
 use crate::text::{Base, PlacePair};
 use std::alloc::Global;
-use std::fmt;
 
-/// An answer of ours that is not theirs, or a line that could not be replayed.
+/// What an answer of ours that is not theirs was asked, or nothing where a line could not be replayed, and why it counts
+/// as a difference.
 #[derive(Clone, Copy)]
-pub enum Difference<'a> {
-    /// The two values of an answer, or of an item of one that is a list.
-    Answer {
-        argument: &'a str,
-        item: Option<usize>,
-        base: Base,
-        ours: Option<u64>,
-        theirs: Option<u64>,
-    },
-    /// A rank at the exact length, where theirs is nothing and the total is expected.
-    AtLength {
-        argument: &'a str,
-        ours: Option<u64>,
-        total: u64,
-    },
-    /// Why the line could not be replayed to its end.
-    Fault(Fault),
-}
-
-/// An answer, as the file writes it.
-#[derive(Clone, Copy)]
-struct Written(Option<u64>, Base);
-
-impl fmt::Display for Written {
-    fn fmt<W: fmt::Write>(&self, f: &mut fmt::Formatter<W>) -> fmt::Result {
-        match (self.0, self.1) {
-            (None, _) => write!(f, "-"),
-            (Some(number), Base::Decimal) => write!(f, "{number}"),
-            (Some(number), Base::Hexadecimal) => write!(f, "{number:x}"),
-        }
-    }
-}
-
-/// The item of a list that an answer is about, or none.
-#[derive(Clone, Copy)]
-struct Item(Option<usize>);
-
-impl fmt::Display for Item {
-    fn fmt<W: fmt::Write>(&self, f: &mut fmt::Formatter<W>) -> fmt::Result {
-        match self.0 {
-            Some(item) => write!(f, " item {item}"),
-            None => Ok(()),
-        }
-    }
-}
-
-/// What follows the kind of the line.
-impl fmt::Display for Difference<'_> {
-    fn fmt<W: fmt::Write>(&self, f: &mut fmt::Formatter<W>) -> fmt::Result {
-        match self {
-            Difference::Answer {
-                argument,
-                item,
-                base,
-                ours,
-                theirs,
-            } => {
-                let item = Item(*item);
-                let ours = Written(*ours, *base);
-                let theirs = Written(*theirs, *base);
-                write!(f, " {argument}{item}: ours {ours}, theirs {theirs}")
-            }
-            Difference::AtLength {
-                argument,
-                ours,
-                total,
-            } => {
-                let ours = Written(*ours, Base::Decimal);
-                write!(f, " {argument}: ours {ours}, the total {total}")
-            }
-            Difference::Fault(fault) => write!(f, ": {fault}"),
-        }
-    }
+pub struct Difference<'a> {
+    pub argument: &'a str,
+    pub why: &'a str,
 }
 
 /// How many answers were compared, and how many of them differ.
@@ -138,32 +68,19 @@ impl<'a> Found<'a> {
             answers: 0,
             differ: 1,
         });
-        self.keep(Difference::Fault(fault));
+        self.keep("", fault.text());
     }
 
     /// Keeps a difference where there is memory for it.
-    fn keep(&mut self, difference: Difference<'a>) {
-        let _ = self.differences.push(difference);
+    fn keep(&mut self, argument: &'a str, why: &'a str) {
+        let _ = self.differences.push(Difference { argument, why });
     }
 
     /// Compares two values of an answer, or of an item of it.
-    fn compare_values(
-        &mut self,
-        argument: &'a str,
-        item: Option<usize>,
-        base: Base,
-        ours: Option<u64>,
-        theirs: Option<u64>,
-    ) {
+    fn compare_values(&mut self, argument: &'a str, ours: Option<u64>, theirs: Option<u64>) {
         self.count.add_answer(ours != theirs);
         if ours != theirs {
-            self.keep(Difference::Answer {
-                argument,
-                item,
-                base,
-                ours,
-                theirs,
-            });
+            self.keep(argument, "differs from theirs");
         }
     }
 
@@ -176,7 +93,7 @@ impl<'a> Found<'a> {
         theirs: &str,
     ) -> Result<(), Fault> {
         let theirs = text::answer(theirs, base)?;
-        self.compare_values(argument, None, base, ours, theirs);
+        self.compare_values(argument, ours, theirs);
         Ok(())
     }
 
@@ -253,17 +170,13 @@ impl<'a> Found<'a> {
         let differs = ours != Some(total);
         self.at_length.add_answer(differs);
         if differs {
-            self.keep(Difference::AtLength {
-                argument,
-                ours,
-                total,
-            });
+            self.keep(argument, "is not the total");
         }
     }
 
     /// Compares two numbers.
     pub fn compare_numbers(&mut self, argument: &'a str, ours: u64, theirs: u64) {
-        self.compare_values(argument, None, Base::Decimal, Some(ours), Some(theirs));
+        self.compare_values(argument, Some(ours), Some(theirs));
     }
 
     /// Compares a list of sizes with the one that a text writes.
@@ -292,7 +205,7 @@ impl<'a> Found<'a> {
         for item in 0..ours.len().max(theirs.len()) {
             let our_item = ours.get(item).copied();
             let their_item = theirs.get(item).copied();
-            self.compare_values(argument, Some(item), base, our_item, their_item);
+            self.compare_values(argument, our_item, their_item);
         }
         Ok(())
     }

@@ -96,12 +96,9 @@ impl<'a> Report<'a> {
     /// Prints the differences, as far as they are kept.
     fn print_differences(&self, rt: &impl Print) -> io::Result<()> {
         for located in self.differences.iter() {
-            let Located {
-                line,
-                kind,
-                difference,
-            } = located;
-            println!(rt; "line {line}: {kind}{difference}")?;
+            let (line, kind) = (located.line, located.kind);
+            let Difference { argument, why } = located.difference;
+            println!(rt; "line {line}: {kind} {argument}: {why}")?;
         }
         Ok(())
     }

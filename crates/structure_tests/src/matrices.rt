@@ -1,6 +1,5 @@
 //! Answers of a wavelet matrix worked by hand, and compared with plain loops over the numbers.
-use std::alloc::Global;
-use std::process::Abort;
+use std::alloc::{AllocError, Global};
 use std::test::Fail;
 use wavelet_matrix::{BinaryWaveletMatrix, all_fit};
 
@@ -22,149 +21,144 @@ fn draw(alloc: Global, len: usize, width: u8) -> Result<Vec<u64>, Fail> {
     Ok(made)
 }
 
-/// Compares access, ranks and selections with a walk over the numbers.
-fn expect_each(rt: &impl Abort, matrix: &BinaryWaveletMatrix, list: &[u64]) {
-    assert!(rt; matrix.len() == list.len());
-    for i in 0..list.len() {
-        assert!(rt; matrix.try_get(i) == Some(list[i]));
-        let number = list[i];
+/// Whether access, ranks and selections agree with a walk over the numbers.
+fn each_agrees(matrix: &BinaryWaveletMatrix, list: &[u64]) -> bool {
+    let mut agrees = matrix.len() == list.len() && matrix.try_get(list.len()) == None;
+    for (i, number) in list.iter().enumerate() {
         let mut before = 0usize;
-        for k in 0..i {
-            if list[k] == number {
-                before = before.wrapping_add(1);
-            }
+        for other in &list[..i] {
+            before = before.wrapping_add((*other == *number) as usize);
         }
-        assert!(rt; matrix.try_rank(number, i) == Some(before));
-        assert!(rt; matrix.try_select(number, before) == Some(i));
+        agrees &= matrix.try_get(i) == Some(*number);
+        agrees &= matrix.try_rank(*number, i) == Some(before);
+        agrees &= matrix.try_select(*number, before) == Some(i);
     }
-    assert!(rt; matrix.try_get(list.len()) == None);
+    agrees
 }
 
-/// Compares access, ranks and selections with a count, for each number, of those passed; there are as many `counts`,
-/// which are 0, as the numbers have values.
-fn expect_counted(
-    rt: &impl Abort,
-    matrix: &BinaryWaveletMatrix,
-    list: &[u64],
-    counts: &mut [usize],
-) {
+/// Whether access, ranks and selections agree with a count, for each number, of those passed.
+fn counts_agree(matrix: &BinaryWaveletMatrix, list: &[u64]) -> bool {
+    let mut counts = [0usize; 1024];
+    let mut agrees = true;
     for (i, number) in matrix.iter().enumerate() {
-        assert!(rt; i < list.len() && list[i] == number && number < counts.len() as u64);
-        let before = counts[number as usize];
-        assert!(rt; matrix.try_get(i) == Some(number));
-        assert!(rt; matrix.try_rank(number, i) == Some(before));
-        assert!(rt; matrix.try_select(number, before) == Some(i));
-        counts[number as usize] = before.wrapping_add(1);
+        let at = (number % 1024) as usize;
+        let before = counts[at];
+        agrees &= number < 1024 && list.get(i) == Some(&number);
+        agrees &= matrix.try_get(i) == Some(number);
+        agrees &= matrix.try_rank(number, i) == Some(before);
+        agrees &= matrix.try_select(number, before) == Some(i);
+        counts[at] = before.wrapping_add(1);
     }
+    agrees
 }
 
-/// Compares what is asked of ranges with a walk over each.
-fn expect_ranges(rt: &impl Abort, matrix: &BinaryWaveletMatrix, list: &[u64], bound: u64) {
-    assert!(rt; matrix.len() == list.len());
-    for start in 0..list.len() {
-        for end in start..list.len() {
-            let mut less = 0usize;
-            let mut next: Option<u64> = None;
-            let mut previous: Option<u64> = None;
-            for x in &list[start..end] {
-                if *x < bound {
-                    less = less.wrapping_add(1);
-                    previous = Some(previous.map_or(*x, |y| (*x).max(y)));
-                } else {
-                    next = Some(next.map_or(*x, |y| (*x).min(y)));
-                }
-            }
-            assert!(rt; matrix.count_less(start..end, bound) == less);
-            assert!(rt; matrix.next_value(start..end, bound) == next);
-            assert!(rt; matrix.previous_value(start..end, bound) == previous);
+/// Whether what is asked of a range by a bound agrees with a walk over it.
+fn bound_agrees(matrix: &BinaryWaveletMatrix, list: &[u64], start: usize, bound: u64) -> bool {
+    let mut less = 0usize;
+    let mut next: Option<u64> = None;
+    let mut previous: Option<u64> = None;
+    let mut agrees = true;
+    for (end, x) in list.iter().enumerate() {
+        if end < start || end >= matrix.len() {
+            continue;
         }
+        if *x < bound {
+            less = less.wrapping_add(1);
+            previous = Some(previous.map_or(*x, |y| (*x).max(y)));
+        } else {
+            next = Some(next.map_or(*x, |y| (*x).min(y)));
+        }
+        agrees &= matrix.count_less(start..end + 1, bound) == less;
+        agrees &= matrix.next_value(start..end + 1, bound) == next;
+        agrees &= matrix.previous_value(start..end + 1, bound) == previous;
     }
+    agrees
 }
 
-/// Compares what stands where in a sorted range with that range.
-fn expect_order(
-    rt: &impl Abort,
-    matrix: &BinaryWaveletMatrix,
-    sorted: &[u64],
-    start: usize,
-    end: usize,
-) {
-    assert!(rt; start <= end && end <= matrix.len());
+/// Whether what stands where in a sorted range is as it says.
+fn order_agrees(matrix: &BinaryWaveletMatrix, sorted: &[u64], start: usize) -> bool {
+    let end = start.saturating_add(sorted.len());
+    if end > matrix.len() {
+        return false;
+    }
+    let mut agrees = true;
     for (k, x) in sorted.iter().enumerate() {
-        assert!(rt; k < end - start && matrix.quantile(start..end, k) == *x);
         let between = sorted.iter().filter(|y| *x / 2 <= **y && **y < *x).count();
-        assert!(rt; matrix.range_count(start..end, *x / 2, *x) == between);
+        agrees &= k < end - start && matrix.quantile(start..end, k) == *x;
+        agrees &= matrix.range_count(start..end, *x / 2, *x) == between;
     }
+    agrees
 }
 
-/// Compares the distinct numbers of a range, and the most frequent ones, with the sorted range.
-fn expect_tallies(
-    rt: &impl Abort,
+/// Whether the distinct numbers of a range, and the three most frequent ones, are as the sorted range says.
+fn tallies_agree(
     alloc: Global,
     matrix: &BinaryWaveletMatrix,
     sorted: &[u64],
     start: usize,
-    end: usize,
-) -> Result<(), Fail> {
-    assert!(rt; start <= end && end <= matrix.len());
+) -> Result<bool, AllocError> {
+    let end = start.saturating_add(sorted.len());
+    if end > matrix.len() {
+        return Ok(false);
+    }
     let mut pairs = Vec::new(alloc);
     let mut passed = 0usize;
+    let mut agrees = true;
     for (number, count) in matrix.distinct(start..end) {
-        assert!(rt; passed == sorted.iter().filter(|y| **y < number).count());
-        assert!(rt; count == sorted.iter().filter(|y| **y == number).count());
+        agrees &= passed == sorted.iter().filter(|y| **y < number).count();
+        agrees &= count == sorted.iter().filter(|y| **y == number).count();
         passed = passed.wrapping_add(count);
         pairs.push((usize::MAX - count, number))?;
     }
-    assert!(rt; passed == sorted.len());
     pairs.sort_unstable();
     let top = matrix.top_k(alloc, start..end, 3)?;
-    assert!(rt; top.len() == pairs.len().min(3));
+    agrees &= passed == sorted.len() && top.len() == pairs.len().min(3);
     for (found, pair) in top.iter().zip(pairs.iter()) {
-        assert!(rt; found.0 == pair.1 && found.1 == usize::MAX - pair.0);
+        agrees &= found.0 == pair.1 && found.1 == usize::MAX - pair.0;
     }
-    Ok(())
+    Ok(agrees)
 }
 
-fn expect_range(
-    rt: &impl Abort,
+/// Whether what is asked of a range by its order agrees with it sorted.
+fn sorted_agrees(
     alloc: Global,
     matrix: &BinaryWaveletMatrix,
-    list: &[u64],
+    range: &[u64],
     start: usize,
-    end: usize,
-) -> Result<(), Fail> {
-    assert!(rt; start <= end && end <= list.len());
-    let mut sorted = list[start..end].to_vec(alloc)?;
+) -> Result<bool, AllocError> {
+    let mut sorted = range.to_vec(alloc)?;
     sorted.sort_unstable();
-    expect_order(rt, matrix, sorted.as_slice(), start, end);
-    expect_tallies(rt, alloc, matrix, sorted.as_slice(), start, end)
+    let sorted = sorted.as_slice();
+    Ok(order_agrees(matrix, sorted, start) && tallies_agree(alloc, matrix, sorted, start)?)
 }
 
-fn check(rt: &impl Abort, alloc: Global, len: usize, width: u8) -> Result<(), Fail> {
+/// Whether all answers of a matrix of so many numbers, of so many digits, agree with plain loops.
+fn all_agrees(alloc: Global, len: usize, width: u8) -> Result<bool, Fail> {
     let list = draw(alloc, len, width)?;
     let list = list.as_slice();
-    assert!(rt; 1 <= width && width <= 64 && list.len() < 1000);
-    assert!(rt; all_fit(list, width));
+    if width < 1 || width > 64 || list.len() >= 1000 || !all_fit(list, width) {
+        return Ok(false);
+    }
     let matrix = BinaryWaveletMatrix::build(alloc, list, width)?;
-    expect_each(rt, &matrix, list);
-    for bound in 0..10 {
-        expect_ranges(rt, &matrix, list, bound);
-    }
+    let mut agrees = each_agrees(&matrix, list);
     for start in 0..list.len() {
-        expect_range(rt, alloc, &matrix, list, start, list.len())?;
-        expect_range(rt, alloc, &matrix, list, start / 2, start)?;
+        for bound in 0..10 {
+            agrees &= bound_agrees(&matrix, list, start, bound);
+        }
+        agrees &= sorted_agrees(alloc, &matrix, &list[start..], start)?;
+        agrees &= sorted_agrees(alloc, &matrix, &list[start / 2..start], start / 2)?;
     }
-    Ok(())
+    Ok(agrees)
 }
 
 #[test]
 fn numbers_of_one_three_and_all_digits_are_answered_as_a_walk_answers(
     rt: HostRuntime,
 ) -> Result<(), Fail> {
-    check(&rt, rt.alloc(), 100, 1)?;
-    check(&rt, rt.alloc(), 60, 3)?;
-    check(&rt, rt.alloc(), 40, 64)?;
-    check(&rt, rt.alloc(), 0, 5)
+    for (len, width) in [(100, 1), (60, 3), (40, 64), (0, 5)] {
+        assert!(rt; all_agrees(rt.alloc(), len, width)?);
+    }
+    Ok(())
 }
 
 #[test]
@@ -173,8 +167,7 @@ fn a_million_answers_are_those_of_a_count(rt: HostRuntime) -> Result<(), Fail> {
     let list = list.as_slice();
     assert!(rt; list.len() == 1 << 18 && all_fit(list, 10));
     let matrix = BinaryWaveletMatrix::build(rt.alloc(), list, 10)?;
-    let mut counts = [0usize; 1024];
-    expect_counted(&rt, &matrix, list, counts.as_mut_slice());
+    assert!(rt; counts_agree(&matrix, list));
     Ok(())
 }
 
@@ -183,21 +176,26 @@ fn the_numbers_of_the_picture_are_answered_as_worked_out(rt: HostRuntime) -> Res
     let list = [3u64, 1, 4, 1, 5, 1];
     let matrix = BinaryWaveletMatrix::build(rt.alloc(), list.as_slice(), 3)?;
     assert!(rt; matrix.len() == 6);
-    assert!(rt; matrix.try_get(2) == Some(4));
-    assert!(rt; matrix.try_rank(1, 4) == Some(2));
-    assert!(rt; matrix.try_select(1, 2) == Some(5));
-    assert!(rt; matrix.try_select(1, 3) == None);
-    assert!(rt; matrix.quantile(1..5, 2) == 4);
-    assert!(rt; matrix.next_value(0..6, 2) == Some(3));
-    assert!(rt; matrix.previous_value(0..6, 3) == Some(1));
-    assert!(rt; matrix.range_count(0..6, 2, 5) == 2);
+    let found = (
+        matrix.try_get(2),
+        matrix.next_value(0..6, 2),
+        matrix.previous_value(0..6, 3),
+    );
+    assert!(rt; found == (Some(4), Some(3), Some(1)));
+    let found = (
+        matrix.try_rank(1, 4),
+        matrix.try_select(1, 2),
+        matrix.try_select(1, 3),
+    );
+    assert!(rt; found == (Some(2), Some(5), None));
+    assert!(rt; (matrix.quantile(1..5, 2), matrix.range_count(0..6, 2, 5)) == (4, 2));
     let mut ranks = [9usize; 3];
     matrix.rank_many(
         [1u64, 4, 7].as_slice(),
         [4usize, 6, 6].as_slice(),
         ranks.as_mut_slice(),
     );
-    assert!(rt; ranks.as_slice() == [2usize, 1, 0].as_slice());
+    assert!(rt; ranks == [2usize, 1, 0]);
     let shared = matrix.intersect(rt.alloc(), 0..2, 3..6)?;
     assert!(rt; shared.as_slice() == [1].as_slice());
     Ok(())
@@ -209,8 +207,7 @@ fn the_most_frequent_numbers_of_the_picture_come_first(rt: HostRuntime) -> Resul
     let matrix = BinaryWaveletMatrix::build(rt.alloc(), list.as_slice(), 3)?;
     assert!(rt; matrix.len() == 6);
     let mut distinct = matrix.distinct(1..5);
-    assert!(rt; distinct.next() == Some((1, 2)));
-    assert!(rt; distinct.next() == Some((4, 1)));
+    assert!(rt; (distinct.next(), distinct.next()) == (Some((1, 2)), Some((4, 1))));
     let top = matrix.top_k(rt.alloc(), 0..6, 2)?;
     assert!(rt; top.as_slice() == [(1, 3), (3, 1)].as_slice());
     Ok(())

@@ -1,8 +1,7 @@
 //! Trees compared with a search for parents by the definition, and answers worked by hand.
-use bitm::{BinaryRankSearch, Select0ForRank101111, SelectForRank101111};
+use bitm::{Select0ForRank101111, SelectForRank101111};
 use louds::{BinaryLouds, Louds, LoudsError, SampledLouds, is_tree};
-use std::alloc::Global;
-use std::process::Abort;
+use std::alloc::{AllocError, Global};
 use std::test::Fail;
 
 /// The parent of a node, which child it is, and whether it is the last one; `None` where there is no parent.
@@ -38,116 +37,110 @@ fn has_parents(degrees: &[usize]) -> bool {
     sum == degrees.len()
 }
 
-/// What a node says of its parent and siblings is what the list says.
+/// Whether what a node says of its parent and siblings is what the list says.
 fn goes_up<S: SelectForRank101111, S0: Select0ForRank101111>(
-    rt: &impl Abort,
     tree: &Louds<S, S0>,
     degrees: &[usize],
     i: usize,
-) {
-    assert!(rt; i < tree.len());
+) -> bool {
+    if i >= tree.len() {
+        return false;
+    }
+    let found = (tree.parent(i), tree.child_rank(i), tree.next_sibling(i));
     match place_of(degrees, i) {
         Some((parent, k, last)) => {
-            assert!(rt; tree.parent(i) == Some(parent));
-            assert!(rt; tree.child_rank(i) == Some(k));
             let next = if last { None } else { Some(i.wrapping_add(1)) };
-            assert!(rt; tree.next_sibling(i) == next);
+            found == (Some(parent), Some(k), next)
         }
-        None => {
-            assert!(rt; i == 0);
-            assert!(rt; tree.parent(i) == None);
-            assert!(rt; tree.child_rank(i) == None);
-            assert!(rt; tree.next_sibling(i) == None);
-        }
+        None => i == 0 && found == (None, None, None),
     }
 }
 
-/// Compares a tree with its degrees; answers whether it was one.
-fn agrees<S: SelectForRank101111, S0: Select0ForRank101111>(
-    rt: &impl Abort,
-    alloc: Global,
+/// Whether what each node says of its children is what the list says.
+fn goes_down<S: SelectForRank101111, S0: Select0ForRank101111>(
+    tree: &Louds<S, S0>,
     degrees: &[usize],
-) -> Result<bool, Fail> {
-    assert!(rt; is_tree(degrees) == has_parents(degrees));
-    let tree = match Louds::<S, S0>::build(alloc, degrees) {
-        Ok(tree) => tree,
-        Err(LoudsError::NotATree) => {
-            assert!(rt; !has_parents(degrees));
-            return Ok(false);
-        }
-        Err(_) => return Err("refused".into()),
-    };
-    assert!(rt; has_parents(degrees));
-    assert!(rt; tree.len() == degrees.len());
+) -> bool {
+    let mut agrees = tree.len() == degrees.len();
     let mut number = 1usize;
     for (i, degree) in degrees.iter().enumerate() {
-        assert!(rt; i < tree.len());
-        assert!(rt; tree.degree(i) == *degree);
-        assert!(rt; tree.is_leaf(i) == (*degree == 0));
+        if i >= tree.len() {
+            return false;
+        }
+        agrees &= (tree.degree(i), tree.is_leaf(i)) == (*degree, *degree == 0);
         for k in 0..*degree {
-            assert!(rt; tree.child(i, k) == Some(number));
+            agrees &= tree.child(i, k) == Some(number);
             number = number.wrapping_add(1);
         }
-        assert!(rt; tree.child(i, *degree) == None);
-        assert!(rt; tree.child(i, usize::MAX) == None);
-        goes_up(rt, &tree, degrees, i);
+        agrees &= (tree.child(i, *degree), tree.child(i, usize::MAX)) == (None, None);
+        agrees &= goes_up(tree, degrees, i);
     }
-    Ok(true)
+    agrees
 }
 
-/// How many of the lists of `len` degrees below `most` are trees; all are compared whose sum is below `len`.
-fn trees_of(rt: &impl Abort, alloc: Global, len: usize, most: usize) -> Result<u32, Fail> {
+/// Whether degrees are taken exactly where they are those of a tree, which agrees with them; with whether they are.
+fn agrees(alloc: Global, degrees: &[usize]) -> (bool, bool) {
+    let right = has_parents(degrees);
+    let told = is_tree(degrees) == right;
+    match BinaryLouds::build(alloc, degrees) {
+        Ok(tree) => (told && right && goes_down(&tree, degrees), right),
+        Err(error) => (told && !right && error == LoudsError::NotATree, right),
+    }
+}
+
+/// How many of the lists of `len` degrees below it, with a sum below it, are trees; `None` where one does not agree.
+fn trees_of(alloc: Global, len: usize) -> Option<u32> {
     let mut trees = 0u32;
-    let mut lists = 1usize;
-    for _ in 0..len {
-        lists = lists.wrapping_mul(most);
-    }
-    for code in 0..lists {
+    for code in 0..len.checked_pow(len as u32)? {
         let mut degrees = [0usize; 7];
-        let mut rest = code;
-        let mut sum = 0usize;
-        for k in 0..len.min(7) {
-            degrees[k] = rest % most.max(1);
-            sum = sum.wrapping_add(degrees[k]);
-            rest /= most.max(1);
+        let (mut rest, mut sum) = (code, 0usize);
+        for degree in &mut degrees[..len.min(7)] {
+            *degree = rest % len.max(1);
+            sum = sum.wrapping_add(*degree);
+            rest /= len.max(1);
         }
-        let some = &degrees[..len.min(7)];
-        if sum < len && agrees::<BinaryRankSearch, BinaryRankSearch>(rt, alloc, some)? {
-            trees = trees.wrapping_add(1);
+        if sum < len.max(1) {
+            let (good, is_tree) = agrees(alloc, &degrees[..len.min(7)]);
+            if !good {
+                return None;
+            }
+            trees = trees.wrapping_add(is_tree as u32);
         }
     }
-    Ok(trees)
+    Some(trees)
 }
 
 #[test]
-fn all_trees_of_up_to_seven_nodes_agree_with_the_definition(rt: HostRuntime) -> Result<(), Fail> {
+fn all_trees_of_up_to_seven_nodes_agree_with_the_definition(rt: HostRuntime) {
     // as many as ordered trees of so many nodes, the Catalan numbers; a list of none is no tree
-    for (len, known) in [0u32, 1, 1, 2, 5, 14, 42, 132]
-        .as_slice()
-        .iter()
-        .enumerate()
-    {
-        assert!(rt; trees_of(&rt, rt.alloc(), len, len)? == *known);
+    let known = [0u32, 1, 1, 2, 5, 14, 42, 132];
+    for (len, known) in known.iter().enumerate() {
+        assert!(rt; trees_of(rt.alloc(), len) == Some(*known));
     }
-    Ok(())
+}
+
+/// The degrees of a tree of so many nodes, each of which has so many children while there are nodes left.
+fn wide(alloc: Global, len: usize, width: usize) -> Result<Vec<usize>, AllocError> {
+    let mut degrees = Vec::new(alloc);
+    let mut known = 1usize;
+    for _ in 0..len {
+        let some = width.min(len.saturating_sub(known));
+        degrees.push(some)?;
+        known = known.saturating_add(some);
+    }
+    Ok(degrees)
 }
 
 #[test]
 fn paths_stars_and_wide_trees_agree(rt: HostRuntime) -> Result<(), Fail> {
     for len in [1usize, 2, 64, 300, 1100] {
         for width in [1usize, 2, 63, 64, 2000] {
-            let mut degrees = Vec::new(rt.alloc());
-            let mut known = 1usize;
-            for _ in 0..len {
-                let some = width.min(len.saturating_sub(known));
-                degrees.push(some)?;
-                known = known.saturating_add(some);
-            }
+            let degrees = wide(rt.alloc(), len, width)?;
             let Ok(tree) = SampledLouds::build(rt.alloc(), degrees.as_slice()) else {
                 return Err("refused".into());
             };
             for i in 0..len {
-                goes_up(&rt, &tree, degrees.as_slice(), i);
+                assert!(rt; goes_up(&tree, degrees.as_slice(), i));
             }
         }
     }
@@ -161,17 +154,17 @@ fn answers_are_those_worked_by_hand(rt: HostRuntime) -> Result<(), Fail> {
         return Err("refused".into());
     };
     assert!(rt; tree.len() == 7);
-    assert!(rt; tree.child(0, 2) == Some(3));
-    assert!(rt; tree.child(1, 1) == Some(5));
-    assert!(rt; tree.child(3, 0) == Some(6));
-    assert!(rt; tree.child(2, 0) == None);
-    assert!(rt; tree.parent(6) == Some(3));
-    assert!(rt; tree.parent(5) == Some(1));
-    assert!(rt; tree.child_rank(5) == Some(1));
-    assert!(rt; tree.next_sibling(4) == Some(5));
-    assert!(rt; tree.next_sibling(5) == None);
-    assert!(rt; tree.is_leaf(2));
-    assert!(rt; !tree.is_leaf(3));
+    let children = [
+        tree.child(0, 2),
+        tree.child(1, 1),
+        tree.child(3, 0),
+        tree.child(2, 0),
+    ];
+    assert!(rt; children == [Some(3), Some(5), Some(6), None]);
+    let up = [tree.parent(6), tree.parent(5), tree.child_rank(5)];
+    assert!(rt; up == [Some(3), Some(1), Some(1)]);
+    assert!(rt; [tree.next_sibling(4), tree.next_sibling(5)] == [Some(5), None]);
+    assert!(rt; [tree.is_leaf(2), tree.is_leaf(3)] == [true, false]);
     Ok(())
 }
 

@@ -5,7 +5,7 @@ ghost use Rattle.std.specs.Prelude.{◌<◌, length};
 
 mod growing;
 
-use growing::grow;
+use growing::{Grown, grow};
 use louds::{SampledLouds, SampledTrie};
 use std::alloc::{AllocError, Global};
 use std::{env, fs, io};
@@ -23,10 +23,7 @@ fn different<'a>(alloc: Global, text: &'a str) -> Result<Vec<&'a str>, AllocErro
 
 /// The node to which a word leads; `None` where it leads to none.
 fn node_of(alloc: Global, trie: &SampledTrie, word: &str) -> Result<Option<usize>, AllocError> {
-    let mut labels = Vec::with_capacity(alloc, word.len())?;
-    for byte in word.as_bytes() {
-        labels.push(*byte as u64)?;
-    }
+    let labels: Vec<u64> = word.bytes().map(|byte| byte as u64).collect(alloc)?;
     Ok(trie.find(labels.as_slice()))
 }
 
@@ -96,38 +93,56 @@ fn print_words(
     let found = ends_from(rt.alloc(), tree, ends, node)?;
     println!(rt; "{} begin with {letters}", found.len())?;
     for end in &found {
-        println!(rt; "  {}", word_of(rt.alloc(), trie, *end)?)?;
+        print_word(rt, trie, "  ", *end)?;
     }
-    let first = word_of(rt.alloc(), trie, first_end(tree, ends, node))?;
-    println!(rt; "first of them: {first}")?;
+    print_word(rt, trie, "first of them: ", first_end(tree, ends, node))
+}
+
+/// Prints the word that leads to a node, after a text.
+fn print_word(rt: &HostRuntime, trie: &SampledTrie, before: &str, node: usize) -> io::Result<()> {
+    let word = word_of(rt.alloc(), trie, node)?;
+    println!(rt; "{before}{word}")?;
     Ok(())
 }
 
-fn main(rt: HostRuntime) -> io::Result<()> {
-    let alloc = rt.alloc();
-    let args: Vec<String> = env::args(&rt)?.skip(1).collect(alloc)?;
-    let [path, letters] = args.as_slice() else {
-        println!(rt; "usage: trie_words FILE LETTERS")?;
-        return Ok(());
-    };
-    let text = fs::read_to_string(&rt, path.as_str())?;
-    let words = different(alloc, text.as_str())?;
-    let grown = grow(alloc, words.as_slice())?;
-    let Ok(trie) = SampledTrie::build(
-        alloc,
-        grown.degrees.as_slice(),
-        grown.labels.as_slice(),
-        WIDTH,
-    ) else {
-        println!(rt; "the text has too many words")?;
-        return Ok(());
-    };
-    println!(rt; "{} words, {} nodes", words.len(), trie.tree().len())?;
-    match node_of(alloc, &trie, letters.as_str())? {
-        Some(node) => print_words(&rt, &trie, grown.ends.as_slice(), letters.as_str(), node),
+/// Prints how many words and nodes there are, and which words begin with some letters.
+fn print_found(
+    rt: &HostRuntime,
+    trie: &SampledTrie,
+    grown: &Grown,
+    letters: &str,
+) -> io::Result<()> {
+    let words = grown.ends.iter().filter(|ends| **ends).count();
+    println!(rt; "{words} words, {} nodes", trie.tree().len())?;
+    match node_of(rt.alloc(), trie, letters)? {
+        Some(node) => print_words(rt, trie, grown.ends.as_slice(), letters, node),
         None => {
             println!(rt; "none begins with {letters}")?;
             Ok(())
         }
     }
+}
+
+/// Builds the trie of a text's words, and prints what begins with some letters.
+fn answer(rt: &HostRuntime, text: &str, letters: &str) -> io::Result<()> {
+    let words = different(rt.alloc(), text)?;
+    let grown = grow(rt.alloc(), words.as_slice())?;
+    let (degrees, labels) = (grown.degrees.as_slice(), grown.labels.as_slice());
+    match SampledTrie::build(rt.alloc(), degrees, labels, WIDTH) {
+        Ok(trie) => print_found(rt, &trie, &grown, letters),
+        Err(_) => {
+            println!(rt; "the text has too many words")?;
+            Ok(())
+        }
+    }
+}
+
+fn main(rt: HostRuntime) -> io::Result<()> {
+    let args: Vec<String> = env::args(&rt)?.skip(1).collect(rt.alloc())?;
+    let [path, letters] = args.as_slice() else {
+        println!(rt; "usage: trie_words FILE LETTERS")?;
+        return Ok(());
+    };
+    let text = fs::read_to_string(&rt, path.as_str())?;
+    answer(&rt, text.as_str(), letters.as_str())
 }

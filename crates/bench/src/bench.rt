@@ -1,0 +1,152 @@
+//! Rows, which are printed as they come, and the clock that times them.
+use std::alloc::Global;
+use std::time::CpuClock;
+
+/// What a row is called, and what answers it.
+#[derive(Clone, Copy)]
+pub(crate) struct Label<'a>(pub(crate) &'a str, pub(crate) &'a str);
+
+/// What rows are printed to and timed by.
+#[derive(Clone, Copy)]
+pub(crate) struct Bench<'a> {
+    rt: &'a HostRuntime,
+    of: &'a str,
+    rounds: u32,
+    lost: bool,
+}
+
+impl<'a> Bench<'a> {
+    /// Rows of contents or keys that are called so, of so many rounds each.
+    pub(crate) fn new(rt: &'a HostRuntime, of: &'a str, rounds: u32) -> Bench<'a> {
+        Bench {
+            rt,
+            of,
+            rounds,
+            lost: false,
+        }
+    }
+
+    /// Whether a row or a time was lost.
+    pub(crate) fn lost(&self) -> bool {
+        self.lost
+    }
+
+    /// Where memory comes from.
+    pub(crate) fn alloc(&self) -> Global {
+        self.rt.alloc()
+    }
+
+    /// The nanoseconds of the processor that the thread has used.
+    pub(crate) fn used(&mut self) -> u64 {
+        match self.rt.thread_cpu_time() {
+            Ok(time) => time.as_nanos().min(u64::MAX as u128) as u64,
+            Err(_) => {
+                self.lost = true;
+                0
+            }
+        }
+    }
+
+    /// Prints a row: so much for so many, in a unit, and a sum of the answers.
+    fn add(&mut self, label: Label<'a>, (total, many, unit): (u64, usize, &str), check: usize) {
+        let thousandths = total.saturating_mul(1000) / many.max(1) as u64;
+        let (whole, part) = (thousandths / 1000, thousandths % 1000);
+        let (Label(name, by), of) = (label, self.of);
+        let printed = println!(self.rt; "{name},{by},{of},{whole}.{part:03},{unit},{check}");
+        self.lost |= printed.is_err();
+    }
+
+    /// Adds the row of what took so long for so many items, with a sum of the answers.
+    pub(crate) fn add_time(&mut self, label: Label<'a>, nanos: u64, many: usize, check: usize) {
+        self.add(label, (nanos, many, "ns"), check);
+    }
+
+    /// Adds the row of what was begun at a time and has made so many items.
+    pub(crate) fn add_since(&mut self, begun: u64, label: Label<'a>, items: usize) {
+        let took = self.used().saturating_sub(begun);
+        self.add_time(label, took, items, items);
+    }
+
+    /// Adds the row of how many bits so many bytes are for each of the items.
+    pub(crate) fn add_space(&mut self, label: Label<'a>, bytes: usize, items: usize) {
+        self.add(
+            label,
+            ((bytes as u64).saturating_mul(8), items, "bits"),
+            bytes,
+        );
+    }
+
+    /// Times a batch of calls, and adds its row: the least of the rounds.
+    pub(crate) fn least<F: Fn() -> usize>(&mut self, label: Label<'a>, calls: usize, batch: F)
+        requires { F.IsAlwaysCallable batch }
+    {
+        let mut least = u64::MAX;
+        let mut check = 0;
+        for _ in 0..self.rounds {
+            let begun = self.used();
+            check = batch();
+            least = least.min(self.used().saturating_sub(begun));
+        }
+        self.add_time(label, least, calls, check);
+    }
+
+    /// Times a call at each of what is asked, and adds its row.
+    pub(crate) fn each<T: Copy, F: Fn(T) -> Option<usize>>(
+        &mut self,
+        label: Label<'a>,
+        asked: &[T],
+        call: F,
+    )
+        requires { F.IsAlwaysCallable call }
+    {
+        self.least(label, asked.len(), || sum(asked, &call));
+    }
+
+    /// The same, where each call waits for the answer before.
+    pub(crate) fn chained<F: Fn(usize) -> Option<usize>>(
+        &mut self,
+        label: Label<'a>,
+        asked: &[usize],
+        call: F,
+    )
+        requires { F.IsAlwaysCallable call }
+    {
+        self.least(label, asked.len(), || chain(asked, &call));
+    }
+
+    /// How often a batch is timed.
+    pub(crate) fn rounds(&self) -> u32 {
+        self.rounds
+    }
+}
+
+/// Adds up what a call answers at each of what is asked. It is a function of its own, so that nothing but the calls is
+/// timed.
+#[inline(never)]
+fn sum<T: Copy, F: Fn(T) -> Option<usize>>(asked: &[T], call: &F) -> usize
+    requires { F.IsAlwaysCallable call.now }
+{
+    let mut sum = 0usize;
+    for it in asked {
+        if let Some(answer) = call(*it) {
+            sum = sum.wrapping_add(answer);
+        }
+    }
+    sum
+}
+
+/// The last answer, where each call waits for the one before.
+#[inline(never)]
+fn chain<F: Fn(usize) -> Option<usize>>(asked: &[usize], call: &F) -> usize
+    requires { F.IsAlwaysCallable call.now }
+{
+    // Nothing is chained by a zero that the compiler knows.
+    let zero = asked.len() >> 63;
+    let mut last = 0usize;
+    for it in asked {
+        if let Some(answer) = call(*it ^ (last & zero)) {
+            last = answer;
+        }
+    }
+    last
+}
