@@ -91,7 +91,7 @@ fn agrees(alloc: Global, degrees: &[usize]) -> (bool, bool) {
 /// How many of the lists of `len` degrees below it, with a sum below it, are trees; `None` where one does not agree.
 fn trees_of(alloc: Global, len: usize) -> Option<u32> {
     let mut trees = 0u32;
-    for code in 0..len.checked_pow(len as u32)? {
+    for code in 0..len.checked_pow(len.min(7) as u32)? {
         let mut degrees = [0usize; 7];
         let (mut rest, mut sum) = (code, 0usize);
         for degree in &mut degrees[..len.min(7)] {
