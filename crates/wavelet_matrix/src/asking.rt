@@ -151,4 +151,29 @@ impl Levels {
         let (first, last) = self.block_on(source, number, i);
         last - first
     }
+
+    /// How many of the first `i` numbers are this one, where place `i` of the list is moved by its digits to place
+    /// `last` after the last level.
+    #[inline(always)]
+    pub(crate) fn rank_to_on<T: TableSource>(
+        &self,
+        source: &mut T,
+        number: u64,
+        i: usize,
+        last: usize,
+    ) -> usize
+        requires matrix { IsMatrix self.now (T.lists source.old) }
+        requires inside { i ≤ self.now.len }
+        requires last { last ≡ level_place (numbers_in self.now (T.lists source.old))
+            self.now.width number self.now.width i }
+        ensures count { result ≡ count_before (numbers_in self.now (T.lists source.old)) number i }
+        ensures reads { OnlyRanks T.lists T.reads source.old source.new
+            (self.now.width - self.now.known) }
+    {
+        let _i = i;
+        if !fits(number, self.width()) {
+            return 0;
+        }
+        last - self.start_on(source, number)
+    }
 }
