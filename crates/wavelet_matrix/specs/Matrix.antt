@@ -18,8 +18,8 @@ pub record Numbers (S S0 : Type 0) : Type 0 where
   pub select0 : S0
 
 -- what the levels are seen as: `len` numbers of `width` digits; for each level how many ones stand before it among the
--- bits of all levels, and how many of its items have the digit 0; and for each number of `known` digits, where those that
--- begin with it start after so many levels
+-- bits of all levels, and how many of its items have the digit 0; and for each number of `known` digits, where those
+-- that begin with it start after so many levels
 pub record LevelTables : Type 0 where
   pub len : ℕ
   pub width : ℕ

@@ -80,7 +80,8 @@ impl Levels {
         ensures last { let numbers = numbers_in self.now (T.lists source.old) in
             (p : ℕ) → end ≡ level_place numbers self.now.width number from p
             → result.1 ≡ level_place numbers self.now.width number self.now.width p }
-        ensures reads { OnlyRanks T.lists T.reads source.old source.new (2 * (self.now.width - from)) }
+        ensures reads { OnlyRanks T.lists T.reads source.old source.new
+            (2 * (self.now.width - from)) }
     {
         let width = self.width();
         let (mut first, mut last) = (start, end);

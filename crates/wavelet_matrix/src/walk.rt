@@ -15,9 +15,8 @@ use std::boxed::BoxedSlice;
 use std::marker::Model;
 
 /// Where the levels of a matrix are among the bits of a source: how many numbers there are, of how many digits, and for
-/// each level how many ones stand before it, and how many of its items have the digit 0. Of some of the highest digits
-/// it is known by a table, for each number of so many digits, where the numbers that begin with it start after so many
-/// levels.
+/// each level how many ones stand before it, and how many of its items have the digit 0. A table says for each number of
+/// some of the highest digits, the known ones, where the numbers that begin with it start after so many levels.
 #[derive(Drop)]
 pub struct Levels {
     len: usize,
@@ -45,8 +44,8 @@ impl Model for Levels {
 }
 
 impl Levels {
-    /// The levels of `len` numbers of `width` digits, whose bits the index has from its first one on. No digits are known
-    /// from the table of starts, which says that all numbers start at place 0.
+    /// The levels of `len` numbers of `width` digits, whose bits the index has from its first one on. No digits are
+    /// known from the table of starts, which says that all numbers start at place 0.
     ///
     /// # Errors
     /// `AllocError` if memory was refused; nothing is left.
