@@ -45,13 +45,13 @@ fn matrix_built(alloc: Global) -> Outcome {
     }
 }
 
-/// A matrix that keeps where each number starts: of 2000 ones of one digit.
+/// A matrix whose one digit is known from the table of starts: of 2000 ones.
 fn starts_kept(alloc: Global) -> Outcome {
     let numbers = [1u64; 2000];
     match BinaryWaveletMatrix::build(alloc, numbers.as_slice(), 1) {
         Ok(made) => {
             let (levels, _probe) = made.parts();
-            answered(levels.starts() == 2 && made.try_rank(1, 1700) == Some(1700))
+            answered(levels.known() == 1 && made.try_rank(1, 1700) == Some(1700))
         }
         Err(AllocError) => refused(numbers.as_slice() == [1u64; 2000].as_slice()),
     }

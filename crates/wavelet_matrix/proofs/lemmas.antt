@@ -13,4 +13,5 @@ pub mod PrefixLemmas
 pub mod RangeLemmas
 pub mod ReadsLemmas
 pub mod SharedLemmas
+pub mod StartLemmas
 pub mod WalkLemmas

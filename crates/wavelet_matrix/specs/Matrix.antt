@@ -1,5 +1,5 @@
 -- The numbers that bits hold level by level.
-use Rattle.std.specs.Prelude.{◌≡◌, ℕ, ◌+◌, ◌-◌, ◌*◌, ◌^◌, ◌<◌, ◌≤◌, Bool, false, if◌then◌else◌, List, map, take, drop, length, slice_index, count_by, All, zero, suc}
+use Rattle.std.specs.Prelude.{◌≡◌, ℕ, ◌+◌, ◌-◌, ◌*◌, ◌/◌, ◌^◌, ◌<◌, ◌≤◌, Bool, false, if◌then◌else◌, List, map, take, drop, length, slice_index, count_by, All, zero, suc}
 use Rattle.std.specs.Int.{div_ceil}
 use Rattle.std.specs.List.{range_with_len}
 use Rattle.bitm.specs.Bits.{item}
@@ -7,7 +7,7 @@ use Rattle.bitm.specs.Count.{ones_before, zeros_before, zeros_of, count_of, Pick
 use Rattle.bitm.specs.Reads.{OnlyReads}
 use Rattle.bitm.specs.Tables.{IsIndexed, Lists, bits_in}
 use Rattle.bitm.specs.ReadCounts.{ReadCounts}
-use Rattle.wavelet_matrix.specs.Levels.{columns, has_digit, level, level_place, starts_of}
+use Rattle.wavelet_matrix.specs.Levels.{columns, has_digit, known_of, level, level_place}
 use Rattle.wavelet_matrix.specs.Numbers.{PicksItem}
 
 -- what a matrix is seen as: numbers, each of `width` binary digits at most, and the two strategies that select
@@ -18,13 +18,14 @@ pub record Numbers (S S0 : Type 0) : Type 0 where
   pub select0 : S0
 
 -- what the levels are seen as: `len` numbers of `width` digits; for each level how many ones stand before it among the
--- bits of all levels, and how many of its items have the digit 0; and for the least numbers, where those that are equal
--- to one start after the last level
+-- bits of all levels, and how many of its items have the digit 0; and for each number of `known` digits, where those
+-- that begin with it start after so many levels
 pub record LevelTables : Type 0 where
   pub len : ℕ
   pub width : ℕ
   pub ones : List ℕ
   pub zeros : List ℕ
+  pub known : ℕ
   pub starts : List ℕ
 
 -- where the item at place p of a level with these digits stands at the next
@@ -60,7 +61,10 @@ pub record IsMatrixOf (xs : List ℕ) (l : LevelTables) (b : List Bool) : Type 0
   pub ones_are : (d : ℕ) → d < l.width → slice_index l.ones d ≡ ones_before b (d * l.len)
   pub zeros_are : (d : ℕ) → d < l.width
       → slice_index l.zeros d ≡ count_by (has_digit (digit_place l d) false) (level xs l.width d)
-  pub starts_are : (x : ℕ) → x < length l.starts → slice_index l.starts x ≡ level_place xs l.width x l.width 0
+  pub known_most : l.known ≤ l.width
+  pub starts_len : length l.starts ≡ 2 ^ l.known
+  pub starts_are : (x : ℕ) → x < 2 ^ l.width
+      → slice_index l.starts (x / 2 ^ (l.width - l.known)) ≡ level_place xs l.width x l.known 0
 
 -- the bit v of rank r is that of an item of level d: x, with k equal to it before on that level
 pub record IsBitOf (xs : List ℕ) (l : LevelTables) (b : List Bool) (d x k : ℕ) (v : Bool) (r : ℕ) : Type 0 where
@@ -89,7 +93,7 @@ OnlyRanks lists_of reads_of old new k = OnlyReads lists_of reads_of old new k k 
 abbrev pub words_of : ℕ → ℕ → ℕ
 words_of n w = div_ceil (w * n) 64
 
--- as many words and starts as the numbers take
+-- as many words as the numbers take, and as many known digits as their starts are to have
 pub record IsTight (l : LevelTables) (ws : List ℕ) : Type 0 where
   pub words : length ws ≡ words_of l.len l.width
-  pub starts : length l.starts ≡ starts_of l.len l.width
+  pub known : l.known ≡ known_of l.len l.width

@@ -1,5 +1,5 @@
 //! A number by its place, and a number's ranks, over any source: what they read is counted.
-ghost use Rattle.std.specs.Prelude.{◌≡◌, ◌+◌, ◌*◌, ◌^◌, ◌<◌, ◌≤◌, length, slice_index};
+ghost use Rattle.std.specs.Prelude.{◌≡◌, ◌-◌, ◌*◌, ◌^◌, ◌<◌, ◌≤◌, ℕ, slice_index};
 ghost use Rattle.wavelet_matrix.specs.Levels.{level_place};
 ghost use Rattle.wavelet_matrix.specs.Matrix.{IsMatrix, OnlyRanks, numbers_in};
 ghost use Rattle.wavelet_matrix.specs.Numbers.{count_before};
@@ -32,49 +32,60 @@ impl Levels {
         number
     }
 
-    /// Where a number that stood at a place of the list, or would there, stands after the last level.
+    /// Where a number that stands at a place of level `from`, or would there, stands at level `to`.
     #[inline(always)]
-    pub(crate) fn last_place_on<T: TableSource>(
+    pub(crate) fn place_on<T: TableSource>(
         &self,
         source: &mut T,
         number: u64,
+        from: u8,
+        to: u8,
         place: usize,
     ) -> usize
         requires matrix { IsMatrix self.now (T.lists source.old) }
+        requires order { from ≤ to }
+        requires most { to ≤ self.now.width }
         requires inside { place ≤ self.now.len }
-        ensures place { result ≡ level_place (numbers_in self.now (T.lists source.old))
-            self.now.width number self.now.width place }
-        ensures reads { OnlyRanks T.lists T.reads source.old source.new self.now.width }
+        ensures place { let numbers = numbers_in self.now (T.lists source.old) in
+            (p : ℕ) → place ≡ level_place numbers self.now.width number from p
+            → result ≡ level_place numbers self.now.width number to p }
+        ensures inside { result ≤ self.now.len }
+        ensures reads { OnlyRanks T.lists T.reads source.old source.new (to - from) }
     {
-        let width = self.width();
+        let last = self.width() - 1;
         let mut at = place;
-        for depth in 0..width {
-            at = self.next_on(source, depth, digit_of(number, width - 1 - depth), at);
+        for depth in from..to {
+            at = self.next_on(source, depth, digit_of(number, last - depth), at);
         }
         at
     }
 
-    /// The same for two places, whose walks wait for memory side by side.
+    /// The same for two places and the last level; their walks wait for memory side by side.
     #[inline(always)]
     pub(crate) fn last_places_on<T: TableSource>(
         &self,
         source: &mut T,
         number: u64,
+        from: u8,
         start: usize,
         end: usize,
     ) -> (usize, usize)
         requires matrix { IsMatrix self.now (T.lists source.old) }
+        requires most { from ≤ self.now.width }
         requires start { start ≤ self.now.len }
         requires end { end ≤ self.now.len }
-        ensures first { result.0 ≡ level_place (numbers_in self.now (T.lists source.old))
-            self.now.width number self.now.width start }
-        ensures last { result.1 ≡ level_place (numbers_in self.now (T.lists source.old))
-            self.now.width number self.now.width end }
-        ensures reads { OnlyRanks T.lists T.reads source.old source.new (2 * self.now.width) }
+        ensures first { let numbers = numbers_in self.now (T.lists source.old) in
+            (p : ℕ) → start ≡ level_place numbers self.now.width number from p
+            → result.0 ≡ level_place numbers self.now.width number self.now.width p }
+        ensures last { let numbers = numbers_in self.now (T.lists source.old) in
+            (p : ℕ) → end ≡ level_place numbers self.now.width number from p
+            → result.1 ≡ level_place numbers self.now.width number self.now.width p }
+        ensures reads { OnlyRanks T.lists T.reads source.old source.new
+            (2 * (self.now.width - from)) }
     {
         let width = self.width();
         let (mut first, mut last) = (start, end);
-        for depth in 0..width {
+        for depth in from..width {
             let digit = digit_of(number, width - 1 - depth);
             first = self.next_on(source, depth, digit, first);
             last = self.next_on(source, depth, digit, last);
@@ -92,35 +103,33 @@ impl Levels {
         end: usize,
     ) -> (usize, usize)
         requires matrix { IsMatrix self.now (T.lists source.old) }
+        requires fit { number < 2 ^ self.now.width }
         requires inside { end ≤ self.now.len }
         ensures first { result.0 ≡ level_place (numbers_in self.now (T.lists source.old))
             self.now.width number self.now.width 0 }
         ensures last { result.1 ≡ level_place (numbers_in self.now (T.lists source.old))
             self.now.width number self.now.width end }
-        ensures reads { OnlyRanks T.lists T.reads source.old source.new (2 * self.now.width) }
-        ensures kept { number < length self.now.starts
-            → OnlyRanks T.lists T.reads source.old source.new self.now.width }
+        ensures reads { OnlyRanks T.lists T.reads source.old source.new
+            (2 * self.now.width - self.now.known) }
     {
-        match self.start_of(number) {
-            Some(first) => (first, self.last_place_on(source, number, end)),
-            None => self.last_places_on(source, number, 0, end),
-        }
+        let start = self.start_of(source, number);
+        let known = self.known();
+        let end = self.place_on(source, number, 0, known, end);
+        self.last_places_on(source, number, known, start, end)
     }
 
     /// Where the numbers that are equal to this one start after the last level.
     #[inline(always)]
     pub(crate) fn start_on<T: TableSource>(&self, source: &mut T, number: u64) -> usize
         requires matrix { IsMatrix self.now (T.lists source.old) }
+        requires fit { number < 2 ^ self.now.width }
         ensures start { result ≡ level_place (numbers_in self.now (T.lists source.old))
             self.now.width number self.now.width 0 }
-        ensures reads { OnlyRanks T.lists T.reads source.old source.new self.now.width }
-        ensures kept { number < length self.now.starts
-            → OnlyRanks T.lists T.reads source.old source.new 0 }
+        ensures reads { OnlyRanks T.lists T.reads source.old source.new
+            (self.now.width - self.now.known) }
     {
-        match self.start_of(number) {
-            Some(first) => first,
-            None => self.last_place_on(source, number, 0),
-        }
+        let start = self.start_of(source, number);
+        self.place_on(source, number, self.known(), self.width(), start)
     }
 
     /// How many of the first `i` numbers are this one.
@@ -128,20 +137,44 @@ impl Levels {
     /// # Conditions
     /// The levels are those of the source, and there are no fewer than `i` numbers.
     /// # Cost
-    /// For each digit what two ranks read, and what one reads where the number is below `starts`.
+    /// For each digit what two ranks read, and for each known one what one reads.
     #[inline(always)]
     pub fn rank_on<T: TableSource>(&self, source: &mut T, number: u64, i: usize) -> usize
         requires matrix { IsMatrix self.now (T.lists source.old) }
         requires inside { i ≤ self.now.len }
         ensures count { result ≡ count_before (numbers_in self.now (T.lists source.old)) number i }
-        ensures reads { OnlyRanks T.lists T.reads source.old source.new (2 * self.now.width) }
-        ensures kept { number < length self.now.starts
-            → OnlyRanks T.lists T.reads source.old source.new self.now.width }
+        ensures reads { OnlyRanks T.lists T.reads source.old source.new
+            (2 * self.now.width - self.now.known) }
     {
         if !fits(number, self.width()) {
             return 0;
         }
         let (first, last) = self.block_on(source, number, i);
         last - first
+    }
+
+    /// How many of the first `i` numbers are this one, where place `i` of the list is moved by its digits to place
+    /// `last` after the last level.
+    #[inline(always)]
+    pub(crate) fn rank_to_on<T: TableSource>(
+        &self,
+        source: &mut T,
+        number: u64,
+        i: usize,
+        last: usize,
+    ) -> usize
+        requires matrix { IsMatrix self.now (T.lists source.old) }
+        requires inside { i ≤ self.now.len }
+        requires last { last ≡ level_place (numbers_in self.now (T.lists source.old))
+            self.now.width number self.now.width i }
+        ensures count { result ≡ count_before (numbers_in self.now (T.lists source.old)) number i }
+        ensures reads { OnlyRanks T.lists T.reads source.old source.new
+            (self.now.width - self.now.known) }
+    {
+        let _i = i;
+        if !fits(number, self.width()) {
+            return 0;
+        }
+        last - self.start_on(source, number)
     }
 }

@@ -1,7 +1,9 @@
 //! Binary digits of a number.
-ghost use Rattle.std.specs.Prelude.{◌≡◌, ◌<◌, ◌≤◌, ◌*◌, ◌^◌, ◌↔◌, All, IsTrue};
+ghost use Rattle.std.specs.Prelude.{◌≡◌, ◌<◌, ◌≤◌, ◌*◌, ◌/◌, ◌^◌, ◌↔◌, All, IsTrue};
 ghost use Rattle.bitm.specs.Bits.{digit};
-ghost use Rattle.wavelet_matrix.specs.Levels.{starts_of};
+ghost use Rattle.wavelet_matrix.specs.Levels.{known_of};
+
+use bitm::bits_to_store;
 
 /// Whether binary digit `place` of the number is 1.
 #[inline(always)]
@@ -21,18 +23,25 @@ pub(crate) fn fits(number: u64, width: u8) -> bool
     width == 64 || number >> width == 0
 }
 
-/// For how many numbers their starts are kept: for all of `width` digits where these starts take no more than an eighth
-/// of the bits of `len` such numbers, else for none.
-pub(crate) fn starts_for(len: usize, width: u8) -> usize
+/// The number without its lowest `count` binary digits.
+#[inline(always)]
+pub(crate) fn without_lowest(number: u64, count: u8) -> u64
+    requires { count ≤ 64 }
+    ensures { result ≡ number / 2 ^ count }
+{
+    if count < 64 { number >> count } else { 0 }
+}
+
+/// How many of the `width` digits of `len` numbers are to be known from the table of starts.
+pub(crate) fn known_for(len: usize, width: u8) -> u8
     requires most { width ≤ 64 }
     requires short { width * len < 2 ^ 63 }
-    ensures { result ≡ starts_of len width }
+    ensures known { result ≡ known_of len width }
+    ensures most { result ≤ width }
+    ensures few { result < 64 }
 {
-    if width < 54 && 512 << width <= len * width as usize {
-        1 << width
-    } else {
-        0
-    }
+    let words = len * width as usize / 512;
+    bits_to_store(words as u64).saturating_sub(1).min(width)
 }
 
 /// Whether no number has more than `width` binary digits: what `WaveletMatrix::build` asks of its numbers.

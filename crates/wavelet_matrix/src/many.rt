@@ -1,8 +1,9 @@
-//! Many numbers by their places at once, over any source, and many ranks.
-ghost use Rattle.std.specs.Prelude.{◌≡◌, ◌*◌, ◌<◌, ◌≤◌, All, length};
+//! Many numbers by their places at once, and many ranks, over any source.
+ghost use Rattle.std.specs.Prelude.{◌≡◌, ◌-◌, ◌*◌, ◌<◌, ◌≤◌, All, length};
 ghost use Rattle.wavelet_matrix.specs.Matrix.{IsMatrix, OnlyRanks, numbers_in};
 ghost use Rattle.wavelet_matrix.specs.Numbers.{GetsEach, RanksEach};
 
+use crate::digits::digit_of;
 use crate::matrix::WaveletMatrix;
 use crate::walk::Levels;
 use bitm::{Select0ForRank101111, SelectForRank101111, TableSource};
@@ -42,6 +43,48 @@ impl Levels {
             }
         }
     }
+
+    /// For each number and its place, how many of so many first numbers are this one; they go to `ranks` in this order.
+    ///
+    /// All go from level to level together, so that each waits for memory while the others do. Where the numbers start
+    /// after the last level is found for one after another.
+    ///
+    /// # Conditions
+    /// The levels are those of the source, there are as many `numbers` and `ranks` as `places`, and no place is past
+    /// the end.
+    /// # Cost
+    /// For each number what `rank_on` reads.
+    #[inline(always)]
+    pub fn rank_many_on<T: TableSource>(
+        &self,
+        source: &mut T,
+        numbers: &[u64],
+        places: &[usize],
+        ranks: &mut [usize],
+    )
+        requires matrix { IsMatrix self.now (T.lists source.old) }
+        requires numbers { length numbers.now ≡ length places.now }
+        requires ranks { length ranks.old ≡ length places.now }
+        requires inside { All (λ p. p ≤ self.now.len) places.now }
+        ensures ranks { RanksEach (numbers_in self.now (T.lists source.old))
+            numbers.now places.now ranks.new }
+        ensures reads { OnlyRanks T.lists T.reads source.old source.new
+            ((2 * self.now.width - self.now.known) * length places.now) }
+    {
+        for k in 0..ranks.len() {
+            ranks[k] = places[k];
+        }
+        let width = self.width();
+        for depth in 0..width {
+            for j in 0..ranks.len() {
+                let digit = digit_of(numbers[j], width - 1 - depth);
+                ranks[j] = self.next_on(source, depth, digit, ranks[j]);
+            }
+        }
+        for i in 0..ranks.len() {
+            ranks[i] = self.rank_to_on(source, numbers[i], places[i], ranks[i]);
+        }
+    }
 }
 
 impl<S: SelectForRank101111, S0: Select0ForRank101111> WaveletMatrix<S, S0> {
@@ -50,15 +93,14 @@ impl<S: SelectForRank101111, S0: Select0ForRank101111> WaveletMatrix<S, S0> {
     /// # Conditions
     /// There are as many `numbers` and `ranks` as `places`, and no place is past the end.
     /// # Cost
-    /// That of `rank` for each, one after another.
+    /// That of `Levels::rank_many_on`: all go from level to level together.
     pub fn rank_many(&self, numbers: &[u64], places: &[usize], ranks: &mut [usize])
         requires numbers { length numbers.now ≡ length places.now }
         requires ranks { length ranks.old ≡ length places.now }
         requires inside { All (λ p. p ≤ length self.now.items) places.now }
         ensures { RanksEach self.now.items numbers.now places.now ranks.new }
     {
-        for k in 0..ranks.len() {
-            ranks[k] = self.rank(numbers[k], places[k]);
-        }
+        let (levels, mut probe) = self.parts();
+        levels.rank_many_on(&mut probe, numbers, places, ranks);
     }
 }

@@ -3,11 +3,11 @@ ghost use Rattle.std.specs.Prelude.{◌≡◌, ◌==◌, ◌+◌, ◌*◌, ◌^�
 ghost use Rattle.std.specs.Int.{div_ceil};
 ghost use Rattle.bitm.specs.Reads.{none_read};
 ghost use Rattle.bitm.specs.Size.{saturated_size};
-ghost use Rattle.wavelet_matrix.specs.Levels.{level, starts_of};
+ghost use Rattle.wavelet_matrix.specs.Levels.{known_of, level};
 ghost use Rattle.wavelet_matrix.specs.Matrix.{IsMatrix, numbers_in, words_of};
 ghost use Rattle.wavelet_matrix.specs.Numbers.{count_before, GetsEach, PicksItem, IsItemRank, IsItemSelect};
 
-use crate::digits::{fits, starts_for};
+use crate::digits::{fits, known_for};
 use crate::walk::Levels;
 use crate::writing::make_levels;
 use bitm::{
@@ -22,9 +22,10 @@ use std::marker::Model;
 ///
 /// Level `d` has one bit for each number, its digit `width - 1 - d`; before the next level the numbers are partitioned
 /// by that digit, those with a 0 first, each kind in its order. All levels stand side by side in one content under one
-/// index: `n` numbers of `w` digits take `n * w` bits and the index, and sixteen bytes for each level. Where 2^w words
-/// take no more than an eighth of these bits, there is one for each number of `w` digits: it says where those that are
-/// equal to the number start after the last level, so that a rank walks once and not twice.
+/// index: `n` numbers of `w` digits take `n * w` bits and the index, and sixteen bytes for each level. A table has for
+/// each number of some of the highest digits the place where the numbers that begin with it start after so many levels,
+/// so that a rank walks through these levels once and not twice. It has as many digits as leave its words no more than
+/// an eighth of these bits.
 ///
 /// For 3, 1, 4, 1, 5, 1 of three digits:
 ///
@@ -86,8 +87,8 @@ impl<S: SelectForRank101111, S0: Select0ForRank101111> WaveletMatrix<S, S0> {
             return Err(AllocError);
         };
         let mut levels = Levels::new(alloc, &index, numbers.len(), width)?;
-        let count = starts_for(numbers.len(), width);
-        levels.keep_starts(alloc, &mut index.probe(), count)?;
+        let known = known_for(numbers.len(), width);
+        levels.keep_starts(alloc, &mut index.probe(), known)?;
         Ok(WaveletMatrix { levels, index })
     }
 
@@ -125,6 +126,7 @@ impl<S: SelectForRank101111, S0: Select0ForRank101111> WaveletMatrix<S, S0> {
         ensures items { numbers_in result.0.now result.1.lists ≡ self.now.items }
         ensures len { result.0.now.len ≡ length self.now.items }
         ensures width { result.0.now.width ≡ self.now.width }
+        ensures known { result.0.now.known ≡ known_of (length self.now.items) self.now.width }
         ensures fit { All (λ x. x < 2 ^ self.now.width) self.now.items }
         ensures reads { result.1.reads ≡ none_read }
     {
@@ -249,7 +251,7 @@ impl<S: SelectForRank101111, S0: Select0ForRank101111> WaveletMatrix<S, S0> {
     /// # Conditions
     /// There is one: there are more than `k` such numbers.
     /// # Cost
-    /// For each digit a selection, and where the start of the number is not kept a rank.
+    /// For each digit a selection, and for each that is not known from the table of starts a rank.
     #[inline]
     pub fn select(&self, number: u64, k: usize) -> usize
         requires { k < count_before self.now.items number (length self.now.items) }
@@ -263,7 +265,7 @@ impl<S: SelectForRank101111, S0: Select0ForRank101111> WaveletMatrix<S, S0> {
     /// The place of this number with exactly `k` such numbers before it; `None` exactly where there is none.
     ///
     /// # Cost
-    /// For each digit a selection, and two ranks, or one where the start of the number is kept.
+    /// For each digit a selection, and two ranks, or one where it is known from the table of starts.
     #[inline]
     pub fn try_select(&self, number: u64, k: usize) -> Option<usize>
         ensures { IsItemSelect self.now.items number k result }
@@ -282,12 +284,12 @@ impl<S: SelectForRank101111, S0: Select0ForRank101111> WaveletMatrix<S, S0> {
 
 impl<S: SelectForRank101111 + GetSize, S0: Select0ForRank101111 + GetSize> GetSize
     for WaveletMatrix<S, S0> {
-    // the words, eight bytes for each begun 2^26 and each begun 32 of them, sixteen for each level, eight for each
-    // start, and the two strategies
+    // the words, eight bytes for each begun 2^26 and each begun 32 of them, the two strategies, sixteen bytes for each
+    // level, and eight for each number of the known digits
     ghost dyn_bytes = { λ m. let n = length m.items in let words = words_of n m.width in saturated_size
         (8 * words + 8 * div_ceil words (2 ^ 26) + 8 * div_ceil words 32
         + S.dyn_bytes m.select + S0.dyn_bytes m.select0
-        + 16 * m.width + 8 * starts_of n m.width) };
+        + 16 * m.width + 8 * 2 ^ known_of n m.width) };
 
     const USES_DYN_MEM: bool = true;
 

@@ -1,5 +1,5 @@
 //! The places of a number over any source, by binary search: what they read is counted.
-ghost use Rattle.std.specs.Prelude.{◌≡◌, ◌+◌, ◌*◌, ◌<◌, ◌≤◌, length};
+ghost use Rattle.std.specs.Prelude.{◌≡◌, ◌+◌, ◌-◌, ◌*◌, ◌<◌, ◌≤◌, length};
 ghost use Rattle.bitm.specs.Bits.{digit_count};
 ghost use Rattle.bitm.specs.Reads.{OnlyReads};
 ghost use Rattle.wavelet_matrix.specs.Matrix.{IsMatrix, level_in, numbers_in};
@@ -43,15 +43,17 @@ impl Levels {
     /// # Conditions
     /// The levels are those of the source, and there are more than `k` such numbers.
     /// # Cost
-    /// For each digit what a rank and a selection by binary search read.
+    /// For each digit what a selection by binary search reads, and for each that is not known what a rank reads.
     pub fn select_on<T: TableSource>(&self, source: &mut T, number: u64, k: usize) -> usize
         requires matrix { IsMatrix self.now (T.lists source.old) }
         requires some { let numbers = numbers_in self.now (T.lists source.old) in
             k < count_before numbers number (length numbers) }
         ensures picked { PicksItem (numbers_in self.now (T.lists source.old)) number k result }
         ensures reads { let digits = digit_count (length (T.lists source.old).upper) in
+            let ranks = self.now.width - self.now.known in
             OnlyReads T.lists T.reads source.old source.new
-            (self.now.width * (digits + 2)) (self.now.width * 24) (self.now.width * 16) }
+            (ranks + self.now.width * (digits + 1)) (ranks + self.now.width * 23)
+            (8 * ranks + self.now.width * 8) }
     {
         let width = self.width();
         let mut at = self.start_on(source, number) + k;

@@ -1,28 +1,29 @@
 //! The levels of a matrix among the bits of a source, and the step from one level to the next.
-ghost use Rattle.std.specs.Prelude.{◌≡◌, ◌+◌, ◌*◌, ◌-◌, ◌<◌, ◌≤◌, ◌^◌, ℕ, true, length, take, count_by, slice_index, IfOk, SomeIff};
+ghost use Rattle.std.specs.Prelude.{◌≡◌, ◌+◌, ◌*◌, ◌-◌, ◌<◌, ◌≤◌, ◌^◌, ℕ, true, length, ◌∷◌, [], take, count_by, slice_index, IfOk};
 ghost use Rattle.bitm.specs.Bits.{digit};
 ghost use Rattle.bitm.specs.Count.{ones_before, zeros_before};
 ghost use Rattle.bitm.specs.Size.{saturated_size};
 ghost use Rattle.bitm.specs.Tables.{bits_in};
-ghost use Rattle.wavelet_matrix.specs.Levels.{has_digit, partition_place};
+ghost use Rattle.wavelet_matrix.specs.Levels.{has_digit, level_place, partition_place};
 ghost use Rattle.wavelet_matrix.specs.Matrix.{IsBitOf, IsMatrix, IsMatrixOf, OnlyRanks, digit_place, level_in, numbers_in};
 ghost use Rattle.wavelet_matrix.specs.Numbers.{PicksItem};
 
-use crate::digits::digit_of;
+use crate::digits::{digit_of, without_lowest};
 use bitm::{Access, GetSize, TableSource, bit_and_rank_on, rank_on};
 use std::alloc::{AllocError, Global};
 use std::boxed::BoxedSlice;
 use std::marker::Model;
 
 /// Where the levels of a matrix are among the bits of a source: how many numbers there are, of how many digits, and for
-/// each level how many ones stand before it, and how many of its items have the digit 0. Where there are many numbers
-/// of few digits, also where those that are equal start after the last level, for each number of so many digits.
+/// each level how many ones stand before it, and how many of its items have the digit 0. A table says for each number of
+/// some of the highest digits, the known ones, where the numbers that begin with it start after so many levels.
 #[derive(Drop)]
 pub struct Levels {
     len: usize,
     width: u8,
     ones: BoxedSlice<usize, Global>,
     zeros: BoxedSlice<usize, Global>,
+    known: u8,
     starts: BoxedSlice<usize, Global>,
 }
 
@@ -37,12 +38,14 @@ impl Model for Levels {
       width = l.width;
       ones = boxed_slice_items l.ones;
       zeros = boxed_slice_items l.zeros;
+      known = l.known;
       starts = boxed_slice_items l.starts;
     } };
 }
 
 impl Levels {
-    /// The levels of `len` numbers of `width` digits, whose bits the index has from its first one on.
+    /// The levels of `len` numbers of `width` digits, whose bits the index has from its first one on. No digits are
+    /// known from the table of starts, which says that all numbers start at place 0.
     ///
     /// # Errors
     /// `AllocError` if memory was refused; nothing is left.
@@ -60,7 +63,8 @@ impl Levels {
         ensures width { IfOk result (λ made. made.width ≡ width) }
         ensures ones_len { IfOk result (λ made. length made.ones ≡ width) }
         ensures zeros_len { IfOk result (λ made. length made.zeros ≡ width) }
-        ensures starts { IfOk result (λ made. length made.starts ≡ 0) }
+        ensures known { IfOk result (λ made. made.known ≡ 0) }
+        ensures starts { IfOk result (λ made. made.starts ≡ 0 ∷ []) }
         ensures ones { IfOk result (λ made. (d : ℕ) → d < width
             → slice_index made.ones d ≡ ones_before (I.bits index.now) (d * len)) }
         ensures zeros { IfOk result (λ made. (d : ℕ) → d < width
@@ -75,38 +79,48 @@ impl Levels {
             ones.push(before)?;
             zeros.push(len - (through - before))?;
         }
+        let mut starts = Vec::with_capacity(alloc, 1)?;
+        starts.push(0)?;
         Ok(Levels {
             len,
             width,
             ones: ones.into_boxed_slice(),
             zeros: zeros.into_boxed_slice(),
-            starts: Vec::new(alloc).into_boxed_slice(),
+            known: 0,
+            starts: starts.into_boxed_slice(),
         })
     }
 
-    /// Adds for each number below `count` where those that are equal to it start after the last level.
+    /// Makes `known` of the highest digits known from the table of starts.
     ///
     /// # Errors
     /// `AllocError` if memory was refused; the levels are as they were.
     /// # Cost
-    /// For each of these numbers, and each digit, a rank.
+    /// For each number of so many digits, and each digit, a rank.
     pub(crate) fn keep_starts<T: TableSource>(
         &mut self,
         alloc: Global,
         source: &mut T,
-        count: usize,
+        known: u8,
     ) -> Result<(), AllocError>
         requires matrix { IsMatrix self.old (T.lists source.old) }
+        requires most { known ≤ self.old.width }
+        requires few { known < 64 }
         ensures len { self.new.len ≡ self.old.len }
         ensures width { self.new.width ≡ self.old.width }
-        ensures count { IfOk result (λ _. length self.new.starts ≡ count) }
+        ensures known { IfOk result (λ _. self.new.known ≡ known) }
         ensures matrix { IfOk result (λ _. IsMatrixOf (numbers_in self.old (T.lists source.old))
             self.new (bits_in (T.lists source.old))) }
     {
+        let count = 1 << known;
+        // Of no digits there is one number, and then no digit of it is asked for.
+        let rest = (self.width() - known) % 64;
         let mut starts = Vec::with_capacity(alloc, count)?;
-        for number in 0..count {
-            starts.push(self.last_place_on(source, number as u64, 0))?;
+        for begin in 0..count {
+            let number = (begin as u64) << rest;
+            starts.push(self.place_on(source, number, 0, known, 0))?;
         }
+        self.known = known;
         self.starts = starts.into_boxed_slice();
         Ok(())
     }
@@ -126,30 +140,40 @@ impl Levels {
             width: self.width,
             ones: ones.into_boxed_slice(),
             zeros: zeros.into_boxed_slice(),
+            known: self.known,
             starts: starts.into_boxed_slice(),
         })
     }
 
-    /// For how many numbers, from 0 on, it is kept where those that are equal start after the last level.
+    /// How many of the highest digits are known from the table of starts.
     #[inline(always)]
-    pub fn starts(&self) -> usize
-        ensures { result ≡ length self.now.starts }
+    pub fn known(&self) -> u8
+        ensures { result ≡ self.now.known }
     {
-        self.starts.as_slice().len()
+        self.known
     }
 
-    /// Where those that are equal to the number start after the last level; `None` exactly where that is not kept.
+    /// Where the numbers that begin with the known digits of this one start after so many levels.
     #[inline(always)]
-    pub(crate) fn start_of(&self, number: u64) -> Option<usize>
-        ensures { SomeIff result (number < length self.now.starts)
-            (slice_index self.now.starts number) }
+    pub(crate) fn start_of<T: TableSource>(&self, source: &T, number: u64) -> usize
+        requires matrix { IsMatrix self.now (T.lists source.now) }
+        requires fit { number < 2 ^ self.now.width }
+        ensures start { result ≡ level_place (numbers_in self.now (T.lists source.now))
+            self.now.width number self.now.known 0 }
+        ensures inside { result ≤ self.now.len }
     {
-        let starts = self.starts.as_slice();
-        if number < starts.len() as u64 {
-            Some(starts[number as usize])
-        } else {
-            None
-        }
+        let _source = source;
+        let begin = without_lowest(number, self.width() - self.known());
+        self.kept_start(begin as usize)
+    }
+
+    /// Entry `at` of the table of starts.
+    #[inline(always)]
+    fn kept_start(&self, at: usize) -> usize
+        requires { at < length self.now.starts }
+        ensures { result ≡ slice_index self.now.starts at }
+    {
+        self.starts[at]
     }
 
     /// How many numbers there are.

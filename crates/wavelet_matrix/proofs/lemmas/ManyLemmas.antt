@@ -13,6 +13,10 @@ pub record IsAtLevel (xs : List ℕ) (w d i p n : ℕ) : Type 0 where
   pub place : p ≡ level_place xs w (get_or xs i 0) d i
   pub digits : n ≡ get_or xs i 0 / 2 ^ (w - d)
 
+-- place q is where number k stands on level d that comes from place k
+abbrev pub StandsAt : List ℕ → ℕ → List ℕ → List ℕ → ℕ → ℕ → ℕ → Type 0
+StandsAt xs w numbers places d k q = q ≡ level_place xs w (get_or numbers k 0) d (get_or places k 0)
+
 -- the number so far and one digit more
 one-more : (n : ℕ) (v : Bool) → 2 * n + bool_byte v ≡ with_digit n v
 one-more n true = refl

@@ -1,5 +1,5 @@
 -- What the bits of a matrix say of its levels.
-use Rattle.std.proofs.Common.{◌≡◌, ℕ, zero, suc, ◌+◌, ◌-◌, ◌*◌, ◌/◌, ◌%◌, ◌^◌, ◌<◌, ◌≤◌, Bool, true, false, if◌then◌else◌, List, length, take, drop, get_or, count_by, All, refl, sym, ap, ◌∙◌, subst, arith, one-add, ⊎_elim}
+use Rattle.std.proofs.Common.{◌≡◌, ℕ, zero, suc, ◌+◌, ◌-◌, ◌*◌, ◌/◌, ◌%◌, ◌^◌, ◌<◌, ◌≤◌, Bool, true, false, if◌then◌else◌, List, [], ◌∷◌, length, take, drop, get_or, count_by, All, refl, sym, ap, ◌∙◌, subst, arith, one-add, ⊎_elim}
 use Rattle.std.proofs.lemmas.Bool.Decides.{eqb_tells}
 use Rattle.std.proofs.Math.Nat.{mod-one, mod-eq_of_lt, mul-le-mul_right}
 use Rattle.std.proofs.lemmas.Grind.{same_number_lists}
@@ -10,10 +10,11 @@ use Rattle.bitm.specs.Bits.{bits_of, digit, item}
 use Rattle.bitm.specs.Tables.{IsIndexed, Lists, bits_in}
 use Rattle.bitm.specs.Count.{count_before, ones_before, zeros_before}
 use Rattle.bitm.proofs.BitLaws.{count_in_stretch, item_of_stretch}
-use Rattle.wavelet_matrix.specs.Levels.{has_digit, partition, column, columns, level, level_place, partition_place, starts_of}
+use Rattle.wavelet_matrix.specs.Levels.{has_digit, partition, column, columns, level, known_of, level_place, partition_place}
 use Rattle.wavelet_matrix.specs.Matrix.{LevelTables, IsMatrix, IsMatrixOf, IsTight, words_of, digit_place, items_of, low_part, next_place, numbers_in}
 use Rattle.wavelet_matrix.proofs.lemmas.ColumnLemmas.{column-at, length-level, length-column, count-column, item-column}
 use Rattle.wavelet_matrix.proofs.lemmas.PartLemmas.{item-moved, moved-inside}
+use Rattle.wavelet_matrix.proofs.lemmas.StartLemmas.{starts-from-begins, starts-of-none}
 
 -- the next place by the bits of a level is where its item stands after the partition
 next-place-moved : (b : ℕ) (xs : List ℕ) (p : ℕ) → p < length xs
@@ -143,15 +144,17 @@ module _ (xs : List ℕ) (l : LevelTables) (b : List Bool) (h : IsMatrixOf xs l 
 -- the tables of what was written are those of the levels
 pub made-matrix : (xs : List ℕ) (l : LevelTables) (b : List Bool) (w : ℕ) → l.len ≡ length xs → l.width ≡ w → 1 ≤ w → w ≤ 64 → w * length xs < 2 ^ 63
     → All (λ x. x < 2 ^ w) xs → w * length xs ≤ length b → take (w * length xs) b ≡ columns xs w w → length l.ones ≡ w → length l.zeros ≡ w
-    → length l.starts ≡ 0
+    → l.known ≡ 0 → l.starts ≡ 0 ∷ []
     → ((d : ℕ) → d < w → get_or l.ones d 0 ≡ ones_before b (d * length xs))
     → ((d : ℕ) → d < w → zeros_before b (d * length xs) + get_or l.zeros d 0 ≡ zeros_before b (d * length xs + length xs))
     → IsMatrixOf xs l b
-made-matrix xs l b w len width some most short fit room levels ones_len zeros_len starts ones zeros =
-    let Goal : ℕ → ℕ → Type 0 = λ n v. IsMatrixOf xs (record { len = n; width = v; ones = l.ones; zeros = l.zeros; starts = l.starts }) b in
-    let P : ℕ → Type 0 = λ n. Goal n l.width in
-    let Q : ℕ → Type 0 = λ v. Goal (length xs) v in
-    subst P (sym len) (subst Q (sym width) (record {
+made-matrix xs l b w len width some most short fit room levels ones_len zeros_len known starts ones zeros =
+    let Goal : ℕ → ℕ → ℕ → List ℕ → Type 0 = λ n v k s. IsMatrixOf xs (record { len = n; width = v; ones = l.ones; zeros = l.zeros; known = k; starts = s }) b in
+    let P : ℕ → Type 0 = λ n. Goal n l.width l.known l.starts in
+    let Q : ℕ → Type 0 = λ v. Goal (length xs) v l.known l.starts in
+    let R : ℕ → Type 0 = λ k. Goal (length xs) w k l.starts in
+    let S : List ℕ → Type 0 = λ s. Goal (length xs) w 0 s in
+    subst P (sym len) (subst Q (sym width) (subst R (sym known) (subst S (sym starts) (record {
       count = refl;
       some = some;
       most = most;
@@ -163,13 +166,17 @@ made-matrix xs l b w len width some most short fit room levels ones_len zeros_le
       zeros_len = zeros_len;
       ones_are = ones;
       zeros_are = λ d less. omega (arith, zeros d less, count-whole xs w (length xs) b refl room levels false d less);
-      starts_are = λ x less. absurd (omega (arith, less, starts));
-    }))
+      known_most = omega arith;
+      starts_len = refl;
+      starts_are = starts-of-none xs w;
+    }))))
 
 -- and so they are with starts
-pub matrix-with-starts : (xs : List ℕ) (l : LevelTables) (b : List Bool) (starts : List ℕ) → IsMatrixOf xs l b
-    → ((x : ℕ) → x < length starts → get_or starts x 0 ≡ level_place xs l.width x l.width 0) → IsMatrixOf xs (record l { starts = starts }) b
-matrix-with-starts xs l b starts h are = record {
+pub matrix-with-starts : (xs : List ℕ) (l : LevelTables) (b : List Bool) (known : ℕ) (starts : List ℕ) → IsMatrixOf xs l b
+    → known ≤ l.width → length starts ≡ 2 ^ known
+    → ((h : ℕ) → h < 2 ^ known → get_or starts h 0 ≡ level_place xs l.width (h * 2 ^ (l.width - known)) known 0)
+    → IsMatrixOf xs (record l { known = known; starts = starts }) b
+matrix-with-starts xs l b known starts h most len each = record {
   count = h.count;
   some = h.some;
   most = h.most;
@@ -181,7 +188,9 @@ matrix-with-starts xs l b starts h are = record {
   zeros_len = h.zeros_len;
   ones_are = h.ones_are;
   zeros_are = h.zeros_are;
-  starts_are = are;
+  known_most = most;
+  starts_len = len;
+  starts_are = starts-from-begins xs l.width known starts most each;
 }
 
 -- over a source whose words hold the levels
@@ -198,11 +207,11 @@ matrix-from xs l other lists ws words h k =
     let Q : List ℕ → Type 0 = λ ys. IsMatrixOf ys other (bits_of ws) in
     subst Q (items_of-is xs l.width l.len (bits_of ws) h.count h.room h.levels h.fit) (subst P words k)
 
--- as many words and starts as were made
-pub tight : (xs : List ℕ) (w : ℕ) (l : LevelTables) (words : List ℕ) → length words ≡ words_of (length xs) w → length l.starts ≡ starts_of (length xs) w
+-- as many words and known digits as were made
+pub tight : (xs : List ℕ) (w : ℕ) (l : LevelTables) (words : List ℕ) → length words ≡ words_of (length xs) w → l.known ≡ known_of (length xs) w
     → l.len ≡ length xs → l.width ≡ w → IsTight l words
-tight xs w l words few starts len width =
-    let P : ℕ → Type 0 = λ n. (length words ≡ words_of n l.width) × (length l.starts ≡ starts_of n l.width) in
-    let Q : ℕ → Type 0 = λ v. (length words ≡ words_of (length xs) v) × (length l.starts ≡ starts_of (length xs) v) in
-    let both = subst P (sym len) (subst Q (sym width) (few, starts)) in
-    record { words = both.0; starts = both.1 }
+tight xs w l words few known len width =
+    let P : ℕ → Type 0 = λ n. (length words ≡ words_of n l.width) × (l.known ≡ known_of n l.width) in
+    let Q : ℕ → Type 0 = λ v. (length words ≡ words_of (length xs) v) × (l.known ≡ known_of (length xs) v) in
+    let both = subst P (sym len) (subst Q (sym width) (few, known)) in
+    record { words = both.0; known = both.1 }

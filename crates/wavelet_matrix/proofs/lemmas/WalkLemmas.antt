@@ -1,6 +1,6 @@
 -- Where numbers stand after some levels, and what stands between two places.
-use Rattle.std.proofs.Common.{◌≡◌, ℕ, zero, suc, ◌+◌, ◌-◌, ◌/◌, ◌^◌, ◌<◌, ◌≤◌, ◌==◌, Bool, List, length, take, get_or, count_by, filter, slice_range, All, refl, sym, ap, ◌∙◌, subst, arith, add-one, zero-add}
-use Rattle.std.proofs.lemmas.Bool.{eqb-true, eq-eqb, ne_eqb}
+use Rattle.std.proofs.Common.{◌≡◌, ℕ, zero, suc, ◌+◌, ◌-◌, ◌/◌, ◌^◌, ◌<◌, ◌≤◌, ◌==◌, Bool, List, length, take, get_or, count_by, filter, slice_range, All, refl, sym, ap, ◌∙◌, subst, arith, add-one, zero-add, ⊎_elim}
+use Rattle.std.proofs.lemmas.Bool.{cases_lt, eqb-true, eq-eqb, ne_eqb}
 use Rattle.std.proofs.lemmas.List.Elements.{filter_passes}
 use Rattle.std.proofs.lemmas.List.Sums.{length-filter}
 use Rattle.std.proofs.lemmas.Nat.{shr_le}
@@ -166,6 +166,14 @@ count_before-wide xs w x i fit wide =
       count-none (λ y. y == x) xs
           (λ k h. ne_eqb _ _ (λ e. let P : ℕ → Type 0 = λ y. y < 2 ^ w in wide (subst P e (fit k 0 h)))),
     )
+
+-- a number of which there is one has no more digits than all items
+pub fits-where-some : (xs : List ℕ) (w x k : ℕ) → All (λ y. y < 2 ^ w) xs → k < count_before xs x (length xs) → x < 2 ^ w
+fits-where-some xs w x k all some =
+    ⊎_elim
+    (λ h. h)
+    (λ h. absurd (omega (arith, some, count_before-wide xs w x (length xs) all (λ less. omega (arith, h, less)))))
+    (cases_lt x (2 ^ w))
 
 -- ---- from the last level up
 

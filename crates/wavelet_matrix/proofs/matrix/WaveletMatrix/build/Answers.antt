@@ -30,13 +30,15 @@ made g c =
     ))
     (ap (λ (ws : List ℕ). take (c.args.width * length c.args.numbers.now) (bits_of ws)) (ap boxed_slice_items c.in-Ok.ensures.kept)
     ∙ c.in_ok-content.ensures.levels)
-    made.ones_len made.zeros_len made.starts made.ones made.zeros
+    made.ones_len made.zeros_len made.known made.starts made.ones made.zeros
 
 pub keep_starts-requires : goal.keep_starts-requires
 keep_starts-requires g c =
     record {
       matrix = is-matrix c.args.numbers.now c.in_ok-levels.levels c.probe.result.lists _ c.probe.ensures.indexed c.probe.ensures.words
           (made g (goal.at.keep_starts-requires g c).In_ok-levels);
+      most = omega (arith, c.known_for-known.ensures.most, c.in_ok-levels.ensures.width);
+      few = c.known_for-known.ensures.few;
     }
 
 kept : (g : _) (c : In_ok-keep_starts g) (h : IsMatrixOf c.args.numbers.now c.in_ok-levels.levels (bits_of (boxed_slice_items c.in-Ok.index.content)))
@@ -50,7 +52,7 @@ invariant_of-result g c = (
   matrix-of-items c.args.numbers.now c.keep_starts.new.self _ (kept g c (made g (goal.at.invariant_of-result g c).In_ok-levels)),
   tight c.args.numbers.now c.args.width c.keep_starts.new.self _
       (ap (λ (l : List ℕ). length l) (ap boxed_slice_items c.in-Ok.ensures.kept) ∙ c.in_ok-content.ensures.words)
-      (c.in_ok-keep_starts.ensures.count ∙ c.starts_for-count.ensures)
+      (c.in_ok-keep_starts.ensures.known ∙ c.known_for-known.ensures.known)
       (c.in_ok-keep_starts.ensures.len ∙ c.in_ok-levels.ensures.len) (c.in_ok-keep_starts.ensures.width ∙ c.in_ok-levels.ensures.width),
 )
 

@@ -1,15 +1,16 @@
-use Rattle.std.proofs.Common.{◌≡◌, ℕ, ◌<◌, length, get_or}
+use Rattle.std.proofs.Common.{◌≡◌, ℕ, ◌-◌, ◌*◌, ◌^◌, ◌<◌, length, get_or}
 use Rattle.wavelet_matrix.specs.Levels.{level_place}
 use Rattle.wavelet_matrix.specs.Matrix.{numbers_in}
 use Rattle.wavelet_matrix.proofs.walk.Levels.keep_starts.Given as goal
 
 -- the starts of the numbers so far
-abbrev pub invariant-loop-number : goal.invariant-loop-number
-invariant-loop-number g l =
+abbrev pub invariant-loop-begin : goal.invariant-loop-begin
+invariant-loop-begin g l =
     let T = g.T.TableSource in
+    let w = l.fn.self.width in
     record {
-      count : length l.starts.items ≡ l.number;
-      starts : (x : ℕ) → x < l.number
-          → get_or l.starts.items x 0 ≡ level_place (numbers_in l.fn.self (T.lists l.fn.source)) l.fn.self.width x l.fn.self.width 0;
+      count : length l.starts.items ≡ l.begin;
+      starts : (h : ℕ) → h < l.begin
+          → get_or l.starts.items h 0 ≡ level_place (numbers_in l.fn.self (T.lists l.fn.source)) w (h * 2 ^ (w - l.known)) l.known 0;
       same : T.lists l.source ≡ T.lists l.fn.source;
     }

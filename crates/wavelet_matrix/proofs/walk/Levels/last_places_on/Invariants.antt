@@ -1,15 +1,17 @@
-use Rattle.std.proofs.Common.{◌≡◌, ◌*◌}
+use Rattle.std.proofs.Common.{◌≡◌, ℕ, ◌-◌, ◌*◌, ◌≤◌}
 use Rattle.wavelet_matrix.specs.Levels.{level_place}
 use Rattle.wavelet_matrix.specs.Matrix.{OnlyRanks, numbers_in}
 use Rattle.wavelet_matrix.proofs.walk.Levels.last_places_on.Given as goal
 
--- where the number stands on this level, from both places; two ranks were read for each level before
+-- where the number stands on this level, from both places; two ranks were read for each level since the first
 abbrev pub invariant-loop-depth : goal.invariant-loop-depth
 invariant-loop-depth g l =
     let T = g.T.TableSource in
     let xs = numbers_in l.self (T.lists l.fn.source) in
     record {
-      first : l.first ≡ level_place xs l.self.width l.number l.depth l.start;
-      last : l.last ≡ level_place xs l.self.width l.number l.depth l.end;
-      reads : OnlyRanks T.lists T.reads l.fn.source l.source (2 * l.depth);
+      first : (p : ℕ) → l.start ≡ level_place xs l.self.width l.number l.from p → l.first ≡ level_place xs l.self.width l.number l.depth p;
+      last : (p : ℕ) → l.end ≡ level_place xs l.self.width l.number l.from p → l.last ≡ level_place xs l.self.width l.number l.depth p;
+      first_inside : l.first ≤ l.self.len;
+      last_inside : l.last ≤ l.self.len;
+      reads : OnlyRanks T.lists T.reads l.fn.source l.source (2 * (l.depth - l.from));
     }
