@@ -42,7 +42,7 @@ number_at by hash parts key = number_from by parts (hash parts.hasher key)
 
 -- the same where hashes alone say where they fall
 abbrev pub number_of : {H I P K : Type 0} → (H → K → ℕ) → Parts H I P → K → Option ℕ
-number_of hash parts key = number_by parts.sizes parts.bits (hash parts.hasher key)
+number_of = number_at (λ _ _. place_in)
 
 -- where keys collide, so many of these hashes are left after all levels
 abbrev pub IfCollide : BuildError → List ℕ → Type 0

@@ -6,7 +6,7 @@ ghost use Rattle.bitm.specs.Size.{saturated_size};
 ghost use Rattle.bitm.specs.Reads.{none_read, ReadsAtMost};
 ghost use Rattle.perfect_hash.specs.Parts.{number_at, number_from, number_of, AreSizes};
 
-use crate::asking::number_on;
+use crate::asking::number_by_on;
 use crate::hashing::KeyHash;
 use crate::placing::{Placing, Plain};
 use bitm::{
@@ -21,8 +21,9 @@ use std::marker::Model;
 /// A minimal perfect hash: each key that it was built of has a number of its own, below their count.
 ///
 /// The levels stand one behind another in the bits of an index, which is asked for one bit a level and one rank. With
-/// `n` keys at 100 per cent the levels have about `e * n` bits, 2.72 a key, and the index's tables 3.2 per cent more. A
-/// contract sees a perfect hash as its hasher, how many words each level has, and the bits.
+/// `n` keys at 100 per cent the levels have about `e * n` bits, 2.72 a key, and the index's tables 3.2 per cent more;
+/// with a seed for each word (`Grouped`) all is 2.27 bits a key. A contract sees a perfect hash as its hasher, what
+/// places hashes, how many words each level has, and the bits.
 ///
 /// # Source
 /// Müller, Sanders, Schulze and Zhou, 'Retrieval and perfect hashing using fingerprinting' (SEA 2014).
@@ -188,8 +189,34 @@ impl<H, S: SelectForRank101111, S0: Select0ForRank101111, BV: AsSlice<u64>> Perf
         ensures reads { ReadsAtMost none_read result.1 1 1 (length self.now.sizes + 8) }
     {
         let mut probe = self.index.probe();
-        let number = number_on(&mut probe, self.sizes.as_slice(), self.hash(key));
+        let hash = self.hash(key);
+        let (sizes, seeds) = (self.sizes.as_slice(), &mut ReadCounts::new());
+        let number = number_by_on(&mut probe, &self.placing, sizes, hash, seeds);
         (number, probe.into_reads())
+    }
+}
+
+impl<H, S: SelectForRank101111, S0: Select0ForRank101111, BV: AsSlice<u64>, P: Placing> PerfectHash<
+    H,
+    RankSelect101111<S, S0, BV>,
+    P,
+> {
+    /// What `get` answers, and what was read for it: of the index at most one word a level, and one rank; of the placing
+    /// at most one seed a level, counted as words.
+    #[inline]
+    pub fn get_counted_by<K>(&self, key: &K) -> (Option<usize>, ReadCounts, ReadCounts)
+    where
+        H: KeyHash<K>,
+        ensures value { result.0 ≡ number_at P.fall H.hash self.now key.now }
+        ensures reads { ReadsAtMost none_read result.1 1 1 (length self.now.sizes + 8) }
+        ensures seeds { ReadsAtMost none_read result.2 0 0 (length self.now.sizes) }
+    {
+        let mut probe = self.index.probe();
+        let mut seeds = ReadCounts::new();
+        let hash = self.hash(key);
+        let sizes = self.sizes.as_slice();
+        let number = number_by_on(&mut probe, &self.placing, sizes, hash, &mut seeds);
+        (number, probe.into_reads(), seeds)
     }
 }
 
