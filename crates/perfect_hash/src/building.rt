@@ -234,7 +234,8 @@ pub fn build_by<K, H: KeyHash<K>, P: Placing>(
     keys: &[K],
     percent: u16,
 ) -> Result<PerfectHash<H, ArrayWithRank101111, P>, Refused<H>>
-    ensures perfect { IfOk result (λ made. IsMinimalPerfect (number_at P.fall H.hash made) keys.now) }
+    ensures perfect { IfOk result (λ made.
+        IsMinimalPerfect (number_at P.fall H.hash made) keys.now) }
     ensures kept { IfOk result (λ made. made.hasher ≡ hasher) }
     ensures room { IfOk result (λ _. words_for percent (length keys.now) < 2 ^ 50) }
     ensures hasher_back { IfErr result (λ refused. refused.hasher ≡ hasher) }

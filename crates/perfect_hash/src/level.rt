@@ -74,7 +74,8 @@ fn fill<P: Placing>(
     requires short { begin + length ones.old < 2 ^ 58 }
     requires clear { (i : ℕ) → item (bits_of ones.old) i ≡ false }
     requires clear_again { (i : ℕ) → item (bits_of again.old) i ≡ false }
-    ensures level { IsLevel (P.fall placing.now begin) hashes.now (bits_of ones.new) level 0 (length ones.old) }
+    ensures level { IsLevel (P.fall placing.now begin) hashes.now (bits_of ones.new) level 0
+        (length ones.old) }
     ensures len { length ones.new ≡ length ones.old }
 {
     mark(placing, begin, hashes, level, ones, again);

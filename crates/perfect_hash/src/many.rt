@@ -26,8 +26,8 @@ fn look<I: Access, P: Placing>(
 ) -> usize
     requires sizes { AreSizes sizes.now (I.bits index.now) }
     requires level { level < length sizes.now }
-    requires goes_on { GoesOn (fall_in (P.fall placing.now) sizes.now hash) (I.bits index.now) sizes.now
-        level begin }
+    requires goes_on { GoesOn (fall_in (P.fall placing.now) sizes.now hash) (I.bits index.now)
+        sizes.now level begin }
     ensures { IsLookedUp (fall_in (P.fall placing.now) sizes.now hash) (I.bits index.now) sizes.now
         (level + 1) (begin + slice_index sizes.now level) result }
 {
@@ -57,10 +57,10 @@ fn look_at_level<I: Access, P: Placing>(
     requires sizes { AreSizes sizes.now (I.bits index.now) }
     requires level { level < length sizes.now }
     requires same_length { length places.old ≡ length hashes.now }
-    requires before { AreLookedUp (fall_in (P.fall placing.now) sizes.now) (I.bits index.now) sizes.now
-        level begin hashes.now places.old waiting.old count }
-    ensures after { AreLookedUp (fall_in (P.fall placing.now) sizes.now) (I.bits index.now) sizes.now
-        (level + 1) (begin + slice_index sizes.now level) hashes.now places.new waiting.new result }
+    requires before { AreLookedUp (fall_in (P.fall placing.now) sizes.now) (I.bits index.now)
+        sizes.now level begin hashes.now places.old waiting.old count }
+    ensures after { AreLookedUp (fall_in (P.fall placing.now) sizes.now) (I.bits index.now)
+        sizes.now (level + 1) (begin + slice_index sizes.now level) hashes.now places.new waiting.new result }
 {
     let mut kept = 0;
     for i in 0..count {

@@ -201,8 +201,8 @@ impl<H, S: SelectForRank101111, S0: Select0ForRank101111, BV: AsSlice<u64>, P: P
     RankSelect101111<S, S0, BV>,
     P,
 > {
-    /// What `get` answers, and what was read for it: of the index at most one word a level, and one rank; of the placing
-    /// at most one seed a level, counted as words.
+    /// What `get` answers, and what was read for it: of the index at most one word a level, and one rank; of what places
+    /// hashes at most one seed a level, counted as words.
     #[inline]
     pub fn get_counted_by<K>(&self, key: &K) -> (Option<usize>, ReadCounts, ReadCounts)
     where
