@@ -3,6 +3,7 @@ pub mod CollideLemmas
 pub mod CountingLemmas
 pub mod DictionaryLemmas
 pub mod GetLemmas
+pub mod GroupedLemmas
 pub mod KeyLemmas
 pub mod LevelLemmas
 pub mod ManyLemmas
@@ -10,4 +11,5 @@ pub mod MarkLemmas
 pub mod NumberLemmas
 pub mod PerfectLemmas
 pub mod PlaceLemmas
+pub mod PlacingLemmas
 pub mod WordLemmas

@@ -3,7 +3,7 @@ use Rattle.std.specs.Prelude.{◌≡◌, ℕ, ◌*◌, ◌%◌, ◌^◌, ◌<◌
 use Rattle.bitm.specs.Bits.{bits_of}
 use Rattle.bitm.specs.Count.{ones_of}
 use Rattle.bitm.specs.Number.{number_at}
-use Rattle.perfect_hash.specs.Parts.{Parts, number_by}
+use Rattle.perfect_hash.specs.Parts.{Parts, number_from}
 use Rattle.perfect_hash.specs.Perfect.{IsMinimalPerfect}
 use Rattle.perfect_hash.specs.Places.{spread}
 
@@ -21,18 +21,18 @@ kept_if test None = None
 kept_if test (Some v) = if test v then Some v else None
 
 -- the number of a hash, where its fingerprint stands there
-abbrev pub found_by : List ℕ → List Bool → List ℕ → ℕ → ℕ → Option ℕ
-found_by sizes b prints width hash = kept_if (λ v. print_at prints width v == print_of width hash) (number_by sizes b hash)
+abbrev pub found_by : (ℕ → Option ℕ) → List ℕ → ℕ → ℕ → Option ℕ
+found_by number prints width hash = kept_if (λ v. print_at prints width v == print_of width hash) (number hash)
 
 -- a perfect hash, and fingerprints of so many bits
-pub record Entries (H I : Type 0) : Type 0 where
-  pub numbers : Parts H I
+pub record Entries (H I P : Type 0) : Type 0 where
+  pub numbers : Parts H I P
   pub prints : List ℕ
   pub width : ℕ
 
 -- the number of a key, where its fingerprint stands there
-abbrev pub found_of : {H I K : Type 0} → (H → K → ℕ) → Entries H I → K → Option ℕ
-found_of hash e key = found_by e.numbers.sizes e.numbers.bits e.prints e.width (hash e.numbers.hasher key)
+abbrev pub found_of : {H I P K : Type 0} → (P → ℕ → ℕ → ℕ → ℕ → ℕ) → (H → K → ℕ) → Entries H I P → K → Option ℕ
+found_of by hash e key = found_by (number_from by e.numbers) e.prints e.width (hash e.numbers.hasher key)
 
 -- there is a fragment of so many bits for each one
 pub record HasRoom (b : List Bool) (prints : List ℕ) (width : ℕ) : Type 0 where

@@ -30,6 +30,10 @@ place_from fall b level begin (words ∷ sizes) =
     let place = begin + fall level words in
     if item b place then Some place else place_from fall b (level + 1) (begin + 64 * words) sizes
 
+-- the fall of hashes at levels of these sizes, where a level falls by the words before it, `by begin hash level words`
+abbrev pub fall_in : (ℕ → ℕ → ℕ → ℕ → ℕ) → List ℕ → ℕ → ℕ → ℕ → ℕ
+fall_in by sizes hash level words = by (sum (take level sizes)) hash level words
+
 -- levels before number `level` have `begin` words, and a look-up that goes on there finds what the whole one does
 pub record GoesOn (fall : ℕ → ℕ → ℕ) (b : List Bool) (sizes : List ℕ) (level begin : ℕ) : Type 0 where
   pub begins : begin ≡ sum (take level sizes)

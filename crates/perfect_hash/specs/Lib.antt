@@ -1,6 +1,7 @@
 pub mod Asking
 pub mod Dictionary
 pub mod Hashing
+pub mod Inside
 pub mod Levels
 pub mod Many
 pub mod Parts

@@ -2,7 +2,6 @@
 use Rattle.std.specs.Prelude.{◌≡◌, ◌≢◌, ℕ, ◌-◌, ◌^◌, ◌<◌, ◌≤◌, Bool, List, length, slice_get, slice_index, Option, Some, None}
 use Rattle.bitm.specs.Count.{ones_before}
 use Rattle.perfect_hash.specs.Levels.{place_from, GoesOn}
-use Rattle.perfect_hash.specs.Places.{place_in}
 
 -- the number, or 2^64 - 1
 abbrev pub told : Option ℕ → ℕ
@@ -27,12 +26,12 @@ pub record IsLookedUp (fall : ℕ → ℕ → ℕ) (b : List Bool) (sizes : List
   pub found : place ≢ 2 ^ 64 - 1 → place_from fall b 0 0 sizes ≡ Some place
 
 -- before a level, each look-up has found its place, or its hash is among the first `count` that wait, and all these go on
-pub record AreLookedUp (b : List Bool) (sizes : List ℕ) (level begin : ℕ) (hashes places waiting : List ℕ) (count : ℕ) : Type 0 where
+pub record AreLookedUp (fall : ℕ → ℕ → ℕ → ℕ) (b : List Bool) (sizes : List ℕ) (level begin : ℕ) (hashes places waiting : List ℕ) (count : ℕ) : Type 0 where
   pub room : count ≤ length waiting
   pub inside : (a : ℕ) → a < count → slice_index waiting a < length hashes
-  pub go_on : (a : ℕ) → a < count → GoesOn (place_in (slice_index hashes (slice_index waiting a))) b sizes level begin
+  pub go_on : (a : ℕ) → a < count → GoesOn (fall (slice_index hashes (slice_index waiting a))) b sizes level begin
   pub found : (k : ℕ) → k < length hashes → slice_index places k ≢ 2 ^ 64 - 1
-      → place_from (place_in (slice_index hashes k)) b 0 0 sizes ≡ Some (slice_index places k)
+      → place_from (fall (slice_index hashes k)) b 0 0 sizes ≡ Some (slice_index places k)
   pub wait : (k : ℕ) → k < length hashes → slice_index places k ≡ 2 ^ 64 - 1 → (a : ℕ) × (a < count) × (slice_index waiting a ≡ k)
 
 -- number k is that of the ones before place k

@@ -1,5 +1,5 @@
 -- Where a hash falls in a level.
-use Rattle.std.specs.Prelude.{ℕ, ◌+◌, ◌*◌, ◌/◌, ◌%◌, ◌^◌, bit_xor, max}
+use Rattle.std.specs.Prelude.{ℕ, ◌+◌, ◌*◌, ◌/◌, ◌%◌, ◌^◌, bit_xor, max, List, slice_index}
 
 -- x, its higher half folded down by so many digits, times a number
 abbrev pub folded : ℕ → ℕ → ℕ → ℕ
@@ -15,6 +15,22 @@ spread hash level =
 -- the bit of a level of so many words that a hash falls on: the spread number, as a fraction of 2^64, of the bits
 unfoldable pub place_in : ℕ → ℕ → ℕ → ℕ
 place_in hash level words = spread hash level % 2 ^ 64 * (64 * words) / 2 ^ 64
+
+-- the bit of a word that a spread number falls on by a seed
+unfoldable pub bit_by : ℕ → ℕ → ℕ
+bit_by seed x = folded 32 0xBF58476D1CE4E5B9 ((x + seed * 0x9E3779B97F4A7C15 % 2 ^ 64) % 2 ^ 64) / 2 ^ 58
+
+-- what chooses the bit of a word by its seed, and of how many seeds it tries
+pub record Seeds : Type 0 where
+  pub seeds : List ℕ
+  pub tries : ℕ
+
+-- the bit of a level, whose first word is number `begin` of all, that a hash falls on: of the word that the spread
+-- number is a fraction of, the bit by that word's seed
+unfoldable pub place_by : List ℕ → ℕ → ℕ → ℕ → ℕ → ℕ
+place_by seeds begin hash level words =
+    let word = spread hash level % 2 ^ 64 * words / 2 ^ 64 in
+    64 * word + bit_by (slice_index seeds (begin + word)) (spread hash level)
 
 -- how many words a level for n keys has: `percent` bits for each 100 keys, no fewer than 50, and one word at least
 abbrev pub words_for : ℕ → ℕ → ℕ

@@ -3,35 +3,42 @@ ghost use Rattle.std.specs.Prelude.{◌≡◌, ◌+◌, ◌<◌, ◌≤◌, leng
 ghost use Rattle.bitm.specs.Answers.{HasBit};
 ghost use Rattle.bitm.specs.Bits.{IsShort};
 ghost use Rattle.bitm.specs.Count.{ones_of, IsRank};
-ghost use Rattle.bitm.specs.Reads.{OnlyReads};
+ghost use Rattle.bitm.specs.Reads.{OnlyReads, ReadsAtMost};
 ghost use Rattle.bitm.specs.Tables.{bits_in, HasSizes, HasTables, IsIndexed};
 ghost use Rattle.perfect_hash.specs.Asking.{IsBelow, IsNumbered};
-ghost use Rattle.perfect_hash.specs.Levels.{place_from};
-ghost use Rattle.perfect_hash.specs.Parts.{number_by, AreSizes};
+ghost use Rattle.perfect_hash.specs.Levels.{fall_in, place_from};
+ghost use Rattle.perfect_hash.specs.Parts.{number_by, number_in, AreSizes};
 ghost use Rattle.perfect_hash.specs.Placed.{IsPlaced};
-ghost use Rattle.perfect_hash.specs.Places.{place_in};
 
-use crate::places::place_of;
-use bitm::{Selected, TableSource, bit_on, rank_on, total_rank_on};
+use crate::placing::{Placing, Plain};
+use bitm::{ReadCounts, Selected, TableSource, bit_on, rank_on, total_rank_on};
 use bitm_lent::Ranked;
 
 /// The place of the one that a hash falls on, in the first of the levels where it falls on one; `WrongTables` where the
 /// sizes turn out not to be those of levels.
 #[inline(always)]
-fn place_on<T: TableSource>(source: &mut T, sizes: &[usize], hash: u64) -> Selected
+fn place_on<T: TableSource, P: Placing>(
+    source: &mut T,
+    placing: &P,
+    sizes: &[usize],
+    hash: u64,
+    reads: &mut ReadCounts,
+) -> Selected
     requires short { IsShort (T.lists source.old).words }
     requires few { length sizes.now ≤ 256 }
     ensures one { HasBit (bits_in (T.lists source.old)) true result }
     ensures place { let b = bits_in (T.lists source.old) in
-        AreSizes sizes.now b → IsPlaced (place_from (place_in hash) b 0 0 sizes.now) result }
+        AreSizes sizes.now b → IsPlaced
+        (place_from (fall_in (P.fall placing.now) sizes.now hash) b 0 0 sizes.now) result }
     ensures reads { OnlyReads T.lists T.reads source.old source.new 0 0 (length sizes.now) }
+    ensures seeds { ReadsAtMost reads.old reads.new 0 0 (length sizes.now) }
 {
     let mut begin = 0;
     for (level, size) in sizes.iter().enumerate() {
         if *size == 0 || *size > source.words_len() - begin {
             return Selected::WrongTables;
         }
-        let place = 64 * begin + place_of(hash, level as u32, *size);
+        let place = 64 * begin + placing.place(begin, hash, level as u32, *size, &mut *reads);
         if let Some(true) = bit_on(source, place) {
             return Selected::Found(place);
         }
@@ -63,7 +70,7 @@ pub fn total_number_on<T: TableSource>(
         → IsNumbered (number_by sizes.now b hash) result }
     ensures reads { OnlyReads T.lists T.reads source.old source.new 1 1 (length sizes.now + 8) }
 {
-    match place_on(source, sizes, hash) {
+    match place_on(source, &Plain, sizes, hash, &mut ReadCounts::new()) {
         Selected::Found(place) => match total_rank_on(source, place) {
             Some(number) if number < count => Ranked::Count(number),
             _ => Ranked::WrongTables,
@@ -86,7 +93,26 @@ pub fn number_on<T: TableSource>(source: &mut T, sizes: &[usize], hash: u64) -> 
     ensures value { result ≡ number_by sizes.now (bits_in (T.lists source.old)) hash }
     ensures reads { OnlyReads T.lists T.reads source.old source.new 1 1 (length sizes.now + 8) }
 {
-    match place_on(source, sizes, hash) {
+    number_by_on(source, &Plain, sizes, hash, &mut ReadCounts::new())
+}
+
+/// The same where `placing` says where hashes fall, and the seeds that it reads are counted too: at most one a level.
+#[inline]
+pub(crate) fn number_by_on<T: TableSource, P: Placing>(
+    source: &mut T,
+    placing: &P,
+    sizes: &[usize],
+    hash: u64,
+    reads: &mut ReadCounts,
+) -> Option<usize>
+    requires indexed { IsIndexed (T.lists source.old) }
+    requires sizes { AreSizes sizes.now (bits_in (T.lists source.old)) }
+    ensures value { result ≡ number_in (fall_in (P.fall placing.now) sizes.now) sizes.now
+        (bits_in (T.lists source.old)) hash }
+    ensures reads { OnlyReads T.lists T.reads source.old source.new 1 1 (length sizes.now + 8) }
+    ensures seeds { ReadsAtMost reads.old reads.new 0 0 (length sizes.now) }
+{
+    match place_on(source, placing, sizes, hash, reads) {
         Selected::Found(place) => rank_on(source, place),
         Selected::Absent => None,
         Selected::WrongTables => unreachable!(),

@@ -1,8 +1,8 @@
 //! Building: level after level, until no key is left.
-ghost use Rattle.std.specs.Prelude.{◌≡◌, ◌↔◌, ◌+◌, ◌^◌, ◌<◌, ◌≤◌, [], length, map, IfOk, IfErr, IsErrOf, OnOk};
+ghost use Rattle.std.specs.Prelude.{◌≡◌, ◌↔◌, ℕ, ◌+◌, ◌^◌, ◌<◌, ◌≤◌, [], length, map, IfOk, IfErr, IsErrOf, OnOk};
 ghost use Rattle.bitm.specs.Bits.{IsShort};
-ghost use Rattle.perfect_hash.specs.Levels.{AddsLevel, Leave};
-ghost use Rattle.perfect_hash.specs.Parts.{number_of, AreLevels, IfCollide};
+ghost use Rattle.perfect_hash.specs.Levels.{fall_in, AddsLevel, Leave};
+ghost use Rattle.perfect_hash.specs.Parts.{number_at, number_of, AreLevels, IfCollide, IfCollideBy};
 ghost use Rattle.perfect_hash.specs.Perfect.{IsMinimalPerfect};
 ghost use Rattle.perfect_hash.specs.Places.{place_in, words_for};
 
@@ -10,6 +10,7 @@ use crate::error::{BuildError, Refused};
 use crate::hashing::KeyHash;
 use crate::level::{Buffers, keep_left, make_level};
 use crate::places::level_words;
+use crate::placing::{Placing, Plain};
 use crate::table::PerfectHash;
 use bitm::ArrayWithRank101111;
 use std::alloc::{AllocError, Global};
@@ -20,13 +21,15 @@ const LEVELS: u32 = 256;
 /// The first level has fewer words, so that all levels together have fewer than 2^58.
 const TOO_MANY: u128 = 1 << 50;
 
-/// The levels of keys: how many words each has, and the words of all, one level behind another.
+/// The levels of keys: how many words each has, the words of all, one level behind another, and what placed the hashes.
 #[derive(Drop)]
-pub struct Levels {
+pub struct Levels<P: Placing = Plain> {
     /// How many words each level has.
     pub sizes: Vec<usize>,
     /// The words of all levels, one level behind another.
     pub words: Vec<u64>,
+    /// What placed the hashes.
+    pub placing: P,
 }
 
 /// The hash of each key.
@@ -44,8 +47,9 @@ fn hash_all<K, H: KeyHash<K>>(alloc: Global, hasher: &H, keys: &[K]) -> Result<V
 ///
 /// # Conditions
 /// There are as many levels as `level` says; with this one, which has a word, there are fewer than 2^58 words.
-fn add_level(
-    levels: &mut Levels,
+fn add_level<P: Placing>(
+    alloc: Global,
+    levels: &mut Levels<P>,
     buffers: &mut Buffers,
     hashes: &mut Vec<u64>,
     level: u32,
@@ -54,14 +58,30 @@ fn add_level(
     requires count { length levels.old.sizes.items ≡ level }
     requires some { 0 < size }
     requires short { length levels.old.words.items + size < 2 ^ 58 }
-    ensures added { OnOk result (AddsLevel place_in hashes.old.items
-        levels.old.sizes.items levels.old.words.items
+    ensures added { OnOk result (AddsLevel
+        (P.fall levels.new.placing (length levels.old.words.items))
+        hashes.old.items levels.old.sizes.items levels.old.words.items
         levels.new.sizes.items levels.new.words.items hashes.new.items) }
     ensures len { OnOk result
         (length levels.new.words.items ≡ length levels.old.words.items + size) }
+    ensures kept { OnOk result ((begin hash number words : ℕ) → 0 < words
+        → begin + words ≤ length levels.old.words.items
+        → P.fall levels.new.placing begin hash number words
+        ≡ P.fall levels.old.placing begin hash number words) }
 {
-    make_level(buffers, hashes.as_slice(), level, size)?;
-    let left = keep_left(hashes.as_mut_slice(), level, buffers.hit.as_slice());
+    let begin = levels.words.len();
+    levels
+        .placing
+        .add_level(alloc, begin, hashes.as_slice(), level, size)?;
+    let placing = &levels.placing;
+    make_level(placing, begin, buffers, hashes.as_slice(), level, size)?;
+    let left = keep_left(
+        placing,
+        begin,
+        hashes.as_mut_slice(),
+        level,
+        buffers.hit.as_slice(),
+    );
     hashes.truncate(left);
     levels.sizes.push(size)?;
     levels.words.extend_from_slice(buffers.hit.as_slice())?;
@@ -72,18 +92,25 @@ fn add_level(
 ///
 /// # Conditions
 /// The first level has fewer than 2^50 words.
-fn make_levels(alloc: Global, mut hashes: Vec<u64>, percent: u16) -> Result<Levels, BuildError>
+fn make_levels<P: Placing>(
+    alloc: Global,
+    placing: P,
+    mut hashes: Vec<u64>,
+    percent: u16,
+) -> Result<Levels<P>, BuildError>
     requires { words_for percent (length hashes.items) < 2 ^ 50 }
-    ensures leave { IfOk result (λ levels. Leave place_in hashes.items
-        levels.sizes.items levels.words.items []) }
+    ensures leave { IfOk result (λ levels. Leave
+        (fall_in (P.fall levels.placing) levels.sizes.items)
+        hashes.items levels.sizes.items levels.words.items []) }
     ensures short { IfOk result (λ levels. IsShort levels.words.items) }
     ensures few { IfOk result (λ levels. length levels.sizes.items ≤ 256) }
-    ensures collide { IfErr result (λ error. IfCollide error hashes.items) }
+    ensures collide { IfErr result (λ error. IfCollideBy P.fall error hashes.items) }
     ensures room { IsErrOf result BuildError.TooLarge → ⊥ }
 {
     let mut levels = Levels {
         sizes: Vec::new(alloc),
         words: Vec::new(alloc),
+        placing,
     };
     let mut buffers = Buffers {
         hit: Vec::new(alloc),
@@ -95,7 +122,7 @@ fn make_levels(alloc: Global, mut hashes: Vec<u64>, percent: u16) -> Result<Leve
             return Ok(levels);
         }
         let size = level_words(percent, hashes.len()) as usize;
-        add_level(&mut levels, &mut buffers, &mut hashes, level, size)?;
+        add_level(alloc, &mut levels, &mut buffers, &mut hashes, level, size)?;
     }
     if hashes.is_empty() {
         levels.words.shrink_to_fit();
@@ -106,32 +133,59 @@ fn make_levels(alloc: Global, mut hashes: Vec<u64>, percent: u16) -> Result<Leve
 }
 
 impl Levels {
-    /// The levels of the keys, over which an index of any kind makes a perfect hash (`PerfectHash::over`).
+    /// The levels of the keys, over which an index of any kind makes a perfect hash (`PerfectHash::over`). A hash's
+    /// digits alone place it.
     ///
     /// # Errors
-    /// `TooLarge` exactly where the first level would have 2^50 words or more; else `KeysCollide` where keys are left
-    /// after 256 levels, with how many; else `OutOfMemory` if memory was refused.
+    /// As `build_by`.
     /// # Cost
-    /// Each level is two passes over the hashes that are left, of which each goes to two random words. While it works
-    /// it takes 8 bytes a key for the hashes, two buffers as long as the first level, and the levels.
+    /// As `build_by`.
     pub fn build<K, H: KeyHash<K>>(
         alloc: Global,
         hasher: &H,
         keys: &[K],
         percent: u16,
     ) -> Result<Levels, BuildError>
-        ensures levels { IfOk result (λ levels. AreLevels (H.hash hasher.now) keys.now
+        ensures levels { IfOk result (λ levels. AreLevels place_in (H.hash hasher.now) keys.now
             levels.sizes.items levels.words.items) }
         ensures too_large { IsErrOf result BuildError.TooLarge
             ↔ (2 ^ 50 ≤ words_for percent (length keys.now)) }
         ensures collide { IfErr result (λ error.
             IfCollide error (map (H.hash hasher.now) keys.now)) }
     {
+        Levels::build_by(alloc, Plain, hasher, keys, percent)
+    }
+}
+
+impl<P: Placing> Levels<P> {
+    /// The levels of the keys, over which an index of any kind makes a perfect hash (`PerfectHash::over_by`).
+    ///
+    /// # Errors
+    /// `TooLarge` exactly where the first level would have 2^50 words or more; else `KeysCollide` where keys are left
+    /// after 256 levels, with how many; else `OutOfMemory` if memory was refused.
+    /// # Cost
+    /// Each level is two passes over the hashes that are left, of which each goes to two random words. While it works
+    /// it takes 8 bytes a key for the hashes, two buffers as long as the first level, the levels, and what `P` takes.
+    pub fn build_by<K, H: KeyHash<K>>(
+        alloc: Global,
+        placing: P,
+        hasher: &H,
+        keys: &[K],
+        percent: u16,
+    ) -> Result<Levels<P>, BuildError>
+        ensures levels { IfOk result (λ levels. AreLevels
+            (fall_in (P.fall levels.placing) levels.sizes.items) (H.hash hasher.now) keys.now
+            levels.sizes.items levels.words.items) }
+        ensures too_large { IsErrOf result BuildError.TooLarge
+            ↔ (2 ^ 50 ≤ words_for percent (length keys.now)) }
+        ensures collide { IfErr result (λ error.
+            IfCollideBy P.fall error (map (H.hash hasher.now) keys.now)) }
+    {
         if level_words(percent, keys.len()) >= TOO_MANY {
             return Err(BuildError::TooLarge);
         }
         let hashes = hash_all(alloc, hasher, keys)?;
-        let levels = make_levels(alloc, hashes, percent)?;
+        let levels = make_levels(alloc, placing, hashes, percent)?;
         Ok(levels)
     }
 }
@@ -163,12 +217,39 @@ pub fn build<K, H: KeyHash<K>>(
     ensures collide { IfErr result (λ refused.
         IfCollide refused.error (map (H.hash hasher) keys.now)) }
 {
-    let Levels { sizes, words } = match Levels::build(alloc, &hasher, keys, percent) {
-        Ok(levels) => levels,
+    build_by(alloc, Plain, hasher, keys, percent)
+}
+
+/// Numbers the keys, each by a number of its own below their count, over an index with rank, where `placing` says on
+/// which bits hashes fall: `Plain`, as `build` does, or `Grouped`, in fewer bits and more time.
+///
+/// # Errors
+/// As `Levels::build_by`; the hasher comes back.
+/// # Cost
+/// As `Levels::build_by`, and one pass over the words for the index.
+pub fn build_by<K, H: KeyHash<K>, P: Placing>(
+    alloc: Global,
+    placing: P,
+    hasher: H,
+    keys: &[K],
+    percent: u16,
+) -> Result<PerfectHash<H, ArrayWithRank101111, P>, Refused<H>>
+    ensures perfect { IfOk result (λ made.
+        IsMinimalPerfect (number_at P.fall H.hash made) keys.now) }
+    ensures kept { IfOk result (λ made. made.hasher ≡ hasher) }
+    ensures room { IfOk result (λ _. words_for percent (length keys.now) < 2 ^ 50) }
+    ensures hasher_back { IfErr result (λ refused. refused.hasher ≡ hasher) }
+    ensures too_large { IfErr result (λ refused. (refused.error ≡ BuildError.TooLarge)
+        ↔ (2 ^ 50 ≤ words_for percent (length keys.now))) }
+    ensures collide { IfErr result (λ refused.
+        IfCollideBy P.fall refused.error (map (H.hash hasher) keys.now)) }
+{
+    let made = match Levels::build_by(alloc, placing, &hasher, keys, percent) {
+        Ok(made) => made,
         Err(error) => return Err(Refused { error, hasher }),
     };
-    match ArrayWithRank101111::build(alloc, words.into_boxed_slice()) {
-        Ok((index, _ones)) => Ok(PerfectHash::over(hasher, sizes, index)),
+    match ArrayWithRank101111::build(alloc, made.words.into_boxed_slice()) {
+        Ok((index, _ones)) => Ok(PerfectHash::over_by(hasher, made.placing, made.sizes, index)),
         Err(_) => Err(Refused {
             error: BuildError::OutOfMemory,
             hasher,

@@ -2,11 +2,12 @@
 ghost use Rattle.std.specs.Prelude.{◌≡◌, ◌*◌, ◌^◌, ◌<◌, ◌≤◌, length, IfOk, IfErr};
 ghost use Rattle.std.specs.Box.{boxed_slice_items};
 ghost use Rattle.perfect_hash.specs.Dictionary.{found_of, print_of, ArePrints, HasRoom, IsDictionary};
-ghost use Rattle.perfect_hash.specs.Parts.{number_of};
+ghost use Rattle.perfect_hash.specs.Parts.{number_at};
 ghost use Rattle.perfect_hash.specs.Perfect.{IsMinimalPerfect};
 
 use crate::hashing::KeyHash;
 use crate::places::spread_at;
+use crate::placing::{Placing, Plain};
 use crate::table::PerfectHash;
 use bitm::{Access, ArrayWithRank101111, BitVec, n_lowest_bits, words};
 use std::alloc::{AllocError, Global};
@@ -21,17 +22,17 @@ const PRINT: u32 = 256;
 /// The fingerprint of a key stands at its number, as a fragment of so many bits. A value that is no key is found only
 /// if its fingerprint is that of the key with its number: where hashes are as good as drawn, one in 2^`width` is.
 #[derive(Drop)]
-pub struct Dictionary<H, I: Access = ArrayWithRank101111> {
-    numbers: PerfectHash<H, I>,
+pub struct Dictionary<H, I: Access = ArrayWithRank101111, P: Placing = Plain> {
+    numbers: PerfectHash<H, I, P>,
     prints: BoxedSlice<u64, Global>,
     width: u8,
 }
 
-impl<H, I: Access> Model for Dictionary<H, I> {
+impl<H, I: Access, P: Placing> Model for Dictionary<H, I, P> {
     ghost use Rattle.std.specs.Box.{boxed_slice_items};
     ghost use Rattle.perfect_hash.specs.Dictionary.{Entries, HasRoom};
 
-    ghost Value = { Entries H I };
+    ghost Value = { Entries H I P };
 
     ghost view = { λ d. record {
       numbers = d.numbers;
@@ -56,15 +57,15 @@ fn print(hash: u64, width: u8) -> u64
 ///
 /// # Conditions
 /// The perfect hash is of these keys, and there is room for a fingerprint at each number.
-fn write_prints<K, H: KeyHash<K>, I: Access>(
-    numbers: &PerfectHash<H, I>,
+fn write_prints<K, H: KeyHash<K>, I: Access, P: Placing>(
+    numbers: &PerfectHash<H, I, P>,
     keys: &[K],
     width: u8,
     prints: &mut [u64],
 )
-    requires perfect { IsMinimalPerfect (number_of H.hash numbers.now) keys.now }
+    requires perfect { IsMinimalPerfect (number_at P.fall H.hash numbers.now) keys.now }
     requires room { HasRoom numbers.now.bits prints.old width }
-    ensures prints { ArePrints (number_of H.hash numbers.now)
+    ensures prints { ArePrints (number_at P.fall H.hash numbers.now)
         (λ k. print_of width (H.hash numbers.now.hasher k)) keys.now prints.new width }
     ensures len { length prints.new ≡ length prints.old }
 {
@@ -83,17 +84,17 @@ fn write_prints<K, H: KeyHash<K>, I: Access>(
 /// The perfect hash is of these keys; `width` is 1 to 32.
 /// # Errors
 /// `AllocError` if memory was refused, as it is where the fingerprints would have 2^64 bits or more.
-fn make_prints<K, H: KeyHash<K>, I: Access>(
+fn make_prints<K, H: KeyHash<K>, I: Access, P: Placing>(
     alloc: Global,
-    numbers: &PerfectHash<H, I>,
+    numbers: &PerfectHash<H, I, P>,
     keys: &[K],
     width: u8,
 ) -> Result<BoxedSlice<u64, Global>, AllocError>
-    requires perfect { IsMinimalPerfect (number_of H.hash numbers.now) keys.now }
+    requires perfect { IsMinimalPerfect (number_at P.fall H.hash numbers.now) keys.now }
     requires some { 0 < width }
     requires few { width ≤ 32 }
     ensures room { IfOk result (λ prints. HasRoom numbers.now.bits (boxed_slice_items prints) width) }
-    ensures prints { IfOk result (λ prints. ArePrints (number_of H.hash numbers.now)
+    ensures prints { IfOk result (λ prints. ArePrints (number_at P.fall H.hash numbers.now)
         (λ k. print_of width (H.hash numbers.now.hasher k)) keys.now (boxed_slice_items prints) width) }
 {
     let index = numbers.index();
@@ -105,7 +106,7 @@ fn make_prints<K, H: KeyHash<K>, I: Access>(
     Ok(prints)
 }
 
-impl<H, I: Access> Dictionary<H, I> {
+impl<H, I: Access, P: Placing> Dictionary<H, I, P> {
     /// A dictionary of the keys of a perfect hash, with fingerprints of so many bits.
     ///
     /// # Conditions
@@ -114,16 +115,16 @@ impl<H, I: Access> Dictionary<H, I> {
     /// The perfect hash, if memory was refused.
     pub fn build<K>(
         alloc: Global,
-        numbers: PerfectHash<H, I>,
+        numbers: PerfectHash<H, I, P>,
         keys: &[K],
         width: u8,
-    ) -> Result<Self, PerfectHash<H, I>>
+    ) -> Result<Self, PerfectHash<H, I, P>>
     where
         H: KeyHash<K>,
-        requires perfect { IsMinimalPerfect (number_of H.hash numbers) keys.now }
+        requires perfect { IsMinimalPerfect (number_at P.fall H.hash numbers) keys.now }
         requires some { 0 < width }
         requires few { width ≤ 32 }
-        ensures dictionary { IfOk result (λ made. IsDictionary (found_of H.hash made)
+        ensures dictionary { IfOk result (λ made. IsDictionary (found_of P.fall H.hash made)
             (λ k. print_of width (H.hash numbers.hasher k)) keys.now) }
         ensures kept { IfOk result (λ made. made.numbers ≡ numbers) }
         ensures numbers_back { IfErr result (λ back. back ≡ numbers) }
@@ -140,7 +141,7 @@ impl<H, I: Access> Dictionary<H, I> {
 
     /// The perfect hash.
     #[inline(always)]
-    pub fn numbers(&self) -> &PerfectHash<H, I>
+    pub fn numbers(&self) -> &PerfectHash<H, I, P>
         ensures { result.now ≡ self.now.numbers }
     {
         &self.numbers
@@ -155,7 +156,7 @@ impl<H, I: Access> Dictionary<H, I> {
     pub fn get<K>(&self, key: &K) -> Option<usize>
     where
         H: KeyHash<K>,
-        ensures { result ≡ found_of H.hash self.now key.now }
+        ensures { result ≡ found_of P.fall H.hash self.now key.now }
     {
         let hash = self.numbers.hash(key);
         let Some(number) = self.numbers.number(hash) else {

@@ -1,11 +1,11 @@
 //! One level: which bits exactly one hash falls on, and which hashes go on.
-ghost use Rattle.std.specs.Prelude.{◌≡◌, ℕ, ◌*◌, ◌<◌, ◌≤◌, ◌^◌, false, length, nat_lt, replicate, take, OnOk};
+ghost use Rattle.std.specs.Prelude.{◌≡◌, ℕ, ◌+◌, ◌*◌, ◌<◌, ◌≤◌, ◌^◌, false, length, nat_lt, replicate, take, OnOk};
 ghost use Rattle.bitm.specs.Bits.{bits_of, item, IsShort};
 ghost use Rattle.perfect_hash.specs.Levels.{hits, IsLevel, left_of};
 ghost use Rattle.perfect_hash.specs.Places.{place_in};
 
-use crate::places::place_of;
-use bitm::words;
+use crate::placing::{Placing, Plain};
+use bitm::{ReadCounts, words};
 use std::alloc::AllocError;
 
 /// Words in which a level is made, used again from level to level.
@@ -28,20 +28,27 @@ fn zero(buffer: &mut Vec<u64>, words: usize) -> Result<(), AllocError>
 ///
 /// # Conditions
 /// All bits are zeros; there are as many of both, and some, but fewer than 2^58 words.
-fn mark(hashes: &[u64], level: u32, hit: &mut [u64], again: &mut [u64])
+fn mark<P: Placing>(
+    placing: &P,
+    begin: usize,
+    hashes: &[u64],
+    level: u32,
+    hit: &mut [u64],
+    again: &mut [u64],
+)
     requires same { length again.old ≡ length hit.old }
     requires some { 0 < length hit.old }
-    requires short { IsShort hit.old }
+    requires short { begin + length hit.old < 2 ^ 58 }
     requires clear { (i : ℕ) → item (bits_of hit.old) i ≡ false }
     requires clear_again { (i : ℕ) → item (bits_of again.old) i ≡ false }
     ensures once { (p : ℕ) → p < 64 * length hit.old → item (bits_of hit.new) p
-        ≡ nat_lt 0 (hits place_in hashes.now level (length hit.old) p) }
+        ≡ nat_lt 0 (hits (P.fall placing.now begin) hashes.now level (length hit.old) p) }
     ensures twice { (p : ℕ) → p < 64 * length hit.old → item (bits_of again.new) p
-        ≡ nat_lt 1 (hits place_in hashes.now level (length hit.old) p) }
+        ≡ nat_lt 1 (hits (P.fall placing.now begin) hashes.now level (length hit.old) p) }
 {
     let words = hit.len();
     for hash in hashes {
-        let place = place_of(*hash, level, words);
+        let place = placing.place(begin, *hash, level, words, &mut ReadCounts::new());
         if words::get_bit(hit, place) {
             words::set_bit(again, place);
         } else {
@@ -54,16 +61,24 @@ fn mark(hashes: &[u64], level: u32, hit: &mut [u64], again: &mut [u64])
 ///
 /// # Conditions
 /// All bits are zeros; there are as many of both, and some, but fewer than 2^58 words.
-fn fill(hashes: &[u64], level: u32, ones: &mut [u64], again: &mut [u64])
+fn fill<P: Placing>(
+    placing: &P,
+    begin: usize,
+    hashes: &[u64],
+    level: u32,
+    ones: &mut [u64],
+    again: &mut [u64],
+)
     requires same { length again.old ≡ length ones.old }
     requires some { 0 < length ones.old }
-    requires short { IsShort ones.old }
+    requires short { begin + length ones.old < 2 ^ 58 }
     requires clear { (i : ℕ) → item (bits_of ones.old) i ≡ false }
     requires clear_again { (i : ℕ) → item (bits_of again.old) i ≡ false }
-    ensures level { IsLevel place_in hashes.now (bits_of ones.new) level 0 (length ones.old) }
+    ensures level { IsLevel (P.fall placing.now begin) hashes.now (bits_of ones.new) level 0
+        (length ones.old) }
     ensures len { length ones.new ≡ length ones.old }
 {
-    mark(hashes, level, ones, again);
+    mark(placing, begin, hashes, level, ones, again);
     words::and_not(ones, again);
 }
 
@@ -71,25 +86,30 @@ fn fill(hashes: &[u64], level: u32, ones: &mut [u64], again: &mut [u64])
 /// of them falls on.
 ///
 /// # Conditions
-/// There is a word, and fewer than 2^58.
+/// The level has a word, and ends before word 2^58.
 /// # Errors
 /// `AllocError` if memory was refused.
 #[tactic(auto, using(bitm::proofs::BitLaws::zeros_have_no_ones))]
-pub(crate) fn make_level(
+pub(crate) fn make_level<P: Placing>(
+    placing: &P,
+    begin: usize,
     buffers: &mut Buffers,
     hashes: &[u64],
     level: u32,
     size: usize,
 ) -> Result<(), AllocError>
     requires some { 0 < size }
-    requires short { size < 2 ^ 58 }
+    requires short { begin + size < 2 ^ 58 }
     ensures len { OnOk result (length buffers.new.hit.items ≡ size) }
     ensures level { OnOk result
-        (IsLevel place_in hashes.now (bits_of buffers.new.hit.items) level 0 size) }
+        (IsLevel (P.fall placing.now begin) hashes.now (bits_of buffers.new.hit.items) level 0
+        size) }
 {
     zero(&mut buffers.hit, size)?;
     zero(&mut buffers.again, size)?;
     fill(
+        placing,
+        begin,
         hashes,
         level,
         buffers.hit.as_mut_slice(),
@@ -101,18 +121,26 @@ pub(crate) fn make_level(
 /// Moves the hashes that do not fall on a one to the front, in their order, and answers how many they are.
 ///
 /// # Conditions
-/// There is a word, and fewer than 2^58.
-pub(crate) fn keep_left(hashes: &mut [u64], level: u32, ones: &[u64]) -> usize
+/// The level has a word, and ends before word 2^58.
+pub(crate) fn keep_left<P: Placing>(
+    placing: &P,
+    begin: usize,
+    hashes: &mut [u64],
+    level: u32,
+    ones: &[u64],
+) -> usize
     requires some { 0 < length ones.now }
-    requires short { IsShort ones.now }
+    requires short { begin + length ones.now < 2 ^ 58 }
     ensures left { take result hashes.new
-        ≡ left_of place_in hashes.old (bits_of ones.now) level 0 (length ones.now) }
+        ≡ left_of (P.fall placing.now begin) hashes.old (bits_of ones.now) level 0
+        (length ones.now) }
     ensures few { result ≤ length hashes.old }
 {
     let mut kept = 0;
     for i in 0..hashes.len() {
         let hash = hashes[i];
-        if !words::get_bit(ones, place_of(hash, level, ones.len())) {
+        let place = placing.place(begin, hash, level, ones.len(), &mut ReadCounts::new());
+        if !words::get_bit(ones, place) {
             hashes[kept] = hash;
             kept += 1;
         }
@@ -141,6 +169,6 @@ pub fn split_level(hashes: &mut [u64], level: u32, ones: &mut [u64], again: &mut
         ≡ left_of place_in hashes.old (bits_of ones.new) level 0 (length ones.old) }
     ensures few { result ≤ length hashes.old }
 {
-    fill(&*hashes, level, &mut *ones, again);
-    keep_left(hashes, level, &*ones)
+    fill(&Plain, 0, &*hashes, level, &mut *ones, again);
+    keep_left(&Plain, 0, hashes, level, &*ones)
 }

@@ -1,30 +1,38 @@
 //! Many look-ups at once: they go from level to level side by side, so that each waits for memory while the others do.
 ghost use Rattle.std.specs.Prelude.{◌≡◌, ◌≢◌, ◌+◌, ◌^◌, ◌-◌, ◌<◌, ◌≤◌, ℕ, length, slice_index};
 ghost use Rattle.bitm.specs.Count.{ones_before};
-ghost use Rattle.perfect_hash.specs.Levels.{place_from, GoesOn};
+ghost use Rattle.perfect_hash.specs.Levels.{fall_in, place_from, GoesOn};
 ghost use Rattle.perfect_hash.specs.Many.{told, AreHashes, AreLookedUp, AreNumbersOf};
 ghost use Rattle.perfect_hash.specs.Many.{AreNumbersOfKeys, AreRanks, IsLookedUp};
-ghost use Rattle.perfect_hash.specs.Parts.{number_by, number_of, AreSizes};
-ghost use Rattle.perfect_hash.specs.Places.{place_in};
+ghost use Rattle.perfect_hash.specs.Parts.{number_at, number_from, AreSizes};
 
 use crate::hashing::KeyHash;
-use crate::places::place_of;
+use crate::placing::Placing;
 use crate::table::PerfectHash;
-use bitm::{Access, NO_ANSWER};
+use bitm::{Access, NO_ANSWER, ReadCounts};
 
 /// So many look-ups go side by side. Of fewer, the last levels would leave too few to wait together.
 const SIDE_BY_SIDE: usize = 256;
 
 /// The place of the one that a hash falls on at this level; `NO_ANSWER` where it falls on none.
 #[inline(always)]
-fn look<I: Access>(index: &I, sizes: &[usize], level: usize, begin: usize, hash: u64) -> usize
+fn look<I: Access, P: Placing>(
+    placing: &P,
+    index: &I,
+    sizes: &[usize],
+    level: usize,
+    begin: usize,
+    hash: u64,
+) -> usize
     requires sizes { AreSizes sizes.now (I.bits index.now) }
     requires level { level < length sizes.now }
-    requires goes_on { GoesOn (place_in hash) (I.bits index.now) sizes.now level begin }
-    ensures { IsLookedUp (place_in hash) (I.bits index.now) sizes.now (level + 1)
-        (begin + slice_index sizes.now level) result }
+    requires goes_on { GoesOn (fall_in (P.fall placing.now) sizes.now hash) (I.bits index.now)
+        sizes.now level begin }
+    ensures { IsLookedUp (fall_in (P.fall placing.now) sizes.now hash) (I.bits index.now) sizes.now
+        (level + 1) (begin + slice_index sizes.now level) result }
 {
-    let place = 64 * begin + place_of(hash, level as u32, sizes[level]);
+    let reads = &mut ReadCounts::new();
+    let place = 64 * begin + placing.place(begin, hash, level as u32, sizes[level], reads);
     if index.get_bit(place) {
         place
     } else {
@@ -35,7 +43,8 @@ fn look<I: Access>(index: &I, sizes: &[usize], level: usize, begin: usize, hash:
 /// Looks at one level for those of the hashes that wait, the first `count` of the list. Those that go on come to its
 /// front, without a branch that the processor would have to guess, and the answer is how many they are.
 #[inline(always)]
-fn look_at_level<I: Access>(
+fn look_at_level<I: Access, P: Placing>(
+    placing: &P,
     index: &I,
     sizes: &[usize],
     level: usize,
@@ -48,15 +57,15 @@ fn look_at_level<I: Access>(
     requires sizes { AreSizes sizes.now (I.bits index.now) }
     requires level { level < length sizes.now }
     requires same_length { length places.old ≡ length hashes.now }
-    requires before { AreLookedUp (I.bits index.now) sizes.now level begin
-        hashes.now places.old waiting.old count }
-    ensures after { AreLookedUp (I.bits index.now) sizes.now (level + 1)
-        (begin + slice_index sizes.now level) hashes.now places.new waiting.new result }
+    requires before { AreLookedUp (fall_in (P.fall placing.now) sizes.now) (I.bits index.now)
+        sizes.now level begin hashes.now places.old waiting.old count }
+    ensures after { AreLookedUp (fall_in (P.fall placing.now) sizes.now) (I.bits index.now)
+        sizes.now (level + 1) (begin + slice_index sizes.now level) hashes.now places.new waiting.new result }
 {
     let mut kept = 0;
     for i in 0..count {
         let k = waiting[i];
-        let place = look(index, sizes, level, begin, hashes[k]);
+        let place = look(placing, index, sizes, level, begin, hashes[k]);
         places[k] = place;
         waiting[kept] = k;
         if place == NO_ANSWER {
@@ -68,12 +77,19 @@ fn look_at_level<I: Access>(
 
 /// The place of each hash, or `NO_ANSWER`.
 #[inline(always)]
-fn find_places<I: Access>(index: &I, sizes: &[usize], hashes: &[u64], places: &mut [usize])
+fn find_places<I: Access, P: Placing>(
+    placing: &P,
+    index: &I,
+    sizes: &[usize],
+    hashes: &[u64],
+    places: &mut [usize],
+)
     requires sizes { AreSizes sizes.now (I.bits index.now) }
     requires same_length { length places.old ≡ length hashes.now }
     requires few { length hashes.now ≤ 256 }
     ensures { (k : ℕ) → k < length hashes.now → slice_index places.new k
-        ≡ told (place_from (place_in (slice_index hashes.now k)) (I.bits index.now) 0 0 sizes.now) }
+        ≡ told (place_from (fall_in (P.fall placing.now) sizes.now (slice_index hashes.now k))
+        (I.bits index.now) 0 0 sizes.now) }
 {
     let mut waiting = [0; SIDE_BY_SIDE];
     for k in 0..hashes.len() {
@@ -87,6 +103,7 @@ fn find_places<I: Access>(index: &I, sizes: &[usize], hashes: &[u64], places: &m
             return;
         }
         count = look_at_level(
+            placing,
             index,
             sizes,
             level,
@@ -114,15 +131,15 @@ fn rank_places<I: Access>(index: &I, places: &mut [usize])
     }
 }
 
-impl<H, I: Access> PerfectHash<H, I> {
+impl<H, I: Access, P: Placing> PerfectHash<H, I, P> {
     /// The numbers of no more hashes than go side by side.
     #[inline(always)]
     fn number_block(&self, hashes: &[u64], numbers: &mut [usize])
         requires same_length { length numbers.old ≡ length hashes.now }
         requires few { length hashes.now ≤ 256 }
-        ensures { AreNumbersOf (number_by self.now.sizes self.now.bits) hashes.now numbers.new }
+        ensures { AreNumbersOf (number_from P.fall self.now) hashes.now numbers.new }
     {
-        find_places(self.index(), self.sizes(), hashes, numbers);
+        find_places(self.placing(), self.index(), self.sizes(), hashes, numbers);
         rank_places(self.index(), numbers);
     }
 
@@ -135,7 +152,7 @@ impl<H, I: Access> PerfectHash<H, I> {
     /// That of `get` for each; 256 go from level to level together.
     pub fn numbers_of(&self, hashes: &[u64], numbers: &mut [usize])
         requires same_length { length numbers.old ≡ length hashes.now }
-        ensures { AreNumbersOf (number_by self.now.sizes self.now.bits) hashes.now numbers.new }
+        ensures { AreNumbersOf (number_from P.fall self.now) hashes.now numbers.new }
     {
         let mut from = 0;
         while from < hashes.len() {
@@ -169,7 +186,7 @@ impl<H, I: Access> PerfectHash<H, I> {
     where
         H: KeyHash<K>,
         requires same_length { length numbers.old ≡ length keys.now }
-        ensures { AreNumbersOfKeys (number_of H.hash self.now) keys.now numbers.new }
+        ensures { AreNumbersOfKeys (number_at P.fall H.hash self.now) keys.now numbers.new }
     {
         let mut hashes = [0; SIDE_BY_SIDE];
         let mut from = 0;

@@ -3,11 +3,11 @@ ghost use Rattle.std.specs.Prelude.{◌≡◌, ◌*◌, ◌/◌, ◌^◌, ◌<�
 ghost use Rattle.perfect_hash.specs.Places.{folded, place_in, spread, words_for};
 
 /// The step of the generator: 2^64 divided by the golden ratio, made odd.
-const STEP: u64 = 0x9E37_79B9_7F4A_7C15;
+pub(crate) const STEP: u64 = 0x9E37_79B9_7F4A_7C15;
 
 /// A number, its higher half folded down by so many digits, times another.
 #[inline(always)]
-fn fold(x: u64, by: u32, times: u64) -> u64
+pub(crate) fn fold(x: u64, by: u32, times: u64) -> u64
     requires { by < 64 }
     ensures { result ≡ folded by times x }
 {
@@ -36,7 +36,7 @@ pub(crate) fn spread_at(hash: u64, level: u32) -> u64
 /// Lemire, 'Fast random integer generation in an interval' (ACM Transactions on Modeling
 /// and Computer Simulation, 2019).
 #[inline(always)]
-fn scaled(x: u64, bits: usize) -> usize
+pub(crate) fn scaled(x: u64, bits: usize) -> usize
     requires { 0 < bits }
     ensures at { result ≡ x * bits / 2 ^ 64 }
     ensures inside { result < bits }

@@ -4,11 +4,11 @@ ghost use Rattle.bitm.specs.Bits.{bits_of};
 ghost use Rattle.bitm.specs.Count.{ones_of};
 ghost use Rattle.bitm.specs.Size.{saturated_size};
 ghost use Rattle.bitm.specs.Reads.{none_read, ReadsAtMost};
-ghost use Rattle.perfect_hash.specs.Parts.{number_by, number_of, AreSizes};
+ghost use Rattle.perfect_hash.specs.Parts.{number_at, number_from, number_of, AreSizes};
 
-use crate::asking::number_on;
+use crate::asking::number_by_on;
 use crate::hashing::KeyHash;
-use crate::places::place_of;
+use crate::placing::{Placing, Plain};
 use bitm::{
     Access, ArrayWithRank101111, CloneWords, GetSize, RankSelect101111, ReadCounts,
     Select0ForRank101111, SelectForRank101111,
@@ -21,26 +21,29 @@ use std::marker::Model;
 /// A minimal perfect hash: each key that it was built of has a number of its own, below their count.
 ///
 /// The levels stand one behind another in the bits of an index, which is asked for one bit a level and one rank. With
-/// `n` keys at 100 per cent the levels have about `e * n` bits, 2.72 a key, and the index's tables 3.2 per cent more. A
-/// contract sees a perfect hash as its hasher, how many words each level has, and the bits.
+/// `n` keys at 100 per cent the levels have about `e * n` bits, 2.72 a key, and the index's tables 3.2 per cent more;
+/// with a seed for each word (`Grouped`) all is 2.27 bits a key. A contract sees a perfect hash as its hasher, what
+/// places hashes, how many words each level has, and the bits.
 ///
 /// # Source
 /// Müller, Sanders, Schulze and Zhou, 'Retrieval and perfect hashing using fingerprinting' (SEA 2014).
 #[derive(Drop)]
-pub struct PerfectHash<H, I: Access = ArrayWithRank101111> {
+pub struct PerfectHash<H, I: Access = ArrayWithRank101111, P: Placing = Plain> {
     hasher: H,
+    placing: P,
     sizes: BoxedSlice<usize, Global>,
     index: I,
 }
 
-impl<H, I: Access> Model for PerfectHash<H, I> {
+impl<H, I: Access, P: Placing> Model for PerfectHash<H, I, P> {
     ghost use Rattle.std.specs.Box.{boxed_slice_items};
     ghost use Rattle.perfect_hash.specs.Parts.{Parts, AreSizes};
 
-    ghost Value = { Parts H I };
+    ghost Value = { Parts H I P };
 
     ghost view = { λ p. record {
       hasher = p.hasher;
+      placing = p.placing;
       sizes = boxed_slice_items p.sizes;
       bits = I.bits p.index;
       index = p.index;
@@ -56,8 +59,25 @@ impl<H, I: Access> PerfectHash<H, I> {
     /// The bits are those of levels of these sizes, as `Levels::build` makes them.
     pub fn over(hasher: H, sizes: Vec<usize>, index: I) -> Self
         requires { AreSizes sizes.items (I.bits index) }
+        ensures hasher { result.hasher ≡ hasher }
+        ensures sizes { result.sizes ≡ sizes.items }
+        ensures bits { result.bits ≡ I.bits index }
+        ensures index { result.index ≡ index }
+    {
+        PerfectHash::over_by(hasher, Plain, sizes, index)
+    }
+}
+
+impl<H, I: Access, P: Placing> PerfectHash<H, I, P> {
+    /// A perfect hash over an index of the bits of levels, and what placed the hashes.
+    ///
+    /// # Conditions
+    /// The bits are those of levels of these sizes, as `Levels::build_by` makes them.
+    pub fn over_by(hasher: H, placing: P, sizes: Vec<usize>, index: I) -> Self
+        requires { AreSizes sizes.items (I.bits index) }
         ensures { result ≡ record {
           hasher = hasher;
+          placing = placing;
           sizes = sizes.items;
           bits = I.bits index;
           index = index;
@@ -65,6 +85,7 @@ impl<H, I: Access> PerfectHash<H, I> {
     {
         PerfectHash {
             hasher,
+            placing,
             sizes: sizes.into_boxed_slice(),
             index,
         }
@@ -97,6 +118,14 @@ impl<H, I: Access> PerfectHash<H, I> {
         &self.index
     }
 
+    /// What places the hashes.
+    #[inline(always)]
+    pub fn placing(&self) -> &P
+        ensures { result.now ≡ self.now.placing }
+    {
+        &self.placing
+    }
+
     /// The hasher.
     #[inline(always)]
     pub fn hasher(&self) -> &H
@@ -113,7 +142,7 @@ impl<H, I: Access> PerfectHash<H, I> {
     pub fn get<K>(&self, key: &K) -> Option<usize>
     where
         H: KeyHash<K>,
-        ensures { result ≡ number_of H.hash self.now key.now }
+        ensures { result ≡ number_at P.fall H.hash self.now key.now }
     {
         self.number(self.hash(key))
     }
@@ -131,12 +160,13 @@ impl<H, I: Access> PerfectHash<H, I> {
     /// The number of a hash.
     #[inline(always)]
     pub(crate) fn number(&self, hash: u64) -> Option<usize>
-        ensures value { result ≡ number_by self.now.sizes self.now.bits hash }
+        ensures value { result ≡ number_from P.fall self.now hash }
         ensures below { IfSome result (λ number. number < ones_of self.now.bits) }
     {
         let mut begin = 0;
         for (level, size) in self.sizes.as_slice().iter().enumerate() {
-            let place = 64 * begin + place_of(hash, level as u32, *size);
+            let reads = &mut ReadCounts::new();
+            let place = 64 * begin + self.placing.place(begin, hash, level as u32, *size, reads);
             if self.index.get_bit(place) {
                 return Some(self.index.rank(place));
             }
@@ -159,15 +189,44 @@ impl<H, S: SelectForRank101111, S0: Select0ForRank101111, BV: AsSlice<u64>> Perf
         ensures reads { ReadsAtMost none_read result.1 1 1 (length self.now.sizes + 8) }
     {
         let mut probe = self.index.probe();
-        let number = number_on(&mut probe, self.sizes.as_slice(), self.hash(key));
+        let hash = self.hash(key);
+        let (sizes, seeds) = (self.sizes.as_slice(), &mut ReadCounts::new());
+        let number = number_by_on(&mut probe, &self.placing, sizes, hash, seeds);
         (number, probe.into_reads())
     }
 }
 
-impl<H: Copy, S: SelectForRank101111, S0: Select0ForRank101111, BV: CloneWords> PerfectHash<
+impl<H, S: SelectForRank101111, S0: Select0ForRank101111, BV: AsSlice<u64>, P: Placing> PerfectHash<
     H,
     RankSelect101111<S, S0, BV>,
+    P,
 > {
+    /// What `get` answers, and what was read for it: of the index at most one word a level, and one rank; of what places
+    /// hashes at most one seed a level, counted as words.
+    #[inline]
+    pub fn get_counted_by<K>(&self, key: &K) -> (Option<usize>, ReadCounts, ReadCounts)
+    where
+        H: KeyHash<K>,
+        ensures value { result.0 ≡ number_at P.fall H.hash self.now key.now }
+        ensures reads { ReadsAtMost none_read result.1 1 1 (length self.now.sizes + 8) }
+        ensures seeds { ReadsAtMost none_read result.2 0 0 (length self.now.sizes) }
+    {
+        let mut probe = self.index.probe();
+        let mut seeds = ReadCounts::new();
+        let hash = self.hash(key);
+        let sizes = self.sizes.as_slice();
+        let number = number_by_on(&mut probe, &self.placing, sizes, hash, &mut seeds);
+        (number, probe.into_reads(), seeds)
+    }
+}
+
+impl<
+    H: Copy,
+    S: SelectForRank101111,
+    S0: Select0ForRank101111,
+    BV: CloneWords,
+    P: Placing,
+> PerfectHash<H, RankSelect101111<S, S0, BV>, P> {
     /// A perfect hash of the same levels, with an index of its own.
     ///
     /// # Errors
@@ -176,20 +235,24 @@ impl<H: Copy, S: SelectForRank101111, S0: Select0ForRank101111, BV: CloneWords> 
         ensures hasher { IfOk result (λ copy. copy.hasher ≡ self.now.hasher) }
         ensures sizes { IfOk result (λ copy. copy.sizes ≡ self.now.sizes) }
         ensures bits { IfOk result (λ copy. copy.bits ≡ self.now.bits) }
+        ensures placing { IfOk result (λ copy. copy.placing ≡ self.now.placing) }
     {
         let sizes = BoxedSlice::from_slice(alloc, self.sizes.as_slice())?;
         let index = self.index.try_clone(alloc)?;
+        let placing = self.placing.try_clone(alloc)?;
         Ok(PerfectHash {
             hasher: self.hasher,
+            placing,
             sizes,
             index,
         })
     }
 }
 
-impl<H, I: Access + GetSize> GetSize for PerfectHash<H, I> {
-    // eight bytes a level, and what the index keeps; what the hasher keeps is not counted
-    ghost dyn_bytes = { λ p. saturated_size (8 * length p.sizes + I.dyn_bytes p.index) };
+impl<H, I: Access + GetSize, P: Placing + GetSize> GetSize for PerfectHash<H, I, P> {
+    // eight bytes a level, and what the index and the placing keep; what the hasher keeps is not counted
+    ghost dyn_bytes = { λ p.
+        saturated_size (8 * length p.sizes + I.dyn_bytes p.index + P.dyn_bytes p.placing) };
 
     const USES_DYN_MEM: bool = true;
 
@@ -197,5 +260,6 @@ impl<H, I: Access + GetSize> GetSize for PerfectHash<H, I> {
         self.sizes
             .size_bytes_dyn()
             .saturating_add(self.index.size_bytes_dyn())
+            .saturating_add(self.placing.size_bytes_dyn())
     }
 }

@@ -1,17 +1,26 @@
 //! Tests of what no clause says: that keys are numbered where there is memory, and which error comes of which keys.
 use bitm::GetSize;
-use perfect_hash::{BuildError, Dictionary, KeyHash, Seeded, SeededBytes, build};
+use perfect_hash::{
+    BuildError, Dictionary, Grouped, KeyHash, Placing, Plain, Seeded, SeededBytes, build, build_by,
+};
 use std::alloc::Global;
 use std::process::Abort;
 use std::test::Fail;
 
-/// Each of so many keys has a number of its own below their count.
-fn are_numbered(rt: &impl Abort, alloc: Global, count: u64, percent: u16) -> Result<(), Fail> {
+/// Each of so many keys has a number of its own below their count. How many bytes the perfect hash keeps.
+fn are_numbered<P: Placing + GetSize>(
+    rt: &impl Abort,
+    alloc: Global,
+    placing: P,
+    count: u64,
+    percent: u16,
+) -> Result<usize, Fail> {
     let mut keys = Vec::new(alloc);
     for i in 0..count {
         keys.push(i.wrapping_mul(i).wrapping_add(i.wrapping_mul(17)))?;
     }
-    let Ok(numbers) = build(alloc, Seeded { seed: 1 }, keys.as_slice(), percent) else {
+    let hasher = Seeded { seed: 1 };
+    let Ok(numbers) = build_by(alloc, placing, hasher, keys.as_slice(), percent) else {
         return Err("refused".into());
     };
     let mut seen = vec![in alloc; false; keys.len()]?;
@@ -26,16 +35,46 @@ fn are_numbered(rt: &impl Abort, alloc: Global, count: u64, percent: u16) -> Res
     for i in 0..keys.len() {
         assert!(rt; numbers.get(&keys[i]) == Some(many[i]));
     }
-    Ok(())
+    Ok(numbers.size_bytes_dyn())
 }
 
 #[test]
 fn keys_get_numbers_of_their_own(rt: HostRuntime) -> Result<(), Fail> {
     for count in [0u64, 1, 2, 3, 64, 65, 1000, 5000] {
         for percent in [0u16, 50, 100, 200] {
-            are_numbered(&rt, rt.alloc(), count, percent)?;
+            are_numbered(&rt, rt.alloc(), Plain, count, percent)?;
         }
     }
+    Ok(())
+}
+
+#[test]
+fn by_seeds_keys_get_numbers_of_their_own(rt: HostRuntime) -> Result<(), Fail> {
+    for count in [0u64, 1, 2, 64, 65, 5000] {
+        for tries in [0u16, 1, 16, 300] {
+            are_numbered(&rt, rt.alloc(), Grouped::new(rt.alloc(), tries), count, 100)?;
+        }
+    }
+    let bytes = are_numbered(&rt, rt.alloc(), Grouped::new(rt.alloc(), 64), 9000, 100)?;
+    // Under 2.4 bits a key.
+    assert!(rt; bytes < 9000 * 24 / 80);
+    Ok(())
+}
+
+#[test]
+fn by_seeds_equal_keys_collide(rt: HostRuntime) -> Result<(), Fail> {
+    let placing = Grouped::new(rt.alloc(), 16);
+    let keys = [1u64, 2, 1];
+    let Err(refused) = build_by(
+        rt.alloc(),
+        placing,
+        Seeded { seed: 1 },
+        keys.as_slice(),
+        100,
+    ) else {
+        return Err("equal keys were numbered".into());
+    };
+    assert!(rt; refused.error == BuildError::KeysCollide(2));
     Ok(())
 }
 

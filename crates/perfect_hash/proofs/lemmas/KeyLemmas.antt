@@ -6,12 +6,11 @@ use Rattle.std.specs.List.{slice_get}
 use Rattle.std.specs.Option.{IfSome, IsSome, option_map}
 use Rattle.std.specs.Prelude.{map}
 use Rattle.bitm.specs.Bits.{bits_of, IsShort}
-use Rattle.perfect_hash.specs.Levels.{Leave}
-use Rattle.perfect_hash.specs.Parts.{AreLevels, Parts, number_by, number_of}
+use Rattle.perfect_hash.specs.Levels.{fall_in, Leave}
+use Rattle.perfect_hash.specs.Parts.{AreLevels, Parts, number_at, number_in}
 use Rattle.perfect_hash.specs.Perfect.{IsMinimalPerfect}
-use Rattle.perfect_hash.specs.Places.{place_in}
 use Rattle.perfect_hash.proofs.lemmas.BuildLemmas.{are_sizes, perfect}
-use Rattle.perfect_hash.proofs.lemmas.PlaceLemmas.{falls_inside}
+use Rattle.perfect_hash.proofs.lemmas.LevelLemmas.{FallsInside}
 
 -- a key at a place that is inside
 pub some_at : {K : Type 0} (keys : List K) (i : ℕ) → i < length keys → (k : K) × (slice_get keys i ≡ Some k)
@@ -47,19 +46,20 @@ perfect_keys {K} hash number keys h = record {
         (i, k.0, k.1, ap number is ∙ found.3)
 
 -- levels that leave no hash of the keys number these
-pub are_levels : {K : Type 0} (hash : K → ℕ) (keys : List K) (hashes sizes words : List ℕ) → hashes ≡ map hash keys
-    → Leave place_in hashes sizes words [] → length sizes ≤ 256 → IsShort words → AreLevels hash keys sizes words
-are_levels {K} hash keys hashes sizes words is leave few short = record {
-  perfect = perfect_keys hash (number_by sizes (bits_of words)) keys
-      (subst (λ (hs : List ℕ). IsMinimalPerfect (number_by sizes (bits_of words)) hs) is (perfect place_in falls_inside hashes sizes words leave));
-  sizes_are = are_sizes place_in hashes sizes words leave few short;
+pub are_levels : {K : Type 0} (fall : ℕ → ℕ → ℕ → ℕ) → FallsInside fall → (hash : K → ℕ) (keys : List K) (hashes sizes words : List ℕ) → hashes ≡ map hash keys
+    → Leave fall hashes sizes words [] → length sizes ≤ 256 → IsShort words → AreLevels fall hash keys sizes words
+are_levels {K} fall falls hash keys hashes sizes words is leave few short = record {
+  perfect = perfect_keys hash (number_in fall sizes (bits_of words)) keys
+      (subst (λ (hs : List ℕ). IsMinimalPerfect (number_in fall sizes (bits_of words)) hs) is (perfect fall falls hashes sizes words leave));
+  sizes_are = are_sizes fall hashes sizes words leave few short;
   short = short;
 }
 
 -- and so do parts that have them
-pub perfect_parts : {H I K : Type 0} (hash : H → K → ℕ) (keys : List K) (parts : Parts H I) (hasher : H) (sizes words : List ℕ)
-    (bits : List Bool) (index : I) → parts ≡ record { hasher = hasher; sizes = sizes; bits = bits; index = index }
-    → bits ≡ bits_of words → AreLevels (hash hasher) keys sizes words → IsMinimalPerfect (number_of hash parts) keys
-perfect_parts {H} {I} {K} hash keys parts hasher sizes words bits index is bits_are levels =
-    subst (λ (p : Parts H I). IsMinimalPerfect (number_of hash p) keys) (sym is)
-    (subst (λ (b : List Bool). IsMinimalPerfect (λ k. number_by sizes b (hash hasher k)) keys) (sym bits_are) levels.perfect)
+pub perfect_parts : {H I P K : Type 0} (by : P → ℕ → ℕ → ℕ → ℕ → ℕ) (hash : H → K → ℕ) (keys : List K) (parts : Parts H I P) (hasher : H) (placing : P)
+    (sizes words : List ℕ) (bits : List Bool) (index : I)
+    → parts ≡ record { hasher = hasher; placing = placing; sizes = sizes; bits = bits; index = index }
+    → bits ≡ bits_of words → AreLevels (fall_in (by placing) sizes) (hash hasher) keys sizes words → IsMinimalPerfect (number_at by hash parts) keys
+perfect_parts {H} {I} {P} {K} by hash keys parts hasher placing sizes words bits index is bits_are levels =
+    subst (λ (p : Parts H I P). IsMinimalPerfect (number_at by hash p) keys) (sym is)
+    (subst (λ (b : List Bool). IsMinimalPerfect (λ k. number_in (fall_in (by placing) sizes) sizes b (hash hasher k)) keys) (sym bits_are) levels.perfect)

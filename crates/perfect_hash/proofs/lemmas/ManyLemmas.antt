@@ -7,28 +7,27 @@ use Rattle.std.specs.Option.{option_map, IfSome}
 use Rattle.bitm.specs.Count.{ones_before}
 use Rattle.perfect_hash.specs.Levels.{place_from, GoesOn}
 use Rattle.perfect_hash.specs.Many.{told, AreLookedUp, IsLookedUp, IsRanked}
-use Rattle.perfect_hash.specs.Parts.{number_by, AreSizes}
-use Rattle.perfect_hash.specs.Places.{place_in}
+use Rattle.perfect_hash.specs.Parts.{number_in, AreSizes}
 use Rattle.perfect_hash.proofs.lemmas.NumberLemmas.{IsOneBefore, place_from-one}
-use Rattle.perfect_hash.proofs.lemmas.PlaceLemmas.{falls_inside}
+use Rattle.perfect_hash.proofs.lemmas.LevelLemmas.{FallsInside}
 
 -- at a level, of the first `count` that wait those before i are looked up, and those of them that go on are the first `kept`
-pub record Midway (b : List Bool) (sizes : List ℕ) (level begin next : ℕ) (hashes places waiting : List ℕ) (kept i count : ℕ) : Type 0 where
+pub record Midway (fall : ℕ → ℕ → ℕ → ℕ) (b : List Bool) (sizes : List ℕ) (level begin next : ℕ) (hashes places waiting : List ℕ) (kept i count : ℕ) : Type 0 where
   pub order : kept ≤ i
   pub most : i ≤ count
   pub room : count ≤ length waiting
   pub inside : (a : ℕ) → a < kept → slice_index waiting a < length hashes
   pub inside_rest : (a : ℕ) → i ≤ a → a < count → slice_index waiting a < length hashes
-  pub go_on : (a : ℕ) → a < kept → GoesOn (place_in (slice_index hashes (slice_index waiting a))) b sizes (level + 1) next
-  pub rest : (a : ℕ) → i ≤ a → a < count → GoesOn (place_in (slice_index hashes (slice_index waiting a))) b sizes level begin
+  pub go_on : (a : ℕ) → a < kept → GoesOn (fall (slice_index hashes (slice_index waiting a))) b sizes (level + 1) next
+  pub rest : (a : ℕ) → i ≤ a → a < count → GoesOn (fall (slice_index hashes (slice_index waiting a))) b sizes level begin
   pub found : (k : ℕ) → k < length hashes → slice_index places k ≢ 2 ^ 64 - 1
-      → place_from (place_in (slice_index hashes k)) b 0 0 sizes ≡ Some (slice_index places k)
+      → place_from (fall (slice_index hashes k)) b 0 0 sizes ≡ Some (slice_index places k)
   pub wait : (k : ℕ) → k < length hashes → slice_index places k ≡ 2 ^ 64 - 1
       → ((a : ℕ) × (a < kept) × (slice_index waiting a ≡ k)) ⊎ ((a : ℕ) × (i ≤ a) × (a < count) × (slice_index waiting a ≡ k))
 
-pub Midway-start : (b : List Bool) (sizes : List ℕ) (level begin next : ℕ) (hashes places waiting : List ℕ) (count : ℕ)
-    → AreLookedUp b sizes level begin hashes places waiting count → Midway b sizes level begin next hashes places waiting 0 0 count
-Midway-start b sizes level begin next hashes places waiting count h = record {
+pub Midway-start : (fall : ℕ → ℕ → ℕ → ℕ) (b : List Bool) (sizes : List ℕ) (level begin next : ℕ) (hashes places waiting : List ℕ) (count : ℕ)
+    → AreLookedUp fall b sizes level begin hashes places waiting count → Midway fall b sizes level begin next hashes places waiting 0 0 count
+Midway-start fall b sizes level begin next hashes places waiting count h = record {
   order = omega arith;
   most = omega arith;
   room = h.room;
@@ -40,10 +39,10 @@ Midway-start b sizes level begin next hashes places waiting count h = record {
   wait = λ k less none. let w = h.wait k less none in inr (w.0, omega arith, w.1, w.2);
 }
 
-pub Midway-end : (b : List Bool) (sizes : List ℕ) (level begin next : ℕ) (hashes places waiting : List ℕ) (kept i count : ℕ)
-    → Midway b sizes level begin next hashes places waiting kept i count → count ≤ i
-    → AreLookedUp b sizes (level + 1) next hashes places waiting kept
-Midway-end b sizes level begin next hashes places waiting kept i count h end = record {
+pub Midway-end : (fall : ℕ → ℕ → ℕ → ℕ) (b : List Bool) (sizes : List ℕ) (level begin next : ℕ) (hashes places waiting : List ℕ) (kept i count : ℕ)
+    → Midway fall b sizes level begin next hashes places waiting kept i count → count ≤ i
+    → AreLookedUp fall b sizes (level + 1) next hashes places waiting kept
+Midway-end fall b sizes level begin next hashes places waiting kept i count h end = record {
   room = omega (arith, h.order, h.most, h.room);
   inside = h.inside;
   go_on = h.go_on;
@@ -56,9 +55,9 @@ Midway-end b sizes level begin next hashes places waiting kept i count h end = r
 }
 
 -- one of those that wait is looked up
-module _ (b : List Bool) (sizes : List ℕ) (level begin next : ℕ) (hashes places waiting : List ℕ) (kept i count place : ℕ)
-    (h : Midway b sizes level begin next hashes places waiting kept i count) (less : i < count) (long : length places ≡ length hashes)
-    (is : IsLookedUp (place_in (slice_index hashes (slice_index waiting i))) b sizes (level + 1) next place) where
+module _ (fall : ℕ → ℕ → ℕ → ℕ) (b : List Bool) (sizes : List ℕ) (level begin next : ℕ) (hashes places waiting : List ℕ) (kept i count place : ℕ)
+    (h : Midway fall b sizes level begin next hashes places waiting kept i count) (less : i < count) (long : length places ≡ length hashes)
+    (is : IsLookedUp (fall (slice_index hashes (slice_index waiting i))) b sizes (level + 1) next place) where
   at : ℕ
   at = slice_index waiting i
 
@@ -97,14 +96,14 @@ module _ (b : List Bool) (sizes : List ℕ) (level begin next : ℕ) (hashes pla
       ]
 
   found_then : (k : ℕ) → k < length hashes → slice_index (slice_set places (slice_index waiting i) place) k ≢ 2 ^ 64 - 1
-      → place_from (place_in (slice_index hashes k)) b 0 0 sizes ≡ Some (slice_index (slice_set places (slice_index waiting i) place) k)
+      → place_from (fall (slice_index hashes k)) b 0 0 sizes ≡ Some (slice_index (slice_set places (slice_index waiting i) place) k)
   found_then k low some =
       elim (cases_eq k (slice_index waiting i)) [
         | inl e ↦
             let now : slice_index (slice_set places (slice_index waiting i) place) k ≡ place =
             ap (slice_index (slice_set places (slice_index waiting i) place)) e
             ∙ get_or-set_same places (slice_index waiting i) place 0 at_inside in
-            ap (λ (j : ℕ). place_from (place_in (slice_index hashes j)) b 0 0 sizes) e
+            ap (λ (j : ℕ). place_from (fall (slice_index hashes j)) b 0 0 sizes) e
             ∙ is.found (λ none. some (now ∙ none)) ∙ ap Some (sym now)
         | inr not ↦
             let now = get_or-set_other places (slice_index waiting i) k place 0 not in
@@ -117,7 +116,7 @@ module _ (b : List Bool) (sizes : List ℕ) (level begin next : ℕ) (hashes pla
 
   -- where it goes on
   pub Midway-on : place ≡ 2 ^ 64 - 1
-      → Midway b sizes level begin next hashes (slice_set places (slice_index waiting i) place)
+      → Midway fall b sizes level begin next hashes (slice_set places (slice_index waiting i) place)
       (slice_set waiting kept (slice_index waiting i)) (kept + 1) (i + 1) count
   Midway-on none = record {
     order = omega (arith, h.order);
@@ -135,14 +134,14 @@ module _ (b : List Bool) (sizes : List ℕ) (level begin next : ℕ) (hashes pla
     go_on = λ a low.
         elim (cases_lt a kept) [
           | inl below ↦
-              subst (λ (j : ℕ). GoesOn (place_in (slice_index hashes j)) b sizes (level + 1) next) (sym (front a below)) (h.go_on a below)
+              subst (λ (j : ℕ). GoesOn (fall (slice_index hashes j)) b sizes (level + 1) next) (sym (front a below)) (h.go_on a below)
           | inr over ↦
               let e : kept ≡ a = omega (arith, over, low) in
-              subst (λ (j : ℕ). GoesOn (place_in (slice_index hashes (slice_index (slice_set waiting kept (slice_index waiting i)) j))) b sizes (level + 1) next) e
-              (subst (λ (j : ℕ). GoesOn (place_in (slice_index hashes j)) b sizes (level + 1) next) (sym here) (is.goes_on none))
+              subst (λ (j : ℕ). GoesOn (fall (slice_index hashes (slice_index (slice_set waiting kept (slice_index waiting i)) j))) b sizes (level + 1) next) e
+              (subst (λ (j : ℕ). GoesOn (fall (slice_index hashes j)) b sizes (level + 1) next) (sym here) (is.goes_on none))
         ];
     rest = λ a after low.
-        subst (λ (j : ℕ). GoesOn (place_in (slice_index hashes j)) b sizes level begin) (sym (behind a after)) (h.rest a (omega (arith, after)) low);
+        subst (λ (j : ℕ). GoesOn (fall (slice_index hashes j)) b sizes level begin) (sym (behind a after)) (h.rest a (omega (arith, after)) low);
     found = found_then;
     wait = λ k low then.
         elim (cases_eq k (slice_index waiting i)) [
@@ -153,7 +152,7 @@ module _ (b : List Bool) (sizes : List ℕ) (level begin next : ℕ) (hashes pla
 
   -- where it was found
   pub Midway-found : place ≢ 2 ^ 64 - 1
-      → Midway b sizes level begin next hashes (slice_set places (slice_index waiting i) place)
+      → Midway fall b sizes level begin next hashes (slice_set places (slice_index waiting i) place)
       (slice_set waiting kept (slice_index waiting i)) kept (i + 1) count
   Midway-found some = record {
     order = omega (arith, h.order);
@@ -162,9 +161,9 @@ module _ (b : List Bool) (sizes : List ℕ) (level begin next : ℕ) (hashes pla
     inside = λ a below. omega (arith, front a below, h.inside a below);
     inside_rest = λ a after low. omega (arith, behind a after, h.inside_rest a (omega (arith, after)) low);
     go_on = λ a below.
-        subst (λ (j : ℕ). GoesOn (place_in (slice_index hashes j)) b sizes (level + 1) next) (sym (front a below)) (h.go_on a below);
+        subst (λ (j : ℕ). GoesOn (fall (slice_index hashes j)) b sizes (level + 1) next) (sym (front a below)) (h.go_on a below);
     rest = λ a after low.
-        subst (λ (j : ℕ). GoesOn (place_in (slice_index hashes j)) b sizes level begin) (sym (behind a after)) (h.rest a (omega (arith, after)) low);
+        subst (λ (j : ℕ). GoesOn (fall (slice_index hashes j)) b sizes level begin) (sym (behind a after)) (h.rest a (omega (arith, after)) low);
     found = found_then;
     wait = λ k low then.
         elim (cases_eq k (slice_index waiting i)) [
@@ -176,10 +175,10 @@ module _ (b : List Bool) (sizes : List ℕ) (level begin next : ℕ) (hashes pla
   }
 
 -- before the first level all wait
-pub looked_up-first : (b : List Bool) (sizes hashes places waiting : List ℕ) → length hashes ≤ length waiting
+pub looked_up-first : (fall : ℕ → ℕ → ℕ → ℕ) (b : List Bool) (sizes hashes places waiting : List ℕ) → length hashes ≤ length waiting
     → ((k : ℕ) → k < length hashes → slice_index places k ≡ 2 ^ 64 - 1) → ((k : ℕ) → k < length hashes → slice_index waiting k ≡ k)
-    → AreLookedUp b sizes 0 0 hashes places waiting (length hashes)
-looked_up-first b sizes hashes places waiting room none own = record {
+    → AreLookedUp fall b sizes 0 0 hashes places waiting (length hashes)
+looked_up-first fall b sizes hashes places waiting room none own = record {
   room = room;
   inside = λ a less. omega (arith, own a less, less);
   go_on = λ a less. record { begins = refl; found = refl };
@@ -188,19 +187,19 @@ looked_up-first b sizes hashes places waiting room none own = record {
 }
 
 -- after the last level, or where none waits, the places are told
-pub last_is_told : (b : List Bool) (sizes : List ℕ) (level begin : ℕ) (hashes places waiting : List ℕ) (count : ℕ)
-    → AreLookedUp b sizes level begin hashes places waiting count → length sizes ≤ level ⊎ count ≡ 0
-    → (k : ℕ) → k < length hashes → slice_index places k ≡ told (place_from (place_in (slice_index hashes k)) b 0 0 sizes)
-last_is_told b sizes level begin hashes places waiting count h end k less =
+pub last_is_told : (fall : ℕ → ℕ → ℕ → ℕ) (b : List Bool) (sizes : List ℕ) (level begin : ℕ) (hashes places waiting : List ℕ) (count : ℕ)
+    → AreLookedUp fall b sizes level begin hashes places waiting count → length sizes ≤ level ⊎ count ≡ 0
+    → (k : ℕ) → k < length hashes → slice_index places k ≡ told (place_from (fall (slice_index hashes k)) b 0 0 sizes)
+last_is_told fall b sizes level begin hashes places waiting count h end k less =
     elim (cases_eq (slice_index places k) (2 ^ 64 - 1)) [
       | inl none ↦
           let w = h.wait k less none in
           elim end [
             | inl last ↦
                 let on = h.go_on w.0 w.1 in
-                let own = ap (λ (j : ℕ). place_from (place_in (slice_index hashes j)) b 0 0 sizes) (sym w.2) in
+                let own = ap (λ (j : ℕ). place_from (fall (slice_index hashes j)) b 0 0 sizes) (sym w.2) in
                 none ∙ sym (ap told (own ∙ sym on.found
-                ∙ ap (place_from (place_in (slice_index hashes (slice_index waiting w.0))) b level (64 * begin)) (drop_all level sizes last)))
+                ∙ ap (place_from (fall (slice_index hashes (slice_index waiting w.0))) b level (64 * begin)) (drop_all level sizes last)))
             | inr zero ↦ absurd (omega (arith, w.1, zero))
           ]
       | inr some ↦ sym (ap told (h.found k less some))
@@ -219,21 +218,21 @@ rank_is_told b (Some p) end old new inside short one is r =
     r.some (λ none. omega (arith, none, is, one.1, inside, short)) ∙ ap (ones_before b) is
 
 -- the same of a hash, for bits and sizes under two names each
-module _ (sizes s : List ℕ) (b b' : List Bool) (hash old : ℕ) (h : AreSizes s b) (same : b' ≡ b)
-    (is : old ≡ told (place_from (place_in hash) b' 0 0 s)) where
-  one : IfSome (place_from (place_in hash) b 0 0 s) (IsOneBefore b (0 + 64 * sum s))
-  one = place_from-one (place_in hash) (falls_inside hash) b 0 0 (0 + 64 * sum s) s refl h.some
+module _ (fall : ℕ → ℕ → ℕ → ℕ) (falls : FallsInside fall) (sizes s : List ℕ) (b b' : List Bool) (hash old : ℕ) (h : AreSizes s b) (same : b' ≡ b)
+    (is : old ≡ told (place_from (fall hash) b' 0 0 s)) where
+  one : IfSome (place_from (fall hash) b 0 0 s) (IsOneBefore b (0 + 64 * sum s))
+  one = place_from-one (fall hash) (falls hash) b 0 0 (0 + 64 * sum s) s refl h.some
 
-  told_here : old ≡ told (place_from (place_in hash) b 0 0 s)
-  told_here = is ∙ ap (λ (c : List Bool). told (place_from (place_in hash) c 0 0 s)) same
+  told_here : old ≡ told (place_from (fall hash) b 0 0 s)
+  told_here = is ∙ ap (λ (c : List Bool). told (place_from (fall hash) c 0 0 s)) same
 
   pub place_inside : (b2 : List Bool) → b2 ≡ b → old ≢ 2 ^ 64 - 1 → old ≤ length b2
   place_inside b2 same2 some =
       subst (λ (c : List Bool). old ≤ length c) (sym same2)
-      (told_inside b (place_from (place_in hash) b 0 0 s) (0 + 64 * sum s) old (omega (arith, h.all)) one told_here some)
+      (told_inside b (place_from (fall hash) b 0 0 s) (0 + 64 * sum s) old (omega (arith, h.all)) one told_here some)
 
-  pub number_is_told : (new : ℕ) (b2 : List Bool) → b2 ≡ b → s ≡ sizes → IsRanked b2 old new → new ≡ told (number_by sizes b hash)
+  pub number_is_told : (new : ℕ) (b2 : List Bool) → b2 ≡ b → s ≡ sizes → IsRanked b2 old new → new ≡ told (number_in fall sizes b hash)
   number_is_told new b2 same2 same_sizes ranked =
-      rank_is_told b (place_from (place_in hash) b 0 0 s) (0 + 64 * sum s) old new (omega (arith, h.all)) h.short one told_here
+      rank_is_told b (place_from (fall hash) b 0 0 s) (0 + 64 * sum s) old new (omega (arith, h.all)) h.short one told_here
       (subst (λ (c : List Bool). IsRanked c old new) same2 ranked)
-      ∙ ap (λ (z : List ℕ). told (number_by z b hash)) same_sizes
+      ∙ ap (λ (z : List ℕ). told (number_in fall z b hash)) same_sizes

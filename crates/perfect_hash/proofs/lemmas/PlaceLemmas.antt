@@ -1,21 +1,8 @@
--- Where hashes fall, and how many words levels have.
-use Rattle.std.proofs.Common.{◌≡◌, ℕ, ◌+◌, ◌*◌, ◌/◌, ◌%◌, ◌^◌, ◌<◌, ◌≤◌, ap, ◌∙◌, arith, zero, suc, refl}
-use Rattle.std.proofs.lemmas.Nat.{div_below, mul-le}
+-- How many words levels have.
+use Rattle.std.proofs.Common.{◌≡◌, ℕ, ◌+◌, ◌*◌, ◌^◌, ◌<◌, ◌≤◌, ap, ◌∙◌, arith, zero, suc, refl}
+use Rattle.std.proofs.lemmas.Nat.{mul-le}
 use Rattle.std.specs.Prelude.{max}
-use Rattle.perfect_hash.specs.Places.{place_in, spread, words_for}
-use Rattle.perfect_hash.proofs.lemmas.LevelLemmas.{FallsInside}
-
--- a fraction of n is less than n
-pub fraction_below : (x n : ℕ) → x < 2 ^ 64 → 0 < n → x * n / 2 ^ 64 < n
-fraction_below x n less some = div_below (x * n) (2 ^ 64) n (omega arith) (product x n less some)
-  where
-    product : (y m : ℕ) → y < 2 ^ 64 → 0 < m → y * m < m * 2 ^ 64
-    product y m below positive = omega (arith, mul-le y m 18446744073709551615 m (omega arith) (omega arith))
-
--- a hash falls inside each level
-pub falls_inside : FallsInside place_in
-unfolding place_in
-falls_inside hash level words some = fraction_below (spread hash level % 2 ^ 64) (64 * words) (omega arith) (omega arith)
+use Rattle.perfect_hash.specs.Places.{words_for}
 
 -- a level for fewer keys has no more words
 pub words_for-le : (percent m n : ℕ) → m ≤ n → words_for percent m ≤ words_for percent n

@@ -1,6 +1,6 @@
 -- Bits of words that stand one behind another.
-use Rattle.std.proofs.Common.{◌≡◌, ℕ, ◌+◌, ◌-◌, ◌*◌, ◌<◌, Bool, false, List, ◌++◌, length, ap, ◌∙◌, arith}
-use Rattle.std.proofs.lemmas.List.{get_or_append_left, get_or-append_right}
+use Rattle.std.proofs.Common.{◌≡◌, ℕ, ◌+◌, ◌-◌, ◌*◌, ◌<◌, ◌≤◌, Bool, false, List, ◌++◌, length, take, drop, ap, ◌∙◌, rules, arith}
+use Rattle.std.proofs.lemmas.List.{get_or_append_left, get_or-append_right, places}
 use Rattle.bitm.specs.Bits.{bits_of, item}
 use Rattle.bitm.proofs.BitLaws.{bits_are_counted, bits_are_joined}
 
@@ -17,3 +17,8 @@ item-added old new i =
     ap (λ (b : List Bool). item b at) (bits_are_joined old new)
     ∙ get_or-append_right (bits_of old) (bits_of new) (64 * length old) at false (bits_are_counted old) (omega arith)
     ∙ ap (λ (q : ℕ). item (bits_of new) q) (let e : 64 * length old + i - 64 * length old ≡ i = omega arith in e)
+
+-- the first items of those that are written back
+pub front : (n len : ℕ) (new old : List ℕ) → length new ≡ length old → length old ≡ len → n ≤ length old
+    → take n (take len (new ++ drop (length new) old)) ≡ take n new
+front n len new old same long few = search (rules, places)

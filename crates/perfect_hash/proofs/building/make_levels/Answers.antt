@@ -1,35 +1,45 @@
 -- Each level that is added leaves fewer hashes; where some are left at the end, they collide.
-use Rattle.std.proofs.Common.{◌≡◌, length, sym, arith, ◌∙◌}
+use Rattle.std.proofs.Common.{◌≡◌, length, take, sym, arith, ◌∙◌}
+use Rattle.std.specs.List.{sum}
 use Rattle.std.proofs.lemmas.Bool.{eqb-false}
 use Rattle.std.specs.Vec.{vec_len}
-use Rattle.perfect_hash.specs.Places.{place_in}
-use Rattle.perfect_hash.proofs.lemmas.BuildLemmas.{Leave-more, count_next, no_more}
+use Rattle.perfect_hash.specs.Levels.{fall_in}
+use Rattle.perfect_hash.proofs.lemmas.BuildLemmas.{count_next, no_more}
 use Rattle.perfect_hash.proofs.lemmas.CollideLemmas.{collide}
-use Rattle.perfect_hash.proofs.lemmas.PlaceLemmas.{falls_inside, next_short, positive}
+use Rattle.perfect_hash.proofs.lemmas.PlaceLemmas.{next_short, positive}
+use Rattle.perfect_hash.proofs.lemmas.PlacingLemmas.{Leave-next}
 use Rattle.perfect_hash.proofs.building.make_levels.Goals as goal
 
 pub loop-level-preserved : goal.loop-level-preserved
-loop-level-preserved c =
+loop-level-preserved g c =
+    let by = g.P.Placing.fall in
     let old = c.loop-level.levels in
     let hashes = c.loop-level.hashes.items in
     let adds = c.in_ok-add_level.ensures.added in
     record {
-      leave = Leave-more place_in falls_inside c.args.hashes.items hashes _ old.sizes.items old.words.items _ _ c.loop-level.invariant.leave adds;
-      count = count_next place_in hashes _ old.sizes.items old.words.items _ _ c.loop-level.level adds c.loop-level.invariant.count;
+      leave = Leave-next (by old.placing) _ (g.met.P.Placing.inside _) c.args.hashes.items hashes _ old.sizes.items old.words.items _ _
+          c.in_ok-add_level.ensures.kept c.loop-level.invariant.leave adds;
+      count = count_next _ hashes _ old.sizes.items old.words.items _ _ c.loop-level.level adds c.loop-level.invariant.count;
       short = next_short c.args.percent (length c.args.hashes.items) (length hashes) c.len.result c.level_words-size.result c.loop-level.level
           (length old.words.items) _ c.requires c.loop-level.invariant.fewer (omega (arith, c.len.ensures, c.loop-level.hashes.ok.0))
           c.level_words-size.ensures c.loop-level.invariant.short c.in_ok-add_level.ensures.len;
-      fewer = omega (arith, c.loop-level.invariant.fewer, no_more place_in hashes _ old.sizes.items old.words.items _ _ adds);
+      fewer = omega (arith, c.loop-level.invariant.fewer, no_more _ hashes _ old.sizes.items old.words.items _ _ adds);
     }
 
 pub returns-clause-collide : goal.returns-clause-collide
-returns-clause-collide c =
+returns-clause-collide g c =
     let levels = c.loop-level.levels in
     let count = c.len-else-is_empty-2.result in
     let counted : length c.loop-level.hashes.items ≡ count = omega (arith, c.len-else-is_empty-2.ensures, c.loop-level.hashes.ok.0) in
-    collide place_in falls_inside c.args.hashes.items levels.sizes.items levels.words.items c.loop-level.hashes.items count
-    c.loop-level.invariant.leave
-    (omega (arith, c.loop-level.invariant.count, c.loop-level-test.false, c.loop-level.auto.level-end))
-    counted
-    (positive count (λ none. eqb-false (vec_len c.loop-level.hashes) 0 (sym c.is_empty-2.ensures ∙ c.if-is_empty-2.false)
-    (omega (arith, none, c.len-else-is_empty-2.ensures))))
+    let placing = levels.placing in
+    let sizes = levels.sizes.items in (
+      placing,
+      sizes,
+      collide (fall_in (g.P.Placing.fall placing) sizes)
+          (λ hash level w some. g.met.P.Placing.inside placing (sum (take level sizes)) hash level w some) c.args.hashes.items levels.sizes.items levels.words.items c.loop-level.hashes.items count
+          c.loop-level.invariant.leave
+          (omega (arith, c.loop-level.invariant.count, c.loop-level-test.false, c.loop-level.auto.level-end))
+          counted
+          (positive count (λ none. eqb-false (vec_len c.loop-level.hashes) 0 (sym c.is_empty-2.ensures ∙ c.if-is_empty-2.false)
+          (omega (arith, none, c.len-else-is_empty-2.ensures)))),
+    )

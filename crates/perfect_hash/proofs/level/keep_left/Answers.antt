@@ -14,13 +14,13 @@ tested b place at r v here is value = ap not (ap (item b) (sum at ∙ sym here) 
     sum q = omega arith
 
 pub loop-i-preserved : goal.loop-i-preserved
-loop-i-preserved c = elim c.if-not-get_bit.branch [
+loop-i-preserved g c = elim c.if-not-get_bit.branch [
   | then-not-get_bit w ↦ rw (w.hashes-is, w.kept-is)
       (FiltersInPlace-more_set c.loop-i.invariant (omega arith)
-      (tested (bits_of c.args.ones.now) c.place_of.result _ _ _ c.place_of.ensures.at c.get_bit.ensures w.if-not-get_bit.true)
+      (tested (bits_of c.args.ones.now) c.place-place.result _ _ _ c.place-place.ensures.at c.get_bit.ensures w.if-not-get_bit.true)
       (get_or_default c.loop-i.hashes c.loop-i.i 0 _ (omega arith)))
   | else-not-get_bit w ↦ rw (w.hashes-is, w.kept-is)
       (FiltersInPlace-more_no c.loop-i.invariant (omega arith)
-      (tested (bits_of c.args.ones.now) c.place_of.result _ _ _ c.place_of.ensures.at c.get_bit.ensures w.if-not-get_bit.false)
+      (tested (bits_of c.args.ones.now) c.place-place.result _ _ _ c.place-place.ensures.at c.get_bit.ensures w.if-not-get_bit.false)
       (get_or_default c.loop-i.hashes c.loop-i.i 0 _ (omega arith)))
 ]

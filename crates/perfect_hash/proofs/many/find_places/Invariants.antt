@@ -1,4 +1,5 @@
 use Rattle.std.proofs.Common.{◌≡◌, ℕ, ◌-◌, ◌^◌, ◌<◌, length, slice_index, sum, take}
+use Rattle.perfect_hash.specs.Levels.{fall_in}
 use Rattle.perfect_hash.specs.Many.{AreLookedUp}
 use Rattle.perfect_hash.proofs.many.find_places.Given as goal
 
@@ -16,5 +17,5 @@ abbrev pub invariant-loop-level : goal.invariant-loop-level
 invariant-loop-level g l = record {
   long : length l.places ≡ length l.hashes;
   begins : l.begin ≡ sum (take l.level l.sizes);
-  each : AreLookedUp (g.I.HasBits.bits l.index) l.sizes l.level l.begin l.hashes l.places l.waiting l.count;
+  each : AreLookedUp (fall_in (g.P.Placing.fall l.placing) l.sizes) (g.I.HasBits.bits l.index) l.sizes l.level l.begin l.hashes l.places l.waiting l.count;
 }

@@ -10,6 +10,6 @@ returns-then-get_bit-clause-below g c =
     omega (
       arith,
       c.rank.ensures,
-      one_counted (g.I.HasBits.bits c.self.inside.index) (64 * c.loop-level.begin + c.place_of.result) (sym c.get_bit.ensures ∙ c.if-get_bit.true),
-      ap (λ (p : Parts g.row.H.Denot g.row.I.Denot). ones_of p.bits) c.self.view_is,
+      one_counted (g.I.HasBits.bits c.self.inside.index) (64 * c.loop-level.begin + c.place.result) (sym c.get_bit.ensures ∙ c.if-get_bit.true),
+      ap (λ (p : Parts g.row.H.Denot g.row.I.Denot g.row.P.Denot). ones_of p.bits) c.self.view_is,
     )

@@ -1,0 +1,84 @@
+-- Levels of which each falls by the words before it, and one more of them.
+use Rattle.std.proofs.Common.{◌≡◌, ℕ, suc, ◌+◌, ◌*◌, ◌<◌, ◌≤◌, Bool, not, eqb, List, [], ◌∷◌, length, take, slice_index, sym, ap, ◌∙◌, subst, arith}
+use Rattle.std.proofs.Math.Seq.{take-append_seam}
+use Rattle.std.proofs.lemmas.List.{take-append-le}
+use Rattle.std.proofs.lemmas.List.Elements.{filter_agree}
+use Rattle.std.proofs.lemmas.List.Sums.{sum_by_more_le}
+use Rattle.std.specs.List.{sum}
+use Rattle.bitm.specs.Bits.{bits_of, item}
+use Rattle.perfect_hash.specs.Levels.{fall_in, IsLevel, LeadTo, left_of, AddsLevel, Leave}
+use Rattle.perfect_hash.proofs.lemmas.BuildLemmas.{Leave-more}
+use Rattle.perfect_hash.proofs.lemmas.CountingLemmas.{count_by-agree}
+
+-- where keys fall in each level as they did, they lead to the same
+LeadTo-alike : {K : Type 0} (fall other : K → ℕ → ℕ → ℕ) (keys : List K) (b : List Bool) (level begin : ℕ) (sizes : List ℕ) (left : List K)
+    → ((k : K) (i : ℕ) → i < length sizes → fall k (level + i) (slice_index sizes i) ≡ other k (level + i) (slice_index sizes i))
+    → LeadTo fall keys b level begin sizes left → LeadTo other keys b level begin sizes left
+LeadTo-alike fall other keys b level begin [] left same lead = lead
+LeadTo-alike {K} fall other keys b level begin (w ∷ sizes) left same lead =
+    let here : (k : K) → fall k level w ≡ other k level w =
+    λ k.
+    let P : ℕ → Type 0 = λ l. fall k l w ≡ other k l w in
+    let e : level + 0 ≡ level = omega arith in
+    subst P e (same k 0 (omega arith)) in
+    let Q : List K → Type 0 = λ xs. LeadTo other xs b (level + 1) (begin + 64 * w) sizes left in (
+      lead.0,
+      (λ p less. lead.1 p less
+          ∙ ap (λ (n : ℕ). eqb n 1) (count_by-agree (λ k. eqb (fall k level w) p) (λ k. eqb (other k level w) p) (λ k. ap (λ (q : ℕ). eqb q p) (here k)) keys)),
+      subst Q
+          (filter_agree (λ k. not (item b (begin + fall k level w))) (λ k. not (item b (begin + other k level w)))
+          (λ k. ap (λ (q : ℕ). not (item b (begin + q))) (here k)) keys)
+          (LeadTo-alike fall other (left_of fall keys b level begin w) b (level + 1) (begin + 64 * w) sizes left
+          (λ k i less.
+          let P : ℕ → Type 0 = λ l. fall k l (slice_index sizes i) ≡ other k l (slice_index sizes i) in
+          let e : level + suc i ≡ level + 1 + i = omega arith in
+          subst P e (same k (suc i) (omega (arith, less)))) lead.2),
+    )
+
+-- one more level, by which hashes fall in those before it as they did
+module _ (by by' : ℕ → ℕ → ℕ → ℕ → ℕ) (falls : (begin hash level words : ℕ) → 0 < words → by' begin hash level words < 64 * words)
+    (keys left after sizes words new_sizes new_words : List ℕ)
+    (same : (begin hash level w : ℕ) → 0 < w → begin + w ≤ length words → by' begin hash level w ≡ by begin hash level w)
+    (h : Leave (fall_in by sizes) keys sizes words left)
+    (adds : AddsLevel (by' (length words)) left sizes words new_sizes new_words after) where
+  old_alike : (hash i : ℕ) → i < length sizes → fall_in by sizes hash (0 + i) (slice_index sizes i) ≡ fall_in by' new_sizes hash (0 + i) (slice_index sizes i)
+  old_alike hash i inside =
+      let e : 0 + i ≡ i = omega arith in
+      let P : ℕ → Type 0 = λ l. fall_in by sizes hash l (slice_index sizes i) ≡ fall_in by' new_sizes hash l (slice_index sizes i) in
+      let takes : take i new_sizes ≡ take i sizes =
+      ap (take i) adds.sizes_are ∙ take-append-le i sizes (adds.size ∷ []) (omega (arith, inside)) in
+      subst P (sym e)
+      (sym (same (sum (take i sizes)) hash i (slice_index sizes i) (h.some i 0 inside)
+      (omega (arith, h.all, sum_by_more_le (λ x. x) sizes i 0 inside)))
+      ∙ ap (λ (s : List ℕ). by' (sum s) hash i (slice_index sizes i)) (sym takes))
+
+  -- the new level begins behind all words
+  begins : length words ≡ sum (take (length sizes) new_sizes)
+  begins =
+      sym h.all ∙ ap sum (sym (take-append_seam sizes (adds.size ∷ [])))
+      ∙ ap (λ (s : List ℕ). sum (take (length sizes) s)) (sym adds.sizes_are)
+
+  level_here : (n : ℕ) → length words ≡ n → IsLevel (by' n) left (bits_of new_words) (length sizes) (64 * length words) adds.size
+  level_here n is =
+      let P : ℕ → Type 0 = λ m. IsLevel (by' m) left (bits_of new_words) (length sizes) (64 * length words) adds.size in
+      subst P is adds.level
+
+  pub Leave-next : Leave (fall_in by' new_sizes) keys new_sizes new_words after
+  Leave-next =
+      Leave-more (fall_in by' new_sizes) (λ hash level w some. falls (sum (take level new_sizes)) hash level w some)
+      keys left after sizes words new_sizes new_words
+      (record {
+        lead = LeadTo-alike (fall_in by sizes) (fall_in by' new_sizes) keys (bits_of words) 0 0 sizes left old_alike h.lead;
+        some = h.some;
+        all = h.all;
+      })
+      (record {
+        size = adds.size;
+        some = adds.some;
+        sizes_are = adds.sizes_are;
+        len = adds.len;
+        kept = adds.kept;
+        level = level_here (sum (take (length sizes) new_sizes)) begins;
+        left_are = adds.left_are
+            ∙ ap (λ (m : ℕ). left_of (by' m) left (bits_of new_words) (length sizes) (64 * length words) adds.size) begins;
+      })

@@ -1,0 +1,113 @@
+//! What places hashes in levels: their digits alone, or with a seed for each word.
+ghost use Rattle.std.specs.Prelude.{◌≡◌, ◌+◌, ◌*◌, ◌^◌, ◌<◌, ◌≤◌, ℕ, IfOk};
+ghost use Rattle.bitm.specs.Reads.{ReadsAtMost};
+ghost use Rattle.perfect_hash.specs.Places.{place_in};
+ghost use Rattle.perfect_hash.specs.Inside.{falls_inside};
+
+use crate::places::place_of;
+use bitm::{GetSize, ReadCounts};
+use std::alloc::{AllocError, Global};
+
+/// Places hashes: says on which bit of a level each falls.
+///
+/// That numbers are one-to-one is proved of any placing; a bad one costs bits, or ends in `KeysCollide`.
+pub trait Placing: Drop {
+    /// The bit that a hash falls on, of a level that has so many words before it, a number, and so many words: `fall
+    /// placing begin hash level words`.
+    ghost fall: { Self → ℕ → ℕ → ℕ → ℕ → ℕ };
+
+    /// The bit that a hash falls on, of a level that has `begin` words before it, a number, and so many words.
+    ///
+    /// # Conditions
+    /// The level has a word, and ends before word 2^58.
+    /// # Cost
+    /// At most one seed is read.
+    fn place(
+        &self,
+        begin: usize,
+        hash: u64,
+        level: u32,
+        words: usize,
+        reads: &mut ReadCounts,
+    ) -> usize
+        requires some { 0 < words }
+        requires short { begin + words < 2 ^ 58 }
+        ensures at { result ≡ fall self.now begin hash level words }
+        ensures inside { result < 64 * words }
+        ensures reads { ReadsAtMost reads.old reads.new 0 0 1 };
+
+    /// Chooses how the hashes that are left fall in a level that is added after `begin` words; in the levels before it
+    /// all fall as they did.
+    ///
+    /// # Conditions
+    /// The level has a word, and ends before word 2^58.
+    /// # Errors
+    /// `AllocError` if memory was refused.
+    fn add_level(
+        &mut self,
+        alloc: Global,
+        begin: usize,
+        hashes: &[u64],
+        level: u32,
+        words: usize,
+    ) -> Result<(), AllocError>
+        requires some { 0 < words }
+        requires short { begin + words < 2 ^ 58 }
+        ensures kept { (first hash number size : ℕ) → 0 < size → first + size ≤ begin
+            → fall self.new first hash number size ≡ fall self.old first hash number size };
+
+    /// The same again.
+    ///
+    /// # Errors
+    /// `AllocError` if memory was refused; this value is as it was.
+    fn try_clone(&self, alloc: Global) -> Result<Self, AllocError>
+        ensures { IfOk result (λ copy. copy ≡ self.now) };
+
+    /// A hash falls inside each level that has a word.
+    ghost inside: { (placing : Self) (begin hash level words : ℕ) → 0 < words
+        → fall placing begin hash level words < 64 * words };
+}
+
+/// Places a hash by its digits alone, for which nothing is kept.
+#[derive(Clone, Copy, Debug)]
+pub struct Plain;
+
+impl Placing for Plain {
+    ghost fall = { λ _ _. place_in };
+
+    #[inline(always)]
+    fn place(
+        &self,
+        _begin: usize,
+        hash: u64,
+        level: u32,
+        words: usize,
+        _reads: &mut ReadCounts,
+    ) -> usize {
+        place_of(hash, level, words)
+    }
+
+    fn add_level(
+        &mut self,
+        _alloc: Global,
+        _begin: usize,
+        _hashes: &[u64],
+        _level: u32,
+        _words: usize,
+    ) -> Result<(), AllocError> {
+        Ok(())
+    }
+
+    fn try_clone(&self, _alloc: Global) -> Result<Plain, AllocError> {
+        Ok(Plain)
+    }
+
+    ghost inside = { λ _ _. falls_inside };
+}
+
+impl GetSize for Plain {
+    #[inline(always)]
+    fn size_bytes_dyn(&self) -> usize {
+        0
+    }
+}
