@@ -7,6 +7,7 @@ pub mod DigitLemmas
 pub mod FlipLemmas
 pub mod NumberLemmas
 pub mod PickLemmas
+pub mod PlaceFromLemmas
 pub mod PlaceLemmas
 pub mod ReadLemmas
 pub mod SetLemmas

@@ -1,12 +1,13 @@
 //! The places of the ones, and of the zeros, as iterators.
-ghost use Rattle.std.specs.Prelude.{◌≡◌, ℕ, ◌+◌, ◌*◌, ◌^◌, ◌<◌, List, length, Some, IfSome};
+ghost use Rattle.std.specs.Prelude.{◌≡◌, ℕ, ◌+◌, ◌*◌, ◌^◌, ◌<◌, List, drop, length, Some, IfSome};
 ghost use Rattle.std.specs.Iterator.{YieldsFirst, item_count, UpTo, at_most};
 ghost use Rattle.std.specs.Iterator.SizeHint.{IsWithinCount};
 ghost use Rattle.bit_lists.specs.Bits.{bits_of, IsShort};
 ghost use Rattle.bit_lists.specs.Coming.{word_of, coming};
-ghost use Rattle.bit_lists.specs.Count.{places, as_bit};
+ghost use Rattle.bit_lists.specs.Count.{count_before, places, as_bit};
 
 use crate::counting::{count_bit_ones, count_bit_zeros};
+use crate::masks::n_lowest_bits;
 use std::iter::{ExactSizeIterator, FusedIterator, Iterator};
 use std::marker::Model;
 
@@ -66,6 +67,33 @@ impl<'a, const BIT: u8> BitBIterator<'a, BIT> {
                 first: 0,
                 current: 0,
             },
+        }
+    }
+
+    /// The places of this kind of bit from `start` on: all but those before it; none where `start` is outside.
+    ///
+    /// # Conditions
+    /// There are fewer than 2^58 words.
+    /// # Cost
+    /// One word is read; nothing before it is.
+    #[inline]
+    pub fn from_place(words: &'a [u64], start: usize) -> Self
+        requires { IsShort words.now }
+        ensures { let bits = bits_of words.now in
+            result ≡ drop (count_before bits (as_bit BIT) start) (places (as_bit BIT) 0 bits) }
+    {
+        let index = start / 64;
+        if index >= words.len() {
+            return BitBIterator {
+                rest: &words[words.len()..],
+                first: 0,
+                current: 0,
+            };
+        }
+        BitBIterator {
+            rest: &words[index + 1..],
+            first: index * 64,
+            current: word_of::<BIT>(words[index]) & !n_lowest_bits((start % 64) as u8),
         }
     }
 }

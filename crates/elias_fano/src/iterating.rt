@@ -2,12 +2,13 @@
 ghost use Rattle.std.specs.Prelude.{◌≡◌, ◌≤◌, ℕ, List, length, drop, Some, IfSome};
 ghost use Rattle.std.specs.Iterator.{YieldsFirst, YieldsLast, item_count, UpTo, at_most};
 ghost use Rattle.std.specs.Iterator.SizeHint.{IsWithinCount};
-ghost use Rattle.elias_fano.specs.Numbers.{StandFrom};
+ghost use Rattle.bitm.specs.Bits.{bits_of};
+ghost use Rattle.bitm.specs.Count.{ones_before};
 ghost use Rattle.elias_fano.specs.Parts.{ArePartsOf};
 
 use crate::low::LowDigits;
 use crate::searching::item_at_one;
-use bitm::words;
+use bitm::{BitOnesIterator, words};
 use std::iter::{DoubleEndedIterator, ExactSizeIterator, FusedIterator, Iterator};
 use std::marker::Model;
 
@@ -22,8 +23,9 @@ pub struct Numbers<'a> {
     // The places of the numbers that are left.
     start: usize,
     end: usize,
-    // The bits of the upper words among which their ones stand.
-    first: usize,
+    // The places of the ones from that of number `start` on.
+    ones: BitOnesIterator<'a>,
+    // The bit of the upper words before which the ones of the numbers that are left stand.
     limit: usize,
 }
 
@@ -38,12 +40,12 @@ impl<'a> Model for Numbers<'a> {
 
     ghost invariant = { λ it. let low = it.low.now in let upper = it.upper.now in
         IsCursor (items_of it.len it.width low upper) it.len it.width low upper
-        it.start it.end it.first it.limit };
+        it.start it.end it.limit it.ones };
 }
 
 impl<'a> Numbers<'a> {
-    /// The numbers from place `start` on, of a sequence of `len` numbers with these parts; bit `first` of the upper
-    /// words is after the ones of the numbers before, and not after the one of number `start`.
+    /// The numbers from place `start` on, of a sequence of `len` numbers with these parts; as many ones stand before bit
+    /// `first` of the upper words.
     #[inline(always)]
     pub(crate) fn new(
         low: &'a [u64],
@@ -53,9 +55,9 @@ impl<'a> Numbers<'a> {
         start: usize,
         first: usize,
     ) -> Self
-        requires parts { (xs : List ℕ) × ArePartsOf xs len width low.now upper.now
-            × StandFrom xs width start len first }
+        requires parts { (xs : List ℕ) × ArePartsOf xs len width low.now upper.now }
         requires order { start ≤ len }
+        requires first { ones_before (bits_of upper.now) first ≡ start }
         ensures { (xs : List ℕ) → ArePartsOf xs len width low.now upper.now → result ≡ drop start xs }
     {
         Numbers {
@@ -65,7 +67,7 @@ impl<'a> Numbers<'a> {
             len,
             start,
             end: len,
-            first,
+            ones: BitOnesIterator::from_place(upper, first),
             limit: upper.len() * 64,
         }
     }
@@ -83,11 +85,13 @@ impl<'a> Iterator for Numbers<'a> {
         if self.start >= self.end {
             return None;
         }
-        let place = words::find_bit_one_unchecked(self.upper, self.first);
-        let number = item_at_one(place, &mut LowDigits::new(self.low, self.width), self.start);
-        self.start += 1;
-        self.first = place + 1;
-        Some(number)
+        let at = self.start;
+        let place = match self.ones.next() {
+            Some(place) => place,
+            None => unreachable!(),
+        };
+        self.start = at + 1;
+        Some(item_at_one(place, &mut LowDigits::new(self.low, self.width), at))
     }
 
     #[inline]

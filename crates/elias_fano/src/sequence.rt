@@ -8,7 +8,7 @@ ghost use Rattle.bitm.specs.Size.{saturated_size};
 ghost use Rattle.bitm.specs.Reads.{none_read};
 ghost use Rattle.bitm.specs.Tables.{HasTables};
 ghost use Rattle.elias_fano.specs.Buckets.{BeginsAt, HasEnds};
-ghost use Rattle.elias_fano.specs.Numbers.{StandFrom};
+ghost use Rattle.elias_fano.specs.Numbers.{HasBefore};
 ghost use Rattle.elias_fano.specs.Parts.{width_of, low_words_of, upper_words_of, IsLow, IsUpper};
 ghost use Rattle.elias_fano.specs.Sequence.{IsSequence, HasFall};
 
@@ -227,8 +227,8 @@ impl<S: SelectForRank101111, S0: Select0ForRank101111> Sequence<S, S0> {
     /// The numbers, from the first on and from the last back.
     ///
     /// # Cost
-    /// Nothing is read before the first call of `next` or `next_back`. All numbers together are one pass over the upper
-    /// words and one over the low ones, and no selection.
+    /// One upper word is read before the first call of `next` or `next_back`. All numbers together are one pass over the
+    /// upper words and one over the low ones, and no selection.
     #[inline]
     pub fn iter(&self) -> Numbers<'_>
         ensures { result ≡ self.now.items }
@@ -250,22 +250,22 @@ impl<S: SelectForRank101111, S0: Select0ForRank101111> Sequence<S, S0> {
         self.numbers(place, self.first_bit(place))
     }
 
-    /// The numbers from number `place` on, whose ones begin at bit `first` of the upper words.
+    /// The numbers from number `place` on, where as many ones stand before bit `first` of the upper words.
     #[inline(always)]
     fn numbers(&self, place: usize, first: usize) -> Numbers<'_>
         requires order { place ≤ length self.now.items }
-        requires stand { StandFrom self.now.items (width_of self.now.items) place (length self.now.items) first }
+        requires first { HasBefore self.now.items place first }
         ensures { result ≡ drop place self.now.items }
     {
         let (low, upper) = (self.low_words(), self.upper_words());
         Numbers::new(low, upper, self.width, self.len, place, first)
     }
 
-    /// A bit of the upper words after the ones of the numbers before `place`, and not after that of number `place`.
+    /// A bit of the upper words before which the ones of the numbers before `place` stand, and no others.
     #[inline(always)]
     fn first_bit(&self, place: usize) -> usize
         requires { place ≤ length self.now.items }
-        ensures { StandFrom self.now.items (width_of self.now.items) place (length self.now.items) result }
+        ensures { HasBefore self.now.items place result }
     {
         if place < self.len {
             self.upper.select(place)

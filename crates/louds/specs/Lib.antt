@@ -5,6 +5,7 @@ pub mod Labels
 pub mod Held
 pub mod Counted
 pub mod Laws
+pub mod Node
 pub mod Error
 pub mod LabelsError
 pub mod Value

@@ -22,11 +22,13 @@ mod labelled;
 mod labels;
 pub mod laws;
 mod making;
+mod node;
 mod parents;
 mod tree;
 
 pub use checking::is_tree;
 pub use error::{LabelsError, LoudsError};
 pub use labelled::{LabelledLouds, SampledTrie, are_labels};
+pub use node::Node;
 pub use parents::are_parents;
 pub use tree::{BinaryLouds, Louds, SampledLouds};

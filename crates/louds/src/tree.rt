@@ -1,11 +1,11 @@
 //! The type of a tree, and what it is asked.
-ghost use Rattle.std.specs.Prelude.{◌≡◌, ◌==◌, ◌+◌, ◌*◌, ◌^◌, ◌<◌, ◌≤◌, ◌↔◌, IfOk, IfSome, IsErrOf, length, slice_index};
+ghost use Rattle.std.specs.Prelude.{◌≡◌, ◌==◌, ◌+◌, ◌*◌, ◌^◌, ◌<◌, ◌≤◌, ◌↔◌, ℕ, IfOk, IfSome, IsErrOf, length, slice_index};
 ghost use Rattle.std.specs.Int.{div_ceil};
 ghost use Rattle.bitm.specs.Reads.{none_read};
 ghost use Rattle.bitm.specs.Size.{saturated_size};
 ghost use Rattle.louds.specs.Counted.{degrees_in, IsLouds};
 ghost use Rattle.louds.specs.Held.{words_of, zero_place, IsOneOf};
-ghost use Rattle.louds.specs.Tree.{AreChildren, IsTree, MatchesChild, MatchesLastChild};
+ghost use Rattle.louds.specs.Tree.{AreChildren, IsChild, IsTree, MatchesChild, MatchesLastChild};
 ghost use Rattle.louds.specs.Tree.{MatchesParent, MatchesChildRank, MatchesNextSibling};
 ghost use Rattle.louds.specs.Tree.{MatchesPreviousSibling};
 
@@ -117,7 +117,7 @@ impl<S: SelectForRank101111, S0: Select0ForRank101111> Louds<S, S0> {
     /// The place of the zero after the ones of a node, where that before them stands at `start`. It is mostly in one of
     /// the two words that have the bits behind `start`; else it is selected.
     #[inline(always)]
-    fn end(&self, node: usize, start: usize) -> usize
+    pub(crate) fn end(&self, node: usize, start: usize) -> usize
         requires node { node < length self.now.degrees }
         requires start { start ≡ zero_place self.now.degrees node }
         ensures place { result ≡ zero_place self.now.degrees (node + 1) }
@@ -131,9 +131,36 @@ impl<S: SelectForRank101111, S0: Select0ForRank101111> Louds<S, S0> {
         }
     }
 
+    /// The place of the zero before the ones among which that of a node stands, where its own is at `one`.
+    ///
+    /// # Cost
+    /// One word for each begun 64 children of the parent that stand before the node, and no selection.
+    #[inline(always)]
+    pub(crate) fn start(&self, node: usize, one: usize) -> usize
+        requires node { node < length self.now.degrees }
+        requires some { 0 < node }
+        requires one { IsOneOf self.now.degrees node one }
+        ensures { (i k : ℕ) → IsChild self.now.degrees i k node → result ≡ zero_place self.now.degrees i }
+    {
+        match words::rfind_bit_zero(self.index.content().as_slice(), one) {
+            Some(place) => place,
+            None => unreachable!(),
+        }
+    }
+
+    /// Whether the bit after the zero before a node's ones is none of these.
+    #[inline(always)]
+    pub(crate) fn ends_after(&self, node: usize, start: usize) -> bool
+        requires node { node < length self.now.degrees }
+        requires start { start ≡ zero_place self.now.degrees node }
+        ensures { result ≡ (slice_index self.now.degrees node == 0) }
+    {
+        !self.index.get_bit(start + 1)
+    }
+
     /// The place of the one of a node.
     #[inline(always)]
-    fn one(&self, node: usize) -> usize
+    pub(crate) fn one(&self, node: usize) -> usize
         requires { node < length self.now.degrees }
         ensures { IsOneOf self.now.degrees node result }
     {
@@ -168,8 +195,7 @@ impl<S: SelectForRank101111, S0: Select0ForRank101111> Louds<S, S0> {
         requires { node < length self.now.degrees }
         ensures { result ≡ (slice_index self.now.degrees node == 0) }
     {
-        let next = self.zero(node) + 1;
-        !self.index.get_bit(next)
+        self.ends_after(node, self.zero(node))
     }
 
     /// Child `k` of a node; `None` exactly where it has no more than `k` children.

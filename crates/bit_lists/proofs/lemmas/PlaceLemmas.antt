@@ -77,7 +77,8 @@ no_places k =
 pub coming_end : (v first : ℕ) → coming v first 0 [] ≡ []
 coming_end v first = ap₂ (λ a b. a ++ places (as_bit v) (first + 64) b) (no_places first) bits_of-nil
 
-negation : (d e : ℕ) → d < 2 → e ≡ 1 - d → eqb e 1 ≡ not (eqb d 1)
+-- a digit of the complement
+pub negation : (d e : ℕ) → d < 2 → e ≡ 1 - d → eqb e 1 ≡ not (eqb d 1)
 negation zero e l is = ap (λ x. eqb x 1) is
 negation (suc zero) e l is = ap (λ x. eqb x 1) is
 negation (suc (suc d)) e l is = absurd (omega arith)

@@ -1,16 +1,16 @@
 -- The ones of the numbers that an iterator has left: the first and the last of them, and what a step leaves.
-use Rattle.std.proofs.Common.{◌≡◌, ℕ, suc, ◌+◌, ◌-◌, ◌*◌, ◌<◌, ◌≤◌, true, cond, List, [], ◌∷◌, ◌++◌, length, get_or, take, drop, sym, refl, ap, ◌∙◌, ⊎_elim, arith, subst, length-take, length-drop, take_all}
+use Rattle.std.proofs.Common.{◌≡◌, ◌≢◌, ℕ, suc, ◌+◌, ◌-◌, ◌*◌, ◌<◌, ◌≤◌, true, cond, List, [], ◌∷◌, ◌++◌, length, get_or, take, drop, sym, refl, ap, ap₂, ◌∙◌, ⊎_elim, arith, subst, length-take, length-drop, take_all}
 use Rattle.std.proofs.Math.Seq.{drop-cons, take-add}
 use Rattle.std.proofs.lemmas.Bool.{cases_lt, false≢true}
 use Rattle.std.proofs.lemmas.List.{get_or-drop}
-use Rattle.std.specs.List.Sorted.{IsNonDecreasing}
+use Rattle.std.proofs.lemmas.List.FromFn.{length-map-range_with_len, get_or-map-range_with_len}
 use Rattle.bitm.proofs.BitLaws.{bits_are_counted, counts_grow, count_after_item}
 use Rattle.bitm.specs.Bits.{bits_of, item}
-use Rattle.bitm.specs.Count.{ones_before, is_same, Picks, IsFirstOneFrom, IsLastOneTo}
+use Rattle.bitm.specs.Count.{ones_before, is_same, places, Picks, IsLastOneTo}
 use Rattle.elias_fano.proofs.lemmas.ItemLemmas.{items_of-is}
-use Rattle.elias_fano.proofs.lemmas.UpperLemmas.{one_is, place_is, ones_are, upper_place-le, upper_place-rises, upper_place-inside}
-use Rattle.elias_fano.specs.Numbers.{items_left, StandFrom, IsCursor}
-use Rattle.elias_fano.specs.Parts.{upper_place, upper_words_of, IsUpper, ArePartsOf, HasOneAt, items_of}
+use Rattle.elias_fano.proofs.lemmas.UpperLemmas.{one_is, place_is, ones_are, upper_place-le, upper_place-rises}
+use Rattle.elias_fano.specs.Numbers.{items_left, IsCursor}
+use Rattle.elias_fano.specs.Parts.{upper_place, upper_places, upper_words_of, width_of, IsUpper, ArePartsOf, HasOneAt, items_of}
 
 -- ---- items of a range
 
@@ -64,34 +64,37 @@ module _ (xs : List ℕ) (l : ℕ) (upper : List ℕ) (h : IsUpper xs l upper) w
       let here : Picks b true j p = record { inside = inside; item = one; before = refl } in
       (j, few, place_is xs l upper j p h few here)
 
-module _ (xs : List ℕ) (n l : ℕ) (low upper : List ℕ) (start end first limit : ℕ)
-    (h : IsCursor xs n l low upper start end first limit) (some : start < end) where
+-- the places of the ones from that of an item on
+places_from : (xs : List ℕ) (l n i : ℕ) → i < n
+    → drop i (upper_places xs l n) ≡ upper_place xs l i ∷ drop (i + 1) (upper_places xs l n)
+places_from xs l n i inside =
+    let next : suc i ≡ i + 1 = omega arith in
+    drop-cons (upper_places xs l n) i 0 (omega (arith, length-map-range_with_len (upper_place xs l) 0 n))
+    ∙ ap₂ (λ p k. p ∷ drop k (upper_places xs l n)) (get_or-map-range_with_len (upper_place xs l) 0 n i i 0 inside (omega arith)) next
+
+module _ (xs : List ℕ) (n l : ℕ) (low upper : List ℕ) (start end limit : ℕ) (ones : List ℕ)
+    (h : IsCursor xs n l low upper start end limit ones) (some : start < end) where
   here : Picks (bits_of upper) true start (upper_place xs l start)
   here = one_at xs l upper h.parts.upper_is start (omega (arith, h.within, h.parts.count))
 
   there : Picks (bits_of upper) true (end - 1) (upper_place xs l (end - 1))
   there = one_at xs l upper h.parts.upper_is (end - 1) (omega (arith, h.within, h.parts.count))
 
-  -- the first one from bit first on is that of the first item left
-  pub first-is : (p : ℕ) → IsFirstOneFrom (bits_of upper) first p → p ≡ upper_place xs l start
-  first-is p found =
-      let j = item_of xs l upper h.parts.upper_is p found.inside found.is in
-      let not_before : start ≤ j.0 =
-      ⊎_elim (λ early. absurd (omega (arith, h.before j.0 early, j.2, found.from))) (λ from. from) (cases_lt j.0 start) in
-      let from : upper_place xs l start ≤ p =
-      omega (arith, j.2, upper_place-le xs l start j.0 h.parts.sequence.rising not_before j.1) in
-      let to : p ≤ upper_place xs l start =
-      ⊎_elim
-      (λ less. absurd (false≢true (sym (found.least (upper_place xs l start) (omega (arith, h.left start)) less) ∙ here.item)))
-      (λ order. order)
-      (cases_lt (upper_place xs l start) p) in
-      omega arith
+  -- the first of the ones is that of the first item left, and the others are those of the items after it
+  pub first-ones : ones ≡ upper_place xs l start ∷ drop (start + 1) (upper_places xs l n)
+  first-ones = h.ones ∙ places_from xs l n start (omega (arith, h.within))
+
+  pub some-first : ones ≢ []
+  some-first none = let e = ap length (sym first-ones ∙ none) in absurd (omega (arith, e))
+
+  first-is : (p : ℕ) (rest : List ℕ) → ones ≡ p ∷ rest → p ≡ upper_place xs l start
+  first-is p rest found = ap (λ ps. get_or ps 0 0) (sym found ∙ first-ones)
 
   -- the last one before bit limit is that of the last item left
   pub last-is : (p : ℕ) → IsLastOneTo (bits_of upper) (limit - 1) p → p ≡ upper_place xs l (end - 1)
   last-is p found =
       let j = item_of xs l upper h.parts.upper_is p found.inside found.is in
-      let bound : 0 < limit = omega (arith, h.left start) in
+      let bound : 0 < limit = omega (arith, h.left start some) in
       let not_after : j.0 ≤ end - 1 =
       ⊎_elim (λ before. omega arith) (λ late. absurd (omega (arith, h.after j.0 late, j.1, j.2, found.to, h.parts.count))) (cases_lt j.0 end) in
       let to : p ≤ upper_place xs l (end - 1) =
@@ -104,20 +107,17 @@ module _ (xs : List ℕ) (n l : ℕ) (low upper : List ℕ) (start end first lim
       (cases_lt p (upper_place xs l (end - 1))) in
       omega arith
 
-  -- so both are there to be found
-  pub some-first : (p : ℕ) × (first ≤ p) × (item (bits_of upper) p ≡ true)
-  some-first = (upper_place xs l start, omega (arith, h.left start), here.item)
-
+  -- so it is there to be found
   pub some-last : (p : ℕ) × (p ≤ limit - 1) × (item (bits_of upper) p ≡ true)
   some-last = (upper_place xs l (end - 1), omega (arith, h.left (end - 1)), there.item)
 
   pub limit-some : 0 < limit
-  limit-some = omega (arith, h.left start)
+  limit-some = omega (arith, h.left start some)
 
-  pub first-has : (p : ℕ) → IsFirstOneFrom (bits_of upper) first p → HasOneAt xs n l low upper start p
-  first-has p found =
+  pub first-has : (p : ℕ) (rest : List ℕ) → ones ≡ p ∷ rest → HasOneAt xs n l low upper start p
+  first-has p rest found =
       let P : ℕ → Type 0 = λ q. Picks (bits_of upper) true start q in
-      record { parts = h.parts; inside = omega (arith, h.within); one = subst P (sym (first-is p found)) here }
+      record { parts = h.parts; inside = omega (arith, h.within); one = subst P (sym (first-is p rest found)) here }
 
   pub last-has : (p : ℕ) → IsLastOneTo (bits_of upper) (limit - 1) p → HasOneAt xs n l low upper (end - 1) p
   last-has p found =
@@ -125,43 +125,29 @@ module _ (xs : List ℕ) (n l : ℕ) (low upper : List ℕ) (start end first lim
       record { parts = h.parts; inside = omega (arith, h.within); one = subst P (sym (last-is p found)) there }
 
   -- what is left after a step from the front
-  pub IsCursor-first : (p : ℕ) → IsFirstOneFrom (bits_of upper) first p → IsCursor xs n l low upper (start + 1) end (p + 1) limit
-  IsCursor-first p found = record {
+  pub IsCursor-first : (p : ℕ) (rest : List ℕ) → ones ≡ p ∷ rest → IsCursor xs n l low upper (start + 1) end limit rest
+  IsCursor-first p rest found = record {
     parts = h.parts;
     order = omega arith;
     within = h.within;
     room = h.room;
-    before = λ j less. omega (
-      arith,
-      first-is p found,
-      upper_place-le xs l j start h.parts.sequence.rising (omega arith) (omega (arith, h.within, h.parts.count)),
-    );
-    left = λ j from to. (
-      omega (
-        arith,
-        first-is p found,
-        upper_place-rises xs l start j h.parts.sequence.rising (omega arith) (omega (arith, h.within, h.parts.count)),
-      ),
-      (h.left j (omega arith) to).1,
-    );
+    ones = ap (drop 1) (sym found ∙ first-ones);
+    left = h.left;
     after = h.after;
   }
 
   -- and from the back
-  pub IsCursor-last : (p : ℕ) → IsLastOneTo (bits_of upper) (limit - 1) p → IsCursor xs n l low upper start (end - 1) first p
+  pub IsCursor-last : (p : ℕ) → IsLastOneTo (bits_of upper) (limit - 1) p → IsCursor xs n l low upper start (end - 1) p ones
   IsCursor-last p found = record {
     parts = h.parts;
     order = omega arith;
     within = omega (arith, h.within);
     room = omega (arith, last-is p found, h.left (end - 1), h.room);
-    before = h.before;
-    left = λ j from to. (
-      (h.left j from (omega arith)).0,
-      omega (
-        arith,
-        last-is p found,
-        upper_place-rises xs l j (end - 1) h.parts.sequence.rising to (omega (arith, h.within, h.parts.count)),
-      ),
+    ones = h.ones;
+    left = λ j to. omega (
+      arith,
+      last-is p found,
+      upper_place-rises xs l j (end - 1) h.parts.sequence.rising to (omega (arith, h.within, h.parts.count)),
     );
     after = λ j from less. omega (
       arith,
@@ -170,39 +156,37 @@ module _ (xs : List ℕ) (n l : ℕ) (low upper : List ℕ) (start end first lim
     );
   }
 
--- all items from a place on, whose ones begin at bit first
-pub IsCursor-whole : (xs : List ℕ) (n l : ℕ) (low upper : List ℕ) (start first limit : ℕ)
-    → ArePartsOf xs n l low upper → start ≤ n → limit ≡ 64 * length upper
-    → StandFrom xs l start n first → IsCursor (items_of n l low upper) n l low upper start n first limit
-IsCursor-whole xs n l low upper start first limit h order all stand =
-    let P : List ℕ → Type 0 = λ ys. IsCursor ys n l low upper start n first limit in
+-- all items from a place on, whose ones are those from a bit on with as many before it
+pub IsCursor-whole : (xs : List ℕ) (n l : ℕ) (low upper : List ℕ) (start first limit : ℕ) (ones : List ℕ)
+    → ArePartsOf xs n l low upper → start ≤ n → limit ≡ 64 * length upper → ones_before (bits_of upper) first ≡ start
+    → ones ≡ drop (ones_before (bits_of upper) first) (places true 0 (bits_of upper))
+    → IsCursor (items_of n l low upper) n l low upper start n limit ones
+IsCursor-whole xs n l low upper start first limit ones h order all before come =
+    let P : List ℕ → Type 0 = λ ys. IsCursor ys n l low upper start n limit ones in
     subst P (sym (items_of-is xs n l low upper h)) record {
       parts = h;
       order = order;
       within = omega arith;
       room = omega arith;
-      before = stand.before;
-      left = λ j at less. (
-        stand.from j at less,
-        omega (arith, (one_at xs l upper h.upper_is j (omega (arith, h.count))).inside, bits_are_counted upper),
-      );
+      ones =
+          come
+          ∙ ap₂ drop before (h.upper_is.ones ∙ ap (upper_places xs l) (sym h.count));
+      left = λ j less. omega (arith, (one_at xs l upper h.upper_is j (omega (arith, h.count))).inside, bits_are_counted upper);
       after = λ j past less. absurd (omega arith);
     }
 
--- the one that a place picks, from which the ones of its number and of those after it stand
-pub StandFrom-picked : (xs : List ℕ) (n l : ℕ) (low upper : List ℕ) (start p : ℕ) → ArePartsOf xs n l low upper
-    → start < length xs → Picks (bits_of upper) true start p → StandFrom xs l start (length xs) p
-StandFrom-picked xs n l low upper start p h some here =
+-- before the one of an item are those of the items before it
+pub HasBefore-one : (xs : List ℕ) (n l : ℕ) (low upper other : List ℕ) (start p : ℕ) → ArePartsOf xs n l low upper
+    → IsUpper xs (width_of xs) other → start < length xs → Picks (bits_of upper) true start p
+    → ones_before (bits_of other) p ≡ start
+HasBefore-one xs n l low upper other start p h there some here =
     let at = place_is xs l upper start p h.upper_is some here in
-    record {
-      before = λ j less. omega (arith, at, upper_place-rises xs l j start h.sequence.rising less some);
-      from = λ j from less. omega (arith, at, upper_place-le xs l start j h.sequence.rising from less);
-    }
+    let same : upper_place xs l start ≡ upper_place xs (width_of xs) start = ap (λ w. upper_place xs w start) h.width in
+    ap (ones_before (bits_of other)) (at ∙ same) ∙ (one_at xs (width_of xs) other there start some).before
 
--- the end, where no number is left
-pub StandFrom-end : (xs : List ℕ) (l start first : ℕ) → IsNonDecreasing xs → start ≡ length xs → first ≡ 64 * upper_words_of xs l
-    → StandFrom xs l start (length xs) first
-StandFrom-end xs l start first rising all end = record {
-  before = λ j less. omega (arith, upper_place-inside xs l j rising (omega arith));
-  from = λ j from less. absurd (omega arith);
-}
+-- at the end all ones are before
+pub HasBefore-end : (xs : List ℕ) (l : ℕ) (upper : List ℕ) (first : ℕ) → IsUpper xs l upper → first ≡ 64 * upper_words_of xs l
+    → ones_before (bits_of upper) first ≡ length xs
+HasBefore-end xs l upper first h end =
+    let all : first ≡ length (bits_of upper) = omega (arith, h.words, bits_are_counted upper) in
+    ap (ones_before (bits_of upper)) all ∙ ones_are xs l upper h

@@ -6,7 +6,7 @@ use Rattle.std.proofs.lemmas.List.FromFn.{length-map-range_with_len, get_or-map-
 use Rattle.std.proofs.lemmas.List.{get_or-take}
 use Rattle.std.specs.List.{sum}
 use Rattle.bitm.specs.Bits.{bits_of, digit, item}
-use Rattle.bitm.specs.Count.{zeros_before, ones_of, zeros_of, is_same, places, IsFirstFrom, Picks}
+use Rattle.bitm.specs.Count.{zeros_before, ones_of, zeros_of, is_same, places, IsFirstFrom, IsLastTo, Picks}
 use Rattle.bitm.proofs.BitLaws.{at_most_one_picked, bit_is_digit, bits_are_counted, count_after_item, counts_grow, equal_items_count_for_one, none_before_the_first, ones_and_zeros, places_are_counted, places_are_picked}
 use Rattle.bitm.proofs.Callers.{one_below, zero_below}
 use Rattle.louds.proofs.lemmas.TreeLemmas.{sum_all, sum_part, sum_order, zero_place_more, parent_of, one_parent}
@@ -287,6 +287,27 @@ module _ (d : List ℕ) (n : ℕ) (b : List Bool) (h : IsHeld d n b) where
   held_degrees = subst (λ (xs : List ℕ). IsHeld xs n b) (sym degrees_of-is) h
 
 -- ---- the run of a node's ones
+
+-- the last zero before the one of a child is that before its parent's ones
+pub run_start : (d : List ℕ) (n : ℕ) (b : List Bool) (i k v p : ℕ) → IsHeld d n b → IsChild d i k v
+    → IsLastTo b false (zero_place d i + 1 + k) p → p ≡ zero_place d i
+run_start d n b i k v p h c last =
+    ⊎_elim
+    (λ same. same)
+    (λ apart. absurd (⊎_elim early late apart))
+    (cases_order p (zero_place d i))
+  where
+    early : p < zero_place d i → ⊥
+    early before =
+        clash b (zero_place d i) (last.greatest (zero_place d i) before (omega arith)) (h.zeros i (omega (arith, h.count, c.node))).item
+
+    late : zero_place d i < p → ⊥
+    late behind =
+        let j = p - (zero_place d i + 1) in
+        let at : zero_place d i + 1 + j ≡ p = omega arith in
+        let child : IsChild d i j (1 + sum (take i d) + j) =
+        record { node = c.node; some = omega (arith, last.to, c.some); number = refl } in
+        clash b p (ap (item b) (sym at) ∙ (child_one d n b h i j (1 + sum (take i d) + j) child).item) last.is
 
 -- the bits of the first words are those of all
 item_front : (ws : List ℕ) (m i : ℕ) → i < length (bits_of (take m ws)) → item (bits_of (take m ws)) i ≡ item (bits_of ws) i

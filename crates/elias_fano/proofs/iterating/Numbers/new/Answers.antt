@@ -5,12 +5,16 @@ use Rattle.elias_fano.proofs.lemmas.ItemLemmas.{items_of-is, upper-short}
 use Rattle.elias_fano.specs.Numbers.{items_left}
 use Rattle.elias_fano.proofs.iterating.Numbers.new.Goals as goal
 
+pub from_place-requires : goal.from_place-requires
+from_place-requires c = (omega arith, upper-short _ _ _ _ _ c.requires.parts.1)
+
 pub overflow_mul-result : goal.overflow_mul-result
 overflow_mul-result c = omega (arith, upper-short _ _ _ _ _ c.requires.parts.1)
 
 pub invariant_of-result : goal.invariant_of-result
 invariant_of-result c =
-    IsCursor-whole c.requires.parts.0 _ _ _ _ _ _ _ c.requires.parts.1 c.requires.order (omega arith) c.requires.parts.2
+    IsCursor-whole c.requires.parts.0 _ _ _ _ _ _ _ _ c.requires.parts.1 c.requires.order (omega arith) c.requires.first
+    c.from_place.ensures
 
 pub returns : goal.returns
 returns c = λ xs h.

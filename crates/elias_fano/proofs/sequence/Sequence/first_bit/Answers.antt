@@ -1,11 +1,10 @@
 -- The place that is selected is that of the number; where none is left, the end comes after all ones.
-use Rattle.std.proofs.Common.{ℕ, List, length, ap, subst, arith}
+use Rattle.std.proofs.Common.{◌≡◌, ℕ, List, length, sym, ap, subst, ◌∙◌, arith}
 use Rattle.std.specs.Box.{boxed_slice_items}
-use Rattle.elias_fano.proofs.lemmas.CursorLemmas.{StandFrom-picked, StandFrom-end}
+use Rattle.elias_fano.proofs.lemmas.CursorLemmas.{HasBefore-one, HasBefore-end}
 use Rattle.elias_fano.proofs.lemmas.SizeLemmas.{upper_few}
 use Rattle.elias_fano.proofs.lemmas.UpperLemmas.{ones_are}
 use Rattle.elias_fano.specs.Parts.{ArePartsOf}
-use Rattle.elias_fano.specs.Numbers.{StandFrom}
 use Rattle.elias_fano.proofs.sequence.Sequence.first_bit.Goals as goal
 use Rattle.elias_fano.proofs.sequence.Sequence.first_bit.Goals.{After-self}
 
@@ -31,12 +30,11 @@ overflow_mul-result g c =
 pub returns-then-place-self : goal.returns-then-place-self
 returns-then-place-self g c =
     let h = parts g (goal.at.returns-then-place-self g c).After-self in
-    let P : ℕ → Type 0 = λ l. StandFrom c.args.self.now.items l c.args.place (length c.args.self.now.items) c.select.result in
-    subst P h.width (StandFrom-picked c.args.self.now.items _ _ _ _ c.args.place c.select.result h
-    (omega (arith, h.count, c.if-place-self.true)) c.select.ensures)
+    λ upper is. HasBefore-one c.args.self.now.items _ _ _ _ upper c.args.place c.select.result h is
+    (omega (arith, h.count, c.if-place-self.true)) c.select.ensures
 
 pub returns-else-place-self : goal.returns-else-place-self
 returns-else-place-self g c =
     let h = parts g (goal.at.returns-else-place-self g c).After-self in
-    StandFrom-end c.args.self.now.items _ c.args.place _ h.sequence.rising (omega (arith, h.count, c.requires, c.if-place-self.false))
-    (omega (arith, c.upper_words.ensures.words))
+    let all : c.args.place ≡ length c.args.self.now.items = omega (arith, h.count, c.requires, c.if-place-self.false) in
+    λ upper is. HasBefore-end c.args.self.now.items _ upper _ is (omega (arith, c.upper_words.ensures.words)) ∙ sym all

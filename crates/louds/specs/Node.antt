@@ -1,0 +1,26 @@
+-- Nodes that carry a place among the bits.
+use Rattle.std.specs.Prelude.{◌≡◌, ℕ, ◌<◌, ◌≤◌, List, length, slice_index, Option, MatchOption}
+use Rattle.louds.specs.Held.{zero_place}
+use Rattle.louds.specs.Tree.{IsChild, IsLast, IsNextSibling}
+
+-- a number, and a place among the bits of a tree
+pub record NodeValue : Type 0 where
+  pub number : ℕ
+  pub place : ℕ
+
+-- there is a node of this number, and the place is that of the zero before its ones
+pub record IsNode (d : List ℕ) (v : NodeValue) : Type 0 where
+  pub inside : v.number < length d
+  pub place : v.place ≡ zero_place d v.number
+
+-- child k of node i with its place, and None exactly where i has no more than k children
+abbrev pub MatchesChildNode : List ℕ → ℕ → ℕ → Option NodeValue → Type 0
+MatchesChildNode d i k o = MatchOption o (slice_index d i ≤ k) (λ v. IsNode d v × IsChild d i k v.number)
+
+-- the parent of node v with its place, and None exactly at the root
+abbrev pub MatchesParentNode : List ℕ → ℕ → Option NodeValue → Type 0
+MatchesParentNode d v o = MatchOption o (v ≡ 0) (λ i. IsNode d i × (i.number < v) × ((k : ℕ) × IsChild d i.number k v))
+
+-- the next child of the parent of v with its place, and None exactly where v is the last one or the root
+abbrev pub MatchesNextSiblingNode : List ℕ → ℕ → Option NodeValue → Type 0
+MatchesNextSiblingNode d v o = MatchOption o (IsLast d v) (λ w. IsNode d w × IsNextSibling d v w.number)

@@ -1,0 +1,184 @@
+//! Nodes that carry their places, so that a walk selects once where it goes.
+ghost use Rattle.std.specs.Prelude.{◌≡◌, ◌==◌, ◌<◌, length, slice_index};
+ghost use Rattle.louds.specs.Node.{IsNode, MatchesChildNode, MatchesNextSiblingNode, MatchesParentNode};
+ghost use Rattle.louds.specs.Tree.{AreChildren};
+
+use crate::tree::Louds;
+use bitm::{Select0ForRank101111, SelectForRank101111};
+use std::marker::Model;
+use std::ops::Range;
+
+/// A node of a tree, with its place among the bits: what a walk carries, so that degrees, leaves and the numbers of
+/// children need no selection. It is a node of the tree that answered it, and of each tree of the same degrees.
+#[derive(Clone, Copy, Debug, PartialEq, Eq)]
+pub struct Node {
+    number: usize,
+    // The place of the zero before its ones.
+    place: usize,
+}
+
+impl Model for Node {
+    ghost use Rattle.louds.specs.Node.{NodeValue};
+
+    ghost Value = { NodeValue };
+
+    ghost view = { λ v. record { number = v.number; place = v.place } };
+
+    ghost inverse = { λ v. record { number = v.number; place = v.place } };
+}
+
+impl Node {
+    /// Its number, level by level from the root, 0.
+    #[inline(always)]
+    pub fn number(&self) -> usize
+        ensures { result ≡ self.now.number }
+    {
+        self.number
+    }
+}
+
+impl<S: SelectForRank101111, S0: Select0ForRank101111> Louds<S, S0> {
+    /// The root.
+    ///
+    /// # Cost
+    /// Nothing is read.
+    #[inline(always)]
+    pub fn root(&self) -> Node
+        ensures node { IsNode self.now.degrees result }
+        ensures root { result.number ≡ 0 }
+    {
+        let _nodes = self.len();
+        Node {
+            number: 0,
+            place: 1,
+        }
+    }
+
+    /// The node of a number.
+    ///
+    /// # Conditions
+    /// There is such a node.
+    /// # Cost
+    /// One selection.
+    #[inline]
+    pub fn node(&self, number: usize) -> Node
+        requires { number < length self.now.degrees }
+        ensures node { IsNode self.now.degrees result }
+        ensures number { result.number ≡ number }
+    {
+        Node {
+            number,
+            place: self.zero(number),
+        }
+    }
+
+    /// How many children a node has: `degree` without its selection.
+    ///
+    /// # Conditions
+    /// It is a node of this tree.
+    /// # Cost
+    /// Two words; one selection where it has more than 64 children.
+    #[inline]
+    #[tactic(auto, using(crate::proofs::lemmas::TreeLemmas::zero_place_more))]
+    pub fn degree_of(&self, node: Node) -> usize
+        requires { IsNode self.now.degrees node }
+        ensures { result ≡ slice_index self.now.degrees node.number }
+    {
+        self.end(node.number, node.place) - node.place - 1
+    }
+
+    /// Whether a node has no children: `is_leaf` without its selection.
+    ///
+    /// # Conditions
+    /// It is a node of this tree.
+    /// # Cost
+    /// One word of the bits.
+    #[inline]
+    pub fn is_leaf_of(&self, node: Node) -> bool
+        requires { IsNode self.now.degrees node }
+        ensures { result ≡ (slice_index self.now.degrees node.number == 0) }
+    {
+        self.ends_after(node.number, node.place)
+    }
+
+    /// The numbers of the children of a node, in their order: `children` without its selection.
+    ///
+    /// # Conditions
+    /// It is a node of this tree.
+    /// # Cost
+    /// Two words; one selection where it has more than 64 children.
+    #[inline]
+    pub fn children_of(&self, node: Node) -> Range<usize>
+        requires { IsNode self.now.degrees node }
+        ensures { AreChildren self.now.degrees node.number result.start result.end }
+    {
+        let end = self.end(node.number, node.place);
+        node.place - node.number..end - node.number - 1
+    }
+
+    /// Child `k` of a node; `None` exactly where it has no more than `k` children.
+    ///
+    /// # Conditions
+    /// It is a node of this tree.
+    /// # Cost
+    /// Two words, and one selection, of the child's place; two selections where the node has more than 64 children.
+    #[inline]
+    #[tactic(auto, using(crate::proofs::lemmas::TreeLemmas::zero_place_more))]
+    pub fn child_of(&self, node: Node, k: usize) -> Option<Node>
+        requires { IsNode self.now.degrees node }
+        ensures { MatchesChildNode self.now.degrees node.number k result }
+    {
+        let _nodes = self.len();
+        let end = self.end(node.number, node.place);
+        if k < end - node.place - 1 {
+            Some(self.node(node.place + k - node.number))
+        } else {
+            None
+        }
+    }
+
+    /// The parent of a node; `None` exactly where it is the root.
+    ///
+    /// # Conditions
+    /// It is a node of this tree.
+    /// # Cost
+    /// One selection, and the words from there back to the parent's place: one for each begun 64 children before the
+    /// node, and one more.
+    #[inline]
+    pub fn parent_of(&self, node: Node) -> Option<Node>
+        requires { IsNode self.now.degrees node }
+        ensures { MatchesParentNode self.now.degrees node.number result }
+    {
+        let _nodes = self.len();
+        if node.number == 0 {
+            return None;
+        }
+        let one = self.one(node.number);
+        let place = self.start(node.number, one);
+        Some(Node {
+            number: one - node.number - 1,
+            place,
+        })
+    }
+
+    /// The next child of a node's parent; `None` exactly where the node is the last child or the root.
+    ///
+    /// # Conditions
+    /// It is a node of this tree.
+    /// # Cost
+    /// One selection and three words; two selections where it has more than 64 children.
+    #[inline]
+    pub fn next_sibling_of(&self, node: Node) -> Option<Node>
+        requires { IsNode self.now.degrees node }
+        ensures { MatchesNextSiblingNode self.now.degrees node.number result }
+    {
+        let _nodes = self.len();
+        match self.next_sibling(node.number) {
+            Some(number) => Some(Node {
+                number,
+                place: self.end(node.number, node.place),
+            }),
+            None => None,
+        }
+    }
+}
