@@ -62,6 +62,21 @@ fn goes_up<S: SelectForRank101111, S0: Select0ForRank101111>(
     }
 }
 
+/// What a node answers that carries its place is what its number does.
+fn carries<S: SelectForRank101111, S0: Select0ForRank101111>(
+    rt: &impl Abort,
+    tree: &Louds<S, S0>,
+    i: usize,
+) {
+    assert!(rt; i < tree.len());
+    let node = tree.node(i);
+    assert!(rt; tree.degree_of(node) == tree.degree(i));
+    assert!(rt; tree.is_leaf_of(node) == tree.is_leaf(i));
+    assert!(rt; tree.child_of(node, 1).map(|child| child.number()) == tree.child(i, 1));
+    assert!(rt; tree.parent_of(node).map(|parent| parent.number()) == tree.parent(i));
+    assert!(rt; tree.next_sibling_of(node).map(|next| next.number()) == tree.next_sibling(i));
+}
+
 /// Compares a tree with its degrees; answers whether it was one.
 fn agrees<S: SelectForRank101111, S0: Select0ForRank101111>(
     rt: &impl Abort,
@@ -81,6 +96,7 @@ fn agrees<S: SelectForRank101111, S0: Select0ForRank101111>(
     assert!(rt; tree.len() == degrees.len());
     let mut number = 1usize;
     for (i, degree) in degrees.iter().enumerate() {
+        carries(rt, &tree, i);
         assert!(rt; i < tree.len());
         assert!(rt; tree.degree(i) == *degree);
         assert!(rt; tree.is_leaf(i) == (*degree == 0));
