@@ -1,6 +1,6 @@
 //! Trees compared with a search for parents by the definition, and answers worked by hand.
 use bitm::{Select0ForRank101111, SelectForRank101111};
-use louds::{BinaryLouds, Louds, LoudsError, SampledLouds, is_tree};
+use louds::{BinaryLouds, Louds, LoudsError, Node, SampledLouds, is_tree};
 use std::alloc::{AllocError, Global};
 use std::test::Fail;
 
@@ -37,7 +37,15 @@ fn has_parents(degrees: &[usize]) -> bool {
     sum == degrees.len()
 }
 
-/// Whether what a node says of its parent and siblings is what the list says.
+/// The number of a node that was found.
+fn number_of(found: Option<Node>) -> Option<usize> {
+    match found {
+        Some(node) => Some(node.number()),
+        None => None,
+    }
+}
+
+/// Whether what a node says of its parent and siblings, by its number and by its place, is what the list says.
 fn goes_up<S: SelectForRank101111, S0: Select0ForRank101111>(
     tree: &Louds<S, S0>,
     degrees: &[usize],
@@ -46,13 +54,18 @@ fn goes_up<S: SelectForRank101111, S0: Select0ForRank101111>(
     if i >= tree.len() {
         return false;
     }
+    let node = tree.node(i);
     let found = (tree.parent(i), tree.child_rank(i), tree.next_sibling(i));
+    let carried = (
+        number_of(tree.parent_of(node)),
+        number_of(tree.next_sibling_of(node)),
+    );
     match place_of(degrees, i) {
         Some((parent, k, last)) => {
             let next = if last { None } else { Some(i.wrapping_add(1)) };
-            found == (Some(parent), Some(k), next)
+            found == (Some(parent), Some(k), next) && carried == (Some(parent), next)
         }
-        None => i == 0 && found == (None, None, None),
+        None => i == 0 && found == (None, None, None) && carried == (None, None),
     }
 }
 
@@ -67,9 +80,12 @@ fn goes_down<S: SelectForRank101111, S0: Select0ForRank101111>(
         if i >= tree.len() {
             return false;
         }
+        let node = tree.node(i);
         agrees &= (tree.degree(i), tree.is_leaf(i)) == (*degree, *degree == 0);
+        agrees &= (tree.degree_of(node), tree.is_leaf_of(node)) == (*degree, *degree == 0);
         for k in 0..*degree {
             agrees &= tree.child(i, k) == Some(number);
+            agrees &= number_of(tree.child_of(node, k)) == Some(number);
             number = number.wrapping_add(1);
         }
         agrees &= (tree.child(i, *degree), tree.child(i, usize::MAX)) == (None, None);
