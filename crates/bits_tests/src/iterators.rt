@@ -154,23 +154,6 @@ fn places_rise_and_end(rt: HostRuntime) {
     assert!(rt; BitBIterator::<2>::new(content).eq(expected));
 }
 
-#[test]
-fn places_from_a_place_on_leave_out_those_before(rt: HostRuntime) {
-    let array = [0b1011_0011u64, 1];
-    let content = array.as_slice();
-    for (start, left) in [
-        (0, 6),
-        (1, 5),
-        (2, 4),
-        (64, 1),
-        (65, 0),
-        (128, 0),
-        (1000, 0),
-    ] {
-        assert!(rt; BitOnesIterator::from_place(content, start).len() == left);
-    }
-}
-
 /// The start and the end of the range that is left.
 fn left(bits: &BitIterator<'_>) -> (usize, usize) {
     (bits.bit_range().start, bits.bit_range().end)
