@@ -1,10 +1,10 @@
 //! Rows of perfect hashes: bits a key, and the time of a key to build, of a query, and of one of many.
 use crate::bench::{Bench, Label};
 use bitm::{ArrayWithRank101111, GetSize};
-use perfect_hash::{PerfectHash, Seeded, build};
+use perfect_hash::{Grouped, PerfectHash, Placing, Plain, Seeded, build_by};
 use std::alloc::{AllocError, Global};
 
-type Hash = PerfectHash<Seeded, ArrayWithRank101111>;
+type Hash<P> = PerfectHash<Seeded, ArrayWithRank101111, P>;
 
 /// Keys that are asked at once.
 const AT_ONCE: usize = 4096;
@@ -24,7 +24,7 @@ fn keys(alloc: Global, count: usize) -> Result<Vec<u64>, AllocError> {
 
 /// Adds up the numbers of the keys, so many of which are asked at once.
 #[inline(never)]
-fn sum_of_many(made: &Hash, keys: &[u64]) -> usize {
+fn sum_of_many<P: Placing>(made: &Hash<P>, keys: &[u64]) -> usize {
     let mut numbers = [0usize; AT_ONCE];
     let mut sum = 0usize;
     for some in keys.chunks(AT_ONCE) {
@@ -39,23 +39,40 @@ fn sum_of_many(made: &Hash, keys: &[u64]) -> usize {
     sum
 }
 
-/// Adds the rows of so many keys, with levels of as many bits as the keys that are left, and of twice as many.
-pub(crate) fn add_rows(bench: &mut Bench<'_>, count: usize) -> Result<(), AllocError> {
-    let keys = keys(bench.alloc(), count)?;
-    let keys = keys.as_slice();
-    for (percent, by) in [(100, "100 per cent"), (200, "200 per cent")] {
-        let begun = bench.used();
-        let Ok(made) = build(bench.alloc(), Seeded { seed: 1 }, keys, percent) else {
-            return Err(AllocError);
-        };
-        bench.add_since(begun, Label("hash_build_a_key", by), count);
-        bench.add_space(Label("hash_space_a_key", by), made.size_bytes_dyn(), count);
-        bench.each(Label("hash_get", by), keys, |key: u64| made.get(&key));
-        bench.least(
-            Label("hash_get_many", by),
-            count,
-            || sum_of_many(&made, keys),
-        );
-    }
+/// Adds the rows of one form: what places the keys, and how many bits a level has for each hundred of them.
+fn add_form<'a, P: Placing + GetSize>(
+    bench: &mut Bench<'a>,
+    by: &'a str,
+    placing: P,
+    keys: &[u64],
+    percent: u16,
+) -> Result<(), AllocError> {
+    let begun = bench.used();
+    let Ok(made) = build_by(bench.alloc(), placing, Seeded { seed: 1 }, keys, percent) else {
+        return Err(AllocError);
+    };
+    bench.add_since(begun, Label("hash_build_a_key", by), keys.len());
+    bench.add_space(
+        Label("hash_space_a_key", by),
+        made.size_bytes_dyn(),
+        keys.len(),
+    );
+    bench.each(Label("hash_get", by), keys, |key: u64| made.get(&key));
+    bench.least(
+        Label("hash_get_many", by),
+        keys.len(),
+        || sum_of_many(&made, keys),
+    );
     Ok(())
+}
+
+/// Adds the rows of so many keys: with levels of as many bits as the keys that are left, of twice as many, and with
+/// seeds.
+pub(crate) fn add_rows(bench: &mut Bench<'_>, count: usize) -> Result<(), AllocError> {
+    let kept = keys(bench.alloc(), count)?;
+    let keys = kept.as_slice();
+    add_form(bench, "100 per cent", Plain, keys, 100)?;
+    add_form(bench, "200 per cent", Plain, keys, 200)?;
+    let seeds = Grouped::new(bench.alloc(), 64);
+    add_form(bench, "64 seeds", seeds, keys, 100)
 }

@@ -40,7 +40,8 @@ fn each_agrees(matrix: &BinaryWaveletMatrix, list: &[u64]) -> bool {
 fn counts_agree(matrix: &BinaryWaveletMatrix, list: &[u64]) -> bool {
     let mut counts = [0usize; 1024];
     let mut agrees = true;
-    for (i, number) in matrix.iter().enumerate() {
+    let mut i = 0usize;
+    for number in matrix.iter() {
         let at = (number % 1024) as usize;
         let before = counts[at];
         agrees &= number < 1024 && list.get(i) == Some(&number);
@@ -48,6 +49,7 @@ fn counts_agree(matrix: &BinaryWaveletMatrix, list: &[u64]) -> bool {
         agrees &= matrix.try_rank(number, i) == Some(before);
         agrees &= matrix.try_select(number, before) == Some(i);
         counts[at] = before.wrapping_add(1);
+        i = i.wrapping_add(1);
     }
     agrees
 }
