@@ -45,15 +45,15 @@ fn matrix_built(alloc: Global) -> Outcome {
     }
 }
 
-/// A matrix whose one digit is known from the table of starts: of 2000 ones.
+/// A matrix whose one digit is known from the table of starts: of 9000 ones.
 fn starts_kept(alloc: Global) -> Outcome {
-    let numbers = [1u64; 2000];
+    let numbers = [1u64; 9000];
     match BinaryWaveletMatrix::build(alloc, numbers.as_slice(), 1) {
         Ok(made) => {
             let (levels, _probe) = made.parts();
             answered(levels.known() == 1 && made.try_rank(1, 1700) == Some(1700))
         }
-        Err(AllocError) => refused(numbers.as_slice() == [1u64; 2000].as_slice()),
+        Err(AllocError) => refused(numbers.as_slice() == [1u64; 9000].as_slice()),
     }
 }
 

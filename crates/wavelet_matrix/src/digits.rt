@@ -40,7 +40,7 @@ pub(crate) fn known_for(len: usize, width: u8) -> u8
     ensures most { result ≤ width }
     ensures few { result < 64 }
 {
-    let words = len * width as usize / 512;
+    let words = len * width as usize / 4096;
     bits_to_store(words as u64).saturating_sub(1).min(width)
 }
 

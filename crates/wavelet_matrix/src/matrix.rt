@@ -25,7 +25,7 @@ use std::marker::Model;
 /// index: `n` numbers of `w` digits take `n * w` bits and the index, and sixteen bytes for each level. A table has for
 /// each number of some of the highest digits the place where the numbers that begin with it start after so many levels,
 /// so that a rank walks through these levels once and not twice. It has as many digits as leave its words no more than
-/// an eighth of these bits.
+/// a 64th of these bits.
 ///
 /// For 3, 1, 4, 1, 5, 1 of three digits:
 ///

@@ -10,5 +10,5 @@ returns-clause-few c =
       c.min.ensures,
       c.saturating_sub.ensures,
       c.bits_to_store.ensures,
-      (digits_bound_powers (c.args.len * c.args.width / 512) 63).1 (omega (arith, c.requires.short)),
+      (digits_bound_powers (c.args.len * c.args.width / 4096) 63).1 (omega (arith, c.requires.short)),
     )
