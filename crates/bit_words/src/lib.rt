@@ -5,7 +5,6 @@
 mod bytes;
 mod closures;
 mod combining;
-mod counting;
 mod each_bit;
 mod finding;
 mod fragments;

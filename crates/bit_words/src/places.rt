@@ -6,8 +6,8 @@ ghost use Rattle.bit_lists.specs.Bits.{bits_of, IsShort};
 ghost use Rattle.bit_lists.specs.Coming.{word_of, coming};
 ghost use Rattle.bit_lists.specs.Count.{count_before, places, as_bit};
 
-use crate::counting::{count_bit_ones, count_bit_zeros};
 use crate::masks::n_lowest_bits;
+use broadword::{count_bit_ones, count_bit_zeros};
 use std::iter::{ExactSizeIterator, FusedIterator, Iterator};
 use std::marker::Model;
 

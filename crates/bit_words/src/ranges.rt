@@ -5,8 +5,8 @@ ghost use Rattle.bit_lists.specs.Count.{ones_before};
 ghost use Rattle.bit_words.specs.Combined.{combined, in_range};
 
 use crate::combining::{AND_NOT, OR, XOR, combined};
-use crate::counting::count_bit_ones;
 use crate::masks::{n_lowest_bits, n_lowest_bits_0_64};
+use broadword::count_bit_ones;
 
 /// How many ones the word of `place` has before it; none is read where `place` is the first of a word.
 #[inline(always)]

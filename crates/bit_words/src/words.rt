@@ -9,7 +9,6 @@ pub use crate::closures::{
     conditionally_copy_fragment,
 };
 pub use crate::combining::{and, and_not, or, xor};
-pub use crate::counting::{count_bit_ones, count_bit_zeros};
 pub use crate::finding::{
     find_bit_one, find_bit_one_unchecked, rfind_bit_one_unchecked, trailing_zero_bits,
 };
@@ -33,3 +32,4 @@ pub use crate::writing::{
     clear_bit, init_bit, init_bits, set_bit, set_bit_to, set_bits, try_clear_bit, try_set_bit,
     try_set_bit_to, try_set_bits_0_64, xor_bits,
 };
+pub use broadword::{count_bit_ones, count_bit_zeros};

@@ -13,9 +13,9 @@ use crate::levels::{
 use crate::source::{Probe, TableSource};
 use broadword::ones_through;
 
-/// So many words, 4 MiB, stay in a processor's caches. Past that a rank waits for its words, and more ranks wait side
+/// So many words, 4 MiB, stay in a processor's caches. Past that a query waits for its words, and more queries wait side
 /// by side if each takes no more instructions than it needs.
-const WORDS_IN_CACHE: usize = 1 << 19;
+pub const WORDS_IN_CACHE: usize = 1 << 19;
 
 /// A word of ones.
 const ALL: u64 = u64::MAX;

@@ -11,7 +11,7 @@ ghost use Rattle.bitm_tables.specs.Tables.{AreTablesOf};
 use crate::levels::{
     L2_ENTRIES_PER_L1_ENTRY, U64_PER_L1_ENTRY, U64_PER_L2_ENTRY, U64_PER_L2_RECORDS,
 };
-use bit_words::words;
+use broadword::count_bit_ones;
 use std::alloc::{AllocError, Global};
 use std::boxed::BoxedSlice;
 
@@ -48,7 +48,7 @@ fn ones_of_cut_record(words: &[u64], first: usize) -> usize
         ≡ ones_before (bits_of words.now) (64 * (first + 8)) }
     ensures most { result ≤ 512 }
 {
-    words::count_bit_ones(&words[words.len().min(first)..])
+    count_bit_ones(&words[words.len().min(first)..])
 }
 
 /// How many ones stand in the record of eight words from word `first` on, or in what is left of it.
@@ -62,7 +62,7 @@ pub fn ones_of_record(words: &[u64], first: usize) -> usize
 {
     let end = first + U64_PER_L2_RECORDS;
     if end <= words.len() {
-        words::count_bit_ones(&words[first..end])
+        count_bit_ones(&words[first..end])
     } else {
         ones_of_cut_record(words, first)
     }

@@ -1,6 +1,8 @@
-//! Rank and selection in one word, by arithmetic on all its bytes at once.
+//! Ones and zeros of words counted, and rank and selection in one word, by arithmetic on all its bytes at once.
 #![tactic(auto)]
 
+mod counting;
 pub mod word;
 
+pub use counting::{count_bit_ones, count_bit_zeros};
 pub use word::{byte_sums, bytes_at_most, ones_through, select64};

@@ -1,8 +1,9 @@
-use Rattle.std.proofs.Common.{◌≡◌, ◌^◌, ◌-◌, count_ones, sum_by, sym, ◌∙◌, arith, rules, tests}
+use Rattle.std.proofs.Common.{◌≡◌, ◌^◌, ◌-◌, w64, sum_by, sym, ◌∙◌, arith, rules, tests}
 use Rattle.std.proofs.lemmas.Iterator.{YieldsList-from_slice}
 use Rattle.std.proofs.lemmas.Iterator.Adapters.{fits_from_length, at_most_from_yields_List}
-use Rattle.bit_lists.proofs.lemmas.CountLemmas.{ones_of-bits_of}
-use Rattle.bit_words.proofs.counting.count_bit_ones.Goals as goal
+use Rattle.std.specs.Int.{count_zeros}
+use Rattle.bit_lists.proofs.lemmas.CountLemmas.{zeros_of-bits_of}
+use Rattle.broadword.proofs.counting.count_bit_zeros.Goals as goal
 
 pub sum-requires-clause-fits : goal.sum-requires-clause-fits
 sum-requires-clause-fits c =
@@ -11,5 +12,5 @@ sum-requires-clause-fits c =
 
 pub returns : goal.returns
 returns c =
-    let e : c.sum.result ≡ sum_by count_ones c.args.words.now = search rules in
-    e ∙ sym (ones_of-bits_of c.args.words.now (λ k. search rules))
+    let e : c.sum.result ≡ sum_by (count_zeros w64) c.args.words.now = search rules in
+    e ∙ sym (zeros_of-bits_of c.args.words.now (λ k. search rules))
