@@ -1,6 +1,7 @@
 pub mod HalfLemmas
 pub mod ManyLemmas
 pub mod MarkLemmas
+pub mod RecordLemmas
 pub mod SearchLemmas
 pub mod SelectedLemmas
 pub mod SoughtLemmas

@@ -1,5 +1,5 @@
 -- The bits in which ones are sought, and where the tables tell that one of a rank is.
-use Rattle.std.specs.Prelude.{◌≡◌, ℕ, ◌+◌, ◌*◌, ◌^◌, ◌<◌, ◌≤◌, Bool, if◌then◌else◌, List, length}
+use Rattle.std.specs.Prelude.{◌≡◌, ℕ, ◌+◌, ◌*◌, ◌^◌, ◌<◌, ◌≤◌, Bool, if◌then◌else◌, List, length, slice_index}
 use Rattle.bit_lists.specs.Bits.{bits_of}
 use Rattle.bit_lists.specs.Count.{ones_before, as_bit}
 use Rattle.bit_lists.specs.Number.{number_at}
@@ -31,6 +31,14 @@ pub record Between (count : ℕ → ℕ) (n r low left : ℕ) : Type 0 where
   pub bound : low + left ≤ n
   pub at_most : count low ≤ r
   pub above : low + left < n → r < count (low + left)
+
+-- none of eight counts is more than a later one
+abbrev pub Rise : List ℕ → Type 0
+Rise counts = (i j : ℕ) → i ≤ j → j < 8 → slice_index counts i ≤ slice_index counts j
+
+-- how many ones stand before each of the eight words from `first` on, counted from the first bit of that one
+abbrev pub AreOnesToWords : List Bool → ℕ → List ℕ → Type 0
+AreOnesToWords m first counts = (k : ℕ) → k < 8 → ones_before m (64 * first) + slice_index counts k ≡ ones_before m (64 * (first + k))
 
 -- the last part with no more than r ones before it
 abbrev pub IsLastPart : List Bool → ℕ → ℕ → ℕ → Type 0

@@ -1,19 +1,21 @@
 //! Selection in an entry that was found: the record of the entry, the word of the record, the bit of the word. The
 //! entry may be any: where it is not that of the rank, the words decide.
 ghost use Rattle.std.specs.Prelude.{◌≡◌, ◌+◌, ◌-◌, ◌*◌, ◌/◌, ◌%◌, ◌^◌, ◌<◌, ◌≤◌, ◌≢◌};
-ghost use Rattle.std.specs.Prelude.{length, count_ones, IfSome, MatchOption};
+ghost use Rattle.std.specs.Prelude.{length, count_ones, slice_index, IfSome, MatchOption};
 ghost use Rattle.bit_lists.specs.Bits.{bits_of, IsShort};
 ghost use Rattle.bit_lists.specs.Count.{ones_before, as_bit, Picks};
 ghost use Rattle.bitm_search.specs.Answers.{HasBit, IsFoundFrom, IsSelected, IsSelectedFrom};
 ghost use Rattle.bitm_tables.specs.Entry.{field_1, field_2, field_3, lower_entry, record_field, entries_from};
 ghost use Rattle.bitm_tables.specs.Reads.{word_read, ReadsAtMost};
-ghost use Rattle.bitm_search.specs.Search.{entry_in, sought_in, IsLastPart, IsLastEntry, IsWord};
+ghost use Rattle.bitm_search.specs.Search.{entry_in, sought_in, IsLast, IsLastPart, IsLastEntry, IsWord};
+ghost use Rattle.bitm_search.specs.Search.{AreOnesToWords, Rise};
 ghost use Rattle.bitm_tables.specs.Tables.{HasSizes, HasTables, bits_in};
 ghost use Rattle.bitm_search.specs.Told.{EntryTellsNone, IfAbsent};
 
 use crate::search::selected::Selected;
 use bitm_tables::entry::{ones_to_entry, ones_to_record};
 use bitm_tables::levels::{L2_ENTRIES_PER_L1_ENTRY, U64_PER_L2_ENTRY, U64_PER_L2_RECORDS};
+use bitm_tables::ranking::WORDS_IN_CACHE;
 use bitm_tables::source::TableSource;
 use broadword::select64;
 
@@ -107,6 +109,98 @@ pub fn among<const BIT: u8, T: TableSource>(
     None
 }
 
+/// How many ones stand before each word of a record, counted from the record's first bit.
+///
+/// # Conditions
+/// The source has the eight words from `first` on.
+#[inline(always)]
+fn ones_to_words<const BIT: u8, T: TableSource>(source: &mut T, first: usize) -> [usize; 8]
+    requires short { IsShort (T.lists source.old).words }
+    requires whole { first + 8 ≤ length (T.lists source.old).words }
+    ensures counts { AreOnesToWords (sought_in BIT (T.lists source.old).words) first result }
+    ensures reads { ReadsAtMost (T.reads source.old) (T.reads source.new) 0 0 7 }
+    ensures same { T.lists source.new ≡ T.lists source.old }
+{
+    let mut counts = [0usize; 8];
+    for k in 0..7 {
+        let word = sought_word::<BIT, T>(source, first + k);
+        counts[k + 1] = counts[k] + word.count_ones() as usize;
+    }
+    counts
+}
+
+/// The last of eight counts that is no more than `rank`: by seven comparisons, and no branch.
+///
+/// # Conditions
+/// The first is no more than `rank`, and they do not fall.
+#[inline(always)]
+fn last_at_most(counts: &[usize; 8], rank: usize) -> usize
+    requires some { slice_index counts.now 0 ≤ rank }
+    requires rise { Rise counts.now }
+    ensures { IsLast (slice_index counts.now) 8 rank result }
+{
+    let mut last = 0;
+    for k in 1..8 {
+        last += is_at_most(counts[k], rank);
+    }
+    last
+}
+
+/// Selection among the eight words from `first` on, all of which there are: `among` without a branch for each word, since
+/// the processor would guess wrongly at which of them the rank is.
+#[inline(always)]
+fn among_all<const BIT: u8, T: TableSource>(
+    source: &mut T,
+    first: usize,
+    rank: usize,
+) -> Option<usize>
+    requires short { IsShort (T.lists source.old).words }
+    requires whole { first + 8 ≤ length (T.lists source.old).words }
+    ensures answer { let m = sought_in BIT (T.lists source.old).words in
+        MatchOption result
+        (ones_before m (64 * (first + 8)) ≤ ones_before m (64 * first) + rank)
+        (Picks (bits_in (T.lists source.old)) (as_bit BIT) (ones_before m (64 * first) + rank)) }
+    ensures inside { IfSome result (λ p. (64 * first ≤ p) × (p < 64 * (first + 8))) }
+    ensures reads { ReadsAtMost (T.reads source.old) (T.reads source.new) 0 0 8 }
+    ensures same { T.lists source.new ≡ T.lists source.old }
+{
+    let counts = ones_to_words::<BIT, T>(source, first);
+    let k = last_at_most(&counts, rank);
+    let word = sought_word::<BIT, T>(source, first + k);
+    let rest = rank - counts[k];
+    if rest < word.count_ones() as usize {
+        Some((first + k) * 64 + select_in_word(word, rest))
+    } else {
+        None
+    }
+}
+
+/// Selection among the eight words from `first` on, all of which there are: without a branch for each word in a small
+/// content, and in a large one up to the word alone that has the rank, since that leaves fewer instructions.
+#[inline(always)]
+fn among_eight<const BIT: u8, T: TableSource>(
+    source: &mut T,
+    first: usize,
+    rank: usize,
+) -> Option<usize>
+    requires short { IsShort (T.lists source.old).words }
+    requires whole { first + 8 ≤ length (T.lists source.old).words }
+    ensures answer { let m = sought_in BIT (T.lists source.old).words in
+        MatchOption result
+        (ones_before m (64 * (first + 8)) ≤ ones_before m (64 * first) + rank)
+        (Picks (bits_in (T.lists source.old)) (as_bit BIT) (ones_before m (64 * first) + rank)) }
+    ensures inside { IfSome result (λ p. (64 * first ≤ p) × (p < 64 * (first + 8))) }
+    ensures reads { ReadsAtMost (T.reads source.old) (T.reads source.new) 0 0 8 }
+    ensures same { T.lists source.new ≡ T.lists source.old }
+{
+    if source.words_len() <= WORDS_IN_CACHE {
+        among_all::<BIT, T>(source, first, rank)
+    } else {
+        // The number of words is fixed here, so that no loop is left.
+        among::<BIT, T>(source, first, U64_PER_L2_RECORDS, rank)
+    }
+}
+
 /// Selection among the eight words from `first` on, of which some may miss; the rank counts from there.
 #[inline(always)]
 fn in_record<const BIT: u8, T: TableSource>(source: &mut T, first: usize, rank: usize) -> Selected
@@ -121,8 +215,7 @@ fn in_record<const BIT: u8, T: TableSource>(source: &mut T, first: usize, rank: 
 {
     let len = source.words_len();
     if first + U64_PER_L2_RECORDS < len {
-        // The number of words is fixed here, so that no loop is left.
-        return match among::<BIT, T>(source, first, U64_PER_L2_RECORDS, rank) {
+        return match among_eight::<BIT, T>(source, first, rank) {
             Some(place) => Selected::Found(place),
             None => Selected::WrongTables,
         };
