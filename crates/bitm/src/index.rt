@@ -221,6 +221,15 @@ impl<S: SelectForRank101111, S0: Select0ForRank101111, BV: AsSlice<u64>> Rank
     fn try_rank(&self, index: usize) -> Option<usize> {
         rank_on(&mut self.probe(), index)
     }
+
+    // The trait's body once more, here and below: what a trait says of inlining does not reach its impls.
+    #[inline(always)]
+    fn rank(&self, index: usize) -> usize {
+        match self.try_rank(index) {
+            Some(count) => count,
+            None => unreachable!(),
+        }
+    }
 }
 
 impl<S: SelectForRank101111, S0: Select0ForRank101111, BV: AsSlice<u64>> Access
@@ -247,6 +256,14 @@ impl<S: SelectForRank101111, S0: Select0ForRank101111, BV: AsSlice<u64>> Select
         self.select
             .select(words, self.l1ranks(), self.l2ranks(), rank)
     }
+
+    #[inline(always)]
+    fn select(&self, rank: usize) -> usize {
+        match self.try_select(rank) {
+            Some(place) => place,
+            None => unreachable!(),
+        }
+    }
 }
 
 impl<S: SelectForRank101111, S0: Select0ForRank101111, BV: AsSlice<u64>> Select0
@@ -256,6 +273,14 @@ impl<S: SelectForRank101111, S0: Select0ForRank101111, BV: AsSlice<u64>> Select0
         let words = self.as_slice();
         self.select0
             .select0(words, self.l1ranks(), self.l2ranks(), rank)
+    }
+
+    #[inline(always)]
+    fn select0(&self, rank: usize) -> usize {
+        match self.try_select0(rank) {
+            Some(place) => place,
+            None => unreachable!(),
+        }
     }
 }
 
