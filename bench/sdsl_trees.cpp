@@ -1,6 +1,6 @@
 // Times the louds_tree of sdsl-lite over the tree that `bench` draws, of 2^LOG2 nodes: sdsl_trees LOG2 ROUNDS. Rows as
 // those of `bench`, by the same clock. A node of sdsl-lite is its number and its place among the bits, which are looked
-// up before the clock starts, but in the rows `by_number`; each call answers both.
+// up before the clock starts in the rows `of_node`, else within the call; each call answers both.
 #include <cstdint>
 #include <cstdio>
 #include <cstdlib>
@@ -84,7 +84,7 @@ int main(int argc, char** argv) {
         uint64_t node = draw(state) % count;
         nodes.emplace_back(node, ones(node + 1));
     }
-    row("tree_parent", log2, rounds, nodes.size(), [&] {
+    row("tree_parent_of_node", log2, rounds, nodes.size(), [&] {
         uint64_t sum = 0;
         for (const auto& it : nodes) {
             Tree::node_type parent = tree.parent(Tree::node_type(it.first, it.second));
@@ -93,7 +93,7 @@ int main(int argc, char** argv) {
         }
         return sum;
     });
-    row("tree_child", log2, rounds, nodes.size(), [&] {
+    row("tree_child_of_node", log2, rounds, nodes.size(), [&] {
         uint64_t sum = 0;
         for (const auto& it : nodes) {
             Tree::node_type node(it.first, it.second);
@@ -104,13 +104,13 @@ int main(int argc, char** argv) {
         }
         return sum;
     });
-    row("tree_degree", log2, rounds, nodes.size(), [&] {
+    row("tree_degree_of_node", log2, rounds, nodes.size(), [&] {
         uint64_t sum = 0;
         for (const auto& it : nodes) sum += tree.degree(Tree::node_type(it.first, it.second));
         return sum;
     });
     // From the number alone, which is all that a node is to `bench`: its place is looked up first.
-    row("tree_child_by_number", log2, rounds, nodes.size(), [&] {
+    row("tree_child", log2, rounds, nodes.size(), [&] {
         uint64_t sum = 0;
         for (const auto& it : nodes) {
             Tree::node_type node(it.first, ones(it.first + 1));
@@ -121,7 +121,7 @@ int main(int argc, char** argv) {
         }
         return sum;
     });
-    row("tree_degree_by_number", log2, rounds, nodes.size(), [&] {
+    row("tree_degree", log2, rounds, nodes.size(), [&] {
         uint64_t sum = 0;
         for (const auto& it : nodes) sum += tree.degree(Tree::node_type(it.first, ones(it.first + 1)));
         return sum;

@@ -9,7 +9,7 @@ ghost use Rattle.louds.specs.Tree.{IsTree};
 
 use crate::error::{LabelsError, LoudsError};
 use crate::labels::{Packed, all_fit};
-use crate::tree::{Louds, Sampled};
+use crate::tree::{Louds, SampledOnes, SampledZeros};
 use bitm::{GetSize, Select0ForRank101111, SelectForRank101111};
 use std::alloc::{AllocError, Global};
 use std::marker::Model;
@@ -249,4 +249,4 @@ impl<S: SelectForRank101111 + GetSize, S0: Select0ForRank101111 + GetSize> GetSi
 }
 
 /// A tree with labels that selects by samples.
-pub type SampledTrie = LabelledLouds<Sampled, Sampled>;
+pub type SampledTrie = LabelledLouds<SampledOnes, SampledZeros>;

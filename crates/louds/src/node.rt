@@ -1,7 +1,7 @@
 //! Nodes that carry their places, so that a walk selects once where it goes.
 ghost use Rattle.std.specs.Prelude.{◌≡◌, ◌==◌, ◌<◌, length, slice_index};
 ghost use Rattle.louds.specs.Node.{IsNode, MatchesChildNode, MatchesNextSiblingNode, MatchesParentNode};
-ghost use Rattle.louds.specs.Tree.{AreChildren};
+ghost use Rattle.louds.specs.Tree.{AreChildren, IsChild};
 
 use crate::tree::Louds;
 use bitm::{Select0ForRank101111, SelectForRank101111};
@@ -116,6 +116,41 @@ impl<S: SelectForRank101111, S0: Select0ForRank101111> Louds<S, S0> {
         node.place - node.number..end - node.number - 1
     }
 
+    /// Child `k` of a node that has more than `k` children: `child_of` without its test.
+    ///
+    /// # Conditions
+    /// It is a node of this tree, and has more than `k` children.
+    /// # Cost
+    /// One selection, of the child's place.
+    #[inline(always)]
+    pub fn nth_child_of(&self, node: Node, k: usize) -> Node
+        requires node { IsNode self.now.degrees node }
+        requires some { k < slice_index self.now.degrees node.number }
+        ensures node { IsNode self.now.degrees result }
+        ensures child { IsChild self.now.degrees node.number k result.number }
+    {
+        let _nodes = self.len();
+        self.node(node.place + k - node.number)
+    }
+
+    /// The first child of a node; `None` exactly where it has none.
+    ///
+    /// # Conditions
+    /// It is a node of this tree.
+    /// # Cost
+    /// One word, and one selection, of the child's place.
+    #[inline(always)]
+    pub fn first_child_of(&self, node: Node) -> Option<Node>
+        requires { IsNode self.now.degrees node }
+        ensures { MatchesChildNode self.now.degrees node.number 0 result }
+    {
+        if self.is_leaf_of(node) {
+            None
+        } else {
+            Some(self.nth_child_of(node, 0))
+        }
+    }
+
     /// Child `k` of a node; `None` exactly where it has no more than `k` children.
     ///
     /// # Conditions
@@ -123,15 +158,12 @@ impl<S: SelectForRank101111, S0: Select0ForRank101111> Louds<S, S0> {
     /// # Cost
     /// Two words, and one selection, of the child's place; two selections where the node has more than 64 children.
     #[inline]
-    #[tactic(auto, using(crate::proofs::lemmas::TreeLemmas::zero_place_more))]
     pub fn child_of(&self, node: Node, k: usize) -> Option<Node>
         requires { IsNode self.now.degrees node }
         ensures { MatchesChildNode self.now.degrees node.number k result }
     {
-        let _nodes = self.len();
-        let end = self.end(node.number, node.place);
-        if k < end - node.place - 1 {
-            Some(self.node(node.place + k - node.number))
+        if k < self.degree_of(node) {
+            Some(self.nth_child_of(node, k))
         } else {
             None
         }

@@ -127,8 +127,18 @@ impl<S: SelectForRank101111, S0: Select0ForRank101111> Louds<S, S0> {
         let near = &words[..words.len().min((start + 1) / 64 + 2)];
         match words::find_bit_zero(near, start + 1) {
             Some(place) => place,
-            None => self.zero(node + 1),
+            None => self.far_zero(node + 1),
         }
+    }
+
+    /// What `zero` answers, out of the way of `end`, which seldom asks it.
+    #[inline(never)]
+    fn far_zero(&self, node: usize) -> usize
+        requires { node ≤ length self.now.degrees }
+        ensures place { result ≡ zero_place self.now.degrees node }
+        ensures small { result < 2 ^ 62 }
+    {
+        self.zero(node)
     }
 
     /// The place of the zero before the ones among which that of a node stands, where its own is at `one`.
@@ -385,11 +395,14 @@ impl<S: SelectForRank101111 + GetSize, S0: Select0ForRank101111 + GetSize> GetSi
     }
 }
 
-/// Samples of the bits: one for each 2^13 ones or zeros, or fewer where there are fewer of these.
-pub(crate) type Sampled = CombinedSampling<AdaptiveCombinedSamplingDensity<13>>;
+/// Samples: one for each 2^13 ones, or fewer where there are fewer of these.
+pub(crate) type SampledOnes = CombinedSampling<AdaptiveCombinedSamplingDensity<13>>;
+
+/// Samples: one for each 2^11 zeros, or fewer. A child, a degree and a leaf wait for a zero, a parent for a one.
+pub(crate) type SampledZeros = CombinedSampling<AdaptiveCombinedSamplingDensity<11>>;
 
 /// A tree that selects by samples, the fastest: what to take unless the reads of binary search are wanted.
-pub type SampledLouds = Louds<Sampled, Sampled>;
+pub type SampledLouds = Louds<SampledOnes, SampledZeros>;
 
 /// A tree that selects by binary search, and keeps nothing for it.
 pub type BinaryLouds = Louds<BinaryRankSearch, BinaryRankSearch>;
