@@ -1,7 +1,9 @@
 //! The calls of a matrix, of a perfect hash and of a dictionary that take memory.
 use crate::outcome::{Ended, Outcome, answered, refused};
 use bitm::ArrayWithRank101111;
-use perfect_hash::{BuildError, Dictionary, PerfectHash, Seeded, build};
+use perfect_hash::{
+    BuildError, Dictionary, Grouped, PerfectHash, Placing, Plain, Seeded, build, build_by,
+};
 use std::alloc::{AllocError, Global};
 use wavelet_matrix::BinaryWaveletMatrix;
 
@@ -9,7 +11,7 @@ const NUMBERS: [u64; 6] = [3, 1, 4, 1, 5, 1];
 
 const KEYS: [u64; 8] = [3, 1, 4, 15, 9, 26, 5, 35];
 
-type Numbered = PerfectHash<Seeded, ArrayWithRank101111>;
+type Numbered<P> = PerfectHash<Seeded, ArrayWithRank101111, P>;
 
 /// Whether a matrix of `NUMBERS` answers as it has to.
 fn is_right(matrix: &BinaryWaveletMatrix) -> bool {
@@ -19,14 +21,19 @@ fn is_right(matrix: &BinaryWaveletMatrix) -> bool {
 }
 
 /// Each call of a matrix, of a perfect hash and of a dictionary.
-pub fn ended(alloc: Global) -> [Ended; 7] {
+pub fn ended(alloc: Global) -> [Ended; 9] {
     [
         ("matrix-build", matrix_built(alloc)),
         ("matrix-build-with-starts", starts_kept(alloc)),
         ("matrix-try-clone", matrix_cloned(alloc)),
         ("matrix-intersect", matrix_shared(alloc)),
-        ("hash-build", hash_built(alloc)),
-        ("hash-try-clone", hash_cloned(alloc)),
+        ("hash-build", hash_built(alloc, Plain)),
+        ("hash-try-clone", hash_cloned(alloc, Plain)),
+        ("seeds-build", hash_built(alloc, Grouped::new(alloc, 16))),
+        (
+            "seeds-try-clone",
+            hash_cloned(alloc, Grouped::new(alloc, 16)),
+        ),
         ("dictionary-build", dictionary_built(alloc)),
     ]
 }
@@ -83,7 +90,7 @@ fn matrix_shared(alloc: Global) -> Outcome {
 }
 
 /// Whether a perfect hash of `KEYS` gives each of them a number of its own below their count.
-fn numbers_each(made: &Numbered) -> bool {
+fn numbers_each<P: Placing>(made: &Numbered<P>) -> bool {
     let keys = KEYS;
     let mut seen = [false; 8];
     for key in keys.as_slice() {
@@ -99,9 +106,9 @@ fn numbers_each(made: &Numbered) -> bool {
 }
 
 /// A perfect hash. Its hasher comes back.
-fn hash_built(alloc: Global) -> Outcome {
+fn hash_built<P: Placing>(alloc: Global, placing: P) -> Outcome {
     let keys = KEYS;
-    match build(alloc, Seeded { seed: 1 }, keys.as_slice(), 100) {
+    match build_by(alloc, placing, Seeded { seed: 1 }, keys.as_slice(), 100) {
         Ok(made) => answered(numbers_each(&made)),
         Err(it) => {
             if it.error == BuildError::OutOfMemory {
@@ -114,8 +121,8 @@ fn hash_built(alloc: Global) -> Outcome {
 }
 
 /// A clone of one.
-fn hash_cloned(alloc: Global) -> Outcome {
-    let Ok(made) = build(alloc, Seeded { seed: 1 }, KEYS.as_slice(), 100) else {
+fn hash_cloned<P: Placing>(alloc: Global, placing: P) -> Outcome {
+    let Ok(made) = build_by(alloc, placing, Seeded { seed: 1 }, KEYS.as_slice(), 100) else {
         return Outcome::Unready;
     };
     match made.try_clone(alloc) {
