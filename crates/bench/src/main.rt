@@ -3,18 +3,21 @@
 //! ```text
 //! bench LOG2 KIND ROUNDS
 //! bench keys COUNT ROUNDS
+//! bench answers LOG2
 //! ```
 //!
 //! The content has 2^LOG2 bits, 10 to 33. KIND is `sparse`, `even` or `dense` (ones drawn one in 64, one in two and
 //! seven in eight), or one that misleads a guess: `end` (ones in the last sixteenth alone), `blocks` (ones and zeros by
 //! turns, 2^16 words of each) or `ramp` (ever more ones). A value is the least of the rounds, of the thread's processor
 //! time; a row is `row,by,log2,kind,value,unit,check`, where the check is a sum of the answers, or the number of what was
-//! made. The second form times perfect hashes of so many keys, with rows `row,by,keys,value,unit,check`. With other
-//! arguments the program prints its usage.
+//! made. The second form times perfect hashes of so many keys, with rows `row,by,keys,value,unit,check`. The third compares
+//! answers of matrices and trees with plain counts, and prints how many were wrong. With other arguments the program
+//! prints its usage.
 #![tactic(auto)]
 
 ghost use Rattle.std.specs.Prelude.{◌<◌};
 
+mod answers;
 mod bench;
 mod content;
 mod hashes;
@@ -25,6 +28,7 @@ mod sequences;
 mod trees;
 mod words;
 
+use answers::Compared;
 use bench::Bench;
 use bitm::BinaryRankSearch;
 use content::{Kind, content, queries};
@@ -35,7 +39,7 @@ use wavelet_matrix::all_fit;
 
 /// What is printed where the arguments are not a size, a kind and a number of rounds.
 const USAGE: &str =
-    "usage: bench LOG2 sparse|even|dense|end|blocks|ramp ROUNDS | bench keys COUNT ROUNDS";
+    "usage: bench LOG2 sparse|even|dense|end|blocks|ramp ROUNDS | bench keys COUNT ROUNDS | bench answers LOG2";
 
 /// Adds the rows of numbers of so many digits, by either strategy.
 fn add_numbers(bench: &mut Bench<'_>, count: usize, width: u8) -> Result<(), AllocError>
@@ -131,9 +135,23 @@ fn answer(rt: &HostRuntime, size: &str, what: &str, rounds: &str) -> io::Result<
     Ok(())
 }
 
+/// Prints how many answers were compared, and how many of them were wrong.
+fn print_compared(rt: &HostRuntime, of: &str, compared: Compared) -> io::Result<()> {
+    let (answers, wrong) = (compared.answers, compared.wrong);
+    println!(rt; "{of}: {answers} answers, {wrong} wrong")
+}
+
+/// Compares answers over 2^log2 numbers and nodes.
+fn compare(rt: &HostRuntime, log2: &str) -> io::Result<()> {
+    let log2 = log2.parse::<u32>().unwrap_or(20).min(30);
+    print_compared(rt, "numbers", answers::of_numbers(rt.alloc(), log2)?)?;
+    print_compared(rt, "nodes", answers::of_nodes(rt.alloc(), log2)?)
+}
+
 fn main(rt: HostRuntime) -> io::Result<()> {
     let args: Vec<String> = env::args(&rt)?.skip(1).collect(rt.alloc())?;
     match args.as_slice() {
+        [form, log2] if form.as_str() == "answers" => compare(&rt, log2.as_str()),
         [size, what, rounds] => answer(&rt, size.as_str(), what.as_str(), rounds.as_str()),
         _ => {
             println!(&rt; "{USAGE}")?;

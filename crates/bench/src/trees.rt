@@ -1,13 +1,17 @@
-//! Rows of trees: parents, children and degrees by samples and by binary search, and the building.
+//! Rows of trees: parents, children and degrees by samples and by binary search, from numbers and from nodes that carry
+//! their places, and the building.
+ghost use Rattle.std.specs.Prelude.{All, IfOk};
+ghost use Rattle.louds.specs.Node.{IsNode};
+
 use crate::bench::{Bench, Label};
 use crate::content::{draw, queries};
 use bitm::{GetSize, Select0ForRank101111, SelectForRank101111};
-use louds::{BinaryLouds, Louds, SampledLouds};
+use louds::{BinaryLouds, Louds, Node, SampledLouds};
 use std::alloc::{AllocError, Global};
 
 /// The degrees of a tree of so many nodes: each is drawn from 0 to 3, but that no node is left without a parent, and
 /// none is too many.
-fn degrees(alloc: Global, count: usize) -> Result<Vec<usize>, AllocError> {
+pub(crate) fn degrees(alloc: Global, count: usize) -> Result<Vec<usize>, AllocError> {
     let mut state = 88_172_645_463_325_252;
     let mut known = 1usize;
     let mut degrees = Vec::with_capacity(alloc, count)?;
@@ -52,6 +56,89 @@ fn add_tree<'a, S: SelectForRank101111 + GetSize, S0: Select0ForRank101111 + Get
     });
 }
 
+/// The nodes of these numbers, with their places.
+fn nodes_of(alloc: Global, tree: &SampledLouds, numbers: &[usize]) -> Result<Vec<Node>, AllocError>
+    ensures { IfOk result (λ nodes. All (λ n. IsNode tree.now.degrees n) nodes.items) }
+{
+    let mut nodes = Vec::with_capacity(alloc, numbers.len())?;
+    for number in numbers {
+        if *number < tree.len() {
+            nodes.push(tree.node(*number))?;
+        }
+    }
+    Ok(nodes)
+}
+
+/// The parent of a node, as a call of its own, so that its place is answered too.
+#[inline(never)]
+fn parent_of(tree: &SampledLouds, node: Node) -> Option<Node>
+    requires { IsNode tree.now.degrees node }
+{
+    tree.parent_of(node)
+}
+
+/// The first child of a node, likewise.
+#[inline(never)]
+fn child_of(tree: &SampledLouds, node: Node) -> Option<Node>
+    requires { IsNode tree.now.degrees node }
+{
+    tree.first_child_of(node)
+}
+
+/// Adds up the parents of nodes.
+fn sum_of_parents(tree: &SampledLouds, nodes: &[Node]) -> usize
+    requires { All (λ n. IsNode tree.now.degrees n) nodes.now }
+{
+    let mut sum = 0usize;
+    for node in nodes {
+        if let Some(parent) = parent_of(tree, *node) {
+            sum = sum.wrapping_add(parent.number());
+        }
+    }
+    sum
+}
+
+/// Adds up the first children of nodes.
+fn sum_of_children(tree: &SampledLouds, nodes: &[Node]) -> usize
+    requires { All (λ n. IsNode tree.now.degrees n) nodes.now }
+{
+    let mut sum = 0usize;
+    for node in nodes {
+        if let Some(child) = child_of(tree, *node) {
+            sum = sum.wrapping_add(child.number());
+        }
+    }
+    sum
+}
+
+/// Adds up the degrees of nodes.
+fn sum_of_degrees(tree: &SampledLouds, nodes: &[Node]) -> usize
+    requires { All (λ n. IsNode tree.now.degrees n) nodes.now }
+{
+    let mut sum = 0usize;
+    for node in nodes {
+        sum = sum.wrapping_add(tree.degree_of(*node));
+    }
+    sum
+}
+
+/// Adds the rows of nodes that carry their places.
+fn add_walks(
+    bench: &mut Bench<'_>,
+    tree: &SampledLouds,
+    numbers: &[usize],
+) -> Result<(), AllocError> {
+    let kept = nodes_of(bench.alloc(), tree, numbers)?;
+    let nodes = kept.as_slice();
+    let label = Label("tree_parent_of_node", "sampled");
+    bench.least(label, nodes.len(), || sum_of_parents(tree, nodes));
+    let label = Label("tree_child_of_node", "sampled");
+    bench.least(label, nodes.len(), || sum_of_children(tree, nodes));
+    let label = Label("tree_degree_of_node", "sampled");
+    bench.least(label, nodes.len(), || sum_of_degrees(tree, nodes));
+    Ok(())
+}
+
 /// Adds the rows of a tree of so many nodes.
 pub(crate) fn add_rows(bench: &mut Bench<'_>, count: usize) -> Result<(), AllocError> {
     let drawn = degrees(bench.alloc(), count)?;
@@ -60,6 +147,7 @@ pub(crate) fn add_rows(bench: &mut Bench<'_>, count: usize) -> Result<(), AllocE
     if let Ok(sampled) = SampledLouds::build(bench.alloc(), drawn.as_slice()) {
         bench.add_since(begun, Label("tree_build", "sampled"), count);
         add_tree(bench, "sampled", &sampled, nodes.as_slice());
+        add_walks(bench, &sampled, nodes.as_slice())?;
     }
     if let Ok(binary) = BinaryLouds::build(bench.alloc(), drawn.as_slice()) {
         add_tree(bench, "binary", &binary, nodes.as_slice());
