@@ -1,4 +1,5 @@
-//! Tests that cross crates, a file a topic; the name of a test is the sentence that it shows.
+//! Tests of the index, its strategies, sources and sequences, and of the program `bitm_vectors`, a file a topic; the name
+//! of a test is the sentence that it shows. A source of a user's own (`computed`) is proved to have its words' tables.
 //!
 //! Clauses that are proved fix nearly every answer here. They are tested all the same, for what no proof of ours
 //! says:
@@ -14,16 +15,36 @@
 #![tactic(auto)]
 
 #[cfg(test)]
+mod computed;
+#[cfg(test)]
+mod contents;
+#[cfg(test)]
+mod every_place;
+#[cfg(test)]
 mod in_word;
+#[cfg(test)]
+mod large;
+#[cfg(test)]
+mod logarithms;
 #[cfg(test)]
 mod many;
 #[cfg(test)]
 mod readme;
 #[cfg(test)]
+mod runs;
+#[cfg(test)]
+mod samples;
+#[cfg(test)]
 mod sequences;
+#[cfg(test)]
+mod simple;
 #[cfg(test)]
 mod sizes;
 #[cfg(test)]
 mod strategies;
 #[cfg(test)]
 mod tables;
+#[cfg(test)]
+mod two_parts;
+#[cfg(test)]
+mod walk;

@@ -4,6 +4,7 @@
 use bitm::BitAccess;
 use elias_fano::{EfError, EliasFano};
 use std::alloc::Global;
+use std::process::Abort;
 use std::test::Fail;
 
 /// Numbers, how many low digits each keeps, where their upper ones stand, and values, with the place of the first number
@@ -89,6 +90,12 @@ fn numbers_are_kept_found_and_given_back_in_order(rt: HostRuntime) -> Result<(),
 #[test]
 fn values_between_the_numbers_have_the_nearest_below_them(rt: HostRuntime) -> Result<(), Fail> {
     let sequence = EliasFano::build(rt.alloc(), CASES[0].items)?;
+    expect_nearest(&rt, &sequence);
+    Ok(())
+}
+
+/// Stops where what is near a value in the first case is another than by hand.
+fn expect_nearest(rt: &impl Abort, sequence: &EliasFano) {
     assert!(rt; sequence.low_words() == [0b0111110u64].as_slice());
     let asked = [
         (1u64, None, false),
@@ -103,7 +110,6 @@ fn values_between_the_numbers_have_the_nearest_below_them(rt: HostRuntime) -> Re
     for (v, place, is_kept) in asked {
         assert!(rt; (sequence.last_at_most(v), sequence.contains(v)) == (place, is_kept));
     }
-    Ok(())
 }
 
 #[test]

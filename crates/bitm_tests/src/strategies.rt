@@ -5,6 +5,7 @@ use bitm::{
     Select0, Select0ForRank101111, SelectForRank101111,
 };
 use std::alloc::{AllocError, Global};
+use std::process::Abort;
 use uses::density::ByLength;
 use uses::strategies::guarded::Guarded;
 use uses::strategies::listed::Listed;
@@ -46,13 +47,22 @@ fn an_index_selects_by_strategies_that_a_user_wrote(rt: HostRuntime) -> Result<(
     Ok(())
 }
 
+/// An index whose strategies count their calls.
+type Counting<'a> = RankSelect101111<Guarded<BinaryRankSearch>, Guarded<Sampled>, &'a [u64]>;
+
 #[test]
 fn an_index_asks_the_strategy_of_its_kind_once_a_call(rt: HostRuntime) -> Result<(), AllocError> {
-    type Index<'a> = RankSelect101111<Guarded<BinaryRankSearch>, Guarded<Sampled>, &'a [u64]>;
-    let words = [0b1101, 0b110];
-    let Ok((index, _)) = Index::build(rt.alloc(), words.as_slice()) else {
-        return Err(AllocError);
-    };
+    match Counting::build(rt.alloc(), [0b1101, 0b110].as_slice()) {
+        Ok((index, _)) => {
+            expect_calls(&rt, &index);
+            Ok(())
+        }
+        Err(_) => Err(AllocError),
+    }
+}
+
+/// Stops where it answers otherwise than by hand, or asks more or fewer times.
+fn expect_calls(rt: &impl Abort, index: &Counting<'_>) {
     for (rank, place, rank0, place0) in [(0, 0, 0, 1), (2, 3, 60, 63), (4, 66, 61, 64)] {
         let found = (index.try_select(rank), index.try_select0(rank0));
         assert!(rt; found == (Some(place), Some(place0)));
@@ -63,5 +73,4 @@ fn an_index_asks_the_strategy_of_its_kind_once_a_call(rt: HostRuntime) -> Result
         index.select0_support().calls(),
     );
     assert!(rt; calls == (4, 3));
-    Ok(())
 }

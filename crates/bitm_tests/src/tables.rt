@@ -8,6 +8,7 @@ use bitm::{
 use std::alloc::{AllocError, Global};
 use std::boxed::BoxedSlice;
 use std::convert::AsSlice;
+use std::process::Abort;
 use std::test::Fail;
 
 /// An index over words that are lent.
@@ -54,13 +55,23 @@ fn owned(alloc: Global, words: &[u64]) -> Result<(ArrayWithRank101111, usize), A
     RankSelect101111::build(alloc, content).map_err(|_| AllocError)
 }
 
+/// Whether an index over lent words keeps what it should.
+fn lent_keeps(alloc: Global, (words, total, upper, lower): Kept<'_>) -> Result<bool, AllocError> {
+    let (index, ones) = lent(alloc, words)?;
+    Ok((ones, index.l1ranks(), index.l2ranks()) == (total, upper, lower))
+}
+
+/// Whether one over words of its own does.
+fn owned_keeps(alloc: Global, (words, total, upper, lower): Kept<'_>) -> Result<bool, AllocError> {
+    let (index, ones) = owned(alloc, words)?;
+    Ok((ones, index.l1ranks(), index.l2ranks()) == (total, upper, lower))
+}
+
 #[test]
 fn an_index_keeps_the_tables_of_its_words(rt: HostRuntime) -> Result<(), AllocError> {
-    for (words, total, upper, lower) in KEPT {
-        let (index, ones) = lent(rt.alloc(), words)?;
-        assert!(rt; (ones, index.l1ranks(), index.l2ranks()) == (total, upper, lower));
-        let (index, ones) = owned(rt.alloc(), words)?;
-        assert!(rt; (ones, index.l1ranks(), index.l2ranks()) == (total, upper, lower));
+    for kept in KEPT {
+        assert!(rt; lent_keeps(rt.alloc(), kept)?);
+        assert!(rt; owned_keeps(rt.alloc(), kept)?);
     }
     Ok(())
 }
@@ -74,11 +85,8 @@ fn one_word_takes_sixteen_bytes_beside_its_own(rt: HostRuntime) -> Result<(), Al
     Ok(())
 }
 
-#[test]
-fn full_and_empty_words_are_counted_to_the_end(rt: HostRuntime) -> Result<(), AllocError> {
-    let (full, empty) = ([u64::MAX; 33], [0u64; 33]);
-    let (full, _) = lent(rt.alloc(), full.as_slice())?;
-    let (empty, _) = lent(rt.alloc(), empty.as_slice())?;
+/// Stops where full and empty words are counted otherwise than by hand, up to their ends.
+fn expect_counts(rt: &impl Abort, full: &Lent<'_>, empty: &Lent<'_>) {
     for place in [0, 511, 512, 2047, 2048, 2111] {
         assert!(rt; (full.try_rank(place), empty.try_rank0(place)) == (Some(place), Some(place)));
         assert!(rt;
@@ -88,6 +96,14 @@ fn full_and_empty_words_are_counted_to_the_end(rt: HostRuntime) -> Result<(), Al
     }
     assert!(rt; (full.try_rank(2112), full.try_rank(2113)) == (Some(2112), None));
     assert!(rt; (full.try_select(2112), empty.try_select0(2112)) == (None, None));
+}
+
+#[test]
+fn full_and_empty_words_are_counted_to_the_end(rt: HostRuntime) -> Result<(), AllocError> {
+    let (full, empty) = ([u64::MAX; 33], [0u64; 33]);
+    let (full, _) = lent(rt.alloc(), full.as_slice())?;
+    let (empty, _) = lent(rt.alloc(), empty.as_slice())?;
+    expect_counts(&rt, &full, &empty);
     Ok(())
 }
 

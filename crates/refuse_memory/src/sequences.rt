@@ -32,27 +32,42 @@ fn built(alloc: Global) -> Outcome {
     }
 }
 
-/// A clone of one.
+/// A clone of a sequence.
 fn cloned(alloc: Global) -> Outcome {
-    let Ok(made) = EliasFano::build(alloc, NUMBERS.as_slice()) else {
-        return Outcome::Unready;
-    };
-    match made.try_clone(alloc) {
-        Ok(copy) => answered(is_right(&copy) && is_right(&made)),
-        Err(_) => refused(is_right(&made)),
+    match EliasFano::build(alloc, NUMBERS.as_slice()) {
+        Ok(made) => clone_of(alloc, &made),
+        Err(_) => Outcome::Unready,
     }
 }
 
-/// The numbers that two of them share.
+/// A clone of this one.
+fn clone_of(alloc: Global, made: &EliasFano) -> Outcome {
+    match made.try_clone(alloc) {
+        Ok(copy) => answered(is_right(&copy) && is_right(made)),
+        Err(_) => refused(is_right(made)),
+    }
+}
+
+/// The numbers that two sequences share.
 fn shared(alloc: Global) -> Outcome {
-    let Ok(one) = EliasFano::build(alloc, NUMBERS.as_slice()) else {
-        return Outcome::Unready;
-    };
-    let Ok(other) = EliasFano::build(alloc, [1u64, 3, 6, 11, 12, 24, 30].as_slice()) else {
-        return Outcome::Unready;
-    };
-    match common(alloc, &one, &other) {
+    match EliasFano::build(alloc, NUMBERS.as_slice()) {
+        Ok(one) => shared_with(alloc, &one),
+        Err(_) => Outcome::Unready,
+    }
+}
+
+/// Those that this one shares with another.
+fn shared_with(alloc: Global, one: &EliasFano) -> Outcome {
+    match EliasFano::build(alloc, [1u64, 3, 6, 11, 12, 24, 30].as_slice()) {
+        Ok(other) => shared_by(alloc, one, &other),
+        Err(_) => Outcome::Unready,
+    }
+}
+
+/// Those that these two share.
+fn shared_by(alloc: Global, one: &EliasFano, other: &EliasFano) -> Outcome {
+    match common(alloc, one, other) {
         Ok(found) => answered(found.as_slice() == [3u64, 11, 24].as_slice()),
-        Err(_) => refused(is_right(&one) && other.try_get(6) == Some(30)),
+        Err(_) => refused(is_right(one) && other.try_get(6) == Some(30)),
     }
 }

@@ -1,48 +1,81 @@
 //! Tests of what no clause says: that keys are numbered where there is memory, and which error comes of which keys.
-use bitm::GetSize;
+use bitm::{ArrayWithRank101111, GetSize};
 use perfect_hash::{
-    BuildError, Dictionary, Grouped, KeyHash, Placing, Plain, Seeded, SeededBytes, build, build_by,
+    BuildError, Dictionary, Grouped, KeyHash, PerfectHash, Placing, Plain, Seeded, SeededBytes,
+    build, build_by,
 };
-use std::alloc::Global;
+use std::alloc::{AllocError, Global};
 use std::process::Abort;
 use std::test::Fail;
 
+/// So many keys, no two of them the same.
+fn keys_of(alloc: Global, count: u64) -> Result<Vec<u64>, AllocError> {
+    let mut keys = Vec::new(alloc);
+    for i in 0..count {
+        keys.push(i.wrapping_mul(i).wrapping_add(i.wrapping_mul(17)))?;
+    }
+    Ok(keys)
+}
+
+type Numbers<P> = PerfectHash<Seeded, ArrayWithRank101111, P>;
+
+type Found = Dictionary<Seeded, ArrayWithRank101111, Plain>;
+
+/// Whether the keys have numbers of their own below their count, which are noted in as many entries.
+fn differ<P: Placing>(numbers: &Numbers<P>, keys: &[u64], seen: &mut [bool]) -> bool {
+    for key in keys {
+        match numbers.get(key) {
+            Some(number) if number < seen.len() && !seen[number] => seen[number] = true,
+            _ => return false,
+        }
+    }
+    true
+}
+
+/// Whether the keys have the same numbers asked at once, into as many entries.
+fn many_agree<P: Placing>(numbers: &Numbers<P>, keys: &[u64], many: &mut [usize]) -> bool {
+    if many.len() != keys.len() {
+        return false;
+    }
+    numbers.get_many(keys, many);
+    let mut agrees = true;
+    for (key, number) in keys.iter().zip(many.iter()) {
+        agrees &= numbers.get(key) == Some(*number);
+    }
+    agrees
+}
+
+/// Whether the keys have numbers of their own, asked one by one and at once.
+fn agree<P: Placing>(
+    alloc: Global,
+    numbers: &Numbers<P>,
+    keys: &[u64],
+) -> Result<bool, AllocError> {
+    let mut seen = vec![in alloc; false; keys.len()]?;
+    let mut many = vec![in alloc; 0usize; keys.len()]?;
+    Ok(differ(numbers, keys, seen.as_mut_slice()) && many_agree(numbers, keys, many.as_mut_slice()))
+}
+
 /// Each of so many keys has a number of its own below their count. How many bytes the perfect hash keeps.
 fn are_numbered<P: Placing + GetSize>(
-    rt: &impl Abort,
     alloc: Global,
     placing: P,
     count: u64,
     percent: u16,
 ) -> Result<usize, Fail> {
-    let mut keys = Vec::new(alloc);
-    for i in 0..count {
-        keys.push(i.wrapping_mul(i).wrapping_add(i.wrapping_mul(17)))?;
+    let keys = keys_of(alloc, count)?;
+    let keys = keys.as_slice();
+    match build_by(alloc, placing, Seeded { seed: 1 }, keys, percent) {
+        Ok(numbers) if agree(alloc, &numbers, keys)? => Ok(numbers.size_bytes_dyn()),
+        _ => Err("refused, or two keys have one number".into()),
     }
-    let hasher = Seeded { seed: 1 };
-    let Ok(numbers) = build_by(alloc, placing, hasher, keys.as_slice(), percent) else {
-        return Err("refused".into());
-    };
-    let mut seen = vec![in alloc; false; keys.len()]?;
-    for key in &keys {
-        let number = numbers.get(key).ok_or("no number")?;
-        assert!(rt; number < seen.len());
-        assert!(rt; !seen[number]);
-        seen[number] = true;
-    }
-    let mut many = vec![in alloc; 0usize; keys.len()]?;
-    numbers.get_many(keys.as_slice(), many.as_mut_slice());
-    for i in 0..keys.len() {
-        assert!(rt; numbers.get(&keys[i]) == Some(many[i]));
-    }
-    Ok(numbers.size_bytes_dyn())
 }
 
 #[test]
 fn keys_get_numbers_of_their_own(rt: HostRuntime) -> Result<(), Fail> {
     for count in [0u64, 1, 2, 3, 64, 65, 1000, 5000] {
         for percent in [0u16, 50, 100, 200] {
-            are_numbered(&rt, rt.alloc(), Plain, count, percent)?;
+            are_numbered(rt.alloc(), Plain, count, percent)?;
         }
     }
     Ok(())
@@ -52,10 +85,10 @@ fn keys_get_numbers_of_their_own(rt: HostRuntime) -> Result<(), Fail> {
 fn by_seeds_keys_get_numbers_of_their_own(rt: HostRuntime) -> Result<(), Fail> {
     for count in [0u64, 1, 2, 64, 65, 5000] {
         for tries in [0u16, 1, 16, 300] {
-            are_numbered(&rt, rt.alloc(), Grouped::new(rt.alloc(), tries), count, 100)?;
+            are_numbered(rt.alloc(), Grouped::new(rt.alloc(), tries), count, 100)?;
         }
     }
-    let bytes = are_numbered(&rt, rt.alloc(), Grouped::new(rt.alloc(), 64), 9000, 100)?;
+    let bytes = are_numbered(rt.alloc(), Grouped::new(rt.alloc(), 64), 9000, 100)?;
     // Under 2.4 bits a key.
     assert!(rt; bytes < 9000 * 24 / 80);
     Ok(())
@@ -122,27 +155,48 @@ fn words_of_bytes_get_numbers_of_their_own(rt: HostRuntime) -> Result<(), Fail> 
     Ok(())
 }
 
-#[test]
-fn a_dictionary_finds_its_keys_and_no_strangers(rt: HostRuntime) -> Result<(), Fail> {
-    let keys = [3u64, 1, 4, 15, 9, 26, 5, 35];
-    let Ok(numbers) = build(rt.alloc(), Seeded { seed: 1 }, keys.as_slice(), 100) else {
-        return Err("refused".into());
-    };
-    let Ok(copy) = numbers.try_clone(rt.alloc()) else {
-        return Err("no copy".into());
-    };
-    let Ok(found) = Dictionary::build(rt.alloc(), numbers, keys.as_slice(), 32) else {
-        return Err("no fingerprints".into());
-    };
-    for key in keys.as_slice() {
-        assert!(rt; found.get(key) == copy.get(key));
+/// Stops where a dictionary of these keys numbers them otherwise than their perfect hash, or finds a stranger.
+fn expect_found(rt: &impl Abort, found: &Found, numbers: &Numbers<Plain>, keys: &[u64]) {
+    for key in keys {
+        assert!(rt; found.get(key) == numbers.get(key));
         assert!(rt; found.get(key).is_some());
     }
     for stranger in 100..1100u64 {
         assert!(rt; found.get(&stranger).is_none());
     }
-    // The levels' words, the two tables of one entry each, and the sizes.
-    let words = copy.index().content().len();
-    assert!(rt; copy.size_bytes_dyn() == 8 * (words + 2 + copy.levels()));
+}
+
+/// Stops where the bytes of a perfect hash are not its levels' words, its two tables of an entry each, and its sizes.
+fn expect_bytes(rt: &impl Abort, numbers: &Numbers<Plain>) {
+    let words = numbers.index().content().len();
+    assert!(rt; numbers.size_bytes_dyn() == 8 * (words + 2 + numbers.levels()));
+}
+
+/// A perfect hash of these keys.
+fn numbers_of(alloc: Global, keys: &[u64]) -> Result<Numbers<Plain>, Fail> {
+    match build(alloc, Seeded { seed: 1 }, keys, 100) {
+        Ok(numbers) => Ok(numbers),
+        Err(_) => Err("refused".into()),
+    }
+}
+
+/// A dictionary of them.
+fn found_of(alloc: Global, keys: &[u64]) -> Result<Found, Fail> {
+    let Ok(numbers) = build(alloc, Seeded { seed: 1 }, keys, 100) else {
+        return Err("refused".into());
+    };
+    match Dictionary::build(alloc, numbers, keys, 32) {
+        Ok(found) => Ok(found),
+        Err(_) => Err("no fingerprints".into()),
+    }
+}
+
+#[test]
+fn a_dictionary_finds_its_keys_and_no_strangers(rt: HostRuntime) -> Result<(), Fail> {
+    let keys = [3u64, 1, 4, 15, 9, 26, 5, 35];
+    let copy = numbers_of(rt.alloc(), keys.as_slice())?.try_clone(rt.alloc())?;
+    expect_bytes(&rt, &copy);
+    let found = found_of(rt.alloc(), keys.as_slice())?;
+    expect_found(&rt, &found, &copy, keys.as_slice());
     Ok(())
 }

@@ -1,5 +1,5 @@
-//! Tests of wavelet matrices and perfect hashes, which stand on an index, beside plain loops and answers worked by
-//! hand.
+//! Tests of the structures that stand on an index: wavelet matrices, perfect hashes and trees, beside plain loops and
+//! answers worked by hand.
 //!
 //! They stand in a crate of their own, since a crate with tests is proved twice.
 #![tactic(auto)]
@@ -8,3 +8,9 @@
 mod hashes;
 #[cfg(test)]
 mod matrices;
+#[cfg(test)]
+mod trees;
+#[cfg(test)]
+mod tries;
+#[cfg(test)]
+mod ways;

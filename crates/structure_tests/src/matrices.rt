@@ -1,5 +1,6 @@
 //! Answers of a wavelet matrix worked by hand, and compared with plain loops over the numbers.
 use std::alloc::{AllocError, Global};
+use std::process::Abort;
 use std::test::Fail;
 use wavelet_matrix::{BinaryWaveletMatrix, all_fit};
 
@@ -173,10 +174,8 @@ fn a_million_answers_are_those_of_a_count(rt: HostRuntime) -> Result<(), Fail> {
     Ok(())
 }
 
-#[test]
-fn the_numbers_of_the_picture_are_answered_as_worked_out(rt: HostRuntime) -> Result<(), Fail> {
-    let list = [3u64, 1, 4, 1, 5, 1];
-    let matrix = BinaryWaveletMatrix::build(rt.alloc(), list.as_slice(), 3)?;
+/// Stops where a matrix of 3 1 4 1 5 1 answers otherwise than worked out.
+fn is_as_worked_out(rt: &impl Abort, matrix: &BinaryWaveletMatrix) {
     assert!(rt; matrix.len() == 6);
     let found = (
         matrix.try_get(2),
@@ -191,26 +190,39 @@ fn the_numbers_of_the_picture_are_answered_as_worked_out(rt: HostRuntime) -> Res
     );
     assert!(rt; found == (Some(2), Some(5), None));
     assert!(rt; (matrix.quantile(1..5, 2), matrix.range_count(0..6, 2, 5)) == (4, 2));
+    let mut distinct = matrix.distinct(1..5);
+    assert!(rt; (distinct.next(), distinct.next()) == (Some((1, 2)), Some((4, 1))));
+}
+
+/// Stops where its ranks, asked at once, are others than worked out.
+fn many_are_as_worked_out(rt: &impl Abort, matrix: &BinaryWaveletMatrix) {
     let mut ranks = [9usize; 3];
+    assert!(rt; matrix.len() == 6);
+    let numbers = [1u64, 4, 7];
     matrix.rank_many(
-        [1u64, 4, 7].as_slice(),
+        numbers.as_slice(),
         [4usize, 6, 6].as_slice(),
         ranks.as_mut_slice(),
     );
     assert!(rt; ranks == [2usize, 1, 0]);
-    let shared = matrix.intersect(rt.alloc(), 0..2, 3..6)?;
-    assert!(rt; shared.as_slice() == [1].as_slice());
-    Ok(())
+}
+
+/// Whether the numbers that two of its ranges share, and its most frequent ones, are as worked out.
+fn lists_agree(alloc: Global, matrix: &BinaryWaveletMatrix) -> Result<bool, AllocError> {
+    if matrix.len() != 6 {
+        return Ok(false);
+    }
+    let shared = matrix.intersect(alloc, 0..2, 3..6)?;
+    let top = matrix.top_k(alloc, 0..6, 2)?;
+    Ok(shared.as_slice() == [1].as_slice() && top.as_slice() == [(1, 3), (3, 1)].as_slice())
 }
 
 #[test]
-fn the_most_frequent_numbers_of_the_picture_come_first(rt: HostRuntime) -> Result<(), Fail> {
+fn the_numbers_of_the_picture_are_answered_as_worked_out(rt: HostRuntime) -> Result<(), Fail> {
     let list = [3u64, 1, 4, 1, 5, 1];
     let matrix = BinaryWaveletMatrix::build(rt.alloc(), list.as_slice(), 3)?;
-    assert!(rt; matrix.len() == 6);
-    let mut distinct = matrix.distinct(1..5);
-    assert!(rt; (distinct.next(), distinct.next()) == (Some((1, 2)), Some((4, 1))));
-    let top = matrix.top_k(rt.alloc(), 0..6, 2)?;
-    assert!(rt; top.as_slice() == [(1, 3), (3, 1)].as_slice());
+    is_as_worked_out(&rt, &matrix);
+    many_are_as_worked_out(&rt, &matrix);
+    assert!(rt; lists_agree(rt.alloc(), &matrix)?);
     Ok(())
 }

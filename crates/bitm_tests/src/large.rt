@@ -1,0 +1,84 @@
+//! A content of 2^20 words with ones at the even places, asked at each step of 256 bits. By hand: half of the bits
+//! before an even place are ones, and each two places have one bit of each kind. So the compiled code runs over
+//! tables of many entries.
+use crate::walk::Sampled;
+use bitm::{
+    BinaryRankSearch, BitVec, Rank, RankSelect101111, RankSimple, Select, Select0,
+    Select0ForRank101111, SelectForRank101111,
+};
+use std::alloc::{AllocError, Global};
+use std::boxed::BoxedSlice;
+use std::process::Abort;
+
+type Words = BoxedSlice<u64, Global>;
+
+/// Words whose ones are at the even places.
+fn even_ones(alloc: Global) -> Result<Words, AllocError> {
+    Words::with_64bit_segments(alloc, 0x5555_5555_5555_5555, 0x10_0000)
+}
+
+/// Half of the bits before each place are ones.
+fn expect_ranks<I: Rank>(rt: &impl Abort, index: &I) {
+    for k in 0..0x4_0000usize {
+        assert!(rt; index.try_rank(256 * k) == Some(128 * k));
+    }
+}
+
+/// Each two places have one bit of each kind.
+fn expect_places<I: Select + Select0>(rt: &impl Abort, index: &I) {
+    for k in 0..0x4_0000usize {
+        assert!(rt; index.try_select(128 * k) == Some(256 * k));
+        assert!(rt; index.try_select0(128 * k) == Some(256 * k + 1));
+    }
+}
+
+/// Builds an index by these strategies, and asks it.
+fn expect_answers<S: SelectForRank101111, S0: Select0ForRank101111>(
+    rt: &impl Abort,
+    alloc: Global,
+) -> Result<(), AllocError> {
+    let content = even_ones(alloc)?;
+    if content.as_slice().len() >= 2_000_000 {
+        return Err(AllocError);
+    }
+    match RankSelect101111::<S, S0, Words>::build(alloc, content) {
+        Ok((index, total)) => {
+            assert!(rt; total == 0x200_0000);
+            expect_ranks(rt, &index);
+            expect_places(rt, &index);
+            Ok(())
+        }
+        Err(_) => Err(AllocError),
+    }
+}
+
+#[test]
+#[tactic(auto, using(bitm::proofs::Callers::few_ones))]
+fn simple_rank_is_half_of_each_even_place(rt: HostRuntime) -> Result<(), AllocError> {
+    let content = even_ones(rt.alloc())?;
+    if content.as_slice().len() >= 2_000_000 {
+        return Err(AllocError);
+    }
+    match RankSimple::build(rt.alloc(), content) {
+        Ok((index, total)) => {
+            assert!(rt; total == 0x200_0000);
+            expect_ranks(&rt, &index);
+            Ok(())
+        }
+        Err(_) => Err(AllocError),
+    }
+}
+
+#[test]
+fn rank_is_half_of_each_even_place_and_binary_search_selects_it(
+    rt: HostRuntime,
+) -> Result<(), AllocError> {
+    expect_answers::<BinaryRankSearch, BinaryRankSearch>(&rt, rt.alloc())
+}
+
+#[test]
+fn rank_is_half_of_each_even_place_and_samples_select_it(
+    rt: HostRuntime,
+) -> Result<(), AllocError> {
+    expect_answers::<Sampled, Sampled>(&rt, rt.alloc())
+}
