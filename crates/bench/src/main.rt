@@ -9,10 +9,10 @@
 //! The content has 2^LOG2 bits, 10 to 33. KIND is `sparse`, `even` or `dense` (ones drawn one in 64, one in two and
 //! seven in eight), or one that misleads a guess: `end` (ones in the last sixteenth alone), `blocks` (ones and zeros by
 //! turns, 2^16 words of each) or `ramp` (ever more ones). A value is the least of the rounds, of the thread's processor
-//! time; a row is `row,by,log2,kind,value,unit,check`, where the check is a sum of the answers, or the number of what was
-//! made. The second form times perfect hashes of so many keys, with rows `row,by,keys,value,unit,check`. The third compares
-//! answers of matrices and trees with plain counts, and prints how many were wrong. With other arguments the program
-//! prints its usage.
+//! time; a row is `row,by,log2,kind,value,unit,check`, where the check is a sum of the answers, or the number of what
+//! was made. The second form times perfect hashes of so many keys, with rows `row,by,keys,value,unit,check`. The third
+//! compares answers of matrices and trees with plain counts, and prints how many were wrong. With other arguments the
+//! program prints its usage.
 #![tactic(auto)]
 
 ghost use Rattle.std.specs.Prelude.{◌<◌};

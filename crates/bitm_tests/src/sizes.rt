@@ -1,12 +1,8 @@
 //! Which types keep bytes on the heap, which no clause can say of a constant, and how many, added up by hand.
-use bitm::{
-    AdaptiveCombinedSamplingDensity, ArrayWithRank101111, ArrayWithRankSimple, BinaryRankSearch,
-    CombinedSampling, GetSize, RankSelect101111,
-};
+use crate::walk::Sampled;
+use bitm::{ArrayWithRank101111, ArrayWithRankSimple, BinaryRankSearch, GetSize, RankSelect101111};
 use elias_fano::EliasFano;
 use std::test::Fail;
-
-type Sampled = CombinedSampling<AdaptiveCombinedSamplingDensity<13>>;
 
 #[test]
 fn all_but_binary_search_may_use_the_heap(rt: HostRuntime) {

@@ -1,8 +1,9 @@
 //! The index with strategies and a density that a user wrote: the places of sixty words that have ones at 0, 2 and 3,
 //! worked out by hand; and which strategy is asked, which no clause says.
+use crate::walk::Sampled;
 use bitm::{
-    AdaptiveCombinedSamplingDensity, BinaryRankSearch, CombinedSampling, RankSelect101111, Select,
-    Select0, Select0ForRank101111, SelectForRank101111,
+    BinaryRankSearch, CombinedSampling, RankSelect101111, Select, Select0, Select0ForRank101111,
+    SelectForRank101111,
 };
 use std::alloc::{AllocError, Global};
 use std::process::Abort;
@@ -10,8 +11,6 @@ use uses::density::ByLength;
 use uses::strategies::guarded::Guarded;
 use uses::strategies::listed::Listed;
 use uses::strategies::scan::Scan;
-
-type Sampled = CombinedSampling<AdaptiveCombinedSamplingDensity<13>>;
 
 /// Whether each one, and two first zeros of each word and its last, are selected, and none past them.
 fn selects_each<S: SelectForRank101111, S0: Select0ForRank101111>(

@@ -1,9 +1,10 @@
 //! The tables that an index keeps, its size, and ranks of a few contents, worked out by hand. An entry is the ones
 //! before its records 1, 2 and 3, from the bits 54, 43 and 32 on, and below them the ones before the entry in its
 //! part: for 64 ones in the first record of the second entry, after 2048 ones, 64 * (2^54 + 2^43 + 2^32) + 2048.
+use crate::walk::{index_over, owned};
 use bitm::{
-    ArrayWithRank101111, BinaryRankSearch, BitAccess, BitAccessMut, BitVec, GetSize, Rank,
-    RankSelect101111, Select, Select0, complement_entry,
+    BinaryRankSearch, BitAccess, BitAccessMut, BitVec, GetSize, Rank, RankSelect101111, Select,
+    Select0, complement_entry,
 };
 use std::alloc::{AllocError, Global};
 use std::boxed::BoxedSlice;
@@ -40,19 +41,7 @@ const KEPT: [Kept<'static>; 8] = [
 
 /// An index over the words, and the number of ones.
 fn lent<'a>(alloc: Global, words: &'a [u64]) -> Result<(Lent<'a>, usize), AllocError> {
-    if words.len() >= 100_000 {
-        return Err(AllocError);
-    }
-    RankSelect101111::build(alloc, words).map_err(|_| AllocError)
-}
-
-/// The same over words of its own.
-fn owned(alloc: Global, words: &[u64]) -> Result<(ArrayWithRank101111, usize), AllocError> {
-    let content = BoxedSlice::from_slice(alloc, words)?;
-    if content.as_slice().len() >= 100_000 {
-        return Err(AllocError);
-    }
-    RankSelect101111::build(alloc, content).map_err(|_| AllocError)
+    index_over::<BinaryRankSearch, BinaryRankSearch>(alloc, words)
 }
 
 /// Whether an index over lent words keeps what it should.

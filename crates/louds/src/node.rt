@@ -1,4 +1,5 @@
-//! Nodes that carry their places, so that a walk selects once where it goes.
+//! Nodes that carry their places, so that a walk selects once where it goes. What the calls cost is read in the code: no
+//! clause counts it, as those of `counted` do for walks by numbers.
 ghost use Rattle.std.specs.Prelude.{◌≡◌, ◌==◌, ◌<◌, length, slice_index};
 ghost use Rattle.louds.specs.Node.{IsNode, MatchesChildNode, MatchesNextSiblingNode, MatchesParentNode};
 ghost use Rattle.louds.specs.Tree.{AreChildren, IsChild};
