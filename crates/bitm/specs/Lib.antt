@@ -15,6 +15,7 @@ pub use Rattle.bitm_bits.specs.Size
 pub use Rattle.bitm_search.specs.Answers
 pub use Rattle.bitm_search.specs.Entry
 pub use Rattle.bitm_search.specs.Many
+pub use Rattle.bitm_search.specs.Quarters
 pub use Rattle.bitm_search.specs.Reads
 pub use Rattle.bitm_search.specs.Search
 pub use Rattle.bitm_search.specs.Tables

@@ -31,6 +31,7 @@ pub use bitm_search::levels::{
     BITS_PER_L1_ENTRY, BITS_PER_L2_ENTRY, BITS_PER_L2_RECORDS, L2_ENTRIES_PER_L1_ENTRY,
     U64_PER_L1_ENTRY, U64_PER_L2_ENTRY, U64_PER_L2_RECORDS,
 };
+pub use bitm_search::quarters::{bit_and_rank_by_quarters_on, make_quarters, rank_by_quarters_on};
 pub use bitm_search::search::many::{rank_many_on, select_many_on, total_select_many_on};
 pub use bitm_search::search::ranking::{bit_and_rank_on, bit_on, rank_on, total_rank_on};
 pub use bitm_search::search::selected::{NO_ANSWER, Selected, WRONG_TABLES};

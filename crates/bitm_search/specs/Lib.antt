@@ -6,6 +6,7 @@ pub use Rattle.bit_lists.specs.Bits
 pub use Rattle.bit_lists.specs.Count
 pub use Rattle.bit_lists.specs.Number
 pub use Rattle.bitm_tables.specs.Entry
+pub use Rattle.bitm_tables.specs.Quarters
 pub use Rattle.bitm_tables.specs.Reads
 pub use Rattle.bitm_tables.specs.Tables
 pub use Rattle.bitm_tables.specs.declared.source.counts.ReadCounts

@@ -1,5 +1,6 @@
 pub mod EntryLemmas
 pub mod LengthLemmas
+pub mod QuarterLemmas
 pub mod RankLemmas
 pub mod StretchLemmas
 pub mod TableLemmas

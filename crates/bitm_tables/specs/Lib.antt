@@ -1,4 +1,5 @@
 pub mod Entry
+pub mod Quarters
 pub mod Reads
 pub mod Tables
 pub use Rattle.bit_lists.specs.Bits

@@ -6,6 +6,7 @@
 
 pub mod entry;
 pub mod levels;
+pub mod quarters;
 pub mod ranking;
 pub mod source;
 pub mod tables;

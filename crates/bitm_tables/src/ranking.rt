@@ -1,5 +1,5 @@
 //! Rank over a source, with a bound on its reads.
-ghost use Rattle.std.specs.Prelude.{◌≡◌, ◌+◌, ◌*◌, ◌/◌, ◌^◌, ◌<◌, ◌≤◌};
+ghost use Rattle.std.specs.Prelude.{◌≡◌, ◌+◌, ◌*◌, ◌/◌, ◌^◌, ◌<◌, ◌≤◌, ℕ, List};
 ghost use Rattle.std.specs.Prelude.{length, slice_index, count_ones, MatchOption, SomeIff};
 ghost use Rattle.bit_lists.specs.Bits.{bits_of, item, IsShort};
 ghost use Rattle.bit_lists.specs.Count.{ones_before, IsRank};
@@ -250,6 +250,18 @@ pub fn bit_and_rank_on<T: TableSource>(source: &mut T, place: usize) -> Option<(
         return None;
     }
     let (word, ones) = word_and_ones(source, place);
+    Some(bit_and_ones_before(word, ones, place))
+}
+
+/// The bit at `place`, and how many ones stand before it, by the word that has it and the ones to the bit, it too; of
+/// another word and number any.
+#[tactic(auto, using(bit_lists::proofs::lemmas::BitsLemmas::item_tested))]
+#[inline(always)]
+pub(crate) fn bit_and_ones_before(word: u64, ones: usize, place: usize) -> (bool, usize)
+    ensures { (ws : List ℕ) → IsShort ws → place < 64 * length ws → word ≡ slice_index ws (place / 64)
+        → ones ≡ ones_before (bits_of ws) (place + 1)
+        → (result.0 ≡ item (bits_of ws) place) × (result.1 ≡ ones_before (bits_of ws) place) }
+{
     let bit = word & (1u64 << (place % 64)) != 0;
-    Some((bit, ones.wrapping_sub(bit as usize)))
+    (bit, ones.wrapping_sub(bit as usize))
 }

@@ -1,0 +1,28 @@
+-- The ones before the bit are those to it, less the bit.
+use Rattle.std.proofs.Common.{◌≡◌, ℕ, ◌+◌, ◌-◌, ◌*◌, ◌%◌, ◌^◌, ◌<◌, Bool, true, false, not, bit_and, nat_eq, length, ap, ◌∙◌, arith}
+use Rattle.bit_lists.proofs.lemmas.WordLemmas.{truth}
+use Rattle.bit_lists.specs.Bits.{bits_of, item}
+use Rattle.bit_lists.specs.Count.{ones_before}
+use Rattle.bit_lists.proofs.lemmas.BitsLemmas.{item_tested, length-bits_of}
+use Rattle.bit_lists.proofs.lemmas.CountLemmas.{ones_before_more}
+use Rattle.bitm_tables.proofs.lemmas.StretchLemmas.{ones_before-self}
+use Rattle.bitm_tables.proofs.ranking.bit_and_ones_before.Goals as goal
+use mir.Val.{bool_byte}
+
+less_bit : (v : Bool) (x y : ℕ) → x ≡ y + truth v → y < 2 ^ 64 → (x + (2 ^ 64 - bool_byte v)) % 2 ^ 64 ≡ y
+less_bit true x y h fits = omega (arith, h, fits)
+less_bit false x y h fits = omega (arith, h, fits)
+
+pub returns : goal.returns
+returns c = λ words short inside word_is ones_are.
+    let b = bits_of words in
+    let p = c.args.place in
+    let here : p < length b = omega (arith, inside, length-bits_of words) in
+    let tested =
+    ap (λ (w : ℕ). not (nat_eq (bit_and w (1 * 2 ^ (p % 64) % 2 ^ 64)) 0)) word_is ∙ item_tested words p inside in
+    let few : ones_before b p < 2 ^ 64 = omega (arith, ones_before-self b p, here, length-bits_of words, short) in
+    let sum = ones_are ∙ ones_before_more b p here in (
+      tested,
+      ap (λ (v : Bool). (c.args.ones + (2 ^ 64 - bool_byte v)) % 2 ^ 64) tested
+          ∙ less_bit (item b p) c.args.ones (ones_before b p) sum few,
+    )
