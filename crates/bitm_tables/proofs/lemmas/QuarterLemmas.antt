@@ -1,40 +1,92 @@
--- The quarters of a record: the table as it is made, and the ones that it and two words count.
-use Rattle.std.proofs.Common.{◌≡◌, ℕ, ◌+◌, ◌-◌, ◌*◌, ◌/◌, ◌%◌, ◌^◌, ◌<◌, Bool, List, ◌++◌, ◌∷◌, [], length, slice_index, get_or, count_ones, ⊎_elim, arith, ap, ◌∙◌, subst}
+-- The numbers of records: the table as it is made, and the ones that it and two words count.
+use Rattle.std.proofs.Common.{◌≡◌, ℕ, zero, suc, ◌+◌, ◌-◌, ◌*◌, ◌/◌, ◌%◌, ◌^◌, ◌<◌, ◌≤◌, Bool, List, ◌++◌, ◌∷◌, [], length, slice_index, get_or, count_ones, ⊎_elim, arith, ap, ◌∙◌, subst, refl}
 use Rattle.std.specs.Int.{div_ceil}
 use Rattle.std.proofs.lemmas.Bool.{cases_lt}
 use Rattle.std.proofs.lemmas.List.{get_or_append_left, get_or_push}
 use Rattle.bit_lists.proofs.lemmas.BitsLemmas.{length-bits_of}
 use Rattle.bit_lists.specs.Bits.{bits_of}
 use Rattle.bit_lists.specs.Count.{ones_before}
-use Rattle.bitm_tables.proofs.lemmas.StretchLemmas.{word_more, word_through}
+use Rattle.bitm_tables.proofs.lemmas.StretchLemmas.{ones_before-between, word_more, word_through}
 use Rattle.bitm_tables.proofs.lemmas.TableLemmas.{tables_sum}
 use Rattle.bitm_tables.specs.Entry.{field_0}
-use Rattle.bitm_tables.specs.Quarters.{AreQuartersOf, quarter_field}
+use Rattle.bitm_tables.specs.Quarters.{AreQuartersOf, quarter_count, record_count}
 use Rattle.bitm_tables.specs.Tables.{AreTablesOf}
 
 -- ---- the table as it is made
 
+-- a number counts to a quarter of record r
+abbrev Counts : List Bool → ℕ → ℕ → ℕ → Type 0
+Counts b r q e = ones_before b (r / 2 ^ 23 * 2 ^ 32) + record_count e + quarter_count e q ≡ ones_before b (512 * r + 128 * q)
+
 -- the first n numbers count the quarters of their records
 abbrev pub CountTo : List Bool → List ℕ → ℕ → Type 0
-CountTo b xs n = (r q : ℕ) → r < n → q < 4 → 512 * r + 128 * q < length b
-    → ones_before b (512 * r) + quarter_field (slice_index xs r) q ≡ ones_before b (512 * r + 128 * q)
+CountTo b xs n = (r q : ℕ) → r < n → q < 4 → 512 * r + 128 * q < length b → Counts b r q (slice_index xs r)
 
 -- and one more does
 pub push_counts : (b : List Bool) (xs : List ℕ) (x n : ℕ) → length xs ≡ n → CountTo b xs n
-    → ((q : ℕ) → q < 4 → 512 * n + 128 * q < length b → ones_before b (512 * n) + quarter_field x q ≡ ones_before b (512 * n + 128 * q))
+    → ((q : ℕ) → q < 4 → 512 * n + 128 * q < length b → Counts b n q x)
     → CountTo b (xs ++ x ∷ []) (n + 1)
 push_counts b xs x n len so_far next r q less quarter begun =
     ⊎_elim
     (λ before.
-    ap (λ (e : ℕ). ones_before b (512 * r) + quarter_field e q) (get_or_append_left xs (x ∷ []) 0 r (omega (arith, before, len)))
+    ap (λ (e : ℕ). ones_before b (r / 2 ^ 23 * 2 ^ 32) + record_count e + quarter_count e q)
+    (get_or_append_left xs (x ∷ []) 0 r (omega (arith, before, len)))
     ∙ so_far r q before quarter begun)
     (λ last.
     let same : n ≡ r = omega (arith, last, less) in
-    let P : ℕ → Type 0 = λ k. ones_before b (512 * k) + quarter_field (get_or (xs ++ x ∷ []) k 0) q ≡ ones_before b (512 * k + 128 * q) in
+    let P : ℕ → Type 0 = λ k. Counts b k q (get_or (xs ++ x ∷ []) k 0) in
     subst P same
-    (ap (λ (e : ℕ). ones_before b (512 * n) + quarter_field e q) (get_or_push xs x 0 n len)
+    (ap (λ (e : ℕ). ones_before b (n / 2 ^ 23 * 2 ^ 32) + record_count e + quarter_count e q) (get_or_push xs x 0 n len)
     ∙ next q quarter (omega (arith, begun, same))))
     (cases_lt r n)
+
+-- a number of its parts: the ones before the record, and those of three quarters
+pub number_counts : (b : List Bool) (r before x y z : ℕ) → before < 2 ^ 32 → x ≤ 128 → y ≤ 128 → z ≤ 128
+    → ones_before b (r / 2 ^ 23 * 2 ^ 32) + before ≡ ones_before b (512 * r)
+    → (q : ℕ) → q < 4
+    → (0 < q → ones_before b (512 * r) + x ≡ ones_before b (512 * r + 128))
+    → (1 < q → ones_before b (512 * r + 128) + y ≡ ones_before b (512 * r + 256))
+    → (2 < q → ones_before b (512 * r + 256) + z ≡ ones_before b (512 * r + 384))
+    → Counts b r q (before + (x + y + z) * 2 ^ 32 + (x + y) * 2 ^ 42 + x * 2 ^ 52)
+number_counts b r before x y z fits hx hy hz base zero less one two three =
+    let e : 512 * r ≡ 512 * r + 128 * 0 = omega arith in omega (arith, ap (ones_before b) e, fits, hx, hy, hz, base)
+number_counts b r before x y z fits hx hy hz base (suc zero) less one two three =
+    omega (arith, one (omega arith), fits, hx, hy, hz, base)
+number_counts b r before x y z fits hx hy hz base (suc (suc zero)) less one two three =
+    omega (arith, one (omega arith), two (omega arith), fits, hx, hy, hz, base)
+number_counts b r before x y z fits hx hy hz base (suc (suc (suc zero))) less one two three =
+    omega (arith, one (omega arith), two (omega arith), three (omega arith), fits, hx, hy, hz, base)
+number_counts b r before x y z fits hx hy hz base (suc (suc (suc (suc q)))) less one two three = absurd (omega arith)
+
+-- what a call counted of two words, in the words that it was given
+pub counted_at : (ws words : List ℕ) (first n i j : ℕ) → ws ≡ words → 64 * first ≡ i → 64 * (first + 2) ≡ j
+    → (first + 2 ≤ length ws → ones_before (bits_of ws) (64 * first) + n ≡ ones_before (bits_of ws) (64 * (first + 2)))
+    → first + 2 ≤ length words → ones_before (bits_of words) i + n ≡ ones_before (bits_of words) j
+counted_at ws words first n i j same i_is j_is counts inside =
+    let P : List ℕ → Type 0 = λ m. first + 2 ≤ length m → ones_before (bits_of m) (64 * first) + n ≡ ones_before (bits_of m) (64 * (first + 2)) in
+    omega (arith, subst P same counts inside, ap (ones_before (bits_of words)) i_is, ap (ones_before (bits_of words)) j_is)
+
+-- a lower entry counts the ones before its records
+pub before_record : (words upper lower : List ℕ) → AreTablesOf (bits_of words) upper lower → (at : ℕ) → 8 * at < length words
+    → (e : ℕ) → e ≡ slice_index lower (at / 4)
+    → (ones_before (bits_of words) (at / 2 ^ 23 * 2 ^ 32) + (field_0 e + e / 2 ^ (11 * (3 - at % 4)) / 2 ^ 32 % 2 ^ 11)
+    ≡ ones_before (bits_of words) (512 * at)) × (field_0 e + e / 2 ^ (11 * (3 - at % 4)) / 2 ^ 32 % 2 ^ 11 < 2 ^ 32)
+before_record words upper lower t at begun e e_is =
+    let b = bits_of words in
+    let part_at : 512 * at / 2 ^ 32 * 2 ^ 32 ≡ at / 2 ^ 23 * 2 ^ 32 = omega arith in
+    let record_at : 64 * (512 * at / 512 * 8) ≡ 512 * at = omega arith in
+    let entry_at : at / 4 ≡ 512 * at / 2048 = omega arith in
+    let place : 512 * at / 512 ≡ at = omega arith in
+    let sum : ones_before b (at / 2 ^ 23 * 2 ^ 32) + (field_0 e + e / 2 ^ (11 * (3 - at % 4)) / 2 ^ 32 % 2 ^ 11) ≡ ones_before b (512 * at) =
+    omega (
+      arith,
+      tables_sum words upper lower t (512 * at) (omega (arith, begun)) (ones_before b (512 * at / 2 ^ 32 * 2 ^ 32)) e refl
+          (e_is ∙ ap (λ (n : ℕ). slice_index lower n) entry_at),
+      ap (ones_before b) part_at,
+      ap (ones_before b) record_at,
+      ap (λ (n : ℕ). e / 2 ^ (11 * (3 - n % 4)) / 2 ^ 32 % 2 ^ 11) place,
+    ) in
+    (sum, omega (arith, sum, ones_before-between b (at / 2 ^ 23 * 2 ^ 32) (512 * at) (omega arith)))
 
 -- as many records as the words begin
 pub records_of : (n : ℕ) → div_ceil n 8 ≡ div_ceil (64 * n) 512
@@ -67,22 +119,22 @@ pair_more words at w inside fits is =
     ))
     (cases_lt (at % 2) 1)
 
--- two entries, a field and two words count the ones to a bit
-pub quarters_sum : (words upper lower quarters : List ℕ) (t : AreTablesOf (bits_of words) upper lower) (h : AreQuartersOf (bits_of words) quarters)
-    (i : ℕ) → i < length (bits_of words) → (u e c w v : ℕ) → w < 2 ^ 64 → u ≡ ones_before (bits_of words) (i / 2 ^ 32 * 2 ^ 32) → e ≡ slice_index lower (i / 2048)
-    → c ≡ slice_index quarters (i / 512) → w ≡ slice_index words (i / 64 - i / 64 % 2) → v ≡ slice_index words (i / 64)
-    → u + (field_0 e + e / 2 ^ (11 * (3 - i / 512 % 4)) / 2 ^ 32 % 2 ^ 11 + quarter_field c (i / 64 / 2 % 4) + count_ones w * (i / 64 % 2) + count_ones (v % 2 ^ (i % 64 + 1)))
+-- an upper entry, a number and two words count the ones to a bit
+pub quarters_sum : (words quarters : List ℕ) (h : AreQuartersOf (bits_of words) quarters) (i : ℕ) → i < length (bits_of words)
+    → (u e w v : ℕ) → w < 2 ^ 64 → u ≡ ones_before (bits_of words) (i / 2 ^ 32 * 2 ^ 32) → e ≡ slice_index quarters (i / 512)
+    → w ≡ slice_index words (i / 64 - i / 64 % 2) → v ≡ slice_index words (i / 64)
+    → u + (record_count e + quarter_count e (i / 64 / 2 % 4) + count_ones w * (i / 64 % 2) + count_ones (v % 2 ^ (i % 64 + 1)))
     ≡ ones_before (bits_of words) (i + 1)
-quarters_sum words upper lower quarters t h i inside u e c w v fits u_is e_is c_is w_is v_is =
+quarters_sum words quarters h i inside u e w v fits u_is e_is w_is v_is =
     let b = bits_of words in
     let in_words : i / 64 < length words = omega (arith, inside, length-bits_of words) in
-    let record_at : 64 * (i / 512 * 8) ≡ 512 * (i / 512) = omega arith in
+    let part_at : i / 512 / 2 ^ 23 * 2 ^ 32 ≡ i / 2 ^ 32 * 2 ^ 32 = omega arith in
     let quarter_at : 512 * (i / 512) + 128 * (i / 64 / 2 % 4) ≡ 64 * (i / 64 - i / 64 % 2) = omega arith in
     omega (
       arith,
-      tables_sum words upper lower t i in_words u e u_is e_is,
-      ap (ones_before b) record_at,
-      ap (λ (n : ℕ). quarter_field n (i / 64 / 2 % 4)) c_is,
+      u_is,
+      ap (ones_before b) part_at,
+      ap (λ (n : ℕ). record_count n + quarter_count n (i / 64 / 2 % 4)) e_is,
       h.counts (i / 512) (i / 64 / 2 % 4) (omega arith) (omega (arith, inside)),
       ap (ones_before b) quarter_at,
       pair_more words (i / 64) w in_words fits w_is,
