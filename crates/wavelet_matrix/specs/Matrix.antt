@@ -4,6 +4,7 @@ use Rattle.std.specs.Int.{div_ceil}
 use Rattle.std.specs.List.{range_with_len}
 use Rattle.bitm.specs.Bits.{item}
 use Rattle.bitm.specs.Count.{ones_before, zeros_before, zeros_of, count_of, Picks}
+use Rattle.bitm.specs.Quarters.{AreQuartersOf}
 use Rattle.bitm.specs.Reads.{OnlyReads}
 use Rattle.bitm.specs.Tables.{IsIndexed, Lists, bits_in}
 use Rattle.bitm.specs.ReadCounts.{ReadCounts}
@@ -19,7 +20,7 @@ pub record Numbers (S S0 : Type 0) : Type 0 where
 
 -- what the levels are seen as: `len` numbers of `width` digits; for each level how many ones stand before it among the
 -- bits of all levels, and how many of its items have the digit 0; and for each number of `known` digits, where those
--- that begin with it start after so many levels
+-- that begin with it start after so many levels; and for each record of these bits the ones before it and its quarters
 pub record LevelTables : Type 0 where
   pub len : ℕ
   pub width : ℕ
@@ -27,6 +28,7 @@ pub record LevelTables : Type 0 where
   pub zeros : List ℕ
   pub known : ℕ
   pub starts : List ℕ
+  pub quarters : List ℕ
 
 -- where the item at place p of a level with these digits stands at the next
 abbrev pub next_place : List Bool → ℕ → ℕ
@@ -65,6 +67,7 @@ pub record IsMatrixOf (xs : List ℕ) (l : LevelTables) (b : List Bool) : Type 0
   pub starts_len : length l.starts ≡ 2 ^ l.known
   pub starts_are : (x : ℕ) → x < 2 ^ l.width
       → slice_index l.starts (x / 2 ^ (l.width - l.known)) ≡ level_place xs l.width x l.known 0
+  pub quarters_are : AreQuartersOf b l.quarters
 
 -- the bit v of rank r is that of an item of level d: x, with k equal to it before on that level
 pub record IsBitOf (xs : List ℕ) (l : LevelTables) (b : List Bool) (d x k : ℕ) (v : Bool) (r : ℕ) : Type 0 where
@@ -85,9 +88,9 @@ pub record IsMatrix (l : LevelTables) (lists : Lists) : Type 0 where
 abbrev pub level_in : LevelTables → Lists → ℕ → List ℕ
 level_in l lists d = level (numbers_in l lists) l.width d
 
--- a call only read, what at most k ranks read: k entries of each table and 8 k words
+-- a call only read, what at most k ranks read: k upper entries and 2 k words
 abbrev pub OnlyRanks : {S : Type 0} → (S → Lists) → (S → ReadCounts) → S → S → ℕ → Type 0
-OnlyRanks lists_of reads_of old new k = OnlyReads lists_of reads_of old new k k (8 * k)
+OnlyRanks lists_of reads_of old new k = OnlyReads lists_of reads_of old new k 0 (2 * k)
 
 -- as many words as n numbers of w digits take
 abbrev pub words_of : ℕ → ℕ → ℕ

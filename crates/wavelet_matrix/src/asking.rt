@@ -14,7 +14,7 @@ impl Levels {
     /// # Conditions
     /// The levels are those of the source, and there is such a number.
     /// # Cost
-    /// For each digit what a rank reads: one entry of each table, and at most eight words.
+    /// For each digit what a rank reads: at most one upper entry, no lower one and two words.
     #[inline(always)]
     pub fn get_on<T: TableSource>(&self, source: &mut T, i: usize) -> u64
         requires matrix { IsMatrix self.now (T.lists source.old) }

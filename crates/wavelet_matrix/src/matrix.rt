@@ -12,7 +12,7 @@ use crate::walk::Levels;
 use crate::writing::make_levels;
 use bitm::{
     BinaryRankSearch, GetSize, Probe, RankSelect101111, Select, Select0, Select0ForRank101111,
-    SelectForRank101111,
+    SelectForRank101111, make_quarters,
 };
 use std::alloc::{AllocError, Global};
 use std::boxed::BoxedSlice;
@@ -25,7 +25,7 @@ use std::marker::Model;
 /// index: `n` numbers of `w` digits take `n * w` bits and the index, and sixteen bytes for each level. A table has for
 /// each number of some of the highest digits the place where the numbers that begin with it start after so many levels,
 /// so that a rank walks through these levels once and not twice. It has as many digits as leave its words no more than
-/// a 64th of these bits.
+/// a 64th of these bits. A rank on a level goes by quarters (`bitm::rank_by_quarters_on`), which take an eighth.
 ///
 /// For 3, 1, 4, 1, 5, 1 of three digits:
 ///
@@ -86,7 +86,8 @@ impl<S: SelectForRank101111, S0: Select0ForRank101111> WaveletMatrix<S, S0> {
         let Ok((index, _ones)) = RankSelect101111::build(alloc, content) else {
             return Err(AllocError);
         };
-        let mut levels = Levels::new(alloc, &index, numbers.len(), width)?;
+        let quarters = make_quarters(alloc, &mut index.probe())?;
+        let mut levels = Levels::new(alloc, &index, numbers.len(), width, quarters)?;
         let known = known_for(numbers.len(), width);
         levels.keep_starts(alloc, &mut index.probe(), known)?;
         Ok(WaveletMatrix { levels, index })
@@ -284,15 +285,16 @@ impl<S: SelectForRank101111, S0: Select0ForRank101111> WaveletMatrix<S, S0> {
 
 impl<S: SelectForRank101111 + GetSize, S0: Select0ForRank101111 + GetSize> GetSize
     for WaveletMatrix<S, S0> {
-    // the words, eight bytes for each begun 2^26 and each begun 32 of them, the two strategies, sixteen bytes for each
-    // level, and eight for each number of the known digits
+    // the words, eight bytes for each begun 2^26, each begun 32 and each begun eight of them, the two strategies,
+    // sixteen bytes for each level, and eight for each number of the known digits
     ghost dyn_bytes = { λ m. let n = length m.items in let words = words_of n m.width in saturated_size
-        (8 * words + 8 * div_ceil words (2 ^ 26) + 8 * div_ceil words 32
+        (8 * words + 8 * div_ceil words (2 ^ 26) + 8 * div_ceil words 32 + 8 * div_ceil words 8
         + S.dyn_bytes m.select + S0.dyn_bytes m.select0
         + 16 * m.width + 8 * 2 ^ known_of n m.width) };
 
     const USES_DYN_MEM: bool = true;
 
+    #[tactic(auto, using(crate::proofs::lemmas::MatrixLemmas::quarters_of_words))]
     fn size_bytes_dyn(&self) -> usize {
         self.index
             .size_bytes_dyn()

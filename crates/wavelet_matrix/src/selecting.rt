@@ -52,8 +52,8 @@ impl Levels {
         ensures reads { let digits = digit_count (length (T.lists source.old).upper) in
             let ranks = self.now.width - self.now.known in
             OnlyReads T.lists T.reads source.old source.new
-            (ranks + self.now.width * (digits + 1)) (ranks + self.now.width * 23)
-            (8 * ranks + self.now.width * 8) }
+            (ranks + self.now.width * (digits + 1)) (self.now.width * 23)
+            (2 * ranks + self.now.width * 8) }
     {
         let width = self.width();
         let mut at = self.start_on(source, number) + k;

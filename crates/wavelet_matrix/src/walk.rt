@@ -1,5 +1,6 @@
 //! The levels of a matrix among the bits of a source, and the step from one level to the next.
 ghost use Rattle.std.specs.Prelude.{◌≡◌, ◌+◌, ◌*◌, ◌-◌, ◌<◌, ◌≤◌, ◌^◌, ℕ, true, length, ◌∷◌, [], take, count_by, slice_index, IfOk};
+ghost use Rattle.std.specs.Box.{boxed_slice_items};
 ghost use Rattle.bitm.specs.Bits.{digit};
 ghost use Rattle.bitm.specs.Count.{ones_before, zeros_before};
 ghost use Rattle.bitm.specs.Size.{saturated_size};
@@ -9,14 +10,15 @@ ghost use Rattle.wavelet_matrix.specs.Matrix.{IsBitOf, IsMatrix, IsMatrixOf, Onl
 ghost use Rattle.wavelet_matrix.specs.Numbers.{PicksItem};
 
 use crate::digits::{digit_of, without_lowest};
-use bitm::{Access, GetSize, TableSource, bit_and_rank_on, rank_on};
+use bitm::{Access, GetSize, TableSource, bit_and_rank_by_quarters_on, rank_by_quarters_on};
 use std::alloc::{AllocError, Global};
 use std::boxed::BoxedSlice;
 use std::marker::Model;
 
 /// Where the levels of a matrix are among the bits of a source: how many numbers there are, of how many digits, and for
 /// each level how many ones stand before it, and how many of its items have the digit 0. A table says for each number of
-/// some of the highest digits, the known ones, where the numbers that begin with it start after so many levels.
+/// some of the highest digits, the known ones, where the numbers that begin with it start after so many levels. The
+/// quarters of the bits spare a rank the lower table and six words.
 #[derive(Drop)]
 pub struct Levels {
     len: usize,
@@ -25,6 +27,7 @@ pub struct Levels {
     zeros: BoxedSlice<usize, Global>,
     known: u8,
     starts: BoxedSlice<usize, Global>,
+    quarters: BoxedSlice<u64, Global>,
 }
 
 impl Model for Levels {
@@ -40,12 +43,13 @@ impl Model for Levels {
       zeros = boxed_slice_items l.zeros;
       known = l.known;
       starts = boxed_slice_items l.starts;
+      quarters = boxed_slice_items l.quarters;
     } };
 }
 
 impl Levels {
-    /// The levels of `len` numbers of `width` digits, whose bits the index has from its first one on. No digits are
-    /// known from the table of starts, which says that all numbers start at place 0.
+    /// The levels of `len` numbers of `width` digits, whose bits the index has from its first one on, with these
+    /// quarters. No digits are known from the table of starts, which says that all numbers start at place 0.
     ///
     /// # Errors
     /// `AllocError` if memory was refused; nothing is left.
@@ -56,6 +60,7 @@ impl Levels {
         index: &I,
         len: usize,
         width: u8,
+        quarters: BoxedSlice<u64, Global>,
     ) -> Result<Levels, AllocError>
         requires short { width * len < 2 ^ 63 }
         requires room { width * len ≤ length (I.bits index.now) }
@@ -65,6 +70,7 @@ impl Levels {
         ensures zeros_len { IfOk result (λ made. length made.zeros ≡ width) }
         ensures known { IfOk result (λ made. made.known ≡ 0) }
         ensures starts { IfOk result (λ made. made.starts ≡ 0 ∷ []) }
+        ensures quarters { IfOk result (λ made. made.quarters ≡ boxed_slice_items quarters) }
         ensures ones { IfOk result (λ made. (d : ℕ) → d < width
             → slice_index made.ones d ≡ ones_before (I.bits index.now) (d * len)) }
         ensures zeros { IfOk result (λ made. (d : ℕ) → d < width
@@ -88,6 +94,7 @@ impl Levels {
             zeros: zeros.into_boxed_slice(),
             known: 0,
             starts: starts.into_boxed_slice(),
+            quarters,
         })
     }
 
@@ -135,6 +142,7 @@ impl Levels {
         let ones = Vec::from_slice(alloc, self.ones.as_slice())?;
         let zeros = Vec::from_slice(alloc, self.zeros.as_slice())?;
         let starts = Vec::from_slice(alloc, self.starts.as_slice())?;
+        let quarters = Vec::from_slice(alloc, self.quarters.as_slice())?;
         Ok(Levels {
             len: self.len,
             width: self.width,
@@ -142,6 +150,7 @@ impl Levels {
             zeros: zeros.into_boxed_slice(),
             known: self.known,
             starts: starts.into_boxed_slice(),
+            quarters: quarters.into_boxed_slice(),
         })
     }
 
@@ -210,6 +219,19 @@ impl Levels {
         self.zeros[depth as usize]
     }
 
+    /// How many ones stand among the bits of all levels before a place of a level.
+    #[inline(always)]
+    fn ones_before_on<T: TableSource>(&self, source: &mut T, depth: u8, place: usize) -> usize
+        requires matrix { IsMatrix self.now (T.lists source.old) }
+        requires depth { depth < self.now.width }
+        requires inside { place ≤ self.now.len }
+        ensures ones { result ≡ ones_before (bits_in (T.lists source.old)) (depth * self.now.len + place) }
+        ensures reads { OnlyRanks T.lists T.reads source.old source.new 1 }
+    {
+        let start = depth as usize * self.len();
+        rank_by_quarters_on(source, self.quarters.as_slice(), start + place)
+    }
+
     /// How many of the first items of a level have the digit 1.
     #[inline(always)]
     pub(crate) fn ones_to_on<T: TableSource>(
@@ -225,10 +247,37 @@ impl Levels {
             (take place (level_in self.now (T.lists source.old) depth)) }
         ensures reads { OnlyRanks T.lists T.reads source.old source.new 1 }
     {
-        match rank_on(source, depth as usize * self.len() + place) {
-            Some(ones) => ones - self.ones_before_level(depth),
-            None => unreachable!(),
-        }
+        let ones = self.ones_before_on(source, depth, place);
+        ones - self.ones_before_level(depth)
+    }
+
+    /// Where an item with this digit at a place of a level stands at the next level, where so many ones stand among the
+    /// bits of all levels before it.
+    #[inline(always)]
+    fn place_by_rank<T: TableSource>(
+        &self,
+        source: &T,
+        depth: u8,
+        digit: bool,
+        place: usize,
+        rank: usize,
+    ) -> usize
+        requires matrix { IsMatrix self.now (T.lists source.now) }
+        requires depth { depth < self.now.width }
+        requires inside { place ≤ self.now.len }
+        requires rank { rank ≡ ones_before (bits_in (T.lists source.now)) (depth * self.now.len + place) }
+        ensures { result ≡ partition_place (digit_place self.now depth) digit
+            (level_in self.now (T.lists source.now) depth) place }
+    {
+        let _source = source;
+        // All that does not wait for the rank comes first, and both places before the choice: a processor cannot guess
+        // a digit, and chooses between two numbers without a branch.
+        let before = self.ones_before_level(depth);
+        let to_ones = self.zeros_of_level(depth).wrapping_sub(before);
+        let to_zeros = place + before;
+        let among_ones = to_ones.wrapping_add(rank);
+        let among_zeros = to_zeros - rank;
+        if digit { among_ones } else { among_zeros }
     }
 
     /// Where an item with this digit at a place of a level stands at the next level, where so many before it have the
@@ -250,11 +299,8 @@ impl Levels {
         ensures { result ≡ partition_place (digit_place self.now depth) digit
             (level_in self.now (T.lists source.now) depth) place }
     {
-        let _source = source;
-        // Both before the choice: a processor cannot guess a digit, and chooses between two numbers without a branch.
-        let among_ones = self.zeros_of_level(depth) + ones;
-        let among_zeros = place - ones;
-        if digit { among_ones } else { among_zeros }
+        let rank = self.ones_before_level(depth) + ones;
+        self.place_by_rank(source, depth, digit, place, rank)
     }
 
     /// Where an item with this digit at a place of a level stands at the next level.
@@ -273,8 +319,8 @@ impl Levels {
             (level_in self.now (T.lists source.old) depth) place }
         ensures reads { OnlyRanks T.lists T.reads source.old source.new 1 }
     {
-        let ones = self.ones_to_on(source, depth, place);
-        self.place_after(source, depth, digit, place, ones)
+        let rank = self.ones_before_on(source, depth, place);
+        self.place_by_rank(source, depth, digit, place, rank)
     }
 
     /// The digit by which the item at a place of a level is partitioned, and where it stands at the next level.
@@ -295,13 +341,13 @@ impl Levels {
             (level_in self.now (T.lists source.old) depth) place }
         ensures reads { OnlyRanks T.lists T.reads source.old source.new 1 }
     {
-        match bit_and_rank_on(source, depth as usize * self.len() + place) {
-            Some((digit, rank)) => {
-                let ones = rank - self.ones_before_level(depth);
-                (digit, self.place_after(source, depth, digit, place, ones))
-            }
-            None => unreachable!(),
-        }
+        let start = depth as usize * self.len();
+        let (digit, rank) = bit_and_rank_by_quarters_on(
+            source,
+            self.quarters.as_slice(),
+            start + place,
+        );
+        (digit, self.place_by_rank(source, depth, digit, place, rank))
     }
 
     /// Which bit of the source is that of the item that stands, with `k` equal to `number` before it, at a place of the
@@ -336,7 +382,8 @@ impl Levels {
 
 impl GetSize for Levels {
     // eight bytes for each number of each table
-    ghost dyn_bytes = { λ l. saturated_size (8 * (length l.ones + length l.zeros + length l.starts)) };
+    ghost dyn_bytes = { λ l. saturated_size
+        (8 * (length l.ones + length l.zeros + length l.starts + length l.quarters)) };
 
     const USES_DYN_MEM: bool = true;
 
@@ -345,5 +392,6 @@ impl GetSize for Levels {
             .size_bytes_dyn()
             .saturating_add(self.zeros.size_bytes_dyn())
             .saturating_add(self.starts.size_bytes_dyn())
+            .saturating_add(self.quarters.size_bytes_dyn())
     }
 }

@@ -8,7 +8,7 @@ use Rattle.wavelet_matrix.specs.Levels.{has_digit, partition, partition_place, l
 use Rattle.wavelet_matrix.specs.Matrix.{LevelTables, IsMatrixOf, IsBitOf, digit_place}
 use Rattle.wavelet_matrix.specs.Numbers.{PicksItem}
 use Rattle.wavelet_matrix.proofs.lemmas.ColumnLemmas.{length-level}
-use Rattle.wavelet_matrix.proofs.lemmas.MatrixLemmas.{place-inside, digit-is, count-level, count-whole, start-fits}
+use Rattle.wavelet_matrix.proofs.lemmas.MatrixLemmas.{ones-to-start, place-inside, digit-is, count-level, count-whole, start-fits}
 use Rattle.wavelet_matrix.proofs.lemmas.PartLemmas.{both-digits, PicksItem-back, among-zeros, after-zeros, length-partition, moved-one}
 
 -- the next level is this one partitioned
@@ -84,7 +84,7 @@ module _ (xs : List ℕ) (l : LevelTables) (b : List Bool) (h : IsMatrixOf xs l 
   both = ones_and_zeros b (d * l.len) (omega (arith, place-inside xs l b h d 0 less (omega arith)))
 
   pub ones-le-start : get_or l.ones d 0 ≤ d * l.len
-  ones-le-start = omega (arith, both, ones-here)
+  ones-le-start = ones-to-start xs l b h d less
 
   pub zeros-le-place : digit x (digit_place l d) ≡ true → get_or l.zeros d 0 ≤ p
   zeros-le-place one =

@@ -6,10 +6,12 @@ use Rattle.std.proofs.lemmas.Grind.{same_number_lists}
 use Rattle.std.proofs.lemmas.List.{take_all}
 use Rattle.std.proofs.lemmas.List.FromFn.{length-map-range_with_len, get_or-map-range_with_len}
 use Rattle.std.proofs.lemmas.Nat.{mod-pow-add}
+use Rattle.std.specs.Int.{div_ceil}
 use Rattle.bitm.specs.Bits.{bits_of, digit, item}
+use Rattle.bitm.specs.Quarters.{AreQuartersOf}
 use Rattle.bitm.specs.Tables.{IsIndexed, Lists, bits_in}
 use Rattle.bitm.specs.Count.{count_before, ones_before, zeros_before}
-use Rattle.bitm.proofs.BitLaws.{count_in_stretch, item_of_stretch}
+use Rattle.bitm.proofs.BitLaws.{bits_are_counted, count_in_stretch, item_of_stretch, ones_and_zeros}
 use Rattle.wavelet_matrix.specs.Levels.{has_digit, partition, column, columns, level, known_of, level_place, partition_place}
 use Rattle.wavelet_matrix.specs.Matrix.{LevelTables, IsMatrix, IsMatrixOf, IsTight, words_of, digit_place, items_of, low_part, next_place, numbers_in}
 use Rattle.wavelet_matrix.proofs.lemmas.ColumnLemmas.{column-at, length-level, length-column, count-column, item-column}
@@ -134,6 +136,11 @@ module _ (xs : List ℕ) (l : LevelTables) (b : List Bool) (h : IsMatrixOf xs l 
   pub digit-is : (d p : ℕ) → d < l.width → p < l.len → item b (d * l.len + p) ≡ digit (get_or (level xs l.width d) p 0) (digit_place l d)
   digit-is = digit-level xs l.width l.len b h.count h.room h.levels
 
+  -- no more ones stand before a level than bits
+  pub ones-to-start : (d : ℕ) → d < l.width → get_or l.ones d 0 ≤ d * l.len
+  ones-to-start d less =
+      omega (arith, h.ones_are d less, ones_and_zeros b (d * l.len) (omega (arith, place-inside d 0 less (omega arith))))
+
   -- the ones among the first items of a level
   pub ones-are : (d p : ℕ) → d < l.width → p ≤ l.len
       → ones_before b (d * l.len + p) ≡ get_or l.ones d 0 + count_by (has_digit (digit_place l d) true) (take p (level xs l.width d))
@@ -144,12 +151,12 @@ module _ (xs : List ℕ) (l : LevelTables) (b : List Bool) (h : IsMatrixOf xs l 
 -- the tables of what was written are those of the levels
 pub made-matrix : (xs : List ℕ) (l : LevelTables) (b : List Bool) (w : ℕ) → l.len ≡ length xs → l.width ≡ w → 1 ≤ w → w ≤ 64 → w * length xs < 2 ^ 63
     → All (λ x. x < 2 ^ w) xs → w * length xs ≤ length b → take (w * length xs) b ≡ columns xs w w → length l.ones ≡ w → length l.zeros ≡ w
-    → l.known ≡ 0 → l.starts ≡ 0 ∷ []
+    → l.known ≡ 0 → l.starts ≡ 0 ∷ [] → AreQuartersOf b l.quarters
     → ((d : ℕ) → d < w → get_or l.ones d 0 ≡ ones_before b (d * length xs))
     → ((d : ℕ) → d < w → zeros_before b (d * length xs) + get_or l.zeros d 0 ≡ zeros_before b (d * length xs + length xs))
     → IsMatrixOf xs l b
-made-matrix xs l b w len width some most short fit room levels ones_len zeros_len known starts ones zeros =
-    let Goal : ℕ → ℕ → ℕ → List ℕ → Type 0 = λ n v k s. IsMatrixOf xs (record { len = n; width = v; ones = l.ones; zeros = l.zeros; known = k; starts = s }) b in
+made-matrix xs l b w len width some most short fit room levels ones_len zeros_len known starts quarters ones zeros =
+    let Goal : ℕ → ℕ → ℕ → List ℕ → Type 0 = λ n v k s. IsMatrixOf xs (record { len = n; width = v; ones = l.ones; zeros = l.zeros; known = k; starts = s; quarters = l.quarters }) b in
     let P : ℕ → Type 0 = λ n. Goal n l.width l.known l.starts in
     let Q : ℕ → Type 0 = λ v. Goal (length xs) v l.known l.starts in
     let R : ℕ → Type 0 = λ k. Goal (length xs) w k l.starts in
@@ -169,6 +176,7 @@ made-matrix xs l b w len width some most short fit room levels ones_len zeros_le
       known_most = omega arith;
       starts_len = refl;
       starts_are = starts-of-none xs w;
+      quarters_are = quarters;
     }))))
 
 -- and so they are with starts
@@ -191,7 +199,16 @@ matrix-with-starts xs l b known starts h most len each = record {
   known_most = most;
   starts_len = len;
   starts_are = starts-from-begins xs l.width known starts most each;
+  quarters_are = h.quarters_are;
 }
+
+-- there are as many numbers of quarters as records
+pub quarters_of_words : (ws quarters : List ℕ) → AreQuartersOf (bits_of ws) quarters → length quarters ≡ div_ceil (length ws) 8
+quarters_of_words ws quarters h =
+    omega (arith, h.len, records (length ws), ap (λ (n : ℕ). div_ceil n 512) (bits_are_counted ws))
+  where
+    records : (n : ℕ) → div_ceil (64 * n) 512 ≡ div_ceil n 8
+    records n = grind arith
 
 -- over a source whose words hold the levels
 pub is-matrix : (xs : List ℕ) (l : LevelTables) (lists : Lists) (ws : List ℕ) → IsIndexed lists → lists.words ≡ ws → IsMatrixOf xs l (bits_of ws) → IsMatrix l lists

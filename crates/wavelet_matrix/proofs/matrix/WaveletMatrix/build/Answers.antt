@@ -1,7 +1,8 @@
 -- What was written is the levels of the numbers.
-use Rattle.std.proofs.Common.{ℕ, ◌*◌, List, length, take, ap, ◌∙◌, arith}
+use Rattle.std.proofs.Common.{ℕ, ◌*◌, List, length, take, ap, ◌∙◌, arith, subst, sym}
 use Rattle.std.specs.Box.{boxed_slice_items}
 use Rattle.bitm.specs.Bits.{bits_of}
+use Rattle.bitm.specs.Quarters.{AreQuartersOf}
 use Rattle.bitm.proofs.BitLaws.{bits_are_counted}
 use Rattle.wavelet_matrix.specs.Matrix.{IsMatrixOf}
 use Rattle.wavelet_matrix.proofs.lemmas.MakeLemmas.{words-enough}
@@ -18,6 +19,13 @@ new-requires-clause-room g c =
       words-enough _ _ c.in_ok-content.ensures.words,
     )
 
+-- the quarters of the words that the index keeps
+quarters : (g : _) (c : In_ok-levels g) → AreQuartersOf (bits_of (boxed_slice_items c.in-Ok.index.content)) c.in_ok-levels.levels.quarters
+quarters g c =
+    let P : List ℕ → Type 0 = λ ws. AreQuartersOf (bits_of ws) (boxed_slice_items c.in_ok-quarters.quarters) in
+    subst (λ (qs : List ℕ). AreQuartersOf (bits_of (boxed_slice_items c.in-Ok.index.content)) qs) (sym c.in_ok-levels.ensures.quarters)
+    (subst P c.probe.ensures.words c.in_ok-quarters.ensures.quarters)
+
 made : (g : _) (c : In_ok-levels g) → IsMatrixOf c.args.numbers.now c.in_ok-levels.levels (bits_of (boxed_slice_items c.in-Ok.index.content))
 made g c =
     let made = c.in_ok-levels.ensures in
@@ -30,12 +38,12 @@ made g c =
     ))
     (ap (λ (ws : List ℕ). take (c.args.width * length c.args.numbers.now) (bits_of ws)) (ap boxed_slice_items c.in-Ok.ensures.kept)
     ∙ c.in_ok-content.ensures.levels)
-    made.ones_len made.zeros_len made.known made.starts made.ones made.zeros
+    made.ones_len made.zeros_len made.known made.starts (quarters g c) made.ones made.zeros
 
 pub keep_starts-requires : goal.keep_starts-requires
 keep_starts-requires g c =
     record {
-      matrix = is-matrix c.args.numbers.now c.in_ok-levels.levels c.probe.result.lists _ c.probe.ensures.indexed c.probe.ensures.words
+      matrix = is-matrix c.args.numbers.now c.in_ok-levels.levels c.probe-2.result.lists _ c.probe-2.ensures.indexed c.probe-2.ensures.words
           (made g (goal.at.keep_starts-requires g c).In_ok-levels);
       most = omega (arith, c.known_for-known.ensures.most, c.in_ok-levels.ensures.width);
       few = c.known_for-known.ensures.few;
@@ -44,7 +52,7 @@ keep_starts-requires g c =
 kept : (g : _) (c : In_ok-keep_starts g) (h : IsMatrixOf c.args.numbers.now c.in_ok-levels.levels (bits_of (boxed_slice_items c.in-Ok.index.content)))
     → IsMatrixOf c.args.numbers.now c.keep_starts.new.self (bits_of (boxed_slice_items c.in-Ok.index.content))
 kept g c h =
-    matrix-from c.args.numbers.now c.in_ok-levels.levels c.keep_starts.new.self c.probe.result.lists _ c.probe.ensures.words h
+    matrix-from c.args.numbers.now c.in_ok-levels.levels c.keep_starts.new.self c.probe-2.result.lists _ c.probe-2.ensures.words h
     c.in_ok-keep_starts.ensures.matrix
 
 pub invariant_of-result : goal.invariant_of-result

@@ -1,6 +1,5 @@
 -- The ones up to the place, less those before the level.
-use Rattle.std.proofs.Common.{◌≡◌, ℕ, ◌+◌, ◌*◌, count_by, take, true, ap, arith}
-use Rattle.bitm.specs.Count.{ones_before}
+use Rattle.std.proofs.Common.{◌≡◌, ◌+◌, count_by, take, true, arith}
 use Rattle.bitm.specs.Tables.{bits_in}
 use Rattle.wavelet_matrix.specs.Levels.{has_digit}
 use Rattle.wavelet_matrix.specs.Matrix.{digit_place, level_in, numbers_in}
@@ -9,15 +8,14 @@ use Rattle.wavelet_matrix.proofs.walk.Levels.ones_to_on.Goals as goal
 use Rattle.wavelet_matrix.proofs.walk.Levels.ones_to_on.Goals.{After-ones_before_level}
 
 sum : (g : _) (c : After-ones_before_level g)
-    → c.in-Some.ones ≡ c.ones_before_level.result + count_by (has_digit (digit_place c.args.self.now c.args.depth) true)
+    → c.ones_before_on-ones.result ≡ c.ones_before_level.result + count_by (has_digit (digit_place c.args.self.now c.args.depth) true)
     (take c.args.place (level_in c.args.self.now (g.T.TableSource.lists c.args.source.now) c.args.depth))
 sum g c =
     let l = c.args.self.now in
     let lists = g.T.TableSource.lists c.args.source.now in
     omega (
       arith,
-      c.in-Some.ensures.answer.1,
-      ap (λ (n : ℕ). ones_before (bits_in lists) (c.args.depth * n + c.args.place)) c.len.ensures,
+      c.ones_before_on-ones.ensures.ones,
       c.ones_before_level.ensures,
       ones-are (numbers_in l lists) l (bits_in lists) c.requires.matrix.numbers c.args.depth c.args.place c.requires.depth c.requires.inside,
     )

@@ -68,5 +68,5 @@ returns-clause-reads g c =
     let r = c.loop-up.invariant.reads in
     let all : c.loop-up.up ≡ l.width = omega (arith, c.loop-up-test.false, c.loop-up.auto.up-end, c.width-width.ensures) in
     let P : ℕ → Type 0 = λ n. OnlyReads T.lists T.reads c.args.source.now c.loop-up.source
-    (l.width - l.known + n * (digit_count (length (T.lists c.args.source.now).upper) + 1)) (l.width - l.known + n * 23) (8 * (l.width - l.known) + n * 8) in
+    (l.width - l.known + n * (digit_count (length (T.lists c.args.source.now).upper) + 1)) (n * 23) (2 * (l.width - l.known) + n * 8) in
     subst P all r
