@@ -1,3 +1,4 @@
+pub mod AheadLemmas
 pub mod BucketLemmas
 pub mod CursorLemmas
 pub mod FragmentLemmas

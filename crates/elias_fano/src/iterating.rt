@@ -6,9 +6,10 @@ ghost use Rattle.bitm.specs.Bits.{bits_of};
 ghost use Rattle.bitm.specs.Count.{ones_before};
 ghost use Rattle.elias_fano.specs.Parts.{ArePartsOf};
 
+use crate::ahead::{Ahead, look_ahead, numbers_at_once};
 use crate::low::LowDigits;
 use crate::searching::item_at_one;
-use bitm::{BitOnesIterator, words};
+use bitm::{BitOnesIterator, n_lowest_bits, words};
 use std::iter::{DoubleEndedIterator, ExactSizeIterator, FusedIterator, Iterator};
 use std::marker::Model;
 
@@ -27,10 +28,15 @@ pub struct Numbers<'a> {
     ones: BitOnesIterator<'a>,
     // The bit of the upper words before which the ones of the numbers that are left stand.
     limit: usize,
+    // Of how many numbers the low digits are read at once; 0 where each number's are read alone.
+    at_once: usize,
+    // Low digits of numbers from `start` on, where they are read at once.
+    ahead: Ahead,
 }
 
 impl<'a> Model for Numbers<'a> {
     ghost use Rattle.std.specs.Prelude.{List, ℕ};
+    ghost use Rattle.elias_fano.specs.Ahead.{ReadsAhead};
     ghost use Rattle.elias_fano.specs.Numbers.{IsCursor, items_left};
     ghost use Rattle.elias_fano.specs.Parts.{items_of};
 
@@ -40,7 +46,8 @@ impl<'a> Model for Numbers<'a> {
 
     ghost invariant = { λ it. let low = it.low.now in let upper = it.upper.now in
         IsCursor (items_of it.len it.width low upper) it.len it.width low upper
-        it.start it.end it.limit it.ones };
+        it.start it.end it.limit it.ones
+        × ReadsAhead low it.width it.at_once it.start it.end it.ahead.until it.ahead.digits };
 }
 
 impl<'a> Numbers<'a> {
@@ -69,7 +76,27 @@ impl<'a> Numbers<'a> {
             end: len,
             ones: BitOnesIterator::from_place(upper, first),
             limit: upper.len() * 64,
+            at_once: numbers_at_once(width),
+            ahead: Ahead::nothing(start),
         }
+    }
+
+    // The first number that is left, whose low digits are read alone.
+    #[inline]
+    fn next_alone(&mut self) -> Option<u64>
+        ensures { YieldsFirst (λ left. left) self.old result self.new }
+    {
+        if self.start >= self.end {
+            return None;
+        }
+        let at = self.start;
+        let place = match self.ones.next() {
+            Some(place) => place,
+            None => unreachable!(),
+        };
+        self.start = at + 1;
+        self.ahead = Ahead::nothing(at + 1);
+        Some(item_at_one(place, &mut LowDigits::new(self.low, self.width), at))
     }
 }
 
@@ -80,18 +107,27 @@ impl<'a> Iterator for Numbers<'a> {
 
     ghost remaining = { item_count (λ left. left) };
 
-    #[inline]
+    // Both ways are inlined, so that a loop tests once which of them it goes.
+    #[inline(always)]
     fn next(&mut self) -> Option<u64> {
-        if self.start >= self.end {
-            return None;
+        if self.at_once == 0 {
+            return self.next_alone();
         }
-        let at = self.start;
+        let (at, width) = (self.start, self.width);
+        let Some(ahead) = look_ahead(self.low, width, self.at_once, at, self.end, self.ahead) else {
+            return None;
+        };
         let place = match self.ones.next() {
             Some(place) => place,
             None => unreachable!(),
         };
+        let lowest = ahead.digits & n_lowest_bits(width);
         self.start = at + 1;
-        Some(item_at_one(place, &mut LowDigits::new(self.low, self.width), at))
+        self.ahead = Ahead {
+            until: ahead.until,
+            digits: ahead.digits >> width,
+        };
+        Some(((place.wrapping_sub(at) as u64) << width).wrapping_add(lowest))
     }
 
     #[inline]
@@ -118,6 +154,7 @@ impl<'a> DoubleEndedIterator for Numbers<'a> {
         let number = item_at_one(place, &mut LowDigits::new(self.low, self.width), at);
         self.end = at;
         self.limit = place;
+        self.ahead.until = self.ahead.until.min(at);
         Some(number)
     }
 }

@@ -1,4 +1,4 @@
-//! The low digits of a sequence's numbers. A fragment is read by a call that counts it, and by no other.
+//! The low digits of a sequence's numbers. A search reads a fragment by a call that counts it, and by no other.
 ghost use Rattle.std.specs.Prelude.{◌≡◌, ◌+◌, ◌<◌, ◌≤◌, ◌^◌};
 ghost use Rattle.bitm.specs.Number.{IsFragmentInRange};
 ghost use Rattle.elias_fano.specs.Low.{fragment, unread};

@@ -1,5 +1,6 @@
 -- The last one before bit limit is that of the last number left.
 use Rattle.std.proofs.Common.{◌-◌, [], ◌∷◌, ◌++◌, sym, ap, ◌∙◌, arith}
+use Rattle.elias_fano.proofs.lemmas.AheadLemmas.{ReadsAhead-fewer}
 use Rattle.elias_fano.proofs.lemmas.CursorLemmas.{some-last, limit-some, last-has, IsCursor-last, items_left-none, items_left-last}
 use Rattle.elias_fano.proofs.lemmas.ItemLemmas.{upper-short, fragment-of, unread-has}
 use Rattle.elias_fano.specs.Numbers.{items_left}
@@ -12,30 +13,34 @@ returns-then-self-clause-steps c =
     (none, none)
 
 pub overflow_sub-self-inside : goal.overflow_sub-self-inside
-overflow_sub-self-inside c = limit-some _ _ _ _ _ _ _ _ _ c.self.invariant c.if-self.false
+overflow_sub-self-inside c = limit-some _ _ _ _ _ _ _ _ _ c.self.invariant.0 c.if-self.false
 
 pub rfind_bit_one_unchecked-place-requires-clause-exists : goal.rfind_bit_one_unchecked-place-requires-clause-exists
 rfind_bit_one_unchecked-place-requires-clause-exists c =
-    some-last _ _ _ _ _ _ _ _ _ c.self.invariant c.if-self.false
+    some-last _ _ _ _ _ _ _ _ _ c.self.invariant.0 c.if-self.false
 
 pub rfind_bit_one_unchecked-place-requires-clause-short : goal.rfind_bit_one_unchecked-place-requires-clause-short
 rfind_bit_one_unchecked-place-requires-clause-short c =
-    upper-short _ _ _ _ _ c.self.invariant.parts
+    upper-short _ _ _ _ _ c.self.invariant.0.parts
 
 pub item_at_one-number-requires : goal.item_at_one-number-requires
 item_at_one-number-requires c =
     fragment-of _ _ _ _ _ _ _ (unread-has _ _ _ _ _ _ _ _ c.new.ensures
-    (last-has _ _ _ _ _ _ _ _ _ c.self.invariant c.if-self.false _ c.rfind_bit_one_unchecked-place.ensures))
+    (last-has _ _ _ _ _ _ _ _ _ c.self.invariant.0 c.if-self.false _ c.rfind_bit_one_unchecked-place.ensures))
 
 pub invariant_of-self : goal.invariant_of-self
 invariant_of-self c =
-    IsCursor-last _ _ _ _ _ _ _ _ _ c.self.invariant c.if-self.false _ c.rfind_bit_one_unchecked-place.ensures
+    let it = c.self.inside in (
+      IsCursor-last _ _ _ _ _ _ _ _ _ c.self.invariant.0 c.if-self.false _ c.rfind_bit_one_unchecked-place.ensures,
+      ReadsAhead-fewer it.low.now it.width it.at_once it.start it.end it.ahead.until it.ahead.digits (it.end - 1) _
+          c.self.invariant.1 (omega arith) c.min-self-inside.ensures,
+    )
 
 pub returns-clause-steps : goal.returns-clause-steps
 returns-clause-steps c =
     let it = c.self.inside in
     let xs = items_of it.len it.width it.low.now it.upper.now in
-    let h = c.self.invariant in
+    let h = c.self.invariant.0 in
     let has = last-has _ _ _ _ _ _ _ _ _ h c.if-self.false _ c.rfind_bit_one_unchecked-place.ensures in
     let number = c.item_at_one-number.ensures.item _ _ _ (unread-has _ _ _ _ _ _ _ _ c.new.ensures has) in
     sym c.self.view_is
