@@ -4,6 +4,7 @@ pub mod CombineLemmas
 pub mod FindBackLemmas
 pub mod FindLemmas
 pub mod InitLemmas
+pub mod JoinLemmas
 pub mod RangeLemmas
 pub mod WriteLemmas
 pub mod ZeroLemmas

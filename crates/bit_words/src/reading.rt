@@ -1,10 +1,14 @@
 //! Reads of bits of words.
-ghost use Rattle.std.specs.Prelude.{◌≡◌, ◌*◌, ◌^◌, ◌<◌, ◌≤◌, ◌↔◌, IsTrue, length, SomeIff};
+ghost use Rattle.std.specs.Prelude.{◌≡◌, ◌+◌, ◌-◌, ◌*◌, ◌/◌, ◌%◌, ◌^◌, ◌<◌, ◌≤◌, ◌↔◌, ℕ, IsTrue, MatchOption, bit_and, length, SomeIff};
 ghost use Rattle.bit_lists.specs.Bits.{bits_of, item};
 ghost use Rattle.bit_lists.specs.Number.{number_at, IsInRange};
 ghost use Rattle.bit_lists.specs.Window.{reach_of};
 
 use crate::masks::{n_lowest_bits, n_lowest_bits_0_64};
+
+/// So many words, 2 MiB, stay near the processor. In larger contents a read waits for its words, and a test whether it
+/// crosses into a second word costs nothing.
+const NEAR_WORDS: usize = 1 << 18;
 
 /// The bit at `place`.
 ///
@@ -51,6 +55,62 @@ pub fn get_bits_unmasked(words: &[u64], begin: usize, len: u8) -> u64
     }
 }
 
+/// The word that has the last of the `len` bits from `begin` on, or that of `begin` where there are none. There is such
+/// a word exactly where they are in range.
+#[inline(always)]
+fn last_word(begin: usize, len: u8) -> usize
+    requires { len ≤ 64 }
+    ensures within { begin % 64 + len ≤ 64 → result ≡ begin / 64 }
+    ensures across { 64 < begin % 64 + len → result ≡ begin / 64 + 1 }
+{
+    begin / 64 + ((begin % 64) as u8 + len > 64) as usize
+}
+
+/// A number whose lowest digits are the bits from `begin` on, those in word `last` too. No test is made whether they
+/// cross into that word: a processor cannot guess it. Where they do not, it may be that of `begin`.
+#[inline(always)]
+fn joined_bits(words: &[u64], begin: usize, last: usize) -> u64
+    requires first { begin / 64 < length words.now }
+    requires last { last < length words.now }
+    ensures { (n : ℕ) → n ≤ 64 → IsInRange words.now begin n → (64 < begin % 64 + n → last ≡ begin / 64 + 1)
+        → bit_and result (2 ^ n - 1) ≡ number_at (bits_of words.now) begin n }
+{
+    let both = (words[begin / 64] as u128) | ((words[last] as u128) << 64);
+    (both >> (begin % 64) & u64::MAX as u128) as u64
+}
+
+/// A number whose lowest digits are the `len` bits from `begin` on.
+#[inline(always)]
+fn wide_bits(words: &[u64], begin: usize, len: u8) -> u64
+    requires in_range { IsInRange words.now begin len }
+    requires width { len ≤ 64 }
+    ensures { bit_and result (2 ^ len - 1) ≡ number_at (bits_of words.now) begin len }
+{
+    if words.len() > NEAR_WORDS {
+        get_bits_unmasked(words, begin, len)
+    } else {
+        joined_bits(words, begin, last_word(begin, len))
+    }
+}
+
+/// A number whose lowest digits are the `len` bits from `begin` on; `None` exactly where these are not in range.
+#[inline(always)]
+fn try_wide_bits(words: &[u64], begin: usize, len: u8) -> Option<u64>
+    requires { len ≤ 64 }
+    ensures { MatchOption result (IsInRange words.now begin len → ⊥) (λ wide. IsInRange words.now begin len
+        × (bit_and wide (2 ^ len - 1) ≡ number_at (bits_of words.now) begin len)) }
+{
+    if words.len() > NEAR_WORDS {
+        return try_get_bits_unmasked(words, begin, len);
+    }
+    let last = last_word(begin, len);
+    if last < words.len() {
+        Some(joined_bits(words, begin, last))
+    } else {
+        None
+    }
+}
+
 /// The `len` bits from `begin` on as a number, lowest first.
 ///
 /// # Conditions
@@ -62,7 +122,7 @@ pub fn get_bits(words: &[u64], begin: usize, len: u8) -> u64
     ensures value { result ≡ number_at (bits_of words.now) begin len }
     ensures bound { result < 2 ^ len }
 {
-    get_bits_unmasked(words, begin, len) & n_lowest_bits(len)
+    wide_bits(words, begin, len) & n_lowest_bits(len)
 }
 
 /// What `get_bits_unmasked` reads; `None` exactly where the `len` bits from `begin` on are not in range.
@@ -101,7 +161,7 @@ pub fn try_get_bits(words: &[u64], begin: usize, len: u8) -> Option<u64>
     ensures { SomeIff result (IsInRange words.now begin len)
         (number_at (bits_of words.now) begin len) }
 {
-    let wide = try_get_bits_unmasked(words, begin, len)?;
+    let wide = try_wide_bits(words, begin, len)?;
     Some(wide & n_lowest_bits(len))
 }
 
@@ -131,6 +191,6 @@ pub fn try_get_bits_0_64(words: &[u64], begin: usize, len: u8) -> Option<u64>
     if len > 64 {
         return None;
     }
-    let wide = try_get_bits_unmasked(words, begin, len)?;
+    let wide = try_wide_bits(words, begin, len)?;
     Some(wide & n_lowest_bits_0_64(len))
 }
