@@ -19,7 +19,7 @@ use bitm::samples::first_entry;
 use bitm_search::entry::{entries_of_part, ones_to_entry};
 use bitm_search::levels::L2_ENTRIES_PER_L1_ENTRY;
 use bitm_search::search::entries::{EntryRange, last_in_range, sought_entry};
-use bitm_search::search::record::in_packed;
+use bitm_search::search::record::{NOT_READ, in_packed};
 use bitm_search::search::selected::Selected;
 use bitm_search::search::selecting::part_of_rank;
 use bitm_search::source::TableSource;
@@ -262,7 +262,9 @@ fn sampled_in_part<const BIT: u8, T: TableSource>(
     ensures same { T.lists source.new ≡ T.lists source.old }
 {
     match sampled_entry::<BIT, T>(source, lent, part, rank) {
-        Some((entry, packed)) => in_packed::<BIT, 1, T>(source, part, entry, packed, rank),
+        Some((entry, packed)) => {
+            in_packed::<BIT, 1, T>(source, part, entry, packed, NOT_READ, rank)
+        }
         None => Selected::WrongTables,
     }
 }

@@ -57,6 +57,11 @@ entry_in part j = part * 2 ^ 21 + j
 abbrev pub IsLastEntry : List Bool → ℕ → ℕ → ℕ → ℕ → Type 0
 IsLastEntry m entries part r e = IsLast (λ j. before_in_part m (entry_in part j)) (entries_from entries part) r e
 
+-- how many of the kind stand in a part before the entry after entry e; 2^62 and more say nothing
+abbrev pub IsAbove : ℕ → Lists → ℕ → ℕ → ℕ → Type 0
+IsAbove bit lists part e above = above < 2 ^ 62 → (e + 1 < entries_from (length lists.lower) part)
+    × (above ≡ before_in_part (sought_in bit lists.words) (entry_in part (e + 1)))
+
 -- the last entry of a part with no more than r ones before it in the part is among those from low on, of which so many
 -- are left
 abbrev pub IsAmong : List Bool → ℕ → ℕ → ℕ → ℕ → ℕ → Type 0

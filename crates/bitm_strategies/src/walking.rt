@@ -3,23 +3,25 @@ ghost use Rattle.std.specs.Prelude.{◌≡◌, ◌+◌, ◌-◌, ◌*◌, ◌/�
 ghost use Rattle.bit_lists.specs.Bits.{bits_of, IsShort};
 ghost use Rattle.bitm_search.specs.Entry.{lower_entry};
 ghost use Rattle.bitm_search.specs.Reads.{ReadsAtMost};
-ghost use Rattle.bitm_search.specs.Search.{entry_in, IsLastEntry, entries_from, items_to, sought_in};
+ghost use Rattle.bitm_search.specs.Search.{entry_in, IsAbove, IsLastEntry, entries_from, items_to, sought_in};
 ghost use Rattle.bitm_search.specs.Tables.{HasTables};
 
 use bitm_search::entry::{entries_of_part, ones_to_entry};
 use bitm_search::levels::L2_ENTRIES_PER_L1_ENTRY;
 use bitm_search::search::entries::sought_entry;
+use bitm_search::search::record::NOT_READ;
 use bitm_search::source::TableSource;
 
 /// The last entry of a part, from entry `from` on, with no more than `rank` of the kind before it in the part: its
-/// place in the part, and what it packs.
+/// place in the part, what it packs, and how many of the kind stand in the part before the next one, or `NOT_READ` where
+/// it is the part's last.
 #[inline(always)]
 pub(crate) fn walk<const BIT: u8, T: TableSource>(
     source: &mut T,
     part: usize,
     from: usize,
     rank: usize,
-) -> (usize, u64)
+) -> (usize, u64, usize)
     requires tables { HasTables (T.lists source.old) }
     requires short { IsShort (T.lists source.old).words }
     requires inside { part < length (T.lists source.old).upper }
@@ -29,6 +31,7 @@ pub(crate) fn walk<const BIT: u8, T: TableSource>(
         (length (T.lists source.old).lower) part rank result.0 }
     ensures entry { result.1
         ≡ lower_entry (sought_in BIT (T.lists source.old).words) (entry_in part result.0) }
+    ensures above { IsAbove BIT (T.lists source.old) part result.0 result.2 }
     ensures order { from ≤ result.0 }
     ensures reads { ReadsAtMost (T.reads source.old) (T.reads source.new)
         0 (result.0 - from + 2) 0 }
@@ -39,10 +42,11 @@ pub(crate) fn walk<const BIT: u8, T: TableSource>(
     let mut packed = sought_entry::<BIT, T>(source, first + from);
     for next in from + 1..end {
         let entry = sought_entry::<BIT, T>(source, first + next);
-        if rank < ones_to_entry(entry) {
-            return (next - 1, packed);
+        let above = ones_to_entry(entry);
+        if rank < above {
+            return (next - 1, packed, above);
         }
         packed = entry;
     }
-    (end - 1, packed)
+    (end - 1, packed, NOT_READ)
 }

@@ -4,7 +4,7 @@ use Rattle.std.proofs.lemmas.Bool.{cases_lt}
 use Rattle.bit_lists.proofs.lemmas.BitsLemmas.{length-bits_of}
 use Rattle.bit_lists.specs.Bits.{bits_of, IsShort}
 use Rattle.bit_lists.specs.Count.{ones_before, as_bit}
-use Rattle.bitm_tables.specs.Entry.{before_in_part, in_records, lower_entry, record_field, field_0, padded_bits, negation, entries_from}
+use Rattle.bitm_tables.specs.Entry.{before_in_part, in_records, lower_entry, record_field, field_0, padded_bits, negation, entries_from, less}
 use Rattle.bitm_search.specs.Search.{sought_bits, sought_in, IsLastPart, IsLastEntry}
 use Rattle.bitm_tables.specs.Tables.{AreTablesOf}
 use Rattle.bitm_tables.proofs.lemmas.EntryLemmas.{entry-low, record_field_is}
@@ -173,3 +173,31 @@ module _ (words upper lower : List ℕ) (t : AreTablesOf (bits_of words) upper l
         → ones_before m (64 * ((part * 2 ^ 21 + e) * 32 + k * 8)) + (r - count - before)
         < ones_before m (64 * ((part * 2 ^ 21 + e) * 32 + k * 8 + 8))
     next_is h = omega (arith, rank_is, next_record words upper lower t m part r e k up low small most after h)
+
+    -- the ones of the record, where its end is told or the words end with it
+    pub total_is : (end above : ℕ) → (k < 3 → end ≡ record_field entry (k + 1)) → (k ≡ 3 → end ≡ less above count)
+        → above < 2 ^ 64 → (above < 2 ^ 62 → (e + 1 < entries_from (length lower) part) × (above ≡ before_in_part m (part * 2 ^ 21 + (e + 1))))
+        → let first = (part * 2 ^ 21 + e) * 32 + k * 8 in let left = r - count - before in let total = less end before in
+        left < total → total - left ≤ total / 2 → first + 8 < length words → ones_before m (64 * first) + total ≡ ones_before m (64 * (first + 8))
+    total_is end above inner last fits told less_left near more =
+        let j = part * 2 ^ 21 + e in
+        let first = j * 32 + k * 8 in
+        let here : 64 * first ≡ 2048 * j + 512 * k = omega arith in
+        let start = ones_before-between m (2048 * j) (2048 * j + 512 * k) (omega arith) in
+        let record_ = ones_before-between m (64 * first) (64 * (first + 8)) (omega arith) in
+        elim (cases_lt k 3) [
+          | inl below ↦
+              let there : 64 * (first + 8) ≡ 2048 * j + 512 * (k + 1) = omega arith in
+              let next_start = ones_before-between m (2048 * j) (2048 * j + 512 * (k + 1)) (omega arith) in
+              omega (arith, inner below, field k small, field (k + 1) (omega arith), before_is, ap (ones_before m) here, ap (ones_before m) there, start.0, next_start.0, record_.0, record_.1)
+          | inr top ↦
+              elim (cases_lt above (2 ^ 62)) [
+                | inl known ↦
+                    let is : k ≡ 3 = omega (arith, small, top) in
+                    let there : 64 * (first + 8) ≡ 2048 * (part * 2 ^ 21 + (e + 1)) = omega (arith, is) in
+                    let of_part : (part * 2 ^ 21 + (e + 1)) / 2 ^ 21 * 2 ^ 32 ≡ j / 2 ^ 21 * 2 ^ 32 = omega (arith, (told known).0) in
+                    let before_entry = ones_before-between m (j / 2 ^ 21 * 2 ^ 32) (2048 * j) (omega arith) in
+                    omega (arith, last is, (told known).1, counted, field k small, before_is, ap (ones_before m) here, ap (ones_before m) there, ap (ones_before m) of_part, start.0, before_entry.0, record_.0, record_.1)
+                | inr unknown ↦ absurd (omega (arith, last (omega (arith, small, top)), unknown, near, fits, next_is more, record_.1, before_is, field k small, start.1, count_is))
+              ]
+        ]

@@ -66,7 +66,7 @@ from_word words false k r le =
 -- an entry tells none where its last record, by what the fields leave of the rank, has none
 pub entry_none : (lists : Lists) (v : Bool) (at e r k left : ℕ) → k < 4 → told_to e k + left ≤ r → (s : Selected)
     → IfAbsent s (length lists.words ≤ at * 32 + k * 8 + 8)
-    → IsSelectedFrom lists.words v (at * 32 + k * 8) (ones_before (sought_bits v (bits_of lists.words)) (64 * (at * 32 + k * 8)) + left) s
+    → IfAbsent s (count_of (bits_of lists.words) v ≤ ones_before (sought_bits v (bits_of lists.words)) (64 * (at * 32 + k * 8)) + left)
     → IfAbsent s (EntryTellsNone v lists at e r)
 entry_none lists v at e r k left inside le (Found p) last is = tt
 entry_none lists v at e r k left inside le WrongTables last is = tt

@@ -3,11 +3,12 @@
 ghost use Rattle.std.specs.Prelude.{◌≡◌, ◌+◌, ◌-◌, ◌*◌, ◌/◌, ◌%◌, ◌^◌, ◌<◌, ◌≤◌, ◌≢◌};
 ghost use Rattle.std.specs.Prelude.{length, count_ones, slice_index, IfSome, MatchOption};
 ghost use Rattle.bit_lists.specs.Bits.{bits_of, IsShort};
-ghost use Rattle.bit_lists.specs.Count.{ones_before, as_bit, Picks};
+ghost use Rattle.bit_lists.specs.Count.{ones_before, as_bit, count_of, Picks};
 ghost use Rattle.bitm_search.specs.Answers.{HasBit, IsFoundFrom, IsSelected, IsSelectedFrom};
-ghost use Rattle.bitm_tables.specs.Entry.{field_1, field_2, field_3, lower_entry, record_field, entries_from};
+ghost use Rattle.bitm_tables.specs.Entry.{field_0, field_1, field_2, field_3};
+ghost use Rattle.bitm_tables.specs.Entry.{lower_entry, record_field, entries_from, less};
 ghost use Rattle.bitm_tables.specs.Reads.{word_read, ReadsAtMost};
-ghost use Rattle.bitm_search.specs.Search.{entry_in, sought_in, IsLast, IsLastPart, IsLastEntry, IsWord};
+ghost use Rattle.bitm_search.specs.Search.{entry_in, sought_in, IsAbove, IsLast, IsLastPart, IsLastEntry, IsWord};
 ghost use Rattle.bitm_search.specs.Search.{AreOnesToWords, Rise};
 ghost use Rattle.bitm_tables.specs.Tables.{HasSizes, HasTables, bits_in};
 ghost use Rattle.bitm_search.specs.Told.{EntryTellsNone, IfAbsent};
@@ -18,6 +19,9 @@ use bitm_tables::levels::{L2_ENTRIES_PER_L1_ENTRY, U64_PER_L2_ENTRY, U64_PER_L2_
 use bitm_tables::ranking::WORDS_IN_CACHE;
 use bitm_tables::source::TableSource;
 use broadword::select64;
+
+/// Stands for how many of the kind there are before the next entry, where nobody has read it.
+pub const NOT_READ: usize = 1 << 62;
 
 /// 1 where no more than `rank` were counted, else 0.
 #[inline(always)]
@@ -226,14 +230,98 @@ fn in_record<const BIT: u8, T: TableSource>(source: &mut T, first: usize, rank: 
     }
 }
 
+/// Selection among the eight words from `first` on, all of which there are, from their end: the one with `rest` ones of
+/// theirs from it on, itself among them.
+#[inline(always)]
+fn among_last<const BIT: u8, T: TableSource>(
+    source: &mut T,
+    first: usize,
+    rest: usize,
+) -> Option<usize>
+    requires short { IsShort (T.lists source.old).words }
+    requires whole { first + 8 ≤ length (T.lists source.old).words }
+    requires some { 0 < rest }
+    ensures answer { let m = sought_in BIT (T.lists source.old).words in
+        let end = ones_before m (64 * (first + 8)) in
+        MatchOption result (end < ones_before m (64 * first) + rest)
+        (Picks (bits_in (T.lists source.old)) (as_bit BIT) (end - rest)) }
+    ensures inside { IfSome result (λ p. (64 * first ≤ p) × (p < 64 * (first + 8))) }
+    ensures reads { ReadsAtMost (T.reads source.old) (T.reads source.new) 0 0 8 }
+    ensures same { T.lists source.new ≡ T.lists source.old }
+{
+    let mut left = rest;
+    for k in 0..8 {
+        let at = first + (7 - k);
+        let word = sought_word::<BIT, T>(source, at);
+        let ones = word.count_ones() as usize;
+        if left <= ones {
+            return Some(at * 64 + select_in_word(word, ones - left));
+        }
+        left -= ones;
+    }
+    None
+}
+
+/// What `in_record` answers where the record has `total` of the kind, or words miss: in a large content its words are
+/// counted from the nearer end, which leaves half of them to count.
+///
+/// Where it has another number of them, a place that is found has such a bit, and `Absent` is as true.
+#[inline(always)]
+fn from_nearer_end<const BIT: u8, T: TableSource>(
+    source: &mut T,
+    first: usize,
+    rank: usize,
+    total: usize,
+) -> Selected
+    requires short { IsShort (T.lists source.old).words }
+    requires first { first < 2 ^ 60 }
+    ensures bit { HasBit (bits_in (T.lists source.old)) (as_bit BIT) result }
+    ensures answer { let words = (T.lists source.old).words in let m = sought_in BIT words in
+        (rank < total → total - rank ≤ total / 2 → first + 8 < length words
+        → ones_before m (64 * first) + total ≡ ones_before m (64 * (first + 8)))
+        → IsSelectedFrom words (as_bit BIT) first (ones_before m (64 * first) + rank) result }
+    ensures absent { IfAbsent result (count_of (bits_in (T.lists source.old)) (as_bit BIT)
+        ≤ ones_before (sought_in BIT (T.lists source.old).words) (64 * first) + rank) }
+    ensures inside { IsFoundFrom (64 * first) (64 * (first + 8)) result }
+    ensures last { IfAbsent result (length (T.lists source.old).words ≤ first + 8) }
+    ensures reads { ReadsAtMost (T.reads source.old) (T.reads source.new) 0 0 8 }
+    ensures same { T.lists source.new ≡ T.lists source.old }
+{
+    let len = source.words_len();
+    let rest = total.wrapping_sub(rank);
+    // One comparison for two: where no more are left than were counted the difference wraps.
+    if len > WORDS_IN_CACHE && first + U64_PER_L2_RECORDS < len && rest.wrapping_sub(1) < total / 2 {
+        return match among_last::<BIT, T>(source, first, rest) {
+            Some(place) => Selected::Found(place),
+            None => Selected::WrongTables,
+        };
+    }
+    in_record::<BIT, T>(source, first, rank)
+}
+
+/// How many of the kind an entry has up to the end of its record `place`, by what it packs and by how many stand in its
+/// part before the next entry: any number where that was not read.
+#[inline(always)]
+fn ones_to_end(packed: u64, place: usize, above: usize) -> usize
+    requires { place < 4 }
+    ensures inner { place < 3 → result ≡ record_field packed (place + 1) }
+    ensures last { place ≡ 3 → result ≡ less above (field_0 packed) }
+{
+    let inner = ones_to_record(packed, (place + 1) % 4);
+    let last = above.wrapping_sub(ones_to_entry(packed));
+    if place < 3 { inner } else { last }
+}
+
 /// Selection in entry `entry` of a part, which packs `packed`: the last one with no more than `rank` of the kind
-/// before it in the part, if the tables are right. `TESTS` as in `search_on`.
+/// before it in the part, if the tables are right. `above` is how many stand in the part before the next entry, or
+/// `NOT_READ`. `TESTS` as in `search_on`.
 #[inline(always)]
 pub fn in_packed<const BIT: u8, const TESTS: u8, T: TableSource>(
     source: &mut T,
     part: usize,
     entry: usize,
     packed: u64,
+    above: usize,
     rank: usize,
 ) -> Selected
     requires sized { HasSizes (T.lists source.old) }
@@ -247,6 +335,8 @@ pub fn in_packed<const BIT: u8, const TESTS: u8, T: TableSource>(
         (length (T.lists source.old).lower) part rank entry }
     requires packed { HasTables (T.lists source.old) → packed
         ≡ lower_entry (sought_in BIT (T.lists source.old).words) (entry_in part entry) }
+    requires above { HasTables (T.lists source.old)
+        → IsAbove BIT (T.lists source.old) part entry above }
     ensures bit { HasBit (bits_in (T.lists source.old)) (as_bit BIT) result }
     ensures answer { HasTables (T.lists source.old) →
         let m = sought_in BIT (T.lists source.old).words in
@@ -267,5 +357,6 @@ pub fn in_packed<const BIT: u8, const TESTS: u8, T: TableSource>(
     if TESTS != 0 && left > rank {
         return Selected::WrongTables;
     }
-    in_record::<BIT, T>(source, first, left)
+    let total = ones_to_end(packed, place, above).wrapping_sub(before);
+    from_nearer_end::<BIT, T>(source, first, left, total)
 }

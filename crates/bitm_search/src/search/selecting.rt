@@ -13,7 +13,7 @@ ghost use Rattle.bitm_tables.specs.Entry.{less};
 ghost use Rattle.bitm_search.specs.Told.{told_part, IfAbsent, TellsNone};
 
 use crate::search::entries::last_entry;
-use crate::search::record::in_packed;
+use crate::search::record::{NOT_READ, in_packed};
 use crate::search::selected::{Selected, found};
 use bitm_tables::source::TableSource;
 
@@ -89,7 +89,7 @@ pub fn search_on<const BIT: u8, const TESTS: u8, T: TableSource>(
         return Selected::WrongTables;
     }
     let (entry, packed) = last_entry::<BIT, T>(source, part, in_part);
-    in_packed::<BIT, TESTS, T>(source, part, entry, packed, in_part)
+    in_packed::<BIT, TESTS, T>(source, part, entry, packed, NOT_READ, in_part)
 }
 
 /// How many ones, or zeros where `BIT` is 0, stand before a part, where the tables are those of the words.

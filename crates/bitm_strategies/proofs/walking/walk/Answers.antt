@@ -8,7 +8,7 @@ use Rattle.bitm_search.specs.ReadCounts.{ReadCounts}
 use Rattle.bitm_search.proofs.lemmas.LengthLemmas.{few_entries, first_of_part, sizes_of}
 use Rattle.bitm_search.proofs.lemmas.SoughtLemmas.{low_is}
 use Rattle.bitm_strategies.proofs.walking.walk.Goals as goal
-use Rattle.bitm_strategies.proofs.walking.walk.Goals.{After-ones_to_entry}
+use Rattle.bitm_strategies.proofs.walking.walk.Goals.{After-ones_to_entry-above}
 
 pub overflow_mul-first : goal.overflow_mul-first
 overflow_mul-first g c =
@@ -25,7 +25,7 @@ pub entries_of_part-end-requires : goal.entries_of_part-end-requires
 entries_of_part-end-requires g c =
     omega (arith, first_of_part _ (sizes_of _ c.requires.tables c.requires.short) c.args.part c.requires.inside, c.lower_len.ensures)
 
-module _ (g : _) (c : After-ones_to_entry g) where
+module _ (g : _) (c : After-ones_to_entry-above g) where
   entry_is : c.sought_entry-entry.result
       ≡ lower_entry (sought_in g.row.BIT (g.T.TableSource.lists c.args.source.now).words) (c.args.part * 2 ^ 21 + c.loop-next.next)
   entry_is =
@@ -33,37 +33,48 @@ module _ (g : _) (c : After-ones_to_entry g) where
       c.sought_entry-entry.ensures.entry (subst HasTables (sym c.loop-next.invariant.same) c.requires.tables)
       ∙ ap (λ (l : Lists). lower_entry (sought_in g.row.BIT l.words) at) c.loop-next.invariant.same
 
-  count : c.ones_to_entry.result ≡ items_to g.row.BIT (bits_of (g.T.TableSource.lists c.args.source.now).words) c.args.part c.loop-next.next
+  count : c.ones_to_entry-above.result ≡ items_to g.row.BIT (bits_of (g.T.TableSource.lists c.args.source.now).words) c.args.part c.loop-next.next
   count =
       let m = sought_in g.row.BIT (g.T.TableSource.lists c.args.source.now).words in
-      c.ones_to_entry.ensures ∙ low_is m c.sought_entry-entry.result (c.args.part * 2 ^ 21 + c.loop-next.next) entry_is
+      c.ones_to_entry-above.ensures ∙ low_is m c.sought_entry-entry.result (c.args.part * 2 ^ 21 + c.loop-next.next) entry_is
 
   end_is : c.entries_of_part-end.result ≡ entries_from (length (g.T.TableSource.lists c.args.source.now).lower) c.args.part
   end_is = omega (arith, c.entries_of_part-end.ensures, c.lower_len.ensures)
 
-pub returns-then-rank-ones_to_entry-clause-last : goal.returns-then-rank-ones_to_entry-clause-last
-returns-then-rank-ones_to_entry-clause-last g c =
-    let d = (goal.at.returns-then-rank-ones_to_entry-clause-last g c).After-ones_to_entry in
+pub returns-then-rank-above-clause-last : goal.returns-then-rank-above-clause-last
+returns-then-rank-above-clause-last g c =
+    let d = (goal.at.returns-then-rank-above-clause-last g c).After-ones_to_entry-above in
     let b = bits_of (g.T.TableSource.lists c.args.source.now).words in
     let i = c.loop-next.invariant in
     let e = end_is g d in
     let back : c.loop-next.next - 1 + 1 ≡ c.loop-next.next = omega (arith, i.order) in
-    let above = subst (λ (n : ℕ). c.args.rank < n) (count g d) c.if-rank-ones_to_entry.true in
+    let above = subst (λ (n : ℕ). c.args.rank < n) (count g d) c.if-rank-above.true in
     record {
       inside = omega (arith, e, i.order, i.bound, c.loop-next-test.true);
       at_most = i.at_most;
       next = λ _. subst (λ (k : ℕ). c.args.rank < items_to g.row.BIT b c.args.part k) (sym back) above;
     }
 
+pub returns-then-rank-above-clause-above : goal.returns-then-rank-above-clause-above
+returns-then-rank-above-clause-above g c = λ _.
+    let d = (goal.at.returns-then-rank-above-clause-above g c).After-ones_to_entry-above in
+    let b = bits_of (g.T.TableSource.lists c.args.source.now).words in
+    let i = c.loop-next.invariant in
+    let back : c.loop-next.next - 1 + 1 ≡ c.loop-next.next = omega (arith, i.order) in
+    (
+      omega (arith, end_is g d, i.order, i.bound, c.loop-next-test.true),
+      subst (λ (k : ℕ). c.ones_to_entry-above.result ≡ items_to g.row.BIT b c.args.part k) (sym back) (count g d),
+    )
+
 pub loop-next-preserved : goal.loop-next-preserved
 loop-next-preserved g c =
-    let d = (goal.at.loop-next-preserved g c).After-ones_to_entry in
+    let d = (goal.at.loop-next-preserved g c).After-ones_to_entry-above in
     let b = bits_of (g.T.TableSource.lists c.args.source.now).words in
     let i = c.loop-next.invariant in
     let e = c.sought_entry-entry.ensures in
     let m = sought_in g.row.BIT (g.T.TableSource.lists c.args.source.now).words in
     let back : c.loop-next.next + 1 - 1 ≡ c.loop-next.next = omega arith in
-    let below = subst (λ (n : ℕ). n ≤ c.args.rank) (count g d) c.if-rank-ones_to_entry.false in
+    let below = subst (λ (n : ℕ). n ≤ c.args.rank) (count g d) c.if-rank-above.false in
     record {
       order = omega (arith, i.order);
       bound = omega (arith, c.loop-next-test.true);

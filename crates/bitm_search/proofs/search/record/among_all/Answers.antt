@@ -1,5 +1,5 @@
 -- The word that has the rank tells its place; where it has too few ones it is the last of the eight.
-use Rattle.std.proofs.Common.{◌≡◌, ℕ, ◌+◌, ◌-◌, ◌*◌, ap, subst, arith, slice_index, count_ones, inl, inr}
+use Rattle.std.proofs.Common.{◌≡◌, ℕ, ◌+◌, ◌-◌, ◌*◌, ap, subst, arith, slice_index, inl, inr}
 use Rattle.std.proofs.lemmas.Bool.{cases_lt}
 use Rattle.bit_lists.specs.Count.{ones_before, as_bit}
 use Rattle.bitm_search.specs.Search.{IsWord, sought_in}

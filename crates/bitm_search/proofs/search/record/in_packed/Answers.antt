@@ -1,23 +1,18 @@
 -- The record is chosen by the fields of the entry; what is left of the rank counts from there.
-use Rattle.std.proofs.Common.{◌≡◌, ℕ, ◌+◌, ◌-◌, ◌*◌, ◌%◌, ◌^◌, ◌<◌, ◌≤◌, subst, arith}
+use Rattle.std.proofs.Common.{◌≡◌, ℕ, ◌+◌, ◌-◌, ◌*◌, ◌%◌, ◌^◌, ◌<◌, ◌≤◌, ap, sym, ◌∙◌, subst, arith}
 use Rattle.bit_lists.specs.Bits.{bits_of}
 use Rattle.bit_lists.specs.Count.{as_bit, ones_before}
-use Rattle.bitm_tables.specs.Entry.{record_field}
+use Rattle.bitm_tables.specs.Entry.{record_field, less}
 use Rattle.bitm_search.specs.Search.{sought_in}
 use Rattle.bitm_tables.specs.Tables.{HasTables}
-use Rattle.bitm_search.proofs.lemmas.SoughtLemmas.{low_is, rank_is, next_is, record_fields_rise}
+use Rattle.bitm_search.proofs.lemmas.SoughtLemmas.{low_is, rank_is, next_is, total_is, record_fields_rise}
 use Rattle.bitm_search.specs.Answers.{IsSelected, IsSelectedFrom}
-use Rattle.bitm_search.proofs.lemmas.SelectedLemmas.{found_within, has_bit, selected}
+use Rattle.bitm_search.proofs.lemmas.SelectedLemmas.{found_within, selected}
 use Rattle.bitm_search.proofs.search.record.in_packed.Goals as goal
 use Rattle.bitm_search.proofs.lemmas.ToldLemmas.{entry_none, few_in_records, left_of}
 use Rattle.bitm_search.specs.Told.{told_to}
 use Rattle.bitm_search.proofs.search.record.in_packed.Goals.{After-record_of-place}
 use Rattle.bitm_search.proofs.search.record.in_packed.Goals.{else-this-ne0-via-then-this-ne0+else-left-rank, else-this-ne0-via-else-this-ne0}
-
-pub returns-clause-bit : goal.returns-clause-bit
-returns-clause-bit g c =
-    let l = g.T.TableSource.lists c.args.source.now in
-    has_bit l.words (as_bit g.row.BIT) _ _ c.in_record.result c.in_record.ensures.answer
 
 -- where the tables are right no difference wraps
 unwrapped : (g : _) (c : After-record_of-place g) → HasTables (g.T.TableSource.lists c.args.source.now)
@@ -74,11 +69,16 @@ returns-clause-answer g c = λ t.
     let follows =
     next_is l.words l.upper l.lower t m c.args.part rank c.args.entry k packed count before
     part entry is c.ones_to_entry.ensures r.inside r.before at_most next in
+    let whole =
+    total_is l.words l.upper l.lower t m c.args.part rank c.args.entry k packed count before
+    part entry is c.ones_to_entry.ensures r.inside r.before at_most next
+    c.ones_to_end.result c.args.above c.ones_to_end.ensures.inner (λ h. c.ones_to_end.ensures.last h ∙ ap (less c.args.above) (sym c.ones_to_entry.ensures))
+    c.ranges.above.fits (c.requires.above t) in
     let told =
-    subst (λ (n : ℕ). IsSelectedFrom l.words (as_bit g.row.BIT) first (ones_before m (64 * first) + n) c.in_record.result) left
-    c.in_record.ensures.answer in
-    subst (λ (n : ℕ). IsSelected (bits_of l.words) (as_bit g.row.BIT) n c.in_record.result) total
-    (selected l.words (as_bit g.row.BIT) first _ c.in_record.result follows told)
+    subst (λ (n : ℕ). IsSelectedFrom l.words (as_bit g.row.BIT) first (ones_before m (64 * first) + n) c.from_nearer_end.result) left
+    (c.from_nearer_end.ensures.answer (rw left whole)) in
+    subst (λ (n : ℕ). IsSelected (bits_of l.words) (as_bit g.row.BIT) n c.from_nearer_end.result) total
+    (selected l.words (as_bit g.row.BIT) first _ c.from_nearer_end.result follows told)
 
 pub returns-clause-inside : goal.returns-clause-inside
 returns-clause-inside g c =
@@ -86,7 +86,7 @@ returns-clause-inside g c =
     let k = c.record_of-place.result.0 in
     let inside = c.record_of-place.ensures.inside in
     found_within (64 * (at * 32 + k * 8)) (64 * (at * 32 + k * 8 + 8)) (2048 * at) (2048 * (at + 1)) (omega arith) (omega (arith, inside))
-    c.in_record.result c.in_record.ensures.inside
+    c.from_nearer_end.result c.from_nearer_end.ensures.inside
 
 pub returns-clause-none : goal.returns-clause-none
 returns-clause-none g c = λ tests.
@@ -109,4 +109,5 @@ returns-clause-none g c = λ tests.
     let small : before < 2 ^ 11 = omega (arith, r.before, few_in_records packed k c.ranges.packed.fits) in
     let sum : told_to packed k + left ≤ rank =
     omega (arith, left_of rank to before few small tested c.ranges.rank.fits, c.ones_to_entry.ensures, r.before) in
-    entry_none lists v at packed rank k left r.inside sum c.in_record.result c.in_record.ensures.last c.in_record.ensures.answer
+    entry_none lists v at packed rank k left r.inside sum c.from_nearer_end.result c.from_nearer_end.ensures.last
+    c.from_nearer_end.ensures.absent
