@@ -1,4 +1,4 @@
-//! Rank and selection in a word; selection by arithmetic on all its bytes at once: no table, no loop and no branch.
+//! Rank and selection in a word; selection by arithmetic on all its bytes at once: no loop and no branch.
 ghost use Rattle.std.specs.Prelude.{◌≡◌, ◌<◌, ◌≤◌, ◌+◌, ◌-◌, ◌*◌, ◌/◌, ◌%◌, ◌^◌, map, count_by, All};
 ghost use Rattle.std.specs.Prelude.{count_ones, nat_le, true};
 ghost use Rattle.std.specs.Int.{to_le_bytes, w64};
@@ -22,11 +22,14 @@ pub fn ones_through(word: u64, last: usize) -> u32
 /// The lowest bit of each byte.
 const LOWEST_OF_EACH_BYTE: u64 = 0x0101_0101_0101_0101;
 
+/// The lowest bit of each byte but the first.
+const LOWEST_BUT_FIRST: u64 = 0x0101_0101_0101_0100;
+
 /// The highest bit of each byte.
 const HIGHEST_OF_EACH_BYTE: u64 = 0x8080_8080_8080_8080;
 
-/// The highest bit of each of the first seven bytes.
-const HIGHEST_OF_SEVEN_BYTES: u64 = 0x0080_8080_8080_8080;
+/// The highest bit of each byte but the first.
+const HIGHEST_BUT_FIRST: u64 = 0x8080_8080_8080_8000;
 
 /// Seven copies of a number of seven bits, side by side: bit k of copy k is then the lowest bit of byte k.
 const SEVEN_COPIES: u64 = 0x0002_0408_1020_4081;
@@ -43,6 +46,37 @@ pub fn byte_sums(n: u64) -> u64
     bytes.wrapping_mul(LOWEST_OF_EACH_BYTE)
 }
 
+/// For each number below 64 the word whose bytes are all 128 more.
+#[rattlefmt::skip]
+const BOUNDS: [u64; 64] = [
+    0x8080_8080_8080_8080, 0x8181_8181_8181_8181, 0x8282_8282_8282_8282, 0x8383_8383_8383_8383,
+    0x8484_8484_8484_8484, 0x8585_8585_8585_8585, 0x8686_8686_8686_8686, 0x8787_8787_8787_8787,
+    0x8888_8888_8888_8888, 0x8989_8989_8989_8989, 0x8A8A_8A8A_8A8A_8A8A, 0x8B8B_8B8B_8B8B_8B8B,
+    0x8C8C_8C8C_8C8C_8C8C, 0x8D8D_8D8D_8D8D_8D8D, 0x8E8E_8E8E_8E8E_8E8E, 0x8F8F_8F8F_8F8F_8F8F,
+    0x9090_9090_9090_9090, 0x9191_9191_9191_9191, 0x9292_9292_9292_9292, 0x9393_9393_9393_9393,
+    0x9494_9494_9494_9494, 0x9595_9595_9595_9595, 0x9696_9696_9696_9696, 0x9797_9797_9797_9797,
+    0x9898_9898_9898_9898, 0x9999_9999_9999_9999, 0x9A9A_9A9A_9A9A_9A9A, 0x9B9B_9B9B_9B9B_9B9B,
+    0x9C9C_9C9C_9C9C_9C9C, 0x9D9D_9D9D_9D9D_9D9D, 0x9E9E_9E9E_9E9E_9E9E, 0x9F9F_9F9F_9F9F_9F9F,
+    0xA0A0_A0A0_A0A0_A0A0, 0xA1A1_A1A1_A1A1_A1A1, 0xA2A2_A2A2_A2A2_A2A2, 0xA3A3_A3A3_A3A3_A3A3,
+    0xA4A4_A4A4_A4A4_A4A4, 0xA5A5_A5A5_A5A5_A5A5, 0xA6A6_A6A6_A6A6_A6A6, 0xA7A7_A7A7_A7A7_A7A7,
+    0xA8A8_A8A8_A8A8_A8A8, 0xA9A9_A9A9_A9A9_A9A9, 0xAAAA_AAAA_AAAA_AAAA, 0xABAB_ABAB_ABAB_ABAB,
+    0xACAC_ACAC_ACAC_ACAC, 0xADAD_ADAD_ADAD_ADAD, 0xAEAE_AEAE_AEAE_AEAE, 0xAFAF_AFAF_AFAF_AFAF,
+    0xB0B0_B0B0_B0B0_B0B0, 0xB1B1_B1B1_B1B1_B1B1, 0xB2B2_B2B2_B2B2_B2B2, 0xB3B3_B3B3_B3B3_B3B3,
+    0xB4B4_B4B4_B4B4_B4B4, 0xB5B5_B5B5_B5B5_B5B5, 0xB6B6_B6B6_B6B6_B6B6, 0xB7B7_B7B7_B7B7_B7B7,
+    0xB8B8_B8B8_B8B8_B8B8, 0xB9B9_B9B9_B9B9_B9B9, 0xBABA_BABA_BABA_BABA, 0xBBBB_BBBB_BBBB_BBBB,
+    0xBCBC_BCBC_BCBC_BCBC, 0xBDBD_BDBD_BDBD_BDBD, 0xBEBE_BEBE_BEBE_BEBE, 0xBFBF_BFBF_BFBF_BFBF,
+];
+
+/// The word whose bytes are all 128 more than `r`. At most 64 may be taken from each byte: none borrows from the next,
+/// and a byte keeps its highest bit exactly where at most `r` was taken. The table saves a product.
+#[inline(always)]
+fn bounds(r: u8) -> u64
+    requires { r ≤ 63 }
+    ensures { result ≡ (128 + r) * 0x0101_0101_0101_0101 }
+{
+    BOUNDS[r as usize]
+}
+
 /// How many of the eight bytes of `sums` are at most `r`.
 ///
 /// # Conditions
@@ -53,40 +87,35 @@ pub fn bytes_at_most(sums: u64, r: u8) -> u8
     requires below { r ≤ 63 }
     ensures { result ≡ count_by (λ s. nat_le s r) (to_le_bytes w64 sums) }
 {
-    // No byte borrows from the next, since each is at least 128 and loses at most 64.
-    let kept = ((r as u64 * LOWEST_OF_EACH_BYTE) | HIGHEST_OF_EACH_BYTE) - sums;
+    let kept = bounds(r) - sums;
     (kept & HIGHEST_OF_EACH_BYTE).count_ones() as u8
 }
 
-/// What `bytes_at_most` answers where the last byte is above `r`: seven bytes are compared, as in `select_in_byte`, so
-/// that both comparisons are with one bound.
+/// What is left of `rank` at each byte of `n`: byte k is 128 more than the rank, less the ones in the bytes before it.
 #[inline(always)]
-fn first_bytes_at_most(sums: u64, r: u8) -> u8
-    requires small { All (λ s. s ≤ 64) (to_le_bytes w64 sums) }
-    requires below { r ≤ 63 }
-    requires last { r < sums / 2 ^ 56 }
-    ensures { result ≡ count_by (λ s. nat_le s r) (to_le_bytes w64 sums) }
+fn ranks_left(n: u64, rank: u8) -> u64
+    requires { rank ≤ 63 }
+    ensures { to_le_bytes w64 result
+        ≡ map (λ k. 128 + rank - ones_before (low_digits 64 n) (8 * k)) (range_with_len 0 8) }
 {
-    let kept = ((r as u64 * LOWEST_OF_EACH_BYTE) | HIGHEST_OF_EACH_BYTE) - sums;
-    let highest = kept & HIGHEST_OF_SEVEN_BYTES;
-    highest.count_ones() as u8
+    // The compiler makes the shift part of the product of `byte_sums`.
+    bounds(rank) - (byte_sums(n) << 8)
 }
 
-/// The place of the one of `byte` with `rank` ones before it, of which `before` stand before the byte.
-// Each bit is spread to a byte of its own, and eight sums are compared at once, as the bytes of a word are: no branch.
+/// The place of the one of `byte` with `left - 128` ones before it.
 #[inline(always)]
-fn select_in_byte(byte: u8, before: u8, rank: u8) -> u8
-    requires order { before ≤ rank }
-    requires below { rank ≤ 63 }
-    requires some { rank - before < ones_before (low_digits 8 byte) 8 }
-    ensures { Picks (low_digits 8 byte) true (rank - before) result }
+fn select_in_byte(byte: u8, left: u8) -> u8
+    requires from { 128 ≤ left }
+    requires some { left - 128 < ones_before (low_digits 8 byte) 8 }
+    ensures { Picks (low_digits 8 byte) true (left - 128) result }
 {
-    // Each of the first seven bits goes to a byte of its own, so that the sums of these bytes count the ones up to it.
+    // Each bit goes to a byte of its own, but for the eighth, which stands before no other.
     let flags = ((byte & 0x7F) as u64 * SEVEN_COPIES) & LOWEST_OF_EACH_BYTE;
-    let sums = (flags + before as u64).wrapping_mul(LOWEST_OF_EACH_BYTE);
-    // As in `bytes_at_most`; where all seven are at most the rank it is the eighth bit.
-    let kept = ((rank as u64 * LOWEST_OF_EACH_BYTE) | HIGHEST_OF_EACH_BYTE) - sums;
-    (kept & HIGHEST_OF_SEVEN_BYTES).count_ones() as u8
+    // For k from 1 to 7, byte k is `left` less the ones before bit k; the mask leaves byte 0 out.
+    let kept = (left as u64)
+        .wrapping_sub(flags)
+        .wrapping_mul(LOWEST_BUT_FIRST);
+    (kept & HIGHEST_BUT_FIRST).count_ones() as u8
 }
 
 /// The place of the one of `n` with `rank` ones before it. For the place of a zero, pass `!n`.
@@ -94,16 +123,17 @@ fn select_in_byte(byte: u8, before: u8, rank: u8) -> u8
 /// # Conditions
 /// `n` has more than `rank` ones.
 /// # Source
-/// Vigna, "Broadword Implementation of Rank/Select Queries" (WEA 2008), here with one comparison of all bytes for the
-/// byte and one more, of the first seven bits, for the bit in it.
+/// Vigna, "Broadword Implementation of Rank/Select Queries" (WEA 2008), here with one product that tells for each byte
+/// what is left of the rank and, by its highest bit, whether the rank reaches it, and one that tells this for the bits
+/// of the last byte that is reached.
 #[inline(always)]
 pub fn select64(n: u64, rank: u8) -> u8
     requires { rank < ones_before (low_digits 64 n) 64 }
     ensures inside { result < 64 }
     ensures picked { Picks (low_digits 64 n) true rank result }
 {
-    let sums = byte_sums(n);
-    let place = 8 * first_bytes_at_most(sums, rank);
-    let before = ((sums << 8 >> place) & 0xFF) as u8;
-    place + select_in_byte(((n >> place) & 0xFF) as u8, before, rank)
+    let ranks = ranks_left(n, rank);
+    let place = 8 * (ranks & HIGHEST_BUT_FIRST).count_ones() as u8;
+    let left = ((ranks >> place) & 0xFF) as u8;
+    place + select_in_byte(((n >> place) & 0xFF) as u8, left)
 }

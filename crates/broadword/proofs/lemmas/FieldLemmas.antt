@@ -1,11 +1,12 @@
--- A number cut into k fields of w bits each, and what `&`, `|`, `+`, `-`, a masked shift and a count of ones do to
+-- A number cut into k fields of w bits each, and what `&`, `+`, `-`, a masked shift and a count of ones do to
 -- all fields at once.
-use Rattle.std.proofs.Common.{List, [], ◌∷◌, All, Bool, cond, count_by, get_or, suc-le-suc, zero-lt-suc, add_comm, zero-add, not-suc-le-zero, le_of_suc-le-suc, ◌≡◌, ℕ, zero, suc, ◌+◌, ◌-◌, ◌*◌, ◌/◌, ◌%◌, ◌^◌, ◌<◌, ◌≤◌, bit_and, bit_or, count_ones, refl, sym, ap, ap₂, add-zero, ◌∙◌, arith, zero-mul, suc-mul}
+use Rattle.std.proofs.Common.{List, [], ◌∷◌, All, Bool, cond, count_by, get_or, map, suc-le-suc, zero-lt-suc, add_comm, zero-add, not-suc-le-zero, le_of_suc-le-suc, ◌≡◌, ℕ, zero, suc, ◌+◌, ◌-◌, ◌*◌, ◌/◌, ◌%◌, ◌^◌, ◌<◌, ◌≤◌, bit_and, count_ones, refl, sym, ap, ap₂, add-zero, ◌∙◌, arith, zero-mul, suc-mul}
 use Rattle.std.proofs.Math.Nat.{mul-add-div_right}
 use Rattle.std.proofs.lemmas.List.Sums.{sum_by-cons}
-use Rattle.std.proofs.lemmas.Nat.{and_block, or_block, pow_pos, mod_below, ones_cat, pow-add, shr_split, shr_below, mod-pow-add}
+use Rattle.std.proofs.lemmas.Nat.{and_block, pow_pos, mod_below, ones_cat, pow-add, shr_split, shr_below, mod-pow-add}
 use Rattle.std.specs.Int.Bits.{and_zero_r}
 use Rattle.std.specs.Int.Count.{ones, ones_in}
+use Rattle.broadword.proofs.lemmas.ByteLemmas.{low_bytes-cat}
 use Rattle.broadword.proofs.lemmas.LowBytes.{low_bytes}
 
 -- the number whose field i is f at field i of x
@@ -59,17 +60,6 @@ map_fields-and w (suc k) f g x bf bg =
     let here = field_below w x in
     and_block w (map_fields w k f rest) (map_fields w k g rest) (f low) (g low) (bf.below _ here) (bg.below _ here)
     ∙ ap (λ y. y * 2 ^ w + bit_and (f low) (g low)) (map_fields-and w k f g rest bf bg)
-
-pub map_fields-or : (w k : ℕ) (f g : ℕ → ℕ) (x : ℕ) → Stays w f → Stays w g
-    → bit_or (map_fields w k f x) (map_fields w k g x) ≡ map_fields w k (λ v. bit_or (f v) (g v)) x
-unfolding map_fields
-map_fields-or w zero f g x bf bg = refl
-map_fields-or w (suc k) f g x bf bg =
-    let rest = x / 2 ^ w in
-    let low = x % 2 ^ w in
-    let here = field_below w x in
-    or_block w (map_fields w k f rest) (map_fields w k g rest) (f low) (g low) (bf.below _ here) (bg.below _ here)
-    ∙ ap (λ y. y * 2 ^ w + bit_or (f low) (g low)) (map_fields-or w k f g rest bf bg)
 
 -- ---- a shift down by s of fields of t + s bits, masked so that no bit of the next field stays
 
@@ -145,6 +135,14 @@ map_fields-same_bytes zero f g x same = refl
 map_fields-same_bytes (suc k) f g x same =
     let rest = map_fields-same_bytes k f g (x / 256) (λ i d h. same (suc i) d (suc-le-suc h)) in
     ap₂ (λ a b. a * 256 + b) rest (same 0 0 (zero-lt-suc _))
+
+-- the bytes of the number whose bytes are f at those of x
+pub low_bytes-map_fields : (k : ℕ) (f : ℕ → ℕ) (x : ℕ) → Stays 8 f → low_bytes k (map_fields 8 k f x) ≡ map f (low_bytes k x)
+unfolding map_fields low_bytes
+low_bytes-map_fields zero f x stays = refl
+low_bytes-map_fields (suc k) f x stays =
+    low_bytes-cat k (map_fields 8 k f (x / 256)) (f (x % 256)) (stays.below _ (field_below 8 x))
+    ∙ ap (λ l. f (x % 256) ∷ l) (low_bytes-map_fields k f (x / 256) stays)
 
 pub sum_fields-count_by : (p : ℕ → Bool) (k x : ℕ) → sum_fields 8 k (λ v. cond (p v) 1 0) x ≡ count_by p (low_bytes k x)
 unfolding sum_fields low_bytes

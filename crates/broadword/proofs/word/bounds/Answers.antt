@@ -1,0 +1,7 @@
+-- The table is what the law computes.
+use Rattle.std.proofs.Common.{◌+◌, ◌*◌, arith, zero-add}
+use Rattle.std.proofs.lemmas.List.FromFn.{get_or-map-range_with_len}
+use Rattle.broadword.proofs.word.bounds.Goals as goal
+
+pub returns : goal.returns
+returns c = get_or-map-range_with_len (λ k. (128 + k) * 0x0101010101010101) 0 64 c.args.r c.args.r 0 (omega (arith, c.requires)) (zero-add c.args.r)
