@@ -21,9 +21,10 @@ fn is_right(matrix: &BinaryWaveletMatrix) -> bool {
 }
 
 /// Each call of a matrix, of a perfect hash and of a dictionary.
-pub fn ended(alloc: Global) -> [Ended; 9] {
+pub fn ended(alloc: Global) -> [Ended; 10] {
     [
         ("matrix-build", matrix_built(alloc)),
+        ("matrix-build-compact", compact_built(alloc)),
         ("matrix-build-with-starts", starts_kept(alloc)),
         ("matrix-try-clone", matrix_cloned(alloc)),
         ("matrix-intersect", matrix_shared(alloc)),
@@ -48,6 +49,15 @@ fn matrix_built(alloc: Global) -> Outcome {
     let numbers = NUMBERS;
     match BinaryWaveletMatrix::build(alloc, numbers.as_slice(), 3) {
         Ok(made) => answered(is_right(&made)),
+        Err(AllocError) => refused(numbers.as_slice() == NUMBERS.as_slice()),
+    }
+}
+
+/// A matrix without quarters.
+fn compact_built(alloc: Global) -> Outcome {
+    let numbers = NUMBERS;
+    match BinaryWaveletMatrix::build_compact(alloc, numbers.as_slice(), 3) {
+        Ok(made) => answered(made.is_compact() && is_right(&made)),
         Err(AllocError) => refused(numbers.as_slice() == NUMBERS.as_slice()),
     }
 }

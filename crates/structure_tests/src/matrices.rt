@@ -135,15 +135,19 @@ fn sorted_agrees(
     Ok(order_agrees(matrix, sorted, start) && tallies_agree(alloc, matrix, sorted, start)?)
 }
 
-/// Whether all answers of a matrix of so many numbers, of so many digits, agree with plain loops.
-fn all_agrees(alloc: Global, len: usize, width: u8) -> Result<bool, Fail> {
+/// Whether all answers of a matrix of so many numbers, of so many digits, compact or not, agree with plain loops.
+fn all_agrees(alloc: Global, len: usize, width: u8, compact: bool) -> Result<bool, Fail> {
     let list = draw(alloc, len, width)?;
     let list = list.as_slice();
     if width < 1 || width > 64 || list.len() >= 1000 || !all_fit(list, width) {
         return Ok(false);
     }
-    let matrix = BinaryWaveletMatrix::build(alloc, list, width)?;
-    let mut agrees = each_agrees(&matrix, list);
+    let matrix = if compact {
+        BinaryWaveletMatrix::build_compact(alloc, list, width)?
+    } else {
+        BinaryWaveletMatrix::build(alloc, list, width)?
+    };
+    let mut agrees = matrix.is_compact() == compact && each_agrees(&matrix, list);
     for start in 0..list.len() {
         for bound in 0..10 {
             agrees &= bound_agrees(&matrix, list, start, bound);
@@ -159,7 +163,8 @@ fn numbers_of_one_three_and_all_digits_are_answered_as_a_walk_answers(
     rt: HostRuntime,
 ) -> Result<(), Fail> {
     for (len, width) in [(100, 1), (60, 3), (40, 64), (0, 5)] {
-        assert!(rt; all_agrees(rt.alloc(), len, width)?);
+        assert!(rt; all_agrees(rt.alloc(), len, width, false)?);
+        assert!(rt; all_agrees(rt.alloc(), len, width, true)?);
     }
     Ok(())
 }
@@ -171,6 +176,8 @@ fn a_million_answers_are_those_of_a_count(rt: HostRuntime) -> Result<(), Fail> {
     assert!(rt; list.len() == 1 << 18 && all_fit(list, 10));
     let matrix = BinaryWaveletMatrix::build(rt.alloc(), list, 10)?;
     assert!(rt; counts_agree(&matrix, list));
+    let compact = BinaryWaveletMatrix::build_compact(rt.alloc(), list, 10)?;
+    assert!(rt; counts_agree(&compact, list));
     Ok(())
 }
 

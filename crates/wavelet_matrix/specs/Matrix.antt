@@ -1,26 +1,29 @@
 -- The numbers that bits hold level by level.
-use Rattle.std.specs.Prelude.{◌≡◌, ℕ, ◌+◌, ◌-◌, ◌*◌, ◌/◌, ◌^◌, ◌<◌, ◌≤◌, Bool, false, if◌then◌else◌, List, map, take, drop, length, slice_index, count_by, All, zero, suc}
+use Rattle.std.specs.Prelude.{◌≡◌, ℕ, ◌+◌, ◌-◌, ◌*◌, ◌/◌, ◌^◌, ◌<◌, ◌≤◌, Bool, true, false, if◌then◌else◌, List, map, take, drop, length, slice_index, count_by, All, zero, suc}
 use Rattle.std.specs.Int.{div_ceil}
 use Rattle.std.specs.List.{range_with_len}
 use Rattle.bitm.specs.Bits.{item}
 use Rattle.bitm.specs.Count.{ones_before, zeros_before, zeros_of, count_of, Picks}
 use Rattle.bitm.specs.Quarters.{AreQuartersOf}
-use Rattle.bitm.specs.Reads.{OnlyReads}
+use Rattle.bitm.specs.Reads.{ReadsAtMost}
 use Rattle.bitm.specs.Tables.{IsIndexed, Lists, bits_in}
 use Rattle.bitm.specs.ReadCounts.{ReadCounts}
 use Rattle.wavelet_matrix.specs.Levels.{columns, has_digit, known_of, level, level_place}
 use Rattle.wavelet_matrix.specs.Numbers.{PicksItem}
 
--- what a matrix is seen as: numbers, each of `width` binary digits at most, and the two strategies that select
+-- what a matrix is seen as: numbers, each of `width` binary digits at most, whether it is compact, which is one without
+-- quarters, and the two strategies that select
 pub record Numbers (S S0 : Type 0) : Type 0 where
   pub items : List ℕ
   pub width : ℕ
+  pub compact : Bool
   pub select : S
   pub select0 : S0
 
 -- what the levels are seen as: `len` numbers of `width` digits; for each level how many ones stand before it among the
 -- bits of all levels, and how many of its items have the digit 0; and for each number of `known` digits, where those
--- that begin with it start after so many levels; and for each record of these bits the ones before it and its quarters
+-- that begin with it start after so many levels; and, unless they are compact, for each record of these bits the ones
+-- before it and its quarters
 pub record LevelTables : Type 0 where
   pub len : ℕ
   pub width : ℕ
@@ -28,6 +31,7 @@ pub record LevelTables : Type 0 where
   pub zeros : List ℕ
   pub known : ℕ
   pub starts : List ℕ
+  pub compact : Bool
   pub quarters : List ℕ
 
 -- where the item at place p of a level with these digits stands at the next
@@ -67,7 +71,8 @@ pub record IsMatrixOf (xs : List ℕ) (l : LevelTables) (b : List Bool) : Type 0
   pub starts_len : length l.starts ≡ 2 ^ l.known
   pub starts_are : (x : ℕ) → x < 2 ^ l.width
       → slice_index l.starts (x / 2 ^ (l.width - l.known)) ≡ level_place xs l.width x l.known 0
-  pub quarters_are : AreQuartersOf b l.quarters
+  pub quarters_are : l.compact ≡ false → AreQuartersOf b l.quarters
+  pub no_quarters : l.compact ≡ true → length l.quarters ≡ 0
 
 -- the bit v of rank r is that of an item of level d: x, with k equal to it before on that level
 pub record IsBitOf (xs : List ℕ) (l : LevelTables) (b : List Bool) (d x k : ℕ) (v : Bool) (r : ℕ) : Type 0 where
@@ -88,13 +93,21 @@ pub record IsMatrix (l : LevelTables) (lists : Lists) : Type 0 where
 abbrev pub level_in : LevelTables → Lists → ℕ → List ℕ
 level_in l lists d = level (numbers_in l lists) l.width d
 
--- a call only read, what at most k ranks read: k upper entries and 2 k words
-abbrev pub OnlyRanks : {S : Type 0} → (S → Lists) → (S → ReadCounts) → S → S → ℕ → Type 0
-OnlyRanks lists_of reads_of old new k = OnlyReads lists_of reads_of old new k 0 (2 * k)
+-- a call only read, what at most k ranks on these levels read: k upper entries, k lower ones and 8 k words, and with
+-- quarters no lower entry and 2 k words
+pub record OnlyRanks {S : Type 0} (l : LevelTables) (lists_of : S → Lists) (reads_of : S → ReadCounts) (old new : S) (k : ℕ)
+    : Type 0 where
+  pub at_most : ReadsAtMost (reads_of old) (reads_of new) k k (8 * k)
+  pub quick : l.compact ≡ false → ReadsAtMost (reads_of old) (reads_of new) k 0 (2 * k)
+  pub same : lists_of new ≡ lists_of old
 
 -- as many words as n numbers of w digits take
 abbrev pub words_of : ℕ → ℕ → ℕ
 words_of n w = div_ceil (w * n) 64
+
+-- how many numbers of quarters so many words have: one for each begun eight of them, and a compact matrix none
+abbrev pub quarters_for : Bool → ℕ → ℕ
+quarters_for compact words = if compact then 0 else div_ceil words 8
 
 -- as many words as the numbers take, and as many known digits as their starts are to have
 pub record IsTight (l : LevelTables) (ws : List ℕ) : Type 0 where

@@ -14,13 +14,14 @@ impl Levels {
     /// # Conditions
     /// The levels are those of the source, and there is such a number.
     /// # Cost
-    /// For each digit what a rank reads: at most one upper entry, no lower one and two words.
+    /// For each digit what a rank reads: at most one upper entry, no lower one and two words; of compact levels at most
+    /// one upper entry, one lower one and eight words.
     #[inline(always)]
     pub fn get_on<T: TableSource>(&self, source: &mut T, i: usize) -> u64
         requires matrix { IsMatrix self.now (T.lists source.old) }
         requires inside { i < self.now.len }
         ensures number { result ≡ slice_index (numbers_in self.now (T.lists source.old)) i }
-        ensures reads { OnlyRanks T.lists T.reads source.old source.new self.now.width }
+        ensures reads { OnlyRanks self.now T.lists T.reads source.old source.new self.now.width }
     {
         let mut place = i;
         let mut number = 0;
@@ -50,7 +51,7 @@ impl Levels {
             (p : ℕ) → place ≡ level_place numbers self.now.width number from p
             → result ≡ level_place numbers self.now.width number to p }
         ensures inside { result ≤ self.now.len }
-        ensures reads { OnlyRanks T.lists T.reads source.old source.new (to - from) }
+        ensures reads { OnlyRanks self.now T.lists T.reads source.old source.new (to - from) }
     {
         let last = self.width() - 1;
         let mut at = place;
@@ -80,7 +81,7 @@ impl Levels {
         ensures last { let numbers = numbers_in self.now (T.lists source.old) in
             (p : ℕ) → end ≡ level_place numbers self.now.width number from p
             → result.1 ≡ level_place numbers self.now.width number self.now.width p }
-        ensures reads { OnlyRanks T.lists T.reads source.old source.new
+        ensures reads { OnlyRanks self.now T.lists T.reads source.old source.new
             (2 * (self.now.width - from)) }
     {
         let width = self.width();
@@ -109,7 +110,7 @@ impl Levels {
             self.now.width number self.now.width 0 }
         ensures last { result.1 ≡ level_place (numbers_in self.now (T.lists source.old))
             self.now.width number self.now.width end }
-        ensures reads { OnlyRanks T.lists T.reads source.old source.new
+        ensures reads { OnlyRanks self.now T.lists T.reads source.old source.new
             (2 * self.now.width - self.now.known) }
     {
         let start = self.start_of(source, number);
@@ -125,7 +126,7 @@ impl Levels {
         requires fit { number < 2 ^ self.now.width }
         ensures start { result ≡ level_place (numbers_in self.now (T.lists source.old))
             self.now.width number self.now.width 0 }
-        ensures reads { OnlyRanks T.lists T.reads source.old source.new
+        ensures reads { OnlyRanks self.now T.lists T.reads source.old source.new
             (self.now.width - self.now.known) }
     {
         let start = self.start_of(source, number);
@@ -143,7 +144,7 @@ impl Levels {
         requires matrix { IsMatrix self.now (T.lists source.old) }
         requires inside { i ≤ self.now.len }
         ensures count { result ≡ count_before (numbers_in self.now (T.lists source.old)) number i }
-        ensures reads { OnlyRanks T.lists T.reads source.old source.new
+        ensures reads { OnlyRanks self.now T.lists T.reads source.old source.new
             (2 * self.now.width - self.now.known) }
     {
         if !fits(number, self.width()) {
@@ -168,7 +169,7 @@ impl Levels {
         requires last { last ≡ level_place (numbers_in self.now (T.lists source.old))
             self.now.width number self.now.width i }
         ensures count { result ≡ count_before (numbers_in self.now (T.lists source.old)) number i }
-        ensures reads { OnlyRanks T.lists T.reads source.old source.new
+        ensures reads { OnlyRanks self.now T.lists T.reads source.old source.new
             (self.now.width - self.now.known) }
     {
         let _i = i;

@@ -24,6 +24,7 @@ mod many;
 mod matrix;
 mod range_queries;
 mod ranges;
+mod ranking;
 mod selecting;
 mod shared;
 mod walk;

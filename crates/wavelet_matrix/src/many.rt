@@ -29,7 +29,7 @@ impl Levels {
         requires same_length { length numbers.old ≡ length places.old }
         requires inside { All (λ p. p < self.now.len) places.old }
         ensures numbers { GetsEach (numbers_in self.now (T.lists source.old)) places.old numbers.new }
-        ensures reads { OnlyRanks T.lists T.reads source.old source.new
+        ensures reads { OnlyRanks self.now T.lists T.reads source.old source.new
             (self.now.width * length places.old) }
     {
         for k in 0..numbers.len() {
@@ -68,7 +68,7 @@ impl Levels {
         requires inside { All (λ p. p ≤ self.now.len) places.now }
         ensures ranks { RanksEach (numbers_in self.now (T.lists source.old))
             numbers.now places.now ranks.new }
-        ensures reads { OnlyRanks T.lists T.reads source.old source.new
+        ensures reads { OnlyRanks self.now T.lists T.reads source.old source.new
             ((2 * self.now.width - self.now.known) * length places.now) }
     {
         for k in 0..ranks.len() {

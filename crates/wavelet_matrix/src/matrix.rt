@@ -1,18 +1,18 @@
 //! The type of a matrix: its numbers by place and by value.
-ghost use Rattle.std.specs.Prelude.{◌≡◌, ◌==◌, ◌+◌, ◌*◌, ◌^◌, ◌<◌, ◌≤◌, All, IfOk, SomeIff, length, slice_index};
+ghost use Rattle.std.specs.Prelude.{◌≡◌, ◌==◌, ◌+◌, ◌*◌, ◌^◌, ◌<◌, ◌≤◌, true, false, All, IfOk, SomeIff, length, slice_index};
 ghost use Rattle.std.specs.Int.{div_ceil};
 ghost use Rattle.bitm.specs.Reads.{none_read};
 ghost use Rattle.bitm.specs.Size.{saturated_size};
 ghost use Rattle.wavelet_matrix.specs.Levels.{known_of, level};
-ghost use Rattle.wavelet_matrix.specs.Matrix.{IsMatrix, numbers_in, words_of};
+ghost use Rattle.wavelet_matrix.specs.Matrix.{IsMatrix, numbers_in, quarters_for, words_of};
 ghost use Rattle.wavelet_matrix.specs.Numbers.{count_before, GetsEach, PicksItem, IsItemRank, IsItemSelect};
 
 use crate::digits::{fits, known_for};
 use crate::walk::Levels;
-use crate::writing::make_levels;
+use crate::writing::{make_levels, quarters_unless};
 use bitm::{
     BinaryRankSearch, GetSize, Probe, RankSelect101111, Select, Select0, Select0ForRank101111,
-    SelectForRank101111, make_quarters,
+    SelectForRank101111,
 };
 use std::alloc::{AllocError, Global};
 use std::boxed::BoxedSlice;
@@ -25,7 +25,11 @@ use std::marker::Model;
 /// index: `n` numbers of `w` digits take `n * w` bits and the index, and sixteen bytes for each level. A table has for
 /// each number of some of the highest digits the place where the numbers that begin with it start after so many levels,
 /// so that a rank walks through these levels once and not twice. It has as many digits as leave its words no more than
-/// a 64th of these bits. A rank on a level goes by quarters (`bitm::rank_by_quarters_on`), which take an eighth.
+/// a 64th of these bits.
+///
+/// A rank on a level goes by quarters (`bitm::rank_by_quarters_on`), which take an eighth of these bits: it reads at most
+/// two words and no lower entry. A compact matrix (`build_compact`) has no quarters; there a rank goes by the index alone
+/// (`bitm::rank_on`) and reads at most eight words and one lower entry, so its answers take longer.
 ///
 /// For 3, 1, 4, 1, 5, 1 of three digits:
 ///
@@ -55,6 +59,7 @@ impl<S: SelectForRank101111, S0: Select0ForRank101111> Model for WaveletMatrix<S
     ghost view = { λ m. record {
       items = items_of (bits_of (boxed_slice_items m.index.content)) m.levels.width m.levels.len;
       width = m.levels.width;
+      compact = m.levels.compact;
       select = m.index.select;
       select0 = m.index.select0;
     } };
@@ -81,16 +86,64 @@ impl<S: SelectForRank101111, S0: Select0ForRank101111> WaveletMatrix<S, S0> {
         requires fit { All (λ x. x < 2 ^ width) numbers.now }
         ensures items { IfOk result (λ made. made.items ≡ numbers.now) }
         ensures width { IfOk result (λ made. made.width ≡ width) }
+        ensures compact { IfOk result (λ made. made.compact ≡ false) }
+    {
+        Self::build_by(alloc, numbers, width, false)
+    }
+
+    /// A matrix of the numbers, which are not changed, without quarters: it takes an eighth of the bits less than that of
+    /// `build`, and its answers take longer.
+    ///
+    /// # Conditions
+    /// Those of `build`.
+    /// # Errors
+    /// `AllocError` if memory was refused; nothing is left.
+    /// # Cost
+    /// That of `build`.
+    pub fn build_compact(alloc: Global, numbers: &[u64], width: u8) -> Result<Self, AllocError>
+        requires some { 1 ≤ width }
+        requires most { width ≤ 64 }
+        requires short { width * length numbers.now < 2 ^ 63 }
+        requires fit { All (λ x. x < 2 ^ width) numbers.now }
+        ensures items { IfOk result (λ made. made.items ≡ numbers.now) }
+        ensures width { IfOk result (λ made. made.width ≡ width) }
+        ensures compact { IfOk result (λ made. made.compact ≡ true) }
+    {
+        Self::build_by(alloc, numbers, width, true)
+    }
+
+    /// A matrix of the numbers, compact or with quarters.
+    fn build_by(
+        alloc: Global,
+        numbers: &[u64],
+        width: u8,
+        compact: bool,
+    ) -> Result<Self, AllocError>
+        requires some { 1 ≤ width }
+        requires most { width ≤ 64 }
+        requires short { width * length numbers.now < 2 ^ 63 }
+        requires fit { All (λ x. x < 2 ^ width) numbers.now }
+        ensures items { IfOk result (λ made. made.items ≡ numbers.now) }
+        ensures width { IfOk result (λ made. made.width ≡ width) }
+        ensures compact { IfOk result (λ made. made.compact ≡ compact) }
     {
         let content = make_levels(alloc, numbers, width)?;
         let Ok((index, _ones)) = RankSelect101111::build(alloc, content) else {
             return Err(AllocError);
         };
-        let quarters = make_quarters(alloc, &mut index.probe())?;
-        let mut levels = Levels::new(alloc, &index, numbers.len(), width, quarters)?;
+        let quarters = quarters_unless(alloc, &mut index.probe(), compact)?;
+        let mut levels = Levels::new(alloc, &index, numbers.len(), width, compact, quarters)?;
         let known = known_for(numbers.len(), width);
         levels.keep_starts(alloc, &mut index.probe(), known)?;
         Ok(WaveletMatrix { levels, index })
+    }
+
+    /// Whether it was built without quarters, by `build_compact`: its ranks go by the index alone.
+    #[inline(always)]
+    pub fn is_compact(&self) -> bool
+        ensures { result ≡ self.now.compact }
+    {
+        self.levels.is_compact()
     }
 
     /// How many numbers there are.
@@ -127,6 +180,7 @@ impl<S: SelectForRank101111, S0: Select0ForRank101111> WaveletMatrix<S, S0> {
         ensures items { numbers_in result.0.now result.1.lists ≡ self.now.items }
         ensures len { result.0.now.len ≡ length self.now.items }
         ensures width { result.0.now.width ≡ self.now.width }
+        ensures compact { result.0.now.compact ≡ self.now.compact }
         ensures known { result.0.now.known ≡ known_of (length self.now.items) self.now.width }
         ensures fit { All (λ x. x < 2 ^ self.now.width) self.now.items }
         ensures reads { result.1.reads ≡ none_read }
@@ -141,6 +195,7 @@ impl<S: SelectForRank101111, S0: Select0ForRank101111> WaveletMatrix<S, S0> {
     pub fn try_clone(&self, alloc: Global) -> Result<Self, AllocError>
         ensures items { IfOk result (λ copy. copy.items ≡ self.now.items) }
         ensures width { IfOk result (λ copy. copy.width ≡ self.now.width) }
+        ensures compact { IfOk result (λ copy. copy.compact ≡ self.now.compact) }
     {
         let levels = self.levels.try_clone(alloc)?;
         let index = self.index.try_clone(alloc)?;
@@ -285,10 +340,10 @@ impl<S: SelectForRank101111, S0: Select0ForRank101111> WaveletMatrix<S, S0> {
 
 impl<S: SelectForRank101111 + GetSize, S0: Select0ForRank101111 + GetSize> GetSize
     for WaveletMatrix<S, S0> {
-    // the words, eight bytes for each begun 2^26, each begun 32 and each begun eight of them, the two strategies,
-    // sixteen bytes for each level, and eight for each number of the known digits
+    // the words, eight bytes for each begun 2^26 and each begun 32 of them, and unless it is compact for each begun eight,
+    // the two strategies, sixteen bytes for each level, and eight for each number of the known digits
     ghost dyn_bytes = { λ m. let n = length m.items in let words = words_of n m.width in saturated_size
-        (8 * words + 8 * div_ceil words (2 ^ 26) + 8 * div_ceil words 32 + 8 * div_ceil words 8
+        (8 * words + 8 * div_ceil words (2 ^ 26) + 8 * div_ceil words 32 + 8 * quarters_for m.compact words
         + S.dyn_bytes m.select + S0.dyn_bytes m.select0
         + 16 * m.width + 8 * 2 ^ known_of n m.width) };
 

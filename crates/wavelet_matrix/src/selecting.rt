@@ -1,5 +1,5 @@
 //! The places of a number over any source, by binary search: what they read is counted.
-ghost use Rattle.std.specs.Prelude.{◌≡◌, ◌+◌, ◌-◌, ◌*◌, ◌<◌, ◌≤◌, length};
+ghost use Rattle.std.specs.Prelude.{◌≡◌, ◌+◌, ◌-◌, ◌*◌, ◌<◌, ◌≤◌, false, length};
 ghost use Rattle.bitm.specs.Bits.{digit_count};
 ghost use Rattle.bitm.specs.Reads.{OnlyReads};
 ghost use Rattle.wavelet_matrix.specs.Matrix.{IsMatrix, level_in, numbers_in};
@@ -52,6 +52,11 @@ impl Levels {
         ensures reads { let digits = digit_count (length (T.lists source.old).upper) in
             let ranks = self.now.width - self.now.known in
             OnlyReads T.lists T.reads source.old source.new
+            (ranks + self.now.width * (digits + 1)) (ranks + self.now.width * 23)
+            (8 * ranks + self.now.width * 8) }
+        ensures quick { let digits = digit_count (length (T.lists source.old).upper) in
+            let ranks = self.now.width - self.now.known in
+            self.now.compact ≡ false → OnlyReads T.lists T.reads source.old source.new
             (ranks + self.now.width * (digits + 1)) (self.now.width * 23)
             (2 * ranks + self.now.width * 8) }
     {

@@ -27,7 +27,7 @@ impl Levels {
             (level_in self.now (T.lists source.old) depth) range.start range.end result.0.start result.0.end }
         ensures ones { ArePlacesAfter (digit_place self.now depth) true
             (level_in self.now (T.lists source.old) depth) range.start range.end result.1.start result.1.end }
-        ensures reads { OnlyRanks T.lists T.reads source.old source.new 2 }
+        ensures reads { OnlyRanks self.now T.lists T.reads source.old source.new 2 }
     {
         let (start, end) = (range.start, range.end);
         let (before, through, _zeros) = self.part_on(source, depth, start, end);
@@ -59,7 +59,7 @@ impl Levels {
             IfOk result (λ _. AddsShared (slice_range items first.start first.end)
             (slice_range items second.start second.end) found.old.items found.new.items) }
         ensures reads { let items = level_in self.now (T.lists source.old) depth in
-            OnlyRanks T.lists T.reads source.old source.new
+            OnlyRanks self.now T.lists T.reads source.old source.new
             (4 * shared_prefixes (slice_range items first.start first.end)
             (slice_range items second.start second.end) (self.now.width - depth)) }
     {
@@ -104,7 +104,7 @@ impl Levels {
             IfOk result (λ found. AreShared (slice_range numbers first.start first.end)
             (slice_range numbers second.start second.end) found.items) }
         ensures reads { let numbers = numbers_in self.now (T.lists source.old) in
-            OnlyRanks T.lists T.reads source.old source.new
+            OnlyRanks self.now T.lists T.reads source.old source.new
             (4 * shared_prefixes (slice_range numbers first.start first.end)
             (slice_range numbers second.start second.end) self.now.width) }
     {

@@ -10,7 +10,7 @@ ghost use Rattle.wavelet_matrix.specs.Matrix.{IsBitOf, IsMatrix, IsMatrixOf, Onl
 ghost use Rattle.wavelet_matrix.specs.Numbers.{PicksItem};
 
 use crate::digits::{digit_of, without_lowest};
-use bitm::{Access, GetSize, TableSource, bit_and_rank_by_quarters_on, rank_by_quarters_on};
+use bitm::{Access, GetSize, TableSource};
 use std::alloc::{AllocError, Global};
 use std::boxed::BoxedSlice;
 use std::marker::Model;
@@ -18,7 +18,7 @@ use std::marker::Model;
 /// Where the levels of a matrix are among the bits of a source: how many numbers there are, of how many digits, and for
 /// each level how many ones stand before it, and how many of its items have the digit 0. A table says for each number of
 /// some of the highest digits, the known ones, where the numbers that begin with it start after so many levels. The
-/// quarters of the bits spare a rank the lower table and six words.
+/// quarters of the bits spare a rank the lower table and six words; compact levels have none.
 #[derive(Drop)]
 pub struct Levels {
     len: usize,
@@ -27,6 +27,7 @@ pub struct Levels {
     zeros: BoxedSlice<usize, Global>,
     known: u8,
     starts: BoxedSlice<usize, Global>,
+    compact: bool,
     quarters: BoxedSlice<u64, Global>,
 }
 
@@ -43,13 +44,14 @@ impl Model for Levels {
       zeros = boxed_slice_items l.zeros;
       known = l.known;
       starts = boxed_slice_items l.starts;
+      compact = l.compact;
       quarters = boxed_slice_items l.quarters;
     } };
 }
 
 impl Levels {
     /// The levels of `len` numbers of `width` digits, whose bits the index has from its first one on, with these
-    /// quarters. No digits are known from the table of starts, which says that all numbers start at place 0.
+    /// quarters, or compact. No digits are known from the table of starts, which says that all numbers start at place 0.
     ///
     /// # Errors
     /// `AllocError` if memory was refused; nothing is left.
@@ -60,6 +62,7 @@ impl Levels {
         index: &I,
         len: usize,
         width: u8,
+        compact: bool,
         quarters: BoxedSlice<u64, Global>,
     ) -> Result<Levels, AllocError>
         requires short { width * len < 2 ^ 63 }
@@ -70,6 +73,7 @@ impl Levels {
         ensures zeros_len { IfOk result (λ made. length made.zeros ≡ width) }
         ensures known { IfOk result (λ made. made.known ≡ 0) }
         ensures starts { IfOk result (λ made. made.starts ≡ 0 ∷ []) }
+        ensures compact { IfOk result (λ made. made.compact ≡ compact) }
         ensures quarters { IfOk result (λ made. made.quarters ≡ boxed_slice_items quarters) }
         ensures ones { IfOk result (λ made. (d : ℕ) → d < width
             → slice_index made.ones d ≡ ones_before (I.bits index.now) (d * len)) }
@@ -94,6 +98,7 @@ impl Levels {
             zeros: zeros.into_boxed_slice(),
             known: 0,
             starts: starts.into_boxed_slice(),
+            compact,
             quarters,
         })
     }
@@ -115,6 +120,7 @@ impl Levels {
         requires few { known < 64 }
         ensures len { self.new.len ≡ self.old.len }
         ensures width { self.new.width ≡ self.old.width }
+        ensures compact { self.new.compact ≡ self.old.compact }
         ensures known { IfOk result (λ _. self.new.known ≡ known) }
         ensures matrix { IfOk result (λ _. IsMatrixOf (numbers_in self.old (T.lists source.old))
             self.new (bits_in (T.lists source.old))) }
@@ -150,6 +156,7 @@ impl Levels {
             zeros: zeros.into_boxed_slice(),
             known: self.known,
             starts: starts.into_boxed_slice(),
+            compact: self.compact,
             quarters: quarters.into_boxed_slice(),
         })
     }
@@ -160,6 +167,22 @@ impl Levels {
         ensures { result ≡ self.now.known }
     {
         self.known
+    }
+
+    /// Whether there are no quarters, so that ranks go by the index alone.
+    #[inline(always)]
+    pub fn is_compact(&self) -> bool
+        ensures { result ≡ self.now.compact }
+    {
+        self.compact
+    }
+
+    /// The quarters, none where the levels are compact.
+    #[inline(always)]
+    pub(crate) fn quarters(&self) -> &[u64]
+        ensures { result.now ≡ self.now.quarters }
+    {
+        self.quarters.as_slice()
     }
 
     /// Where the numbers that begin with the known digits of this one start after so many levels.
@@ -203,7 +226,7 @@ impl Levels {
 
     /// How many ones stand before a level.
     #[inline(always)]
-    fn ones_before_level(&self, depth: u8) -> usize
+    pub(crate) fn ones_before_level(&self, depth: u8) -> usize
         requires { depth < length self.now.ones }
         ensures { result ≡ slice_index self.now.ones depth }
     {
@@ -219,42 +242,10 @@ impl Levels {
         self.zeros[depth as usize]
     }
 
-    /// How many ones stand among the bits of all levels before a place of a level.
-    #[inline(always)]
-    fn ones_before_on<T: TableSource>(&self, source: &mut T, depth: u8, place: usize) -> usize
-        requires matrix { IsMatrix self.now (T.lists source.old) }
-        requires depth { depth < self.now.width }
-        requires inside { place ≤ self.now.len }
-        ensures ones { result ≡ ones_before (bits_in (T.lists source.old)) (depth * self.now.len + place) }
-        ensures reads { OnlyRanks T.lists T.reads source.old source.new 1 }
-    {
-        let start = depth as usize * self.len();
-        rank_by_quarters_on(source, self.quarters.as_slice(), start + place)
-    }
-
-    /// How many of the first items of a level have the digit 1.
-    #[inline(always)]
-    pub(crate) fn ones_to_on<T: TableSource>(
-        &self,
-        source: &mut T,
-        depth: u8,
-        place: usize,
-    ) -> usize
-        requires matrix { IsMatrix self.now (T.lists source.old) }
-        requires depth { depth < self.now.width }
-        requires inside { place ≤ self.now.len }
-        ensures count { result ≡ count_by (has_digit (digit_place self.now depth) true)
-            (take place (level_in self.now (T.lists source.old) depth)) }
-        ensures reads { OnlyRanks T.lists T.reads source.old source.new 1 }
-    {
-        let ones = self.ones_before_on(source, depth, place);
-        ones - self.ones_before_level(depth)
-    }
-
     /// Where an item with this digit at a place of a level stands at the next level, where so many ones stand among the
     /// bits of all levels before it.
     #[inline(always)]
-    fn place_by_rank<T: TableSource>(
+    pub(crate) fn place_by_rank<T: TableSource>(
         &self,
         source: &T,
         depth: u8,
@@ -301,53 +292,6 @@ impl Levels {
     {
         let rank = self.ones_before_level(depth) + ones;
         self.place_by_rank(source, depth, digit, place, rank)
-    }
-
-    /// Where an item with this digit at a place of a level stands at the next level.
-    #[inline(always)]
-    pub(crate) fn next_on<T: TableSource>(
-        &self,
-        source: &mut T,
-        depth: u8,
-        digit: bool,
-        place: usize,
-    ) -> usize
-        requires matrix { IsMatrix self.now (T.lists source.old) }
-        requires depth { depth < self.now.width }
-        requires inside { place ≤ self.now.len }
-        ensures next { result ≡ partition_place (digit_place self.now depth) digit
-            (level_in self.now (T.lists source.old) depth) place }
-        ensures reads { OnlyRanks T.lists T.reads source.old source.new 1 }
-    {
-        let rank = self.ones_before_on(source, depth, place);
-        self.place_by_rank(source, depth, digit, place, rank)
-    }
-
-    /// The digit by which the item at a place of a level is partitioned, and where it stands at the next level.
-    #[inline(always)]
-    pub(crate) fn digit_and_next_on<T: TableSource>(
-        &self,
-        source: &mut T,
-        depth: u8,
-        place: usize,
-    ) -> (bool, usize)
-        requires matrix { IsMatrix self.now (T.lists source.old) }
-        requires depth { depth < self.now.width }
-        requires inside { place < self.now.len }
-        ensures digit { result.0
-            ≡ digit (slice_index (level_in self.now (T.lists source.old) depth) place)
-            (digit_place self.now depth) }
-        ensures next { result.1 ≡ partition_place (digit_place self.now depth) result.0
-            (level_in self.now (T.lists source.old) depth) place }
-        ensures reads { OnlyRanks T.lists T.reads source.old source.new 1 }
-    {
-        let start = depth as usize * self.len();
-        let (digit, rank) = bit_and_rank_by_quarters_on(
-            source,
-            self.quarters.as_slice(),
-            start + place,
-        );
-        (digit, self.place_by_rank(source, depth, digit, place, rank))
     }
 
     /// Which bit of the source is that of the item that stands, with `k` equal to `number` before it, at a place of the

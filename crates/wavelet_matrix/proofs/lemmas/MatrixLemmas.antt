@@ -13,7 +13,7 @@ use Rattle.bitm.specs.Tables.{IsIndexed, Lists, bits_in}
 use Rattle.bitm.specs.Count.{count_before, ones_before, zeros_before}
 use Rattle.bitm.proofs.BitLaws.{bits_are_counted, count_in_stretch, item_of_stretch, ones_and_zeros}
 use Rattle.wavelet_matrix.specs.Levels.{has_digit, partition, column, columns, level, known_of, level_place, partition_place}
-use Rattle.wavelet_matrix.specs.Matrix.{LevelTables, IsMatrix, IsMatrixOf, IsTight, words_of, digit_place, items_of, low_part, next_place, numbers_in}
+use Rattle.wavelet_matrix.specs.Matrix.{LevelTables, IsMatrix, IsMatrixOf, IsTight, quarters_for, words_of, digit_place, items_of, low_part, next_place, numbers_in}
 use Rattle.wavelet_matrix.proofs.lemmas.ColumnLemmas.{column-at, length-level, length-column, count-column, item-column}
 use Rattle.wavelet_matrix.proofs.lemmas.PartLemmas.{item-moved, moved-inside}
 use Rattle.wavelet_matrix.proofs.lemmas.StartLemmas.{starts-from-begins, starts-of-none}
@@ -151,12 +151,12 @@ module _ (xs : List ℕ) (l : LevelTables) (b : List Bool) (h : IsMatrixOf xs l 
 -- the tables of what was written are those of the levels
 pub made-matrix : (xs : List ℕ) (l : LevelTables) (b : List Bool) (w : ℕ) → l.len ≡ length xs → l.width ≡ w → 1 ≤ w → w ≤ 64 → w * length xs < 2 ^ 63
     → All (λ x. x < 2 ^ w) xs → w * length xs ≤ length b → take (w * length xs) b ≡ columns xs w w → length l.ones ≡ w → length l.zeros ≡ w
-    → l.known ≡ 0 → l.starts ≡ 0 ∷ [] → AreQuartersOf b l.quarters
+    → l.known ≡ 0 → l.starts ≡ 0 ∷ [] → (l.compact ≡ false → AreQuartersOf b l.quarters) → (l.compact ≡ true → length l.quarters ≡ 0)
     → ((d : ℕ) → d < w → get_or l.ones d 0 ≡ ones_before b (d * length xs))
     → ((d : ℕ) → d < w → zeros_before b (d * length xs) + get_or l.zeros d 0 ≡ zeros_before b (d * length xs + length xs))
     → IsMatrixOf xs l b
-made-matrix xs l b w len width some most short fit room levels ones_len zeros_len known starts quarters ones zeros =
-    let Goal : ℕ → ℕ → ℕ → List ℕ → Type 0 = λ n v k s. IsMatrixOf xs (record { len = n; width = v; ones = l.ones; zeros = l.zeros; known = k; starts = s; quarters = l.quarters }) b in
+made-matrix xs l b w len width some most short fit room levels ones_len zeros_len known starts quarters no_quarters ones zeros =
+    let Goal : ℕ → ℕ → ℕ → List ℕ → Type 0 = λ n v k s. IsMatrixOf xs (record { len = n; width = v; ones = l.ones; zeros = l.zeros; known = k; starts = s; compact = l.compact; quarters = l.quarters }) b in
     let P : ℕ → Type 0 = λ n. Goal n l.width l.known l.starts in
     let Q : ℕ → Type 0 = λ v. Goal (length xs) v l.known l.starts in
     let R : ℕ → Type 0 = λ k. Goal (length xs) w k l.starts in
@@ -177,6 +177,7 @@ made-matrix xs l b w len width some most short fit room levels ones_len zeros_le
       starts_len = refl;
       starts_are = starts-of-none xs w;
       quarters_are = quarters;
+      no_quarters = no_quarters;
     }))))
 
 -- and so they are with starts
@@ -200,15 +201,21 @@ matrix-with-starts xs l b known starts h most len each = record {
   starts_len = len;
   starts_are = starts-from-begins xs l.width known starts most each;
   quarters_are = h.quarters_are;
+  no_quarters = h.no_quarters;
 }
 
--- there are as many numbers of quarters as records
-pub quarters_of_words : (ws quarters : List ℕ) → AreQuartersOf (bits_of ws) quarters → length quarters ≡ div_ceil (length ws) 8
-quarters_of_words ws quarters h =
-    omega (arith, h.len, records (length ws), ap (λ (n : ℕ). div_ceil n 512) (bits_are_counted ws))
+-- there are as many numbers of quarters as records, or none
+pub quarters_of_words : (xs : List ℕ) (l : LevelTables) (ws : List ℕ) → IsMatrixOf xs l (bits_of ws)
+    → length l.quarters ≡ quarters_for l.compact (length ws)
+quarters_of_words xs l ws h = of l.compact h.quarters_are h.no_quarters
   where
     records : (n : ℕ) → div_ceil (64 * n) 512 ≡ div_ceil n 8
     records n = grind arith
+
+    of : (v : Bool) → (v ≡ false → AreQuartersOf (bits_of ws) l.quarters) → (v ≡ true → length l.quarters ≡ 0)
+        → length l.quarters ≡ quarters_for v (length ws)
+    of true _ none = none refl
+    of false some _ = omega (arith, (some refl).len, records (length ws), ap (λ (n : ℕ). div_ceil n 512) (bits_are_counted ws))
 
 -- over a source whose words hold the levels
 pub is-matrix : (xs : List ℕ) (l : LevelTables) (lists : Lists) (ws : List ℕ) → IsIndexed lists → lists.words ≡ ws → IsMatrixOf xs l (bits_of ws) → IsMatrix l lists

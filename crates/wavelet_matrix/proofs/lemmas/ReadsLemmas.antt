@@ -1,30 +1,41 @@
 -- Ranks that were read one after another.
-use Rattle.std.proofs.Common.{ℕ, ◌+◌, ◌≤◌, refl, ◌∙◌, arith}
+use Rattle.std.proofs.Common.{ℕ, ◌+◌, ◌*◌, ◌≤◌, refl, ◌∙◌, arith}
 use Rattle.bitm.specs.ReadCounts.{ReadCounts}
+use Rattle.bitm.specs.Reads.{ReadsAtMost}
 use Rattle.bitm.specs.Tables.{Lists}
-use Rattle.wavelet_matrix.specs.Matrix.{OnlyRanks}
+use Rattle.wavelet_matrix.specs.Matrix.{LevelTables, OnlyRanks}
 
-module _ {S : Type 0} (lists_of : S → Lists) (reads_of : S → ReadCounts) where
-  pub ranks-none : (s : S) → OnlyRanks lists_of reads_of s s 0
-  ranks-none s = record { at_most = record { upper = omega arith; lower = omega arith; words = omega arith }; same = refl }
+none : (a : ReadCounts) → ReadsAtMost a a 0 0 0
+none a = record { upper = omega arith; lower = omega arith; words = omega arith }
 
-  pub ranks-more : (s t u : S) (j i k : ℕ) → OnlyRanks lists_of reads_of s t j → OnlyRanks lists_of reads_of t u i → j + i ≤ k
-      → OnlyRanks lists_of reads_of s u k
-  ranks-more s t u j i k first next few = record {
-    at_most = record {
-      upper = omega (arith, first.at_most.upper, next.at_most.upper, few);
-      lower = omega (arith, first.at_most.lower, next.at_most.lower, few);
-      words = omega (arith, first.at_most.words, next.at_most.words, few);
-    };
-    same = next.same ∙ first.same;
+fewer : (a b : ReadCounts) (u v w x y z : ℕ) → ReadsAtMost a b u v w → u ≤ x → v ≤ y → w ≤ z → ReadsAtMost a b x y z
+fewer a b u v w x y z h uppers lowers words =
+    record { upper = omega (arith, h.upper, uppers); lower = omega (arith, h.lower, lowers); words = omega (arith, h.words, words) }
+
+more : (a b c : ReadCounts) (u v w x y z : ℕ) → ReadsAtMost a b u v w → ReadsAtMost b c x y z → ReadsAtMost a c (u + x) (v + y) (w + z)
+more a b c u v w x y z first next = record {
+  upper = omega (arith, first.upper, next.upper);
+  lower = omega (arith, first.lower, next.lower);
+  words = omega (arith, first.words, next.words);
+}
+
+module _ {S : Type 0} (l : LevelTables) (lists_of : S → Lists) (reads_of : S → ReadCounts) where
+  pub ranks-none : (s : S) → OnlyRanks l lists_of reads_of s s 0
+  ranks-none s = record { at_most = none (reads_of s); quick = λ _. none (reads_of s); same = refl }
+
+  pub ranks-fewer : (s t : S) (j k : ℕ) → OnlyRanks l lists_of reads_of s t j → j ≤ k → OnlyRanks l lists_of reads_of s t k
+  ranks-fewer s t j k h few = record {
+    at_most = fewer (reads_of s) (reads_of t) j j (8 * j) k k (8 * k) h.at_most few few (omega (arith, few));
+    quick = λ e. fewer (reads_of s) (reads_of t) j 0 (2 * j) k 0 (2 * k) (h.quick e) few (omega arith) (omega (arith, few));
+    same = h.same;
   }
 
-  pub ranks-fewer : (s t : S) (j k : ℕ) → OnlyRanks lists_of reads_of s t j → j ≤ k → OnlyRanks lists_of reads_of s t k
-  ranks-fewer s t j k h few = record {
-    at_most = record {
-      upper = omega (arith, h.at_most.upper, few);
-      lower = omega (arith, h.at_most.lower, few);
-      words = omega (arith, h.at_most.words, few);
-    };
-    same = h.same;
+  pub ranks-more : (s t u : S) (j i k : ℕ) → OnlyRanks l lists_of reads_of s t j → OnlyRanks l lists_of reads_of t u i → j + i ≤ k
+      → OnlyRanks l lists_of reads_of s u k
+  ranks-more s t u j i k first next few = record {
+    at_most = fewer (reads_of s) (reads_of u) (j + i) (j + i) (8 * j + 8 * i) k k (8 * k)
+        (more (reads_of s) (reads_of t) (reads_of u) j j (8 * j) i i (8 * i) first.at_most next.at_most) few few (omega (arith, few));
+    quick = λ e. fewer (reads_of s) (reads_of u) (j + i) 0 (2 * j + 2 * i) k 0 (2 * k)
+        (more (reads_of s) (reads_of t) (reads_of u) j 0 (2 * j) i 0 (2 * i) (first.quick e) (next.quick e)) few (omega arith) (omega (arith, few));
+    same = next.same ∙ first.same;
   }

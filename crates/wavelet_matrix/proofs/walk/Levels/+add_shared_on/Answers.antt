@@ -149,8 +149,8 @@ returns-in_err-add_shared_on-clause-reads g t c =
     let R = g.T.TableSource.reads in
     let walk = shared_prefixes (slice_range (level xs l.width d) c.args.first.start c.args.first.end)
     (slice_range (level xs l.width d) c.args.second.start c.args.second.end) (l.width - d) in
-    let both = ranks-more L R c.args.source.now c.halves_on.new.source c.halves_on-2.new.source 2 2 4 c.halves_on.ensures.reads c.halves_on-2.ensures.reads (omega arith) in
-    ranks-more L R c.args.source.now c.halves_on-2.new.source c.add_shared_on.new.source 4 (4 * S0 (L c.halves_on-2.new.source)) (4 * walk) both c.add_shared_on.ensures.reads
+    let both = ranks-more c.args.self.now L R c.args.source.now c.halves_on.new.source c.halves_on-2.new.source 2 2 4 c.halves_on.ensures.reads c.halves_on-2.ensures.reads (omega arith) in
+    ranks-more c.args.self.now L R c.args.source.now c.halves_on-2.new.source c.add_shared_on.new.source 4 (4 * S0 (L c.halves_on-2.new.source)) (4 * walk) both c.add_shared_on.ensures.reads
     (omega (arith, walked, ap S0 same2))
 
 pub returns-clause-reads : goal.returns-clause-reads
@@ -178,8 +178,8 @@ returns-clause-reads g t c =
     let R = g.T.TableSource.reads in
     let walk = shared_prefixes (slice_range (level xs l.width d) c.args.first.start c.args.first.end)
     (slice_range (level xs l.width d) c.args.second.start c.args.second.end) (l.width - d) in
-    let both = ranks-more L R c.args.source.now c.halves_on.new.source c.halves_on-2.new.source 2 2 4 c.halves_on.ensures.reads c.halves_on-2.ensures.reads (omega arith) in
-    let first = ranks-more L R c.args.source.now c.halves_on-2.new.source c.add_shared_on.new.source 4 (4 * S0 (L c.halves_on-2.new.source)) (4 + 4 * S0 (L c.halves_on-2.new.source))
+    let both = ranks-more c.args.self.now L R c.args.source.now c.halves_on.new.source c.halves_on-2.new.source 2 2 4 c.halves_on.ensures.reads c.halves_on-2.ensures.reads (omega arith) in
+    let first = ranks-more c.args.self.now L R c.args.source.now c.halves_on-2.new.source c.add_shared_on.new.source 4 (4 * S0 (L c.halves_on-2.new.source)) (4 + 4 * S0 (L c.halves_on-2.new.source))
     both c.add_shared_on.ensures.reads (omega arith) in
-    ranks-more L R c.args.source.now c.add_shared_on.new.source c.add_shared_on-2.new.source (4 + 4 * S0 (L c.halves_on-2.new.source)) (4 * S1 (L c.add_shared_on.new.source)) (4 * walk) first c.add_shared_on-2.ensures.reads
+    ranks-more c.args.self.now L R c.args.source.now c.add_shared_on.new.source c.add_shared_on-2.new.source (4 + 4 * S0 (L c.halves_on-2.new.source)) (4 * S1 (L c.add_shared_on.new.source)) (4 * walk) first c.add_shared_on-2.ensures.reads
     (omega (arith, walked, ap S0 same2, ap S1 same3))

@@ -36,7 +36,7 @@ loop-depth-init g c =
       first = level_place-first xs l.width c.args.bound c.args.start;
       last = level_place-first xs l.width c.args.bound c.args.end;
       less = less-first l.width _ (slice_range xs c.args.start c.args.end) (sym none);
-      reads = ranks-none T.lists T.reads c.args.source.now;
+      reads = ranks-none c.args.self.now T.lists T.reads c.args.source.now;
     }
 
 -- what begins as the bound does stands between the two places
@@ -122,7 +122,7 @@ loop-depth-preserved g c =
         | then-digit w ↦ w.count-is ∙ less-number-one xs l.width d x ys _ _ less r v dig w.if-digit.true _ _ zeros i.less
         | else-digit w ↦ w.count-is ∙ less-number-zero xs l.width d x ys _ _ less r v dig w.if-digit.false _ i.less
       ];
-      reads = ranks-more T.lists T.reads c.args.source.now c.loop-depth.source _ (2 * d) 2 (2 * (d + 1)) i.reads c.part_on-before.ensures.reads (omega arith);
+      reads = ranks-more c.args.self.now T.lists T.reads c.args.source.now c.loop-depth.source _ (2 * d) 2 (2 * (d + 1)) i.reads c.part_on-before.ensures.reads (omega arith);
     }
 
 pub returns-clause-count : goal.returns-clause-count

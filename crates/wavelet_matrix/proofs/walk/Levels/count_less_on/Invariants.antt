@@ -13,5 +13,5 @@ invariant-loop-depth g l =
       first : l.first ≡ level_place xs w l.bound l.depth l.start;
       last : l.last ≡ level_place xs w l.bound l.depth l.end;
       less : l.count ≡ count_by (has_lesser_prefix (w - l.depth) (l.bound / 2 ^ (w - l.depth))) (slice_range xs l.start l.end);
-      reads : OnlyRanks T.lists T.reads l.fn.source l.source (2 * l.depth);
+      reads : OnlyRanks l.self T.lists T.reads l.fn.source l.source (2 * l.depth);
     }

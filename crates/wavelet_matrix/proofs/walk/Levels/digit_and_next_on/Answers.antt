@@ -1,6 +1,5 @@
--- The bit at the place, and the ones before it.
-use Rattle.std.proofs.Common.{ℕ, ◌+◌, ◌*◌, ap, ◌∙◌}
-use Rattle.bitm.specs.Bits.{item}
+-- The bit at the place is the item's digit.
+use Rattle.std.proofs.Common.{◌∙◌}
 use Rattle.bitm.specs.Tables.{bits_in}
 use Rattle.wavelet_matrix.specs.Matrix.{numbers_in}
 use Rattle.wavelet_matrix.proofs.lemmas.MatrixLemmas.{digit-is}
@@ -10,6 +9,5 @@ pub returns-clause-digit : goal.returns-clause-digit
 returns-clause-digit g c =
     let l = c.args.self.now in
     let lists = g.T.TableSource.lists c.args.source.now in
-    c.bit_and_rank_by_quarters_on-digit.ensures.bit
-    ∙ ap (λ (n : ℕ). item (bits_in lists) (c.args.depth * n + c.args.place)) c.len.ensures
+    c.bit_and_ones_before_on-digit.ensures.bit
     ∙ digit-is (numbers_in l lists) l (bits_in lists) c.requires.matrix.numbers c.args.depth c.args.place c.requires.depth c.requires.inside

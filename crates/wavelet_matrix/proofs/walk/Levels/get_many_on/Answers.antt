@@ -22,7 +22,7 @@ loop-depth-init g c =
           let P : ℕ → Type 0 = λ n. IsAtLevel xs l.width 0 (get_or c.args.places.now i 0) (get_or c.args.places.now i 0) n in
           subst P (sym (c.loop-k.invariant.zeros i (omega (arith, less, c.loop-k-test.false, c.loop-k.invariant.long))))
           (level-first xs l.width h.fit h.most (get_or c.args.places.now i 0) (omega (arith, c.requires.inside i 0 less, h.count)));
-      reads = ranks-fewer T.lists T.reads c.args.source.now c.args.source.now 0 (0 * length c.args.places.now) (ranks-none T.lists T.reads c.args.source.now)
+      reads = ranks-fewer c.args.self.now T.lists T.reads c.args.source.now c.args.source.now 0 (0 * length c.args.places.now) (ranks-none c.args.self.now T.lists T.reads c.args.source.now)
           (omega arith);
     }
 
@@ -95,6 +95,6 @@ loop-j-preserved g c =
       done = done-more (P (d + 1)) c.loop-j.places c.loop-j.numbers j _ _ within room i.done
           (next g (goal.at.loop-j-preserved g c).After-digit_and_next_on-digit);
       rest = open-less (P d) c.loop-j.places c.loop-j.numbers j _ _ within room n i.rest;
-      reads = ranks-more T.lists T.reads c.args.source.now c.loop-j.source _ (d * n + j) 1 (d * n + (j + 1)) i.reads c.digit_and_next_on-digit.ensures.reads
+      reads = ranks-more c.args.self.now T.lists T.reads c.args.source.now c.loop-j.source _ (d * n + j) 1 (d * n + (j + 1)) i.reads c.digit_and_next_on-digit.ensures.reads
           (omega arith);
     }

@@ -20,7 +20,7 @@ invariant-loop-depth g l =
       count : length l.places ≡ length l.fn.places;
       each : (i : ℕ) → i < length l.fn.places
           → IsAtLevel xs l.self.width l.depth (get_or l.fn.places i 0) (get_or l.places i 0) (get_or l.numbers i 0);
-      reads : OnlyRanks T.lists T.reads l.fn.source l.source (l.depth * length l.fn.places);
+      reads : OnlyRanks l.self T.lists T.reads l.fn.source l.source (l.depth * length l.fn.places);
     }
 
 -- those so far stand on the next level
@@ -35,5 +35,5 @@ invariant-loop-j g l =
           → IsAtLevel xs l.self.width (l.depth + 1) (get_or l.fn.places i 0) (get_or l.places i 0) (get_or l.numbers i 0);
       rest : (i : ℕ) → l.j ≤ i → i < length l.fn.places
           → IsAtLevel xs l.self.width l.depth (get_or l.fn.places i 0) (get_or l.places i 0) (get_or l.numbers i 0);
-      reads : OnlyRanks T.lists T.reads l.fn.source l.source (l.depth * length l.fn.places + l.j);
+      reads : OnlyRanks l.self T.lists T.reads l.fn.source l.source (l.depth * length l.fn.places + l.j);
     }

@@ -15,7 +15,7 @@ loop-depth-init g c =
     record {
       number = level-first (numbers_in c.args.self.now (T.lists c.args.source.now)) c.args.self.now.width h.fit h.most c.args.i
           (omega (arith, c.requires.inside, h.count));
-      reads = ranks-none T.lists T.reads c.args.source.now;
+      reads = ranks-none c.args.self.now T.lists T.reads c.args.source.now;
     }
 
 pub digit_and_next_on-digit-requires-clause-inside : goal.digit_and_next_on-digit-requires-clause-inside
@@ -57,7 +57,7 @@ loop-depth-preserved g c =
           c.loop-depth.number c.digit_and_next_on-digit.result.1 c.digit_and_next_on-digit.result.0 (level_in l (T.lists c.loop-depth.source) d)
           (omega (arith, c.loop-depth-test.true, c.width-depth-end.ensures)) c.loop-depth.invariant.number
           (ap (λ (m : Lists). level_in l m d) c.loop-depth.invariant.reads.same) c.digit_and_next_on-digit.ensures.digit c.digit_and_next_on-digit.ensures.next;
-      reads = ranks-more T.lists T.reads c.args.source.now c.loop-depth.source _ d 1 (d + 1) c.loop-depth.invariant.reads c.digit_and_next_on-digit.ensures.reads
+      reads = ranks-more c.args.self.now T.lists T.reads c.args.source.now c.loop-depth.source _ d 1 (d + 1) c.loop-depth.invariant.reads c.digit_and_next_on-digit.ensures.reads
           (omega arith);
     }
 

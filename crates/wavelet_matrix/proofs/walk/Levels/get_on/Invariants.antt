@@ -8,5 +8,5 @@ invariant-loop-depth g l =
     let T = g.T.TableSource in
     record {
       number : IsAtLevel (numbers_in l.self (T.lists l.fn.source)) l.self.width l.depth l.i l.place l.number;
-      reads : OnlyRanks T.lists T.reads l.fn.source l.source l.depth;
+      reads : OnlyRanks l.self T.lists T.reads l.fn.source l.source l.depth;
     }

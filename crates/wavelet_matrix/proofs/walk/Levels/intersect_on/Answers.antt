@@ -23,7 +23,7 @@ pub returns-in_err-add_shared_on-clause-reads : goal.returns-in_err-add_shared_o
 returns-in_err-add_shared_on-clause-reads g c =
     let w = c.args.self.now.width in
     let xs = numbers_in c.args.self.now (g.T.TableSource.lists c.args.source.now) in
-    ranks-fewer g.T.TableSource.lists g.T.TableSource.reads c.args.source.now c.add_shared_on.new.source
+    ranks-fewer c.args.self.now g.T.TableSource.lists g.T.TableSource.reads c.args.source.now c.add_shared_on.new.source
     (4 * shared_prefixes (slice_range (level xs w 0) c.args.first.start c.args.first.end) (slice_range (level xs w 0) c.args.second.start c.args.second.end) (w - 0))
     (4 * shared_prefixes (slice_range xs c.args.first.start c.args.first.end) (slice_range xs c.args.second.start c.args.second.end) w)
     c.add_shared_on.ensures.reads (omega (arith, prefixes-first xs w c.args.first.start c.args.first.end c.args.second.start c.args.second.end))
@@ -37,7 +37,7 @@ pub returns-clause-reads : goal.returns-clause-reads
 returns-clause-reads g c =
     let w = c.args.self.now.width in
     let xs = numbers_in c.args.self.now (g.T.TableSource.lists c.args.source.now) in
-    ranks-fewer g.T.TableSource.lists g.T.TableSource.reads c.args.source.now c.add_shared_on.new.source
+    ranks-fewer c.args.self.now g.T.TableSource.lists g.T.TableSource.reads c.args.source.now c.add_shared_on.new.source
     (4 * shared_prefixes (slice_range (level xs w 0) c.args.first.start c.args.first.end) (slice_range (level xs w 0) c.args.second.start c.args.second.end) (w - 0))
     (4 * shared_prefixes (slice_range xs c.args.first.start c.args.first.end) (slice_range xs c.args.second.start c.args.second.end) w)
     c.add_shared_on.ensures.reads (omega (arith, prefixes-first xs w c.args.first.start c.args.first.end c.args.second.start c.args.second.end))

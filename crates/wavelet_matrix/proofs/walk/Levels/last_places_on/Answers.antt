@@ -18,7 +18,7 @@ loop-depth-init g c =
       last = λ p e. e;
       first_inside = c.requires.start;
       last_inside = c.requires.end;
-      reads = ranks-fewer T.lists T.reads s s 0 (2 * (c.args.from - c.args.from)) (ranks-none T.lists T.reads s) (omega arith);
+      reads = ranks-fewer c.args.self.now T.lists T.reads s s 0 (2 * (c.args.from - c.args.from)) (ranks-none c.args.self.now T.lists T.reads s) (omega arith);
     }
 
 pub loop-depth-preserved : goal.loop-depth-preserved
@@ -55,8 +55,8 @@ loop-depth-preserved g c =
         c.requires.matrix.numbers.count,
       );
       reads =
-          ranks-more T.lists T.reads c.args.source.now c.next_on-first.new.source _ (2 * (d - c.args.from) + 1) 1 (2 * (d + 1 - c.args.from))
-          (ranks-more T.lists T.reads c.args.source.now c.loop-depth.source c.next_on-first.new.source (2 * (d - c.args.from)) 1
+          ranks-more c.args.self.now T.lists T.reads c.args.source.now c.next_on-first.new.source _ (2 * (d - c.args.from) + 1) 1 (2 * (d + 1 - c.args.from))
+          (ranks-more c.args.self.now T.lists T.reads c.args.source.now c.loop-depth.source c.next_on-first.new.source (2 * (d - c.args.from)) 1
           (2 * (d - c.args.from) + 1) i.reads c.next_on-first.ensures.reads (omega arith))
           c.next_on-last.ensures.reads (omega (arith, c.loop-depth.auto));
     }

@@ -13,5 +13,5 @@ invariant-loop-depth g l =
       last : (p : ℕ) → l.end ≡ level_place xs l.self.width l.number l.from p → l.last ≡ level_place xs l.self.width l.number l.depth p;
       first_inside : l.first ≤ l.self.len;
       last_inside : l.last ≤ l.self.len;
-      reads : OnlyRanks T.lists T.reads l.fn.source l.source (2 * (l.depth - l.from));
+      reads : OnlyRanks l.self T.lists T.reads l.fn.source l.source (2 * (l.depth - l.from));
     }

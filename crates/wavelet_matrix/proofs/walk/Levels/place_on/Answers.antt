@@ -16,7 +16,7 @@ loop-depth-init g c =
     record {
       place = λ p e. e;
       inside = c.requires.inside;
-      reads = ranks-fewer T.lists T.reads s s 0 (c.args.from - c.args.from) (ranks-none T.lists T.reads s) (omega arith);
+      reads = ranks-fewer c.args.self.now T.lists T.reads s s 0 (c.args.from - c.args.from) (ranks-none c.args.self.now T.lists T.reads s) (omega arith);
     }
 
 pub loop-depth-preserved : goal.loop-depth-preserved
@@ -39,6 +39,6 @@ loop-depth-preserved g c =
         length-level xs l.width d,
         c.requires.matrix.numbers.count,
       );
-      reads = ranks-more T.lists T.reads c.args.source.now c.loop-depth.source _ (d - c.args.from) 1 (d + 1 - c.args.from) c.loop-depth.invariant.reads
+      reads = ranks-more c.args.self.now T.lists T.reads c.args.source.now c.loop-depth.source _ (d - c.args.from) 1 (d + 1 - c.args.from) c.loop-depth.invariant.reads
           c.next_on-at.ensures.reads (omega (arith, c.loop-depth.auto));
     }

@@ -11,5 +11,5 @@ invariant-loop-depth g l =
     record {
       place : (p : ℕ) → l.place ≡ level_place xs l.self.width l.number l.from p → l.at ≡ level_place xs l.self.width l.number l.depth p;
       inside : l.at ≤ l.self.len;
-      reads : OnlyRanks T.lists T.reads l.fn.source l.source (l.depth - l.from);
+      reads : OnlyRanks l.self T.lists T.reads l.fn.source l.source (l.depth - l.from);
     }

@@ -24,7 +24,7 @@ loop-depth-init g c =
         some = c.requires.some;
         small = omega arith;
       };
-      reads = ranks-none T.lists T.reads c.args.source.now;
+      reads = ranks-none c.args.self.now T.lists T.reads c.args.source.now;
     }
 
 byte : (h : ℕ) (v : Bool) → 2 * h + bool_byte v ≡ 2 * h + (if v then 1 else 0)
@@ -53,7 +53,7 @@ loop-depth-preserved g c =
             | then-digit w ↦ inl (le-leb c.part_on-before.result.2 c.loop-depth.left w.if-digit.true, w.if-digit.true, w.left-is)
             | else-digit w ↦ inr (lt-leb c.part_on-before.result.2 c.loop-depth.left w.if-digit.false, w.if-digit.false, w.left-is)
           ]);
-      reads = ranks-more T.lists T.reads c.args.source.now c.loop-depth.source _ (2 * d) 2 (2 * (d + 1)) i.reads c.part_on-before.ensures.reads (omega arith);
+      reads = ranks-more c.args.self.now T.lists T.reads c.args.source.now c.loop-depth.source _ (2 * d) 2 (2 * (d + 1)) i.reads c.part_on-before.ensures.reads (omega arith);
     }
 
 pub overflow_sub-result : goal.overflow_sub-result

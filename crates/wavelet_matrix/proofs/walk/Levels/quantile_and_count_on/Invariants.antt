@@ -10,5 +10,5 @@ invariant-loop-depth g l =
     let xs = numbers_in l.self (T.lists l.fn.source) in
     record {
       prefix : IsQuantilePrefix xs l.self.width l.depth l.number (slice_range xs l.start l.end) l.first l.last l.left l.k;
-      reads : OnlyRanks T.lists T.reads l.fn.source l.source (2 * l.depth);
+      reads : OnlyRanks l.self T.lists T.reads l.fn.source l.source (2 * l.depth);
     }

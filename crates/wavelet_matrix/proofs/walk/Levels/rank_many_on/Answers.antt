@@ -33,7 +33,7 @@ loop-depth-init g c =
       long = i.long;
       each = λ k less. i.copied k (omega (arith, less, c.loop-k-test.false, i.long, c.requires.ranks))
           ∙ level_place-first xs l.width (get_or c.args.numbers.now k 0) (get_or c.args.places.now k 0);
-      reads = ranks-fewer T.lists T.reads s s 0 (0 * length c.args.places.now) (ranks-none T.lists T.reads s) (omega arith);
+      reads = ranks-fewer c.args.self.now T.lists T.reads s s 0 (0 * length c.args.places.now) (ranks-none c.args.self.now T.lists T.reads s) (omega arith);
     }
 
 pub next_on-requires-clause-inside : goal.next_on-requires-clause-inside
@@ -73,7 +73,7 @@ loop-j-preserved g c =
       long = length-set rs j _ ∙ i.long;
       done = done-more (P (d + 1)) rs rs j _ 0 within within i.done next;
       rest = open-less (P d) rs rs j _ 0 within within n i.rest;
-      reads = ranks-more T.lists T.reads c.args.source.now c.loop-j.source _ (d * n + j) 1 (d * n + (j + 1)) i.reads c.next_on.ensures.reads (omega arith);
+      reads = ranks-more c.args.self.now T.lists T.reads c.args.source.now c.loop-j.source _ (d * n + j) 1 (d * n + (j + 1)) i.reads c.next_on.ensures.reads (omega arith);
     }
 
 pub loop-i-init : goal.loop-i-init
@@ -91,8 +91,8 @@ loop-i-init g c =
           let P : ℕ → Type 0 = λ d. StandsAt xs l.width c.args.numbers.now c.args.places.now d k (get_or c.loop-depth.ranks k 0) in
           subst P all (i.each k less);
       reads =
-          let P : ℕ → Type 0 = λ d. OnlyRanks T.lists T.reads c.args.source.now c.loop-depth.source (d * n) in
-          ranks-fewer T.lists T.reads c.args.source.now c.loop-depth.source (l.width * n) (l.width * n + (l.width - l.known) * 0) (subst P all i.reads)
+          let P : ℕ → Type 0 = λ d. OnlyRanks c.args.self.now T.lists T.reads c.args.source.now c.loop-depth.source (d * n) in
+          ranks-fewer c.args.self.now T.lists T.reads c.args.source.now c.loop-depth.source (l.width * n) (l.width * n + (l.width - l.known) * 0) (subst P all i.reads)
           (omega arith);
     }
 
@@ -115,7 +115,7 @@ loop-i-preserved g c =
       long = length-set rs k _ ∙ i.long;
       done = done-more R rs rs k _ 0 within within i.done counted;
       rest = open-less P rs rs k _ 0 within within n i.rest;
-      reads = ranks-more T.lists T.reads c.args.source.now c.loop-i.source _ (l.width * n + (l.width - l.known) * k) (l.width - l.known)
+      reads = ranks-more c.args.self.now T.lists T.reads c.args.source.now c.loop-i.source _ (l.width * n + (l.width - l.known) * k) (l.width - l.known)
           (l.width * n + (l.width - l.known) * (k + 1)) i.reads c.rank_to_on.ensures.reads (omega arith);
     }
 
@@ -127,7 +127,7 @@ returns-clause-reads g c =
     let n = length c.args.places.now in
     let all : c.loop-i.i ≤ n = omega (arith, c.loop-i.auto.i-end, c.loop-depth.invariant.long) in
     let twice : l.width + (l.width - l.known) ≡ 2 * l.width - l.known = omega (arith, c.requires.matrix.numbers.known_most) in
-    let P : ℕ → Type 0 = λ r. OnlyRanks T.lists T.reads c.args.source.now c.loop-i.source (r * n) in
+    let P : ℕ → Type 0 = λ r. OnlyRanks c.args.self.now T.lists T.reads c.args.source.now c.loop-i.source (r * n) in
     subst P twice
-    (ranks-fewer T.lists T.reads c.args.source.now c.loop-i.source (l.width * n + (l.width - l.known) * c.loop-i.i) ((l.width + (l.width - l.known)) * n) i.reads
+    (ranks-fewer c.args.self.now T.lists T.reads c.args.source.now c.loop-i.source (l.width * n + (l.width - l.known) * c.loop-i.i) ((l.width + (l.width - l.known)) * n) i.reads
     (omega (arith, mul-le-mul_left (l.width - l.known) all)))

@@ -19,7 +19,7 @@ invariant-loop-depth g l =
     record {
       long : length l.ranks ≡ length l.places;
       each : (i : ℕ) → i < length l.places → StandsAt xs l.self.width l.numbers l.places l.depth i (get_or l.ranks i 0);
-      reads : OnlyRanks T.lists T.reads l.fn.source l.source (l.depth * length l.places);
+      reads : OnlyRanks l.self T.lists T.reads l.fn.source l.source (l.depth * length l.places);
     }
 
 -- those so far stand on the next level
@@ -31,7 +31,7 @@ invariant-loop-j g l =
       long : length l.ranks ≡ length l.places;
       done : (i : ℕ) → i < l.j → StandsAt xs l.self.width l.numbers l.places (l.depth + 1) i (get_or l.ranks i 0);
       rest : (i : ℕ) → l.j ≤ i → i < length l.places → StandsAt xs l.self.width l.numbers l.places l.depth i (get_or l.ranks i 0);
-      reads : OnlyRanks T.lists T.reads l.fn.source l.source (l.depth * length l.places + l.j);
+      reads : OnlyRanks l.self T.lists T.reads l.fn.source l.source (l.depth * length l.places + l.j);
     }
 
 -- those so far are counted, the rest stand after the last level
@@ -44,5 +44,5 @@ invariant-loop-i g l =
       long : length l.ranks ≡ length l.places;
       done : (k : ℕ) → k < l.i → get_or l.ranks k 0 ≡ count_before xs (get_or l.numbers k 0) (get_or l.places k 0);
       rest : (k : ℕ) → l.i ≤ k → k < length l.places → StandsAt xs w l.numbers l.places w k (get_or l.ranks k 0);
-      reads : OnlyRanks T.lists T.reads l.fn.source l.source (w * length l.places + (w - l.self.known) * l.i);
+      reads : OnlyRanks l.self T.lists T.reads l.fn.source l.source (w * length l.places + (w - l.self.known) * l.i);
     }

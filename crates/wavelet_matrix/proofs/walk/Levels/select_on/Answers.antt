@@ -53,6 +53,14 @@ loop-up-init g c =
         };
         same = r.same;
       };
+      quick = λ e. record {
+        at_most = record {
+          upper = omega (arith, (r.quick e).upper);
+          lower = omega (arith, (r.quick e).lower);
+          words = omega (arith, (r.quick e).words);
+        };
+        same = r.same;
+      };
     }
 
 pub returns-clause-picked : goal.returns-clause-picked
@@ -65,8 +73,16 @@ pub returns-clause-reads : goal.returns-clause-reads
 returns-clause-reads g c =
     let T = g.T.TableSource in
     let l = c.args.self.now in
-    let r = c.loop-up.invariant.reads in
+    let all : c.loop-up.up ≡ l.width = omega (arith, c.loop-up-test.false, c.loop-up.auto.up-end, c.width-width.ensures) in
+    let P : ℕ → Type 0 = λ n. OnlyReads T.lists T.reads c.args.source.now c.loop-up.source
+    (l.width - l.known + n * (digit_count (length (T.lists c.args.source.now).upper) + 1)) (l.width - l.known + n * 23) (8 * (l.width - l.known) + n * 8) in
+    subst P all c.loop-up.invariant.reads
+
+pub returns-clause-quick : goal.returns-clause-quick
+returns-clause-quick g c e =
+    let T = g.T.TableSource in
+    let l = c.args.self.now in
     let all : c.loop-up.up ≡ l.width = omega (arith, c.loop-up-test.false, c.loop-up.auto.up-end, c.width-width.ensures) in
     let P : ℕ → Type 0 = λ n. OnlyReads T.lists T.reads c.args.source.now c.loop-up.source
     (l.width - l.known + n * (digit_count (length (T.lists c.args.source.now).upper) + 1)) (n * 23) (2 * (l.width - l.known) + n * 8) in
-    subst P all r
+    subst P all (c.loop-up.invariant.quick e)

@@ -1,4 +1,4 @@
-use Rattle.std.proofs.Common.{◌+◌, ◌-◌, ◌*◌, length}
+use Rattle.std.proofs.Common.{◌≡◌, false, ◌+◌, ◌-◌, ◌*◌, length}
 use Rattle.bitm.specs.Bits.{digit_count}
 use Rattle.bitm.specs.Reads.{OnlyReads}
 use Rattle.wavelet_matrix.specs.Matrix.{level_in}
@@ -14,5 +14,6 @@ invariant-loop-up g l =
     let digits = digit_count (length (T.lists l.fn.source).upper) in
     record {
       picked : PicksItem (level_in l.self (T.lists l.fn.source) (l.self.width - l.up)) l.number l.k l.at;
-      reads : OnlyReads T.lists T.reads l.fn.source l.source (ranks + l.up * (digits + 1)) (l.up * 23) (2 * ranks + l.up * 8);
+      reads : OnlyReads T.lists T.reads l.fn.source l.source (ranks + l.up * (digits + 1)) (ranks + l.up * 23) (8 * ranks + l.up * 8);
+      quick : l.self.compact ≡ false → OnlyReads T.lists T.reads l.fn.source l.source (ranks + l.up * (digits + 1)) (l.up * 23) (2 * ranks + l.up * 8);
     }

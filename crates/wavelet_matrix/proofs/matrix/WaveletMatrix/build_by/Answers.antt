@@ -1,5 +1,5 @@
 -- What was written is the levels of the numbers.
-use Rattle.std.proofs.Common.{ℕ, ◌*◌, List, length, take, ap, ◌∙◌, arith, subst, sym}
+use Rattle.std.proofs.Common.{◌≡◌, ℕ, ◌*◌, true, false, List, length, take, ap, ◌∙◌, arith, subst, sym}
 use Rattle.std.specs.Box.{boxed_slice_items}
 use Rattle.bitm.specs.Bits.{bits_of}
 use Rattle.bitm.specs.Quarters.{AreQuartersOf}
@@ -7,8 +7,8 @@ use Rattle.bitm.proofs.BitLaws.{bits_are_counted}
 use Rattle.wavelet_matrix.specs.Matrix.{IsMatrixOf}
 use Rattle.wavelet_matrix.proofs.lemmas.MakeLemmas.{words-enough}
 use Rattle.wavelet_matrix.proofs.lemmas.MatrixLemmas.{is-matrix, items_of-is, made-matrix, matrix-from, matrix-of-items, tight}
-use Rattle.wavelet_matrix.proofs.matrix.WaveletMatrix.build.Goals as goal
-use Rattle.wavelet_matrix.proofs.matrix.WaveletMatrix.build.Goals.{In_ok-levels, In_ok-keep_starts}
+use Rattle.wavelet_matrix.proofs.matrix.WaveletMatrix.build_by.Goals as goal
+use Rattle.wavelet_matrix.proofs.matrix.WaveletMatrix.build_by.Goals.{In_ok-levels, In_ok-keep_starts}
 
 pub new-requires-clause-room : goal.new-requires-clause-room
 new-requires-clause-room g c =
@@ -19,12 +19,17 @@ new-requires-clause-room g c =
       words-enough _ _ c.in_ok-content.ensures.words,
     )
 
--- the quarters of the words that the index keeps
-quarters : (g : _) (c : In_ok-levels g) → AreQuartersOf (bits_of (boxed_slice_items c.in-Ok.index.content)) c.in_ok-levels.levels.quarters
-quarters g c =
+-- the quarters of the words that the index keeps, unless the matrix is compact
+quarters : (g : _) (c : In_ok-levels g) → c.in_ok-levels.levels.compact ≡ false
+    → AreQuartersOf (bits_of (boxed_slice_items c.in-Ok.index.content)) c.in_ok-levels.levels.quarters
+quarters g c with_them =
     let P : List ℕ → Type 0 = λ ws. AreQuartersOf (bits_of ws) (boxed_slice_items c.in_ok-quarters.quarters) in
     subst (λ (qs : List ℕ). AreQuartersOf (bits_of (boxed_slice_items c.in-Ok.index.content)) qs) (sym c.in_ok-levels.ensures.quarters)
-    (subst P c.probe.ensures.words c.in_ok-quarters.ensures.quarters)
+    (subst P c.probe.ensures.words (c.in_ok-quarters.ensures.quarters (sym c.in_ok-levels.ensures.compact ∙ with_them)))
+
+no_quarters : (g : _) (c : In_ok-levels g) → c.in_ok-levels.levels.compact ≡ true → length c.in_ok-levels.levels.quarters ≡ 0
+no_quarters g c compact =
+    ap (λ (qs : List ℕ). length qs) c.in_ok-levels.ensures.quarters ∙ c.in_ok-quarters.ensures.none (sym c.in_ok-levels.ensures.compact ∙ compact)
 
 made : (g : _) (c : In_ok-levels g) → IsMatrixOf c.args.numbers.now c.in_ok-levels.levels (bits_of (boxed_slice_items c.in-Ok.index.content))
 made g c =
@@ -38,7 +43,7 @@ made g c =
     ))
     (ap (λ (ws : List ℕ). take (c.args.width * length c.args.numbers.now) (bits_of ws)) (ap boxed_slice_items c.in-Ok.ensures.kept)
     ∙ c.in_ok-content.ensures.levels)
-    made.ones_len made.zeros_len made.known made.starts (quarters g c) made.ones made.zeros
+    made.ones_len made.zeros_len made.known made.starts (quarters g c) (no_quarters g c) made.ones made.zeros
 
 pub keep_starts-requires : goal.keep_starts-requires
 keep_starts-requires g c =
