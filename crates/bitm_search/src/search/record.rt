@@ -291,10 +291,10 @@ fn from_nearer_end<const BIT: u8, T: TableSource>(
     let rest = total.wrapping_sub(rank);
     // One comparison for two: where no more are left than were counted the difference wraps.
     if len > WORDS_IN_CACHE && first + U64_PER_L2_RECORDS < len && rest.wrapping_sub(1) < total / 2 {
-        return match among_last::<BIT, T>(source, first, rest) {
-            Some(place) => Selected::Found(place),
-            None => Selected::WrongTables,
+        let Some(place) = among_last::<BIT, T>(source, first, rest) else {
+            return Selected::WrongTables;
         };
+        return Selected::Found(place);
     }
     in_record::<BIT, T>(source, first, rank)
 }
