@@ -51,6 +51,7 @@ fn add_numbers(bench: &mut Bench<'_>, count: usize, width: u8) -> Result<(), All
     if list.len() < 1 << 40 && all_fit(list, width) {
         numbers::add_matrix::<BinaryRankSearch, BinaryRankSearch>(bench, "binary", list, width)?;
         numbers::add_matrix::<Sampled, Sampled>(bench, "sampled", list, width)?;
+        numbers::add_matrix::<Sampled, Sampled>(bench, "compact", list, width)?;
     }
     Ok(())
 }

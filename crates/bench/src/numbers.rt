@@ -1,5 +1,5 @@
 //! Rows of wavelet matrices of 8 and of 16 digits: numbers by their places, ranks and selections of numbers, by samples
-//! and by binary search.
+//! and by binary search, and of compact ones, by samples.
 ghost use Rattle.std.specs.Prelude.{◌^◌, ◌<◌, ◌≤◌, All, length};
 
 use crate::bench::{Bench, Label};
@@ -112,7 +112,7 @@ fn add_select<'a, S: SelectForRank101111, S0: Select0ForRank101111>(
     Ok(())
 }
 
-/// Builds a matrix and adds its rows.
+/// Builds a matrix, a compact one where `by` is `compact`, and adds its rows.
 pub(crate) fn add_matrix<'a, S: SelectForRank101111 + GetSize, S0: Select0ForRank101111 + GetSize>(
     bench: &mut Bench<'a>,
     by: &'a str,
@@ -126,7 +126,11 @@ pub(crate) fn add_matrix<'a, S: SelectForRank101111 + GetSize, S0: Select0ForRan
 {
     let [build, space, get, rank, select] = if width == 8 { OF_8 } else { OF_16 };
     let begun = bench.used();
-    let matrix = WaveletMatrix::<S, S0>::build(bench.alloc(), numbers, width)?;
+    let matrix = if by == "compact" {
+        WaveletMatrix::<S, S0>::build_compact(bench.alloc(), numbers, width)?
+    } else {
+        WaveletMatrix::<S, S0>::build(bench.alloc(), numbers, width)?
+    };
     bench.add_since(begun, Label(build, by), numbers.len());
     bench.add_space(Label(space, by), matrix.size_bytes_dyn(), numbers.len());
     add_calls(

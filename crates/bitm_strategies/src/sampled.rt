@@ -71,9 +71,7 @@ fn sampled_in_part<const BIT: u8, T: TableSource>(
     }
     let from = first_entry(samples[at], in_part, log2);
     let (entry, packed, above) = walk::<BIT, T>(source, begin.part, from, in_part);
-    found(in_packed::<BIT, 0, T>(
-        source, begin.part, entry, packed, above, in_part,
-    ))
+    found(in_packed::<BIT, 0, T>(source, begin.part, entry, packed, above, in_part))
 }
 
 /// Selection by the samples of the source's words where there are more parts than one: one read of an upper entry for

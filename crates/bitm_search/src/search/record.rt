@@ -290,7 +290,10 @@ fn from_nearer_end<const BIT: u8, T: TableSource>(
     let len = source.words_len();
     let rest = total.wrapping_sub(rank);
     // One comparison for two: where no more are left than were counted the difference wraps.
-    if len > WORDS_IN_CACHE && first + U64_PER_L2_RECORDS < len && rest.wrapping_sub(1) < total / 2 {
+    if len > WORDS_IN_CACHE
+        && first + U64_PER_L2_RECORDS < len
+        && rest.wrapping_sub(1) < total / 2
+    {
         let Some(place) = among_last::<BIT, T>(source, first, rest) else {
             return Selected::WrongTables;
         };

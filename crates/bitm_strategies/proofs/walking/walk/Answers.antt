@@ -60,8 +60,7 @@ returns-then-rank-above-clause-above g c = λ _.
     let d = (goal.at.returns-then-rank-above-clause-above g c).After-ones_to_entry-above in
     let b = bits_of (g.T.TableSource.lists c.args.source.now).words in
     let i = c.loop-next.invariant in
-    let back : c.loop-next.next - 1 + 1 ≡ c.loop-next.next = omega (arith, i.order) in
-    (
+    let back : c.loop-next.next - 1 + 1 ≡ c.loop-next.next = omega (arith, i.order) in (
       omega (arith, end_is g d, i.order, i.bound, c.loop-next-test.true),
       subst (λ (k : ℕ). c.ones_to_entry-above.result ≡ items_to g.row.BIT b c.args.part k) (sym back) (count g d),
     )
