@@ -28,7 +28,8 @@ impl Levels {
         requires matrix { IsMatrix self.now (T.lists source.old) }
         requires same_length { length numbers.old ≡ length places.old }
         requires inside { All (λ p. p < self.now.len) places.old }
-        ensures numbers { GetsEach (numbers_in self.now (T.lists source.old)) places.old numbers.new }
+        ensures numbers { GetsEach
+            (numbers_in self.now (T.lists source.old)) places.old numbers.new }
         ensures reads { OnlyRanks self.now T.lists T.reads source.old source.new
             (self.now.width * length places.old) }
     {

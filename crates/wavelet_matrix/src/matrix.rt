@@ -27,9 +27,9 @@ use std::marker::Model;
 /// so that a rank walks through these levels once and not twice. It has as many digits as leave its words no more than
 /// a 64th of these bits.
 ///
-/// A rank on a level goes by quarters (`bitm::rank_by_quarters_on`), which take an eighth of these bits: it reads at most
-/// two words and no lower entry. A compact matrix (`build_compact`) has no quarters; there a rank goes by the index alone
-/// (`bitm::rank_on`) and reads at most eight words and one lower entry, so its answers take longer.
+/// A rank on a level goes by quarters (`bitm::rank_by_quarters_on`), which take an eighth of these bits: it reads at
+/// most two words and no lower entry. A compact matrix (`build_compact`) has no quarters; there a rank goes by the
+/// index alone (`bitm::rank_on`) and reads at most eight words and one lower entry, so its answers take longer.
 ///
 /// For 3, 1, 4, 1, 5, 1 of three digits:
 ///
@@ -91,8 +91,8 @@ impl<S: SelectForRank101111, S0: Select0ForRank101111> WaveletMatrix<S, S0> {
         Self::build_by(alloc, numbers, width, false)
     }
 
-    /// A matrix of the numbers, which are not changed, without quarters: it takes an eighth of the bits less than that of
-    /// `build`, and its answers take longer.
+    /// A matrix of the numbers, which are not changed, without quarters: it takes an eighth of the bits less than that
+    /// of `build`, and its answers take longer.
     ///
     /// # Conditions
     /// Those of `build`.
@@ -275,7 +275,8 @@ impl<S: SelectForRank101111, S0: Select0ForRank101111> WaveletMatrix<S, S0> {
     #[inline(always)]
     fn back(&self, depth: u8, number: u64, k: usize, place: usize) -> usize
         requires depth { depth < self.now.width }
-        requires picked { PicksItem (level self.now.items self.now.width (depth + 1)) number k place }
+        requires picked { PicksItem
+            (level self.now.items self.now.width (depth + 1)) number k place }
         ensures { PicksItem (level self.now.items self.now.width depth) number k result }
     {
         let probe = self.index.probe();
@@ -340,11 +341,11 @@ impl<S: SelectForRank101111, S0: Select0ForRank101111> WaveletMatrix<S, S0> {
 
 impl<S: SelectForRank101111 + GetSize, S0: Select0ForRank101111 + GetSize> GetSize
     for WaveletMatrix<S, S0> {
-    // the words, eight bytes for each begun 2^26 and each begun 32 of them, and unless it is compact for each begun eight,
-    // the two strategies, sixteen bytes for each level, and eight for each number of the known digits
-    ghost dyn_bytes = { λ m. let n = length m.items in let words = words_of n m.width in saturated_size
-        (8 * words + 8 * div_ceil words (2 ^ 26) + 8 * div_ceil words 32 + 8 * quarters_for m.compact words
-        + S.dyn_bytes m.select + S0.dyn_bytes m.select0
+    // the words, eight bytes for each begun 2^26 and each begun 32 of them, and unless it is compact for each begun
+    // eight, the two strategies, sixteen bytes for each level, and eight for each number of the known digits
+    ghost dyn_bytes = { λ m. let n = length m.items in let words = words_of n m.width in
+        saturated_size (8 * words + 8 * div_ceil words (2 ^ 26) + 8 * div_ceil words 32
+        + 8 * quarters_for m.compact words + S.dyn_bytes m.select + S0.dyn_bytes m.select0
         + 16 * m.width + 8 * 2 ^ known_of n m.width) };
 
     const USES_DYN_MEM: bool = true;

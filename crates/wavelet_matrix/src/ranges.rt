@@ -30,7 +30,8 @@ impl Levels {
             (take last (level_in self.now (T.lists source.old) depth)) }
         ensures zeros { let place = digit_place self.now depth in
             let items = level_in self.now (T.lists source.old) depth in
-            result.2 ≡ partition_place place false items last - partition_place place false items first }
+            result.2
+            ≡ partition_place place false items last - partition_place place false items first }
         ensures reads { OnlyRanks self.now T.lists T.reads source.old source.new 2 }
     {
         let before = self.ones_to_on(source, depth, first);
@@ -57,7 +58,8 @@ impl Levels {
         requires inside { end ≤ self.now.len }
         ensures count { result
             ≡ count_less (slice_range (numbers_in self.now (T.lists source.old)) start end) bound }
-        ensures reads { OnlyRanks self.now T.lists T.reads source.old source.new (2 * self.now.width) }
+        ensures reads { OnlyRanks self.now T.lists T.reads source.old source.new
+            (2 * self.now.width) }
     {
         let width = self.width();
         if !fits(bound, width) {
@@ -98,9 +100,10 @@ impl Levels {
         requires order { start ≤ end }
         requires inside { end ≤ self.now.len }
         requires some { k < end - start }
-        ensures number { IsSmallest (slice_range (numbers_in self.now (T.lists source.old)) start end)
-            k result }
-        ensures reads { OnlyRanks self.now T.lists T.reads source.old source.new (2 * self.now.width) }
+        ensures number { IsSmallest
+            (slice_range (numbers_in self.now (T.lists source.old)) start end) k result }
+        ensures reads { OnlyRanks self.now T.lists T.reads source.old source.new
+            (2 * self.now.width) }
     {
         let (number, _count) = self.quantile_and_count_on(source, start, end, k);
         number
@@ -124,11 +127,12 @@ impl Levels {
         requires order { start ≤ end }
         requires inside { end ≤ self.now.len }
         requires some { k < end - start }
-        ensures number { IsSmallest (slice_range (numbers_in self.now (T.lists source.old)) start end)
-            k result.0 }
+        ensures number { IsSmallest
+            (slice_range (numbers_in self.now (T.lists source.old)) start end) k result.0 }
         ensures count { result.1 ≡ count_equal
             (slice_range (numbers_in self.now (T.lists source.old)) start end) result.0 }
-        ensures reads { OnlyRanks self.now T.lists T.reads source.old source.new (2 * self.now.width) }
+        ensures reads { OnlyRanks self.now T.lists T.reads source.old source.new
+            (2 * self.now.width) }
     {
         let (mut first, mut last) = (start, end);
         let mut left = k;

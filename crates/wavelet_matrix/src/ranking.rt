@@ -18,7 +18,8 @@ impl Levels {
         requires matrix { IsMatrix self.now (T.lists source.old) }
         requires depth { depth < self.now.width }
         requires inside { place ≤ self.now.len }
-        ensures ones { result ≡ ones_before (bits_in (T.lists source.old)) (depth * self.now.len + place) }
+        ensures ones { result
+            ≡ ones_before (bits_in (T.lists source.old)) (depth * self.now.len + place) }
         ensures reads { OnlyRanks self.now T.lists T.reads source.old source.new 1 }
     {
         let index = depth as usize * self.len() + place;
@@ -82,8 +83,10 @@ impl Levels {
         requires matrix { IsMatrix self.now (T.lists source.old) }
         requires depth { depth < self.now.width }
         requires inside { place < self.now.len }
-        ensures bit { result.0 ≡ item (bits_in (T.lists source.old)) (depth * self.now.len + place) }
-        ensures ones { result.1 ≡ ones_before (bits_in (T.lists source.old)) (depth * self.now.len + place) }
+        ensures bit { result.0
+            ≡ item (bits_in (T.lists source.old)) (depth * self.now.len + place) }
+        ensures ones { result.1
+            ≡ ones_before (bits_in (T.lists source.old)) (depth * self.now.len + place) }
         ensures reads { OnlyRanks self.now T.lists T.reads source.old source.new 1 }
     {
         let index = depth as usize * self.len() + place;

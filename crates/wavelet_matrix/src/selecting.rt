@@ -21,7 +21,8 @@ impl Levels {
     ) -> usize
         requires matrix { IsMatrix self.now (T.lists source.old) }
         requires depth { depth < self.now.width }
-        requires picked { PicksItem (level_in self.now (T.lists source.old) (depth + 1)) number k place }
+        requires picked { PicksItem
+            (level_in self.now (T.lists source.old) (depth + 1)) number k place }
         ensures picked { PicksItem (level_in self.now (T.lists source.old) depth) number k result }
         ensures reads { OnlyReads T.lists T.reads source.old source.new
             (digit_count (length (T.lists source.old).upper) + 1) 23 8 }

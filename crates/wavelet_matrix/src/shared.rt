@@ -11,7 +11,7 @@ use std::alloc::{AllocError, Global};
 use std::ops::Range;
 
 impl Levels {
-    /// Where the items of a range of a level stand at the next level, those with the digit 0 and those with the digit 1.
+    /// Where the items of a range of a level stand at the next level, those with a 0 and those with a 1.
     #[inline(always)]
     fn halves_on<T: TableSource>(
         &self,
@@ -24,9 +24,11 @@ impl Levels {
         requires order { range.start ≤ range.end }
         requires inside { range.end ≤ self.now.len }
         ensures zeros { ArePlacesAfter (digit_place self.now depth) false
-            (level_in self.now (T.lists source.old) depth) range.start range.end result.0.start result.0.end }
+            (level_in self.now (T.lists source.old) depth)
+            range.start range.end result.0.start result.0.end }
         ensures ones { ArePlacesAfter (digit_place self.now depth) true
-            (level_in self.now (T.lists source.old) depth) range.start range.end result.1.start result.1.end }
+            (level_in self.now (T.lists source.old) depth)
+            range.start range.end result.1.start result.1.end }
         ensures reads { OnlyRanks self.now T.lists T.reads source.old source.new 2 }
     {
         let (start, end) = (range.start, range.end);
@@ -51,10 +53,10 @@ impl Levels {
         requires matrix { IsMatrix self.now (T.lists source.old) }
         requires depth { depth ≤ self.now.width }
         requires prefix { prefix < 2 ^ depth }
-        requires first { BeginAlike (numbers_in self.now (T.lists source.old)) self.now.width depth prefix
-            first.start first.end }
-        requires second { BeginAlike (numbers_in self.now (T.lists source.old)) self.now.width depth prefix
-            second.start second.end }
+        requires first { BeginAlike (numbers_in self.now (T.lists source.old)) self.now.width
+            depth prefix first.start first.end }
+        requires second { BeginAlike (numbers_in self.now (T.lists source.old)) self.now.width
+            depth prefix second.start second.end }
         ensures found { let items = level_in self.now (T.lists source.old) depth in
             IfOk result (λ _. AddsShared (slice_range items first.start first.end)
             (slice_range items second.start second.end) found.old.items found.new.items) }

@@ -16,8 +16,8 @@ use std::boxed::BoxedSlice;
 use std::marker::Model;
 
 /// Where the levels of a matrix are among the bits of a source: how many numbers there are, of how many digits, and for
-/// each level how many ones stand before it, and how many of its items have the digit 0. A table says for each number of
-/// some of the highest digits, the known ones, where the numbers that begin with it start after so many levels. The
+/// each level how many ones stand before it, and how many of its items have the digit 0. A table says for each number
+/// of some of the highest digits, the known ones, where the numbers that begin with it start after so many levels. The
 /// quarters of the bits spare a rank the lower table and six words; compact levels have none.
 #[derive(Drop)]
 pub struct Levels {
@@ -51,7 +51,7 @@ impl Model for Levels {
 
 impl Levels {
     /// The levels of `len` numbers of `width` digits, whose bits the index has from its first one on, with these
-    /// quarters, or compact. No digits are known from the table of starts, which says that all numbers start at place 0.
+    /// quarters, or compact. No digits are known from the table of starts: it says that all numbers start at place 0.
     ///
     /// # Errors
     /// `AllocError` if memory was refused; nothing is left.
@@ -256,7 +256,8 @@ impl Levels {
         requires matrix { IsMatrix self.now (T.lists source.now) }
         requires depth { depth < self.now.width }
         requires inside { place ≤ self.now.len }
-        requires rank { rank ≡ ones_before (bits_in (T.lists source.now)) (depth * self.now.len + place) }
+        requires rank { rank
+            ≡ ones_before (bits_in (T.lists source.now)) (depth * self.now.len + place) }
         ensures { result ≡ partition_place (digit_place self.now depth) digit
             (level_in self.now (T.lists source.now) depth) place }
     {
@@ -307,9 +308,11 @@ impl Levels {
     ) -> (bool, usize, usize)
         requires matrix { IsMatrix self.now (T.lists source.now) }
         requires depth { depth < self.now.width }
-        requires picked { PicksItem (level_in self.now (T.lists source.now) (depth + 1)) number k place }
+        requires picked { PicksItem
+            (level_in self.now (T.lists source.now) (depth + 1)) number k place }
         ensures bit { let lists = T.lists source.now in
-            IsBitOf (numbers_in self.now lists) self.now (bits_in lists) depth number k result.0 result.1 }
+            IsBitOf (numbers_in self.now lists) self.now (bits_in lists) depth number k
+            result.0 result.1 }
         ensures start { result.2 ≡ depth * self.now.len }
     {
         let _source = source;
