@@ -1,5 +1,6 @@
 // Times rank and selection of sdsl-lite over a random content of 2^LOG2 bits, a sequence of a quarter as many numbers, and
-// loading a stored index: sdsl LOG2 ROUNDS. Rows as those of `bench`, by the same clock, the thread's processor time.
+// loading a stored index; of more than 2^30 bits the loading alone: sdsl LOG2 ROUNDS. Rows as those of `bench`, by the same
+// clock, the thread's processor time.
 #include <cstdint>
 #include <cstdio>
 #include <cstdlib>
@@ -107,6 +108,10 @@ int main(int argc, char** argv) {
     sdsl::bit_vector bits(uint64_t(1) << log2);
     for (uint64_t k = 0; k < bits.size() / 64; k++) bits.data()[k] = draw();
     sdsl::rank_support_v5<> rank(&bits);
+    if (log2 > 30) {
+        load(log2, rounds, bits, rank);
+        return 0;
+    }
     sdsl::select_support_mcl<> select(&bits);
     sdsl::select_support_mcl<0> select0(&bits);
     uint64_t ones = rank(bits.size());
