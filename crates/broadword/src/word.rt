@@ -22,17 +22,11 @@ pub fn ones_through(word: u64, last: usize) -> u32
 /// The lowest bit of each byte.
 const LOWEST_OF_EACH_BYTE: u64 = 0x0101_0101_0101_0101;
 
-/// The lowest bit of each byte but the first.
-const LOWEST_BUT_FIRST: u64 = 0x0101_0101_0101_0100;
-
 /// The highest bit of each byte.
 const HIGHEST_OF_EACH_BYTE: u64 = 0x8080_8080_8080_8080;
 
 /// The highest bit of each byte but the first.
 const HIGHEST_BUT_FIRST: u64 = 0x8080_8080_8080_8000;
-
-/// Seven copies of a number of seven bits, side by side: bit k of copy k is then the lowest bit of byte k.
-const SEVEN_COPIES: u64 = 0x0002_0408_1020_4081;
 
 /// A word whose byte k, lowest first, is the number of ones in bytes 0 to k of `n`.
 #[inline(always)]
@@ -46,9 +40,10 @@ pub fn byte_sums(n: u64) -> u64
     bytes.wrapping_mul(LOWEST_OF_EACH_BYTE)
 }
 
-/// For each number below 64 the word whose bytes are all 128 more.
+/// For each number below 64 the word whose bytes are all 128 more; then for each number below 128 the word whose byte k
+/// is how many ones the number has before bit k. In one table, both have one address.
 #[rattlefmt::skip]
-const BOUNDS: [u64; 64] = [
+const BOUNDS_AND_ONES: [u64; 192] = [
     0x8080_8080_8080_8080, 0x8181_8181_8181_8181, 0x8282_8282_8282_8282, 0x8383_8383_8383_8383,
     0x8484_8484_8484_8484, 0x8585_8585_8585_8585, 0x8686_8686_8686_8686, 0x8787_8787_8787_8787,
     0x8888_8888_8888_8888, 0x8989_8989_8989_8989, 0x8A8A_8A8A_8A8A_8A8A, 0x8B8B_8B8B_8B8B_8B8B,
@@ -65,6 +60,38 @@ const BOUNDS: [u64; 64] = [
     0xB4B4_B4B4_B4B4_B4B4, 0xB5B5_B5B5_B5B5_B5B5, 0xB6B6_B6B6_B6B6_B6B6, 0xB7B7_B7B7_B7B7_B7B7,
     0xB8B8_B8B8_B8B8_B8B8, 0xB9B9_B9B9_B9B9_B9B9, 0xBABA_BABA_BABA_BABA, 0xBBBB_BBBB_BBBB_BBBB,
     0xBCBC_BCBC_BCBC_BCBC, 0xBDBD_BDBD_BDBD_BDBD, 0xBEBE_BEBE_BEBE_BEBE, 0xBFBF_BFBF_BFBF_BFBF,
+    0x0000_0000_0000_0000, 0x0101_0101_0101_0100, 0x0101_0101_0101_0000, 0x0202_0202_0202_0100,
+    0x0101_0101_0100_0000, 0x0202_0202_0201_0100, 0x0202_0202_0201_0000, 0x0303_0303_0302_0100,
+    0x0101_0101_0000_0000, 0x0202_0202_0101_0100, 0x0202_0202_0101_0000, 0x0303_0303_0202_0100,
+    0x0202_0202_0100_0000, 0x0303_0303_0201_0100, 0x0303_0303_0201_0000, 0x0404_0404_0302_0100,
+    0x0101_0100_0000_0000, 0x0202_0201_0101_0100, 0x0202_0201_0101_0000, 0x0303_0302_0202_0100,
+    0x0202_0201_0100_0000, 0x0303_0302_0201_0100, 0x0303_0302_0201_0000, 0x0404_0403_0302_0100,
+    0x0202_0201_0000_0000, 0x0303_0302_0101_0100, 0x0303_0302_0101_0000, 0x0404_0403_0202_0100,
+    0x0303_0302_0100_0000, 0x0404_0403_0201_0100, 0x0404_0403_0201_0000, 0x0505_0504_0302_0100,
+    0x0101_0000_0000_0000, 0x0202_0101_0101_0100, 0x0202_0101_0101_0000, 0x0303_0202_0202_0100,
+    0x0202_0101_0100_0000, 0x0303_0202_0201_0100, 0x0303_0202_0201_0000, 0x0404_0303_0302_0100,
+    0x0202_0101_0000_0000, 0x0303_0202_0101_0100, 0x0303_0202_0101_0000, 0x0404_0303_0202_0100,
+    0x0303_0202_0100_0000, 0x0404_0303_0201_0100, 0x0404_0303_0201_0000, 0x0505_0404_0302_0100,
+    0x0202_0100_0000_0000, 0x0303_0201_0101_0100, 0x0303_0201_0101_0000, 0x0404_0302_0202_0100,
+    0x0303_0201_0100_0000, 0x0404_0302_0201_0100, 0x0404_0302_0201_0000, 0x0505_0403_0302_0100,
+    0x0303_0201_0000_0000, 0x0404_0302_0101_0100, 0x0404_0302_0101_0000, 0x0505_0403_0202_0100,
+    0x0404_0302_0100_0000, 0x0505_0403_0201_0100, 0x0505_0403_0201_0000, 0x0606_0504_0302_0100,
+    0x0100_0000_0000_0000, 0x0201_0101_0101_0100, 0x0201_0101_0101_0000, 0x0302_0202_0202_0100,
+    0x0201_0101_0100_0000, 0x0302_0202_0201_0100, 0x0302_0202_0201_0000, 0x0403_0303_0302_0100,
+    0x0201_0101_0000_0000, 0x0302_0202_0101_0100, 0x0302_0202_0101_0000, 0x0403_0303_0202_0100,
+    0x0302_0202_0100_0000, 0x0403_0303_0201_0100, 0x0403_0303_0201_0000, 0x0504_0404_0302_0100,
+    0x0201_0100_0000_0000, 0x0302_0201_0101_0100, 0x0302_0201_0101_0000, 0x0403_0302_0202_0100,
+    0x0302_0201_0100_0000, 0x0403_0302_0201_0100, 0x0403_0302_0201_0000, 0x0504_0403_0302_0100,
+    0x0302_0201_0000_0000, 0x0403_0302_0101_0100, 0x0403_0302_0101_0000, 0x0504_0403_0202_0100,
+    0x0403_0302_0100_0000, 0x0504_0403_0201_0100, 0x0504_0403_0201_0000, 0x0605_0504_0302_0100,
+    0x0201_0000_0000_0000, 0x0302_0101_0101_0100, 0x0302_0101_0101_0000, 0x0403_0202_0202_0100,
+    0x0302_0101_0100_0000, 0x0403_0202_0201_0100, 0x0403_0202_0201_0000, 0x0504_0303_0302_0100,
+    0x0302_0101_0000_0000, 0x0403_0202_0101_0100, 0x0403_0202_0101_0000, 0x0504_0303_0202_0100,
+    0x0403_0202_0100_0000, 0x0504_0303_0201_0100, 0x0504_0303_0201_0000, 0x0605_0404_0302_0100,
+    0x0302_0100_0000_0000, 0x0403_0201_0101_0100, 0x0403_0201_0101_0000, 0x0504_0302_0202_0100,
+    0x0403_0201_0100_0000, 0x0504_0302_0201_0100, 0x0504_0302_0201_0000, 0x0605_0403_0302_0100,
+    0x0403_0201_0000_0000, 0x0504_0302_0101_0100, 0x0504_0302_0101_0000, 0x0605_0403_0202_0100,
+    0x0504_0302_0100_0000, 0x0605_0403_0201_0100, 0x0605_0403_0201_0000, 0x0706_0504_0302_0100,
 ];
 
 /// The word whose bytes are all 128 more than `r`. At most 64 may be taken from each byte: none borrows from the next,
@@ -74,7 +101,7 @@ fn bounds(r: u8) -> u64
     requires { r ≤ 63 }
     ensures { result ≡ (128 + r) * 0x0101_0101_0101_0101 }
 {
-    BOUNDS[r as usize]
+    BOUNDS_AND_ONES[r as usize]
 }
 
 /// How many of the eight bytes of `sums` are at most `r`.
@@ -102,20 +129,37 @@ fn ranks_left(n: u64, rank: u8) -> u64
     bounds(rank) - (byte_sums(n) << 8)
 }
 
-/// The place of the one of `byte` with `left - 128` ones before it.
+/// The word whose byte k is how many ones stand before bit k of `byte`.
 #[inline(always)]
-fn select_in_byte(byte: u8, left: u8) -> u8
-    requires from { 128 ≤ left }
-    requires some { left - 128 < ones_before (low_digits 8 byte) 8 }
-    ensures { Picks (low_digits 8 byte) true (left - 128) result }
+fn ones_before_bits(byte: u8) -> u64
+    requires { byte < 128 }
+    ensures { to_le_bytes w64 result
+        ≡ map (λ k. ones_before (low_digits 8 byte) k) (range_with_len 0 8) }
 {
-    // Each bit goes to a byte of its own, but for the eighth, which stands before no other.
-    let flags = ((byte & 0x7F) as u64 * SEVEN_COPIES) & LOWEST_OF_EACH_BYTE;
-    // For k from 1 to 7, byte k is `left` less the ones before bit k; the mask leaves byte 0 out.
-    let kept = (left as u64)
-        .wrapping_sub(flags)
-        .wrapping_mul(LOWEST_BUT_FIRST);
-    (kept & HIGHEST_BUT_FIRST).count_ones() as u8
+    BOUNDS_AND_ONES[64 + byte as usize]
+}
+
+/// What is left of `rank` at each bit of a byte without its highest: byte k is 128 more than the rank, less the ones
+/// before bit k.
+#[inline(always)]
+fn ranks_left_in(byte: u8, rank: u8) -> u64
+    requires low { byte < 128 }
+    requires rank { rank ≤ 63 }
+    ensures { to_le_bytes w64 result
+        ≡ map (λ k. 128 + rank - ones_before (low_digits 8 byte) k) (range_with_len 0 8) }
+{
+    bounds(rank) - ones_before_bits(byte)
+}
+
+/// The place of the one of `byte` with `rank` ones before it.
+#[inline(always)]
+fn select_in_byte(byte: u8, rank: u8) -> u8
+    requires { rank < ones_before (low_digits 8 byte) 8 }
+    ensures { Picks (low_digits 8 byte) true rank result }
+{
+    // The highest bit stands before no other.
+    let ranks = ranks_left_in(byte & 0x7F, rank);
+    (ranks & HIGHEST_BUT_FIRST).count_ones() as u8
 }
 
 /// The place of the one of `n` with `rank` ones before it. For the place of a zero, pass `!n`.
@@ -124,8 +168,8 @@ fn select_in_byte(byte: u8, left: u8) -> u8
 /// `n` has more than `rank` ones.
 /// # Source
 /// Vigna, "Broadword Implementation of Rank/Select Queries" (WEA 2008), here with one product that tells for each byte
-/// what is left of the rank and, by its highest bit, whether the rank reaches it, and one that tells this for the bits
-/// of the last byte that is reached.
+/// what is left of the rank and, by its highest bit, whether the rank reaches it. A table of 1.5 KiB tells this for the
+/// bits of the last byte that is reached.
 #[inline(always)]
 pub fn select64(n: u64, rank: u8) -> u8
     requires { rank < ones_before (low_digits 64 n) 64 }
@@ -134,6 +178,6 @@ pub fn select64(n: u64, rank: u8) -> u8
 {
     let ranks = ranks_left(n, rank);
     let place = 8 * (ranks & HIGHEST_BUT_FIRST).count_ones() as u8;
-    let left = ((ranks >> place) & 0xFF) as u8;
+    let left = ((ranks >> place) & 0x3F) as u8;
     place + select_in_byte(((n >> place) & 0xFF) as u8, left)
 }

@@ -1,14 +1,13 @@
 -- The byte of a word in which the one of a rank stands, from what is left of the rank, and the bit of that byte.
-use Rattle.std.proofs.Common.{Bool, cond, nat_lt, ◌&&◌, ◌≡◌, ℕ, zero, suc, ◌+◌, ◌-◌, ◌*◌, ◌/◌, ◌%◌, ◌^◌, ◌<◌, ◌≤◌, count_ones, All, get_or, bit_and, refl, sym, ap, subst, subst₂, true, ◌==◌, ◌∙◌, arith, eqb-true, suc-le-suc}
-use Rattle.std.proofs.lemmas.Bool.{le-leb, ltb-true, and_parts}
+use Rattle.std.proofs.Common.{Bool, cond, nat_lt, ◌≡◌, ℕ, zero, suc, ◌+◌, ◌-◌, ◌*◌, ◌/◌, ◌%◌, ◌^◌, ◌<◌, ◌≤◌, count_ones, All, get_or, bit_and, refl, sym, ap, subst₂, true, ◌==◌, ◌∙◌, arith, eqb-true, suc-le-suc}
+use Rattle.std.proofs.lemmas.Bool.{lt-ltb, le-ltb}
 use Rattle.std.proofs.lemmas.List.Elements.{All-from_get_or}
-use Rattle.std.proofs.lemmas.Nat.{and_le_r, field_of, shr-shr, and_mask, shl-shr}
+use Rattle.std.proofs.lemmas.Nat.{field_of, shr-shr, and_mask, shl-shr}
 use Rattle.std.proofs.Math.Pow.{mod-mod-pow}
 use Rattle.std.specs.Int.Count.{ones, ones_in}
 use Rattle.broadword.proofs.lemmas.AtMostLemmas.{highest_but_first}
 use Rattle.broadword.proofs.lemmas.ByteLemmas.{length-low_bytes, get_or-low_bytes, AreLeftBy, located}
 use Rattle.broadword.proofs.lemmas.ByteSumLemmas.{all_below, all_below-at}
-use Rattle.broadword.proofs.lemmas.FieldLemmas.{sum_fields, sum_fields-count_ones}
 use Rattle.broadword.proofs.lemmas.InWordLemmas.{ones_before-low_digits, ones_before-low_digits_rises, ones_before-low_digits_none, ones_before-low_digits_few, ones_before-low_digits_above, picked_in_digits, picked_above}
 use Rattle.broadword.proofs.lemmas.LowBytes.{low_bytes}
 use Rattle.bit_lists.specs.Bits.{low_digits}
@@ -76,8 +75,8 @@ AreRanksLeft n r ranks = (k : ℕ) → k < 8 → get_or (low_bytes 8 ranks) k 0 
 pub record IsByteOf (n r ranks c : ℕ) : Type 0 where
   pub inside : c ≤ 7
   pub low : ones_before (low_digits 64 n) (8 * c) ≤ r
-  pub left : bit_and (ranks / 2 ^ (8 * c)) 0xFF ≡ 128 + (r - ones_before (low_digits 64 n) (8 * c))
-  pub some : bit_and (ranks / 2 ^ (8 * c)) 0xFF - 128 < ones_before (low_digits 8 (bit_and (n / 2 ^ (8 * c)) 0xFF)) 8
+  pub left : bit_and (ranks / 2 ^ (8 * c)) 0x3F ≡ r - ones_before (low_digits 64 n) (8 * c)
+  pub some : bit_and (ranks / 2 ^ (8 * c)) 0x3F < ones_before (low_digits 8 (bit_and (n / 2 ^ (8 * c)) 0xFF)) 8
 
 module _ (n r ranks : ℕ) (fits : ranks < 2 ^ 64) (left : AreRanksLeft n r ranks) (below : r < ones_before (low_digits 64 n) 64) where
   -- the bytes after the first that keep their highest bit end with the one in which the one of rank r stands
@@ -104,8 +103,10 @@ module _ (n r ranks : ℕ) (fits : ranks < 2 ^ 64) (left : AreRanksLeft n r rank
       let turned : 8 * c + 8 ≡ 8 * suc c = omega arith in
       let above = ones_before-low_digits_above 64 n (8 * c) 8 8 (omega arith) (omega arith) in
       let byte = ap (λ m. ones_before (low_digits 8 m) 8) (and_mask (n / 2 ^ (8 * c)) 8) in
-      let here : bit_and (ranks / 2 ^ (8 * c)) 0xFF ≡ 128 + (r - ones_before (low_digits 64 n) (8 * c)) =
-      and_mask (ranks / 2 ^ (8 * c)) 8 ∙ sym (get_or-low_bytes 8 c ranks (omega arith)) ∙ left c (omega arith) ∙ omega arith in
+      let whole : ranks / 2 ^ (8 * c) % 256 ≡ rank_left n r c = sym (get_or-low_bytes 8 c ranks (omega arith)) ∙ left c (omega arith) in
+      let few = ones_before-low_digits_few 64 n in
+      let here : bit_and (ranks / 2 ^ (8 * c)) 0x3F ≡ r - ones_before (low_digits 64 n) (8 * c) =
+      and_mask (ranks / 2 ^ (8 * c)) 6 ∙ omega arith in
       record {
         inside = at.0;
         low = at.1;
@@ -116,64 +117,89 @@ module _ (n r ranks : ℕ) (fits : ranks < 2 ^ 64) (left : AreRanksLeft n r rank
   -- the bit of that byte is the place in the word
   pub picked_in_word : (i : ℕ) →
       let c = count_ones (bit_and ranks 0x8080808080808000) in
-      Picks (low_digits 8 (bit_and (n / 2 ^ (8 * c)) 0xFF)) true (bit_and (ranks / 2 ^ (8 * c)) 0xFF - 128) i
+      Picks (low_digits 8 (bit_and (n / 2 ^ (8 * c)) 0xFF)) true (bit_and (ranks / 2 ^ (8 * c)) 0x3F) i
       → Picks (low_digits 64 n) true r (8 * c + i)
   picked_in_word i there =
       let c = count_ones (bit_and ranks 0x8080808080808000) in
       let at = byte_of_rank in
       let masked = and_mask (n / 2 ^ (8 * c)) 8 in
-      let rest : bit_and (ranks / 2 ^ (8 * c)) 0xFF - 128 ≡ r - ones_before (low_digits 64 n) (8 * c) = omega (arith, at.left) in
       picked_above 64 n (8 * c) 8 r i (omega (arith, at.inside)) at.low
-      (subst₂ (λ m b. Picks (low_digits 8 m) true b i) masked rest there)
+      (subst₂ (λ m b. Picks (low_digits 8 m) true b i) masked at.left there)
 
 -- ---- the bit of a byte
 
--- byte k, from 1 on, is l less the ones of v before bit k
-abbrev bits_left : ℕ → ℕ → ℕ
-bits_left v l =
-    let flags = bit_and (bit_and v 0x7F * 0x0002040810204081) 0x0101010101010101 in
-    (l + (2 ^ 64 - flags)) % 2 ^ 64 * 0x0101010101010100 % 2 ^ 64
+-- the ones before bit k
+ones_before_bit : ℕ → ℕ → ℕ
+ones_before_bit v k = ones_before (low_digits 8 v) k
 
--- the highest bits of those from which at most l - 128 was taken
-abbrev highest_kept : ℕ → ℕ → ℕ
-highest_kept v l = bit_and (bits_left v l) 0x8080808080808000
+-- the highest bit of v stands before none of its bits
+before_bit : (v k : ℕ) → k ≤ 7 → ones_before (low_digits 8 (v % 128)) k ≡ ones_before (low_digits 8 v) k
+before_bit v k inside =
+    let cut : 7 ≡ 7 - k + k = omega arith in
+    ones_before-low_digits 8 k (v % 128) (omega arith)
+    ∙ ap count_ones (ap (λ w. v % 2 ^ w % 2 ^ k) cut ∙ mod-mod-pow v (7 - k) k)
+    ∙ sym (ones_before-low_digits 8 k v (omega arith))
 
--- p bits stand before the one of rank r, where v has more than r ones
-is_placed_at : ℕ → ℕ → ℕ → Bool
-is_placed_at v r p = cond (nat_lt r (count_ones v)) (nat_lt p 8 && ((count_ones (v % 2 ^ p) == r) && (count_ones (v % 2 ^ (p + 1)) == r + 1))) true
+pub bits_small : (v ones : ℕ) → ((k : ℕ) → k < 8 → get_or (low_bytes 8 ones) k 0 ≡ ones_before (low_digits 8 v) k)
+    → All (λ s. s ≤ 64) (low_bytes 8 ones)
+bits_small v ones counts =
+    small_where ones (λ k inside.
+    let rest = 8 - k in
+    let turned : k + rest ≡ 8 = omega arith in
+    let rise = ones_before-low_digits_rises 8 v k rest (omega arith) in
+    omega (arith, counts k inside, ap (ones_before (low_digits 8 v)) turned, ones_before-low_digits_few 8 v))
 
-is_placed : ℕ → ℕ → Bool
-is_placed v r = is_placed_at v r (sum_fields 8 8 count_ones (highest_kept v (128 + r)))
+-- byte k of ranks is 128 and what the ones before bit k of v leave of r
+abbrev pub rank_left_in : ℕ → ℕ → ℕ → ℕ
+rank_left_in v r k = 128 + r - ones_before (low_digits 8 v) k
 
-is_placed_in_table : (v r : ℕ) → v < 256 → r < 8 → is_placed v r ≡ true
-unfolding all_below ones ones_in is_placed is_placed_at sum_fields
-is_placed_in_table v r fits inside =
-    let row = λ (a : ℕ). all_below (λ b. all_below (is_placed (16 * a + b)) 8) 16 in
-    let high = all_below-at row 16 (v / 16) refl (omega arith) in
-    let low = all_below-at (λ b. all_below (is_placed (16 * (v / 16) + b)) 8) 16 (v % 16) high (omega arith) in
-    let split : 16 * (v / 16) + v % 16 ≡ v = omega arith in
-    subst (λ u. is_placed u r ≡ true) split (all_below-at (is_placed (16 * (v / 16) + v % 16)) 8 r low inside)
+-- the bits after the lowest whose bytes keep their highest bit end with the one of rank r
+pub picked_in_byte : (v r ranks : ℕ) → ranks < 2 ^ 64
+    → ((k : ℕ) → k < 8 → get_or (low_bytes 8 ranks) k 0 ≡ rank_left_in (v % 128) r k)
+    → r < ones_before (low_digits 8 v) 8
+    → Picks (low_digits 8 v) true r (count_ones (bit_and ranks 0x8080808080808000))
+unfolding ones_before_bit low_bytes
+picked_in_byte v r ranks fits left below =
+    let c = count_ones (bit_and ranks 0x8080808080808000) in
+    let after : AreLeftBy (ones_before_bit v) 7 r (low_bytes 7 (ranks / 256)) =
+    record {
+      size = length-low_bytes 7 (ranks / 256);
+      items = λ k h. left (suc k) (suc-le-suc h) ∙ ap (λ s. 128 + r - s) (before_bit v (suc k) (omega arith));
+      rises = λ k h.
+          let turned : k + 1 ≡ suc k = omega arith in
+          let rise = ones_before-low_digits_rises 8 v k 1 (omega arith) in
+          omega (arith, ap (ones_before (low_digits 8 v)) turned);
+    } in
+    let at = located (ones_before_bit v) 7 r (low_bytes 7 (ranks / 256)) after c (omega (arith, ones_before-low_digits_none 8 v)) below (highest_but_first ranks fits) in
+    let next : c + 1 ≡ suc c = omega arith in
+    picked_in_digits 8 v r c (omega (arith, at.0)) at.1 (omega (arith, at.2, ap (ones_before (low_digits 8 v)) next))
 
-pub picked_in_byte : (v l : ℕ) → v < 256 → 128 ≤ l → l - 128 < ones_before (low_digits 8 v) 8
-    → Picks (low_digits 8 v) true (l - 128) (count_ones (highest_kept v l))
-unfolding is_placed is_placed_at
-picked_in_byte v l fits from below =
-    let r = l - 128 in
-    let p = count_ones (highest_kept v l) in
-    let turned : 128 + r ≡ l = omega arith in
-    let few : highest_kept v l % 2 ^ (8 * 8) ≡ highest_kept v l = omega (arith, and_le_r (bits_left v l) 0x8080808080808000) in
-    let counted = ap (λ m. sum_fields 8 8 count_ones (highest_kept v m)) turned ∙ sum_fields-count_ones 8 8 (highest_kept v l) ∙ ap count_ones few in
-    let whole : v % 2 ^ 8 ≡ v = omega arith in
-    let ones = ones_before-low_digits 8 8 v (omega arith) ∙ ap count_ones whole in
-    let some : r < count_ones v = omega arith in
-    let row = subst (λ q. is_placed_at v r q ≡ true) counted (is_placed_in_table v r fits (omega (arith, ones_before-low_digits_few 8 v))) in
-    let low = count_ones (v % 2 ^ p) == r in
-    let high = count_ones (v % 2 ^ (p + 1)) == r + 1 in
-    let placed = nat_lt p 8 && (low && high) in
-    let all : placed ≡ true = subst (λ b. cond b placed true ≡ true) (le-leb (suc r) (count_ones v) some) row in
-    let parts = and_parts (nat_lt p 8) (low && high) all in
-    let counts = and_parts low high parts.1 in
-    let inside : p < 8 = ltb-true p 8 parts.0 in
-    picked_in_digits 8 v r p inside
-    (omega (arith, ones_before-low_digits 8 p v (omega arith), eqb-true (count_ones (v % 2 ^ p)) r counts.0))
-    (omega (arith, ones_before-low_digits 8 (p + 1) v (omega arith), eqb-true (count_ones (v % 2 ^ (p + 1))) (r + 1) counts.1))
+-- ---- the table of both
+
+-- each of seven copies of v keeps one bit, and the product adds up those before
+abbrev ones_word : ℕ → ℕ
+ones_word v = bit_and (v * 0x0002040810204081) 0x0101010101010101 * 0x0101010101010100 % 2 ^ 64
+
+abbrev pub table_word : ℕ → ℕ
+table_word k = cond (nat_lt k 64) ((128 + k) * 0x0101010101010101) (ones_word (k - 64))
+
+is_right : ℕ → ℕ → Bool
+is_right v k = get_or (low_bytes 8 (ones_word v)) k 0 == count_ones (v % 2 ^ k)
+
+is_right_in_table : (v k : ℕ) → v < 128 → k < 8 → is_right v k ≡ true
+unfolding all_below ones ones_in is_right low_bytes
+is_right_in_table v k fits inside =
+    all_below-at (is_right v) 8 k (all_below-at (λ u. all_below (is_right u) 8) 128 v refl fits) inside
+
+pub bound_in_table : (r : ℕ) → r ≤ 63 → table_word r ≡ (128 + r) * 0x0101010101010101
+bound_in_table r few = ap (λ b. cond b ((128 + r) * 0x0101010101010101) (ones_word (r - 64))) (lt-ltb r 64 (omega arith))
+
+pub ones_in_table : (v k : ℕ) → v < 128 → k < 8 → get_or (low_bytes 8 (table_word (64 + v))) k 0 ≡ ones_before (low_digits 8 v) k
+unfolding is_right
+ones_in_table v k fits inside =
+    let first = (128 + (64 + v)) * 0x0101010101010101 in
+    let same : 64 + v - 64 ≡ v = omega arith in
+    let word = ap (λ b. cond b first (ones_word (64 + v - 64))) (le-ltb (64 + v) 64 (omega arith)) ∙ ap ones_word same in
+    ap (λ w. get_or (low_bytes 8 w) k 0) word
+    ∙ eqb-true (get_or (low_bytes 8 (ones_word v)) k 0) (count_ones (v % 2 ^ k)) (is_right_in_table v k fits inside)
+    ∙ sym (ones_before-low_digits 8 k v (omega arith))

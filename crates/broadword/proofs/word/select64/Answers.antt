@@ -24,13 +24,8 @@ overflow_shr-n c =
     let at = byte_of_rank c.args.n c.args.rank c.ranks_left-ranks.result (omega arith) (bytes_at (rank_left c.args.n c.args.rank) _ c.ranks_left-ranks.ensures) c.requires in
     omega (arith, at.inside)
 
-pub select_in_byte-requires-clause-from : goal.select_in_byte-requires-clause-from
-select_in_byte-requires-clause-from c =
-    let at = byte_of_rank c.args.n c.args.rank c.ranks_left-ranks.result (omega arith) (bytes_at (rank_left c.args.n c.args.rank) _ c.ranks_left-ranks.ensures) c.requires in
-    omega (arith, at.left)
-
-pub select_in_byte-requires-clause-some : goal.select_in_byte-requires-clause-some
-select_in_byte-requires-clause-some c =
+pub select_in_byte-requires : goal.select_in_byte-requires
+select_in_byte-requires c =
     (byte_of_rank c.args.n c.args.rank c.ranks_left-ranks.result (omega arith) (bytes_at (rank_left c.args.n c.args.rank) _ c.ranks_left-ranks.ensures) c.requires).some
 
 pub overflow_add-result : goal.overflow_add-result
