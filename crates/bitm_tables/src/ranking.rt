@@ -13,8 +13,8 @@ use crate::levels::{
 use crate::source::{Probe, TableSource};
 use broadword::ones_through;
 
-/// So many words, 4 MiB, stay in a processor's caches. Past that a query waits for its words, and more queries wait side
-/// by side if each takes no more instructions than it needs.
+/// So many words, 4 MiB, stay in a processor's caches. Past that a query waits for its words, and more queries wait
+/// side by side if each takes no more instructions than it needs.
 pub const WORDS_IN_CACHE: usize = 1 << 19;
 
 /// A word of ones.
@@ -220,11 +220,11 @@ fn word_and_ones<T: TableSource>(source: &mut T, last: usize) -> (u64, usize)
     ensures reads { OnlyReads T.lists T.reads source.old source.new 1 1 8 }
 {
     let record = last / RECORD_BITS;
-    // The words first: then nothing of the entry is held in registers while they are counted.
-    let in_record = ones_in_record(source, record * U64_PER_L2_RECORDS, last / 64);
+    // The entry and the last word first: then both come from memory while the words between are counted.
+    let entry = source.lower(last / BITS_PER_L2_ENTRY);
     let word = source.word(last / 64);
     let in_word = ones_through(word, last % 64) as usize;
-    let entry = source.lower(last / BITS_PER_L2_ENTRY);
+    let in_record = ones_in_record(source, record * U64_PER_L2_RECORDS, last / 64);
     let to_record = ones_to_entry(entry) + ones_to_record(entry, record % RECORDS_PER_L2_ENTRY);
     let to_part = ones_to_part(source, last >> 32);
     (word, to_part.wrapping_add(to_record + in_record + in_word))

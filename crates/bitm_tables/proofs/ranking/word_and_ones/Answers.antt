@@ -11,7 +11,7 @@ use Rattle.bitm_tables.proofs.ranking.word_and_ones.Goals.{After-ones_to_record}
 in_record_most : (g : _) (c : After-ones_to_record g) → c.ones_in_record-in_record.result ≤ 448
 in_record_most g c =
     let i = c.args.last in
-    let between = ones_before-between (bits_of (g.T.TableSource.lists c.args.source.now).words) (64 * (i / 512 * 8)) (64 * (i / 64)) (omega arith) in
+    let between = ones_before-between (bits_of (g.T.TableSource.lists c.word-word.new.self).words) (64 * (i / 512 * 8)) (64 * (i / 64)) (omega arith) in
     omega (arith, c.ones_in_record-in_record.ensures.ones, between.1)
 
 pub overflow_add-result : goal.overflow_add-result
@@ -28,22 +28,23 @@ pub returns-clause-ones : goal.returns-clause-ones
 returns-clause-ones g c = λ t.
     let b = bits_of (g.T.TableSource.lists c.args.source.now).words in
     let i = c.args.last in
-    let in_it = c.ones_in_record-in_record.ensures in
-    let before_entry = c.word-word.ensures.same ∙ in_it.same in
-    let same = c.lower-entry.ensures.same ∙ before_entry in
+    let after_entry = c.lower-entry.ensures.same in
+    let after_word = c.word-word.ensures.same ∙ after_entry in
+    let same = c.ones_in_record-in_record.ensures.same ∙ after_word in
+    let in_it =
+    subst (λ (l : Lists). ones_before (bits_of l.words) (64 * (i / 512 * 8)) + c.ones_in_record-in_record.result ≡ ones_before (bits_of l.words) (64 * (i / 64))) after_word
+    c.ones_in_record-in_record.ensures.ones in
     let to_part =
     subst (λ (l : Lists). c.ones_to_part-to_part.result ≡ ones_before (bits_of l.words) (i / 2 ^ 32 * 2 ^ 32)) same
     (c.ones_to_part-to_part.ensures.count (subst HasTables (sym same) t)) in
-    let sum =
-    tables_sum _ _ _ t i (omega arith) c.ones_to_part-to_part.result c.lower-entry.result to_part
-    (c.lower-entry.ensures.item ∙ ap (λ (l : Lists). slice_index l.lower (i / 2048)) before_entry) in
+    let sum = tables_sum _ _ _ t i (omega arith) c.ones_to_part-to_part.result c.lower-entry.result to_part c.lower-entry.ensures.item in
     let part =
-    word_through _ i c.word-word.result (omega arith) (c.word-word.ensures.item ∙ ap (λ (l : Lists). slice_index l.words (i / 64)) in_it.same) in
+    word_through _ i c.word-word.result (omega arith) (c.word-word.ensures.item ∙ ap (λ (l : Lists). slice_index l.words (i / 64)) after_entry) in
     let few = ones_before-self b (i + 1) in
     omega (
       arith,
       sum,
-      in_it.ones,
+      in_it,
       part,
       few,
       c.ones_to_entry.ensures,
