@@ -1,5 +1,6 @@
-/* Times the calls of the C library over 2^LOG2 random bits: calls LOG2 ROUNDS. Rows, words, queries and clock are those of the
- * crate `bench`, so the last column (the sum of the answers) is the same too. */
+/* Times the calls of the C library over 2^LOG2 random bits, and over a sequence of a quarter as many numbers: calls LOG2
+ * ROUNDS. Rows, words, numbers, queries and clock are those of the crate `bench`, so the last column (the sum of the
+ * answers) is the same too. */
 #define _GNU_SOURCE
 #define BITM_MUST_USE /* every status is BITM_OK here, and testing them all would be timed */
 #include "../include/bitm.h"
@@ -12,10 +13,12 @@
 #define EACH(call) for (size_t i = 0; i < QUERIES; i++) { uint64_t got = 0; call(&view, asked[i], &got); sum += got; }
 #define BY_SAMPLES(call, by) \
     for (size_t i = 0; i < QUERIES; i++) { uint64_t got = 0; call(&view, &by, asked[i], &got); sum += got; }
-#define ALL(call) \
-    call(&view, asked, QUERIES, answers, QUERIES); \
-    for (size_t i = 0; i < QUERIES; i++) sum += answers[i];
-#define ROW(name, by, body) \
+#define ADD for (size_t i = 0; i < QUERIES; i++) sum += answers[i];
+#define ALL(call) call(&view, asked, QUERIES, answers, QUERIES); ADD
+#define ALL_BY_SAMPLES(call, by) call(&view, &by, asked, QUERIES, answers, QUERIES); ADD
+#define ALL_NUMBERS(call) call(&view, asked, QUERIES, answers, QUERIES, &written); ADD
+#define ROW(name, by, body) ROW_OF(QUERIES, name, by, body)
+#define ROW_OF(count, name, by, body) \
     do { \
         double least = 1e18; \
         uint64_t sum = 0; \
@@ -26,7 +29,7 @@
             double took = used() - start; \
             if (took < least) least = took; \
         } \
-        printf("%s,%s,%d,even,%.2f,ns,%llu\n", name, by, log2, least / (double)QUERIES, (unsigned long long)sum); \
+        printf("%s,%s,%d,even,%.2f,ns,%llu\n", name, by, log2, least / (double)(count), (unsigned long long)sum); \
     } while (0)
 
 static uint64_t asked[QUERIES], answers[QUERIES];
@@ -72,6 +75,33 @@ static struct bitm_samples samples_of(const struct bitm_view *view, make_samples
     return (struct bitm_samples){samples, count, starts, view->upper_len, 13};
 }
 
+/* Rows of numbers of which each is by less than 1000 greater than the one before it. */
+static void numbers(int log2, int rounds, size_t count)
+{
+    uint64_t state = 88172645463325252, last = 0, width, written, *items = some(count, 8);
+    for (size_t i = 0; i < count; i++) items[i] = last += draw(&state) % 1000;
+    struct bitm_sequence_lens of;
+    if (bitm_sequence_sizes(count, last, &of) != BITM_OK) abort();
+    uint64_t *low = some(of.low_len, 8), *words = some(of.words_len, 8);
+    uint64_t *upper = some(of.upper_len, 8), *lower = some(of.lower_len, 8);
+    if (bitm_sequence_build(items, count, low, of.low_len, words, of.words_len, upper, of.upper_len, lower, of.lower_len,
+                            &width) != BITM_OK)
+        abort();
+    struct bitm_sequence_view view = {count, width, low, of.low_len, words, of.words_len, upper, of.upper_len, lower,
+                                      of.lower_len};
+    ask(count);
+    ROW("sequence_get", "C", EACH(bitm_sequence_get));
+    ROW("sequence_get_list", "C", ALL_NUMBERS(bitm_sequence_get_list));
+    ask(last);
+    ROW("sequence_first_at_least", "C", EACH(bitm_sequence_first_at_least));
+    ROW("sequence_first_at_least_list", "C", ALL(bitm_sequence_first_at_least_list));
+    ROW_OF(count, "sequence_in_order", "C",
+        for (size_t at = 0; at < count; at += 1024) {
+            bitm_sequence_items(&view, at, answers, 1024, &written);
+            for (size_t i = 0; i < written; i++) sum += answers[i];
+        });
+}
+
 int main(int argc, char **argv)
 {
     if (argc != 3) return 2;
@@ -98,9 +128,12 @@ int main(int argc, char **argv)
     ROW("select", "C binary", EACH(bitm_select));
     ROW("select", "C sampled", BY_SAMPLES(bitm_sampled_select, of_ones));
     ROW("select_list", "C", ALL(bitm_select_list));
+    ROW("select_list", "C sampled", ALL_BY_SAMPLES(bitm_sampled_select_list, of_ones));
     ask(64 * len - ones);
     ROW("select0", "C binary", EACH(bitm_select0));
     ROW("select0", "C sampled", BY_SAMPLES(bitm_sampled_select0, of_zeros));
     ROW("select0_list", "C", ALL(bitm_select0_list));
+    ROW("select0_list", "C sampled", ALL_BY_SAMPLES(bitm_sampled_select0_list, of_zeros));
+    numbers(log2, rounds, (size_t)1 << (log2 - 2));
     return 0;
 }
