@@ -8,10 +8,11 @@ ghost use Rattle.elias_fano_lent.specs.Lists.{AreItemsFrom, IsKeptFrom};
 ghost use Rattle.elias_fano_lent.specs.Low.{ReadsFragments};
 
 use crate::sequence::LentSequence;
-use bitm::words;
+use bitm::BitOnesIterator;
 use bitm_lent::Selected;
 use elias_fano::LowDigits;
 use elias_fano::building::item_at_one;
+use std::iter::Iterator;
 
 /// Writes the `most` numbers from number `from` on, whose ones begin at bit `first` of the words, or those up to where
 /// the ones end, and answers how many. One fragment of the low digits is read for each.
@@ -34,14 +35,13 @@ fn write_items(
     ensures kept { IsKeptFrom result out.old out.new }
     ensures fragments { ReadsFragments low.old low.new result }
 {
-    let mut next = first;
+    let mut ones = BitOnesIterator::from_place(words, first);
     for at in 0..most {
-        let place = match words::find_bit_one(words, next) {
+        let place = match ones.next() {
             Some(place) => place,
             None => return at,
         };
         out[at] = item_at_one(place, &mut *low, from + at);
-        next = place + 1;
     }
     most
 }
@@ -52,7 +52,7 @@ impl<'a> LentSequence<'a> {
     ///
     /// # Cost
     /// One selection, and none where no number is asked for; then each upper word from the first number's one on is
-    /// read once, up to that of the last, and once more for each number, with a fragment of the low digits.
+    /// read once, up to that of the last, and for each number a fragment of the low digits.
     pub fn items_from(&self, from: usize, out: &mut [u64]) -> usize
         ensures most { result ≤ min (length out.old) (self.now.len - from) }
         ensures all { (xs : List ℕ) → Holds xs self.now
