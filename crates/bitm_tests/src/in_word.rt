@@ -59,6 +59,13 @@ fn each_rank_is_selected_as_bit_by_bit(rt: HostRuntime) {
     }
 }
 
+#[test]
+fn a_one_alone_is_selected_at_each_place(rt: HostRuntime) {
+    for place in 0..64u8 {
+        assert!(rt; selected_in_word(1 << place, 0) == Some(place));
+    }
+}
+
 /// How many sums of bytes are at most `r`.
 fn sums_at_most(n: u64, r: u8) -> u8
     requires { r ≤ 63 }

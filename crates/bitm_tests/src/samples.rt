@@ -1,7 +1,11 @@
 //! Selection by samples: those that are kept, and what the index selects by them, worked out by hand.
 //! `replay_original` compares others with those of the original crate.
 use crate::walk::{Sampled, index_over, one_agrees, words_of, zero_agrees};
-use bitm::{BinaryRankSearch, CombinedSampling, ConstCombinedSamplingDensity};
+use bitm::{
+    AdaptiveCombinedSamplingDensity, BinaryRankSearch, BitAccess, CombinedSampling,
+    CombinedSamplingDensity, ConstCombinedSamplingDensity,
+};
+use std::alloc::{AllocError, Global};
 use std::process::Abort;
 use std::test::Fail;
 
@@ -73,4 +77,66 @@ fn expect_samples(rt: &impl Abort, ones: &Sampled, zeros: &Sampled) {
         assert!(rt; *sample == wanted);
         wanted = wanted.wrapping_add(4);
     }
+}
+
+/// The samples of one part of words, by a walk over its bits: an item that is a whole number of intervals from the
+/// first begins a sample, and one half an interval later adds the distance to it.
+fn walked(alloc: Global, words: &[u64], kind: bool, log2: u8) -> Result<Vec<u32>, AllocError> {
+    let in_interval = 1u64.wrapping_shl(u32::from(log2)).wrapping_sub(1);
+    let mut samples: Vec<u32> = Vec::new(alloc);
+    let mut items = 0u64;
+    for place in 0..usize::MAX {
+        let Some(bit) = words.try_get_bit(place) else {
+            break;
+        };
+        if bit != kind {
+            continue;
+        }
+        let entry = (place / 2048 % 0x20_0000) as u32;
+        if items & in_interval == 0 {
+            samples.push(entry)?;
+        } else if items & in_interval >> 1 == 0 {
+            if let Some(last) = samples.last_mut() {
+                *last |= entry.wrapping_sub(*last).min(2047) << 21;
+            }
+        }
+        items = items.wrapping_add(1);
+    }
+    Ok(samples)
+}
+
+/// Whether the samples that are kept of a kind of bit are those that a walk finds.
+fn are_walked<D: CombinedSamplingDensity>(
+    alloc: Global,
+    kept: &CombinedSampling<D>,
+    words: &[u64],
+    kind: bool,
+) -> Result<bool, AllocError> {
+    let found = walked(alloc, words, kind, kept.items_per_sample_log2())?;
+    Ok(kept.samples() == found.as_slice())
+}
+
+/// Whether those of both kinds are at this density.
+fn both_are_walked<D: CombinedSamplingDensity>(
+    alloc: Global,
+    words: &[u64],
+) -> Result<bool, AllocError> {
+    let (index, _) = index_over::<CombinedSampling<D>, CombinedSampling<D>>(alloc, words)?;
+    let ones = are_walked(alloc, index.select_support(), words, true)?;
+    let zeros = are_walked(alloc, index.select0_support(), words, false)?;
+    Ok(ones && zeros)
+}
+
+#[test]
+fn samples_are_those_of_a_walk(rt: HostRuntime) -> Result<(), Fail> {
+    for len in [0, 1, 9, 32, 33, 60, 300] {
+        for word in [0, u64::MAX, 1, 1 << 63, 0x5555_5555_5555_5555, 0xFFFF] {
+            let words = words_of(rt.alloc(), &[(word, len), (!word, 1)])?;
+            let words = words.as_slice();
+            assert!(rt; both_are_walked::<AdaptiveCombinedSamplingDensity<13>>(rt.alloc(), words)?);
+            assert!(rt; both_are_walked::<ConstCombinedSamplingDensity<7>>(rt.alloc(), words)?);
+            assert!(rt; both_are_walked::<ConstCombinedSamplingDensity<9>>(rt.alloc(), words)?);
+        }
+    }
+    Ok(())
 }

@@ -3,7 +3,7 @@
 //! 2 + 2, 3 + 3, 5 + 4, 6 + 5 and 12 + 6.
 use bitm::BitAccess;
 use elias_fano::{EfError, EliasFano};
-use std::alloc::Global;
+use std::alloc::{AllocError, Global};
 use std::process::Abort;
 use std::test::Fail;
 
@@ -110,6 +110,34 @@ fn expect_nearest(rt: &impl Abort, sequence: &EliasFano) {
     for (v, place, is_kept) in asked {
         assert!(rt; (sequence.last_at_most(v), sequence.contains(v)) == (place, is_kept));
     }
+}
+
+/// So many multiples of 256, from 0 on.
+fn multiples(alloc: Global, count: u32) -> Result<Vec<u64>, AllocError> {
+    let mut items = Vec::new(alloc);
+    for i in 0..count {
+        items.push(u64::from(i) * 256)?;
+    }
+    Ok(items)
+}
+
+/// Whether each of the numbers, no two of which are equal, is found at its place.
+fn each_is_found(sequence: &EliasFano, items: &[u64]) -> bool {
+    for (i, x) in items.iter().enumerate() {
+        if (sequence.try_get(i), sequence.first_at_least(*x)) != (Some(*x), Some(i)) {
+            return false;
+        }
+    }
+    true
+}
+
+#[test]
+fn each_of_many_numbers_is_found_at_its_place(rt: HostRuntime) -> Result<(), Fail> {
+    let items = multiples(rt.alloc(), 1 << 18)?;
+    let sequence = EliasFano::build(rt.alloc(), items.as_slice())?;
+    assert!(rt; each_is_found(&sequence, items.as_slice()));
+    assert!(rt; sequence.try_get(usize::MAX) == None);
+    Ok(())
 }
 
 #[test]
