@@ -4,6 +4,7 @@ pub mod CursorLemmas
 pub mod FragmentLemmas
 pub mod ItemLemmas
 pub mod LowLemmas
+pub mod NearLemmas
 pub mod SelectionReadLemmas
 pub mod SequenceLemmas
 pub mod SizeLemmas

@@ -3,8 +3,7 @@ ghost use Rattle.std.specs.Prelude.{◌↔◌, ◌≤◌, IsTrue, length};
 ghost use Rattle.std.specs.List.{Contains};
 ghost use Rattle.elias_fano.specs.Sequence.{IsFirstAtLeast, IsLastAtMost, ReachesTo};
 
-use crate::answer::Sought;
-use crate::searching::place_in_bucket;
+use crate::bucket::first_from_on;
 use crate::sequence::Sequence;
 use bitm::{Select0ForRank101111, SelectForRank101111};
 
@@ -12,21 +11,16 @@ impl<S: SelectForRank101111, S0: Select0ForRank101111> Sequence<S, S0> {
     /// The least place whose number is at least `v`; `None` exactly where there is none.
     ///
     /// # Cost
-    /// One selection of a zero in the upper vector, the words from there up to the next zero, and one fragment of the
-    /// low vector for each binary digit of how many numbers share the upper digits of `v`. Where reads have to be
-    /// bounded, `first_at_least_counted` makes two selections.
+    /// One selection of a zero in the upper vector, then at most eight words, or, where the numbers that share the upper
+    /// digits of `v` do not end in these, a second selection; and at most one fragment of the low vector for each binary
+    /// digit of how many these are. What comes after the first selection is counted by `first_from_on`.
     #[inline]
     pub fn first_at_least(&self, v: u64) -> Option<usize>
         ensures { IsFirstAtLeast self.now.items v result }
     {
         self.rise();
-        let _upper = self.upper_words();
-        let (first, end) = self.bucket(v);
-        match place_in_bucket(&mut self.low_digits(), self.len(), first, end, v) {
-            Sought::Found(place) => Some(place),
-            Sought::Absent => None,
-            Sought::WrongParts => None,
-        }
+        let (mut source, begin) = self.probe_from(v);
+        first_from_on(&mut source, &mut self.low_digits(), self.len(), begin, v)
     }
 
     /// How many numbers are at most `v`.

@@ -109,7 +109,7 @@ pub fn count_at_zero(place: usize, above: usize, n: usize) -> Option<usize>
 /// How many items have a number at most `above` above their low digits: the ones before the zero of that number, if the
 /// parts are right; `None` only where they are not. `TESTS` as in `first_on`. It is not inlined, so that both ends of a
 /// bucket are found by one copy of the search.
-fn count_to<const TESTS: u8, T: TableSource>(
+pub(crate) fn count_to<const TESTS: u8, T: TableSource>(
     source: &mut T,
     above: usize,
     n: usize,

@@ -1,13 +1,13 @@
 //! The type of a sequence.
-ghost use Rattle.std.specs.Prelude.{◌≡◌, ◌+◌, ◌*◌, ◌^◌, ◌<◌, ◌≤◌, ◌↔◌, IsErrOf, SomeIff, MatchOption};
+ghost use Rattle.std.specs.Prelude.{◌≡◌, ◌+◌, ◌*◌, ◌/◌, ◌^◌, ◌<◌, ◌≤◌, ◌↔◌, IsErrOf, SomeIff, MatchOption};
 ghost use Rattle.std.specs.Prelude.{length, slice_index, drop, IfOk};
 ghost use Rattle.std.specs.Int.{div_ceil};
 ghost use Rattle.bitm.specs.Bits.{IsShort};
 ghost use Rattle.bitm.specs.Count.{zeros_of};
 ghost use Rattle.bitm.specs.Size.{saturated_size};
 ghost use Rattle.bitm.specs.Reads.{none_read};
-ghost use Rattle.bitm.specs.Tables.{HasTables};
-ghost use Rattle.elias_fano.specs.Buckets.{BeginsAt, HasEnds};
+ghost use Rattle.bitm.specs.Tables.{bits_in, HasTables};
+ghost use Rattle.elias_fano.specs.Buckets.{BeginsAt};
 ghost use Rattle.elias_fano.specs.Numbers.{HasBefore};
 ghost use Rattle.elias_fano.specs.Parts.{width_of, low_words_of, upper_words_of, IsLow, IsUpper};
 ghost use Rattle.elias_fano.specs.Sequence.{IsSequence, HasFall};
@@ -20,7 +20,7 @@ use crate::making::{make_low, make_upper, width_for};
 use crate::searching::item_at_one;
 use bitm::{
     AdaptiveCombinedSamplingDensity, BinaryRankSearch, CloneWords, CombinedSampling, GetSize,
-    Probe, RankSelect101111, Select, Select0, Select0ForRank101111, SelectForRank101111, words,
+    Probe, RankSelect101111, Select, Select0, Select0ForRank101111, SelectForRank101111,
 };
 use std::alloc::{AllocError, Global};
 use std::boxed::BoxedSlice;
@@ -274,28 +274,20 @@ impl<S: SelectForRank101111, S0: Select0ForRank101111> Sequence<S, S0> {
         }
     }
 
-    /// The place of the first number with the upper digits of `v`, and the place after the last one; where there are
-    /// no such numbers, twice the place at which they would stand. Where no number has low digits, the second is
-    /// their count.
+    /// A source over the upper words and the tables of their index, with no reads counted yet, and the first place in
+    /// these words with as many zeros before it as `v` says above its low digits; `None` exactly where there is none.
     ///
     /// # Cost
-    /// One selection of a zero, and the words from there up to the next zero.
+    /// One selection of a zero, and none where these digits are zeros.
     #[inline(always)]
-    pub(crate) fn bucket(&self, v: u64) -> (usize, usize)
-        ensures ends { HasEnds self.now.items (width_of self.now.items) v result.0 result.1 }
-        ensures within { result.1 ≤ length self.now.items }
+    pub(crate) fn probe_from(&self, v: u64) -> (Probe<'_>, Option<usize>)
+        ensures words { IsUpper self.now.items (width_of self.now.items) result.0.lists.words }
+        ensures tables { HasTables result.0.lists }
+        ensures begin { let z = v / 2 ^ width_of self.now.items in let b = bits_in result.0.lists in
+            MatchOption result.1 (zeros_of b < z) (BeginsAt b z) }
     {
         let above = (v >> self.width) as usize;
-        let Some(begin) = first_after(&self.upper, above) else {
-            return (self.len, self.len);
-        };
-        if self.width == 0 {
-            return (begin - above, self.len);
-        }
-        match words::find_bit_zero(self.upper.as_slice(), begin) {
-            Some(zero) => (begin - above, zero - above),
-            None => (begin - above, self.len),
-        }
+        (self.upper.probe(), first_after(&self.upper, above))
     }
 
     /// A sequence of the same numbers.

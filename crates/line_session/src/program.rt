@@ -1,5 +1,6 @@
 //! The program without its process: the answers to an input, and the file, the statuses and the texts around them.
-ghost use Rattle.std.specs.Prelude.{◌≡◌, ◌≢◌, ◌≤◌, ℕ, List, length, nat_eq, IfOk};
+ghost use Rattle.std.specs.Prelude.{◌≡◌, ◌≢◌, ◌≤◌, ◌↔◌, ℕ, List, length, nat_eq, IfOk, IsErr, IsErrOf, IsOkAnd};
+ghost use Rattle.line_session.specs.Failure.{failure_text};
 ghost use Rattle.line_session.specs.Session.{State, Wrote, WroteAnswer};
 ghost use Rattle.line_session.specs.Text.{lines_of};
 
@@ -18,6 +19,27 @@ const CANNOT_WRITE: &str = "bitm_vectors: cannot write";
 
 /// What is written where there is not exactly one argument.
 const USAGE: &str = "usage: bitm_vectors FILE";
+
+/// Why a file was not answered.
+#[derive(Clone, Copy, Debug, PartialEq, Eq)]
+enum Failure {
+    /// The file can't be read whole.
+    CannotRead,
+    /// An answer can't be written, or not flushed.
+    CannotWrite,
+}
+
+impl Failure {
+    /// What is written of it.
+    fn text(&self) -> &'static str
+        ensures { result.now ≡ failure_text self.now }
+    {
+        match self {
+            Failure::CannotRead => CANNOT_READ,
+            Failure::CannotWrite => CANNOT_WRITE,
+        }
+    }
+}
 
 /// A write failed.
 #[derive(Clone, Copy, Debug, PartialEq, Eq)]
@@ -90,16 +112,38 @@ pub fn start<R: Files + AllocGlobal, W: Write, E: Write>(
     let [path] = args else {
         return fail(err, USAGE);
     };
-    let Ok(input) = fs::read(rt, path.as_str()) else {
-        return fail(err, CANNOT_READ);
+    match answer_read(rt.alloc(), fs::read(rt, path.as_str()), out) {
+        Ok(true) => 0,
+        Ok(false) => 1,
+        Err(failure) => fail(err, failure.text()),
+    }
+}
+
+/// Answers the lines of what was read, all of it, flushes that, and answers whether no line was a bad command.
+///
+/// # Errors
+/// `CannotRead` exactly where nothing was read, and nothing is written then; `CannotWrite` where a write or the flush
+/// failed.
+fn answer_read<W: Write>(
+    alloc: Global,
+    read: io::Result<Vec<u8>>,
+    out: &mut W,
+) -> Result<bool, Failure>
+    ensures answered { IfOk result (λ good. IsOkAnd read (λ input. (end : State)
+        × Wrote (lines_of input.items) end (W.contents out.old) (W.contents out.new) good)) }
+    ensures cannot_read { IsErrOf result Failure.CannotRead ↔ IsErr read }
+    ensures nothing { IsErrOf result Failure.CannotRead → out.new ≡ out.old }
+{
+    let Ok(input) = read else {
+        return Err(Failure::CannotRead);
     };
-    let Ok(good) = run(rt.alloc(), input.as_slice(), out) else {
-        return fail(err, CANNOT_WRITE);
+    let Ok(good) = run(alloc, input.as_slice(), out) else {
+        return Err(Failure::CannotWrite);
     };
     if out.flush().is_err() {
-        return fail(err, CANNOT_WRITE);
+        return Err(Failure::CannotWrite);
     }
-    if good { 0 } else { 1 }
+    Ok(good)
 }
 
 /// Says why the program ends with status 2, as far as that can be written.

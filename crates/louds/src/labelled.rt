@@ -1,5 +1,5 @@
 //! A tree whose nodes have labels: words of labels lead down it.
-ghost use Rattle.std.specs.Prelude.{◌≡◌, ◌+◌, ◌*◌, ◌^◌, ◌<◌, ◌≤◌, ◌↔◌, IfOk, IfSome, IsErrOf, IsTrue};
+ghost use Rattle.std.specs.Prelude.{◌≡◌, ◌+◌, ◌*◌, ◌^◌, ◌<◌, ◌≤◌, ◌↔◌, IfErr, IfOk, IfSome, IsErrOf, IsTrue};
 ghost use Rattle.std.specs.Prelude.{length, slice_index};
 ghost use Rattle.std.specs.Int.{div_ceil};
 ghost use Rattle.bitm.specs.Size.{saturated_size};
@@ -116,6 +116,32 @@ impl<S: SelectForRank101111, S0: Select0ForRank101111> LabelledLouds<S, S0> {
             Err(LoudsError::NotATree) => return Err(LabelsError::NotATree),
             Err(LoudsError::OutOfMemory) => return Err(LabelsError::OutOfMemory),
         };
+        LabelledLouds::with_labels(alloc, tree, labels, width)
+    }
+
+    /// The tree with these labels, in `width` bits each.
+    ///
+    /// # Conditions
+    /// `width` is 1 to 63.
+    /// # Errors
+    /// `NotLabels` exactly where these are no labels for the tree; else `OutOfMemory` if memory was refused.
+    fn with_labels(
+        alloc: Global,
+        tree: Louds<S, S0>,
+        labels: &[u64],
+        width: u8,
+    ) -> Result<Self, LabelsError>
+        requires some { 1 ≤ width }
+        requires few { width ≤ 63 }
+        ensures degrees { IfOk result (λ made. made.degrees ≡ tree.degrees) }
+        ensures labels { IfOk result (λ made. made.labels ≡ labels.now) }
+        ensures width { IfOk result (λ made. made.width ≡ width) }
+        ensures not_labels { IsErrOf result LabelsError.NotLabels
+            ↔ (¬ (AreLabels tree.degrees labels.now width)) }
+        ensures else_memory { IfErr result (λ error.
+            AreLabels tree.degrees labels.now width → error ≡ LabelsError.OutOfMemory) }
+        ensures are_labels { IfOk result (λ made. AreLabels tree.degrees labels.now width) }
+    {
         if !are_labels(&tree, labels, width) {
             return Err(LabelsError::NotLabels);
         }

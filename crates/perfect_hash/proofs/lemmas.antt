@@ -1,3 +1,4 @@
+pub mod AloneLemmas
 pub mod BuildLemmas
 pub mod CollideLemmas
 pub mod CountingLemmas

@@ -14,3 +14,9 @@ abbrev pub IsNumbered : Option ℕ → Ranked → Type 0
 IsNumbered number (Count n) = number ≡ Some n
 IsNumbered number Absent = number ≡ None
 IsNumbered number WrongTables = ⊥
+
+-- what is known where Absent is answered
+abbrev pub IfAbsent : Ranked → Type 0 → Type 0
+IfAbsent (Count n) known = ⊤
+IfAbsent Absent known = known
+IfAbsent WrongTables known = ⊤

@@ -30,6 +30,19 @@ place_from fall b level begin (words ∷ sizes) =
     let place = begin + fall level words in
     if item b place then Some place else place_from fall b (level + 1) (begin + 64 * words) sizes
 
+-- each of these levels has as many words as are taken for so many keys as are left before it
+abbrev pub AreSized : {K : Type 0} → (ℕ → ℕ) → (K → ℕ → ℕ → ℕ) → List K → List Bool → ℕ → ℕ → List ℕ → Type 0
+AreSized taken fall keys b level begin [] = Unit {0}
+AreSized taken fall keys b level begin (words ∷ sizes) =
+    (words ≡ taken (length keys))
+    × AreSized taken fall (left_of fall keys b level begin words) b (level + 1) (begin + 64 * words) sizes
+
+-- at how many levels a key is looked for: up to the first where it falls on a one, or at all
+abbrev pub looked : (ℕ → ℕ → ℕ) → List Bool → ℕ → ℕ → List ℕ → ℕ
+looked fall b level begin [] = 0
+looked fall b level begin (words ∷ sizes) =
+    if item b (begin + fall level words) then 1 else 1 + looked fall b (level + 1) (begin + 64 * words) sizes
+
 -- the fall of hashes at levels of these sizes, where a level falls by the words before it, `by begin hash level words`
 abbrev pub fall_in : (ℕ → ℕ → ℕ → ℕ → ℕ) → List ℕ → ℕ → ℕ → ℕ → ℕ
 fall_in by sizes hash level words = by (sum (take level sizes)) hash level words

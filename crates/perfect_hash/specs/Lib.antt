@@ -1,5 +1,6 @@
 pub mod Asking
 pub mod Dictionary
+pub mod Error
 pub mod Hashing
 pub mod Inside
 pub mod Levels
@@ -8,3 +9,4 @@ pub mod Parts
 pub mod Perfect
 pub mod Placed
 pub mod Places
+pub mod Seeds

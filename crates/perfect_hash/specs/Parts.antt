@@ -3,7 +3,7 @@ use Rattle.std.specs.Prelude.{◌≡◌, ℕ, ◌*◌, ◌^◌, ◌<◌, ◌≤�
 use Rattle.std.specs.Option.{option_map}
 use Rattle.bitm.specs.Bits.{bits_of, IsShort}
 use Rattle.bitm.specs.Count.{ones_before}
-use Rattle.perfect_hash.specs.Levels.{fall_in, place_from, Collide}
+use Rattle.perfect_hash.specs.Levels.{fall_in, looked, AreSized, place_from, Collide}
 use Rattle.perfect_hash.specs.Perfect.{IsMinimalPerfect}
 use Rattle.perfect_hash.specs.Places.{place_in}
 use Rattle.perfect_hash.specs.declared.error.BuildError.{BuildError}
@@ -40,6 +40,11 @@ number_from by parts = number_in (fall_in (by parts.placing) parts.sizes) parts.
 abbrev pub number_at : {H I P K : Type 0} → (P → ℕ → ℕ → ℕ → ℕ → ℕ) → (H → K → ℕ) → Parts H I P → K → Option ℕ
 number_at by hash parts key = number_from by parts (hash parts.hasher key)
 
+-- at how many levels a key is looked for
+abbrev pub levels_looked : {H I P K : Type 0} → (P → ℕ → ℕ → ℕ → ℕ → ℕ) → (H → K → ℕ) → Parts H I P → K → ℕ
+levels_looked by hash parts key =
+    looked (fall_in (by parts.placing) parts.sizes (hash parts.hasher key)) parts.bits 0 0 parts.sizes
+
 -- the same where hashes alone say where they fall
 abbrev pub number_of : {H I P K : Type 0} → (H → K → ℕ) → Parts H I P → K → Option ℕ
 number_of = number_at (λ _ _. place_in)
@@ -55,6 +60,14 @@ abbrev pub IfCollideBy : {P : Type 0} → (P → ℕ → ℕ → ℕ → ℕ →
 IfCollideBy {P} by (KeysCollide count) hashes = (p : P) × (sizes : List ℕ) × Collide (fall_in (by p) sizes) hashes count
 IfCollideBy by TooLarge hashes = ⊤
 IfCollideBy by OutOfMemory hashes = ⊤
+
+-- the levels that keys collide in have as many words as are taken for the hashes that are left before each
+abbrev pub CollideBySize : {P : Type 0} → (ℕ → ℕ) → (P → ℕ → ℕ → ℕ → ℕ → ℕ) → BuildError → List ℕ → Type 0
+CollideBySize {P} taken by (KeysCollide count) hashes =
+    (p : P) × (sizes : List ℕ) × (c : Collide (fall_in (by p) sizes) hashes count)
+    × (c.sizes ≡ sizes) × AreSized taken (fall_in (by p) sizes) hashes (bits_of c.words) 0 0 sizes
+CollideBySize taken by TooLarge hashes = ⊤
+CollideBySize taken by OutOfMemory hashes = ⊤
 
 -- levels of these sizes and words number the keys, each by a number of its own below their count
 pub record AreLevels {K : Type 0} (fall : ℕ → ℕ → ℕ → ℕ) (hash : K → ℕ) (keys : List K) (sizes words : List ℕ) : Type 0 where

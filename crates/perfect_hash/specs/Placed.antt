@@ -1,5 +1,5 @@
 -- What a search for the one of a hash answers.
-use Rattle.std.specs.Prelude.{◌≡◌, ℕ, Option, Some, None}
+use Rattle.std.specs.Prelude.{◌≡◌, ⊤, ℕ, ◌<◌, ◌≤◌, List, All, sum, Option, Some, None}
 use Rattle.bitm.specs.Selected.{Selected}
 use Rattle.bitm.specs.Selected.TheVariants.{Found, Absent, WrongTables}
 
@@ -8,3 +8,20 @@ abbrev pub IsPlaced : Option ℕ → Selected → Type 0
 IsPlaced place (Found p) = place ≡ Some p
 IsPlaced place Absent = place ≡ None
 IsPlaced place WrongTables = ⊥
+
+-- what is known where Absent is answered
+abbrev pub WhereAbsent : Selected → Type 0 → Type 0
+WhereAbsent (Found p) known = ⊤
+WhereAbsent Absent known = known
+WhereAbsent WrongTables known = ⊤
+
+-- what is known where WrongTables is answered
+abbrev pub WhereWrong : Selected → Type 0 → Type 0
+WhereWrong (Found p) known = ⊤
+WhereWrong Absent known = ⊤
+WhereWrong WrongTables known = known
+
+-- levels of these sizes, each of which has a word, stand in so many words
+pub record FitIn (words : ℕ) (sizes : List ℕ) : Type 0 where
+  pub some : All (λ size. 0 < size) sizes
+  pub within : sum sizes ≤ words

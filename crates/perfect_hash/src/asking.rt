@@ -1,14 +1,14 @@
 //! The number of a hash over any source of words and tables, and over what may hold anything.
-ghost use Rattle.std.specs.Prelude.{◌≡◌, ◌+◌, ◌<◌, ◌≤◌, length, true, MatchOption};
+ghost use Rattle.std.specs.Prelude.{◌≡◌, ◌+◌, ◌*◌, ◌<◌, ◌≤◌, length, true, None, MatchOption};
 ghost use Rattle.bitm.specs.Answers.{HasBit};
 ghost use Rattle.bitm.specs.Bits.{IsShort};
 ghost use Rattle.bitm.specs.Count.{ones_of, IsRank};
 ghost use Rattle.bitm.specs.Reads.{OnlyReads, ReadsAtMost};
 ghost use Rattle.bitm.specs.Tables.{bits_in, HasSizes, HasTables, IsIndexed};
-ghost use Rattle.perfect_hash.specs.Asking.{IsBelow, IsNumbered};
-ghost use Rattle.perfect_hash.specs.Levels.{fall_in, place_from};
+ghost use Rattle.perfect_hash.specs.Asking.{IfAbsent, IsBelow, IsNumbered};
+ghost use Rattle.perfect_hash.specs.Levels.{fall_in, looked, place_from};
 ghost use Rattle.perfect_hash.specs.Parts.{number_by, number_in, AreSizes};
-ghost use Rattle.perfect_hash.specs.Placed.{IsPlaced};
+ghost use Rattle.perfect_hash.specs.Placed.{FitIn, IsPlaced, WhereAbsent, WhereWrong};
 
 use crate::placing::{Placing, Plain};
 use bitm::{ReadCounts, Selected, TableSource, bit_on, rank_on, total_rank_on};
@@ -30,8 +30,16 @@ fn place_on<T: TableSource, P: Placing>(
     ensures place { let b = bits_in (T.lists source.old) in
         AreSizes sizes.now b → IsPlaced
         (place_from (fall_in (P.fall placing.now) sizes.now hash) b 0 0 sizes.now) result }
+    ensures fit { WhereAbsent result (FitIn (length (T.lists source.old).words) sizes.now) }
+    ensures none { let b = bits_in (T.lists source.old) in WhereAbsent result
+        (place_from (fall_in (P.fall placing.now) sizes.now hash) b 0 0 sizes.now ≡ None) }
+    ensures wrong { WhereWrong result
+        (FitIn (length (T.lists source.old).words) sizes.now → ⊥) }
     ensures reads { OnlyReads T.lists T.reads source.old source.new 0 0 (length sizes.now) }
     ensures seeds { ReadsAtMost reads.old reads.new 0 0 (length sizes.now) }
+    ensures counted { let b = bits_in (T.lists source.old) in AreSizes sizes.now b
+        → reads.new.words ≡ reads.old.words
+        + P.seeds_each * looked (fall_in (P.fall placing.now) sizes.now hash) b 0 0 sizes.now }
 {
     let mut begin = 0;
     for (level, size) in sizes.iter().enumerate() {
@@ -48,7 +56,7 @@ fn place_on<T: TableSource, P: Placing>(
 }
 
 /// The number of a hash over any source, whatever words, tables and sizes hold: `Count` of a number below `count`,
-/// `Absent` where the hash falls on no one, or `WrongTables`. Where the tables are those of the words, and these those
+/// `Absent` only where the sizes are those of levels in these words and the hash falls on no one, or `WrongTables`. Where the tables are those of the words, and these those
 /// of levels of these sizes with no more ones than `count`, the number is right, and `WrongTables` is never answered.
 ///
 /// # Conditions
@@ -68,6 +76,9 @@ pub fn total_number_on<T: TableSource>(
     ensures number { let b = bits_in (T.lists source.old) in
         HasTables (T.lists source.old) → AreSizes sizes.now b → ones_of b ≤ count
         → IsNumbered (number_by sizes.now b hash) result }
+    ensures fit { IfAbsent result (FitIn (length (T.lists source.old).words) sizes.now) }
+    ensures none { IfAbsent result
+        (number_by sizes.now (bits_in (T.lists source.old)) hash ≡ None) }
     ensures reads { OnlyReads T.lists T.reads source.old source.new 1 1 (length sizes.now + 8) }
 {
     match place_on(source, &Plain, sizes, hash, &mut ReadCounts::new()) {
@@ -111,6 +122,9 @@ pub(crate) fn number_by_on<T: TableSource, P: Placing>(
         (bits_in (T.lists source.old)) hash }
     ensures reads { OnlyReads T.lists T.reads source.old source.new 1 1 (length sizes.now + 8) }
     ensures seeds { ReadsAtMost reads.old reads.new 0 0 (length sizes.now) }
+    ensures counted { let b = bits_in (T.lists source.old) in
+        reads.new.words ≡ reads.old.words
+        + P.seeds_each * looked (fall_in (P.fall placing.now) sizes.now hash) b 0 0 sizes.now }
 {
     match place_on(source, placing, sizes, hash, reads) {
         Selected::Found(place) => rank_on(source, place),

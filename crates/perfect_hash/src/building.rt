@@ -1,8 +1,8 @@
 //! Building: level after level, until no key is left.
 ghost use Rattle.std.specs.Prelude.{◌≡◌, ◌↔◌, ℕ, ◌+◌, ◌^◌, ◌<◌, ◌≤◌, [], length, map, IfOk, IfErr, IsErrOf, OnOk};
-ghost use Rattle.bitm.specs.Bits.{IsShort};
-ghost use Rattle.perfect_hash.specs.Levels.{fall_in, AddsLevel, Leave};
-ghost use Rattle.perfect_hash.specs.Parts.{number_at, number_of, AreLevels, IfCollide, IfCollideBy};
+ghost use Rattle.bitm.specs.Bits.{bits_of, IsShort};
+ghost use Rattle.perfect_hash.specs.Levels.{fall_in, AddsLevel, AreSized, Leave};
+ghost use Rattle.perfect_hash.specs.Parts.{number_at, number_of, AreLevels, CollideBySize, IfCollide, IfCollideBy};
 ghost use Rattle.perfect_hash.specs.Perfect.{IsMinimalPerfect};
 ghost use Rattle.perfect_hash.specs.Places.{place_in, words_for};
 
@@ -104,7 +104,12 @@ fn make_levels<P: Placing>(
         hashes.items levels.sizes.items levels.words.items []) }
     ensures short { IfOk result (λ levels. IsShort levels.words.items) }
     ensures few { IfOk result (λ levels. length levels.sizes.items ≤ 256) }
+    ensures sized { IfOk result (λ levels. AreSized (words_for percent)
+        (fall_in (P.fall levels.placing) levels.sizes.items)
+        hashes.items (bits_of levels.words.items) 0 0 levels.sizes.items) }
     ensures collide { IfErr result (λ error. IfCollideBy P.fall error hashes.items) }
+    ensures collide_sized { IfErr result (λ error.
+        CollideBySize (words_for percent) P.fall error hashes.items) }
     ensures room { IsErrOf result BuildError.TooLarge → ⊥ }
 {
     let mut levels = Levels {
@@ -152,6 +157,8 @@ impl Levels {
             ↔ (2 ^ 50 ≤ words_for percent (length keys.now)) }
         ensures collide { IfErr result (λ error.
             IfCollide error (map (H.hash hasher.now) keys.now)) }
+        ensures sized { IfOk result (λ levels. AreSized (words_for percent) place_in
+            (map (H.hash hasher.now) keys.now) (bits_of levels.words.items) 0 0 levels.sizes.items) }
     {
         Levels::build_by(alloc, Plain, hasher, keys, percent)
     }
@@ -180,6 +187,11 @@ impl<P: Placing> Levels<P> {
             ↔ (2 ^ 50 ≤ words_for percent (length keys.now)) }
         ensures collide { IfErr result (λ error.
             IfCollideBy P.fall error (map (H.hash hasher.now) keys.now)) }
+        ensures sized { IfOk result (λ levels. AreSized (words_for percent)
+            (fall_in (P.fall levels.placing) levels.sizes.items)
+            (map (H.hash hasher.now) keys.now) (bits_of levels.words.items) 0 0 levels.sizes.items) }
+        ensures collide_sized { IfErr result (λ error. CollideBySize (words_for percent) P.fall
+            error (map (H.hash hasher.now) keys.now)) }
     {
         if level_words(percent, keys.len()) >= TOO_MANY {
             return Err(BuildError::TooLarge);
@@ -243,6 +255,8 @@ pub fn build_by<K, H: KeyHash<K>, P: Placing>(
         ↔ (2 ^ 50 ≤ words_for percent (length keys.now))) }
     ensures collide { IfErr result (λ refused.
         IfCollideBy P.fall refused.error (map (H.hash hasher) keys.now)) }
+    ensures collide_sized { IfErr result (λ refused. CollideBySize (words_for percent) P.fall
+        refused.error (map (H.hash hasher) keys.now)) }
 {
     let made = match Levels::build_by(alloc, placing, &hasher, keys, percent) {
         Ok(made) => made,

@@ -1,6 +1,8 @@
 //! Numbers of keys, and `None` for almost all values that are no keys: a static dictionary.
 ghost use Rattle.std.specs.Prelude.{◌≡◌, ◌*◌, ◌^◌, ◌<◌, ◌≤◌, length, IfOk, IfErr};
 ghost use Rattle.std.specs.Box.{boxed_slice_items};
+ghost use Rattle.std.specs.Int.{div_ceil};
+ghost use Rattle.bitm.specs.Count.{ones_of};
 ghost use Rattle.perfect_hash.specs.Dictionary.{found_of, print_of, ArePrints, HasRoom, IsDictionary};
 ghost use Rattle.perfect_hash.specs.Parts.{number_at};
 ghost use Rattle.perfect_hash.specs.Perfect.{IsMinimalPerfect};
@@ -96,6 +98,8 @@ fn make_prints<K, H: KeyHash<K>, I: Access, P: Placing>(
     ensures room { IfOk result (λ prints. HasRoom numbers.now.bits (boxed_slice_items prints) width) }
     ensures prints { IfOk result (λ prints. ArePrints (number_at P.fall H.hash numbers.now)
         (λ k. print_of width (H.hash numbers.now.hasher k)) keys.now (boxed_slice_items prints) width) }
+    ensures size { IfOk result (λ prints.
+        length (boxed_slice_items prints) ≡ div_ceil (ones_of numbers.now.bits * width) 64) }
 {
     let index = numbers.index();
     let Some(bits) = index.rank(index.len()).checked_mul(width as usize) else {
@@ -107,7 +111,7 @@ fn make_prints<K, H: KeyHash<K>, I: Access, P: Placing>(
 }
 
 impl<H, I: Access, P: Placing> Dictionary<H, I, P> {
-    /// A dictionary of the keys of a perfect hash, with fingerprints of so many bits.
+    /// A dictionary of the keys of a perfect hash, with fingerprints of so many bits, in as few words as these take.
     ///
     /// # Conditions
     /// The perfect hash is of these keys; `width` is 1 to 32.
@@ -127,6 +131,9 @@ impl<H, I: Access, P: Placing> Dictionary<H, I, P> {
         ensures dictionary { IfOk result (λ made. IsDictionary (found_of P.fall H.hash made)
             (λ k. print_of width (H.hash numbers.hasher k)) keys.now) }
         ensures kept { IfOk result (λ made. made.numbers ≡ numbers) }
+        ensures width { IfOk result (λ made. made.width ≡ width) }
+        ensures size { IfOk result (λ made.
+            length made.prints ≡ div_ceil (ones_of numbers.bits * width) 64) }
         ensures numbers_back { IfErr result (λ back. back ≡ numbers) }
     {
         match make_prints(alloc, &numbers, keys, width) {

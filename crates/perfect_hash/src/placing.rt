@@ -16,6 +16,9 @@ pub trait Placing: Drop {
     /// placing begin hash level words`.
     ghost fall: { Self → ℕ → ℕ → ℕ → ℕ → ℕ };
 
+    /// How many seeds are read to place a hash in a level.
+    ghost seeds_each: { ℕ };
+
     /// The bit that a hash falls on, of a level that has `begin` words before it, a number, and so many words.
     ///
     /// # Conditions
@@ -34,7 +37,8 @@ pub trait Placing: Drop {
         requires short { begin + words < 2 ^ 58 }
         ensures at { result ≡ fall self.now begin hash level words }
         ensures inside { result < 64 * words }
-        ensures reads { ReadsAtMost reads.old reads.new 0 0 1 };
+        ensures reads { ReadsAtMost reads.old reads.new 0 0 1 }
+        ensures counted { reads.new ≡ record reads.old { words = reads.old.words + seeds_each } };
 
     /// Chooses how the hashes that are left fall in a level that is added after `begin` words; in the levels before it
     /// all fall as they did.
@@ -74,6 +78,8 @@ pub struct Plain;
 
 impl Placing for Plain {
     ghost fall = { λ _ _. place_in };
+
+    ghost seeds_each = { 0 };
 
     #[inline(always)]
     fn place(

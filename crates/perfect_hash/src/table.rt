@@ -4,7 +4,7 @@ ghost use Rattle.bitm.specs.Bits.{bits_of};
 ghost use Rattle.bitm.specs.Count.{ones_of};
 ghost use Rattle.bitm.specs.Size.{saturated_size};
 ghost use Rattle.bitm.specs.Reads.{none_read, ReadsAtMost};
-ghost use Rattle.perfect_hash.specs.Parts.{number_at, number_from, number_of, AreSizes};
+ghost use Rattle.perfect_hash.specs.Parts.{levels_looked, number_at, number_from, number_of, AreSizes};
 
 use crate::asking::number_by_on;
 use crate::hashing::KeyHash;
@@ -210,6 +210,7 @@ impl<H, S: SelectForRank101111, S0: Select0ForRank101111, BV: AsSlice<u64>, P: P
         ensures value { result.0 ≡ number_at P.fall H.hash self.now key.now }
         ensures reads { ReadsAtMost none_read result.1 1 1 (length self.now.sizes + 8) }
         ensures seeds { ReadsAtMost none_read result.2 0 0 (length self.now.sizes) }
+        ensures counted { result.2.words ≡ P.seeds_each * levels_looked P.fall H.hash self.now key.now }
     {
         let mut probe = self.index.probe();
         let mut seeds = ReadCounts::new();

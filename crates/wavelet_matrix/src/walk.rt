@@ -1,5 +1,5 @@
 //! The levels of a matrix among the bits of a source, and the step from one level to the next.
-ghost use Rattle.std.specs.Prelude.{◌≡◌, ◌+◌, ◌*◌, ◌-◌, ◌<◌, ◌≤◌, ◌^◌, ℕ, true, length, ◌∷◌, [], take, count_by, slice_index, IfOk};
+ghost use Rattle.std.specs.Prelude.{◌≡◌, ◌+◌, ◌*◌, ◌-◌, ◌<◌, ◌≤◌, ◌^◌, ℕ, true, length, ◌∷◌, [], take, count_by, slice_index, IfErr, IfOk};
 ghost use Rattle.std.specs.Box.{boxed_slice_items};
 ghost use Rattle.bitm.specs.Bits.{digit};
 ghost use Rattle.bitm.specs.Count.{ones_before, zeros_before};
@@ -124,6 +124,7 @@ impl Levels {
         ensures known { IfOk result (λ _. self.new.known ≡ known) }
         ensures matrix { IfOk result (λ _. IsMatrixOf (numbers_in self.old (T.lists source.old))
             self.new (bits_in (T.lists source.old))) }
+        ensures as_it_was { IfErr result (λ _. self.new ≡ self.old) }
     {
         let count = 1 << known;
         // Of no digits there is one number, and then no digit of it is asked for.

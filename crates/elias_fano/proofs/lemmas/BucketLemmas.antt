@@ -299,14 +299,6 @@ zero-from b z s p count first =
     let to = ap (zeros_before b) (let e : s + (p - s) ≡ p = omega (arith, first.from) in e) in
     record { inside = first.inside; item = first.is; before = sym to ∙ over ∙ count }
 
--- and where there is none, no more are left
-pub zeros-end : (b : List Bool) (z s : ℕ) → s ≤ length b → zeros_before b s ≡ z
-    → ((p : ℕ) → s ≤ p → p < length b → item b p ≡ true) → zeros_before b (length b) ≡ z
-zeros-end b z s inside count ones =
-    let over = zeros-over b s (length b - s) (omega arith) (λ i from less. ones i from (omega arith)) in
-    let to = ap (zeros_before b) (let e : s + (length b - s) ≡ length b = omega arith in e) in
-    sym to ∙ over ∙ count
-
 -- behind a zero begin those with one more before them
 pub begin-behind : (b : List Bool) (z p : ℕ) → Picks b false z p → BeginsAt b (z + 1) (p + 1)
 begin-behind b z p h = record {
@@ -333,19 +325,11 @@ pub begin-at_most : (b : List Bool) (z p : ℕ) → BeginsAt b z p → z ≤ p
 begin-at_most b z p h = omega (arith, ones_and_zeros b p h.inside, h.before)
 
 module _ (xs : List ℕ) (l v : ℕ) (upper : List ℕ) (h : IsUpper xs l upper) where
-  -- more zeros are asked for than there are: each item has less above its low digits
-  pub ends-none : zeros_of (bits_of upper) < v / 2 ^ l → HasEnds xs l v (length xs) (length xs)
-  ends-none few =
-      let all = CountsTo-all xs l upper h (zeros_of (bits_of upper)) (omega arith) in
-      record {
-        begins = record {
-          bound = omega arith;
-          below = λ j inside. omega (arith, few, all.below j inside);
-          above = λ j from inside. absurd (omega arith);
-        };
-        ends = λ some. CountsTo-all xs l upper h (v / 2 ^ l) (omega arith);
-        order = omega arith;
-      }
+  -- more zeros are asked for than there are: each item is less
+  pub all-less : zeros_of (bits_of upper) < v / 2 ^ l → All (λ x. x < v) xs
+  all-less few j d inside =
+      let below = (CountsTo-all xs l upper h (zeros_of (bits_of upper)) (omega arith)).below j inside in
+      omega (arith, get_or_default xs j d 0 inside, less_above (get_or xs j 0) v (2 ^ l) (pow_pos l) (omega (arith, few, below)))
 
   module _ (p : ℕ) (at : BeginsAt (bits_of upper) (v / 2 ^ l) p) where
     begins : CountsBelow xs l (v / 2 ^ l) (p - v / 2 ^ l)
@@ -355,16 +339,6 @@ module _ (xs : List ℕ) (l v : ℕ) (upper : List ℕ) (h : IsUpper xs l upper)
     pub ends-whole : l ≡ 0 → HasEnds xs l v (p - v / 2 ^ l) (length xs)
     ends-whole none = record { begins = begins; ends = λ some. absurd (omega (arith, some, none)); order = begins.bound }
 
-    -- to the next zero
-    pub ends-to : (q : ℕ) → Picks (bits_of upper) false (v / 2 ^ l) q → HasEnds xs l v (p - v / 2 ^ l) (q - v / 2 ^ l)
-    ends-to q one =
-        let to = CountsTo-zero xs l upper h (v / 2 ^ l) q one in
-        record { begins = begins; ends = λ some. to; order = bucket-order xs l _ _ _ begins to }
-
-    -- there is none, so to the end
-    pub ends-rest : zeros_of (bits_of upper) ≡ v / 2 ^ l → HasEnds xs l v (p - v / 2 ^ l) (length xs)
-    ends-rest all = record {
-      begins = begins;
-      ends = λ some. CountsTo-all xs l upper h (v / 2 ^ l) (omega (arith, all));
-      order = begins.bound;
-    }
+    -- to where those with these upper digits end
+    pub ends-counted : (end : ℕ) → CountsTo xs l (v / 2 ^ l) end → HasEnds xs l v (p - v / 2 ^ l) end
+    ends-counted end to = record { begins = begins; ends = λ some. to; order = bucket-order xs l _ _ _ begins to }

@@ -1,7 +1,7 @@
 //! The numbers from a place on, by one walk over the upper words.
 ghost use Rattle.std.specs.Prelude.{◌≡◌, ◌+◌, ◌-◌, ◌<◌, ◌≤◌, ℕ, List, length, min};
 ghost use Rattle.bitm.specs.Bits.{bits_of, IsShort};
-ghost use Rattle.bitm.specs.Count.{ones_before};
+ghost use Rattle.bitm.specs.Count.{ones_before, ones_of};
 ghost use Rattle.elias_fano.specs.Parts.{ArePartsOf, HasFragment};
 ghost use Rattle.elias_fano_lent.specs.LentParts.{Holds};
 ghost use Rattle.elias_fano_lent.specs.Lists.{AreItemsFrom, IsKeptFrom};
@@ -28,6 +28,8 @@ fn write_items(
     requires some { (i : ℕ) → i < from + most → HasFragment low.old.words i low.old.width }
     requires room { most ≤ length out.old }
     ensures most { result ≤ most }
+    ensures ones { let b = bits_of words.now in
+        result ≡ min most (ones_of b - ones_before b first) }
     ensures items { (xs : List ℕ) (n : ℕ)
         → ArePartsOf xs n low.old.width low.old.words words.now → from + most ≤ n
         → ones_before (bits_of words.now) first ≡ from

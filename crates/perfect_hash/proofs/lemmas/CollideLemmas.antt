@@ -4,7 +4,7 @@ use Rattle.std.proofs.lemmas.Bool.{eq-eqb, not-true, eqb-false}
 use Rattle.std.specs.List.{count_by, filter, slice_get, Contains}
 use Rattle.std.proofs.lemmas.Option.{slice_get_within, get_or_from_slice_get, slice_get-get_or}
 use Rattle.bitm.specs.Bits.{item, bits_of}
-use Rattle.perfect_hash.specs.Levels.{hits, LeadTo, left_of, Leave, FallsTogether, Collide}
+use Rattle.perfect_hash.specs.Levels.{hits, AreSized, LeadTo, left_of, Leave, FallsTogether, Collide}
 use Rattle.perfect_hash.proofs.lemmas.CountingLemmas.{count_by-cons, counted}
 use Rattle.perfect_hash.proofs.lemmas.LevelLemmas.{FallsInside}
 
@@ -105,3 +105,12 @@ collide {K} fall falls keys sizes words left count h levels counted some = recor
           (was.0, slice_get_within keys was.0 k was.1, get_or_from_slice_get keys was.0 k k was.1),
           falls_together fall falls keys keys (bits_of words) 0 0 sizes left k (λ t. omega arith) h.lead has,
         )
+
+-- and the levels have as many words as they are to have
+pub collide_sized : {K : Type 0} (taken : ℕ → ℕ) (fall : K → ℕ → ℕ → ℕ) (falls : FallsInside fall) (keys : List K) (sizes words : List ℕ) (left : List K)
+    (count : ℕ) → Leave fall keys sizes words left → length sizes ≡ 256 → length left ≡ count → 0 < count
+    → AreSized taken fall keys (bits_of words) 0 0 sizes
+    → (c : Collide fall keys count) × (c.sizes ≡ sizes) × AreSized taken fall keys (bits_of c.words) 0 0 sizes
+unfolding collide
+collide_sized taken fall falls keys sizes words left count h levels some_left some sized =
+    (collide fall falls keys sizes words left count h levels some_left some, refl, sized)

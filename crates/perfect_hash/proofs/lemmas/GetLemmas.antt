@@ -1,13 +1,14 @@
 -- A look-up, level by level.
-use Rattle.std.proofs.Common.{◌≡◌, ℕ, ◌+◌, ◌*◌, ◌<◌, Bool, true, false, List, length, take, ◌≤◌, slice_index, sym, ◌∙◌, ⊎_elim, arith}
+use Rattle.std.proofs.Common.{◌≡◌, ℕ, ◌+◌, ◌*◌, ◌<◌, Bool, true, false, List, length, take, ◌≤◌, slice_index, sym, ap, ◌∙◌, ⊎_elim, arith}
 use Rattle.std.proofs.lemmas.Bool.{cases_lt}
-use Rattle.std.proofs.lemmas.List.{get_or_past}
+use Rattle.std.proofs.lemmas.List.{get_or_default, get_or_past, take_all}
 use Rattle.std.proofs.lemmas.List.Sums.{sum_by_more_le}
 use Rattle.std.specs.List.{sum}
 use Rattle.bitm.specs.Bits.{item}
 use Rattle.bitm.specs.Count.{ones_before, ones_of}
 use Rattle.bitm.proofs.BitLaws.{counts_grow}
 use Rattle.perfect_hash.specs.Parts.{AreSizes}
+use Rattle.perfect_hash.specs.Placed.{FitIn}
 use Rattle.perfect_hash.proofs.lemmas.LevelLemmas.{one_more_after}
 
 -- the rank of a one is less than the count of ones
@@ -26,3 +27,21 @@ pub level_within : (sizes : List ℕ) (b : List Bool) (words level begin : ℕ) 
     → begin ≡ sum (take level sizes) → (0 < slice_index sizes level) × (begin + slice_index sizes level ≤ words)
 level_within sizes b words level begin h long inside begins =
     (h.some level 0 inside, omega (arith, h.all, long, begins, sum_by_more_le (λ x. x) sizes level 0 inside))
+
+-- and so does one of sizes that fit
+pub level_fits : (sizes : List ℕ) (words level begin : ℕ) → FitIn words sizes → level < length sizes
+    → begin ≡ sum (take level sizes) → (0 < slice_index sizes level) × (begin + slice_index sizes level ≤ words)
+level_fits sizes words level begin h inside begins =
+    (h.some level 0 inside, omega (arith, h.within, begins, sum_by_more_le (λ x. x) sizes level 0 inside))
+
+-- sizes of levels fit
+pub sizes_fit : (sizes : List ℕ) (b : List Bool) (words : ℕ) → AreSizes sizes b → length b ≡ 64 * words → FitIn words sizes
+sizes_fit sizes b words h long = record { some = h.some; within = omega (arith, h.all, long) }
+
+-- levels that were all looked at fit
+pub all_fit : (sizes : List ℕ) (words level begin : ℕ) → ((i : ℕ) → i < level → 0 < slice_index sizes i) → length sizes ≤ level
+    → begin ≡ sum (take level sizes) → begin ≤ words → FitIn words sizes
+all_fit sizes words level begin some all begins inside = record {
+  some = λ i d less. omega (arith, some i (omega (arith, less, all)), get_or_default sizes i d 0 less);
+  within = omega (arith, begins, inside, ap sum (take_all level sizes all));
+}

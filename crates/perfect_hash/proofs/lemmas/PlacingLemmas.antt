@@ -1,14 +1,16 @@
 -- Levels of which each falls by the words before it, and one more of them.
-use Rattle.std.proofs.Common.{◌≡◌, ℕ, suc, ◌+◌, ◌*◌, ◌<◌, ◌≤◌, Bool, not, eqb, List, [], ◌∷◌, length, take, slice_index, sym, ap, ◌∙◌, subst, arith}
+use Rattle.std.proofs.Common.{◌≡◌, ℕ, suc, ◌+◌, ◌*◌, ◌<◌, ◌≤◌, Bool, not, eqb, List, [], ◌∷◌, ◌++◌, length, take, slice_index, sym, ap, ◌∙◌, subst, arith}
 use Rattle.std.proofs.Math.Seq.{take-append_seam}
 use Rattle.std.proofs.lemmas.List.{take-append-le}
 use Rattle.std.proofs.lemmas.List.Elements.{filter_agree}
 use Rattle.std.proofs.lemmas.List.Sums.{sum_by_more_le}
 use Rattle.std.specs.List.{sum}
 use Rattle.bitm.specs.Bits.{bits_of, item}
-use Rattle.perfect_hash.specs.Levels.{fall_in, IsLevel, LeadTo, left_of, AddsLevel, Leave}
-use Rattle.perfect_hash.proofs.lemmas.BuildLemmas.{Leave-more}
+use Rattle.perfect_hash.specs.Levels.{fall_in, AreSized, IsLevel, LeadTo, left_of, AddsLevel, Leave}
+use Rattle.perfect_hash.proofs.lemmas.BuildLemmas.{Leave-more, left_of-same}
 use Rattle.perfect_hash.proofs.lemmas.CountingLemmas.{count_by-agree}
+use Rattle.perfect_hash.proofs.lemmas.LevelLemmas.{FallsInside}
+use Rattle.perfect_hash.proofs.lemmas.NumberLemmas.{sum-first}
 
 -- where keys fall in each level as they did, they lead to the same
 LeadTo-alike : {K : Type 0} (fall other : K → ℕ → ℕ → ℕ) (keys : List K) (b : List Bool) (level begin : ℕ) (sizes : List ℕ) (left : List K)
@@ -33,6 +35,36 @@ LeadTo-alike {K} fall other keys b level begin (w ∷ sizes) left same lead =
           let P : ℕ → Type 0 = λ l. fall k l (slice_index sizes i) ≡ other k l (slice_index sizes i) in
           let e : level + suc i ≡ level + 1 + i = omega arith in
           subst P e (same k (suc i) (omega (arith, less)))) lead.2),
+    )
+
+-- one more level after others, in bits that go on and by which keys fall in those before it as they did
+sized-more : {K : Type 0} (taken : ℕ → ℕ) (fall other : K → ℕ → ℕ → ℕ) (falls : FallsInside other) (keys left : List K) (b c : List Bool)
+    (level begin : ℕ) (sizes : List ℕ) (size : ℕ)
+    → ((k : K) (i : ℕ) → i < length sizes → fall k (level + i) (slice_index sizes i) ≡ other k (level + i) (slice_index sizes i))
+    → ((p : ℕ) → p < begin + 64 * sum sizes → item b p ≡ item c p)
+    → LeadTo fall keys b level begin sizes left → AreSized taken fall keys b level begin sizes → size ≡ taken (length left)
+    → AreSized taken other keys c level begin (sizes ++ size ∷ [])
+sized-more taken fall other falls keys left b c level begin [] size alike kept lead sized is = (is ∙ ap (λ xs. taken (length xs)) (sym lead), tt)
+sized-more {K} taken fall other falls keys left b c level begin (w ∷ sizes) size alike kept lead sized is =
+    let here : (k : K) → fall k level w ≡ other k level w =
+    λ k.
+    let P : ℕ → Type 0 = λ l. fall k l w ≡ other k l w in
+    let e : level + 0 ≡ level = omega arith in
+    subst P e (alike k 0 (omega arith)) in
+    let moved : left_of fall keys b level begin w ≡ left_of other keys b level begin w =
+    filter_agree (λ k. not (item b (begin + fall k level w))) (λ k. not (item b (begin + other k level w)))
+    (λ k. ap (λ (q : ℕ). not (item b (begin + q))) (here k)) keys in
+    let grown : left_of other keys b level begin w ≡ left_of other keys c level begin w =
+    left_of-same other falls keys b c level begin begin w lead.0 (λ p less. kept (begin + p) (omega (arith, less, sum-first w sizes))) in
+    let P : List K → Type 0 = λ xs. AreSized taken other xs c (level + 1) (begin + 64 * w) (sizes ++ size ∷ []) in (
+      sized.0,
+      subst P (moved ∙ grown)
+          (sized-more taken fall other falls (left_of fall keys b level begin w) left b c (level + 1) (begin + 64 * w) sizes size
+          (λ k i less.
+          let Q : ℕ → Type 0 = λ l. fall k l (slice_index sizes i) ≡ other k l (slice_index sizes i) in
+          let e : level + suc i ≡ level + 1 + i = omega arith in
+          subst Q e (alike k (suc i) (omega (arith, less))))
+          (λ p less. kept p (omega (arith, less, sum-first w sizes))) lead.2 sized.1 is),
     )
 
 -- one more level, by which hashes fall in those before it as they did
@@ -82,3 +114,13 @@ module _ (by by' : ℕ → ℕ → ℕ → ℕ → ℕ) (falls : (begin hash lev
         left_are = adds.left_are
             ∙ ap (λ (m : ℕ). left_of (by' m) left (bits_of new_words) (length sizes) (64 * length words) adds.size) begins;
       })
+
+  -- and it has as many words as the keys that are left take
+  pub AreSized-next : (taken : ℕ → ℕ) → AreSized taken (fall_in by sizes) keys (bits_of words) 0 0 sizes → adds.size ≡ taken (length left)
+      → AreSized taken (fall_in by' new_sizes) keys (bits_of new_words) 0 0 new_sizes
+  AreSized-next taken sized is =
+      let P : List ℕ → Type 0 = λ s. AreSized taken (fall_in by' new_sizes) keys (bits_of new_words) 0 0 s in
+      subst P (sym adds.sizes_are)
+      (sized-more taken (fall_in by sizes) (fall_in by' new_sizes) (λ hash level w some. falls (sum (take level new_sizes)) hash level w some)
+      keys left (bits_of words) (bits_of new_words) 0 0 sizes adds.size old_alike
+      (λ p less. sym (adds.kept p (omega (arith, less, h.all)))) h.lead sized is)

@@ -1,14 +1,22 @@
 -- Each level that is added leaves fewer hashes; where some are left at the end, they collide.
-use Rattle.std.proofs.Common.{◌≡◌, length, take, sym, arith, ◌∙◌}
+use Rattle.std.proofs.Common.{◌≡◌, ℕ, ◌+◌, length, take, sym, ap, arith, ◌∙◌}
 use Rattle.std.specs.List.{sum}
 use Rattle.std.proofs.lemmas.Bool.{eqb-false}
 use Rattle.std.specs.Vec.{vec_len}
 use Rattle.perfect_hash.specs.Levels.{fall_in}
+use Rattle.perfect_hash.specs.Places.{words_for}
 use Rattle.perfect_hash.proofs.lemmas.BuildLemmas.{count_next, no_more}
-use Rattle.perfect_hash.proofs.lemmas.CollideLemmas.{collide}
+use Rattle.perfect_hash.proofs.lemmas.CollideLemmas.{collide, collide_sized}
 use Rattle.perfect_hash.proofs.lemmas.PlaceLemmas.{next_short, positive}
-use Rattle.perfect_hash.proofs.lemmas.PlacingLemmas.{Leave-next}
+use Rattle.perfect_hash.proofs.lemmas.PlacingLemmas.{AreSized-next, Leave-next}
 use Rattle.perfect_hash.proofs.building.make_levels.Goals as goal
+
+-- the level that was added has as many words as was asked
+size_is : (added asked old new n m percent : ℕ) → new ≡ old + added → new ≡ old + asked → asked ≡ words_for percent m → m ≡ n
+    → added ≡ words_for percent n
+size_is added asked old new n m percent more is words same =
+    let e : added ≡ asked = omega (arith, more, is) in
+    e ∙ words ∙ ap (words_for percent) same
 
 pub loop-level-preserved : goal.loop-level-preserved
 loop-level-preserved g c =
@@ -19,6 +27,10 @@ loop-level-preserved g c =
     record {
       leave = Leave-next (by old.placing) _ (g.met.P.Placing.inside _) c.args.hashes.items hashes _ old.sizes.items old.words.items _ _
           c.in_ok-add_level.ensures.kept c.loop-level.invariant.leave adds;
+      sized = AreSized-next (by old.placing) _ (g.met.P.Placing.inside _) c.args.hashes.items hashes _ old.sizes.items old.words.items _ _
+          c.in_ok-add_level.ensures.kept c.loop-level.invariant.leave adds (words_for c.args.percent) c.loop-level.invariant.sized
+          (size_is adds.size c.level_words-size.result _ _ (length hashes) c.len.result c.args.percent adds.len c.in_ok-add_level.ensures.len c.level_words-size.ensures
+          (omega (arith, c.len.ensures, c.loop-level.hashes.ok.0)));
       count = count_next _ hashes _ old.sizes.items old.words.items _ _ c.loop-level.level adds c.loop-level.invariant.count;
       short = next_short c.args.percent (length c.args.hashes.items) (length hashes) c.len.result c.level_words-size.result c.loop-level.level
           (length old.words.items) _ c.requires c.loop-level.invariant.fewer (omega (arith, c.len.ensures, c.loop-level.hashes.ok.0))
@@ -43,3 +55,21 @@ returns-clause-collide g c =
           (positive count (λ none. eqb-false (vec_len c.loop-level.hashes) 0 (sym c.is_empty-2.ensures ∙ c.if-is_empty-2.false)
           (omega (arith, none, c.len-else-is_empty-2.ensures)))),
     )
+
+pub returns-clause-collide_sized : goal.returns-clause-collide_sized
+returns-clause-collide_sized g c =
+    let levels = c.loop-level.levels in
+    let count = c.len-else-is_empty-2.result in
+    let counted : length c.loop-level.hashes.items ≡ count = omega (arith, c.len-else-is_empty-2.ensures, c.loop-level.hashes.ok.0) in
+    let placing = levels.placing in
+    let sizes = levels.sizes.items in
+    let found =
+    collide_sized (words_for c.args.percent) (fall_in (g.P.Placing.fall placing) sizes)
+    (λ hash level w some. g.met.P.Placing.inside placing (sum (take level sizes)) hash level w some) c.args.hashes.items levels.sizes.items levels.words.items c.loop-level.hashes.items count
+    c.loop-level.invariant.leave
+    (omega (arith, c.loop-level.invariant.count, c.loop-level-test.false, c.loop-level.auto.level-end))
+    counted
+    (positive count (λ none. eqb-false (vec_len c.loop-level.hashes) 0 (sym c.is_empty-2.ensures ∙ c.if-is_empty-2.false)
+    (omega (arith, none, c.len-else-is_empty-2.ensures))))
+    c.loop-level.invariant.sized in
+    (placing, sizes, found.0, found.1, found.2)

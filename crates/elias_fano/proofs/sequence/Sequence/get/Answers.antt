@@ -1,5 +1,5 @@
 -- The value is what its parts hold, and the place that is selected is that of the number's one.
-use Rattle.std.proofs.Common.{ℕ, ◌<◌, List, length, get_or, ap, ◌∙◌, arith}
+use Rattle.std.proofs.Common.{◌<◌, length, get_or, ap, ◌∙◌, arith}
 use Rattle.std.specs.Box.{boxed_slice_items}
 use Rattle.elias_fano.proofs.lemmas.ItemLemmas.{lent-has, unread-has, fragment-of}
 use Rattle.elias_fano.proofs.lemmas.UpperLemmas.{ones_are}

@@ -32,6 +32,13 @@ returns-in-None-clause-items c = λ xs n parts room begin.
     let all = ones_are xs c.args.low.now.width c.args.words.now parts.upper_is in
     absurd (omega (arith, length-drop k (places true 0 b), ap length none, places_are_counted b true, all, begin, room, parts.count, c.loop-at-test.true, c.loop-at.auto.at-end))
 
+pub returns-in-None-clause-ones : goal.returns-in-None-clause-ones
+returns-in-None-clause-ones c =
+    let b = bits_of c.args.words.now in
+    let k = ones_before b c.args.first + c.loop-at.at in
+    let none : drop k (places true 0 b) ≡ [] = sym c.loop-at.invariant.coming ∙ c.in-None.ensures.steps.0 in
+    omega (arith, length-drop k (places true 0 b), ap length none, places_are_counted b true, c.loop-at.invariant.left, c.loop-at-test.true, c.loop-at.auto.at-end)
+
 pub loop-at-preserved : goal.loop-at-preserved
 loop-at-preserved c =
     let b = bits_of c.args.words.now in
@@ -42,6 +49,7 @@ loop-at-preserved c =
     let read = c.item_at_one.ensures.fragments in
     record {
       coming = next-coming b k c.in-Some.place _ found ∙ ap (λ m. drop m (places true 0 b)) next;
+      left = omega (arith, i.left, some b k c.in-Some.place _ found, places_are_counted b true);
       items = λ xs n parts room begin.
           let is : k ≡ c.args.from + c.loop-at.at = omega (arith, begin) in
           let one = subst (λ m. Picks b true m c.in-Some.place) is (next-picked b k c.in-Some.place _ found) in

@@ -1,0 +1,146 @@
+//! The bucket of a value, from where it begins, and the search for the first number that reaches the value there.
+ghost use Rattle.std.specs.Prelude.{◌≡◌, ◌+◌, ◌*◌, ◌/◌, ◌^◌, ◌<◌, ◌≤◌, ℕ, List, length, false, IfSome, MatchOption};
+ghost use Rattle.std.specs.Prelude.{IsSomeAnd};
+ghost use Rattle.bitm.specs.Bits.{digit_count, IsShort};
+ghost use Rattle.bitm.specs.Count.{zeros_of, IsFirstFrom};
+ghost use Rattle.bitm.specs.Reads.{OnlyReads};
+ghost use Rattle.bitm.specs.Tables.{bits_in, HasSizes, HasTables};
+ghost use Rattle.elias_fano.specs.Buckets.{BeginsAt, CountsTo, HasEnds};
+ghost use Rattle.elias_fano.specs.LentParts.{parts_with, AreParts, Holds};
+ghost use Rattle.elias_fano.specs.Low.{sharing, ReadsFragments};
+ghost use Rattle.elias_fano.specs.Parts.{IsUpper};
+ghost use Rattle.elias_fano.specs.Sequence.{IsFirstAtLeast};
+
+use crate::answer::Sought;
+use crate::low::LowDigits;
+use crate::searching::{count_at_zero, count_to, place_in_bucket};
+use bitm::{TableSource, index_laws, words};
+
+// In how many words the end of a bucket is looked for before it is selected.
+const NEAR: usize = 8;
+
+/// The first zero from `from` on, in its word or one of the seven after it; `None` where they have none.
+///
+/// # Conditions
+/// There are fewer than 2^58 words.
+/// # Cost
+/// The words up to that of the zero, eight at most.
+#[inline(always)]
+fn near_zero_on<T: TableSource>(source: &mut T, from: usize) -> Option<usize>
+    requires { IsShort (T.lists source.old).words }
+    ensures zero { IfSome result (IsFirstFrom (bits_in (T.lists source.old)) false from) }
+    ensures reads { OnlyReads T.lists T.reads source.old source.new 0 0 8 }
+{
+    let mut start = from;
+    for _ in 0..NEAR {
+        let at = start / 64;
+        if at >= source.words_len() {
+            return None;
+        }
+        let word = source.word(at);
+        if let Some(place) = words::find_bit_zero(&[word], start % 64) {
+            return Some(64 * at + place);
+        }
+        start = 64 * at + 64;
+    }
+    None
+}
+
+/// How many of `n` numbers have at most `above` above their low digits, where `begin` is the first place with so many
+/// zeros before it; `None` only where the parts are wrong.
+///
+/// # Cost
+/// Eight words at most, and a selection where these have no zero from `begin` on.
+#[inline(always)]
+fn end_on<T: TableSource>(source: &mut T, n: usize, above: usize, begin: usize) -> Option<usize>
+    requires sized { HasSizes (T.lists source.old) }
+    requires begin { BeginsAt (bits_in (T.lists source.old)) above begin }
+    ensures within { IfSome result (λ c. c ≤ n) }
+    ensures count { (xs : List ℕ) (l : ℕ) → IsUpper xs l (T.lists source.old).words
+        → HasTables (T.lists source.old) → n ≡ length xs
+        → IsSomeAnd result (CountsTo xs l above) }
+    ensures reads { OnlyReads T.lists T.reads source.old source.new
+        (digit_count (length (T.lists source.old).upper) + 1) 23 16 }
+{
+    match near_zero_on(source, begin) {
+        Some(zero) => count_at_zero(zero, above, n),
+        None => count_to::<0, T>(source, above, n),
+    }
+}
+
+/// Where the numbers with the upper digits of `v` begin and end, of `n` numbers; where these have no low digits, any
+/// place may stand for the end. `None` only where the parts are wrong.
+///
+/// # Cost
+/// That of `end_on`, and nothing where there are no low digits.
+#[inline(always)]
+fn ends_on<T: TableSource>(
+    source: &mut T,
+    n: usize,
+    width: u8,
+    begin: usize,
+    v: u64,
+) -> Option<(usize, usize)>
+    requires sized { HasSizes (T.lists source.old) }
+    requires width { width ≤ 63 }
+    requires begin { BeginsAt (bits_in (T.lists source.old)) (v / 2 ^ width) begin }
+    ensures within { IfSome result (λ ends. ends.1 ≤ n) }
+    ensures ends { (xs : List ℕ) → IsUpper xs width (T.lists source.old).words
+        → HasTables (T.lists source.old) → n ≡ length xs
+        → IsSomeAnd result (λ ends. HasEnds xs width v ends.0 ends.1) }
+    ensures reads { OnlyReads T.lists T.reads source.old source.new
+        (digit_count (length (T.lists source.old).upper) + 1) 23 16 }
+{
+    let above = (v >> width) as usize;
+    let first = begin - above;
+    if width == 0 {
+        return Some((first, n));
+    }
+    match end_on(source, n, above, begin) {
+        Some(end) => Some((first, end)),
+        None => None,
+    }
+}
+
+/// The least place of a sequence whose number is at least `v`, where `begin` is the first place of the upper vector
+/// with as many zeros before it as `v` says above its low digits, if there is one; `None` exactly where each number is
+/// less.
+///
+/// `Sequence::first_at_least` is this, over its own parts, behind the selection that finds `begin`.
+///
+/// # Conditions
+/// The parts are those of one sequence; the source's tables are those of its words.
+/// # Cost
+/// Eight words at most, and where the bucket of `v` does not end in these a selection; then at most one fragment of the
+/// low digits for each binary digit of how many numbers share the upper digits of `v`.
+#[inline(always)]
+pub(crate) fn first_from_on<T: TableSource>(
+    source: &mut T,
+    low: &mut LowDigits<'_>,
+    n: usize,
+    begin: Option<usize>,
+    v: u64,
+) -> Option<usize>
+    requires parts { AreParts (parts_with n low.old (T.lists source.old)) }
+    requires begin { let z = v / 2 ^ low.old.width in let b = bits_in (T.lists source.old) in
+        MatchOption begin (zeros_of b < z) (BeginsAt b z) }
+    ensures answer { (xs : List ℕ) → Holds xs (parts_with n low.old (T.lists source.old))
+        → IsFirstAtLeast xs v result }
+    ensures reads { OnlyReads T.lists T.reads source.old source.new
+        (digit_count (length (T.lists source.old).upper) + 1) 23 16 }
+    ensures shared { (xs : List ℕ) → Holds xs (parts_with n low.old (T.lists source.old))
+        → ReadsFragments low.old low.new (digit_count (sharing xs low.old.width v)) }
+{
+    index_laws::tables_have_sizes();
+    let Some(begin) = begin else {
+        return None;
+    };
+    let Some((first, end)) = ends_on(source, n, low.width(), begin, v) else {
+        return None;
+    };
+    match place_in_bucket(low, n, first, end, v) {
+        Sought::Found(place) => Some(place),
+        Sought::Absent => None,
+        Sought::WrongParts => None,
+    }
+}
