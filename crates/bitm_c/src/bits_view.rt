@@ -35,7 +35,7 @@ pub extern "C" fn bitm_bits_rank(view: &BitsView<'_>, index: usize, out: &mut us
     ensures { BitsRankAnswered true (cut_of view.now) index result out.old out.new }
 {
     match view.lent() {
-        Some(lent) => tell_count(lent.rank(index), out),
+        Some(lent) => tell_count(lent.rank::<1>(index), out),
         None => BAD_SIZE,
     }
 }
@@ -46,7 +46,7 @@ pub extern "C" fn bitm_bits_rank0(view: &BitsView<'_>, index: usize, out: &mut u
     ensures { BitsRankAnswered false (cut_of view.now) index result out.old out.new }
 {
     match view.lent() {
-        Some(lent) => tell_count(lent.rank0(index), out),
+        Some(lent) => tell_count(lent.rank::<0>(index), out),
         None => BAD_SIZE,
     }
 }
@@ -57,7 +57,7 @@ pub extern "C" fn bitm_bits_select(view: &BitsView<'_>, rank: usize, out: &mut u
     ensures { BitsSelectAnswered true (cut_of view.now) rank result out.old out.new }
 {
     match view.lent() {
-        Some(lent) => tell_place(lent.select(rank), out),
+        Some(lent) => tell_place(lent.select::<1>(rank), out),
         None => BAD_SIZE,
     }
 }
@@ -68,7 +68,7 @@ pub extern "C" fn bitm_bits_select0(view: &BitsView<'_>, rank: usize, out: &mut 
     ensures { BitsSelectAnswered false (cut_of view.now) rank result out.old out.new }
 {
     match view.lent() {
-        Some(lent) => tell_place(lent.select0(rank), out),
+        Some(lent) => tell_place(lent.select::<0>(rank), out),
         None => BAD_SIZE,
     }
 }
@@ -105,7 +105,7 @@ pub extern "C" fn bitm_bits_ones(
     let Some(lent) = view.lent() else {
         return BAD_SIZE;
     };
-    *written = lent.ones_from(from, out);
+    *written = lent.places_from::<1>(from, out);
     OK
 }
 
@@ -126,6 +126,6 @@ pub extern "C" fn bitm_bits_zeros(
     let Some(lent) = view.lent() else {
         return BAD_SIZE;
     };
-    *written = lent.zeros_from(from, out);
+    *written = lent.places_from::<0>(from, out);
     OK
 }

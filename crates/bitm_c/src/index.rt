@@ -71,7 +71,7 @@ pub extern "C" fn bitm_rank(view: &View<'_>, index: usize, out: &mut usize) -> u
     ensures { RankAnswered true (view_lists view.now) index result out.old out.new }
 {
     match view.lent() {
-        Some(lent) => tell_count(lent.rank(index), out),
+        Some(lent) => tell_count(lent.rank::<1>(index), out),
         None => BAD_SIZE,
     }
 }
@@ -82,7 +82,7 @@ pub extern "C" fn bitm_rank0(view: &View<'_>, index: usize, out: &mut usize) -> 
     ensures { RankAnswered false (view_lists view.now) index result out.old out.new }
 {
     match view.lent() {
-        Some(lent) => tell_count(lent.rank0(index), out),
+        Some(lent) => tell_count(lent.rank::<0>(index), out),
         None => BAD_SIZE,
     }
 }
@@ -93,7 +93,7 @@ pub extern "C" fn bitm_select(view: &View<'_>, rank: usize, out: &mut usize) -> 
     ensures { SelectAnswered true (view_lists view.now) rank result out.old out.new }
 {
     match view.lent() {
-        Some(lent) => tell_place(lent.select(rank), out),
+        Some(lent) => tell_place(lent.select::<1>(rank), out),
         None => BAD_SIZE,
     }
 }
@@ -104,7 +104,7 @@ pub extern "C" fn bitm_select0(view: &View<'_>, rank: usize, out: &mut usize) ->
     ensures { SelectAnswered false (view_lists view.now) rank result out.old out.new }
 {
     match view.lent() {
-        Some(lent) => tell_place(lent.select0(rank), out),
+        Some(lent) => tell_place(lent.select::<0>(rank), out),
         None => BAD_SIZE,
     }
 }

@@ -26,7 +26,7 @@ pub extern "C" fn bitm_rank_list(view: &View<'_>, queries: &[usize], out: &mut [
         → RankTold true (view_lists view.now) (slice_index queries.now j) (slice_index out.new j) }
 {
     match view.lent() {
-        Some(lent) => done(lent.rank_list(queries, out)),
+        Some(lent) => done(lent.rank_list::<1>(queries, out)),
         None => BAD_SIZE,
     }
 }
@@ -41,7 +41,7 @@ pub extern "C" fn bitm_rank0_list(view: &View<'_>, queries: &[usize], out: &mut 
         → RankTold false (view_lists view.now) (slice_index queries.now j) (slice_index out.new j) }
 {
     match view.lent() {
-        Some(lent) => done(lent.rank0_list(queries, out)),
+        Some(lent) => done(lent.rank_list::<0>(queries, out)),
         None => BAD_SIZE,
     }
 }
@@ -57,7 +57,7 @@ pub extern "C" fn bitm_select_list(view: &View<'_>, queries: &[usize], out: &mut
         (slice_index queries.now j) (slice_index out.new j) }
 {
     match view.lent() {
-        Some(lent) => done(lent.select_list(queries, out)),
+        Some(lent) => done(lent.select_list::<1>(queries, out)),
         None => BAD_SIZE,
     }
 }
@@ -73,7 +73,7 @@ pub extern "C" fn bitm_select0_list(view: &View<'_>, queries: &[usize], out: &mu
         (slice_index queries.now j) (slice_index out.new j) }
 {
     match view.lent() {
-        Some(lent) => done(lent.select0_list(queries, out)),
+        Some(lent) => done(lent.select_list::<0>(queries, out)),
         None => BAD_SIZE,
     }
 }

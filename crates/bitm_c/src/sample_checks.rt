@@ -19,7 +19,7 @@ pub extern "C" fn bitm_check_samples(view: &View<'_>, samples: &Samples<'_>) -> 
 {
     match view.lent() {
         Some(lent) => {
-            if lent.check_samples(&samples.lent()) {
+            if lent.check_samples::<1>(&samples.lent()) {
                 OK
             } else {
                 WRONG
@@ -39,7 +39,7 @@ pub extern "C" fn bitm_check_samples0(view: &View<'_>, samples: &Samples<'_>) ->
 {
     match view.lent() {
         Some(lent) => {
-            if lent.check_samples0(&samples.lent()) {
+            if lent.check_samples::<0>(&samples.lent()) {
                 OK
             } else {
                 WRONG

@@ -76,7 +76,7 @@ pub extern "C" fn bitm_build_samples(
     let Some(lent) = view.lent() else {
         return BAD_SIZE;
     };
-    match lent.build_samples(narrow_log2(log2), samples, starts) {
+    match lent.build_samples::<1>(narrow_log2(log2), samples, starts) {
         Some(count) => {
             *used = count;
             OK
@@ -108,7 +108,7 @@ pub extern "C" fn bitm_build_samples0(
     let Some(lent) = view.lent() else {
         return BAD_SIZE;
     };
-    match lent.build_samples0(narrow_log2(log2), samples, starts) {
+    match lent.build_samples::<0>(narrow_log2(log2), samples, starts) {
         Some(count) => {
             *used = count;
             OK
@@ -128,7 +128,7 @@ pub extern "C" fn bitm_sampled_select(
     ensures { SampledAnswered true (view_lists view.now) samples.now rank result out.old out.new }
 {
     match view.lent() {
-        Some(lent) => tell_place(lent.sampled_select(&samples.lent(), rank), out),
+        Some(lent) => tell_place(lent.sampled_select::<1>(&samples.lent(), rank), out),
         None => BAD_SIZE,
     }
 }
@@ -144,7 +144,7 @@ pub extern "C" fn bitm_sampled_select0(
     ensures { SampledAnswered false (view_lists view.now) samples.now rank result out.old out.new }
 {
     match view.lent() {
-        Some(lent) => tell_place(lent.sampled_select0(&samples.lent(), rank), out),
+        Some(lent) => tell_place(lent.sampled_select::<0>(&samples.lent(), rank), out),
         None => BAD_SIZE,
     }
 }
@@ -165,7 +165,7 @@ pub extern "C" fn bitm_sampled_select_list(
         (slice_index queries.now j) (slice_index out.new j) }
 {
     match view.lent() {
-        Some(lent) => done(lent.sampled_select_list(&samples.lent(), queries, out)),
+        Some(lent) => done(lent.sampled_select_list::<1>(&samples.lent(), queries, out)),
         None => BAD_SIZE,
     }
 }
@@ -186,7 +186,7 @@ pub extern "C" fn bitm_sampled_select0_list(
         (slice_index queries.now j) (slice_index out.new j) }
 {
     match view.lent() {
-        Some(lent) => done(lent.sampled_select0_list(&samples.lent(), queries, out)),
+        Some(lent) => done(lent.sampled_select_list::<0>(&samples.lent(), queries, out)),
         None => BAD_SIZE,
     }
 }

@@ -1,6 +1,6 @@
 //! Words and tables that are lent, of which the last bits do not belong to the content.
 ghost use Rattle.std.specs.Prelude.{◌≡◌, ◌+◌, ◌-◌, ◌<◌, ◌≤◌, ℕ, Bool, List, MatchOption, length, min, slice_index, take};
-ghost use Rattle.std.specs.Prelude.{true, false};
+ghost use Rattle.std.specs.Prelude.{true};
 ghost use Rattle.bit_lists.specs.Count.{count_before, count_of, as_bit, Picks};
 ghost use Rattle.bitm_search.specs.Tables.{HasTables, bits_in};
 ghost use Rattle.bitm_search.specs.Answers.{HasBit, IsSelected};
@@ -70,29 +70,9 @@ impl<'a> LentBits<'a> {
     }
 
     /// How many of the first `index` bits are ones: `Absent` exactly where the content has fewer, whatever the tables
-    /// hold; else as `Lent::rank`.
+    /// hold; else as `Lent::rank`. Zeros in place of ones where `BIT` is 0.
     #[inline(always)]
-    pub fn rank(&self, index: usize) -> Ranked
-        ensures inside { IsCountWithin self.now.len index result }
-        ensures answer { HasTables self.now.lists
-            → IsRanked (bits_of_cut self.now) true index result }
-    {
-        self.rank_bit::<1>(index)
-    }
-
-    /// How many of the first `index` bits are zeros, as `rank`.
-    #[inline(always)]
-    pub fn rank0(&self, index: usize) -> Ranked
-        ensures inside { IsCountWithin self.now.len index result }
-        ensures answer { HasTables self.now.lists
-            → IsRanked (bits_of_cut self.now) false index result }
-    {
-        self.rank_bit::<0>(index)
-    }
-
-    /// Ranks of one kind of bits.
-    #[inline(always)]
-    fn rank_bit<const BIT: u8>(&self, index: usize) -> Ranked
+    pub fn rank<const BIT: u8>(&self, index: usize) -> Ranked
         ensures inside { IsCountWithin self.now.len index result }
         ensures answer { HasTables self.now.lists
             → IsRanked (bits_of_cut self.now) (as_bit BIT) index result }
@@ -100,30 +80,21 @@ impl<'a> LentBits<'a> {
         if index > self.len {
             return Ranked::Absent;
         }
-        self.lent.rank_bit::<BIT>(index)
+        self.lent.rank::<BIT>(index)
     }
 
     /// The place of the one with exactly `rank` ones before it, as `Lent::select`: places behind the content are none.
+    /// Zeros in place of ones where `BIT` is 0.
     ///
-    /// Whatever the tables hold, `Absent` is answered only where tables and words tell no more than `rank` ones, or the
-    /// words have a one behind the content.
-    pub fn select(&self, rank: usize) -> Selected
-        ensures bit { HasBit (bits_of_cut self.now) true result }
+    /// Whatever the tables hold, `Absent` is answered only where tables and words tell no more than `rank` such bits,
+    /// or the words have one behind the content.
+    pub fn select<const BIT: u8>(&self, rank: usize) -> Selected
+        ensures bit { HasBit (bits_of_cut self.now) (as_bit BIT) result }
         ensures answer { HasTables self.now.lists
-            → IsSelected (bits_of_cut self.now) true rank result }
-        ensures none { IfAbsent result (TellsNoneOf true self.now rank) }
+            → IsSelected (bits_of_cut self.now) (as_bit BIT) rank result }
+        ensures none { IfAbsent result (TellsNoneOf (as_bit BIT) self.now rank) }
     {
-        cut(self.lent.select(rank), self.len)
-    }
-
-    /// The place of the zero with exactly `rank` zeros before it, as `select`.
-    pub fn select0(&self, rank: usize) -> Selected
-        ensures bit { HasBit (bits_of_cut self.now) false result }
-        ensures answer { HasTables self.now.lists
-            → IsSelected (bits_of_cut self.now) false rank result }
-        ensures none { IfAbsent result (TellsNoneOf false self.now rank) }
-    {
-        cut(self.lent.select0(rank), self.len)
+        cut(self.lent.select::<BIT>(rank), self.len)
     }
 
     /// How many bits of the content are ones, counted in the words alone: right whatever the tables hold.
@@ -137,30 +108,19 @@ impl<'a> LentBits<'a> {
     }
 
     /// Writes the places of the content's ones from place `from` on, rising, as many as there is room for, and answers
-    /// how many; what stands behind them stays. The tables are not read, so all is right whatever they hold.
+    /// how many; what stands behind them stays. Zeros in place of ones where `BIT` is 0. The tables are not read, so
+    /// all is right whatever they hold.
     ///
     /// # Cost
     /// As of `bitm_lent::ones_from`.
-    pub fn ones_from(&self, from: usize, out: &mut [usize]) -> usize
-        ensures number { let b = bits_of_cut self.now in result
-            ≡ min (length out.old) (count_of b true - count_before b true from) }
+    pub fn places_from<const BIT: u8>(&self, from: usize, out: &mut [usize]) -> usize
+        ensures number { let b = bits_of_cut self.now in result ≡ min (length out.old)
+            (count_of b (as_bit BIT) - count_before b (as_bit BIT) from) }
         ensures len { length out.new ≡ length out.old }
         ensures places { let b = bits_of_cut self.now in (j : ℕ) → j < result
-            → Picks b true (count_before b true from + j) (slice_index out.new j) }
+            → Picks b (as_bit BIT) (count_before b (as_bit BIT) from + j) (slice_index out.new j) }
         ensures kept { (j : ℕ) → result ≤ j → slice_index out.new j ≡ slice_index out.old j }
     {
-        bits_from::<1>(self.lent.words(), self.len, from, out)
-    }
-
-    /// Writes the places of the content's zeros from place `from` on, as `ones_from`.
-    pub fn zeros_from(&self, from: usize, out: &mut [usize]) -> usize
-        ensures number { let b = bits_of_cut self.now in result
-            ≡ min (length out.old) (count_of b false - count_before b false from) }
-        ensures len { length out.new ≡ length out.old }
-        ensures places { let b = bits_of_cut self.now in (j : ℕ) → j < result
-            → Picks b false (count_before b false from + j) (slice_index out.new j) }
-        ensures kept { (j : ℕ) → result ≤ j → slice_index out.new j ≡ slice_index out.old j }
-    {
-        bits_from::<0>(self.lent.words(), self.len, from, out)
+        bits_from::<BIT>(self.lent.words(), self.len, from, out)
     }
 }

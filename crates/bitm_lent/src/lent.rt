@@ -1,5 +1,5 @@
 //! Words and tables that are lent, and how long the tables are.
-ghost use Rattle.std.specs.Prelude.{◌≡◌, ◌^◌, ◌↔◌, ◌<◌, ◌≤◌, IsTrue, MatchOption, length, true, false, SomeIff};
+ghost use Rattle.std.specs.Prelude.{◌≡◌, ◌^◌, ◌↔◌, ◌<◌, ◌≤◌, IsTrue, MatchOption, length, SomeIff};
 ghost use Rattle.std.specs.Int.{div_ceil};
 ghost use Rattle.bit_lists.specs.Bits.{bits_of, IsShort};
 ghost use Rattle.bit_lists.specs.Count.{as_bit, IsRank};
@@ -115,7 +115,7 @@ impl<'a> Lent<'a> {
         are_tables(self.words, self.upper, self.lower)
     }
 
-    /// How many of the first `index` bits are ones.
+    /// How many of the first `index` bits are ones; zeros in place of ones where `BIT` is 0.
     ///
     /// Whatever the tables hold, `Absent` is answered exactly where there are fewer bits, and a count is at most
     /// `index`. Where they are those of the words it is the right one, and `WrongTables` is never answered.
@@ -123,28 +123,7 @@ impl<'a> Lent<'a> {
     /// # Cost
     /// At most one upper entry, one lower entry and eight words are read.
     #[inline(always)]
-    pub fn rank(&self, index: usize) -> Ranked
-        ensures inside { IsCountWithin (length (bits_in self.now)) index result }
-        ensures answer { HasTables self.now → IsRanked (bits_in self.now) true index result }
-    {
-        self.rank_bit::<1>(index)
-    }
-
-    /// How many of the first `index` bits are zeros, as `rank`.
-    ///
-    /// # Cost
-    /// As `rank`.
-    #[inline(always)]
-    pub fn rank0(&self, index: usize) -> Ranked
-        ensures inside { IsCountWithin (length (bits_in self.now)) index result }
-        ensures answer { HasTables self.now → IsRanked (bits_in self.now) false index result }
-    {
-        self.rank_bit::<0>(index)
-    }
-
-    /// How many of the first `index` bits are ones; zeros in place of ones where `BIT` is 0.
-    #[inline(always)]
-    pub(crate) fn rank_bit<const BIT: u8>(&self, index: usize) -> Ranked
+    pub fn rank<const BIT: u8>(&self, index: usize) -> Ranked
         ensures sized { HasSizes self.now }
         ensures inside { IsCountWithin (length (bits_in self.now)) index result }
         ensures answer { HasTables self.now
@@ -171,37 +150,16 @@ impl<'a> Lent<'a> {
         total_rank_on(&mut self.probe(), index)
     }
 
-    /// The place of the one with exactly `rank` ones before it.
+    /// The place of the one with exactly `rank` ones before it; zeros in place of ones where `BIT` is 0.
     ///
-    /// Whatever the tables hold, a place that is found is inside and has a one. Where they are those of the words it
-    /// is the right one, `Absent` is answered exactly where there is none, and `WrongTables` never.
+    /// Whatever the tables hold, a place that is found is inside and has such a bit. Where they are those of the words
+    /// it is the right one, `Absent` is answered exactly where there is none, and `WrongTables` never.
     ///
     /// # Cost
     /// At most as many upper entries as their number has binary digits and one more, 23 lower entries and eight words
     /// are read, whatever the tables hold.
-    pub fn select(&self, rank: usize) -> Selected
-        ensures bit { HasBit (bits_in self.now) true result }
-        ensures answer { HasTables self.now → IsSelected (bits_in self.now) true rank result }
-        ensures none { IfAbsent result (TellsNone true self.now rank) }
-    {
-        self.select_bit::<1>(rank)
-    }
-
-    /// The place of the zero with exactly `rank` zeros before it, as `select`.
-    ///
-    /// # Cost
-    /// As `select`.
-    pub fn select0(&self, rank: usize) -> Selected
-        ensures bit { HasBit (bits_in self.now) false result }
-        ensures answer { HasTables self.now → IsSelected (bits_in self.now) false rank result }
-        ensures none { IfAbsent result (TellsNone false self.now rank) }
-    {
-        self.select_bit::<0>(rank)
-    }
-
-    /// The place of the one with exactly `rank` ones before it; zeros in place of ones where `BIT` is 0.
     #[inline(always)]
-    pub(crate) fn select_bit<const BIT: u8>(&self, rank: usize) -> Selected
+    pub fn select<const BIT: u8>(&self, rank: usize) -> Selected
         ensures sized { HasSizes self.now }
         ensures bit { HasBit (bits_in self.now) (as_bit BIT) result }
         ensures answer { HasTables self.now

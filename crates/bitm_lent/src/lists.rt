@@ -1,5 +1,5 @@
 //! Answers to lists of queries.
-ghost use Rattle.std.specs.Prelude.{◌≡◌, ◌<◌, ◌↔◌, ℕ, IsTrue, length, slice_index, true, false};
+ghost use Rattle.std.specs.Prelude.{◌≡◌, ◌<◌, ◌↔◌, ℕ, IsTrue, length, slice_index, false};
 ghost use Rattle.bit_lists.specs.Count.{as_bit};
 ghost use Rattle.bitm_search.specs.Answers.{SelectTold};
 ghost use Rattle.bitm_lent.specs.Ranks.{RankTold};
@@ -15,7 +15,7 @@ use bitm_search::source::Probe;
 fn rank_or_code<const BIT: u8>(lent: &Lent<'_>, place: usize) -> usize
     ensures { RankTold (as_bit BIT) lent.now place result }
 {
-    match lent.rank_bit::<BIT>(place) {
+    match lent.rank::<BIT>(place) {
         Ranked::Count(count) => count,
         Ranked::Absent => NO_ANSWER,
         Ranked::WrongTables => WRONG_TABLES,
@@ -27,7 +27,7 @@ fn rank_or_code<const BIT: u8>(lent: &Lent<'_>, place: usize) -> usize
 fn place_or_code<const BIT: u8>(lent: &Lent<'_>, rank: usize) -> usize
     ensures { SelectTold (as_bit BIT) lent.now rank result }
 {
-    told(lent.select_bit::<BIT>(rank))
+    told(lent.select::<BIT>(rank))
 }
 
 /// Writes the rank of each place.
@@ -62,61 +62,32 @@ impl<'a> Lent<'a> {
     /// Writes the rank of each place, as `rank` answers it: `NO_ANSWER` for `Absent` and `WRONG_TABLES` for
     /// `WrongTables`, and no count is one of these. Answers false exactly where there is not room for as many answers
     /// as places, and nothing is written then.
-    pub fn rank_list(&self, places: &[usize], out: &mut [usize]) -> bool
+    pub fn rank_list<const BIT: u8>(&self, places: &[usize], out: &mut [usize]) -> bool
         ensures room { IsTrue result ↔ length out.old ≡ length places.now }
-        ensures told { IsTrue result → (j : ℕ) → j < length places.now → RankTold true self.now
-            (slice_index places.now j) (slice_index out.new j) }
+        ensures told { IsTrue result → (j : ℕ) → j < length places.now → RankTold (as_bit BIT)
+            self.now (slice_index places.now j) (slice_index out.new j) }
         ensures kept { result ≡ false → out.new ≡ out.old }
     {
         if out.len() != places.len() {
             return false;
         }
-        rank_each::<1>(self, places, out);
+        rank_each::<BIT>(self, places, out);
         true
     }
 
-    /// Writes the rank of each place among the zeros, as `rank0` answers it; else as `rank_list`.
-    pub fn rank0_list(&self, places: &[usize], out: &mut [usize]) -> bool
-        ensures room { IsTrue result ↔ length out.old ≡ length places.now }
-        ensures told { IsTrue result → (j : ℕ) → j < length places.now → RankTold false self.now
-            (slice_index places.now j) (slice_index out.new j) }
-        ensures kept { result ≡ false → out.new ≡ out.old }
-    {
-        if out.len() != places.len() {
-            return false;
-        }
-        rank_each::<0>(self, places, out);
-        true
-    }
-
-    /// Writes the place of the one with each rank, as `select` answers it where the tables are those of the words; in
-    /// others it may be another place with a one. `NO_ANSWER` is written for `Absent` and
-    /// `WRONG_TABLES` for `WrongTables`; answers false exactly where there is not room for as many answers as ranks,
-    /// and nothing is written then.
-    pub fn select_list(&self, ranks: &[usize], out: &mut [usize]) -> bool
+    /// Writes the place with each rank, as `select` answers it where the tables are those of the words; in others it
+    /// may be another place with such a bit. `NO_ANSWER` is written for `Absent` and `WRONG_TABLES` for `WrongTables`;
+    /// answers false exactly where there is not room for as many answers as ranks, and nothing is written then.
+    pub fn select_list<const BIT: u8>(&self, ranks: &[usize], out: &mut [usize]) -> bool
         ensures room { IsTrue result ↔ length out.old ≡ length ranks.now }
-        ensures told { IsTrue result → (j : ℕ) → j < length ranks.now → SelectTold true self.now
-            (slice_index ranks.now j) (slice_index out.new j) }
+        ensures told { IsTrue result → (j : ℕ) → j < length ranks.now → SelectTold (as_bit BIT)
+            self.now (slice_index ranks.now j) (slice_index out.new j) }
         ensures kept { result ≡ false → out.new ≡ out.old }
     {
         if out.len() != ranks.len() {
             return false;
         }
-        select_each::<1>(self, ranks, out);
-        true
-    }
-
-    /// Writes the place of the zero with each rank, as `select0` answers it; else as `select_list`.
-    pub fn select0_list(&self, ranks: &[usize], out: &mut [usize]) -> bool
-        ensures room { IsTrue result ↔ length out.old ≡ length ranks.now }
-        ensures told { IsTrue result → (j : ℕ) → j < length ranks.now → SelectTold false self.now
-            (slice_index ranks.now j) (slice_index out.new j) }
-        ensures kept { result ≡ false → out.new ≡ out.old }
-    {
-        if out.len() != ranks.len() {
-            return false;
-        }
-        select_each::<0>(self, ranks, out);
+        select_each::<BIT>(self, ranks, out);
         true
     }
 }

@@ -1,5 +1,5 @@
 //! Answers to lists of queries, by samples.
-ghost use Rattle.std.specs.Prelude.{◌≡◌, ◌<◌, ◌↔◌, ℕ, IsTrue, length, slice_index, true, false};
+ghost use Rattle.std.specs.Prelude.{◌≡◌, ◌<◌, ◌↔◌, ℕ, IsTrue, length, slice_index, false};
 ghost use Rattle.bit_lists.specs.Count.{as_bit};
 ghost use Rattle.bitm_lent.specs.Samples.{SampledTold};
 
@@ -14,7 +14,7 @@ use bitm_search::source::Probe;
 fn place_or_code<const BIT: u8>(lent: &Lent<'_>, samples: &LentSamples<'_>, rank: usize) -> usize
     ensures { SampledTold (as_bit BIT) lent.now samples.now rank result }
 {
-    told(lent.sampled_bit::<BIT>(samples, rank))
+    told(lent.sampled_select::<BIT>(samples, rank))
 }
 
 /// Writes the place with each rank, by searches side by side where there is a word.
@@ -39,11 +39,11 @@ fn select_each<const BIT: u8>(
 }
 
 impl<'a> Lent<'a> {
-    /// Writes the place of the one with each rank, as `sampled_select` answers it where tables and samples are those of
-    /// the words, `NO_ANSWER` for `Absent` and `WRONG_TABLES` for `WrongTables`. With the tables of the words and other
-    /// samples it finds what `select` does, and in other tables it may be another place with a one. Answers false
-    /// exactly where there is not room for as many answers as ranks, and nothing is written then.
-    pub fn sampled_select_list(
+    /// Writes the place with each rank, as `sampled_select` answers it where tables and samples are those of the words,
+    /// `NO_ANSWER` for `Absent` and `WRONG_TABLES` for `WrongTables`. With the tables of the words and other samples it
+    /// finds what `select` does, and in other tables it may be another place with such a bit. Answers false exactly
+    /// where there is not room for as many answers as ranks, and nothing is written then.
+    pub fn sampled_select_list<const BIT: u8>(
         &self,
         samples: &LentSamples<'_>,
         ranks: &[usize],
@@ -51,34 +51,14 @@ impl<'a> Lent<'a> {
     ) -> bool
         ensures room { IsTrue result ↔ length out.old ≡ length ranks.now }
         ensures told { IsTrue result → (j : ℕ) → j < length ranks.now
-            → SampledTold true self.now samples.now
+            → SampledTold (as_bit BIT) self.now samples.now
             (slice_index ranks.now j) (slice_index out.new j) }
         ensures kept { result ≡ false → out.new ≡ out.old }
     {
         if out.len() != ranks.len() {
             return false;
         }
-        select_each::<1>(self, samples, ranks, out);
-        true
-    }
-
-    /// Writes the place of the zero with each rank, as `sampled_select0` answers it; else as `sampled_select_list`.
-    pub fn sampled_select0_list(
-        &self,
-        samples: &LentSamples<'_>,
-        ranks: &[usize],
-        out: &mut [usize],
-    ) -> bool
-        ensures room { IsTrue result ↔ length out.old ≡ length ranks.now }
-        ensures told { IsTrue result → (j : ℕ) → j < length ranks.now
-            → SampledTold false self.now samples.now
-            (slice_index ranks.now j) (slice_index out.new j) }
-        ensures kept { result ≡ false → out.new ≡ out.old }
-    {
-        if out.len() != ranks.len() {
-            return false;
-        }
-        select_each::<0>(self, samples, ranks, out);
+        select_each::<BIT>(self, samples, ranks, out);
         true
     }
 }

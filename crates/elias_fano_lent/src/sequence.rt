@@ -123,7 +123,7 @@ impl<'a> LentSequence<'a> {
         }
         let count = (places.len() - at).min(SIDE_BY_SIDE);
         self.upper
-            .select_list(&places[at..at + count], &mut ones[0..count]);
+            .select_list::<1>(&places[at..at + count], &mut ones[0..count]);
     }
 
     /// At the first place of each sixteen, selects the zeros before the buckets of them all side by side, where `less`
@@ -169,7 +169,7 @@ impl<'a> LentSequence<'a> {
     {
         let mut ranks = [0; SIDE_BY_SIDE];
         rank_each(values, self.width, less, &mut ranks);
-        self.upper.select0_list(&ranks[0..values.len()], zeros);
+        self.upper.select_list::<0>(&ranks[0..values.len()], zeros);
     }
 
     /// Number `place`, of which a list of selections tells the one.

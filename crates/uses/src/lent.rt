@@ -35,7 +35,7 @@ pub fn select(words: &[u64], upper: &mut [usize], lower: &mut [u64], rank: usize
     let Some(lent) = Lent::over(words, &*upper, &*lower) else {
         unreachable!()
     };
-    match lent.select(rank) {
+    match lent.select::<1>(rank) {
         Selected::Found(place) => Some(place),
         Selected::Absent => None,
         // No right tables are called wrong.

@@ -13,7 +13,7 @@ pub fn item_at_rank(lent: &Lent<'_>, place: usize, items: &[u64]) -> Option<u64>
         → result ≡ Some (slice_index items.now (ones_before (bits_in lent.now) place)) }
     ensures none { length (bits_in lent.now) < place → result ≡ None }
 {
-    match lent.rank(place) {
+    match lent.rank::<1>(place) {
         // No count is above its place, whatever the tables hold.
         Ranked::Count(count) => Some(items[count]),
         Ranked::Absent | Ranked::WrongTables => None,

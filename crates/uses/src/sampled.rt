@@ -14,9 +14,9 @@ pub fn select(lent: &Lent<'_>, samples: &LentSamples<'_>, rank: usize) -> Option
     requires { HasTables lent.now }
     ensures { IsSelect (bits_in lent.now) true rank result }
 {
-    let by_samples = lent.sampled_select(samples, rank);
+    let by_samples = lent.sampled_select::<1>(samples, rank);
     let selected = match by_samples {
-        Selected::WrongTables => lent.select(rank),
+        Selected::WrongTables => lent.select::<1>(rank),
         told => told,
     };
     match selected {
@@ -40,7 +40,7 @@ pub fn sample_and_select(
     ensures { HasRoom lent.now log2 numbers.old starts.old
         → IsSelected (bits_in lent.now) true rank result }
 {
-    let Some(used) = lent.build_samples(log2, &mut *numbers, &mut *starts) else {
+    let Some(used) = lent.build_samples::<1>(log2, &mut *numbers, &mut *starts) else {
         return Selected::WrongTables;
     };
     let samples = LentSamples {
@@ -48,5 +48,5 @@ pub fn sample_and_select(
         starts: &*starts,
         log2,
     };
-    lent.sampled_select(&samples, rank)
+    lent.sampled_select::<1>(&samples, rank)
 }

@@ -1,5 +1,5 @@
 //! Samples of lent words, and selection by them.
-ghost use Rattle.std.specs.Prelude.{◌≡◌, ◌<◌, ◌≤◌, ℕ, length, slice_index, take, IfSome, IsNone, MatchOption, true, false};
+ghost use Rattle.std.specs.Prelude.{◌≡◌, ◌<◌, ◌≤◌, ℕ, length, slice_index, take, IfSome, IsNone, MatchOption};
 ghost use Rattle.bit_lists.specs.Count.{as_bit};
 ghost use Rattle.bitm.specs.Density.{clamped_log};
 ghost use Rattle.bitm_search.specs.Tables.{HasSizes, HasTables, bits_in};
@@ -18,7 +18,7 @@ use bitm_search::source::Probe;
 impl<'a> Lent<'a> {
     /// Writes the samples of ones, one for each 2^`log2` of a part, and how many there are before each part, and
     /// answers how many there are: what stands behind these stays. Where the tables are those of the words the samples
-    /// are the words' own; else they are some numbers.
+    /// are the words' own; else they are some numbers. Zeros in place of ones where `BIT` is 0.
     ///
     /// `None` exactly where there are fewer than `samples_len` places for samples, or not as many starts as the upper
     /// table has entries, and nothing is written then. The logarithm is clamped to 7 to 31.
@@ -26,52 +26,7 @@ impl<'a> Lent<'a> {
     /// # Cost
     /// Each lower entry is read once, and up to two are read again for each sample; of the words at most eight are
     /// read.
-    pub fn build_samples(
-        &self,
-        log2: u8,
-        samples: &mut [u32],
-        starts: &mut [usize],
-    ) -> Option<usize>
-        ensures room { MatchOption result
-            (¬ (HasRoom self.now log2 samples.old starts.old))
-            (λ used. HasRoom self.now log2 samples.old starts.old
-            × (used ≤ length samples.old)) }
-        ensures made { IfSome result (λ used. HasTables self.now → AreSamples (bits_in self.now)
-            true (clamped_log log2) (take used samples.new) starts.new) }
-        ensures behind { IfSome result (λ used. (j : ℕ) → used ≤ j
-            → slice_index samples.new j ≡ slice_index samples.old j) }
-        ensures kept { IsNone result
-            → (samples.new ≡ samples.old) × (starts.new ≡ starts.old) }
-    {
-        self.build_bit::<1>(log2, samples, starts)
-    }
-
-    /// Writes the samples of zeros, as `build_samples` those of ones.
-    ///
-    /// # Cost
-    /// As `build_samples`.
-    pub fn build_samples0(
-        &self,
-        log2: u8,
-        samples: &mut [u32],
-        starts: &mut [usize],
-    ) -> Option<usize>
-        ensures room { MatchOption result
-            (¬ (HasRoom self.now log2 samples.old starts.old))
-            (λ used. HasRoom self.now log2 samples.old starts.old
-            × (used ≤ length samples.old)) }
-        ensures made { IfSome result (λ used. HasTables self.now → AreSamples (bits_in self.now)
-            false (clamped_log log2) (take used samples.new) starts.new) }
-        ensures behind { IfSome result (λ used. (j : ℕ) → used ≤ j
-            → slice_index samples.new j ≡ slice_index samples.old j) }
-        ensures kept { IsNone result
-            → (samples.new ≡ samples.old) × (starts.new ≡ starts.old) }
-    {
-        self.build_bit::<0>(log2, samples, starts)
-    }
-
-    /// The samples of one kind of bits.
-    fn build_bit<const BIT: u8>(
+    pub fn build_samples<const BIT: u8>(
         &self,
         log2: u8,
         samples: &mut [u32],
@@ -105,51 +60,18 @@ impl<'a> Lent<'a> {
         Some(fill_all::<BIT>(&summary, log2, samples, starts))
     }
 
-    /// The place of the one with exactly `rank` ones before it, by samples of the ones.
+    /// The place of the one with exactly `rank` ones before it, by samples of the ones; of zeros where `BIT` is 0.
     ///
-    /// Whatever the tables and samples hold, a place that is found is inside and has a one. Where the tables are those
-    /// of the words it is the right one, `Absent` is answered only where there is none, and `WrongTables` only where
-    /// the samples are not those of the words' ones.
+    /// Whatever the tables and samples hold, a place that is found is inside and has such a bit. Where the tables are
+    /// those of the words it is the right one, `Absent` is answered only where there is none, and `WrongTables` only
+    /// where the samples are not those of the words.
     ///
     /// # Cost
     /// At most as many upper entries as their number has binary digits and one more, 23 lower entries and eight words
     /// are read, whatever the tables and samples hold. Where these are those of the words, the lower entries are two
     /// and one for each halving from the rank's sample to the next.
-    pub fn sampled_select(&self, samples: &LentSamples<'_>, rank: usize) -> Selected
-        ensures bit { HasBit (bits_in self.now) true result }
-        ensures told { HasTables self.now
-            → IsSelectedIfTold (bits_in self.now) true rank result }
-        ensures answer { HasTables self.now
-            → AreSamplesOf (bits_in self.now) true samples.now
-            → IsSelected (bits_in self.now) true rank result }
-        ensures none { IfAbsent result (TellsNone true self.now rank) }
-    {
-        self.sampled_bit::<1>(samples, rank)
-    }
-
-    /// The place of the zero with exactly `rank` zeros before it, by samples of the zeros, as `sampled_select`.
-    ///
-    /// # Cost
-    /// As `sampled_select`.
-    pub fn sampled_select0(&self, samples: &LentSamples<'_>, rank: usize) -> Selected
-        ensures bit { HasBit (bits_in self.now) false result }
-        ensures told { HasTables self.now
-            → IsSelectedIfTold (bits_in self.now) false rank result }
-        ensures answer { HasTables self.now
-            → AreSamplesOf (bits_in self.now) false samples.now
-            → IsSelected (bits_in self.now) false rank result }
-        ensures none { IfAbsent result (TellsNone false self.now rank) }
-    {
-        self.sampled_bit::<0>(samples, rank)
-    }
-
-    /// The place of the one with exactly `rank` ones before it; zeros in place of ones where `BIT` is 0.
     #[inline(always)]
-    pub(crate) fn sampled_bit<const BIT: u8>(
-        &self,
-        samples: &LentSamples<'_>,
-        rank: usize,
-    ) -> Selected
+    pub fn sampled_select<const BIT: u8>(&self, samples: &LentSamples<'_>, rank: usize) -> Selected
         ensures sized { HasSizes self.now }
         ensures bit { HasBit (bits_in self.now) (as_bit BIT) result }
         ensures told { HasTables self.now

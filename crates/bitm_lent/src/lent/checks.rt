@@ -1,5 +1,5 @@
 //! Whether lent samples are those of the words.
-ghost use Rattle.std.specs.Prelude.{IsTrue, ◌↔◌, true, false};
+ghost use Rattle.std.specs.Prelude.{IsTrue, ◌↔◌};
 ghost use Rattle.bit_lists.specs.Count.{as_bit};
 ghost use Rattle.bitm_search.specs.Tables.{HasTables, bits_in};
 ghost use Rattle.bitm_lent.specs.Samples.{AreSamplesOf};
@@ -11,31 +11,13 @@ use bitm::samples::Summary;
 
 impl<'a> Lent<'a> {
     /// Whether the samples of ones, and how many there are before each part, are those that `build_samples` writes,
-    /// where the tables are those of the words, as `check` says; else either is answered.
+    /// where the tables are those of the words, as `check` says; else either is answered. Zeros in place of ones where
+    /// `BIT` is 0.
     ///
     /// # Cost
     /// Each lower entry is read at most once, and up to two are read again for each sample; of the words at most eight
     /// are read.
-    pub fn check_samples(&self, samples: &LentSamples<'_>) -> bool
-        ensures { HasTables self.now
-            → IsTrue result ↔ AreSamplesOf (bits_in self.now) true samples.now }
-    {
-        self.check_bit::<1>(samples)
-    }
-
-    /// Whether the samples of zeros are those that `build_samples0` writes, as `check_samples`.
-    ///
-    /// # Cost
-    /// As `check_samples`.
-    pub fn check_samples0(&self, samples: &LentSamples<'_>) -> bool
-        ensures { HasTables self.now
-            → IsTrue result ↔ AreSamplesOf (bits_in self.now) false samples.now }
-    {
-        self.check_bit::<0>(samples)
-    }
-
-    /// Whether the samples of one kind of bits are those of the words.
-    fn check_bit<const BIT: u8>(&self, samples: &LentSamples<'_>) -> bool
+    pub fn check_samples<const BIT: u8>(&self, samples: &LentSamples<'_>) -> bool
         ensures { HasTables self.now
             → IsTrue result ↔ AreSamplesOf (bits_in self.now) (as_bit BIT) samples.now }
     {

@@ -66,7 +66,7 @@ impl<'a> LentSequence<'a> {
         if most == 0 {
             return 0;
         }
-        let first = match self.upper.select(from) {
+        let first = match self.upper.select::<1>(from) {
             Selected::Found(first) => first,
             Selected::Absent => return 0,
             Selected::WrongTables => return 0,

@@ -6,4 +6,4 @@ use Rattle.bitm_c.proofs.bits_view.bitm_bits_rank0.Goals as goal
 pub returns-in-Some : goal.returns-in-Some
 returns-in-Some c =
     counted_of false _ c.in-Some.ensures.0 c.args.index c.tell_count.result c.args.out.now c.tell_count.new.out _ c.in-Some.ensures.1
-    c.rank0.result c.tell_count.ensures c.rank0.ensures.inside c.rank0.ensures.answer
+    c.rank.result c.tell_count.ensures c.rank.ensures.inside c.rank.ensures.answer

@@ -6,4 +6,4 @@ use Rattle.bitm_c.proofs.bits_view.bitm_bits_select0.Goals as goal
 pub returns-in-Some : goal.returns-in-Some
 returns-in-Some c =
     told_of false _ c.in-Some.ensures.0 c.args.rank c.tell_place.result c.args.out.now c.tell_place.new.out _ c.in-Some.ensures.1
-    c.select0.result c.tell_place.ensures c.select0.ensures.bit c.select0.ensures.none c.select0.ensures.answer
+    c.select.result c.tell_place.ensures c.select.ensures.bit c.select.ensures.none c.select.ensures.answer

@@ -4,5 +4,5 @@ use Rattle.bitm_lent.proofs.lists.place_or_code.Goals as goal
 
 pub returns : goal.returns
 returns g c =
-    let s = c.select_bit.ensures in
-    rw c.told.ensures (told_is _ _ c.args.rank s.sized.short c.select_bit.result s.bit s.none s.answer)
+    let s = c.select.ensures in
+    rw c.told.ensures (told_is _ _ c.args.rank s.sized.short c.select.result s.bit s.none s.answer)

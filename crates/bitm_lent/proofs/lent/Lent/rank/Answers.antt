@@ -2,7 +2,7 @@
 use Rattle.std.proofs.Common.{arith}
 use Rattle.bit_lists.proofs.lemmas.CountLemmas.{ones_before-add-zeros_before}
 use Rattle.bitm_search.specs.Tables.{bits_in}
-use Rattle.bitm_lent.proofs.lent.Lent.rank_bit.Goals as goal
+use Rattle.bitm_lent.proofs.lent.Lent.rank.Goals as goal
 
 pub returns-in-None-clause-answer : goal.returns-in-None-clause-answer
 returns-in-None-clause-answer g c = λ t.

@@ -6,8 +6,8 @@ use Rattle.bitm.specs.Density.{clamped_log}
 use Rattle.bitm_search.specs.Tables.{AreTablesOf, Lists, bits_in}
 use Rattle.bitm_lent.specs.Samples.{AreSamples}
 use Rattle.bitm_lent.proofs.SamplingLemmas.{room_for}
-use Rattle.bitm_lent.proofs.lent.Lent.build_bit.Goals as goal
-use Rattle.bitm_lent.proofs.lent.Lent.build_bit.Goals.{After-told_ones}
+use Rattle.bitm_lent.proofs.lent.Lent.build_samples.Goals as goal
+use Rattle.bitm_lent.proofs.lent.Lent.build_samples.Goals.{After-told_ones}
 
 long : (g : _) (c : After-told_ones g) → length (bits_in c.args.self.now) ≡ length c.self.inside.words.now * 64
 long g c = omega (arith, length-bits_of c.args.self.now.words, ap (λ (l : Lists). length l.words) c.self.view_is)
