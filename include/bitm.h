@@ -24,8 +24,7 @@
  *     Each item of a list means the same;
  *   - if the tables are those of the words, the answer is plain counting, and no call on words and tables alone returns
  *     BITM_WRONG. They are if bitm_build made them or bitm_check passes them, as long as neither words nor tables
- *     change afterwards. (A sampled call also returns BITM_WRONG where the samples are not those of the words: ask
- *     bitm_select then, which does without);
+ *     change afterwards. Samples, whatever they hold, make no answer another;
  *   - sequences likewise: with parts that bitm_sequence_build made or bitm_sequence_check passes, the answers are
  *     those of one sequence of numbers.
  *
@@ -201,19 +200,16 @@ BITM_MUST_USE uint32_t bitm_build_samples(const struct bitm_view *view, uint32_t
 BITM_MUST_USE uint32_t bitm_build_samples0(const struct bitm_view *view, uint32_t log2, uint32_t *samples,
                                            size_t samples_len, uint64_t *starts, size_t starts_len, uint64_t *used);
 
-/* The place of the one, or zero, with exactly rank ones, or zeros, before it, by samples of the ones, or zeros. If
- * the tables are those of the words, any place returned is the right one and BITM_NONE means that there is none,
- * WHATEVER the samples hold; BITM_WRONG then means that the samples are not those of the words. If the tables are
- * not, any place returned is inside and holds the requested bit. Reads at most what bitm_select reads; with right
- * samples, two lower entries and one for each halving between the rank's sample and the next. */
+/* What bitm_select and bitm_select0 return, WHATEVER the samples hold. With samples of the ones, or zeros, of these words
+ * reads two lower entries and one for each halving between the rank's sample and the next; with others at most 23 lower
+ * entries more than bitm_select. */
 BITM_MUST_USE uint32_t bitm_sampled_select(const struct bitm_view *view, const struct bitm_samples *samples,
                                            size_t rank, uint64_t *out);
 BITM_MUST_USE uint32_t bitm_sampled_select0(const struct bitm_view *view, const struct bitm_samples *samples,
                                             size_t rank, uint64_t *out);
 
-/* out[i] answers queries[i] as the call of one query does where tables and samples are those of the words; with other
- * samples and right tables it is what bitm_select_list writes. Else as the lists of queries above; out may overlap
- * neither the queries nor the samples. */
+/* What bitm_select_list and bitm_select0_list write where the tables are those of the words, WHATEVER the samples hold.
+ * Else as the lists of queries above; out may overlap neither the queries nor the samples. */
 BITM_MUST_USE uint32_t bitm_sampled_select_list(const struct bitm_view *view, const struct bitm_samples *samples,
                                                 const uint64_t *queries, size_t queries_len, uint64_t *out,
                                                 size_t out_len);

@@ -49,7 +49,7 @@ inline std::vector<place> answers(const std::vector<std::uint64_t> &found, std::
 class index_view {
 public:
     // `bits` is how many of the words' bits count; all of them where it is left out. Selection starts at samples where
-    // they are given: these may hold anything, and an answer is wrong_tables where they are seen to be wrong.
+    // they are given: these may hold anything, and make no answer another.
     explicit index_view(const bitm_view &view, place bits = {}, std::optional<bitm_samples> ones_by = {},
                         std::optional<bitm_samples> zeros_by = {})
         : over_{view, bits.value_or(64 * view.words_len)}, ones_by_(ones_by), zeros_by_(zeros_by)

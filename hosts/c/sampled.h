@@ -86,10 +86,9 @@ static inline void sampled_queries(const struct bitm_view *view, uint32_t log2)
     free_samples(of_zeros);
 }
 
-/* Any samples: where the tables are right an answer is that of the search without them, or the samples are called
- * wrong, and a list calls none wrong; else a place is inside and has the bit. Answers how often something was called
- * wrong. */
-static inline unsigned any_samples(const struct bitm_view *view, int right, const struct bitm_samples *made,
+/* Any samples: where the tables are right an answer is that of the search without them; else a place is inside and has
+ * the bit. */
+static inline void any_samples(const struct bitm_view *view, int right, const struct bitm_samples *made,
                                    uint64_t kind)
 {
     uint64_t bits = (uint64_t)view->words_len * 64, ranks[100], told[100];
@@ -101,47 +100,44 @@ static inline unsigned any_samples(const struct bitm_view *view, int right, cons
         uint64_t got = UNWRITTEN, want = UNWRITTEN;
         uint32_t status = (kind ? bitm_sampled_select : bitm_sampled_select0)(view, made, ranks[i], &got);
         uint32_t wanted = (kind ? bitm_select : bitm_select0)(view, ranks[i], &want);
-        wrong += status == BITM_WRONG;
         MUST(status != BITM_BAD_SIZE && (status == BITM_OK || got == UNWRITTEN));
         MUST(status != BITM_OK || (got < bits && bit_of(view->words, got) == kind));
-        MUST(!right || status == BITM_WRONG || (status == wanted && got == want));
+        MUST(!right || (status == wanted && got == want));
         MUST(!right || told[i] == (wanted == BITM_OK ? want : BITM_NO_ANSWER));
         MUST(told[i] >= BITM_WRONG_TABLES || (told[i] < bits && bit_of(view->words, told[i]) == kind));
     }
-    return wrong;
 }
 
 /* Each sample and each start in turn set to 0, to all ones and to anything; then lists too long, too short and none. */
-static inline unsigned spoilt_samples(const struct bitm_view *view, int right, uint64_t kind)
+static inline void spoilt_samples(const struct bitm_view *view, int right, uint64_t kind)
 {
     struct bitm_samples made = built_samples(view, kind ? bitm_build_samples : bitm_build_samples0, 7);
     uint32_t *samples = (uint32_t *)(uintptr_t)made.samples;
     uint64_t *starts = (uint64_t *)(uintptr_t)made.starts;
-    unsigned wrong = 0;
     for (size_t turn = 0; turn < 3 * made.samples_len; turn++) {
         uint32_t kept = samples[turn / 3];
         samples[turn / 3] = turn % 3 == 0 ? 0 : turn % 3 == 1 ? UINT32_MAX : (uint32_t)draw();
-        wrong += any_samples(view, right, &made, kind);
+        any_samples(view, right, &made, kind);
         samples[turn / 3] = kept;
     }
     for (size_t turn = 0; turn < 3 * made.starts_len; turn++) {
         uint64_t kept = starts[turn / 3];
         starts[turn / 3] = turn % 3 == 0 ? 1 : turn % 3 == 1 ? UINT64_MAX : draw();
-        wrong += any_samples(view, right, &made, kind);
+        any_samples(view, right, &made, kind);
         starts[turn / 3] = kept;
     }
     for (uint32_t log2 = 0; log2 < 40; log2++) {
         struct bitm_samples other = made;
         other.log2 = log2;
-        wrong += any_samples(view, right, &other, kind);
+        any_samples(view, right, &other, kind);
     }
     struct bitm_samples fewer = made, no_starts = made, none = {NULL, 0, NULL, 0, UINT32_MAX};
     fewer.samples_len = made.samples_len / 2;
     no_starts.starts_len = 0;
-    wrong += any_samples(view, right, &fewer, kind) + any_samples(view, right, &no_starts, kind);
-    wrong += any_samples(view, right, &none, kind);
+    any_samples(view, right, &fewer, kind);
+    any_samples(view, right, &no_starts, kind);
+    any_samples(view, right, &none, kind);
     free_samples(made);
-    return wrong;
 }
 
 /* Spoilt samples of right tables and of wrong ones. */
@@ -149,14 +145,13 @@ static inline void spoilt_everything(size_t words_len)
 {
     size_t upper_len = bitm_upper_len(words_len), lower_len = bitm_lower_len(words_len);
     uint64_t *words = malloc(8 * words_len), *upper = malloc(8 * upper_len), *lower = malloc(8 * lower_len), ones;
-    unsigned wrong = 0;
     MUST(words && upper && lower);
     for (size_t i = 0; i < words_len; i++)
         words[i] = draw();
     MUST(bitm_build(words, words_len, upper, upper_len, lower, lower_len, &ones) == BITM_OK);
     struct bitm_view view = {words, words_len, upper, upper_len, lower, lower_len};
-    wrong += spoilt_samples(&view, 1, 1) + spoilt_samples(&view, 1, 0);
-    MUST(wrong > 0 || words_len < 64);
+    spoilt_samples(&view, 1, 1);
+    spoilt_samples(&view, 1, 0);
     for (int turn = 0; turn < 10; turn++) {
         for (size_t i = 0; i < lower_len; i++)
             lower[i] = turn == 0 ? 0 : turn == 1 ? UINT64_MAX : draw();

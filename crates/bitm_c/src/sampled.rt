@@ -2,9 +2,10 @@
 ghost use Rattle.std.specs.Prelude.{◌≡◌, ◌≢◌, ◌<◌, ◌≤◌, ◌↔◌, ℕ, length, min, slice_index, take, true, false};
 ghost use Rattle.bitm.specs.Density.{clamped_log};
 ghost use Rattle.bitm.specs.Tables.{HasSizes, HasTables, bits_in};
-ghost use Rattle.bitm_lent.specs.Samples.{AreSamples, HasRoom, SampledTold, enough_samples};
-ghost use Rattle.bitm_c.specs.Sampled.{SampledAnswered, lent_samples};
-ghost use Rattle.bitm_c.specs.Status.{view_lists};
+ghost use Rattle.bitm_lent.specs.Answers.{SelectTold};
+ghost use Rattle.bitm_lent.specs.Samples.{AreSamples, HasRoom, enough_samples};
+ghost use Rattle.bitm_c.specs.Sampled.{lent_samples};
+ghost use Rattle.bitm_c.specs.Status.{view_lists, SelectAnswered};
 
 use crate::answer::{BAD_SIZE, OK, tell_place};
 use crate::lists::done;
@@ -125,7 +126,7 @@ pub extern "C" fn bitm_sampled_select(
     rank: usize,
     out: &mut usize,
 ) -> u32
-    ensures { SampledAnswered true (view_lists view.now) samples.now rank result out.old out.new }
+    ensures { SelectAnswered true (view_lists view.now) rank result out.old out.new }
 {
     match view.lent() {
         Some(lent) => tell_place(lent.sampled_select::<1>(&samples.lent(), rank), out),
@@ -141,7 +142,7 @@ pub extern "C" fn bitm_sampled_select0(
     rank: usize,
     out: &mut usize,
 ) -> u32
-    ensures { SampledAnswered false (view_lists view.now) samples.now rank result out.old out.new }
+    ensures { SelectAnswered false (view_lists view.now) rank result out.old out.new }
 {
     match view.lent() {
         Some(lent) => tell_place(lent.sampled_select::<0>(&samples.lent(), rank), out),
@@ -161,7 +162,7 @@ pub extern "C" fn bitm_sampled_select_list(
         × (length out.old ≡ length queries.now) }
     ensures kept { result ≢ 0 → (result ≡ 2) × (out.new ≡ out.old) }
     ensures told { result ≡ 0 → (j : ℕ) → j < length queries.now
-        → SampledTold true (view_lists view.now) (lent_samples samples.now)
+        → SelectTold true (view_lists view.now)
         (slice_index queries.now j) (slice_index out.new j) }
 {
     match view.lent() {
@@ -182,7 +183,7 @@ pub extern "C" fn bitm_sampled_select0_list(
         × (length out.old ≡ length queries.now) }
     ensures kept { result ≢ 0 → (result ≡ 2) × (out.new ≡ out.old) }
     ensures told { result ≡ 0 → (j : ℕ) → j < length queries.now
-        → SampledTold false (view_lists view.now) (lent_samples samples.now)
+        → SelectTold false (view_lists view.now)
         (slice_index queries.now j) (slice_index out.new j) }
 {
     match view.lent() {

@@ -8,8 +8,7 @@ use Rattle.bit_lists.specs.Bits.{item}
 use Rattle.bit_lists.specs.Count.{count_before, count_of, Picks}
 use Rattle.bitm_search.specs.Answers.{HasBit}
 use Rattle.bitm_search.specs.Tables.{bits_in}
-use Rattle.bitm_search.specs.Told.{IfAbsent, TellsNone}
-use Rattle.bitm_search.specs.declared.search.selected.Selected.{Selected}
+use Rattle.bitm_search.specs.Told.{TellsNone}
 use Rattle.bitm_search.specs.declared.search.selected.Selected.TheVariants as Sel
 use Rattle.bitm_lent.specs.Cut.{Cut, TellsNoneOf}
 use Rattle.bitm_lent.specs.Ranks.{IsRanked}

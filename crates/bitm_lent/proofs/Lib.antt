@@ -2,8 +2,8 @@ pub mod BoundsLemmas
 pub mod ClearingLemmas
 pub mod CutLemmas
 pub mod FilledLemmas
+pub mod ListLemmas
 pub mod OnesFromLemmas
 pub mod RankedLemmas
 pub mod SampleCheckLemmas
 pub mod SamplingLemmas
-pub mod SelectedLemmas

@@ -1,15 +1,11 @@
--- Samples that are lent, and what selection by them answers.
-use Rattle.std.specs.Prelude.{◌≡◌, ◌≢◌, ⊤, ℕ, ◌-◌, ◌*◌, ◌^◌, ◌<◌, ◌≤◌, Bool, List, length, slice_index}
+-- Samples that are lent.
+use Rattle.std.specs.Prelude.{◌≡◌, ℕ, ◌-◌, ◌*◌, ◌^◌, ◌<◌, ◌≤◌, Bool, List, length, slice_index}
 use Rattle.std.specs.Int.{div_ceil}
-use Rattle.bit_lists.specs.Bits.{item}
-use Rattle.bit_lists.specs.Count.{count_before, count_of, Picks}
+use Rattle.bit_lists.specs.Count.{count_before}
 use Rattle.bitm.specs.Density.{clamped_log}
 use Rattle.bitm.specs.Samples.{samples_of, sample_starts_of}
-use Rattle.bitm_search.specs.Tables.{HasTables, Lists, bits_in}
-use Rattle.bitm_search.specs.Told.{TellsNone}
+use Rattle.bitm_search.specs.Tables.{Lists}
 use Rattle.bitm_lent.specs.declared.samples.LentSamples.{LentSamples}
-use Rattle.bitm_search.specs.declared.search.selected.Selected.{Selected}
-use Rattle.bitm_search.specs.declared.search.selected.Selected.TheVariants.{Found, Absent, WrongTables}
 
 -- the two lists are the samples of the items v of the bits b at logarithm d, and how many there are before each part
 pub record AreSamples (b : List Bool) (v : Bool) (d : ℕ) (samples starts : List ℕ) : Type 0 where
@@ -37,20 +33,3 @@ pub record HasRoom (lists : Lists) (log : ℕ) (samples starts : List ℕ) : Typ
 pub record IsBounded (c : List Bool) (v : Bool) (r entries low end : ℕ) : Type 0 where
   pub at_most : count_before c v (2048 * low) ≤ r
   pub above : end < entries → r < count_before c v (2048 * end)
-
--- the place with bit v and r such bits before it, Absent exactly where there are no more than r of
--- them; or nothing is told
-abbrev pub IsSelectedIfTold : List Bool → Bool → ℕ → Selected → Type 0
-IsSelectedIfTold b v r (Found p) = Picks b v r p
-IsSelectedIfTold b v r Absent = count_of b v ≤ r
-IsSelectedIfTold b v r WrongTables = ⊤
-
--- n tells the place with bit v and r such bits before it. Whatever is lent, below 2^64 - 2 it is a place with bit v,
--- and it is 2^64 - 1 only where tables and words tell no more than r of them. Where the tables are right the place is
--- the right one, it is 2^64 - 1 only where there is none, and 2^64 - 2 only where the samples are wrong
-pub record SampledTold (v : Bool) (lists : Lists) (lent : LentSamples) (r n : ℕ) : Type 0 where
-  pub bit : n < 2 ^ 64 - 2 → (n < length (bits_in lists)) × (item (bits_in lists) n ≡ v)
-  pub place : HasTables lists → n < 2 ^ 64 - 2 → Picks (bits_in lists) v r n
-  pub none : n ≡ 2 ^ 64 - 1 → TellsNone v lists r
-  pub absent : HasTables lists → n ≡ 2 ^ 64 - 1 → count_of (bits_in lists) v ≤ r
-  pub told : HasTables lists → AreSamplesOf (bits_in lists) v lent → n ≢ 2 ^ 64 - 2

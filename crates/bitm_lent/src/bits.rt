@@ -7,7 +7,6 @@ ghost use Rattle.bitm_search.specs.Answers.{HasBit, IsSelected};
 ghost use Rattle.bitm_search.specs.Told.{IfAbsent, TellsNone};
 ghost use Rattle.bitm_lent.specs.Cut.{bits_of_cut, cut_at, Cut, IsWithin, TellsNoneOf};
 ghost use Rattle.bitm_lent.specs.Ranks.{IsCountWithin, IsRanked};
-ghost use Rattle.bitm_lent.specs.Samples.{IsSelectedIfTold};
 
 use crate::lent::Lent;
 use crate::places::bits_from;
@@ -24,8 +23,6 @@ fn cut(selected: Selected, len: usize) -> Selected
         → HasBit (take len b) v result }
     ensures answer { (b : List Bool) (v : Bool) (r : ℕ) → len ≤ length b
         → IsSelected b v r selected → IsSelected (take len b) v r result }
-    ensures told { (b : List Bool) (v : Bool) (r : ℕ) → len ≤ length b
-        → IsSelectedIfTold b v r selected → IsSelectedIfTold (take len b) v r result }
     ensures none { (v : Bool) (c : Cut) (r : ℕ) → c.len ≡ len → HasBit (bits_in c.lists) v selected
         → IfAbsent selected (TellsNone v c.lists r) → IfAbsent result (TellsNoneOf v c r) }
 {

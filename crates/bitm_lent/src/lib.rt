@@ -9,12 +9,12 @@
 //! let (mut upper, mut lower) = ([0], [0; 2]);         // upper_len(40) and lower_len(40) entries
 //! let ones = build(&words, &mut upper, &mut lower);   // Some(..) of 40 words
 //! let Some(lent) = Lent::over(&words, &upper, &lower) else { return };
-//! lent.select(17);                                    // Found(place), Absent or WrongTables
+//! lent.select::<1>(17);                               // Found(place), Absent or WrongTables
 //!
 //! let (mut numbers, mut starts) = ([0; 20], [0]);     // samples_len(40, 7) and upper_len(40) numbers
-//! let Some(used) = lent.build_samples(7, &mut numbers, &mut starts) else { return };
+//! let Some(used) = lent.build_samples::<1>(7, &mut numbers, &mut starts) else { return };
 //! let samples = LentSamples { samples: &numbers[..used], starts: &starts, log2: 7 };
-//! lent.sampled_select(&samples, 17);                  // the same answers, by fewer reads
+//! lent.sampled_select::<1>(&samples, 17);             // the same answers, by fewer reads
 //! ```
 #![tactic(auto)]
 
@@ -28,7 +28,6 @@ mod places;
 mod ranked;
 mod sample_checks;
 mod sampled;
-mod sampled_lists;
 mod sampled_many;
 mod samples;
 mod sampling;

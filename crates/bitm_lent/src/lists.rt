@@ -1,14 +1,16 @@
 //! Answers to lists of queries.
 ghost use Rattle.std.specs.Prelude.{◌≡◌, ◌<◌, ◌↔◌, ℕ, IsTrue, length, slice_index, false};
 ghost use Rattle.bit_lists.specs.Count.{as_bit};
-ghost use Rattle.bitm_search.specs.Answers.{SelectTold};
+ghost use Rattle.bitm_search.specs.Answers.{SelectTold, ToldEach};
+ghost use Rattle.bitm_search.specs.Tables.{HasSizes};
 ghost use Rattle.bitm_lent.specs.Ranks.{RankTold};
 
 use crate::lent::Lent;
 use crate::ranked::Ranked;
-use bitm_search::search::many::total_select_many_on;
-use bitm_search::search::selected::{NO_ANSWER, WRONG_TABLES, told};
-use bitm_search::source::Probe;
+use crate::samples::LentSamples;
+use bitm_search::search::many::{ByTables, FindsEntries, tell_many_on};
+use bitm_search::search::selected::{NO_ANSWER, WRONG_TABLES};
+use bitm_search::source::{Probe, TableSource};
 
 /// The rank of one place, `NO_ANSWER` or `WRONG_TABLES`; of zeros where `BIT` is 0.
 #[inline(always)]
@@ -20,14 +22,6 @@ fn rank_or_code<const BIT: u8>(lent: &Lent<'_>, place: usize) -> usize
         Ranked::Absent => NO_ANSWER,
         Ranked::WrongTables => WRONG_TABLES,
     }
-}
-
-/// The place with one rank, `NO_ANSWER` or `WRONG_TABLES`; of a zero where `BIT` is 0.
-#[inline(always)]
-fn place_or_code<const BIT: u8>(lent: &Lent<'_>, rank: usize) -> usize
-    ensures { SelectTold (as_bit BIT) lent.now rank result }
-{
-    told(lent.select::<BIT>(rank))
 }
 
 /// Writes the rank of each place.
@@ -43,18 +37,22 @@ fn rank_each<const BIT: u8>(lent: &Lent<'_>, places: &[usize], out: &mut [usize]
 }
 
 /// Writes the place with each rank, by searches side by side where there is a word.
-fn select_each<const BIT: u8>(lent: &Lent<'_>, ranks: &[usize], out: &mut [usize])
-    requires { length out.old ≡ length ranks.now }
-    ensures len { length out.new ≡ length ranks.now }
-    ensures told { (j : ℕ) → j < length ranks.now → SelectTold (as_bit BIT) lent.now
-        (slice_index ranks.now j) (slice_index out.new j) }
+fn select_each<const BIT: u8, T: TableSource, F: FindsEntries<BIT, T>>(
+    source: &mut T,
+    finder: &F,
+    ranks: &[usize],
+    out: &mut [usize],
+)
+    requires sized { HasSizes (T.lists source.old) }
+    requires same_length { length out.old ≡ length ranks.now }
+    ensures told { ToldEach (as_bit BIT) (T.lists source.old) ranks.now out.new }
 {
-    if !lent.words().is_empty() {
-        total_select_many_on::<BIT, Probe<'_>>(&mut lent.probe(), ranks, out);
+    if source.upper_len() > 0 {
+        tell_many_on::<BIT, T, F>(source, finder, ranks, out);
         return;
     }
     for at in 0..ranks.len() {
-        out[at] = place_or_code::<BIT>(lent, ranks[at]);
+        out[at] = NO_ANSWER;
     }
 }
 
@@ -87,7 +85,27 @@ impl<'a> Lent<'a> {
         if out.len() != ranks.len() {
             return false;
         }
-        select_each::<BIT>(self, ranks, out);
+        select_each::<BIT, Probe<'_>, ByTables>(&mut self.probe(), &ByTables, ranks, out);
+        true
+    }
+
+    /// What `select_list` writes, by samples; these make it no other answer where the tables are those of the words,
+    /// whatever they hold.
+    pub fn sampled_select_list<const BIT: u8>(
+        &self,
+        samples: &LentSamples<'_>,
+        ranks: &[usize],
+        out: &mut [usize],
+    ) -> bool
+        ensures room { IsTrue result ↔ length out.old ≡ length ranks.now }
+        ensures told { IsTrue result → (j : ℕ) → j < length ranks.now → SelectTold (as_bit BIT)
+            self.now (slice_index ranks.now j) (slice_index out.new j) }
+        ensures kept { result ≡ false → out.new ≡ out.old }
+    {
+        if out.len() != ranks.len() {
+            return false;
+        }
+        select_each::<BIT, Probe<'_>, LentSamples<'_>>(&mut self.probe(), samples, ranks, out);
         true
     }
 }

@@ -1,24 +1,25 @@
 //! Selection that starts at samples, over a source with any tables and samples: the samples say between which entries
-//! of a part the rank is, two entries are asked whether that is so, and a search by halves finds the entry.
+//! of a part the rank is, two entries are asked whether that is so, and a search by halves finds the entry. Where it is
+//! not so, the search goes without samples, so that these make no answer another.
 ghost use Rattle.std.specs.Prelude.{◌≡◌, ℕ, ◌+◌, ◌-◌, ◌*◌, ◌%◌, ◌^◌, ◌<◌, ◌≤◌, ◌↔◌, Bool, List, length, slice_index, IfSome, IsSome, IsSomeAnd, IsTrue, MatchOption};
 ghost use Rattle.std.specs.Int.{div_ceil};
 ghost use Rattle.bit_lists.specs.Bits.{digit_count};
-ghost use Rattle.bit_lists.specs.Count.{ones_before, as_bit};
+ghost use Rattle.bit_lists.specs.Count.{as_bit};
 ghost use Rattle.bitm.specs.Density.{clamped_log};
 ghost use Rattle.bitm_search.specs.Entry.{before_in_part, lower_entry};
 ghost use Rattle.bitm_search.specs.Reads.{OnlyReads, ReadsAtMost};
 ghost use Rattle.bitm.specs.Samples.{part_of, parts, sample_count_before};
-ghost use Rattle.bitm_search.specs.Search.{entries_from, entry_in, sought_in, IsLastEntry, IsLastPart};
+ghost use Rattle.bitm_search.specs.Search.{entries_from, entry_in, sought_in, IsLastEntry};
 ghost use Rattle.bitm_search.specs.Tables.{HasSizes, HasTables, bits_in};
 ghost use Rattle.bitm_search.specs.Answers.{HasBit, IsSelected};
-ghost use Rattle.bitm_search.specs.Told.{told_entry, IfAbsent, IsLeftOf, TellsNone};
-ghost use Rattle.bitm_lent.specs.Samples.{AreSamplesOf, IsBounded, IsSelectedIfTold};
+ghost use Rattle.bitm_search.specs.Told.{told_entry, IfAbsent, TellsNone};
+ghost use Rattle.bitm_lent.specs.Samples.{AreSamplesOf, IsBounded};
 
 use crate::samples::{LentSamples, clamped_log};
 use bitm::samples::first_entry;
 use bitm_search::entry::{entries_of_part, ones_to_entry};
 use bitm_search::levels::L2_ENTRIES_PER_L1_ENTRY;
-use bitm_search::search::entries::{EntryRange, last_in_range, sought_entry};
+use bitm_search::search::entries::{EntryRange, last_entry, last_in_range, sought_entry};
 use bitm_search::search::record::{NOT_READ, in_packed};
 use bitm_search::search::selected::Selected;
 use bitm_search::search::selecting::part_of_rank;
@@ -200,7 +201,7 @@ fn entry_between<const BIT: u8, T: TableSource>(
 /// The last entry of a part with no more than `rank` of the kind before it in the part, where the tables are those of
 /// the words, and what it packs; `None` only where it is not where the samples say.
 #[inline(always)]
-pub(crate) fn sampled_entry<const BIT: u8, T: TableSource>(
+fn sampled_entry<const BIT: u8, T: TableSource>(
     source: &mut T,
     lent: &LentSamples<'_>,
     part: usize,
@@ -230,59 +231,47 @@ pub(crate) fn sampled_entry<const BIT: u8, T: TableSource>(
     entry_between::<BIT, T>(source, part, bounds, rank)
 }
 
-/// Selection in a part by samples: the last entry with no more than `rank` of the kind before it in the part, and the
-/// bit in it.
+/// The last entry of a part with no more than `rank` of the kind before it in the part, where the tables are those of
+/// the words, and what it packs; else some entry of the part. Where the samples do not lead to it, it is sought without
+/// them.
 #[inline(always)]
-fn sampled_in_part<const BIT: u8, T: TableSource>(
+pub(crate) fn entry_by_samples<const BIT: u8, T: TableSource>(
     source: &mut T,
     lent: &LentSamples<'_>,
     part: usize,
     rank: usize,
-) -> Selected
+) -> (usize, u64)
     requires sized { HasSizes (T.lists source.old) }
     requires inside { part < length (T.lists source.old).upper }
-    requires part { HasTables (T.lists source.old) →
-        let m = sought_in BIT (T.lists source.old).words in
-        IsLastPart m (length (T.lists source.old).upper)
-        (ones_before m (part * 2 ^ 32) + rank) part }
-    ensures bit { HasBit (bits_in (T.lists source.old)) (as_bit BIT) result }
-    ensures told { HasTables (T.lists source.old) →
-        let m = sought_in BIT (T.lists source.old).words in
-        IsSelectedIfTold (bits_in (T.lists source.old)) (as_bit BIT)
-        (ones_before m (part * 2 ^ 32) + rank) result }
-    ensures answer { HasTables (T.lists source.old)
-        → AreSamplesOf (bits_in (T.lists source.old)) (as_bit BIT) lent.now →
-        let m = sought_in BIT (T.lists source.old).words in
-        IsSelected (bits_in (T.lists source.old)) (as_bit BIT)
-        (ones_before m (part * 2 ^ 32) + rank) result }
-    ensures none { (all : ℕ) → all < 2 ^ 64
-        → IsLeftOf (as_bit BIT) (T.lists source.old) all part rank
-        → IfAbsent result (TellsNone (as_bit BIT) (T.lists source.old) all) }
-    ensures reads { ReadsAtMost (T.reads source.old) (T.reads source.new) 0 23 8 }
+    ensures inside { result.0 < entries_from (length (T.lists source.old).lower) part }
+    ensures last { HasTables (T.lists source.old)
+        → IsLastEntry (sought_in BIT (T.lists source.old).words)
+        (length (T.lists source.old).lower) part rank result.0 }
+    ensures entry { HasTables (T.lists source.old) → result.1
+        ≡ lower_entry (sought_in BIT (T.lists source.old).words) (entry_in part result.0) }
+    ensures told { result.1
+        ≡ told_entry (as_bit BIT) (T.lists source.old) (entry_in part result.0) }
+    ensures reads { ReadsAtMost (T.reads source.old) (T.reads source.new) 0 46 0 }
+    ensures reads_by_samples { HasTables (T.lists source.old)
+        → AreSamplesOf (bits_in (T.lists source.old)) (as_bit BIT) lent.now
+        → ReadsAtMost (T.reads source.old) (T.reads source.new) 0 23 0 }
     ensures same { T.lists source.new ≡ T.lists source.old }
 {
     match sampled_entry::<BIT, T>(source, lent, part, rank) {
-        Some((entry, packed)) => {
-            in_packed::<BIT, 1, T>(source, part, entry, packed, NOT_READ, rank)
-        }
-        None => Selected::WrongTables,
+        Some(found) => found,
+        None => last_entry::<BIT, T>(source, part, rank),
     }
 }
 
-/// The place of the one of the source's words with exactly `rank` ones before it, by samples of their ones; of zeros
-/// where `BIT` is 0.
-///
-/// Whatever the tables and the samples hold, a place that is found is inside and has such a bit. Where the tables are
-/// those of the words it is the right one, `Absent` is answered only where there is none, and `WrongTables` only where
-/// the samples are not those of the words.
+/// What `total_select_on` answers, by samples of the ones; of the zeros where `BIT` is 0. Samples make it no other
+/// answer, whatever they hold: a rank that they do not lead to is sought without them.
 ///
 /// # Conditions
-/// There are fewer than 2^58 words, and the tables have the right lengths. They may hold anything, and
-/// nothing of the samples.
+/// Those of `total_select_on`. Nothing is asked of the samples.
 /// # Cost
-/// At most as many upper entries as their number has binary digits and one more, 23 lower entries and eight words are
-/// read, whatever the tables and samples hold; and four numbers of the samples. Where these are those of the words, two
-/// lower entries and one for each halving from the sample to the next.
+/// At most as many upper entries as their number has binary digits and one more, 46 lower entries and eight words are
+/// read, whatever the tables and samples hold; and four numbers of the samples. Where these are those of the words, 23
+/// lower entries: two, and one for each halving from the sample to the next.
 pub fn sampled_select_on<const BIT: u8, T: TableSource>(
     source: &mut T,
     lent: &LentSamples<'_>,
@@ -290,13 +279,14 @@ pub fn sampled_select_on<const BIT: u8, T: TableSource>(
 ) -> Selected
     requires { HasSizes (T.lists source.old) }
     ensures bit { HasBit (bits_in (T.lists source.old)) (as_bit BIT) result }
-    ensures told { HasTables (T.lists source.old)
-        → IsSelectedIfTold (bits_in (T.lists source.old)) (as_bit BIT) rank result }
     ensures answer { HasTables (T.lists source.old)
-        → AreSamplesOf (bits_in (T.lists source.old)) (as_bit BIT) lent.now
         → IsSelected (bits_in (T.lists source.old)) (as_bit BIT) rank result }
     ensures none { IfAbsent result (TellsNone (as_bit BIT) (T.lists source.old) rank) }
     ensures reads { OnlyReads T.lists T.reads source.old source.new
+        (digit_count (length (T.lists source.old).upper) + 1) 46 8 }
+    ensures reads_by_samples { HasTables (T.lists source.old)
+        → AreSamplesOf (bits_in (T.lists source.old)) (as_bit BIT) lent.now
+        → ReadsAtMost (T.reads source.old) (T.reads source.new)
         (digit_count (length (T.lists source.old).upper) + 1) 23 8 }
 {
     if source.upper_len() == 0 {
@@ -306,5 +296,6 @@ pub fn sampled_select_on<const BIT: u8, T: TableSource>(
     if in_part > rank {
         return Selected::WrongTables;
     }
-    sampled_in_part::<BIT, T>(source, lent, part, in_part)
+    let (entry, packed) = entry_by_samples::<BIT, T>(source, lent, part, in_part);
+    in_packed::<BIT, 1, T>(source, part, entry, packed, NOT_READ, in_part)
 }

@@ -5,41 +5,15 @@ ghost use Rattle.bit_lists.specs.Count.{as_bit};
 ghost use Rattle.bitm_search.specs.Answers.{ToldEach};
 ghost use Rattle.bitm_search.specs.Many.{IsSearch};
 ghost use Rattle.bitm_search.specs.Reads.{OnlyReads, ReadsAtMost};
-ghost use Rattle.bitm_search.specs.Search.{entries_from, sought_in, IsLastEntry};
-ghost use Rattle.bitm_search.specs.Tables.{HasSizes, HasTables};
+ghost use Rattle.bitm_search.specs.Tables.{HasSizes};
 
-use crate::sampled::sampled_entry;
+use crate::sampled::entry_by_samples;
 use crate::samples::LentSamples;
 use bitm_search::levels::L2_ENTRIES_PER_L1_ENTRY;
-use bitm_search::search::entries::last_entry;
 use bitm_search::search::many::{FindsEntries, tell_many_on};
 use bitm_search::search::query::Query;
 use bitm_search::search::selecting::part_of_rank;
 use bitm_search::source::TableSource;
-
-/// The last entry of a part with no more than `rank` of the kind before it in the part, where the tables are those of
-/// the words; else some entry of the part. Where the samples do not lead to it, it is sought without them.
-#[inline(always)]
-fn entry_of<const BIT: u8, T: TableSource>(
-    source: &mut T,
-    lent: &LentSamples<'_>,
-    part: usize,
-    rank: usize,
-) -> usize
-    requires sized { HasSizes (T.lists source.old) }
-    requires inside { part < length (T.lists source.old).upper }
-    ensures inside { result < entries_from (length (T.lists source.old).lower) part }
-    ensures last { HasTables (T.lists source.old)
-        → IsLastEntry (sought_in BIT (T.lists source.old).words)
-        (length (T.lists source.old).lower) part rank result }
-    ensures reads { ReadsAtMost (T.reads source.old) (T.reads source.new) 0 46 0 }
-    ensures same { T.lists source.new ≡ T.lists source.old }
-{
-    match sampled_entry::<BIT, T>(source, lent, part, rank) {
-        Some((entry, _)) => entry,
-        None => last_entry::<BIT, T>(source, part, rank).0,
-    }
-}
 
 /// The query of a rank, whose entry is found, where the tables are those of the words; else with some entry.
 #[inline(always)]
@@ -56,7 +30,8 @@ fn begin<const BIT: u8, T: TableSource>(
     ensures same { T.lists source.new ≡ T.lists source.old }
 {
     let (part, rest) = part_of_rank::<BIT, T>(source, rank);
-    let entry = part * L2_ENTRIES_PER_L1_ENTRY + entry_of::<BIT, T>(source, lent, part, rest);
+    let (in_part, _) = entry_by_samples::<BIT, T>(source, lent, part, rest);
+    let entry = part * L2_ENTRIES_PER_L1_ENTRY + in_part;
     Query { rest, entry }
 }
 

@@ -1,5 +1,4 @@
-//! Samples that lie beside right tables and may be stale: made into memory of one's own, asked, and passed over where
-//! they are of other words.
+//! Samples that lie beside right tables and may be stale: made into memory of one's own, and asked.
 ghost use Rattle.std.specs.Prelude.{◌≡◌, true};
 ghost use Rattle.bitm.specs.Count.{IsSelect};
 ghost use Rattle.bitm.specs.Tables.{HasTables, bits_in};
@@ -8,18 +7,12 @@ ghost use Rattle.bitm_lent.specs.Samples.{HasRoom};
 
 use bitm_lent::{Lent, LentSamples, Selected};
 
-/// The place of the one with `rank` ones before it, by samples of whatever words, and without them where they say
-/// nothing.
+/// The place of the one with `rank` ones before it, by samples of whatever words: they make it no other place.
 pub fn select(lent: &Lent<'_>, samples: &LentSamples<'_>, rank: usize) -> Option<usize>
     requires { HasTables lent.now }
     ensures { IsSelect (bits_in lent.now) true rank result }
 {
-    let by_samples = lent.sampled_select::<1>(samples, rank);
-    let selected = match by_samples {
-        Selected::WrongTables => lent.select::<1>(rank),
-        told => told,
-    };
-    match selected {
+    match lent.sampled_select::<1>(samples, rank) {
         Selected::Found(place) => Some(place),
         Selected::Absent => None,
         // No right tables are called wrong.

@@ -2,10 +2,10 @@
 ghost use Rattle.std.specs.Prelude.{◌≡◌, ◌<◌, ◌≤◌, ℕ, length, slice_index, take, IfSome, IsNone, MatchOption};
 ghost use Rattle.bit_lists.specs.Count.{as_bit};
 ghost use Rattle.bitm.specs.Density.{clamped_log};
-ghost use Rattle.bitm_search.specs.Tables.{HasSizes, HasTables, bits_in};
+ghost use Rattle.bitm_search.specs.Tables.{HasTables, bits_in};
 ghost use Rattle.bitm_search.specs.Told.{IfAbsent, TellsNone};
 ghost use Rattle.bitm_search.specs.Answers.{HasBit, IsSelected};
-ghost use Rattle.bitm_lent.specs.Samples.{AreSamples, AreSamplesOf, HasRoom, IsSelectedIfTold};
+ghost use Rattle.bitm_lent.specs.Samples.{AreSamples, HasRoom};
 
 use crate::lent::Lent;
 use crate::sampled::sampled_select_on;
@@ -60,28 +60,20 @@ impl<'a> Lent<'a> {
         Some(fill_all::<BIT>(&summary, log2, samples, starts))
     }
 
-    /// The place of the one with exactly `rank` ones before it, by samples of the ones; of zeros where `BIT` is 0.
-    ///
-    /// Whatever the tables and samples hold, a place that is found is inside and has such a bit. Where the tables are
-    /// those of the words it is the right one, `Absent` is answered only where there is none, and `WrongTables` only
-    /// where the samples are not those of the words.
+    /// What `select` answers, by samples of the ones; of the zeros where `BIT` is 0. Samples make it no other answer,
+    /// whatever they hold.
     ///
     /// # Cost
-    /// At most as many upper entries as their number has binary digits and one more, 23 lower entries and eight words
+    /// At most as many upper entries as their number has binary digits and one more, 46 lower entries and eight words
     /// are read, whatever the tables and samples hold. Where these are those of the words, the lower entries are two
-    /// and one for each halving from the rank's sample to the next.
+    /// and one for each halving from the rank's sample to the next: 23 at most.
     #[inline(always)]
     pub fn sampled_select<const BIT: u8>(&self, samples: &LentSamples<'_>, rank: usize) -> Selected
-        ensures sized { HasSizes self.now }
         ensures bit { HasBit (bits_in self.now) (as_bit BIT) result }
-        ensures told { HasTables self.now
-            → IsSelectedIfTold (bits_in self.now) (as_bit BIT) rank result }
         ensures answer { HasTables self.now
-            → AreSamplesOf (bits_in self.now) (as_bit BIT) samples.now
             → IsSelected (bits_in self.now) (as_bit BIT) rank result }
         ensures none { IfAbsent result (TellsNone (as_bit BIT) self.now rank) }
     {
-        let source = &mut Probe::new(self.words, self.upper, self.lower);
-        sampled_select_on::<BIT, Probe<'_>>(source, samples, rank)
+        sampled_select_on::<BIT, Probe<'_>>(&mut self.probe(), samples, rank)
     }
 }

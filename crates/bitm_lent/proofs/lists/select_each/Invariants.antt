@@ -5,4 +5,6 @@ use Rattle.bitm_lent.proofs.lists.select_each.Given as goal
 
 -- the answers so far
 abbrev pub invariant-loop-at : goal.invariant-loop-at
-invariant-loop-at g l = (j : ℕ) → j < l.at → SelectTold (as_bit g.row.BIT) l.lent (slice_index l.ranks j) (slice_index l.out j)
+invariant-loop-at g l =
+    (j : ℕ) → j < l.at
+    → SelectTold (as_bit g.row.BIT) (g.T.TableSource.lists l.fn.source) (slice_index l.ranks j) (slice_index l.out j)

@@ -2,7 +2,7 @@
 use Rattle.std.proofs.Common.{length, sym, subst}
 use Rattle.bitm_search.specs.Search.{sought_in, IsLastEntry}
 use Rattle.bitm_search.specs.Tables.{HasTables, Lists}
-use Rattle.bitm_lent.proofs.sampled_many.entry_of.Goals as goal
+use Rattle.bitm_lent.proofs.sampled.entry_by_samples.Goals as goal
 
 pub returns-in-None-clause-last : goal.returns-in-None-clause-last
 returns-in-None-clause-last g c = λ t.
