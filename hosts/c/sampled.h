@@ -92,7 +92,6 @@ static inline void any_samples(const struct bitm_view *view, int right, const st
                                    uint64_t kind)
 {
     uint64_t bits = (uint64_t)view->words_len * 64, ranks[100], told[100];
-    unsigned wrong = 0;
     for (unsigned i = 0; i < 100; i++)
         ranks[i] = i == 0 ? UINT64_MAX : draw() % (bits + 2);
     MUST((kind ? bitm_sampled_select_list : bitm_sampled_select0_list)(view, made, ranks, 100, told, 100) == BITM_OK);

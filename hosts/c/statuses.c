@@ -132,7 +132,7 @@ static void none_of_right_tables(const struct bitm_view *view, uint64_t ones)
     const uint32_t stale[] = {2};
     const uint64_t start[] = {0};
     const struct bitm_samples by = {stale, 1, start, 1, 7};
-    uint64_t got, want;
+    uint64_t want;
     MUST(bitm_sampled_select(view, &by, 0, &got) == BITM_OK && bitm_select(view, 0, &want) == BITM_OK && got == want);
     MUST(bitm_sampled_select0(view, &by, 0, &got) == BITM_OK && bitm_select0(view, 0, &want) == BITM_OK && got == want);
     LEAVES(BITM_BAD_SIZE, bitm_sampled_select_list(view, &by, queries, LIST, written.list, LIST + 1));

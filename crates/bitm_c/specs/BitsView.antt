@@ -1,10 +1,11 @@
 -- What the exported calls answer of the first bits of words: a status, and a number written where the caller says.
-use Rattle.std.specs.Prelude.{◌≡◌, ◌≢◌, ℕ, ◌+◌, ◌-◌, ◌<◌, ◌≤◌, ◌⊎◌, Bool, List, length, min, slice_index}
-use Rattle.bitm.specs.Bits.{item}
+use Rattle.std.specs.Prelude.{◌≡◌, ℕ, ◌+◌, ◌-◌, ◌<◌, ◌≤◌, Bool, List, length, min, slice_index}
 use Rattle.bitm.specs.Count.{count_before, count_of, Picks}
-use Rattle.bitm.specs.Tables.{HasSizes, HasTables}
-use Rattle.bitm_lent.specs.Cut.{Cut, bits_of_cut, cut_at, IsWithin, TellsNoneOf}
-use Rattle.bitm_c.specs.Status.{view_lists}
+use Rattle.bitm.specs.Tables.{HasSizes}
+use Rattle.bitm_lent.specs.Cut.{Cut, cut_at, IsWithin}
+use Rattle.bitm_lent.specs.Queries.{RanksIn, SelectsIn}
+use Rattle.bitm_c.specs.Rank.{counted}
+use Rattle.bitm_c.specs.Status.{selected, view_lists, Exported}
 use Rattle.bitm_c.specs.declared.bits_view.BitsView.{BitsView}
 
 -- the words and tables that a view lends, and how many bits are the content
@@ -16,25 +17,13 @@ pub record IsSizedCut (c : Cut) : Type 0 where
   pub sizes : HasSizes c.lists
   pub within : IsWithin c
 
--- of a rank of the first index bits, of kind v: the status, and the number before and after the call
-pub record BitsRankAnswered (v : Bool) (c : Cut) (index status old new : ℕ) : Type 0 where
-  pub kept : status ≢ 0 → new ≡ old
-  pub bad : ¬ (IsSizedCut c) → status ≡ 2
-  pub outside : IsSizedCut c → c.len < index → status ≡ 1
-  pub inside : IsSizedCut c → index ≤ c.len → (status ≡ 0) ⊎ (status ≡ 3)
-  pub most : status ≡ 0 → (index ≤ c.len) × (new ≤ index)
-  pub right : IsSizedCut c → HasTables c.lists → index ≤ c.len → (status ≡ 0) × (new ≡ count_before (bits_of_cut c) v index)
+-- a rank of the first index bits, of kind v
+abbrev pub BitsRankAnswered : Bool → Cut → ℕ → ℕ → ℕ → ℕ → Type 0
+BitsRankAnswered v c index = Exported counted (IsSizedCut c) (RanksIn v c index)
 
--- of a selection of the bit v by rank: the status, and the number before and after the call
-pub record BitsSelectAnswered (v : Bool) (c : Cut) (rank status old new : ℕ) : Type 0 where
-  pub kept : status ≢ 0 → new ≡ old
-  pub bad : ¬ (IsSizedCut c) → status ≡ 2
-  pub good : IsSizedCut c → (status ≡ 0) ⊎ (status ≡ 1) ⊎ (status ≡ 3)
-  pub bit : status ≡ 0 → (new < length (bits_of_cut c)) × (item (bits_of_cut c) new ≡ v)
-  pub absent : status ≡ 1 → TellsNoneOf v c rank
-  pub right : IsSizedCut c → HasTables c.lists → rank < count_of (bits_of_cut c) v
-      → (status ≡ 0) × Picks (bits_of_cut c) v rank new
-  pub none : IsSizedCut c → HasTables c.lists → count_of (bits_of_cut c) v ≤ rank → status ≡ 1
+-- a selection of the bit v by rank
+abbrev pub BitsSelectAnswered : Bool → Cut → ℕ → ℕ → ℕ → ℕ → Type 0
+BitsSelectAnswered v c rank = Exported selected (IsSizedCut c) (SelectsIn v c rank)
 
 -- of the places of the bits v from a place on: the list before and after the call, and how many were written, as many
 -- as there is room for; the rest stays

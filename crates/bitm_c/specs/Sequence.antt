@@ -1,17 +1,17 @@
 -- What the exported calls on sequences answer: a status, and a number written where the caller says.
-use Rattle.std.specs.Prelude.{◌≡◌, ◌≢◌, ℕ, ◌<◌, ◌≤◌, ◌⊎◌, List, length, slice_index}
-use Rattle.std.specs.List.{All}
+use Rattle.std.specs.Prelude.{◌≡◌, ℕ, List, if◌then◌else◌, nat_eq}
 use Rattle.bitm.specs.Tables.{HasSizes}
 use Rattle.bitm_lent.specs.Sizes.{lists_of}
-use Rattle.elias_fano.specs.Sequence.{Reaches}
 use Rattle.elias_fano_lent.specs.LentParts.{parts_of, HasLengths, LentParts, Holds}
 use Rattle.elias_fano_lent.specs.Lists.{written_count}
-use Rattle.elias_fano_lent.specs.Told.{TellsLess}
+use Rattle.elias_fano_lent.specs.Answers.{IsFirst, IsItem, IsOfPlace, IsPlaceOf}
+use Rattle.elias_fano_lent.specs.Told.{IfPlace, TellsLess}
 use Rattle.elias_fano.specs.declared.answer.Sought.{Sought}
 use Rattle.elias_fano.specs.declared.answer.Sought.TheVariants.{Found, Absent, WrongParts}
 use Rattle.elias_fano_lent.specs.declared.lists.ListAnswer.{ListAnswer}
 use Rattle.elias_fano_lent.specs.declared.lists.ListAnswer.TheVariants.{WrongLength}
 use Rattle.elias_fano_lent.specs.declared.sizes.Sizes.{Sizes}
+use Rattle.bitm_c.specs.Status.{Exported}
 use Rattle.bitm_c.specs.declared.sequence.SequenceLens.{SequenceLens}
 use Rattle.bitm_c.specs.declared.sequence.SequenceView.{SequenceView}
 
@@ -31,34 +31,29 @@ pub record IsSized (view : SequenceView) : Type 0 where
   pub tables : HasSizes (view_parts view).upper
   pub lengths : HasLengths (view_parts view)
 
--- what was sought, as a status, and the number before and after
-abbrev pub IsSoughtTold : {T : Type 0} → Sought T → ℕ → T → T → Type 0
-IsSoughtTold (Found x) status old new = (status ≡ 0) × (new ≡ x)
-IsSoughtTold Absent status old new = (status ≡ 1) × (new ≡ old)
-IsSoughtTold WrongParts status old new = (status ≡ 3) × (new ≡ old)
+-- the answer of what was sought
+abbrev pub sought : {T : Type 0} → ℕ → T → Sought T
+sought status n = if nat_eq status 0 then Found n else if nat_eq status 1 then Absent else WrongParts
 
 -- how far a list of n places was answered, as a status, and the number before and after
 abbrev pub IsListTold : ListAnswer → ℕ → ℕ → ℕ → ℕ → Type 0
 IsListTold WrongLength n status old new = (status ≡ 2) × (new ≡ old)
 IsListTold l n status old new = (status ≡ 0) × (new ≡ written_count n l)
 
--- of number index: the status, and the number before and after the call
-pub record ItemAnswered (view : SequenceView) (index status old new : ℕ) : Type 0 where
-  pub kept : status ≢ 0 → new ≡ old
-  pub bad : ¬ (IsSized view) → status ≡ 2
-  pub outside : IsSized view → view.len ≤ index → status ≡ 1
-  pub inside : IsSized view → index < view.len → (status ≡ 0) ⊎ (status ≡ 3)
-  pub right : IsSized view → (xs : List ℕ) → Holds xs (view_parts view) → index < length xs → (status ≡ 0) × (new ≡ slice_index xs index)
+-- number index of the parts
+pub record IsNumber (index : ℕ) (parts : LentParts) (answer : Sought ℕ) : Type 0 where
+  pub inside : IsOfPlace parts.len index answer
+  pub counts : (xs : List ℕ) → Holds xs parts → IsItem xs index answer
 
--- of the first number that is at least value: the status, and the place before and after the call; whatever the parts
--- hold, they tell that all before the place are less, or all where there is none
-pub record PlaceAnswered (view : SequenceView) (value status old new : ℕ) : Type 0 where
-  pub kept : status ≢ 0 → new ≡ old
-  pub bad : ¬ (IsSized view) → status ≡ 2
-  pub good : IsSized view → (status ≡ 0) ⊎ (status ≡ 1) ⊎ (status ≡ 3)
-  pub place : status ≡ 0 → new < view.len
-  pub before : status ≡ 0 → TellsLess (view_parts view) value new
-  pub absent : status ≡ 1 → TellsLess (view_parts view) value view.len
-  pub told : IsSized view → (xs : List ℕ) → Holds xs (view_parts view) → (status ≡ 0) ⊎ (status ≡ 1)
-  pub right : (xs : List ℕ) → Holds xs (view_parts view) → status ≡ 0 → Reaches xs value new
-  pub none : (xs : List ℕ) → Holds xs (view_parts view) → status ≡ 1 → All (λ x. x < value) xs
+abbrev pub ItemAnswered : SequenceView → ℕ → ℕ → ℕ → ℕ → Type 0
+ItemAnswered view index = Exported sought (IsSized view) (IsNumber index (view_parts view))
+
+-- the place of the first number that is at least value; whatever the parts hold, they tell that all before the place are
+-- less, or all where there is none
+pub record IsSuccessor (value : ℕ) (parts : LentParts) (answer : Sought ℕ) : Type 0 where
+  pub inside : IsPlaceOf parts.len answer
+  pub less : IfPlace parts.len answer (TellsLess parts value)
+  pub counts : (xs : List ℕ) → Holds xs parts → IsFirst xs value answer
+
+abbrev pub PlaceAnswered : SequenceView → ℕ → ℕ → ℕ → ℕ → Type 0
+PlaceAnswered view value = Exported sought (IsSized view) (IsSuccessor value (view_parts view))

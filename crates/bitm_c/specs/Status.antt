@@ -1,10 +1,8 @@
 -- What the exported calls answer: a status, and a number written where the caller says.
-use Rattle.std.specs.Prelude.{◌≡◌, ◌≢◌, ℕ, ◌^◌, ◌<◌, ◌≤◌, ◌⊎◌, Bool, length}
+use Rattle.std.specs.Prelude.{◌≡◌, ◌≢◌, ℕ, ◌^◌, ◌<◌, ◌⊎◌, Bool, if◌then◌else◌, nat_eq}
 use Rattle.std.specs.Int.{div_ceil}
-use Rattle.bitm.specs.Bits.{item}
-use Rattle.bitm.specs.Count.{count_of, Picks}
-use Rattle.bitm.specs.Tables.{HasSizes, HasTables, Lists, bits_in}
-use Rattle.bitm.specs.Told.{TellsNone}
+use Rattle.bitm.specs.Tables.{HasSizes, Lists}
+use Rattle.bitm_lent.specs.Queries.{Selects}
 use Rattle.bitm_lent.specs.Sizes.{lists_of}
 use Rattle.bitm.specs.Selected.{Selected}
 use Rattle.bitm.specs.Selected.TheVariants.{Found, Absent, WrongTables}
@@ -18,21 +16,27 @@ use Rattle.bitm_c.specs.declared.view.View.{View}
 abbrev pub view_lists : View → Lists
 view_lists view = lists_of view.words.now view.upper.now view.lower.now
 
--- what a selection answers, as a status, and the number before and after
-abbrev pub IsTold : Selected → ℕ → ℕ → ℕ → Type 0
-IsTold (Found p) status old new = (status ≡ 0) × (new ≡ p)
-IsTold Absent status old new = (status ≡ 1) × (new ≡ old)
-IsTold WrongTables status old new = (status ≡ 3) × (new ≡ old)
-
--- of a selection of the bit v by rank: the status, and the number before and after the call
-pub record SelectAnswered (v : Bool) (lists : Lists) (rank status old new : ℕ) : Type 0 where
+-- how a status and the number that was written say an answer: `says` reads it back from these
+pub record IsSaid {A T : Type 0} (says : ℕ → T → A) (answer : A) (status : ℕ) (old new : T) : Type 0 where
+  pub good : (status ≡ 0) ⊎ (status ≡ 1) ⊎ (status ≡ 3)
   pub kept : status ≢ 0 → new ≡ old
-  pub bad : ¬ (HasSizes lists) → status ≡ 2
-  pub good : HasSizes lists → (status ≡ 0) ⊎ (status ≡ 1) ⊎ (status ≡ 3)
-  pub bit : status ≡ 0 → (new < length (bits_in lists)) × (item (bits_in lists) new ≡ v)
-  pub absent : status ≡ 1 → TellsNone v lists rank
-  pub right : HasSizes lists → HasTables lists → rank < count_of (bits_in lists) v → (status ≡ 0) × Picks (bits_in lists) v rank new
-  pub none : HasSizes lists → HasTables lists → count_of (bits_in lists) v ≤ rank → status ≡ 1
+  pub is : says status new ≡ answer
+
+-- what an export answers of which P holds where its lengths are right: the status, and the number before and after
+pub record Exported {A T : Type 0} (says : ℕ → T → A) (sized : Type 0) (P : A → Type 0) (status : ℕ) (old new : T) : Type 0 where
+  pub bad : ¬ sized → status ≡ 2
+  pub fits : status ≢ 2 → sized
+  pub good : sized → (status ≡ 0) ⊎ (status ≡ 1) ⊎ (status ≡ 3)
+  pub kept : status ≢ 0 → new ≡ old
+  pub answer : sized → P (says status new)
+
+-- the answer of a selection
+abbrev pub selected : ℕ → ℕ → Selected
+selected status n = if nat_eq status 0 then Found n else if nat_eq status 1 then Absent else WrongTables
+
+-- a selection of the bit v by rank
+abbrev pub SelectAnswered : Bool → Lists → ℕ → ℕ → ℕ → ℕ → Type 0
+SelectAnswered v lists rank = Exported selected (HasSizes lists) (Selects v lists rank)
 
 -- what stands before so many stored words and their tables
 abbrev pub header_of : ℕ → Header

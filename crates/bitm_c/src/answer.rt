@@ -1,7 +1,7 @@
 //! How an answer is told: by a status, and a number that is written only where the status is `OK`.
 ghost use Rattle.std.specs.Prelude.{◌≡◌, MatchOption};
-ghost use Rattle.bitm_c.specs.Rank.{IsCountTold};
-ghost use Rattle.bitm_c.specs.Status.{IsTold};
+ghost use Rattle.bitm_c.specs.Rank.{counted};
+ghost use Rattle.bitm_c.specs.Status.{selected, IsSaid};
 
 use bitm_lent::{Ranked, Selected};
 
@@ -38,7 +38,7 @@ pub(crate) fn tell<T: Copy>(found: Option<T>, out: &mut T) -> u32
 /// Writes the number that was counted.
 #[inline(always)]
 pub(crate) fn tell_count(ranked: Ranked, out: &mut usize) -> u32
-    ensures { IsCountTold ranked result out.old out.new }
+    ensures { IsSaid counted ranked result out.old out.new }
 {
     match ranked {
         Ranked::Count(count) => {
@@ -52,10 +52,10 @@ pub(crate) fn tell_count(ranked: Ranked, out: &mut usize) -> u32
 
 /// Writes the place that was found.
 #[inline(always)]
-pub(crate) fn tell_place(selected: Selected, out: &mut usize) -> u32
-    ensures { IsTold selected result out.old out.new }
+pub(crate) fn tell_place(answer: Selected, out: &mut usize) -> u32
+    ensures { IsSaid selected answer result out.old out.new }
 {
-    match selected {
+    match answer {
         Selected::Found(place) => {
             *out = place;
             OK

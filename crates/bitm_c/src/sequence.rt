@@ -6,7 +6,8 @@ ghost use Rattle.elias_fano.specs.Sequence.{HasFall};
 ghost use Rattle.elias_fano_lent.specs.LentParts.{parts_of, AreParts, Holds};
 ghost use Rattle.elias_fano_lent.specs.Lists.{AreItems, IsKeptFrom, PlaceTold};
 ghost use Rattle.elias_fano_lent.specs.Sizes.{sizes_of, HasRoom, IsLargest};
-ghost use Rattle.bitm_c.specs.Sequence.{view_parts, sizes_in_c, IsListTold, IsSized, IsSoughtTold};
+ghost use Rattle.bitm_c.specs.Sequence.{view_parts, sizes_in_c, sought, IsListTold, IsSized};
+ghost use Rattle.bitm_c.specs.Status.{IsSaid};
 ghost use Rattle.bitm_c.specs.Sequence.{ItemAnswered, PlaceAnswered};
 
 use crate::answer::{BAD_SIZE, NONE, OK, UNSORTED, WRONG};
@@ -63,10 +64,10 @@ impl<'a> SequenceView<'a> {
 
 /// Writes what was found.
 #[inline(always)]
-pub(crate) fn tell_sought<T: Copy>(sought: Sought<T>, out: &mut T) -> u32
-    ensures { IsSoughtTold sought result out.old out.new }
+pub(crate) fn tell_sought<T: Copy>(answer: Sought<T>, out: &mut T) -> u32
+    ensures { IsSaid sought answer result out.old out.new }
 {
-    match sought {
+    match answer {
         Sought::Found(found) => {
             *out = found;
             OK

@@ -1,4 +1,5 @@
 pub mod Cut
+pub mod Queries
 pub mod Ranks
 pub mod Samples
 pub mod Sizes

@@ -1,12 +1,10 @@
 //! Words and tables that are lent, of which the last bits do not belong to the content.
-ghost use Rattle.std.specs.Prelude.{◌≡◌, ◌+◌, ◌-◌, ◌<◌, ◌≤◌, ℕ, Bool, List, MatchOption, length, min, slice_index, take};
+ghost use Rattle.std.specs.Prelude.{◌≡◌, ◌+◌, ◌-◌, ◌<◌, ◌≤◌, ℕ, Bool, MatchOption, length, min, slice_index};
 ghost use Rattle.std.specs.Prelude.{true};
 ghost use Rattle.bit_lists.specs.Count.{count_before, count_of, as_bit, Picks};
-ghost use Rattle.bitm_search.specs.Tables.{HasTables, bits_in};
-ghost use Rattle.bitm_search.specs.Answers.{HasBit, IsSelected};
-ghost use Rattle.bitm_search.specs.Told.{IfAbsent, TellsNone};
-ghost use Rattle.bitm_lent.specs.Cut.{bits_of_cut, cut_at, Cut, IsWithin, TellsNoneOf};
-ghost use Rattle.bitm_lent.specs.Ranks.{IsCountWithin, IsRanked};
+ghost use Rattle.bitm_search.specs.Tables.{bits_in};
+ghost use Rattle.bitm_lent.specs.Cut.{bits_of_cut, cut_at, Cut, IsWithin};
+ghost use Rattle.bitm_lent.specs.Queries.{RanksIn, Selects, SelectsIn};
 
 use crate::lent::Lent;
 use crate::places::bits_from;
@@ -17,18 +15,20 @@ use std::marker::Model;
 
 /// A place that was found, where it is before place `len`.
 #[inline(always)]
-#[tactic(auto, using(crate::proofs::CutLemmas::cut_bit, crate::proofs::CutLemmas::cut_absent, crate::proofs::CutLemmas::none_of))]
 fn cut(selected: Selected, len: usize) -> Selected
-    ensures bit { (b : List Bool) (v : Bool) → len ≤ length b → HasBit b v selected
-        → HasBit (take len b) v result }
-    ensures answer { (b : List Bool) (v : Bool) (r : ℕ) → len ≤ length b
-        → IsSelected b v r selected → IsSelected (take len b) v r result }
-    ensures none { (v : Bool) (c : Cut) (r : ℕ) → c.len ≡ len → HasBit (bits_in c.lists) v selected
-        → IfAbsent selected (TellsNone v c.lists r) → IfAbsent result (TellsNoneOf v c r) }
+    ensures { (v : Bool) (c : Cut) (r : ℕ) → c.len ≡ len → IsWithin c
+        → Selects v c.lists r selected → SelectsIn v c r result }
 {
     match selected {
-        Selected::Found(place) if place >= len => Selected::Absent,
-        answer => answer,
+        Selected::Found(place) => {
+            if place < len {
+                Selected::Found(place)
+            } else {
+                Selected::Absent
+            }
+        }
+        Selected::Absent => Selected::Absent,
+        Selected::WrongTables => Selected::WrongTables,
     }
 }
 
@@ -70,9 +70,7 @@ impl<'a> LentBits<'a> {
     /// hold; else as `Lent::rank`. Zeros in place of ones where `BIT` is 0.
     #[inline(always)]
     pub fn rank<const BIT: u8>(&self, index: usize) -> Ranked
-        ensures inside { IsCountWithin self.now.len index result }
-        ensures answer { HasTables self.now.lists
-            → IsRanked (bits_of_cut self.now) (as_bit BIT) index result }
+        ensures { RanksIn (as_bit BIT) self.now index result }
     {
         if index > self.len {
             return Ranked::Absent;
@@ -86,10 +84,7 @@ impl<'a> LentBits<'a> {
     /// Whatever the tables hold, `Absent` is answered only where tables and words tell no more than `rank` such bits,
     /// or the words have one behind the content.
     pub fn select<const BIT: u8>(&self, rank: usize) -> Selected
-        ensures bit { HasBit (bits_of_cut self.now) (as_bit BIT) result }
-        ensures answer { HasTables self.now.lists
-            → IsSelected (bits_of_cut self.now) (as_bit BIT) rank result }
-        ensures none { IfAbsent result (TellsNoneOf (as_bit BIT) self.now rank) }
+        ensures { SelectsIn (as_bit BIT) self.now rank result }
     {
         cut(self.lent.select::<BIT>(rank), self.len)
     }

@@ -5,9 +5,7 @@ ghost use Rattle.bit_lists.specs.Bits.{bits_of, IsShort};
 ghost use Rattle.bit_lists.specs.Count.{as_bit, IsRank};
 ghost use Rattle.bitm_search.specs.Reads.{none_read};
 ghost use Rattle.bitm_search.specs.Tables.{HasSizes, HasTables, bits_in};
-ghost use Rattle.bitm_search.specs.Told.{IfAbsent, TellsNone};
-ghost use Rattle.bitm_search.specs.Answers.{HasBit, IsSelected};
-ghost use Rattle.bitm_lent.specs.Ranks.{IsCountWithin, IsRanked};
+ghost use Rattle.bitm_lent.specs.Queries.{Ranks, Selects};
 ghost use Rattle.bitm_lent.specs.Sizes.{lists_of};
 
 mod by_samples;
@@ -125,9 +123,7 @@ impl<'a> Lent<'a> {
     #[inline(always)]
     pub fn rank<const BIT: u8>(&self, index: usize) -> Ranked
         ensures sized { HasSizes self.now }
-        ensures inside { IsCountWithin (length (bits_in self.now)) index result }
-        ensures answer { HasTables self.now
-            → IsRanked (bits_in self.now) (as_bit BIT) index result }
+        ensures ranks { Ranks (as_bit BIT) self.now index result }
     {
         let Some(ones) = self.told_ones(index) else {
             return Ranked::Absent;
@@ -160,11 +156,7 @@ impl<'a> Lent<'a> {
     /// are read, whatever the tables hold.
     #[inline(always)]
     pub fn select<const BIT: u8>(&self, rank: usize) -> Selected
-        ensures sized { HasSizes self.now }
-        ensures bit { HasBit (bits_in self.now) (as_bit BIT) result }
-        ensures answer { HasTables self.now
-            → IsSelected (bits_in self.now) (as_bit BIT) rank result }
-        ensures none { IfAbsent result (TellsNone (as_bit BIT) self.now rank) }
+        ensures { Selects (as_bit BIT) self.now rank result }
     {
         total_select_on::<BIT, Probe<'_>>(&mut self.probe(), rank)
     }

@@ -1,9 +1,10 @@
--- What was counted is told.
+-- What is answered is told.
 use Rattle.std.proofs.Common.{true}
-use Rattle.bitm_c.proofs.RankToldLemmas.{counted_of}
+use Rattle.bitm_lent.specs.Queries.{Ranks}
+use Rattle.bitm_c.specs.Rank.{counted}
+use Rattle.bitm_c.proofs.ToldLemmas.{told}
 use Rattle.bitm_c.proofs.index.bitm_rank.Goals as goal
 
 pub returns-in-Some : goal.returns-in-Some
 returns-in-Some c =
-    counted_of true _ c.in-Some.ensures.0 c.args.index c.tell_count.result c.args.out.now c.tell_count.new.out _ c.in-Some.ensures.1
-    c.rank.result c.tell_count.ensures c.rank.ensures.inside c.rank.ensures.answer
+    told counted (λ l. Ranks true l c.args.index) _ _ c.in-Some.ensures.1 _ c.in-Some.ensures.0 c.tell_count.result c.args.out.now c.tell_count.new.out _ c.tell_count.ensures c.rank.ensures.ranks

@@ -1,9 +1,10 @@
--- What was found is told.
+-- What is answered is told.
 use Rattle.std.proofs.Common.{true}
-use Rattle.bitm_c.proofs.ToldLemmas.{told_of}
+use Rattle.bitm_lent.specs.Queries.{Selects}
+use Rattle.bitm_c.specs.Status.{selected}
+use Rattle.bitm_c.proofs.ToldLemmas.{told}
 use Rattle.bitm_c.proofs.sampled.bitm_sampled_select.Goals as goal
 
 pub returns-in-Some : goal.returns-in-Some
 returns-in-Some c =
-    told_of true _ c.in-Some.ensures.0 c.args.rank c.tell_place.result c.args.out.now c.tell_place.new.out _ c.in-Some.ensures.1
-    c.sampled_select.result c.tell_place.ensures c.sampled_select.ensures.bit c.sampled_select.ensures.none c.sampled_select.ensures.answer
+    told selected (λ l. Selects true l c.args.rank) _ _ c.in-Some.ensures.1 _ c.in-Some.ensures.0 c.tell_place.result c.args.out.now c.tell_place.new.out _ c.tell_place.ensures c.sampled_select.ensures

@@ -4,4 +4,4 @@ use Rattle.bitm_lent.proofs.lists.rank_or_code.Goals as goal
 
 pub returns-in-Count : goal.returns-in-Count
 returns-in-Count g c =
-    counted _ _ c.args.place c.in-Count.ensures.sized _ c.in-Count.ensures.inside c.in-Count.ensures.answer
+    counted _ _ c.args.place c.in-Count.ensures.sized _ c.in-Count.ensures.ranks

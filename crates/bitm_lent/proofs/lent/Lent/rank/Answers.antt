@@ -4,13 +4,19 @@ use Rattle.bit_lists.proofs.lemmas.CountLemmas.{ones_before-add-zeros_before}
 use Rattle.bitm_search.specs.Tables.{bits_in}
 use Rattle.bitm_lent.proofs.lent.Lent.rank.Goals as goal
 
-pub returns-in-None-clause-answer : goal.returns-in-None-clause-answer
-returns-in-None-clause-answer g c = λ t.
-    let r = c.in-Some.ensures.answer t in
-    omega (arith, r.0, r.1, ones_before-add-zeros_before (bits_in c.args.self.now) c.args.index r.0, c.in-None.ensures)
+pub returns-in-None-clause-ranks : goal.returns-in-None-clause-ranks
+returns-in-None-clause-ranks g c = record {
+  within = c.in-Some.ensures.inside;
+  counts = λ t.
+      let r = c.in-Some.ensures.answer t in
+      omega (arith, r.0, r.1, ones_before-add-zeros_before (bits_in c.args.self.now) c.args.index r.0, c.in-None.ensures);
+}
 
-pub returns-then-this-eq0-clause-answer : goal.returns-then-this-eq0-clause-answer
-returns-then-this-eq0-clause-answer g c = λ t.
-    let r = c.in-Some.ensures.answer t in
-    rw c.if-this-eq0.true
-    (r.0, omega (arith, r.0, r.1, ones_before-add-zeros_before (bits_in c.args.self.now) c.args.index r.0))
+pub returns-then-this-eq0-clause-ranks : goal.returns-then-this-eq0-clause-ranks
+returns-then-this-eq0-clause-ranks g c = record {
+  within = (c.in-Some.ensures.inside, omega (arith, c.in-Some-checked_sub.ensures));
+  counts = λ t.
+      let r = c.in-Some.ensures.answer t in
+      rw c.if-this-eq0.true
+      (r.0, omega (arith, r.0, r.1, ones_before-add-zeros_before (bits_in c.args.self.now) c.args.index r.0));
+}

@@ -21,7 +21,7 @@ whole c xs h =
     let words : c.words.result.now ≡ c.args.self.now.upper.words = c.words.ensures.words ∙ ap (λ (l : Lists). l.words) upper in
     let parts = subst W (sym words) (subst P (sym c.low_digits.ensures) h.are) in
     let tables = subst (λ (l : Lists). HasTables l) (sym upper) h.tables in
-    let begin = ap (λ ws. ones_before (bits_of ws) c.in-Found.first) c.words.ensures.words ∙ (c.in-Found.ensures.answer tables).before in
+    let begin = ap (λ ws. ones_before (bits_of ws) c.in-Found.first) c.words.ensures.words ∙ (c.in-Found.ensures.counts tables).before in
     let few : c.args.from + c.min-most.result ≤ c.args.self.now.len =
     omega (arith, c.min-most.ensures, c.saturating_sub.ensures, c.if-most-eq0.false, ap (λ (s : LentParts). s.len) c.self.view_is) in
     c.write_items.ensures.items xs c.args.self.now.len parts few begin
@@ -30,7 +30,7 @@ pub returns-in-Absent-clause-all : goal.returns-in-Absent-clause-all
 returns-in-Absent-clause-all c = λ xs h.
     let upper : c.self.inside.upper ≡ c.args.self.now.upper = ap (λ (s : LentParts). s.upper) c.self.view_is in
     let count = ones_are xs c.args.self.now.width c.args.self.now.upper.words h.are.upper_is in
-    let few = c.in-Absent.ensures.answer (subst (λ (l : Lists). HasTables l) (sym upper) h.tables) in
+    let few = c.in-Absent.ensures.counts (subst (λ (l : Lists). HasTables l) (sym upper) h.tables) in
     omega (
       arith,
       few,

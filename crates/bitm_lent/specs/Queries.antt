@@ -1,0 +1,38 @@
+-- What a query answers over tables that may hold anything: among all bits of the words, and among the first ones.
+use Rattle.std.specs.Prelude.{ℕ, Bool, List, length}
+use Rattle.bitm_search.specs.Answers.{HasBit, IsSelected}
+use Rattle.bitm_search.specs.Tables.{HasTables, Lists, bits_in}
+use Rattle.bitm_search.specs.Told.{IfAbsent, TellsNone}
+use Rattle.bitm_search.specs.declared.search.selected.Selected.{Selected}
+use Rattle.bitm_lent.specs.Cut.{Cut, bits_of_cut, TellsNoneOf}
+use Rattle.bitm_lent.specs.Ranks.{IsCountWithin, IsRanked}
+use Rattle.bitm_lent.specs.declared.ranked.Ranked.{Ranked}
+
+-- of a selection among the bits b of one that is v, by rank: a place has the bit, whatever the tables hold; where they
+-- are right the answer is counting, and WrongTables is none; and where Absent is answered, none holds
+pub record IsSelection (b : List Bool) (v : Bool) (right none : Type 0) (rank : ℕ) (answer : Selected) : Type 0 where
+  pub bit : HasBit b v answer
+  pub counts : right → IsSelected b v rank answer
+  pub absent : IfAbsent answer none
+
+-- among all bits of the words
+abbrev pub Selects : Bool → Lists → ℕ → Selected → Type 0
+Selects v lists rank = IsSelection (bits_in lists) v (HasTables lists) (TellsNone v lists rank) rank
+
+-- among the first ones
+abbrev pub SelectsIn : Bool → Cut → ℕ → Selected → Type 0
+SelectsIn v c rank = IsSelection (bits_of_cut c) v (HasTables c.lists) (TellsNoneOf v c rank) rank
+
+-- of a rank of the first index of so many bits b: a count is at most index, and Absent is answered exactly where there
+-- are fewer bits, whatever the tables hold; where they are right the answer is counting, and WrongTables is none
+pub record IsCounting (b : List Bool) (len : ℕ) (v : Bool) (right : Type 0) (index : ℕ) (answer : Ranked) : Type 0 where
+  pub within : IsCountWithin len index answer
+  pub counts : right → IsRanked b v index answer
+
+-- among all bits of the words
+abbrev pub Ranks : Bool → Lists → ℕ → Ranked → Type 0
+Ranks v lists index = IsCounting (bits_in lists) (length (bits_in lists)) v (HasTables lists) index
+
+-- among the first ones
+abbrev pub RanksIn : Bool → Cut → ℕ → Ranked → Type 0
+RanksIn v c index = IsCounting (bits_of_cut c) c.len v (HasTables c.lists) index
