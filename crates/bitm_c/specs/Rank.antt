@@ -1,5 +1,5 @@
 -- What the exported ranks answer: a status, and a number written where the caller says.
-use Rattle.std.specs.Prelude.{ℕ, Bool, if◌then◌else◌, nat_eq}
+use Rattle.std.specs.Prelude.{◌≡◌, ℕ, Bool, if◌then◌else◌, nat_eq}
 use Rattle.bitm.specs.Tables.{HasSizes, Lists}
 use Rattle.bitm_lent.specs.Queries.{Ranks}
 use Rattle.bitm_lent.specs.declared.ranked.Ranked.{Ranked}

@@ -6,7 +6,7 @@ ghost use Rattle.bitm_c.specs.BitsView.{cut_of, BitsRankAnswered, BitsSelectAnsw
 
 use crate::answer::{BAD_SIZE, OK, tell_count, tell_place};
 use crate::view::View;
-use bitm_lent::LentBits;
+use bitm_lent::IndexView;
 
 /// Words and tables, all lent, of which the first bits are the content.
 #[repr(C)]
@@ -21,11 +21,11 @@ pub struct BitsView<'a> {
 impl<'a> BitsView<'a> {
     /// The bits as the library asks them; `None` exactly where a length is not right.
     #[inline(always)]
-    fn lent(&self) -> Option<LentBits<'a>>
+    fn lent(&self) -> Option<IndexView<'a>>
         ensures { SomeIff result (IsSizedCut (cut_of self.now)) (cut_of self.now) }
     {
         let lent = self.view.lent()?;
-        LentBits::over(lent, self.bits_len as usize)
+        IndexView::over(lent, self.bits_len as usize)
     }
 }
 

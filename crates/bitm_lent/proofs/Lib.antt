@@ -1,5 +1,6 @@
 pub mod BoundsLemmas
 pub mod ClearingLemmas
+pub mod CodeLemmas
 pub mod CutLemmas
 pub mod FilledLemmas
 pub mod ListLemmas

@@ -1,12 +1,14 @@
 -- What a query answers over tables that may hold anything: among all bits of the words, and among the first ones.
-use Rattle.std.specs.Prelude.{ℕ, Bool, List, length}
+use Rattle.std.specs.Prelude.{ℕ, ◌-◌, ◌^◌, Bool, List, length, if◌then◌else◌, nat_eq}
 use Rattle.bitm_search.specs.Answers.{HasBit, IsSelected}
 use Rattle.bitm_search.specs.Tables.{HasTables, Lists, bits_in}
 use Rattle.bitm_search.specs.Told.{IfAbsent, TellsNone}
 use Rattle.bitm_search.specs.declared.search.selected.Selected.{Selected}
+use Rattle.bitm_search.specs.declared.search.selected.Selected.TheVariants as Sel
 use Rattle.bitm_lent.specs.Cut.{Cut, bits_of_cut, TellsNoneOf}
 use Rattle.bitm_lent.specs.Ranks.{IsCountWithin, IsRanked}
 use Rattle.bitm_lent.specs.declared.ranked.Ranked.{Ranked}
+use Rattle.bitm_lent.specs.declared.ranked.Ranked.TheVariants as Rank
 
 -- of a selection among the bits b of one that is v, by rank: a place has the bit, whatever the tables hold; where they
 -- are right the answer is counting, and WrongTables is none; and where Absent is answered, none holds
@@ -36,3 +38,10 @@ Ranks v lists index = IsCounting (bits_in lists) (length (bits_in lists)) v (Has
 -- among the first ones
 abbrev pub RanksIn : Bool → Cut → ℕ → Ranked → Type 0
 RanksIn v c index = IsCounting (bits_of_cut c) c.len v (HasTables c.lists) index
+
+-- what a number of a list says of the answer: the two greatest ones stand for Absent and WrongTables
+abbrev pub selected_by : ℕ → Selected
+selected_by n = if nat_eq n (2 ^ 64 - 1) then Sel.Absent else if nat_eq n (2 ^ 64 - 2) then Sel.WrongTables else Sel.Found n
+
+abbrev pub ranked_by : ℕ → Ranked
+ranked_by n = if nat_eq n (2 ^ 64 - 1) then Rank.Absent else if nat_eq n (2 ^ 64 - 2) then Rank.WrongTables else Rank.Count n

@@ -18,7 +18,6 @@
 //! ```
 #![tactic(auto)]
 
-mod bits;
 mod checking;
 mod clearing;
 mod filling;
@@ -31,11 +30,11 @@ mod sampled;
 mod sampled_many;
 mod samples;
 mod sampling;
+mod view;
 
 pub use bitm_search::search::ranking::total_rank_on;
 pub use bitm_search::search::selected::{NO_ANSWER, Selected, WRONG_TABLES};
 pub use bitm_search::search::selecting::total_select_on;
-pub use bits::LentBits;
 pub use clearing::{clear, clear_from};
 pub use filling::build;
 pub use lent::{Lent, lower_len, upper_len};
@@ -44,3 +43,4 @@ pub use ranked::Ranked;
 pub use sampled::sampled_select_on;
 pub use sampled_many::sampled_select_many_on;
 pub use samples::{LentSamples, samples_len};
+pub use view::IndexView;

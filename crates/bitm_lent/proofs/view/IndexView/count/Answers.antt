@@ -6,15 +6,15 @@ use Rattle.bit_lists.specs.Bits.{bits_of}
 use Rattle.bit_lists.specs.Count.{count_of, ones_before}
 use Rattle.bitm_lent.specs.Cut.{Cut, bits_of_cut}
 use Rattle.bitm_lent.proofs.CutLemmas.{cut_total}
-use Rattle.bitm_lent.proofs.bits.LentBits.count.Goals as goal
+use Rattle.bitm_lent.proofs.view.IndexView.count.Goals as goal
 
 pub count_range-requires-clause-inside : goal.count_range-requires-clause-inside
 count_range-requires-clause-inside c =
-    omega (arith, c.self.invariant, length-bits_of c.self.inside.lent.words, ap length c.words.ensures.words)
+    omega (arith, c.self.invariant, length-bits_of c.self.inside.tables.words, ap length c.words.ensures.words)
 
 pub returns : goal.returns
 returns c =
-    let words = c.self.inside.lent.words in
+    let words = c.self.inside.tables.words in
     let same = ap (λ (w : List ℕ). ones_before (bits_of w) c.self.inside.len) c.words.ensures.words in
     subst (λ (x : Cut). c.count_range.result ≡ count_of (bits_of_cut x) true) c.self.view_is
     (omega (

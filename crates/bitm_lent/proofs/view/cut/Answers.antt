@@ -3,7 +3,7 @@ use Rattle.std.proofs.Common.{subst, arith}
 use Rattle.bitm_lent.specs.Queries.{Selects}
 use Rattle.bitm_search.specs.declared.search.selected.Selected.{Selected}
 use Rattle.bitm_lent.proofs.CutLemmas.{cut_found, cut_none, cut_past, cut_wrong}
-use Rattle.bitm_lent.proofs.bits.cut.Goals as goal
+use Rattle.bitm_lent.proofs.view.cut.Goals as goal
 
 pub returns-then-place-len : goal.returns-then-place-len
 returns-then-place-len c = λ v cut r same within s.
