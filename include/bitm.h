@@ -7,8 +7,8 @@
  *     size_t m = bitm_upper_len(n), k = bitm_lower_len(n);
  *     uint64_t ones, place;
  *     if (bitm_build(words, n, upper, m, lower, k, &ones) != BITM_OK) ..
- *     struct bitm_view view = {words, n, upper, m, lower, k};
- *     if (bitm_select(&view, 17, &place) == BITM_OK) ..
+ *     struct bitm_index index = {.view = {words, n, upper, m, lower, k}, .bits_len = 64 * n};
+ *     if (bitm_select(&index, true, 17, &place) == BITM_OK) ..
  *
  * LENGTHS ARE IN WORDS. Bits of the last word behind the end of your data are bits like others, which are counted and
  * found: bitm_clear_from makes them zeros, so that they are no ones, and places of zeros you compare with your length.
@@ -134,36 +134,7 @@ BITM_MUST_USE uint32_t bitm_build(const uint64_t *words, size_t words_len, uint6
 /* Whether the tables are those of the words: BITM_OK, BITM_WRONG or BITM_BAD_SIZE. Reads each word at most once. */
 BITM_MUST_USE uint32_t bitm_check(const struct bitm_view *view);
 
-/* ---- one query */
-
-/* How many of the first index bits are ones, or zeros: at most index. BITM_NONE exactly if index is above
- * 64 * words_len (which gives the total), whatever the tables hold; BITM_WRONG if they turn out not to be those of the
- * words. Reads at most one upper entry, one lower entry and eight words. */
-BITM_MUST_USE uint32_t bitm_rank(const struct bitm_view *view, size_t index, uint64_t *out);
-BITM_MUST_USE uint32_t bitm_rank0(const struct bitm_view *view, size_t index, uint64_t *out);
-
-/* The place of the one, or zero, with exactly rank ones, or zeros, before it. BITM_NONE if there is none, BITM_WRONG
- * if the tables turn out not to be those of the words. Reads at most D + 1 upper entries, where D is the number of
- * binary digits of how many there are, 23 lower entries and eight words. */
-BITM_MUST_USE uint32_t bitm_select(const struct bitm_view *view, size_t rank, uint64_t *out);
-BITM_MUST_USE uint32_t bitm_select0(const struct bitm_view *view, size_t rank, uint64_t *out);
-
-/* ---- lists of queries */
-
-/* out[i] answers queries[i] as the call of one query does, or is BITM_NO_ANSWER for BITM_NONE and BITM_WRONG_TABLES
- * for BITM_WRONG. Selections are searched for side by side, so in tables that are not those of the words a list may
- * find another place with the bit than the call of one query, or none where that finds one. Returns BITM_OK, or
- * BITM_BAD_SIZE (also if out_len is not queries_len), and then writes nothing. out may not overlap the queries. */
-BITM_MUST_USE uint32_t bitm_rank_list(const struct bitm_view *view, const uint64_t *queries, size_t queries_len,
-                                      uint64_t *out, size_t out_len);
-BITM_MUST_USE uint32_t bitm_rank0_list(const struct bitm_view *view, const uint64_t *queries, size_t queries_len,
-                                       uint64_t *out, size_t out_len);
-BITM_MUST_USE uint32_t bitm_select_list(const struct bitm_view *view, const uint64_t *queries, size_t queries_len,
-                                        uint64_t *out, size_t out_len);
-BITM_MUST_USE uint32_t bitm_select0_list(const struct bitm_view *view, const uint64_t *queries, size_t queries_len,
-                                         uint64_t *out, size_t out_len);
-
-/* ---- selection by samples */
+/* ---- samples */
 
 /* Samples of the ones, or of the zeros: one of 32 bits for each 2^log2 of them in a part of 2^32 bits, and for each
  * part the number of samples before it. A logarithm below 7 counts as 7, above 31 as 31. A larger one takes less
@@ -171,9 +142,9 @@ BITM_MUST_USE uint32_t bitm_select0_list(const struct bitm_view *view, const uin
  *
  *     size_t most = bitm_samples_len(n, 12);
  *     uint64_t used;
- *     if (bitm_build_samples(&view, 12, numbers, most, starts, m, &used) != BITM_OK) ..
- *     struct bitm_samples samples = {numbers, used, starts, m, 12};
- *     if (bitm_sampled_select(&view, &samples, 17, &place) == BITM_OK) ..
+ *     if (bitm_build_samples(&index.view, true, 12, numbers, most, starts, m, &used) != BITM_OK) ..
+ *     index.ones = (struct bitm_samples){numbers, used, starts, m, 12};
+ *     if (bitm_select(&index, true, 17, &place) == BITM_OK) ..
  *
  * samples_len is what the build wrote to used; the rest of the list is not part of the samples. The contents and
  * lengths of both lists and the logarithm may be anything: if the tables are those of the words, no samples lead to a
@@ -195,27 +166,52 @@ size_t bitm_samples_len(size_t words_len, uint32_t log2);
  * says or starts_len is not the length of the upper table, and then writes nothing. samples, starts and used may not
  * overlap one another, nor the words or tables. Reads both tables once, up to two lower entries again for each sample,
  * and at most eight words. */
-BITM_MUST_USE uint32_t bitm_build_samples(const struct bitm_view *view, uint32_t log2, uint32_t *samples,
+BITM_MUST_USE uint32_t bitm_build_samples(const struct bitm_view *view, bool one, uint32_t log2, uint32_t *samples,
                                           size_t samples_len, uint64_t *starts, size_t starts_len, uint64_t *used);
-BITM_MUST_USE uint32_t bitm_build_samples0(const struct bitm_view *view, uint32_t log2, uint32_t *samples,
-                                           size_t samples_len, uint64_t *starts, size_t starts_len, uint64_t *used);
 
-/* What bitm_select and bitm_select0 return, WHATEVER the samples hold. With samples of the ones, or zeros, of these words
- * reads two lower entries and one for each halving between the rank's sample and the next; with others at most 23 lower
- * entries more than bitm_select. */
-BITM_MUST_USE uint32_t bitm_sampled_select(const struct bitm_view *view, const struct bitm_samples *samples,
-                                           size_t rank, uint64_t *out);
-BITM_MUST_USE uint32_t bitm_sampled_select0(const struct bitm_view *view, const struct bitm_samples *samples,
-                                            size_t rank, uint64_t *out);
+/* Whether the samples of the ones, or zeros, are those that bitm_build_samples writes, where the tables are those of the
+ * words: BITM_OK or BITM_WRONG; else either. BITM_BAD_SIZE as for a view. */
+BITM_MUST_USE uint32_t bitm_check_samples(const struct bitm_view *view, bool one, const struct bitm_samples *samples);
 
-/* What bitm_select_list and bitm_select0_list write where the tables are those of the words, WHATEVER the samples hold.
- * Else as the lists of queries above; out may overlap neither the queries nor the samples. */
-BITM_MUST_USE uint32_t bitm_sampled_select_list(const struct bitm_view *view, const struct bitm_samples *samples,
-                                                const uint64_t *queries, size_t queries_len, uint64_t *out,
-                                                size_t out_len);
-BITM_MUST_USE uint32_t bitm_sampled_select0_list(const struct bitm_view *view, const struct bitm_samples *samples,
-                                                 const uint64_t *queries, size_t queries_len, uint64_t *out,
-                                                 size_t out_len);
+/* ---- all that is asked of an index */
+
+/* Words and tables, of which the first bits_len bits are the content, and samples of the ones and of the zeros, or none:
+ * {0} stands for no samples. Samples make no answer another, WHATEVER they hold. What stands behind the content is
+ * neither counted nor found. Calls that take one return BITM_BAD_SIZE as for a view, or if bits_len is above
+ * 64 * words_len. */
+struct bitm_index {
+    struct bitm_view view;
+    uint64_t bits_len;
+    struct bitm_samples ones;
+    struct bitm_samples zeros;
+};
+
+/* How many of the first `at` bits are ones, or zeros: at most `at`. BITM_NONE exactly if `at` is above bits_len, whatever
+ * the tables hold; BITM_WRONG if they turn out not to be those of the words. Reads at most one upper entry, one lower
+ * entry and eight words. */
+BITM_MUST_USE uint32_t bitm_rank(const struct bitm_index *index, bool one, size_t at, uint64_t *out);
+
+/* The place of the one, or zero, with exactly rank such bits before it. BITM_NONE if there is none, BITM_WRONG if the
+ * tables turn out not to be those of the words. Reads at most D + 1 upper entries, where D is the number of binary
+ * digits of how many there are, 23 lower entries and eight words; 23 lower entries more with samples that are not those
+ * of the words. */
+BITM_MUST_USE uint32_t bitm_select(const struct bitm_index *index, bool one, size_t rank, uint64_t *out);
+
+/* out[i] answers queries[i] as the call of one query does, or is BITM_NO_ANSWER for BITM_NONE and BITM_WRONG_TABLES
+ * for BITM_WRONG. Selections are searched for side by side, so in tables that are not those of the words a list may
+ * find another place with the bit than the call of one query, or none where that finds one. Returns BITM_OK, or
+ * BITM_BAD_SIZE (also if out_len is not queries_len), and then writes nothing. out may not overlap the queries. */
+BITM_MUST_USE uint32_t bitm_rank_list(const struct bitm_index *index, bool one, const uint64_t *queries,
+                                      size_t queries_len, uint64_t *out, size_t out_len);
+BITM_MUST_USE uint32_t bitm_select_list(const struct bitm_index *index, bool one, const uint64_t *queries,
+                                        size_t queries_len, uint64_t *out, size_t out_len);
+
+/* How many ones, and the places of the ones or zeros from place from on, as bitm_count and bitm_ones: the tables are
+ * not read, so the answers are right whatever these hold. BITM_OK or BITM_BAD_SIZE. out and written may not overlap
+ * each other, the index or its words. */
+BITM_MUST_USE uint32_t bitm_ones_in(const struct bitm_index *index, uint64_t *out);
+BITM_MUST_USE uint32_t bitm_places(const struct bitm_index *index, bool one, size_t from, uint64_t *out, size_t out_len,
+                                   uint64_t *written);
 
 /* ---- bits and numbers in bits, with no tables */
 
@@ -335,7 +331,7 @@ BITM_MUST_USE uint32_t bitm_sequence_get(const struct bitm_sequence_view *view, 
  * upper bits of at most h. The place is one from first to end: the low bits just before it, if it is above first, are
  * less than those of value; the low bits at it, if it is below end, are not. If width is 0, the place is first. Upper
  * words tell that c numbers have upper bits of at most z by a zero bit at place z + c (modulo 2^64), or, if c is len,
- * by counting at most z zeros together with the tables, as for BITM_NONE of bitm_select0. */
+ * by counting at most z zeros together with the tables, as for BITM_NONE of bitm_select of zeros. */
 BITM_MUST_USE uint32_t bitm_sequence_first_at_least(const struct bitm_sequence_view *view, uint64_t value,
                                                     uint64_t *out);
 
@@ -375,31 +371,6 @@ BITM_MUST_USE uint32_t bitm_sequence_first_at_least_list(const struct bitm_seque
  * queries. */
 BITM_MUST_USE uint32_t bitm_sequence_get_list(const struct bitm_sequence_view *view, const uint64_t *queries,
                                               size_t queries_len, uint64_t *out, size_t out_len, uint64_t *written);
-
-/* ---- a content that ends inside a word
- *
- * The same questions of the first bits_len bits of the words: what stands behind them is neither counted nor found.
- * BITM_BAD_SIZE as for a view, or if bits_len is above 64 * words_len. BITM_NONE of a rank exactly if index is above
- * bits_len; of a selection, whatever the tables hold, only as for bitm_select or if the words have such a bit at
- * bits_len or behind it. A place returned is below bits_len. Else as bitm_rank and bitm_select. */
-struct bitm_bits_view {
-    struct bitm_view view;
-    uint64_t bits_len;
-};
-
-BITM_MUST_USE uint32_t bitm_bits_rank(const struct bitm_bits_view *view, size_t index, uint64_t *out);
-BITM_MUST_USE uint32_t bitm_bits_rank0(const struct bitm_bits_view *view, size_t index, uint64_t *out);
-BITM_MUST_USE uint32_t bitm_bits_select(const struct bitm_bits_view *view, size_t rank, uint64_t *out);
-BITM_MUST_USE uint32_t bitm_bits_select0(const struct bitm_bits_view *view, size_t rank, uint64_t *out);
-
-/* How many ones, and the places of the ones or zeros from place from on, as bitm_count and bitm_ones: the tables are
- * not read, so the answers are right whatever these hold. BITM_OK or BITM_BAD_SIZE. out and written may not overlap
- * each other, the view or its words. */
-BITM_MUST_USE uint32_t bitm_bits_count(const struct bitm_bits_view *view, uint64_t *out);
-BITM_MUST_USE uint32_t bitm_bits_ones(const struct bitm_bits_view *view, size_t from, uint64_t *out, size_t out_len,
-                                      uint64_t *written);
-BITM_MUST_USE uint32_t bitm_bits_zeros(const struct bitm_bits_view *view, size_t from, uint64_t *out, size_t out_len,
-                                       uint64_t *written);
 
 /* ---- minimal perfect hashes
  *
@@ -487,11 +458,6 @@ BITM_MUST_USE uint32_t bitm_stored_sequence(uint64_t len, const struct bitm_sequ
  * each part lies inside these, behind the one before it (proved). BITM_WRONG else. */
 BITM_MUST_USE uint32_t bitm_read_stored(const uint64_t *file, size_t file_len, struct bitm_stored *out);
 
-/* Whether the samples are those that bitm_build_samples, or bitm_build_samples0, writes: BITM_OK, BITM_WRONG, or
- * BITM_BAD_SIZE as for a view. With tables that are not those of the words either may be returned: ask bitm_check
- * first. Reads both tables at most once, and up to two lower entries again for each sample. */
-BITM_MUST_USE uint32_t bitm_check_samples(const struct bitm_view *view, const struct bitm_samples *samples);
-BITM_MUST_USE uint32_t bitm_check_samples0(const struct bitm_view *view, const struct bitm_samples *samples);
 
 /* The items of a span of the file. */
 static inline const void *bitm_stored_items(const uint64_t *file, struct bitm_span span)
@@ -510,14 +476,6 @@ static inline struct bitm_view bitm_stored_view(const uint64_t *file, const stru
     view.lower = (const uint64_t *)bitm_stored_items(file, s->lower);
     view.lower_len = s->lower.len;
     return view;
-}
-
-static inline struct bitm_bits_view bitm_stored_bits_view(const uint64_t *file, const struct bitm_stored *s)
-{
-    struct bitm_bits_view bits;
-    bits.view = bitm_stored_view(file, s);
-    bits.bits_len = s->len;
-    return bits;
 }
 
 static inline struct bitm_samples bitm_stored_samples(const uint64_t *file, const struct bitm_stored *s)
@@ -540,6 +498,17 @@ static inline struct bitm_samples bitm_stored_samples0(const uint64_t *file, con
     samples.starts_len = s->starts0.len;
     samples.log2 = (uint32_t)s->zeros_log2;
     return samples;
+}
+
+/* All of a stored index, as it is asked. */
+static inline struct bitm_index bitm_stored_index_of(const uint64_t *file, const struct bitm_stored *s)
+{
+    struct bitm_index index;
+    index.view = bitm_stored_view(file, s);
+    index.bits_len = s->len;
+    index.ones = bitm_stored_samples(file, s);
+    index.zeros = bitm_stored_samples0(file, s);
+    return index;
 }
 
 static inline struct bitm_sequence_view bitm_stored_sequence_view(const uint64_t *file, const struct bitm_stored *s)

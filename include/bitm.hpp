@@ -33,12 +33,12 @@ namespace bitm {
 
 namespace detail {
 
-inline std::vector<place> answers(const std::vector<std::uint64_t> &found, std::uint64_t size)
+inline std::vector<place> answers(const std::vector<std::uint64_t> &found)
 {
     std::vector<place> told(found.size());
     for (std::size_t i = 0; i < found.size(); i++) {
         if (found[i] == BITM_WRONG_TABLES) throw wrong_tables();
-        if (found[i] < size) told[i] = found[i];
+        if (found[i] != BITM_NO_ANSWER) told[i] = found[i];
     }
     return told;
 }
@@ -52,10 +52,12 @@ public:
     // they are given: these may hold anything, and make no answer another.
     explicit index_view(const bitm_view &view, place bits = {}, std::optional<bitm_samples> ones_by = {},
                         std::optional<bitm_samples> zeros_by = {})
-        : over_{view, bits.value_or(64 * view.words_len)}, ones_by_(ones_by), zeros_by_(zeros_by)
+        : over_{view, bits.value_or(64 * view.words_len), ones_by.value_or(bitm_samples{}),
+                zeros_by.value_or(bitm_samples{})},
+          ones_by_(ones_by), zeros_by_(zeros_by)
     {
         std::uint64_t out;
-        if (bitm_bits_rank(&over_, 0, &out) == BITM_BAD_SIZE)
+        if (bitm_rank(&over_, true, 0, &out) == BITM_BAD_SIZE)
             throw std::invalid_argument("bitm: the tables are not those of so many words, or there are fewer bits");
     }
 
@@ -67,8 +69,8 @@ public:
     // Whether the tables, and the samples, are those of the words. Reads each word once.
     bool check() const
     {
-        return bitm_check(&view()) == BITM_OK && (!ones_by_ || bitm_check_samples(&view(), &*ones_by_) == BITM_OK) &&
-               (!zeros_by_ || bitm_check_samples0(&view(), &*zeros_by_) == BITM_OK);
+        return bitm_check(&view()) == BITM_OK && (!ones_by_ || bitm_check_samples(&view(), true, &*ones_by_) == BITM_OK) &&
+               (!zeros_by_ || bitm_check_samples(&view(), false, &*zeros_by_) == BITM_OK);
     }
 
     // The bit at a place, which has to be below size().
@@ -81,18 +83,12 @@ public:
 
     // How many of the first `index` bits are ones, or zeros: at most `index`, also of wrong tables that are not
     // noticed. std::out_of_range where there are fewer bits.
-    std::uint64_t rank(std::uint64_t index) const { return counted(bitm_bits_rank, index); }
-    std::uint64_t rank0(std::uint64_t index) const { return counted(bitm_bits_rank0, index); }
+    std::uint64_t rank(std::uint64_t index) const { return counted(true, index); }
+    std::uint64_t rank0(std::uint64_t index) const { return counted(false, index); }
 
     // The place of the one, or zero, with exactly `rank` before it; empty where there is none.
-    place select(std::uint64_t rank) const
-    {
-        return ones_by_ ? by_samples(bitm_sampled_select, *ones_by_, rank) : found(bitm_bits_select, rank);
-    }
-    place select0(std::uint64_t rank) const
-    {
-        return zeros_by_ ? by_samples(bitm_sampled_select0, *zeros_by_, rank) : found(bitm_bits_select0, rank);
-    }
+    place select(std::uint64_t rank) const { return found(true, rank); }
+    place select0(std::uint64_t rank) const { return found(false, rank); }
 
     // The first one, or zero, at a place or after it; the last one at it or before.
     place next_one(std::uint64_t at) const { return at < size() ? select(rank(at)) : std::nullopt; }
@@ -113,62 +109,48 @@ public:
     {
         for (const std::uint64_t index : indices)
             if (index > size()) detail::outside("rank", index, size());
-        std::vector<std::uint64_t> counts = list(bitm_rank_list, indices);
+        std::vector<std::uint64_t> counts = list(bitm_rank_list, true, indices);
         for (const std::uint64_t count : counts)
             if (count == BITM_WRONG_TABLES) throw wrong_tables();
         return counts;
     }
     std::vector<place> select(const std::vector<std::uint64_t> &ranks) const
     {
-        return detail::answers(
-            ones_by_ ? list(bitm_sampled_select_list, *ones_by_, ranks) : list(bitm_select_list, ranks), size());
+        return detail::answers(list(bitm_select_list, true, ranks));
     }
     std::vector<place> select0(const std::vector<std::uint64_t> &ranks) const
     {
-        return detail::answers(
-            zeros_by_ ? list(bitm_sampled_select0_list, *zeros_by_, ranks) : list(bitm_select0_list, ranks), size());
+        return detail::answers(list(bitm_select_list, false, ranks));
     }
 
     // The places of the ones from a place on.
     ones_range ones(std::uint64_t from = 0) const { return {view().words, view().words_len, size(), from}; }
 
 protected:
-    explicit index_view(std::uint64_t bits) noexcept : over_{{}, bits} {}
+    explicit index_view(std::uint64_t bits) noexcept : over_{{}, bits, {}, {}} {}
 
-    template <class Call> std::uint64_t counted(Call call, std::uint64_t index) const
+    std::uint64_t counted(bool one, std::uint64_t index) const
     {
         std::uint64_t out = 0;
-        const std::uint32_t status = call(&over_, index, &out);
+        const std::uint32_t status = bitm_rank(&over_, one, index, &out);
         if (status == BITM_NONE) detail::outside("rank", index, size());
         return detail::answer(status, out).value();
     }
-    template <class Call> place found(Call call, std::uint64_t rank) const
+    place found(bool one, std::uint64_t rank) const
     {
         std::uint64_t out = 0;
-        const std::uint32_t status = call(&over_, rank, &out);
+        const std::uint32_t status = bitm_select(&over_, one, rank, &out);
         return detail::answer(status, out);
     }
-    template <class Call> place by_samples(Call call, const bitm_samples &by, std::uint64_t rank) const
-    {
-        std::uint64_t out = 0;
-        const std::uint32_t status = call(&view(), &by, rank, &out);
-        const place found = detail::answer(status, out);
-        return found && *found < size() ? found : std::nullopt;
-    }
     template <class Call>
-    std::vector<std::uint64_t> list(Call call, const std::vector<std::uint64_t> &queries) const
+    std::vector<std::uint64_t> list(Call call, bool one, const std::vector<std::uint64_t> &queries) const
     {
         std::vector<std::uint64_t> out(queries.size());
-        if (call(&view(), queries.data(), queries.size(), out.data(), out.size()) != BITM_OK) throw wrong_tables();
+        if (call(&over_, one, queries.data(), queries.size(), out.data(), out.size()) != BITM_OK) throw wrong_tables();
         return out;
     }
-    template <class Call>
-    std::vector<std::uint64_t> list(Call call, const bitm_samples &by, const std::vector<std::uint64_t> &queries) const
-    {
-        return list([&](const bitm_view *of, auto... rest) { return call(of, &by, rest...); }, queries);
-    }
 
-    bitm_bits_view over_;
+    bitm_index over_;
     std::optional<bitm_samples> ones_by_, zeros_by_;
 };
 
@@ -208,8 +190,8 @@ public:
     }
 
     // Samples one of each 2^log2 ones, or zeros, by which selection is faster; log2 is 7 to 31.
-    void sample_ones(std::uint32_t log2 = 12) { of_ones_ = sampled(bitm_build_samples, log2), point(); }
-    void sample_zeros(std::uint32_t log2 = 12) { of_zeros_ = sampled(bitm_build_samples0, log2), point(); }
+    void sample_ones(std::uint32_t log2 = 12) { of_ones_ = sampled(true, log2), point(); }
+    void sample_zeros(std::uint32_t log2 = 12) { of_zeros_ = sampled(false, log2), point(); }
 
     const std::vector<std::uint64_t> &words() const noexcept { return words_; }
 
@@ -219,14 +201,14 @@ private:
         std::vector<std::uint64_t> starts;
         std::uint32_t log2;
     };
-    template <class Call> kept_samples sampled(Call call, std::uint32_t log2) const
+    kept_samples sampled(bool one, std::uint32_t log2) const
     {
         if (log2 < 7 || log2 > 31) throw std::invalid_argument("bitm: the logarithm of samples is 7 to 31");
         kept_samples made{std::vector<std::uint32_t>(bitm_samples_len(words_.size(), log2)),
                           std::vector<std::uint64_t>(upper_.size()), log2};
         std::uint64_t used = 0;
-        if (call(&view(), log2, made.samples.data(), made.samples.size(), made.starts.data(), made.starts.size(),
-                 &used) != BITM_OK)
+        if (bitm_build_samples(&view(), one, log2, made.samples.data(), made.samples.size(), made.starts.data(),
+                               made.starts.size(), &used) != BITM_OK)
             throw wrong_tables();
         made.samples.resize(used);
         return made;
@@ -239,9 +221,9 @@ private:
     }
     void point() noexcept
     {
-        over_ = {{words_.data(), words_.size(), upper_.data(), upper_.size(), lower_.data(), lower_.size()},
-                 words_.empty() ? 0 : size()};
         ones_by_ = lent(of_ones_), zeros_by_ = lent(of_zeros_);
+        over_ = {{words_.data(), words_.size(), upper_.data(), upper_.size(), lower_.data(), lower_.size()},
+                 words_.empty() ? 0 : size(), ones_by_.value_or(bitm_samples{}), zeros_by_.value_or(bitm_samples{})};
     }
 
     std::vector<std::uint64_t> words_, upper_, lower_;

@@ -13,8 +13,8 @@ int main(void)
         return 1;
     if (bitm_build(words, 40, upper, upper_len, lower, lower_len, &ones) != BITM_OK)
         return 1;
-    struct bitm_view view = {words, 40, upper, upper_len, lower, lower_len};
-    if (bitm_rank(&view, 101, &rank) != BITM_OK || bitm_select(&view, 1, &place) != BITM_OK)
+    struct bitm_index index = {.view = {words, 40, upper, upper_len, lower, lower_len}, .bits_len = 64 * 40};
+    if (bitm_rank(&index, true, 101, &rank) != BITM_OK || bitm_select(&index, true, 1, &place) != BITM_OK)
         return 1;
     printf("%llu ones, %llu of them among the first 101 bits, the second one at %llu\n", (unsigned long long)ones,
            (unsigned long long)rank, (unsigned long long)place);

@@ -8,7 +8,7 @@ from ._bits import calls
 from ._buffers import Lent, WrongTables, number, zeros
 from ._index import tables_of
 from ._lending import Lending
-from ._library import NONE, OK, U64, Stored, View
+from ._library import NONE, OK, U64, Index, Stored, View
 from ._stored import Path, items, write
 
 Key = Union[str, bytes, int]
@@ -111,7 +111,8 @@ class PerfectHash(Lending):
         (view, _held), ones = self._open(), U64()
         if calls.bitm_check(ctypes.byref(view)) != OK:
             return False
-        return calls.bitm_rank(ctypes.byref(view), 64 * view.words_len, ctypes.byref(ones)) == OK and ones.value == self._len
+        index = Index(view, 64 * view.words_len)
+        return calls.bitm_ones_in(ctypes.byref(index), ctypes.byref(ones)) == OK and ones.value == self._len
 
     def save(self, path: Path) -> None:
         """Writes it into a file, from which `bitm.load` takes it: a stored index, and behind that sizes and

@@ -2,12 +2,13 @@
 import array
 import ctypes
 import operator
-from typing import Any, Iterator, Optional, Tuple, Union
+from typing import Any, Callable, Iterator, Optional, Tuple, Union
 
 from ._bits import BitVector, calls
 from ._buffers import Lent, WrongTables, apart, as_asked, number, numbers_of, words_of, zeros
 from ._lending import Lending
-from ._library import BAD_SIZE, NO_ANSWER, OK, U64, WRONG, BitsView, Samples, Stored, View
+from ._library import BAD_SIZE, NO_ANSWER, OK, U64, WRONG, Samples, Stored, View
+from ._library import Index as IndexView
 from ._stored import Path, items, write
 
 
@@ -27,6 +28,11 @@ def build(words: Any, upper: Any, lower: Any) -> int:
     return ones.value
 
 
+def of_kind(call: Callable[..., int], kind: int) -> Callable[..., int]:
+    """A call on an index for ones, or for zeros where `kind` is 0."""
+    return lambda index, *rest: call(index, bool(kind), *rest)
+
+
 class Index(Lending):
     """Rank and selection over bits, which stay where they are: a `BitVector`, or a buffer of words (`array`, NumPy,
     `mmap`) or of bytes. Two tables beside them take 3.2 % of the bits' room.
@@ -40,7 +46,7 @@ class Index(Lending):
     [1, 3, None]
     """
 
-    __slots__ = ("_is_cut", "_len", "_ones", "_samples")
+    __slots__ = ("_len", "_ones", "_samples")
 
     def __init__(self, bits: Any, length: Optional[int] = None, *, sample_log2: Optional[int] = None) -> None:
         """Makes the tables of the bits; with `sample_log2`, samples for one of each 2^sample_log2 ones and zeros too,
@@ -52,7 +58,7 @@ class Index(Lending):
         self._make(words, upper, lower, length)
         if sample_log2 is not None:
             log2 = number(sample_log2, "sample_log2")
-            self._samples = self._sampled(0, log2), self._sampled(1, log2)
+            self._keep((self._sampled(0, log2), self._sampled(1, log2)))
 
     @classmethod
     def over(cls, words: Any, upper: Any, lower: Any, length: Optional[int] = None) -> "Index":
@@ -78,14 +84,21 @@ class Index(Lending):
         self._len = length
         self._samples: Tuple[Optional[Tuple[Any, ...]], ...] = (None, None)  # of zeros, of ones
         lent = Lent(words), Lent(upper), Lent(lower)
-        self._is_cut = length < 64 * lent[0].len
-        bits = BitsView(View(*(part for it in lent for part in it.part)), length)
+        bits = IndexView(View(*(part for it in lent for part in it.part)), length)
         out = U64()
-        status = calls.bitm_bits_rank(bits, length, ctypes.byref(out))
+        status = calls.bitm_rank(bits, True, length, ctypes.byref(out))
         if status == BAD_SIZE:
             raise ValueError("a table is not as long as that of the words")
         self._ones: Optional[int] = None if status == WRONG else out.value
         self._lend(bits, lent)
+
+    def _keep(self, samples: Tuple[Optional[Tuple[Any, ...]], ...]) -> None:
+        """Has calls begin at samples, of zeros and of ones, from now on."""
+        bits, lent = self._open()
+        nulls, ones = (kept[0] if kept else Samples() for kept in samples)
+        self._samples = samples
+        rooms = tuple(room for kept in samples if kept for room in kept[1])
+        self._lend(IndexView(bits.view, bits.bits_len, ones, nulls), lent[:3] + rooms)
 
     def _sampled(self, kind: int, log2: int) -> Tuple[Any, ...]:
         view, _held = self._whole()
@@ -93,8 +106,8 @@ class Index(Lending):
         most, used = calls.bitm_samples_len(view.words_len, log2), U64()
         samples, starts = array.array("I", bytes(4 * most)), zeros(view.upper_len)
         rooms = Lent(samples, True, 4), Lent(starts, True)
-        make = calls.bitm_build_samples if kind else calls.bitm_build_samples0
-        if make(view, log2, *rooms[0].part, *rooms[1].part, ctypes.byref(used)) != OK:
+        room = rooms[0].part + rooms[1].part
+        if calls.bitm_build_samples(view, bool(kind), log2, *room, ctypes.byref(used)) != OK:
             raise ValueError("no samples could be made")
         return Samples(rooms[0].address, used.value, *rooms[1].part, log2), rooms
 
@@ -113,8 +126,8 @@ class Index(Lending):
         view, _held = self._whole()
         if calls.bitm_check(view) != OK:
             return False
-        kinds = zip((calls.bitm_check_samples0, calls.bitm_check_samples), self._samples)
-        return all(call(view, kept[0]) == OK for call, kept in kinds if kept)
+        kinds = enumerate(self._samples)
+        return all(calls.bitm_check_samples(view, bool(kind), kept[0]) == OK for kind, kept in kinds if kept)
 
     def save(self, path: Path) -> None:
         """Writes bits, tables and samples into a file, from which `bitm.load` takes them."""
@@ -123,7 +136,7 @@ class Index(Lending):
         if used < view.words_len:  # tables of fewer words are others
             words = memoryview((U64 * used).from_address(view.words)).cast("B").cast("Q") if used else zeros(0)
             cut = Index(words, self._len)
-            cut._samples = tuple(kept and cut._sampled(kind, kept[0].log2) for kind, kept in enumerate(self._samples))
+            cut._keep(tuple(kept and cut._sampled(kind, kept[0].log2) for kind, kept in enumerate(self._samples)))
             cut.save(path)
             return
         nulls, ones = (kept[0] if kept else Samples() for kept in self._samples)
@@ -142,8 +155,8 @@ class Index(Lending):
     def _stored(cls, header: Stored, whole: Any) -> "Index":
         made = cls.over(*(items(whole, it) for it in (header.words, header.upper, header.lower)), header.len)
         kinds = (header.samples0, header.starts0, header.zeros_log2), (header.samples, header.starts, header.ones_log2)
-        made._samples = tuple(
-            made._lent_samples(items(whole, it, 4), items(whole, at), log2) if log2 else None for it, at, log2 in kinds
+        made._keep(
+            tuple(made._lent_samples(items(whole, it, 4), items(whole, at), log2) if log2 else None for it, at, log2 in kinds)
         )
         return made
 
@@ -203,27 +216,19 @@ class Index(Lending):
 
     def rank(self, index: int) -> int:
         """How many of the first `index` bits are ones, at most `index`. IndexError where there are fewer bits."""
-        return self._ask(calls.bitm_bits_rank, self._place(index), "a place") or 0
+        return self._ask(of_kind(calls.bitm_rank, 1), self._place(index), "a place") or 0
 
     def rank0(self, index: int) -> int:
         """How many of the first `index` bits are zeros. IndexError where there are fewer bits."""
-        return self._ask(calls.bitm_bits_rank0, self._place(index), "a place") or 0
-
-    def _select(self, kind: int, rank: Any) -> Optional[int]:
-        kept = self._samples[kind]
-        if kept is None:
-            return self._ask(calls.bitm_bits_select if kind else calls.bitm_bits_select0, rank, "a rank")
-        call, by = calls.bitm_sampled_select if kind else calls.bitm_sampled_select0, kept[0]
-        place = self._ask(lambda bits, *rest: call(bits.view, by, *rest), rank, "a rank")
-        return place if place is not None and place < self._len else None
+        return self._ask(of_kind(calls.bitm_rank, 0), self._place(index), "a place") or 0
 
     def select(self, rank: int) -> Optional[int]:
         """The place of the one with exactly `rank` ones before it; None where there is none."""
-        return self._select(1, rank)
+        return self._ask(of_kind(calls.bitm_select, 1), rank, "a rank")
 
     def select0(self, rank: int) -> Optional[int]:
         """The place of the zero with exactly `rank` zeros before it; None where there is none."""
-        return self._select(0, rank)
+        return self._ask(of_kind(calls.bitm_select, 0), rank, "a rank")
 
     def next_one(self, place: int) -> Optional[int]:
         """The first one at a place or after it; None where there is none."""
@@ -247,21 +252,14 @@ class Index(Lending):
         """Ranks of many places, in one call: an array of NumPy's for one of uint64, else a list. IndexError where one
         of them is past the end."""
         asked = numbers_of(places)
-        found = self._ask_list(lambda bits, *rest: calls.bitm_rank_list(bits.view, *rest), asked)
-        if NO_ANSWER in found or (self._is_cut and max(memoryview(asked), default=0) > self._len):
+        found = self._ask_list(of_kind(calls.bitm_rank_list, 1), asked)
+        if NO_ANSWER in found:
             raise IndexError(f"a place is past the end of {self._len} bits")
         return as_asked(found, (), places)
 
     def _select_list(self, kind: int, ranks: Any) -> Any:
-        kept = self._samples[kind]
-        if kept is None:
-            plain = calls.bitm_select_list if kind else calls.bitm_select0_list
-            found = self._ask_list(lambda bits, *rest: plain(bits.view, *rest), ranks)
-        else:
-            call, by = calls.bitm_sampled_select_list if kind else calls.bitm_sampled_select0_list, kept[0]
-            found = self._ask_list(lambda bits, *rest: call(bits.view, by, *rest), ranks)
-        past = {it for it in found if it >= self._len} if self._is_cut or NO_ANSWER in found else ()
-        return as_asked(found, past, ranks)
+        found = self._ask_list(of_kind(calls.bitm_select_list, kind), ranks)
+        return as_asked(found, {NO_ANSWER} if NO_ANSWER in found else (), ranks)
 
     def select_list(self, ranks: Any) -> Any:
         """Places of many ranks, in one call: a masked array of NumPy's for an array of uint64, else a list in which

@@ -39,10 +39,10 @@ class Samples(ctypes.Structure):
     _fields_ = [("samples", IN), ("samples_len", SIZE), ("starts", IN), ("starts_len", SIZE), ("log2", U32)]
 
 
-class BitsView(ctypes.Structure):
-    """`struct bitm_bits_view`."""
+class Index(ctypes.Structure):
+    """`struct bitm_index`."""
 
-    _fields_ = [("view", View), ("bits_len", U64)]
+    _fields_ = [("view", View), ("bits_len", U64), ("ones", Samples), ("zeros", Samples)]
 
 
 class Span(ctypes.Structure):
@@ -62,7 +62,7 @@ class Stored(ctypes.Structure):
 
 
 VIEW, HEADER, SAMPLES = ctypes.POINTER(View), ctypes.POINTER(Header), ctypes.POINTER(Samples)
-BITS = ctypes.POINTER(BitsView)
+INDEX = ctypes.POINTER(Index)
 SEQUENCE, SIZES, STORED = ctypes.POINTER(SequenceView), ctypes.POINTER(SequenceLens), ctypes.POINTER(Stored)
 WORDS, LIST, ROOM = [IN, SIZE], [IN, SIZE], [OUT, SIZE]
 
@@ -73,21 +73,15 @@ DECLARATIONS = {
     "bitm_lower_len": (SIZE, [SIZE]),
     "bitm_build": (STATUS, WORDS + ROOM + ROOM + [OUT]),
     "bitm_check": (STATUS, [VIEW]),
-    "bitm_rank": (STATUS, [VIEW, SIZE, OUT]),
-    "bitm_rank0": (STATUS, [VIEW, SIZE, OUT]),
-    "bitm_select": (STATUS, [VIEW, SIZE, OUT]),
-    "bitm_select0": (STATUS, [VIEW, SIZE, OUT]),
-    "bitm_rank_list": (STATUS, [VIEW] + LIST + ROOM),
-    "bitm_rank0_list": (STATUS, [VIEW] + LIST + ROOM),
-    "bitm_select_list": (STATUS, [VIEW] + LIST + ROOM),
-    "bitm_select0_list": (STATUS, [VIEW] + LIST + ROOM),
+    "bitm_rank": (STATUS, [INDEX, BOOL, SIZE, OUT]),
+    "bitm_select": (STATUS, [INDEX, BOOL, SIZE, OUT]),
+    "bitm_rank_list": (STATUS, [INDEX, BOOL] + LIST + ROOM),
+    "bitm_select_list": (STATUS, [INDEX, BOOL] + LIST + ROOM),
+    "bitm_ones_in": (STATUS, [INDEX, OUT]),
+    "bitm_places": (STATUS, [INDEX, BOOL, SIZE] + ROOM + [OUT]),
     "bitm_samples_len": (SIZE, [SIZE, U32]),
-    "bitm_build_samples": (STATUS, [VIEW, U32] + ROOM + ROOM + [OUT]),
-    "bitm_build_samples0": (STATUS, [VIEW, U32] + ROOM + ROOM + [OUT]),
-    "bitm_sampled_select": (STATUS, [VIEW, SAMPLES, SIZE, OUT]),
-    "bitm_sampled_select0": (STATUS, [VIEW, SAMPLES, SIZE, OUT]),
-    "bitm_sampled_select_list": (STATUS, [VIEW, SAMPLES] + LIST + ROOM),
-    "bitm_sampled_select0_list": (STATUS, [VIEW, SAMPLES] + LIST + ROOM),
+    "bitm_build_samples": (STATUS, [VIEW, BOOL, U32] + ROOM + ROOM + [OUT]),
+    "bitm_check_samples": (STATUS, [VIEW, BOOL, SAMPLES]),
     "bitm_count": (STATUS, WORDS + [OUT]),
     "bitm_ones": (STATUS, WORDS + [SIZE] + ROOM + [OUT]),
     "bitm_get_bit": (STATUS, WORDS + [SIZE, OUT]),
@@ -118,20 +112,11 @@ DECLARATIONS = {
     "bitm_sequence_items": (STATUS, [SEQUENCE, SIZE] + ROOM + [OUT]),
     "bitm_sequence_first_at_least_list": (STATUS, [SEQUENCE] + LIST + ROOM),
     "bitm_sequence_get_list": (STATUS, [SEQUENCE] + LIST + ROOM + [OUT]),
-    "bitm_bits_rank": (STATUS, [BITS, SIZE, OUT]),
-    "bitm_bits_rank0": (STATUS, [BITS, SIZE, OUT]),
-    "bitm_bits_select": (STATUS, [BITS, SIZE, OUT]),
-    "bitm_bits_select0": (STATUS, [BITS, SIZE, OUT]),
-    "bitm_bits_count": (STATUS, [BITS, OUT]),
-    "bitm_bits_ones": (STATUS, [BITS, SIZE] + ROOM + [OUT]),
-    "bitm_bits_zeros": (STATUS, [BITS, SIZE] + ROOM + [OUT]),
     "bitm_hash_level": (STATUS, ROOM + [U32] + ROOM + ROOM + [OUT]),
     "bitm_hash_get": (STATUS, [VIEW] + LIST + [SIZE, U64, OUT]),
     "bitm_stored_index": (STATUS, [U64, U32, U64, U32, U64, STORED]),
     "bitm_stored_sequence": (STATUS, [U64, SIZES, STORED]),
     "bitm_read_stored": (STATUS, WORDS + [STORED]),
-    "bitm_check_samples": (STATUS, [VIEW, SAMPLES]),
-    "bitm_check_samples0": (STATUS, [VIEW, SAMPLES]),
     "bitm_write_header": (STATUS, [SIZE, HEADER]),
     "bitm_read_header": (STATUS, [HEADER, OUT]),
 }

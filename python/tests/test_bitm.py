@@ -82,7 +82,7 @@ class Files(unittest.TestCase):
             bits = drawn_bits(count, 0.4)
             for kind in (0, 1):
                 made = Index(BitVector.from_bits(bits), length, sample_log2=7)
-                made._samples = tuple(it if at == kind else None for at, it in enumerate(made._samples))
+                made._keep(tuple(it if at == kind else None for at, it in enumerate(made._samples)))
                 made.save(self.path)
                 plain = Plain(bits[:length])
                 for _, index in self.both():

@@ -1,8 +1,7 @@
 -- What the exported calls answer: a status, and a number written where the caller says.
-use Rattle.std.specs.Prelude.{◌≡◌, ◌≢◌, ℕ, ◌^◌, ◌<◌, ◌⊎◌, Bool, if◌then◌else◌, nat_eq}
+use Rattle.std.specs.Prelude.{◌≡◌, ◌≢◌, ℕ, ◌^◌, ◌<◌, ◌⊎◌, if◌then◌else◌, nat_eq}
 use Rattle.std.specs.Int.{div_ceil}
-use Rattle.bitm.specs.Tables.{HasSizes, Lists}
-use Rattle.bitm_lent.specs.Queries.{Selects}
+use Rattle.bitm.specs.Tables.{Lists}
 use Rattle.bitm_lent.specs.Sizes.{lists_of}
 use Rattle.bitm.specs.Selected.{Selected}
 use Rattle.bitm.specs.Selected.TheVariants.{Found, Absent, WrongTables}
@@ -33,10 +32,6 @@ pub record Exported {A T : Type 0} (says : ℕ → T → A) (sized : Type 0) (P 
 -- the answer of a selection
 abbrev pub selected : ℕ → ℕ → Selected
 selected status n = if nat_eq status 0 then Found n else if nat_eq status 1 then Absent else WrongTables
-
--- a selection of the bit v by rank
-abbrev pub SelectAnswered : Bool → Lists → ℕ → ℕ → ℕ → ℕ → Type 0
-SelectAnswered v lists rank = Exported selected (HasSizes lists) (Selects v lists rank)
 
 -- what stands before so many stored words and their tables
 abbrev pub header_of : ℕ → Header

@@ -1,14 +1,13 @@
-//! Building, checking and asking an index whose tables lie in the caller's memory.
-ghost use Rattle.std.specs.Prelude.{◌≡◌, ◌≢◌, ◌^◌, ◌↔◌, ◌⊎◌, true, false};
+//! Building and checking tables that lie in the caller's memory.
+ghost use Rattle.std.specs.Prelude.{◌≡◌, ◌≢◌, ◌^◌, ◌↔◌, ◌⊎◌};
 ghost use Rattle.std.specs.Int.{div_ceil};
 ghost use Rattle.bitm.specs.Bits.{bits_of};
 ghost use Rattle.bitm.specs.Count.{ones_of};
 ghost use Rattle.bitm.specs.Tables.{HasSizes, HasTables};
 ghost use Rattle.bitm_lent.specs.Sizes.{lists_of};
-ghost use Rattle.bitm_c.specs.Rank.{RankAnswered};
-ghost use Rattle.bitm_c.specs.Status.{view_lists, SelectAnswered};
+ghost use Rattle.bitm_c.specs.Status.{view_lists};
 
-use crate::answer::{BAD_SIZE, OK, WRONG, tell_count, tell_place};
+use crate::answer::{BAD_SIZE, OK, WRONG};
 use crate::view::View;
 
 /// How many numbers the upper table of so many words has: one for each begun 2^26 words.
@@ -61,50 +60,6 @@ pub extern "C" fn bitm_check(view: &View<'_>) -> u32
 {
     match view.lent() {
         Some(lent) => { if lent.check() { OK } else { WRONG } }
-        None => BAD_SIZE,
-    }
-}
-
-/// How many of the first `index` bits are ones.
-#[unsafe(no_mangle)]
-pub extern "C" fn bitm_rank(view: &View<'_>, index: usize, out: &mut usize) -> u32
-    ensures { RankAnswered true (view_lists view.now) index result out.old out.new }
-{
-    match view.lent() {
-        Some(lent) => tell_count(lent.rank::<1>(index), out),
-        None => BAD_SIZE,
-    }
-}
-
-/// How many of the first `index` bits are zeros.
-#[unsafe(no_mangle)]
-pub extern "C" fn bitm_rank0(view: &View<'_>, index: usize, out: &mut usize) -> u32
-    ensures { RankAnswered false (view_lists view.now) index result out.old out.new }
-{
-    match view.lent() {
-        Some(lent) => tell_count(lent.rank::<0>(index), out),
-        None => BAD_SIZE,
-    }
-}
-
-/// The place of the one with `rank` ones before it.
-#[unsafe(no_mangle)]
-pub extern "C" fn bitm_select(view: &View<'_>, rank: usize, out: &mut usize) -> u32
-    ensures { SelectAnswered true (view_lists view.now) rank result out.old out.new }
-{
-    match view.lent() {
-        Some(lent) => tell_place(lent.select::<1>(rank), out),
-        None => BAD_SIZE,
-    }
-}
-
-/// The place of the zero with `rank` zeros before it.
-#[unsafe(no_mangle)]
-pub extern "C" fn bitm_select0(view: &View<'_>, rank: usize, out: &mut usize) -> u32
-    ensures { SelectAnswered false (view_lists view.now) rank result out.old out.new }
-{
-    match view.lent() {
-        Some(lent) => tell_place(lent.select::<0>(rank), out),
         None => BAD_SIZE,
     }
 }

@@ -7,14 +7,13 @@
 
 mod answer;
 mod bits;
-mod bits_view;
 mod hash;
 mod header;
 mod index;
 mod layout;
-mod lists;
 mod numbers;
 mod places;
+mod queries;
 mod ranges;
 mod sample_checks;
 mod sampled;

@@ -1,14 +1,12 @@
-//! Selection by samples that lie in the caller's memory.
-ghost use Rattle.std.specs.Prelude.{◌≡◌, ◌≢◌, ◌<◌, ◌≤◌, ◌↔◌, ℕ, length, min, slice_index, take, true, false};
+//! Samples that lie in the caller's memory.
+ghost use Rattle.std.specs.Prelude.{◌≡◌, ◌≢◌, ◌≤◌, ◌↔◌, ℕ, length, min, slice_index, take};
 ghost use Rattle.bitm.specs.Density.{clamped_log};
 ghost use Rattle.bitm.specs.Tables.{HasSizes, HasTables, bits_in};
-ghost use Rattle.bitm_lent.specs.Answers.{SelectTold};
 ghost use Rattle.bitm_lent.specs.Samples.{AreSamples, HasRoom, enough_samples};
 ghost use Rattle.bitm_c.specs.Sampled.{lent_samples};
-ghost use Rattle.bitm_c.specs.Status.{view_lists, SelectAnswered};
+ghost use Rattle.bitm_c.specs.Status.{view_lists};
 
-use crate::answer::{BAD_SIZE, OK, tell_place};
-use crate::lists::done;
+use crate::answer::{BAD_SIZE, OK};
 use crate::view::View;
 use bitm_lent::LentSamples;
 
@@ -54,10 +52,11 @@ pub extern "C" fn bitm_samples_len(words_len: usize, log2: u32) -> usize
     bitm_lent::samples_len(words_len, narrow_log2(log2))
 }
 
-/// Writes the samples of ones, how many there are before each part, and how many there are.
+/// Writes the samples of ones, or zeros, how many there are before each part, and how many there are.
 #[unsafe(no_mangle)]
 pub extern "C" fn bitm_build_samples(
     view: &View<'_>,
+    one: bool,
     log2: u32,
     samples: &mut [u32],
     starts: &mut [usize],
@@ -67,7 +66,7 @@ pub extern "C" fn bitm_build_samples(
         × HasRoom (view_lists view.now) log2 samples.old starts.old }
     ensures fits { result ≡ 0 → used.new ≤ length samples.old }
     ensures made { result ≡ 0 → HasTables (view_lists view.now) → AreSamples
-        (bits_in (view_lists view.now)) true (clamped_log log2)
+        (bits_in (view_lists view.now)) one (clamped_log log2)
         (take used.new samples.new) starts.new }
     ensures behind { result ≡ 0 → (j : ℕ) → used.new ≤ j
         → slice_index samples.new j ≡ slice_index samples.old j }
@@ -77,117 +76,16 @@ pub extern "C" fn bitm_build_samples(
     let Some(lent) = view.lent() else {
         return BAD_SIZE;
     };
-    match lent.build_samples::<1>(narrow_log2(log2), samples, starts) {
-        Some(count) => {
-            *used = count;
-            OK
-        }
-        None => BAD_SIZE,
-    }
-}
-
-/// Writes the samples of zeros, how many there are before each part, and how many there are.
-#[unsafe(no_mangle)]
-pub extern "C" fn bitm_build_samples0(
-    view: &View<'_>,
-    log2: u32,
-    samples: &mut [u32],
-    starts: &mut [usize],
-    used: &mut usize,
-) -> u32
-    ensures ok { (result ≡ 0) ↔ HasSizes (view_lists view.now)
-        × HasRoom (view_lists view.now) log2 samples.old starts.old }
-    ensures fits { result ≡ 0 → used.new ≤ length samples.old }
-    ensures made { result ≡ 0 → HasTables (view_lists view.now) → AreSamples
-        (bits_in (view_lists view.now)) false (clamped_log log2)
-        (take used.new samples.new) starts.new }
-    ensures behind { result ≡ 0 → (j : ℕ) → used.new ≤ j
-        → slice_index samples.new j ≡ slice_index samples.old j }
-    ensures kept { result ≢ 0 → (result ≡ 2) × (samples.new ≡ samples.old)
-        × (starts.new ≡ starts.old) × (used.new ≡ used.old) }
-{
-    let Some(lent) = view.lent() else {
-        return BAD_SIZE;
+    let made = if one {
+        lent.build_samples::<1>(narrow_log2(log2), samples, starts)
+    } else {
+        lent.build_samples::<0>(narrow_log2(log2), samples, starts)
     };
-    match lent.build_samples::<0>(narrow_log2(log2), samples, starts) {
+    match made {
         Some(count) => {
             *used = count;
             OK
         }
-        None => BAD_SIZE,
-    }
-}
-
-/// The place of the one with `rank` ones before it, by samples of the ones.
-#[unsafe(no_mangle)]
-pub extern "C" fn bitm_sampled_select(
-    view: &View<'_>,
-    samples: &Samples<'_>,
-    rank: usize,
-    out: &mut usize,
-) -> u32
-    ensures { SelectAnswered true (view_lists view.now) rank result out.old out.new }
-{
-    match view.lent() {
-        Some(lent) => tell_place(lent.sampled_select::<1>(&samples.lent(), rank), out),
-        None => BAD_SIZE,
-    }
-}
-
-/// The place of the zero with `rank` zeros before it, by samples of the zeros.
-#[unsafe(no_mangle)]
-pub extern "C" fn bitm_sampled_select0(
-    view: &View<'_>,
-    samples: &Samples<'_>,
-    rank: usize,
-    out: &mut usize,
-) -> u32
-    ensures { SelectAnswered false (view_lists view.now) rank result out.old out.new }
-{
-    match view.lent() {
-        Some(lent) => tell_place(lent.sampled_select::<0>(&samples.lent(), rank), out),
-        None => BAD_SIZE,
-    }
-}
-
-/// The place of the one with each rank, by samples of the ones.
-#[unsafe(no_mangle)]
-pub extern "C" fn bitm_sampled_select_list(
-    view: &View<'_>,
-    samples: &Samples<'_>,
-    queries: &[usize],
-    out: &mut [usize],
-) -> u32
-    ensures ok { (result ≡ 0) ↔ HasSizes (view_lists view.now)
-        × (length out.old ≡ length queries.now) }
-    ensures kept { result ≢ 0 → (result ≡ 2) × (out.new ≡ out.old) }
-    ensures told { result ≡ 0 → (j : ℕ) → j < length queries.now
-        → SelectTold true (view_lists view.now)
-        (slice_index queries.now j) (slice_index out.new j) }
-{
-    match view.lent() {
-        Some(lent) => done(lent.sampled_select_list::<1>(&samples.lent(), queries, out)),
-        None => BAD_SIZE,
-    }
-}
-
-/// The place of the zero with each rank, by samples of the zeros.
-#[unsafe(no_mangle)]
-pub extern "C" fn bitm_sampled_select0_list(
-    view: &View<'_>,
-    samples: &Samples<'_>,
-    queries: &[usize],
-    out: &mut [usize],
-) -> u32
-    ensures ok { (result ≡ 0) ↔ HasSizes (view_lists view.now)
-        × (length out.old ≡ length queries.now) }
-    ensures kept { result ≢ 0 → (result ≡ 2) × (out.new ≡ out.old) }
-    ensures told { result ≡ 0 → (j : ℕ) → j < length queries.now
-        → SelectTold false (view_lists view.now)
-        (slice_index queries.now j) (slice_index out.new j) }
-{
-    match view.lent() {
-        Some(lent) => done(lent.sampled_select_list::<0>(&samples.lent(), queries, out)),
         None => BAD_SIZE,
     }
 }

@@ -5,6 +5,5 @@ pub mod CutLemmas
 pub mod FilledLemmas
 pub mod ListLemmas
 pub mod OnesFromLemmas
-pub mod RankedLemmas
 pub mod SampleCheckLemmas
 pub mod SamplingLemmas

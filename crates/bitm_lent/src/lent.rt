@@ -122,8 +122,7 @@ impl<'a> Lent<'a> {
     /// At most one upper entry, one lower entry and eight words are read.
     #[inline(always)]
     pub fn rank<const BIT: u8>(&self, index: usize) -> Ranked
-        ensures sized { HasSizes self.now }
-        ensures ranks { Ranks (as_bit BIT) self.now index result }
+        ensures { Ranks (as_bit BIT) self.now index result }
     {
         let Some(ones) = self.told_ones(index) else {
             return Ranked::Absent;

@@ -1,8 +1,6 @@
 //! Contents that end inside a word: what stands behind is neither counted nor found.
 use crate::ffi::*;
-use crate::lent::{told, Lent, WrongTables};
-
-type OneQuery = unsafe extern "C" fn(*const BitsView, usize, *mut u64) -> u32;
+use crate::lent::{Lent, WrongTables};
 
 /// Words and tables that are lent, of which the first so many bits count.
 ///
@@ -16,7 +14,7 @@ type OneQuery = unsafe extern "C" fn(*const BitsView, usize, *mut u64) -> u32;
 /// assert_eq!((bits.select0(1), bits.select0(2)), (Ok(Some(3)), Ok(None)));
 /// ```
 pub struct LentBits<'a> {
-    bits: BitsView,
+    bits: Index,
     whole: Lent<'a>,
 }
 
@@ -27,11 +25,9 @@ unsafe impl Sync for LentBits<'_> {}
 impl<'a> Lent<'a> {
     /// The first so many bits; `None` where there are fewer, or 2^58 words or more.
     pub fn cut(self, bits_len: usize) -> Option<LentBits<'a>> {
-        let bits = BitsView {
-            view: self.view,
-            bits_len: bits_len as u64,
-        };
-        let fits = unsafe { bitm_bits_rank(&bits, usize::MAX, &mut 0) } == NONE;
+        let mut bits = self.index();
+        bits.bits_len = bits_len as u64;
+        let fits = unsafe { bitm_rank(&bits, true, usize::MAX, &mut 0) } == NONE;
         fits.then_some(LentBits { bits, whole: self })
     }
 }
@@ -57,29 +53,23 @@ impl<'a> LentBits<'a> {
         (place < self.len()).then(|| self.whole.words()[place / 64] >> (place % 64) & 1 == 1)
     }
 
-    fn ask(&self, call: OneQuery, query: usize) -> Result<Option<u64>, WrongTables> {
-        let mut out = 0;
-        let status = unsafe { call(&self.bits, query, &mut out) };
-        told(status, out)
-    }
-
     /// How many of the first `index` bits are ones, at most `index`; `None` exactly where there are fewer bits.
     pub fn rank(&self, index: usize) -> Result<Option<u64>, WrongTables> {
-        self.ask(bitm_bits_rank, index)
+        self.bits.ask(bitm_rank, true, index)
     }
 
     /// How many of the first `index` bits are zeros, as `rank`.
     pub fn rank0(&self, index: usize) -> Result<Option<u64>, WrongTables> {
-        self.ask(bitm_bits_rank0, index)
+        self.bits.ask(bitm_rank, false, index)
     }
 
     /// The place of the one with `rank` ones before it.
     pub fn select(&self, rank: usize) -> Result<Option<u64>, WrongTables> {
-        self.ask(bitm_bits_select, rank)
+        self.bits.ask(bitm_select, true, rank)
     }
 
     /// The place of the zero with `rank` zeros before it.
     pub fn select0(&self, rank: usize) -> Result<Option<u64>, WrongTables> {
-        self.ask(bitm_bits_select0, rank)
+        self.bits.ask(bitm_select, false, rank)
     }
 }

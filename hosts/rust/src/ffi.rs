@@ -47,6 +47,7 @@ pub struct SequenceLens {
 
 /// `struct bitm_samples`: samples of one kind of bits and how many stand before each part, and their logarithm.
 #[repr(C)]
+#[derive(Clone, Copy)]
 pub(crate) struct Samples {
     pub(crate) samples: *const u32,
     pub(crate) samples_len: usize,
@@ -55,11 +56,14 @@ pub(crate) struct Samples {
     pub(crate) log2: u32,
 }
 
-/// `struct bitm_bits_view`: a view of which so many bits count.
+/// `struct bitm_index`: a view of which so many bits count, and samples of ones and of zeros.
 #[repr(C)]
-pub(crate) struct BitsView {
+#[derive(Clone, Copy)]
+pub(crate) struct Index {
     pub(crate) view: View,
     pub(crate) bits_len: u64,
+    pub(crate) ones: Samples,
+    pub(crate) zeros: Samples,
 }
 
 /// `struct bitm_span`: how many bytes of a file stand before the first item, and how many items there are.
@@ -105,26 +109,19 @@ extern "C" {
         ones: *mut u64,
     ) -> u32;
     pub(crate) fn bitm_check(view: *const View) -> u32;
-    pub(crate) fn bitm_rank(view: *const View, index: usize, out: *mut u64) -> u32;
-    pub(crate) fn bitm_rank0(view: *const View, index: usize, out: *mut u64) -> u32;
-    pub(crate) fn bitm_select(view: *const View, rank: usize, out: *mut u64) -> u32;
-    pub(crate) fn bitm_select0(view: *const View, rank: usize, out: *mut u64) -> u32;
+    pub(crate) fn bitm_rank(index: *const Index, one: bool, at: usize, out: *mut u64) -> u32;
+    pub(crate) fn bitm_select(index: *const Index, one: bool, rank: usize, out: *mut u64) -> u32;
     pub(crate) fn bitm_rank_list(
-        view: *const View,
+        index: *const Index,
+        one: bool,
         queries: *const u64,
         queries_len: usize,
         out: *mut u64,
         out_len: usize,
     ) -> u32;
     pub(crate) fn bitm_select_list(
-        view: *const View,
-        queries: *const u64,
-        queries_len: usize,
-        out: *mut u64,
-        out_len: usize,
-    ) -> u32;
-    pub(crate) fn bitm_select0_list(
-        view: *const View,
+        index: *const Index,
+        one: bool,
         queries: *const u64,
         queries_len: usize,
         out: *mut u64,
@@ -187,49 +184,13 @@ extern "C" {
     pub(crate) fn bitm_samples_len(words_len: usize, log2: u32) -> usize;
     pub(crate) fn bitm_build_samples(
         view: *const View,
+        one: bool,
         log2: u32,
         samples: *mut u32,
         samples_len: usize,
         starts: *mut u64,
         starts_len: usize,
         used: *mut u64,
-    ) -> u32;
-    pub(crate) fn bitm_build_samples0(
-        view: *const View,
-        log2: u32,
-        samples: *mut u32,
-        samples_len: usize,
-        starts: *mut u64,
-        starts_len: usize,
-        used: *mut u64,
-    ) -> u32;
-    pub(crate) fn bitm_sampled_select(
-        view: *const View,
-        samples: *const Samples,
-        rank: usize,
-        out: *mut u64,
-    ) -> u32;
-    pub(crate) fn bitm_sampled_select0(
-        view: *const View,
-        samples: *const Samples,
-        rank: usize,
-        out: *mut u64,
-    ) -> u32;
-    pub(crate) fn bitm_sampled_select_list(
-        view: *const View,
-        samples: *const Samples,
-        queries: *const u64,
-        queries_len: usize,
-        out: *mut u64,
-        out_len: usize,
-    ) -> u32;
-    pub(crate) fn bitm_sampled_select0_list(
-        view: *const View,
-        samples: *const Samples,
-        queries: *const u64,
-        queries_len: usize,
-        out: *mut u64,
-        out_len: usize,
     ) -> u32;
     pub(crate) fn bitm_count(words: *const u64, words_len: usize, out: *mut u64) -> u32;
     pub(crate) fn bitm_get_bits(
@@ -310,12 +271,11 @@ extern "C" {
         other: *const u64,
         other_len: usize,
     ) -> u32;
-    pub(crate) fn bitm_bits_rank(view: *const BitsView, index: usize, out: *mut u64) -> u32;
-    pub(crate) fn bitm_bits_rank0(view: *const BitsView, index: usize, out: *mut u64) -> u32;
-    pub(crate) fn bitm_bits_select(view: *const BitsView, rank: usize, out: *mut u64) -> u32;
-    pub(crate) fn bitm_bits_select0(view: *const BitsView, rank: usize, out: *mut u64) -> u32;
-    pub(crate) fn bitm_check_samples(view: *const View, samples: *const Samples) -> u32;
-    pub(crate) fn bitm_check_samples0(view: *const View, samples: *const Samples) -> u32;
+    pub(crate) fn bitm_check_samples(
+        view: *const View,
+        one: bool,
+        samples: *const Samples,
+    ) -> u32;
     pub(crate) fn bitm_stored_index(
         bits_len: u64,
         ones_log2: u32,

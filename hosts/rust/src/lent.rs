@@ -7,7 +7,44 @@ use crate::ffi::*;
 use std::marker::PhantomData;
 
 /// A call of one query.
-type OneQuery = unsafe extern "C" fn(*const View, usize, *mut u64) -> u32;
+pub(crate) type OneQuery = unsafe extern "C" fn(*const Index, bool, usize, *mut u64) -> u32;
+
+/// A call of many.
+pub(crate) type ListQuery =
+    unsafe extern "C" fn(*const Index, bool, *const u64, usize, *mut u64, usize) -> u32;
+
+/// No samples.
+pub(crate) const NO_SAMPLES: Samples = Samples {
+    samples: std::ptr::null(),
+    samples_len: 0,
+    starts: std::ptr::null(),
+    starts_len: 0,
+    log2: 0,
+};
+
+impl Index {
+    pub(crate) fn ask(
+        &self,
+        call: OneQuery,
+        one: bool,
+        query: usize,
+    ) -> Result<Option<u64>, WrongTables> {
+        let mut out = 0;
+        let status = unsafe { call(self, one, query, &mut out) };
+        told(status, out)
+    }
+
+    pub(crate) fn ask_list(
+        &self,
+        call: ListQuery,
+        one: bool,
+        queries: &[u64],
+        out: &mut [u64],
+    ) -> bool {
+        let (from, to) = (queries.as_ptr(), out.as_mut_ptr());
+        unsafe { call(self, one, from, queries.len(), to, out.len()) == OK }
+    }
+}
 
 /// The tables are not those of the words, or the samples are not.
 #[derive(Clone, Copy, PartialEq, Eq, Debug)]
@@ -112,61 +149,44 @@ impl<'a> Lent<'a> {
         unsafe { bitm_check(&self.view) == OK }
     }
 
-    fn ask(&self, call: OneQuery, query: usize) -> Result<Option<u64>, WrongTables> {
-        let mut out = 0;
-        let status = unsafe { call(&self.view, query, &mut out) };
-        told(status, out)
+    /// All of the words, without samples.
+    pub(crate) fn index(&self) -> Index {
+        Index {
+            view: self.view,
+            bits_len: 64 * self.view.words_len as u64,
+            ones: NO_SAMPLES,
+            zeros: NO_SAMPLES,
+        }
     }
 
     /// How many of the first `index` bits are ones, at most `index`; `None` exactly where there are fewer bits.
     pub fn rank(&self, index: usize) -> Result<Option<u64>, WrongTables> {
-        self.ask(bitm_rank, index)
+        self.index().ask(bitm_rank, true, index)
     }
 
     /// How many of the first `index` bits are zeros, as `rank`.
     pub fn rank0(&self, index: usize) -> Result<Option<u64>, WrongTables> {
-        self.ask(bitm_rank0, index)
+        self.index().ask(bitm_rank, false, index)
     }
 
     /// The place of the one with `rank` ones before it.
     pub fn select(&self, rank: usize) -> Result<Option<u64>, WrongTables> {
-        self.ask(bitm_select, rank)
+        self.index().ask(bitm_select, true, rank)
     }
 
     /// The place of the zero with `rank` zeros before it.
     pub fn select0(&self, rank: usize) -> Result<Option<u64>, WrongTables> {
-        self.ask(bitm_select0, rank)
+        self.index().ask(bitm_select, false, rank)
     }
 
     /// The answers to a list of queries, as `bitm_rank_list` codes them.
     pub fn rank_list(&self, queries: &[u64], out: &mut [u64]) -> bool {
-        unsafe {
-            bitm_rank_list(
-                &self.view,
-                queries.as_ptr(),
-                queries.len(),
-                out.as_mut_ptr(),
-                out.len(),
-            ) == OK
-        }
+        self.index().ask_list(bitm_rank_list, true, queries, out)
     }
 
     /// The answers to a list of queries, as `bitm_select_list` codes them; of zeros where `ones` is false.
     pub fn select_list(&self, ones: bool, queries: &[u64], out: &mut [u64]) -> bool {
-        let call = if ones {
-            bitm_select_list
-        } else {
-            bitm_select0_list
-        };
-        unsafe {
-            call(
-                &self.view,
-                queries.as_ptr(),
-                queries.len(),
-                out.as_mut_ptr(),
-                out.len(),
-            ) == OK
-        }
+        self.index().ask_list(bitm_select_list, ones, queries, out)
     }
 }
 

@@ -1,6 +1,6 @@
 //! Selection by samples, which may hold anything.
 use crate::ffi::*;
-use crate::lent::{told, Lent, WrongTables};
+use crate::lent::{Lent, WrongTables};
 
 /// How many samples of one kind so many words have at most, one for each 2^`log2` bits of it.
 pub fn samples_len(words_len: usize, log2: u32) -> usize {
@@ -40,16 +40,12 @@ impl Lent<'_> {
         samples: &mut [u32],
         starts: &mut [u64],
     ) -> Option<usize> {
-        let call = if ones {
-            bitm_build_samples
-        } else {
-            bitm_build_samples0
-        };
         let mut used = 0;
         let status = unsafe {
             let (s, t) = (samples.as_mut_ptr(), starts.as_mut_ptr());
-            call(
+            bitm_build_samples(
                 &self.view,
+                ones,
                 log2,
                 s,
                 samples.len(),
@@ -63,12 +59,18 @@ impl Lent<'_> {
 
     /// Whether the samples are those of the ones, or of the zeros where `ones` is false: of right tables alone.
     pub fn check_samples(&self, ones: bool, samples: &LentSamples<'_>) -> bool {
-        let call = if ones {
-            bitm_check_samples
+        unsafe { bitm_check_samples(&self.view, ones, &samples.lent()) == OK }
+    }
+
+    /// All of the words, with samples of one kind.
+    fn by(&self, ones: bool, samples: &LentSamples<'_>) -> Index {
+        let mut index = self.index();
+        if ones {
+            index.ones = samples.lent();
         } else {
-            bitm_check_samples0
-        };
-        unsafe { call(&self.view, &samples.lent()) == OK }
+            index.zeros = samples.lent();
+        }
+        index
     }
 
     /// The place of the one with `rank` ones before it, by samples of the ones.
@@ -77,9 +79,7 @@ impl Lent<'_> {
         samples: &LentSamples<'_>,
         rank: usize,
     ) -> Result<Option<u64>, WrongTables> {
-        let mut out = 0;
-        let status = unsafe { bitm_sampled_select(&self.view, &samples.lent(), rank, &mut out) };
-        told(status, out)
+        self.by(true, samples).ask(bitm_select, true, rank)
     }
 
     /// The place of the zero with `rank` zeros before it, by samples of the zeros.
@@ -88,12 +88,10 @@ impl Lent<'_> {
         samples: &LentSamples<'_>,
         rank: usize,
     ) -> Result<Option<u64>, WrongTables> {
-        let mut out = 0;
-        let status = unsafe { bitm_sampled_select0(&self.view, &samples.lent(), rank, &mut out) };
-        told(status, out)
+        self.by(false, samples).ask(bitm_select, false, rank)
     }
 
-    /// The answers to a list of ranks, as `bitm_sampled_select_list` codes them; of zeros where `ones` is false.
+    /// The answers to a list of ranks, as `bitm_select_list` codes them, by samples; of zeros where `ones` is false.
     pub fn sampled_select_list(
         &self,
         ones: bool,
@@ -101,20 +99,7 @@ impl Lent<'_> {
         queries: &[u64],
         out: &mut [u64],
     ) -> bool {
-        let call = if ones {
-            bitm_sampled_select_list
-        } else {
-            bitm_sampled_select0_list
-        };
-        unsafe {
-            call(
-                &self.view,
-                &samples.lent(),
-                queries.as_ptr(),
-                queries.len(),
-                out.as_mut_ptr(),
-                out.len(),
-            ) == OK
-        }
+        self.by(ones, samples)
+            .ask_list(bitm_select_list, ones, queries, out)
     }
 }

@@ -10,4 +10,4 @@ pub returns : goal.returns
 returns g c =
     subst (λ (x : Cut). RanksIn (as_bit g.row.BIT) x c.args.index c.rank.result) c.self.view_is
     (cut_counted (as_bit g.row.BIT) (cut_at c.self.inside.tables c.self.inside.len) c.self.invariant c.args.index
-    (omega (arith, c.if-index-self.false)) c.rank.result c.rank.ensures.ranks)
+    (omega (arith, c.if-index-self.false)) c.rank.result c.rank.ensures)

@@ -1,0 +1,10 @@
+-- What is answered is told.
+use Rattle.bitm_lent.specs.Queries.{SelectsIn}
+use Rattle.bitm_c.specs.Status.{selected}
+use Rattle.bitm_c.proofs.ToldLemmas.{told}
+use Rattle.bitm_c.proofs.queries.bitm_select.Goals as goal
+
+pub returns-in-Some : goal.returns-in-Some
+returns-in-Some c =
+    told selected (λ l. SelectsIn c.args.one l c.args.rank) _ _ c.in-Some.ensures.1 _ c.in-Some.ensures.0 c.tell_place.result c.args.out.now c.tell_place.new.out
+    _ c.tell_place.ensures c.select.ensures
