@@ -20,9 +20,8 @@ use bitm::samples::first_entry;
 use bitm_search::entry::{entries_of_part, ones_to_entry};
 use bitm_search::levels::L2_ENTRIES_PER_L1_ENTRY;
 use bitm_search::search::entries::{EntryRange, last_entry, last_in_range, sought_entry};
-use bitm_search::search::record::{NOT_READ, in_packed};
 use bitm_search::search::selected::Selected;
-use bitm_search::search::selecting::part_of_rank;
+use bitm_search::search::selecting::{FindsEntry, search_on};
 use bitm_search::source::TableSource;
 
 /// How many samples there are before a part, or in all where there is no such part.
@@ -263,6 +262,18 @@ pub(crate) fn entry_by_samples<const BIT: u8, T: TableSource>(
     }
 }
 
+impl<'a, const BIT: u8, T: TableSource> FindsEntry<BIT, T> for LentSamples<'a> {
+    ghost lowers = { 46 };
+
+    ghost leads = { λ lent lists. HasTables lists
+        × AreSamplesOf (bits_in lists) (as_bit BIT) lent };
+
+    #[inline(always)]
+    fn entry(&self, source: &mut T, part: usize, rank: usize) -> (usize, u64) {
+        entry_by_samples::<BIT, T>(source, self, part, rank)
+    }
+}
+
 /// What `total_select_on` answers, by samples of the ones; of the zeros where `BIT` is 0. Samples make it no other
 /// answer, whatever they hold: a rank that they do not lead to is sought without them.
 ///
@@ -289,13 +300,5 @@ pub fn sampled_select_on<const BIT: u8, T: TableSource>(
         → ReadsAtMost (T.reads source.old) (T.reads source.new)
         (digit_count (length (T.lists source.old).upper) + 1) 23 8 }
 {
-    if source.upper_len() == 0 {
-        return Selected::Absent;
-    }
-    let (part, in_part) = part_of_rank::<BIT, T>(source, rank);
-    if in_part > rank {
-        return Selected::WrongTables;
-    }
-    let (entry, packed) = entry_by_samples::<BIT, T>(source, lent, part, in_part);
-    in_packed::<BIT, 1, T>(source, part, entry, packed, NOT_READ, in_part)
+    search_on::<BIT, 1, T, LentSamples<'_>>(source, lent, rank)
 }

@@ -17,6 +17,7 @@ ghost use Rattle.elias_fano.specs.Told.{IfPlace, PartsAt, TellsBelow, TellsLess,
 use crate::answer::Sought;
 use crate::low::LowDigits;
 use bitm::{Selected, TableSource, n_lowest_bits, total_select_on};
+use bitm_search::search::many::ByTables;
 use bitm_search::search::selecting::search_on;
 
 /// The number whose part above its low digits is `above`: the low digits are fragment `at`.
@@ -123,7 +124,7 @@ pub(crate) fn count_to<const TESTS: u8, T: TableSource>(
     ensures reads { OnlyReads T.lists T.reads source.old source.new
         (digit_count (length (T.lists source.old).upper) + 1) 23 8 }
 {
-    match search_on::<0, TESTS, T>(source, above) {
+    match search_on::<0, TESTS, T, ByTables>(source, &ByTables, above) {
         Selected::Found(place) => count_at_zero(place, above, n),
         Selected::Absent => Some(n),
         Selected::WrongTables => None,

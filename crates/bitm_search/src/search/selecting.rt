@@ -2,20 +2,62 @@
 //!
 //! The part and the entry are sought in tables that may hold anything: where they are not those of the words, the
 //! search ends as well, with some part and some entry.
-ghost use Rattle.std.specs.Prelude.{◌≡◌, ◌+◌, ◌-◌, ◌*◌, ◌/◌, ◌^◌, ◌<◌, ◌≤◌, ◌≢◌, length};
+ghost use Rattle.std.specs.Prelude.{◌≡◌, ⊤, ℕ, ◌+◌, ◌-◌, ◌*◌, ◌/◌, ◌^◌, ◌<◌, ◌≤◌, ◌≢◌, length};
 ghost use Rattle.bit_lists.specs.Bits.{digit_count};
 ghost use Rattle.bit_lists.specs.Count.{ones_before, as_bit, IsSelect};
 ghost use Rattle.bitm_search.specs.Answers.{HasBit, IsSelected};
 ghost use Rattle.bitm_tables.specs.Reads.{upper_read, OnlyReads, ReadsAtMost};
-ghost use Rattle.bitm_search.specs.Search.{sought_in, IsLastPart, IsPartOf};
-ghost use Rattle.bitm_tables.specs.Tables.{HasSizes, HasTables, IsIndexed, bits_in};
-ghost use Rattle.bitm_tables.specs.Entry.{less};
-ghost use Rattle.bitm_search.specs.Told.{told_part, IfAbsent, TellsNone};
+ghost use Rattle.bitm_search.specs.Search.{entry_in, sought_in, IsLastEntry, IsLastPart, IsPartOf};
+ghost use Rattle.bitm_tables.specs.Tables.{HasSizes, HasTables, IsIndexed, Lists, bits_in};
+ghost use Rattle.bitm_tables.specs.Entry.{entries_from, less, lower_entry};
+ghost use Rattle.bitm_search.specs.Told.{told_entry, told_part, IfAbsent, TellsNone};
 
 use crate::search::entries::last_entry;
+use crate::search::many::ByTables;
 use crate::search::record::{NOT_READ, in_packed};
 use crate::search::selected::{Selected, found};
 use bitm_tables::source::TableSource;
+
+/// How the entry of a rank is found in a part: by halves, or by samples.
+pub trait FindsEntry<const BIT: u8, T: TableSource> {
+    /// At most so many lower entries are read.
+    ghost lowers: { ℕ };
+
+    /// Where the value leads to the entry at once, in these tables: 23 lower entries are enough then.
+    ghost leads: { Self → Lists → Type 0 };
+
+    /// The last entry of a part with no more than `rank` of the kind before it in the part, where the tables are those
+    /// of the words, and what it packs; else some entry of the part.
+    ///
+    /// # Conditions
+    /// There is such a part, and the tables are as long as those of the words. They may hold anything.
+    fn entry(&self, source: &mut T, part: usize, rank: usize) -> (usize, u64)
+        requires sized { HasSizes (T.lists source.old) }
+        requires inside { part < length (T.lists source.old).upper }
+        ensures inside { result.0 < entries_from (length (T.lists source.old).lower) part }
+        ensures last { HasTables (T.lists source.old)
+            → IsLastEntry (sought_in BIT (T.lists source.old).words)
+            (length (T.lists source.old).lower) part rank result.0 }
+        ensures entry { HasTables (T.lists source.old) → result.1
+            ≡ lower_entry (sought_in BIT (T.lists source.old).words) (entry_in part result.0) }
+        ensures told { result.1
+            ≡ told_entry (as_bit BIT) (T.lists source.old) (entry_in part result.0) }
+        ensures reads { ReadsAtMost (T.reads source.old) (T.reads source.new) 0 lowers 0 }
+        ensures reads_led { leads self.now (T.lists source.old)
+            → ReadsAtMost (T.reads source.old) (T.reads source.new) 0 23 0 }
+        ensures same { T.lists source.new ≡ T.lists source.old };
+}
+
+impl<const BIT: u8, T: TableSource> FindsEntry<BIT, T> for ByTables {
+    ghost lowers = { 23 };
+
+    ghost leads = { λ _ _. ⊤ };
+
+    #[inline(always)]
+    fn entry(&self, source: &mut T, part: usize, rank: usize) -> (usize, u64) {
+        last_entry::<BIT, T>(source, part, rank)
+    }
+}
 
 /// The place of the one of the source's words with exactly `rank` ones before it; zeros in place of ones where `BIT`
 /// is 0.
@@ -37,7 +79,7 @@ pub fn total_select_on<const BIT: u8, T: TableSource>(source: &mut T, rank: usiz
     ensures reads { OnlyReads T.lists T.reads source.old source.new
         (digit_count (length (T.lists source.old).upper) + 1) 23 8 }
 {
-    search_on::<BIT, 1, T>(source, rank)
+    search_on::<BIT, 1, T, ByTables>(source, &ByTables, rank)
 }
 
 /// The place of the one of the source's words with exactly `rank` ones before it, and `None` exactly where there is
@@ -57,7 +99,7 @@ pub fn binary_select_on<const BIT: u8, T: TableSource>(source: &mut T, rank: usi
     ensures reads { OnlyReads T.lists T.reads source.old source.new
         (digit_count (length (T.lists source.old).upper) + 1) 23 8 }
 {
-    found(search_on::<BIT, 0, T>(source, rank))
+    found(search_on::<BIT, 0, T, ByTables>(source, &ByTables, rank))
 }
 
 /// What `total_select_on` answers. Where `TESTS` is 0 no test looks for a difference that wrapped: a rank that did is
@@ -68,8 +110,9 @@ pub fn binary_select_on<const BIT: u8, T: TableSource>(source: &mut T, rank: usi
 /// # Cost
 /// That of `total_select_on`.
 #[inline(always)]
-pub fn search_on<const BIT: u8, const TESTS: u8, T: TableSource>(
+pub fn search_on<const BIT: u8, const TESTS: u8, T: TableSource, F: FindsEntry<BIT, T>>(
     source: &mut T,
+    finder: &F,
     rank: usize,
 ) -> Selected
     requires { HasSizes (T.lists source.old) }
@@ -79,6 +122,9 @@ pub fn search_on<const BIT: u8, const TESTS: u8, T: TableSource>(
     ensures none { TESTS ≢ 0
         → IfAbsent result (TellsNone (as_bit BIT) (T.lists source.old) rank) }
     ensures reads { OnlyReads T.lists T.reads source.old source.new
+        (digit_count (length (T.lists source.old).upper) + 1) F.lowers 8 }
+    ensures reads_led { F.leads finder.now (T.lists source.old)
+        → ReadsAtMost (T.reads source.old) (T.reads source.new)
         (digit_count (length (T.lists source.old).upper) + 1) 23 8 }
 {
     if source.upper_len() == 0 {
@@ -88,7 +134,7 @@ pub fn search_on<const BIT: u8, const TESTS: u8, T: TableSource>(
     if TESTS != 0 && in_part > rank {
         return Selected::WrongTables;
     }
-    let (entry, packed) = last_entry::<BIT, T>(source, part, in_part);
+    let (entry, packed) = finder.entry(source, part, in_part);
     in_packed::<BIT, TESTS, T>(source, part, entry, packed, NOT_READ, in_part)
 }
 

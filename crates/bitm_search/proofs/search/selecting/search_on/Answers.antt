@@ -21,7 +21,7 @@ returns-then-upper_len-eq0-clause-answer g c = λ _.
 
 pub in_packed-requires-clause-part : goal.in_packed-requires-clause-part
 in_packed-requires-clause-part g c = λ u.
-    let all = c.last_entry-entry.ensures.same ∙ c.part_of_rank-part.ensures.same in
+    let all = c.entry-entry.ensures.same ∙ c.part_of_rank-part.ensures.same in
     let part = c.part_of_rank-part.result.0 in
     let left = c.part_of_rank-part.result.1 in
     let is = c.part_of_rank-part.ensures.part (record { tables = subst HasTables all u; short = c.requires.short }) in
@@ -36,7 +36,7 @@ returns-clause-answer g c = λ t.
     let lists = g.T.TableSource.lists c.args.source.now in
     let here = c.part_of_rank-part.result.0 * 2 ^ 32 in
     let left = c.part_of_rank-part.result.1 in
-    let all = c.last_entry-entry.ensures.same ∙ c.part_of_rank-part.ensures.same in
+    let all = c.entry-entry.ensures.same ∙ c.part_of_rank-part.ensures.same in
     let is = c.part_of_rank-part.ensures.part (record { tables = t; short = c.requires.short }) in
     subst (λ (n : ℕ). IsSelected (bits_of lists.words) (as_bit g.row.BIT) n c.in_packed.result) is.total
     (subst
@@ -54,11 +54,11 @@ returns-clause-none g c = λ tests.
     let lists = g.T.TableSource.lists c.args.source.now in
     let v = as_bit g.row.BIT in
     let of_rank = c.part_of_rank-part.ensures in
-    let of_entry = c.last_entry-entry.ensures in
+    let of_entry = c.entry-entry.ensures in
     let part = c.part_of_rank-part.result.0 in
     let left = c.part_of_rank-part.result.1 in
-    let entry = c.last_entry-entry.result.0 in
-    let packed = c.last_entry-entry.result.1 in
+    let entry = c.entry-entry.result.0 in
+    let packed = c.entry-entry.result.1 in
     let all = of_entry.same ∙ of_rank.same in
     let tested : left ≤ c.args.rank =
     elim c.else-this-ne0.branch [
