@@ -193,8 +193,8 @@ BITM_MUST_USE uint32_t bitm_rank(const struct bitm_index *index, bool one, size_
 
 /* The place of the one, or zero, with exactly rank such bits before it. BITM_NONE if there is none, BITM_WRONG if the
  * tables turn out not to be those of the words. Reads at most D + 1 upper entries, where D is the number of binary
- * digits of how many there are, 23 lower entries and eight words; 23 lower entries more with samples that are not those
- * of the words. */
+ * digits of how many there are, 23 lower entries and eight words; with samples 28 lower entries, and 51 if these are not
+ * those of the words. */
 BITM_MUST_USE uint32_t bitm_select(const struct bitm_index *index, bool one, size_t rank, uint64_t *out);
 
 /* out[i] answers queries[i] as the call of one query does, or is BITM_NO_ANSWER for BITM_NONE and BITM_WRONG_TABLES

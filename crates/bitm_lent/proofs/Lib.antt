@@ -3,6 +3,7 @@ pub mod ClearingLemmas
 pub mod CodeLemmas
 pub mod CutLemmas
 pub mod FilledLemmas
+pub mod GuessLemmas
 pub mod ListLemmas
 pub mod OnesFromLemmas
 pub mod SampleCheckLemmas

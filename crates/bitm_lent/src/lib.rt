@@ -21,6 +21,7 @@
 mod checking;
 mod clearing;
 mod filling;
+mod guessed;
 mod lent;
 mod lists;
 mod places;

@@ -15,18 +15,19 @@ ghost use Rattle.bitm_search.specs.Answers.{HasBit, IsSelected};
 ghost use Rattle.bitm_search.specs.Told.{told_entry, IfAbsent, TellsNone};
 ghost use Rattle.bitm_lent.specs.Samples.{AreSamplesOf, IsBounded};
 
+use crate::guessed::ByGuess;
 use crate::samples::{LentSamples, clamped_log};
 use bitm::samples::first_entry;
 use bitm_search::entry::{entries_of_part, ones_to_entry};
 use bitm_search::levels::L2_ENTRIES_PER_L1_ENTRY;
 use bitm_search::search::entries::{EntryRange, last_entry, last_in_range, sought_entry};
 use bitm_search::search::selected::Selected;
-use bitm_search::search::selecting::{FindsEntry, search_on};
+use bitm_search::search::selecting::search_on;
 use bitm_search::source::TableSource;
 
 /// How many samples there are before a part, or in all where there is no such part.
 #[inline(always)]
-fn samples_to(lent: &LentSamples<'_>, part: usize) -> usize
+pub(crate) fn samples_to(lent: &LentSamples<'_>, part: usize) -> usize
     ensures few { result ≤ length lent.now.samples.now }
     ensures own { (b : List Bool) → (v : Bool) → AreSamplesOf b v lent.now → part ≤ parts b
         → result ≡ sample_count_before b v (clamped_log lent.now.log2) part }
@@ -52,9 +53,9 @@ fn entry_behind(lent: &LentSamples<'_>, at: usize) -> usize
 
 /// Entries of a part: from `low` on and before `end`.
 #[derive(Clone, Copy)]
-struct Bounds {
-    low: usize,
-    end: usize,
+pub(crate) struct Bounds {
+    pub low: usize,
+    pub end: usize,
 }
 
 /// Between which entries of a part the one is that has item `rank` of the part, if the samples are those of the words;
@@ -154,7 +155,7 @@ fn is_behind<const BIT: u8, T: TableSource>(
 /// The last entry of a part with no more than `rank` of the kind before it in the part, where the tables are those of
 /// the words, and what it packs; `None` only where it is not between these bounds.
 #[inline(always)]
-fn entry_between<const BIT: u8, T: TableSource>(
+pub(crate) fn entry_between<const BIT: u8, T: TableSource>(
     source: &mut T,
     part: usize,
     bounds: Bounds,
@@ -180,6 +181,8 @@ fn entry_between<const BIT: u8, T: TableSource>(
         → rank < before_in_part m (entry_in part bounds.end))
         → IsSome result }
     ensures reads { ReadsAtMost (T.reads source.old) (T.reads source.new) 0 23 0 }
+    ensures reads_near { bounds.end ≤ bounds.low + 8
+        → ReadsAtMost (T.reads source.old) (T.reads source.new) 0 5 0 }
     ensures same { T.lists source.new ≡ T.lists source.old }
 {
     let Some(packed) = begun_by::<BIT, T>(source, part, bounds.low, rank) else {
@@ -262,27 +265,16 @@ pub(crate) fn entry_by_samples<const BIT: u8, T: TableSource>(
     }
 }
 
-impl<'a, const BIT: u8, T: TableSource> FindsEntry<BIT, T> for LentSamples<'a> {
-    ghost lowers = { 46 };
-
-    ghost leads = { λ lent lists. HasTables lists
-        × AreSamplesOf (bits_in lists) (as_bit BIT) lent };
-
-    #[inline(always)]
-    fn entry(&self, source: &mut T, part: usize, rank: usize) -> (usize, u64) {
-        entry_by_samples::<BIT, T>(source, self, part, rank)
-    }
-}
-
 /// What `total_select_on` answers, by samples of the ones; of the zeros where `BIT` is 0. Samples make it no other
 /// answer, whatever they hold: a rank that they do not lead to is sought without them.
 ///
 /// # Conditions
 /// Those of `total_select_on`. Nothing is asked of the samples.
 /// # Cost
-/// At most as many upper entries as their number has binary digits and one more, 46 lower entries and eight words are
-/// read, whatever the tables and samples hold; and four numbers of the samples. Where these are those of the words, 23
-/// lower entries: two, and one for each halving from the sample to the next.
+/// At most as many upper entries as their number has binary digits and one more, 51 lower entries and eight words are
+/// read, whatever the tables and samples hold; and a few numbers of the samples. Where these are those of the words, 28
+/// lower entries: five near a guess, and where it was wrong two more, and one for each halving from the sample to the
+/// next.
 pub fn sampled_select_on<const BIT: u8, T: TableSource>(
     source: &mut T,
     lent: &LentSamples<'_>,
@@ -294,11 +286,11 @@ pub fn sampled_select_on<const BIT: u8, T: TableSource>(
         → IsSelected (bits_in (T.lists source.old)) (as_bit BIT) rank result }
     ensures none { IfAbsent result (TellsNone (as_bit BIT) (T.lists source.old) rank) }
     ensures reads { OnlyReads T.lists T.reads source.old source.new
-        (digit_count (length (T.lists source.old).upper) + 1) 46 8 }
+        (digit_count (length (T.lists source.old).upper) + 1) 51 8 }
     ensures reads_by_samples { HasTables (T.lists source.old)
         → AreSamplesOf (bits_in (T.lists source.old)) (as_bit BIT) lent.now
         → ReadsAtMost (T.reads source.old) (T.reads source.new)
-        (digit_count (length (T.lists source.old).upper) + 1) 23 8 }
+        (digit_count (length (T.lists source.old).upper) + 1) 28 8 }
 {
-    search_on::<BIT, 1, T, LentSamples<'_>>(source, lent, rank)
+    search_on::<BIT, 1, T, ByGuess<'_>>(source, &ByGuess { samples: *lent }, rank)
 }

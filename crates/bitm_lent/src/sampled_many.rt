@@ -7,7 +7,7 @@ ghost use Rattle.bitm_search.specs.Many.{IsSearch};
 ghost use Rattle.bitm_search.specs.Reads.{OnlyReads, ReadsAtMost};
 ghost use Rattle.bitm_search.specs.Tables.{HasSizes};
 
-use crate::sampled::entry_by_samples;
+use crate::guessed::entry_by_guess;
 use crate::samples::LentSamples;
 use bitm_search::levels::L2_ENTRIES_PER_L1_ENTRY;
 use bitm_search::search::many::{FindsEntries, tell_many_on};
@@ -26,17 +26,17 @@ fn begin<const BIT: u8, T: TableSource>(
     requires some { 0 < length (T.lists source.old).upper }
     ensures search { IsSearch BIT (T.lists source.old) rank result 0 }
     ensures reads { ReadsAtMost (T.reads source.old) (T.reads source.new)
-        (digit_count (length (T.lists source.old).upper) + 1) 46 0 }
+        (digit_count (length (T.lists source.old).upper) + 1) 51 0 }
     ensures same { T.lists source.new ≡ T.lists source.old }
 {
     let (part, rest) = part_of_rank::<BIT, T>(source, rank);
-    let (in_part, _) = entry_by_samples::<BIT, T>(source, lent, part, rest);
+    let (in_part, _) = entry_by_guess::<BIT, 1, T>(source, lent, part, rest);
     let entry = part * L2_ENTRIES_PER_L1_ENTRY + in_part;
     Query { rest, entry }
 }
 
 impl<'a, const BIT: u8, T: TableSource> FindsEntries<BIT, T> for LentSamples<'a> {
-    ghost lowers = { 46 };
+    ghost lowers = { 51 };
 
     #[inline(always)]
     fn find(&self, source: &mut T, ranks: &[usize], queries: &mut [Query]) {
@@ -55,9 +55,9 @@ impl<'a, const BIT: u8, T: TableSource> FindsEntries<BIT, T> for LentSamples<'a>
 /// # Conditions
 /// Those of `total_select_many_on`. Nothing is asked of what the samples hold.
 /// # Cost
-/// For each rank at most as many upper entries as their number has binary digits and one more, 47 lower entries and
-/// eight words are read, whatever the tables and samples hold; where these are those of the words, three lower entries
-/// and one for each halving from the sample to the next.
+/// For each rank at most as many upper entries as their number has binary digits and one more, 52 lower entries and
+/// eight words are read, whatever the tables and samples hold; where these are those of the words, six lower entries,
+/// and where the guess was wrong two more and one for each halving from the sample to the next.
 pub fn sampled_select_many_on<const BIT: u8, T: TableSource>(
     source: &mut T,
     lent: &LentSamples<'_>,
@@ -70,7 +70,7 @@ pub fn sampled_select_many_on<const BIT: u8, T: TableSource>(
     ensures told { ToldEach (as_bit BIT) (T.lists source.old) ranks.now places.new }
     ensures reads { OnlyReads T.lists T.reads source.old source.new
         (length ranks.now * (digit_count (length (T.lists source.old).upper) + 1))
-        (47 * length ranks.now) (8 * length ranks.now) }
+        (52 * length ranks.now) (8 * length ranks.now) }
 {
     tell_many_on::<BIT, T, LentSamples<'_>>(source, lent, ranks, places);
 }

@@ -63,9 +63,10 @@ impl<'a> Lent<'a> {
     /// whatever they hold.
     ///
     /// # Cost
-    /// At most as many upper entries as their number has binary digits and one more, 46 lower entries and eight words
-    /// are read, whatever the tables and samples hold. Where these are those of the words, the lower entries are two
-    /// and one for each halving from the rank's sample to the next: 23 at most.
+    /// At most as many upper entries as their number has binary digits and one more, 51 lower entries and eight words
+    /// are read, whatever the tables and samples hold. Where these are those of the words, the lower entries are five
+    /// near a guess between the rank's sample and the next, and where it was wrong two more, and one for each halving
+    /// from the one to the other: 28 at most.
     #[inline(always)]
     pub fn sampled_select<const BIT: u8>(&self, samples: &LentSamples<'_>, rank: usize) -> Selected
         ensures { Selects (as_bit BIT) self.now rank result }

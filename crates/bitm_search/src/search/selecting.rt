@@ -23,8 +23,11 @@ pub trait FindsEntry<const BIT: u8, T: TableSource> {
     /// At most so many lower entries are read.
     ghost lowers: { ℕ };
 
-    /// Where the value leads to the entry at once, in these tables: 23 lower entries are enough then.
+    /// Where the value leads to the entry, in these tables: so many lower entries are enough then.
     ghost leads: { Self → Lists → Type 0 };
+
+    /// At most so many lower entries are read where the value leads to the entry.
+    ghost lowers_led: { ℕ };
 
     /// The last entry of a part with no more than `rank` of the kind before it in the part, where the tables are those
     /// of the words, and what it packs; else some entry of the part.
@@ -44,7 +47,7 @@ pub trait FindsEntry<const BIT: u8, T: TableSource> {
             ≡ told_entry (as_bit BIT) (T.lists source.old) (entry_in part result.0) }
         ensures reads { ReadsAtMost (T.reads source.old) (T.reads source.new) 0 lowers 0 }
         ensures reads_led { leads self.now (T.lists source.old)
-            → ReadsAtMost (T.reads source.old) (T.reads source.new) 0 23 0 }
+            → ReadsAtMost (T.reads source.old) (T.reads source.new) 0 lowers_led 0 }
         ensures same { T.lists source.new ≡ T.lists source.old };
 }
 
@@ -52,6 +55,8 @@ impl<const BIT: u8, T: TableSource> FindsEntry<BIT, T> for ByTables {
     ghost lowers = { 23 };
 
     ghost leads = { λ _ _. ⊤ };
+
+    ghost lowers_led = { 23 };
 
     #[inline(always)]
     fn entry(&self, source: &mut T, part: usize, rank: usize) -> (usize, u64) {
@@ -125,7 +130,7 @@ pub fn search_on<const BIT: u8, const TESTS: u8, T: TableSource, F: FindsEntry<B
         (digit_count (length (T.lists source.old).upper) + 1) F.lowers 8 }
     ensures reads_led { F.leads finder.now (T.lists source.old)
         → ReadsAtMost (T.reads source.old) (T.reads source.new)
-        (digit_count (length (T.lists source.old).upper) + 1) 23 8 }
+        (digit_count (length (T.lists source.old).upper) + 1) F.lowers_led 8 }
 {
     if source.upper_len() == 0 {
         return Selected::Absent;

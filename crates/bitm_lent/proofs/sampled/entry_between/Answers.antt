@@ -26,3 +26,25 @@ returns-clause-reads g c =
             words = omega (arith, r.reads.words, c.begun_by.ensures.reads.words, c.is_behind.ensures.reads.words);
           }
     ]
+
+pub returns-clause-reads_near : goal.returns-clause-reads_near
+returns-clause-reads_near g c = λ narrow.
+    let n = c.args.bounds.end - c.args.bounds.low - 1 in
+    let r = c.last_in_range.ensures in
+    let digits = digit_count_most 3 n (omega (arith, narrow, c.requires.some)) in
+    elim (cases_lt 0 c.args.bounds.low) [
+      | inl later ↦
+          let few = r.reads_later later in
+          record {
+            upper = omega (arith, few.upper, c.begun_by.ensures.reads.upper, c.is_behind.ensures.reads.upper);
+            lower = omega (arith, few.lower, c.begun_by.ensures.reads.lower, c.is_behind.ensures.reads.lower, digits);
+            words = omega (arith, few.words, c.begun_by.ensures.reads.words, c.is_behind.ensures.reads.words);
+          }
+      | inr first ↦
+          let none = c.begun_by.ensures.reads_first (omega (arith, first)) in
+          record {
+            upper = omega (arith, r.reads.upper, c.begun_by.ensures.reads.upper, c.is_behind.ensures.reads.upper);
+            lower = omega (arith, r.reads.lower, ap (λ (x : ReadCounts). x.lower) none, c.is_behind.ensures.reads.lower, digits);
+            words = omega (arith, r.reads.words, c.begun_by.ensures.reads.words, c.is_behind.ensures.reads.words);
+          }
+    ]
