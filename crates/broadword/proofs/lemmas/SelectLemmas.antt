@@ -1,6 +1,6 @@
 -- The byte of a word in which the one of a rank stands, from what is left of the rank, and the bit of that byte.
-use Rattle.std.proofs.Common.{Bool, cond, nat_lt, ◌≡◌, ℕ, zero, suc, ◌+◌, ◌-◌, ◌*◌, ◌/◌, ◌%◌, ◌^◌, ◌<◌, ◌≤◌, count_ones, All, get_or, bit_and, refl, sym, ap, subst₂, true, ◌==◌, ◌∙◌, arith, eqb-true, suc-le-suc}
-use Rattle.std.proofs.lemmas.Bool.{lt-ltb, le-ltb}
+use Rattle.std.proofs.Common.{Bool, cond, nat_lt, nat_le, ◌&&◌, ◌≡◌, ℕ, zero, suc, ◌+◌, ◌-◌, ◌*◌, ◌/◌, ◌%◌, ◌^◌, ◌<◌, ◌≤◌, count_ones, All, get_or, bit_and, refl, sym, ap, subst₂, true, ◌∙◌, arith, suc-le-suc}
+use Rattle.std.proofs.lemmas.Bool.{lt-ltb, ltb-true, leb-true, and_parts}
 use Rattle.std.proofs.lemmas.List.Elements.{All-from_get_or}
 use Rattle.std.proofs.lemmas.Nat.{field_of, shr-shr, and_mask, shl-shr}
 use Rattle.std.proofs.Math.Pow.{mod-mod-pow}
@@ -126,80 +126,60 @@ module _ (n r ranks : ℕ) (fits : ranks < 2 ^ 64) (left : AreRanksLeft n r rank
       picked_above 64 n (8 * c) 8 r i (omega (arith, at.inside)) at.low
       (subst₂ (λ m b. Picks (low_digits 8 m) true b i) masked at.left there)
 
--- ---- the bit of a byte
+-- ---- the table of bounds
 
--- the ones before bit k
-ones_before_bit : ℕ → ℕ → ℕ
-ones_before_bit v k = ones_before (low_digits 8 v) k
+abbrev pub bound_word : ℕ → ℕ
+bound_word k = (128 + k) * 0x0101010101010101
 
--- the highest bit of v stands before none of its bits
-before_bit : (v k : ℕ) → k ≤ 7 → ones_before (low_digits 8 (v % 128)) k ≡ ones_before (low_digits 8 v) k
-before_bit v k inside =
-    let cut : 7 ≡ 7 - k + k = omega arith in
-    ones_before-low_digits 8 k (v % 128) (omega arith)
-    ∙ ap count_ones (ap (λ w. v % 2 ^ w % 2 ^ k) cut ∙ mod-mod-pow v (7 - k) k)
-    ∙ sym (ones_before-low_digits 8 k v (omega arith))
+-- ---- the table of places
 
-pub bits_small : (v ones : ℕ) → ((k : ℕ) → k < 8 → get_or (low_bytes 8 ones) k 0 ≡ ones_before (low_digits 8 v) k)
-    → All (λ s. s ≤ 64) (low_bytes 8 ones)
-bits_small v ones counts =
-    small_where ones (λ k inside.
-    let rest = 8 - k in
-    let turned : k + rest ≡ 8 = omega arith in
-    let rise = ones_before-low_digits_rises 8 v k rest (omega arith) in
-    omega (arith, counts k inside, ap (ones_before (low_digits 8 v)) turned, ones_before-low_digits_few 8 v))
+-- 1 where no more than r of the ones of v stand before bit k
+abbrev pub passed : ℕ → ℕ → ℕ → ℕ
+passed v r k = cond (nat_le (count_ones (v % 2 ^ k)) r) 1 0
 
--- byte k of ranks is 128 and what the ones before bit k of v leave of r
-abbrev pub rank_left_in : ℕ → ℕ → ℕ → ℕ
-rank_left_in v r k = 128 + r - ones_before (low_digits 8 v) k
+-- how many bits of v the one of rank r is after
+abbrev pub place_of : ℕ → ℕ → ℕ
+place_of v r = passed v r 1 + passed v r 2 + passed v r 3 + passed v r 4 + passed v r 5 + passed v r 6 + passed v r 7 + passed v r 8
 
--- the bits after the lowest whose bytes keep their highest bit end with the one of rank r
-pub picked_in_byte : (v r ranks : ℕ) → ranks < 2 ^ 64
-    → ((k : ℕ) → k < 8 → get_or (low_bytes 8 ranks) k 0 ≡ rank_left_in (v % 128) r k)
-    → r < ones_before (low_digits 8 v) 8
-    → Picks (low_digits 8 v) true r (count_ones (bit_and ranks 0x8080808080808000))
-unfolding ones_before_bit low_bytes
-picked_in_byte v r ranks fits left below =
-    let c = count_ones (bit_and ranks 0x8080808080808000) in
-    let after : AreLeftBy (ones_before_bit v) 7 r (low_bytes 7 (ranks / 256)) =
-    record {
-      size = length-low_bytes 7 (ranks / 256);
-      items = λ k h. left (suc k) (suc-le-suc h) ∙ ap (λ s. 128 + r - s) (before_bit v (suc k) (omega arith));
-      rises = λ k h.
-          let turned : k + 1 ≡ suc k = omega arith in
-          let rise = ones_before-low_digits_rises 8 v k 1 (omega arith) in
-          omega (arith, ap (ones_before (low_digits 8 v)) turned);
-    } in
-    let at = located (ones_before_bit v) 7 r (low_bytes 7 (ranks / 256)) after c (omega (arith, ones_before-low_digits_none 8 v)) below (highest_but_first ranks fits) in
-    let next : c + 1 ≡ suc c = omega arith in
-    picked_in_digits 8 v r c (omega (arith, at.0)) at.1 (omega (arith, at.2, ap (ones_before (low_digits 8 v)) next))
+abbrev pub table_place : ℕ → ℕ
+table_place j = place_of (j / 8) (j % 8)
 
--- ---- the table of both
+is_picked : ℕ → ℕ → Bool
+is_picked v r =
+    let p = place_of v r in
+    cond (nat_lt r (count_ones v)) (nat_lt p 8 && (nat_le (count_ones (v % 2 ^ p)) r && nat_lt r (count_ones (v % 2 ^ (p + 1))))) true
 
--- each of seven copies of v keeps one bit, and the product adds up those before
-abbrev ones_word : ℕ → ℕ
-ones_word v = bit_and (v * 0x0002040810204081) 0x0101010101010101 * 0x0101010101010100 % 2 ^ 64
+is_picked_in_table : (v r : ℕ) → v < 256 → r < 8 → is_picked v r ≡ true
+unfolding all_below ones ones_in is_picked
+is_picked_in_table v r fits inside =
+    all_below-at (is_picked v) 8 r (all_below-at (λ u. all_below (is_picked u) 8) 256 v refl fits) inside
 
-abbrev pub table_word : ℕ → ℕ
-table_word k = cond (nat_lt k 64) ((128 + k) * 0x0101010101010101) (ones_word (k - 64))
+pub place_picked : (v r : ℕ) → v < 256 → r < ones_before (low_digits 8 v) 8 → Picks (low_digits 8 v) true r (place_of v r)
+unfolding is_picked
+place_picked v r fits below =
+    let p = place_of v r in
+    let whole : v % 2 ^ 8 ≡ v = omega (arith, fits) in
+    let all = ones_before-low_digits 8 8 v (omega arith) ∙ ap count_ones whole in
+    let some : r < count_ones v = omega (arith, all, below) in
+    let is = ap (λ b. cond b (nat_lt p 8 && (nat_le (count_ones (v % 2 ^ p)) r && nat_lt r (count_ones (v % 2 ^ (p + 1))))) true) (lt-ltb r (count_ones v) some) in
+    let few = ones_before-low_digits_few 8 v in
+    let found = and_parts (nat_lt p 8) _ (sym is ∙ is_picked_in_table v r fits (omega arith)) in
+    let sides = and_parts (nat_le (count_ones (v % 2 ^ p)) r) _ found.1 in
+    let inside : p < 8 = ltb-true p 8 found.0 in
+    picked_in_digits 8 v r p inside
+    (omega (arith, ones_before-low_digits 8 p v (omega (arith, inside)), leb-true (count_ones (v % 2 ^ p)) r sides.0))
+    (omega (arith, ones_before-low_digits 8 (p + 1) v (omega (arith, inside)), ltb-true r (count_ones (v % 2 ^ (p + 1))) sides.1))
 
-is_right : ℕ → ℕ → Bool
-is_right v k = get_or (low_bytes 8 (ones_word v)) k 0 == count_ones (v % 2 ^ k)
+-- what the table has for a byte and a rank
+module _ (v r : ℕ) (below : r < ones_before (low_digits 8 v) 8) where
+  pub rank_small : r < 8
+  rank_small = omega (arith, below, ones_before-low_digits_few 8 v)
 
-is_right_in_table : (v k : ℕ) → v < 128 → k < 8 → is_right v k ≡ true
-unfolding all_below ones ones_in is_right low_bytes
-is_right_in_table v k fits inside =
-    all_below-at (is_right v) 8 k (all_below-at (λ u. all_below (is_right u) 8) 128 v refl fits) inside
+  pub table_place_picked : v < 256 → Picks (low_digits 8 v) true r (table_place (v * 8 + r))
+  table_place_picked fits =
+      let byte : v ≡ (v * 8 + r) / 8 = omega (arith, rank_small) in
+      let rank : r ≡ (v * 8 + r) % 8 = omega (arith, rank_small) in
+      subst₂ (λ b k. Picks (low_digits 8 v) true r (place_of b k)) byte rank (place_picked v r fits below)
 
-pub bound_in_table : (r : ℕ) → r ≤ 63 → table_word r ≡ (128 + r) * 0x0101010101010101
-bound_in_table r few = ap (λ b. cond b ((128 + r) * 0x0101010101010101) (ones_word (r - 64))) (lt-ltb r 64 (omega arith))
-
-pub ones_in_table : (v k : ℕ) → v < 128 → k < 8 → get_or (low_bytes 8 (table_word (64 + v))) k 0 ≡ ones_before (low_digits 8 v) k
-unfolding is_right
-ones_in_table v k fits inside =
-    let first = (128 + (64 + v)) * 0x0101010101010101 in
-    let same : 64 + v - 64 ≡ v = omega arith in
-    let word = ap (λ b. cond b first (ones_word (64 + v - 64))) (le-ltb (64 + v) 64 (omega arith)) ∙ ap ones_word same in
-    ap (λ w. get_or (low_bytes 8 w) k 0) word
-    ∙ eqb-true (get_or (low_bytes 8 (ones_word v)) k 0) (count_ones (v % 2 ^ k)) (is_right_in_table v k fits inside)
-    ∙ sym (ones_before-low_digits 8 k v (omega arith))
+  pub table_inside : v < 256 → v * 8 + r < 2048
+  table_inside fits = omega (arith, rank_small, fits)

@@ -1,23 +1,21 @@
--- What is left of the rank at each bit tells the bit.
-use Rattle.std.proofs.Common.{ℕ, ◌≡◌, ◌<◌, get_or, bit_and, subst, arith}
-use Rattle.broadword.proofs.lemmas.InWordLemmas.{ones_before-low_digits_few}
-use Rattle.broadword.proofs.lemmas.LeBytesLemmas.{bytes_at}
-use Rattle.broadword.proofs.lemmas.LowBytes.{low_bytes}
-use Rattle.broadword.proofs.lemmas.SelectLemmas.{rank_left_in, picked_in_byte}
-use Rattle.std.proofs.lemmas.Nat.{and_mask}
+-- The table is what the law computes, and each of its places was tried.
+use Rattle.std.proofs.Common.{ℕ, ◌+◌, ◌*◌, true, subst, sym, zero-add}
+use Rattle.std.specs.Int.Count.{ones, ones_in}
+use Rattle.std.proofs.lemmas.List.FromFn.{get_or-map-range_with_len}
+use Rattle.bit_lists.specs.Bits.{low_digits}
+use Rattle.bit_lists.specs.Count.{Picks}
+use Rattle.broadword.proofs.lemmas.SelectLemmas.{table_place, table_inside, table_place_picked}
 use Rattle.broadword.proofs.word.select_in_byte.Goals as goal
 
-pub ranks_left_in-ranks-requires-clause-low : goal.ranks_left_in-ranks-requires-clause-low
-ranks_left_in-ranks-requires-clause-low c = omega (arith, and_mask c.args.byte 7)
-
-pub ranks_left_in-ranks-requires-clause-rank : goal.ranks_left_in-ranks-requires-clause-rank
-ranks_left_in-ranks-requires-clause-rank c = omega (arith, c.requires, ones_before-low_digits_few 8 c.args.byte)
+pub bounds-byte : goal.bounds-byte
+bounds-byte c = table_inside c.args.byte c.args.rank c.requires c.ranges.byte.fits
 
 pub returns : goal.returns
+unfolding ones ones_in
 returns c =
     let v = c.args.byte in
-    let ranks = c.ranks_left_in-ranks.result in
-    let left =
-    subst (λ m. (k : ℕ) → k < 8 → get_or (low_bytes 8 ranks) k 0 ≡ rank_left_in m c.args.rank k) (and_mask v 7)
-    (bytes_at (rank_left_in (bit_and v 0x7F) c.args.rank) _ c.ranks_left_in-ranks.ensures) in
-    picked_in_byte v c.args.rank ranks (omega arith) left c.requires
+    let r = c.args.rank in
+    let at = v * 8 + r in
+    subst (λ (p : ℕ). Picks (low_digits 8 v) true r p)
+    (sym (get_or-map-range_with_len table_place 0 2048 at at 0 (table_inside v r c.requires c.ranges.byte.fits) (zero-add at)))
+    (table_place_picked v r c.requires c.ranges.byte.fits)
