@@ -1,7 +1,7 @@
 -- What calls over tables that may hold anything answer: of any tables, and of those of the words.
-use Rattle.std.specs.Prelude.{◌≡◌, ⊤, ℕ, ◌+◌, ◌-◌, ◌*◌, ◌^◌, ◌<◌, ◌≤◌, Bool, List, Option, Some, None, length, slice_index}
+use Rattle.std.specs.Prelude.{◌≡◌, ◌↔◌, ⊤, ℕ, ◌+◌, ◌-◌, ◌*◌, ◌^◌, ◌<◌, ◌≤◌, Bool, List, Option, Some, None, length, slice_index}
 use Rattle.bit_lists.specs.Bits.{bits_of, item}
-use Rattle.bit_lists.specs.Count.{ones_before, count_of, Picks}
+use Rattle.bit_lists.specs.Count.{ones_before, count_before, count_of, Picks}
 use Rattle.bitm_search.specs.Search.{sought_bits}
 use Rattle.bitm_tables.specs.Tables.{HasTables, Lists, bits_in}
 use Rattle.bitm_search.specs.Told.{TellsNone}
@@ -53,6 +53,18 @@ pub record SelectTold (v : Bool) (lists : Lists) (r n : ℕ) : Type 0 where
   pub absent : n ≡ 2 ^ 64 - 1 → TellsNone v lists r
   pub some : HasTables lists → r < count_of (bits_in lists) v → Picks (bits_in lists) v r n
   pub none : HasTables lists → count_of (bits_in lists) v ≤ r → n ≡ 2 ^ 64 - 1
+
+-- n tells how many of the first i bits are v: it is 2^64 - 1 exactly where there are not so many bits, and below
+-- 2^64 - 2 no more than i, whatever the tables hold; where they are those of the words it is that number, which is
+-- neither 2^64 - 1 nor 2^64 - 2
+pub record RankTold (v : Bool) (lists : Lists) (i n : ℕ) : Type 0 where
+  pub none : (n ≡ 2 ^ 64 - 1) ↔ (length (bits_in lists) < i)
+  pub most : n < 2 ^ 64 - 2 → n ≤ i
+  pub count : HasTables lists → i ≤ length (bits_in lists) → (n < 2 ^ 64 - 2) × (n ≡ count_before (bits_in lists) v i)
+
+-- number k tells the rank of index k
+abbrev pub RanksTold : Bool → Lists → List ℕ → List ℕ → Type 0
+RanksTold v lists indices ranks = (k : ℕ) → k < length indices → RankTold v lists (slice_index indices k) (slice_index ranks k)
 
 -- number k tells the place with rank k
 abbrev pub ToldEach : Bool → Lists → List ℕ → List ℕ → Type 0

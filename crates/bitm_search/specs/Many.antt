@@ -1,5 +1,5 @@
 -- Many queries at once: each answer by its query, and how far the queries of a block have come.
-use Rattle.std.specs.Prelude.{◌≡◌, ℕ, ◌+◌, ◌*◌, ◌%◌, ◌^◌, ◌<◌, ◌≤◌, Bool, List, length, slice_index, slice_index_or}
+use Rattle.std.specs.Prelude.{◌≡◌, ℕ, ◌+◌, ◌-◌, ◌*◌, ◌/◌, ◌%◌, ◌^◌, ◌<◌, ◌≤◌, Bool, List, length, slice_index, slice_index_or}
 use Rattle.bit_lists.specs.Count.{as_bit, ones_before, Picks}
 use Rattle.bitm_tables.specs.Entry.{before_in_part, entries_from, less}
 use Rattle.bitm_search.specs.Search.{entry_in, sought_in, IsLastPart, IsWord}
@@ -7,6 +7,7 @@ use Rattle.bitm_tables.specs.Tables.{HasTables, Lists}
 use Rattle.bitm_search.specs.Told.{told_entry, told_part, told_to}
 use Rattle.bitm_search.specs.declared.search.loaded.InRecord.{InRecord}
 use Rattle.bitm_search.specs.declared.search.query.Query.{Query}
+use Rattle.bitm_search.specs.declared.search.ranks.Begun.{Begun}
 
 -- rank k is the number of ones before index k
 abbrev pub RanksEach : List Bool → List ℕ → List ℕ → Type 0
@@ -89,3 +90,19 @@ pub record IsInRecord (bit : ℕ) (lists : Lists) (rank : ℕ) (at : InRecord) :
 pub record AreInRecords (bit : ℕ) (lists : Lists) (ranks : List ℕ) (records : List InRecord) : Type 0 where
   pub enough : length ranks ≤ length records
   pub each : (k : ℕ) (d : InRecord) → k < length ranks → IsInRecord bit lists (slice_index ranks k) (slice_index_or records k d)
+
+-- what the rank to bit `last` waits for was read: the entry of that bit, the first word of its record, and its word
+pub record IsBegunAt (lists : Lists) (last : ℕ) (begun : Begun) : Type 0 where
+  pub entry : begun.entry ≡ slice_index lists.lower (last / 2048)
+  pub first : begun.first ≡ slice_index lists.words (last / 512 * 8)
+  pub word : begun.word ≡ slice_index lists.words (last / 64)
+
+-- the same of the last of the first so many bits, if there is one; as a number of 64 bits it is above every place where
+-- none counts
+abbrev pub IsBegun : Lists → ℕ → Begun → Type 0
+IsBegun lists index begun = (index + (2 ^ 64 - 1)) % 2 ^ 64 / 64 < length lists.words → IsBegunAt lists ((index + (2 ^ 64 - 1)) % 2 ^ 64) begun
+
+-- rank k was begun
+pub record AreBegun (lists : Lists) (indices : List ℕ) (begun : List Begun) : Type 0 where
+  pub enough : length indices ≤ length begun
+  pub each : (k : ℕ) (d : Begun) → k < length indices → IsBegun lists (slice_index indices k) (slice_index_or begun k d)

@@ -4,6 +4,7 @@ pub mod entries;
 pub mod loaded;
 pub mod many;
 pub mod query;
+pub mod ranks;
 pub mod record;
 pub mod selected;
 pub mod selecting;

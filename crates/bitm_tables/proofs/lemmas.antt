@@ -1,4 +1,5 @@
 pub mod EntryLemmas
+pub mod HalvesLemmas
 pub mod LengthLemmas
 pub mod QuarterLemmas
 pub mod RankLemmas

@@ -25,7 +25,12 @@ pub fn ones_to_entry(entry: u64) -> usize
     (entry & 0xFFFF_FFFF) as usize
 }
 
-/// How many ones stand in an entry before one of its four records: by two shifts, and no branch for the first record.
+/// By so much the upper half of an entry is multiplied, so that the field of a record begins at bit 32; nothing is left of
+/// it for the first record.
+const SCALES: [u64; 4] = [0, 1 << 10, 1 << 21, 1 << 32];
+
+/// How many ones stand in an entry before one of its four records: by a product, since a shift by a number that is not
+/// known takes more of a processor, and no branch for the first record.
 ///
 /// # Conditions
 /// `place` is below 4.
@@ -34,7 +39,7 @@ pub fn ones_to_record(entry: u64, place: usize) -> usize
     requires { place < 4 }
     ensures { result ≡ entry / 2 ^ (11 * (3 - place)) / 2 ^ 32 % 2 ^ 11 }
 {
-    (entry >> (33 - 11 * place) >> 32 & 0x7FF) as usize
+    ((entry >> 32) * SCALES[place] >> 32 & 0x7FF) as usize
 }
 
 /// Each field's greatest number at entry `at` less the field, where none exceeds it: one subtraction does all four, and

@@ -3,7 +3,7 @@ ghost use Rattle.std.specs.Prelude.{◌≡◌, ◌+◌, ◌*◌, ◌/◌, ◌^�
 ghost use Rattle.std.specs.Prelude.{length, slice_index, count_ones, MatchOption, SomeIff};
 ghost use Rattle.bit_lists.specs.Bits.{bits_of, item, IsShort};
 ghost use Rattle.bit_lists.specs.Count.{ones_before, IsRank};
-ghost use Rattle.bitm_tables.specs.Reads.{OnlyReads, ReadsAtMost};
+ghost use Rattle.bitm_tables.specs.Reads.{word_read, OnlyReads, ReadsAtMost};
 ghost use Rattle.bitm_tables.specs.Tables.{HasSizes, HasTables, IsIndexed, bits_in};
 
 use crate::entry::{ones_to_entry, ones_to_record};
@@ -17,70 +17,109 @@ use broadword::ones_through;
 /// side by side if each takes no more instructions than it needs.
 pub const WORDS_IN_CACHE: usize = 1 << 19;
 
-/// A word of ones.
-const ALL: u64 = u64::MAX;
+/// So many words, 2 MiB, are at hand so soon that a rank counts them in a straight line.
+pub const WORDS_AT_HAND: usize = 1 << 18;
 
-/// Seven words of ones and seven of zeros: the seven from `7 - n` on keep the first `n` of seven words.
-const KEPT: [u64; 14] = [ALL, ALL, ALL, ALL, ALL, ALL, ALL, 0, 0, 0, 0, 0, 0, 0];
-
-/// How many ones of a word are kept by number `at` of `KEPT`: all for the first seven, else none.
+/// How many ones word `at` has; one more word is read.
 #[inline(always)]
-fn kept_ones(word: u64, at: usize) -> usize
-    requires { at < 14 }
-    ensures all { at < 7 → result ≡ count_ones word }
-    ensures none { 7 ≤ at → result ≡ 0 }
+pub fn ones_of_word<T: TableSource>(source: &mut T, at: usize) -> usize
+    requires at { at < length (T.lists source.old).words }
+    ensures count { let b = bits_of (T.lists source.old).words in
+        ones_before b (64 * at) + result ≡ ones_before b (64 * (at + 1)) }
+    ensures few { result ≤ 64 }
+    ensures counted { T.reads source.new ≡ word_read (T.reads source.old) }
+    ensures same { T.lists source.new ≡ T.lists source.old }
 {
-    (word & KEPT[at]).count_ones() as usize
+    source.word(at).count_ones() as usize
 }
 
-/// What `ones_in_record` answers, of a record that the content has in full: seven words are counted in a straight line,
-/// and those from `end` on are left out by a mask.
+/// The count where `times` is 1, and 0 where it is 0: without a branch.
 #[inline(always)]
-fn masked_ones<T: TableSource>(source: &mut T, first: usize, end: usize) -> usize
-    requires order { first ≤ end }
-    requires near { end < first + 8 }
+fn counted(times: usize, count: usize) -> usize
+    requires { times < 2 }
+    ensures product { result ≡ times * count }
+    ensures few { result ≤ count }
+{
+    times * count
+}
+
+/// How many ones stand in a record that the content has in full, before word `len` of it, where `word` is its first.
+///
+/// Half the words, a quarter and an eighth are counted where that many count: no branch asks how many, and of the lines
+/// of a cache none is read that has neither the first word nor word `len`.
+///
+/// # Cost
+/// Six words are read.
+#[inline(always)]
+pub fn halved_ones<T: TableSource>(source: &mut T, first: usize, len: usize, word: u64) -> usize
+    requires len { len < 8 }
     requires whole { first + 8 ≤ length (T.lists source.old).words }
     requires short { IsShort (T.lists source.old).words }
+    requires word { word ≡ slice_index (T.lists source.old).words first }
     ensures ones { let b = bits_of (T.lists source.old).words in
-        ones_before b (64 * first) + result ≡ ones_before b (64 * end) }
+        ones_before b (64 * first) + result ≡ ones_before b (64 * (first + len)) }
+    ensures few { result ≤ 448 }
+    ensures reads { ReadsAtMost (T.reads source.old) (T.reads source.new) 0 0 6 }
+    ensures same { T.lists source.new ≡ T.lists source.old }
+{
+    let four = word.count_ones() as usize
+        + ones_of_word(source, first + 1)
+        + ones_of_word(source, first + 2)
+        + ones_of_word(source, first + 3);
+    let half = first + len / 4 * 4;
+    let two = ones_of_word(source, half) + ones_of_word(source, half + 1);
+    let one = ones_of_word(source, first + len / 2 * 2);
+    counted(len / 4, four) + counted(len / 2 % 2, two) + counted(len % 2, one)
+}
+
+/// What `added_ones` answers, with a test before each of its words.
+#[inline(always)]
+fn tested_ones<T: TableSource>(source: &mut T, first: usize, len: usize, before: usize) -> usize
+    requires near { len < 8 }
+    requires inside { first + len < length (T.lists source.old).words }
+    requires short { IsShort (T.lists source.old).words }
+    requires few { before < 2 ^ 34 }
+    ensures ones { let b = bits_of (T.lists source.old).words in
+        ones_before b (64 * first) + result ≡ ones_before b (64 * (first + len)) + before }
     ensures reads { ReadsAtMost (T.reads source.old) (T.reads source.new) 0 0 7 }
     ensures same { T.lists source.new ≡ T.lists source.old }
 {
-    let mut ones = 0;
-    let from = first + 7 - end;
+    let mut ones = before;
     for k in 0..7 {
-        ones += kept_ones(source.word(first + k), from + k);
+        if k == len {
+            return ones;
+        }
+        ones += ones_of_word(source, first + k);
     }
     ones
 }
 
-/// What `ones_in_record` answers, with a test before each of its words.
+/// How many ones stand in the record that begins at word `first`, before word `len` of it; they are added to `before`.
+///
+/// In a small content seven words are counted in a straight line, since the processor would guess wrongly at which of
+/// them a test ends the count. In a large one there are these tests, since they leave fewer instructions and wait for
+/// fewer words.
 #[inline(always)]
-fn tested_ones<T: TableSource>(source: &mut T, first: usize, end: usize) -> usize
-    requires order { first ≤ end }
-    requires near { end < first + 8 }
-    requires inside { end < length (T.lists source.old).words }
+fn added_ones<T: TableSource>(source: &mut T, first: usize, len: usize, before: usize) -> usize
+    requires near { len < 8 }
+    requires inside { first + len < length (T.lists source.old).words }
     requires short { IsShort (T.lists source.old).words }
+    requires few { before < 2 ^ 34 }
     ensures ones { let b = bits_of (T.lists source.old).words in
-        ones_before b (64 * first) + result ≡ ones_before b (64 * end) }
+        ones_before b (64 * first) + result ≡ ones_before b (64 * (first + len)) + before }
     ensures reads { ReadsAtMost (T.reads source.old) (T.reads source.new) 0 0 7 }
     ensures same { T.lists source.new ≡ T.lists source.old }
 {
-    let mut ones = 0;
-    for k in 0..7 {
-        if first + k == end {
-            return ones;
-        }
-        ones += source.word(first + k).count_ones() as usize;
+    let words = source.words_len();
+    if words <= WORDS_AT_HAND && first + U64_PER_L2_RECORDS <= words {
+        let word = source.word(first);
+        before + halved_ones(source, first, len, word)
+    } else {
+        tested_ones(source, first, len, before)
     }
-    ones
 }
 
 /// How many ones stand in the record that begins at word `first`, before word `end` of it.
-///
-/// In a small content each word up to the seventh is counted, and those from `end` on are left out by a mask, since the
-/// processor would guess wrongly at which of them a test ends the count. In a large one there are these tests, since
-/// they leave fewer instructions.
 ///
 /// # Conditions
 /// There is a word `end`, and it is among the eight from `first` on. Nothing is asked of the tables.
@@ -97,12 +136,7 @@ pub fn ones_in_record<T: TableSource>(source: &mut T, first: usize, end: usize) 
     ensures reads { ReadsAtMost (T.reads source.old) (T.reads source.new) 0 0 7 }
     ensures same { T.lists source.new ≡ T.lists source.old }
 {
-    let len = source.words_len();
-    if len <= WORDS_IN_CACHE && first + U64_PER_L2_RECORDS <= len {
-        masked_ones(source, first, end)
-    } else {
-        tested_ones(source, first, end)
-    }
+    added_ones(source, first, end - first, 0)
 }
 
 /// What `ones_in_record` answers, of words that have no tables.
@@ -220,14 +254,21 @@ fn word_and_ones<T: TableSource>(source: &mut T, last: usize) -> (u64, usize)
     ensures reads { OnlyReads T.lists T.reads source.old source.new 1 1 8 }
 {
     let record = last / RECORD_BITS;
-    // The entry and the last word first: then both come from memory while the words between are counted.
+    // The entry and the last word first: then both come from memory while the words between are counted. These are added
+    // to what is known already, so that no register is saved for it.
     let entry = source.lower(last / BITS_PER_L2_ENTRY);
     let word = source.word(last / 64);
     let in_word = ones_through(word, last % 64) as usize;
-    let in_record = ones_in_record(source, record * U64_PER_L2_RECORDS, last / 64);
     let to_record = ones_to_entry(entry) + ones_to_record(entry, record % RECORDS_PER_L2_ENTRY);
+    let first = record * U64_PER_L2_RECORDS;
+    let in_part = added_ones(
+        source,
+        first,
+        last / 64 % U64_PER_L2_RECORDS,
+        to_record + in_word,
+    );
     let to_part = ones_to_part(source, last >> 32);
-    (word, to_part.wrapping_add(to_record + in_record + in_word))
+    (word, to_part.wrapping_add(in_part))
 }
 
 /// The bit at `place` of the source's words, and how many ones stand before it; `None` exactly where the place is past

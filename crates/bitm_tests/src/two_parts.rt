@@ -130,6 +130,19 @@ fn many_ranks_in_both_parts_are_counted_at_once(rt: HostRuntime) {
 }
 
 #[test]
+fn more_ranks_than_go_side_by_side_are_counted_in_both_parts(rt: HostRuntime) {
+    let mut indices = [0; 40];
+    let mut ranks = [7; 40];
+    for k in 1..40 {
+        indices[k] = 6_442_450_944 - 151_000_001 * (k - 1);
+    }
+    assert!(rt; rank_each(indices.as_slice(), ranks.as_mut_slice()));
+    for k in 0..40 {
+        assert!(rt; ranks[k] == indices[k].div_ceil(64));
+    }
+}
+
+#[test]
 fn many_ones_of_both_parts_are_selected_at_once(rt: HostRuntime) {
     let ranks = [
         67_108_864,

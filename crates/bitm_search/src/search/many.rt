@@ -2,7 +2,7 @@
 ghost use Rattle.std.specs.Prelude.{◌≡◌, ◌+◌, ◌*◌, ◌<◌, ◌≤◌, ℕ, All, length};
 ghost use Rattle.bit_lists.specs.Bits.{digit_count};
 ghost use Rattle.bit_lists.specs.Count.{count_of, as_bit};
-ghost use Rattle.bitm_search.specs.Answers.{ToldEach};
+ghost use Rattle.bitm_search.specs.Answers.{RanksTold, ToldEach};
 ghost use Rattle.bitm_search.specs.Many.{RanksEach, PicksEach, AreSearches};
 ghost use Rattle.bitm_tables.specs.Reads.{OnlyReads, ReadsAtMost};
 ghost use Rattle.bitm_tables.specs.Tables.{HasSizes, IsIndexed, bits_in};
@@ -10,8 +10,44 @@ ghost use Rattle.bitm_tables.specs.Tables.{HasSizes, IsIndexed, bits_in};
 use crate::search::loaded::tell_entries;
 pub use crate::search::query::SIDE_BY_SIDE;
 use crate::search::query::{NO_QUERY, Query, find_by_halves};
-use bitm_tables::ranking::rank_on;
+use crate::search::ranks::{FEWEST, tell_blocks, tell_each};
 use bitm_tables::source::TableSource;
+
+/// So many words, 256 KiB, are sooner read than a block of ranks is made ready.
+const WORDS_NEAR: usize = 1 << 15;
+
+/// For each index how many of the first so many bits of the source's words are ones, or `NO_ANSWER` exactly where there
+/// are fewer bits; zeros in place of ones where `BIT` is 0.
+///
+/// Whatever the tables hold, a number that is told is at most the index, or `WRONG_TABLES`. Where they are those of the
+/// words it is the right one, and `WRONG_TABLES` is never told. Where there are more than 256 KiB of words and no fewer than
+/// 16 indices, what 32 ranks wait for is read at once, so that the misses of one overlap with those of the others.
+///
+/// # Conditions
+/// There are fewer than 2^58 words, and the tables have the right lengths. Nothing is asked of what they hold. There are
+/// as many `ranks` as `indices`.
+/// # Cost
+/// For each index at most one upper entry, one lower entry and eight words are read.
+pub fn total_rank_many_on<const BIT: u8, T: TableSource>(
+    source: &mut T,
+    indices: &[usize],
+    ranks: &mut [usize],
+)
+    requires sized { HasSizes (T.lists source.old) }
+    requires same_length { length indices.now ≡ length ranks.old }
+    ensures told { RanksTold (as_bit BIT) (T.lists source.old) indices.now ranks.new }
+    ensures reads { OnlyReads T.lists T.reads source.old source.new
+        (length indices.now) (length indices.now) (8 * length indices.now) }
+{
+    // Two branches that read alike: the compiler makes a loop of its own for few words.
+    if source.words_len() <= WORDS_NEAR {
+        tell_each::<BIT, T>(source, indices, ranks);
+    } else if indices.len() < FEWEST {
+        tell_each::<BIT, T>(source, indices, ranks);
+    } else {
+        tell_blocks::<BIT, T>(source, indices, ranks);
+    }
+}
 
 /// For each index how many of the first so many bits of the source's words are ones.
 ///
@@ -29,12 +65,7 @@ pub fn rank_many_on<T: TableSource>(source: &mut T, indices: &[usize], ranks: &m
     ensures reads { OnlyReads T.lists T.reads source.old source.new
         (length indices.now) (length indices.now) (8 * length indices.now) }
 {
-    for k in 0..indices.len() {
-        match rank_on(source, indices[k]) {
-            Some(count) => ranks[k] = count,
-            None => unreachable!(),
-        }
-    }
+    total_rank_many_on::<1, T>(source, indices, ranks);
 }
 
 /// How the entries of a block of queries are found: by halves, or by samples.

@@ -1,17 +1,18 @@
 use Rattle.std.proofs.Common.{◌≡◌, ◌+◌, ◌*◌, ◌≤◌}
 use Rattle.bit_lists.specs.Bits.{bits_of}
 use Rattle.bit_lists.specs.Count.{ones_before}
-use Rattle.bitm_tables.proofs.ranking.masked_ones.Given as goal
+use Rattle.bitm_search.proofs.search.ranks.tested_ones.Given as goal
 
--- the ones before the word, or before the last one that counts, and one read for each word so far
+-- the ones before the word, which is no later than the end, and one read for each word after the first
 abbrev pub invariant-loop-k : goal.invariant-loop-k
 invariant-loop-k g l =
     let T = g.T.TableSource in
     let b = bits_of (T.lists l.fn.source).words in
     record {
-      up : l.first + l.k ≤ l.end → ones_before b (64 * l.first) + l.ones ≡ ones_before b (64 * (l.first + l.k));
-      past : l.end ≤ l.first + l.k → ones_before b (64 * l.first) + l.ones ≡ ones_before b (64 * l.end);
-      words : (T.reads l.source).words ≡ (T.reads l.fn.source).words + l.k;
+      order : l.k ≤ l.len;
+      ones : ones_before b (64 * l.first) + l.ones ≡ ones_before b (64 * (l.first + l.k));
+      few : l.ones ≤ 64 * l.k;
+      words : (T.reads l.source).words + 1 ≡ (T.reads l.fn.source).words + l.k;
       upper : (T.reads l.source).upper ≡ (T.reads l.fn.source).upper;
       lower : (T.reads l.source).lower ≡ (T.reads l.fn.source).lower;
       same : T.lists l.source ≡ T.lists l.fn.source;
