@@ -25,9 +25,6 @@ const LOWEST_OF_EACH_BYTE: u64 = 0x0101_0101_0101_0101;
 /// The highest bit of each byte.
 const HIGHEST_OF_EACH_BYTE: u64 = 0x8080_8080_8080_8080;
 
-/// The highest bit of each byte but the first.
-const HIGHEST_BUT_FIRST: u64 = 0x8080_8080_8080_8000;
-
 /// A word whose byte k, lowest first, is the number of ones in bytes 0 to k of `n`.
 #[inline(always)]
 pub fn byte_sums(n: u64) -> u64
@@ -180,9 +177,9 @@ fn select_in_byte(byte: u8, rank: u8) -> u8
 /// # Conditions
 /// `n` has more than `rank` ones.
 /// # Source
-/// Vigna, "Broadword Implementation of Rank/Select Queries" (WEA 2008), here with one product that tells for each byte
-/// what is left of the rank and, by its highest bit, whether the rank reaches it. A table of 2 KiB tells the place in the
-/// last byte that is reached.
+/// Vigna, "Broadword Implementation of Rank/Select Queries" (WEA 2008), here with one product, of which one difference
+/// tells for each byte whether no more than `rank` ones stand before it, and what these leave of the rank. A table of
+/// 2 KiB tells the place in the last of these bytes.
 #[inline(always)]
 pub fn select64(n: u64, rank: u8) -> u8
     requires { rank < ones_before (low_digits 64 n) 64 }
@@ -190,7 +187,7 @@ pub fn select64(n: u64, rank: u8) -> u8
     ensures picked { Picks (low_digits 64 n) true rank result }
 {
     let ranks = ranks_left(n, rank);
-    let place = 8 * (ranks & HIGHEST_BUT_FIRST).count_ones() as u8;
+    let place = 8 * (bytes_at_most(byte_sums(n) << 8, rank) - 1);
     let left = ((ranks >> place) & 0x3F) as u8;
     place + select_in_byte(((n >> place) & 0xFF) as u8, left)
 }

@@ -44,5 +44,8 @@ small_low s h = let P : List ℕ → Type 0 = λ l. All (λ x. x ≤ 64) l in su
 pub small_le : (s : ℕ) → All (λ x. x ≤ 64) (low_bytes 8 s) → All (λ x. x ≤ 64) (to_le_bytes w64 s)
 small_le s h = let P : List ℕ → Type 0 = λ l. All (λ x. x ≤ 64) l in subst P (le_bytes_are s) h
 
+pub at_most_low : (s r c : ℕ) → c ≡ count_by (λ x. nat_le x r) (to_le_bytes w64 s) → c ≡ count_by (λ x. nat_le x r) (low_bytes 8 s)
+at_most_low s r c h = h ∙ ap (count_by (λ x. nat_le x r)) (sym (le_bytes_are s))
+
 pub at_most_le : (s r c : ℕ) → c ≡ count_by (λ x. nat_le x r) (low_bytes 8 s) → c ≡ count_by (λ x. nat_le x r) (to_le_bytes w64 s)
 at_most_le s r c h = h ∙ ap (count_by (λ x. nat_le x r)) (le_bytes_are s)

@@ -1,7 +1,8 @@
 -- The byte of a word in which the one of a rank stands, from what is left of the rank, and the bit of that byte.
-use Rattle.std.proofs.Common.{Bool, cond, nat_lt, nat_le, ◌&&◌, ◌≡◌, ℕ, zero, suc, ◌+◌, ◌-◌, ◌*◌, ◌/◌, ◌%◌, ◌^◌, ◌<◌, ◌≤◌, count_ones, All, get_or, bit_and, refl, sym, ap, subst₂, true, ◌∙◌, arith, suc-le-suc}
-use Rattle.std.proofs.lemmas.Bool.{lt-ltb, ltb-true, leb-true, and_parts}
+use Rattle.std.proofs.Common.{Bool, cond, nat_lt, nat_le, ◌&&◌, ◌≡◌, ℕ, zero, suc, ◌+◌, ◌-◌, ◌*◌, ◌/◌, ◌%◌, ◌^◌, ◌<◌, ◌≤◌, List, [], ◌∷◌, length, count_by, count_ones, All, get_or, bit_and, refl, sym, ap, ap₂, subst₂, true, ◌∙◌, arith, suc-le-suc, inl, inr}
+use Rattle.std.proofs.lemmas.Bool.{cases_lt, lt-leb, le-leb, lt-ltb, ltb-true, leb-true, and_parts}
 use Rattle.std.proofs.lemmas.List.Elements.{All-from_get_or}
+use Rattle.std.proofs.lemmas.List.Sums.{sum_by-cons}
 use Rattle.std.proofs.lemmas.Nat.{field_of, shr-shr, and_mask, shl-shr}
 use Rattle.std.proofs.Math.Pow.{mod-mod-pow}
 use Rattle.std.specs.Int.Count.{ones, ones_in}
@@ -78,6 +79,48 @@ pub record IsByteOf (n r ranks c : ℕ) : Type 0 where
   pub left : bit_and (ranks / 2 ^ (8 * c)) 0x3F ≡ r - ones_before (low_digits 64 n) (8 * c)
   pub some : bit_and (ranks / 2 ^ (8 * c)) 0x3F < ones_before (low_digits 8 (bit_and (n / 2 ^ (8 * c)) 0xFF)) 8
 
+-- two lists of which each item passes the one's test exactly where the other's passes its own
+count_same : (p q : ℕ → Bool) (xs ys : List ℕ) → length xs ≡ length ys → ((k : ℕ) → k < length xs → p (get_or xs k 0) ≡ q (get_or ys k 0))
+    → count_by p xs ≡ count_by q ys
+count_same p q [] [] same each = refl
+count_same p q [] (y ∷ ys) same each = absurd (omega (arith, same))
+count_same p q (x ∷ xs) [] same each = absurd (omega (arith, same))
+count_same p q (x ∷ xs) (y ∷ ys) same each =
+    sum_by-cons (λ v. cond (p v) 1 0) x xs
+    ∙ ap₂ (λ b m. cond b 1 0 + m) (each 0 (omega arith))
+    (count_same p q xs ys (omega (arith, same)) (λ k inside. each (suc k) (suc-le-suc inside)))
+    ∙ sym (sum_by-cons (λ v. cond (q v) 1 0) y ys)
+
+-- one byte more has no more than r ones before it than those after the first that keep their highest bit: the first
+module _ (n r sums ranks : ℕ) (few : r ≤ 63) (fits : ranks < 2 ^ 64)
+    (before : (k : ℕ) → k < 8 → get_or (low_bytes 8 sums) k 0 ≡ ones_before (low_digits 64 n) (8 * k)) (left : AreRanksLeft n r ranks) where
+  same_test : (k : ℕ) → k < 7 → nat_le (get_or (low_bytes 7 (sums / 256)) k 0) r ≡ nat_le 128 (get_or (low_bytes 7 (ranks / 256)) k 0)
+  unfolding low_bytes
+  same_test k inside =
+      let s = get_or (low_bytes 7 (sums / 256)) k 0 in
+      let kept = get_or (low_bytes 7 (ranks / 256)) k 0 in
+      let s-is : s ≡ ones_before (low_digits 64 n) (8 * suc k) = before (suc k) (suc-le-suc inside) in
+      let kept-is : kept ≡ rank_left n r (suc k) = left (suc k) (suc-le-suc inside) in
+      let most = few_before n (suc k) (omega (arith, inside)) in
+      elim (cases_lt r s) [
+        | inl more ↦ lt-leb s r more ∙ sym (lt-leb 128 kept (omega (arith, s-is, kept-is, more, most)))
+        | inr less ↦ le-leb s r less ∙ sym (le-leb 128 kept (omega (arith, s-is, kept-is, less)))
+      ]
+
+  first_test : nat_le (sums % 256) r ≡ true
+  unfolding low_bytes
+  first_test = le-leb (sums % 256) r (omega (arith, before 0 (omega arith), ones_before-low_digits_none 64 n))
+
+  pub reached : count_by (λ s. nat_le s r) (low_bytes 8 sums) ≡ 1 + count_ones (bit_and ranks 0x8080808080808000)
+  unfolding low_bytes
+  reached =
+      sum_by-cons (λ s. cond (nat_le s r) 1 0) (sums % 256) (low_bytes 7 (sums / 256))
+      ∙ ap₂ (λ b m. cond b 1 0 + m) first_test
+      (count_same (λ s. nat_le s r) (λ v. nat_le 128 v) (low_bytes 7 (sums / 256)) (low_bytes 7 (ranks / 256))
+      (length-low_bytes 7 (sums / 256) ∙ sym (length-low_bytes 7 (ranks / 256)))
+      (λ k inside. same_test k (omega (arith, inside, length-low_bytes 7 (sums / 256))))
+      ∙ sym (highest_but_first ranks fits))
+
 module _ (n r ranks : ℕ) (fits : ranks < 2 ^ 64) (left : AreRanksLeft n r ranks) (below : r < ones_before (low_digits 64 n) 64) where
   -- the bytes after the first that keep their highest bit end with the one in which the one of rank r stands
   byte_located : (c : ℕ) → c ≡ count_ones (bit_and ranks 0x8080808080808000)
@@ -96,10 +139,9 @@ module _ (n r ranks : ℕ) (fits : ranks < 2 ^ 64) (left : AreRanksLeft n r rank
       located (ones_before_byte n) 7 r (low_bytes 7 (ranks / 256)) after c (omega (arith, ones_before-low_digits_none 64 n)) below
       (counted ∙ highest_but_first ranks fits)
 
-  pub byte_of_rank : IsByteOf n r ranks (count_ones (bit_and ranks 0x8080808080808000))
-  byte_of_rank =
-      let c = count_ones (bit_and ranks 0x8080808080808000) in
-      let at = byte_located c refl in
+  pub byte_of_rank : (c : ℕ) → c ≡ count_ones (bit_and ranks 0x8080808080808000) → IsByteOf n r ranks c
+  byte_of_rank c counted =
+      let at = byte_located c counted in
       let turned : 8 * c + 8 ≡ 8 * suc c = omega arith in
       let above = ones_before-low_digits_above 64 n (8 * c) 8 8 (omega arith) (omega arith) in
       let byte = ap (λ m. ones_before (low_digits 8 m) 8) (and_mask (n / 2 ^ (8 * c)) 8) in
@@ -115,13 +157,11 @@ module _ (n r ranks : ℕ) (fits : ranks < 2 ^ 64) (left : AreRanksLeft n r rank
       }
 
   -- the bit of that byte is the place in the word
-  pub picked_in_word : (i : ℕ) →
-      let c = count_ones (bit_and ranks 0x8080808080808000) in
-      Picks (low_digits 8 (bit_and (n / 2 ^ (8 * c)) 0xFF)) true (bit_and (ranks / 2 ^ (8 * c)) 0x3F) i
+  pub picked_in_word : (c i : ℕ) → c ≡ count_ones (bit_and ranks 0x8080808080808000)
+      → Picks (low_digits 8 (bit_and (n / 2 ^ (8 * c)) 0xFF)) true (bit_and (ranks / 2 ^ (8 * c)) 0x3F) i
       → Picks (low_digits 64 n) true r (8 * c + i)
-  picked_in_word i there =
-      let c = count_ones (bit_and ranks 0x8080808080808000) in
-      let at = byte_of_rank in
+  picked_in_word c i counted there =
+      let at = byte_of_rank c counted in
       let masked = and_mask (n / 2 ^ (8 * c)) 8 in
       picked_above 64 n (8 * c) 8 r i (omega (arith, at.inside)) at.low
       (subst₂ (λ m b. Picks (low_digits 8 m) true b i) masked at.left there)
