@@ -4,7 +4,7 @@
 //! (`inverse.rt`).
 ghost use Rattle.bitm.specs.IndexLaws.{EntriesFit, OnesOfWord, TablesHaveSizes};
 
-/// An entry of a lower table meets the condition of `complement_entry`.
+/// No field of an entry of a lower table exceeds its greatest number: so `complement_entry` gives that of the negated bits.
 pub fn entries_fit()
     ensures { EntriesFit }
 {}

@@ -23,7 +23,7 @@ ghost use Rattle.bitm_strategies.specs.Samples.{IsSized, IsSummaryOf, part_of, s
 ghost use Rattle.bitm_strategies.specs.Samples.{intervals, part_samples, samples_of, sample_starts_of};
 ghost use Rattle.bitm_search.specs.Search.{IsLastEntry, entries_from, items_to, sought_bits};
 
-use bitm_search::entry::{entries_of_part, negated_entry, ones_to_entry};
+use bitm_search::entry::{complement_entry, entries_of_part, ones_to_entry};
 use bitm_search::levels::L2_ENTRIES_PER_L1_ENTRY;
 use std::alloc::{AllocError, Global};
 use std::boxed::BoxedSlice;
@@ -96,7 +96,7 @@ fn sought_entry<const BIT: u8>(summary: &Summary<'_>, at: usize) -> u64
 {
     let entry = summary.lower[at];
     if BIT == 0 {
-        negated_entry(entry, at)
+        complement_entry(entry, at)
     } else {
         entry
     }

@@ -42,33 +42,22 @@ pub fn ones_to_record(entry: u64, place: usize) -> usize
     ((entry >> 32) * SCALES[place] >> 32 & 0x7FF) as usize
 }
 
-/// Each field's greatest number at entry `at` less the field, where none exceeds it: one subtraction does all four, and
-/// none borrows then.
-#[inline(always)]
-pub fn negated_entry(entry: u64, at: usize) -> u64
-    ensures fits { FieldsFit entry at → result ≡ greatest_entry at - entry }
-    ensures told { result ≡ less (greatest_entry at) entry }
-{
-    ((at % L2_ENTRIES_PER_L1_ENTRY) as u64 * 2048 + 0x8020_0600_0000_0000).wrapping_sub(entry)
-}
-
-/// Lower entry `at` of the negated bits, from that of the bits: each field's greatest number less the field.
+/// Lower entry `at` of the negated bits, from that of the bits: each field's greatest number less the field. One
+/// subtraction does all four.
 ///
 /// The four fields count the ones before the entry in its part of 2^32 bits, and in its first record, first two and
-/// first three records of 512 bits. Bits that miss in the last entry count as zeros.
-///
-/// # Conditions
-/// No field of `entry` exceeds its greatest number at entry `at`: so it is for each entry of a lower table
-/// (`index_laws::entries_fit`).
+/// first three records of 512 bits. Bits that miss in the last entry count as zeros. No field of an entry of a lower
+/// table exceeds its greatest number (`index_laws::entries_fit`), so none borrows from the next; of any other number the
+/// difference wraps.
 #[inline(always)]
 pub fn complement_entry(entry: u64, at: usize) -> u64
-    requires { FieldsFit entry at }
-    ensures value { result ≡ greatest_entry at - entry }
-    ensures fields { FieldsAddUp entry result at }
+    ensures value { FieldsFit entry at → result ≡ greatest_entry at - entry }
+    ensures fields { FieldsFit entry at → FieldsAddUp entry result at }
+    ensures told { result ≡ less (greatest_entry at) entry }
     ensures negation { (b : List Bool) → IsEntryOf b at entry
         → result ≡ lower_entry (negation (padded_bits b)) at }
     ensures zeros { (b : List Bool) → IsEntryOf b at entry
         → field_0 result ≡ zeros_before_in_part b at }
 {
-    negated_entry(entry, at)
+    ((at % L2_ENTRIES_PER_L1_ENTRY) as u64 * 2048 + 0x8020_0600_0000_0000).wrapping_sub(entry)
 }

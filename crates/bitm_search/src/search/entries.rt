@@ -9,7 +9,7 @@ ghost use Rattle.bitm_search.specs.Search.{entry_in, sought_in, IsLastEntry, IsR
 ghost use Rattle.bitm_tables.specs.Tables.{HasSizes, HasTables};
 ghost use Rattle.bitm_search.specs.Told.{told_entry};
 
-use bitm_tables::entry::{entries_of_part, negated_entry, ones_to_entry};
+use bitm_tables::entry::{complement_entry, entries_of_part, ones_to_entry};
 use bitm_tables::levels::L2_ENTRIES_PER_L1_ENTRY;
 use bitm_tables::source::TableSource;
 
@@ -34,7 +34,7 @@ pub fn sought_entry<const BIT: u8, T: TableSource>(source: &mut T, at: usize) ->
 {
     let entry = source.lower(at);
     if BIT == 0 {
-        negated_entry(entry, at)
+        complement_entry(entry, at)
     } else {
         entry
     }

@@ -7,7 +7,7 @@ use Rattle.bitm_search.proofs.search.entries.sought_entry.Goals as goal
 pub returns-then-this-eq0-clause-told : goal.returns-then-this-eq0-clause-told
 returns-then-this-eq0-clause-told g c =
     let lists = g.T.TableSource.lists c.args.source.now in
-    c.negated_entry.ensures.told ∙ ap (less (greatest_entry c.args.at)) c.lower-entry.ensures.item
+    c.complement_entry.ensures.told ∙ ap (less (greatest_entry c.args.at)) c.lower-entry.ensures.item
     ∙ sym (told_zeros g.row.BIT lists c.args.at c.if-this-eq0.true)
 
 pub returns-then-this-eq0-clause-entry : goal.returns-then-this-eq0-clause-entry
