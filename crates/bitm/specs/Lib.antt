@@ -1,3 +1,4 @@
+pub mod Counted
 pub mod IndexLaws
 pub mod IndexValue
 pub mod Simple

@@ -13,6 +13,7 @@
 //! The crate `uses` proves this and more of a caller's code; `CALLING.md` says which call tells what.
 #![tactic(auto)]
 
+mod counted;
 mod index;
 pub mod index_laws;
 mod queries;

@@ -2,9 +2,24 @@
 //! and selection from a place on.
 ghost use Rattle.std.specs.Prelude.{◌≡◌, ◌+◌, ◌<◌, ◌≤◌, length, true, false};
 ghost use Rattle.bit_lists.specs.Count.{ones_before, zeros_before};
+ghost use Rattle.bitm.specs.Counted.{QueriesAtMost};
 ghost use Rattle.bit_lists.specs.Count.{IsSelectFrom, MatchesFirstOne, MatchesFirstZero, MatchesLast};
 
+use crate::counted::Counted;
 use crate::queries::{Rank, Select, Select0};
+
+/// What `ones_between` answers, by two ranks in a value that counts them.
+#[tactic(auto, using(bitm_bits::proofs::Callers::ones_grow))]
+#[inline(always)]
+fn ones_between_in<I: Rank>(counted: &mut Counted<'_, I>, start: usize, end: usize) -> usize
+    requires order { start ≤ end }
+    requires inside { end ≤ length (I.bits counted.old.value) }
+    ensures answer { ones_before (I.bits counted.old.value) start + result ≡ ones_before (I.bits counted.old.value) end }
+    ensures queries { QueriesAtMost counted.old counted.new 2 0 }
+{
+    let to_end = counted.rank(end);
+    to_end - counted.rank(start)
+}
 
 /// How many of the bits from `start` up to `end` are ones.
 ///
@@ -12,14 +27,26 @@ use crate::queries::{Rank, Select, Select0};
 /// `start` is no more than `end`, and there are at least `end` bits.
 /// # Cost
 /// Two ranks.
-#[tactic(auto, using(bitm_bits::proofs::Callers::ones_grow))]
 #[inline(always)]
 pub fn ones_between<I: Rank>(index: &I, start: usize, end: usize) -> usize
     requires order { start ≤ end }
     requires inside { end ≤ length (I.bits index.now) }
     ensures { ones_before (I.bits index.now) start + result ≡ ones_before (I.bits index.now) end }
 {
-    index.rank(end) - index.rank(start)
+    ones_between_in(&mut Counted::new(index), start, end)
+}
+
+/// What `zeros_between` answers, by two ranks in a value that counts them.
+#[tactic(auto, using(bitm_bits::proofs::Callers::zeros_grow))]
+#[inline(always)]
+fn zeros_between_in<I: Rank>(counted: &mut Counted<'_, I>, start: usize, end: usize) -> usize
+    requires order { start ≤ end }
+    requires inside { end ≤ length (I.bits counted.old.value) }
+    ensures answer { zeros_before (I.bits counted.old.value) start + result ≡ zeros_before (I.bits counted.old.value) end }
+    ensures queries { QueriesAtMost counted.old counted.new 2 0 }
+{
+    let to_end = counted.rank0(end);
+    to_end - counted.rank0(start)
 }
 
 /// How many of the bits from `start` up to `end` are zeros.
@@ -28,14 +55,25 @@ pub fn ones_between<I: Rank>(index: &I, start: usize, end: usize) -> usize
 /// `start` is no more than `end`, and there are at least `end` bits.
 /// # Cost
 /// Two ranks.
-#[tactic(auto, using(bitm_bits::proofs::Callers::zeros_grow))]
 #[inline(always)]
 pub fn zeros_between<I: Rank>(index: &I, start: usize, end: usize) -> usize
     requires order { start ≤ end }
     requires inside { end ≤ length (I.bits index.now) }
     ensures { zeros_before (I.bits index.now) start + result ≡ zeros_before (I.bits index.now) end }
 {
-    index.rank0(end) - index.rank0(start)
+    zeros_between_in(&mut Counted::new(index), start, end)
+}
+
+/// What `next_one` answers, by one rank and one selection in a value that counts them.
+#[tactic(auto, using(bit_lists::proofs::BitLaws::next_one_is_selected))]
+#[inline(always)]
+fn next_one_in<I: Rank + Select>(counted: &mut Counted<'_, I>, place: usize) -> Option<usize>
+    requires { place ≤ length (I.bits counted.old.value) }
+    ensures answer { MatchesFirstOne (I.bits counted.old.value) place result }
+    ensures queries { QueriesAtMost counted.old counted.new 1 1 }
+{
+    let rank = counted.rank(place);
+    counted.try_select(rank)
 }
 
 /// The first one at `place` or after it; `None` exactly where there is none.
@@ -44,13 +82,24 @@ pub fn zeros_between<I: Rank>(index: &I, start: usize, end: usize) -> usize
 /// There are at least `place` bits.
 /// # Cost
 /// A rank and a selection.
-#[tactic(auto, using(bit_lists::proofs::BitLaws::next_one_is_selected))]
 #[inline(always)]
 pub fn next_one<I: Rank + Select>(index: &I, place: usize) -> Option<usize>
     requires { place ≤ length (I.bits index.now) }
     ensures { MatchesFirstOne (I.bits index.now) place result }
 {
-    index.try_select(index.rank(place))
+    next_one_in(&mut Counted::new(index), place)
+}
+
+/// What `next_zero` answers, by one rank and one selection in a value that counts them.
+#[tactic(auto, using(bitm_bits::proofs::Callers::next_zero))]
+#[inline(always)]
+fn next_zero_in<I: Rank + Select0>(counted: &mut Counted<'_, I>, place: usize) -> Option<usize>
+    requires { place ≤ length (I.bits counted.old.value) }
+    ensures answer { MatchesFirstZero (I.bits counted.old.value) place result }
+    ensures queries { QueriesAtMost counted.old counted.new 1 1 }
+{
+    let rank = counted.rank0(place);
+    counted.try_select0(rank)
 }
 
 /// The first zero at `place` or after it; `None` exactly where there is none.
@@ -59,13 +108,30 @@ pub fn next_one<I: Rank + Select>(index: &I, place: usize) -> Option<usize>
 /// There are at least `place` bits.
 /// # Cost
 /// A rank and a selection.
-#[tactic(auto, using(bitm_bits::proofs::Callers::next_zero))]
 #[inline(always)]
 pub fn next_zero<I: Rank + Select0>(index: &I, place: usize) -> Option<usize>
     requires { place ≤ length (I.bits index.now) }
     ensures { MatchesFirstZero (I.bits index.now) place result }
 {
-    index.try_select0(index.rank0(place))
+    next_zero_in(&mut Counted::new(index), place)
+}
+
+/// What `previous_one` answers, by one rank and one selection in a value that counts them.
+#[tactic(auto, using(bitm_bits::proofs::Callers::last_one, bitm_bits::proofs::Callers::no_one_to, bitm_bits::proofs::Callers::ones_grow))]
+#[inline(always)]
+fn previous_one_in<I: Rank + Select>(counted: &mut Counted<'_, I>, place: usize) -> Option<usize>
+    requires { place < length (I.bits counted.old.value) }
+    ensures answer { MatchesLast (I.bits counted.old.value) true place result }
+    ensures queries { QueriesAtMost counted.old counted.new 1 1 }
+{
+    // The number of bits fits, so the place after this one does.
+    let _len = counted.len();
+    let count = counted.rank(place + 1);
+    if count == 0 {
+        None
+    } else {
+        Some(counted.select(count - 1))
+    }
 }
 
 /// The last one at `place` or before it; `None` exactly where there is none.
@@ -74,19 +140,29 @@ pub fn next_zero<I: Rank + Select0>(index: &I, place: usize) -> Option<usize>
 /// There are more than `place` bits.
 /// # Cost
 /// A rank and a selection.
-#[tactic(auto, using(bitm_bits::proofs::Callers::last_one, bitm_bits::proofs::Callers::no_one_to, bitm_bits::proofs::Callers::ones_grow))]
 #[inline(always)]
 pub fn previous_one<I: Rank + Select>(index: &I, place: usize) -> Option<usize>
     requires { place < length (I.bits index.now) }
     ensures { MatchesLast (I.bits index.now) true place result }
 {
+    previous_one_in(&mut Counted::new(index), place)
+}
+
+/// What `previous_zero` answers, by one rank and one selection in a value that counts them.
+#[tactic(auto, using(bitm_bits::proofs::Callers::last_zero, bitm_bits::proofs::Callers::no_zero_to, bitm_bits::proofs::Callers::zeros_grow))]
+#[inline(always)]
+fn previous_zero_in<I: Rank + Select0>(counted: &mut Counted<'_, I>, place: usize) -> Option<usize>
+    requires { place < length (I.bits counted.old.value) }
+    ensures answer { MatchesLast (I.bits counted.old.value) false place result }
+    ensures queries { QueriesAtMost counted.old counted.new 1 1 }
+{
     // The number of bits fits, so the place after this one does.
-    let _len = index.len();
-    let count = index.rank(place + 1);
+    let _len = counted.len();
+    let count = counted.rank0(place + 1);
     if count == 0 {
         None
     } else {
-        Some(index.select(count - 1))
+        Some(counted.select0(count - 1))
     }
 }
 
@@ -96,19 +172,31 @@ pub fn previous_one<I: Rank + Select>(index: &I, place: usize) -> Option<usize>
 /// There are more than `place` bits.
 /// # Cost
 /// A rank and a selection.
-#[tactic(auto, using(bitm_bits::proofs::Callers::last_zero, bitm_bits::proofs::Callers::no_zero_to, bitm_bits::proofs::Callers::zeros_grow))]
 #[inline(always)]
 pub fn previous_zero<I: Rank + Select0>(index: &I, place: usize) -> Option<usize>
     requires { place < length (I.bits index.now) }
     ensures { MatchesLast (I.bits index.now) false place result }
 {
-    // The number of bits fits, so the place after this one does.
-    let _len = index.len();
-    let count = index.rank0(place + 1);
-    if count == 0 {
-        None
-    } else {
-        Some(index.select0(count - 1))
+    previous_zero_in(&mut Counted::new(index), place)
+}
+
+/// What `select_from` answers, by one rank and one selection in a value that counts them.
+#[tactic(auto, using(bitm_bits::proofs::Callers::one_from, bitm_bits::proofs::Callers::ones_are_bits))]
+#[inline(always)]
+fn select_from_in<I: Rank + Select>(
+    counted: &mut Counted<'_, I>,
+    place: usize,
+    k: usize,
+) -> Option<usize>
+    requires { place ≤ length (I.bits counted.old.value) }
+    ensures answer { IsSelectFrom (I.bits counted.old.value) true place k result }
+    ensures queries { QueriesAtMost counted.old counted.new 1 1 }
+{
+    // Where the sum does not fit there are not so many bits, whose number does.
+    let _len = counted.len();
+    match counted.rank(place).checked_add(k) {
+        Some(rank) => counted.try_select(rank),
+        None => None,
     }
 }
 
@@ -118,16 +206,30 @@ pub fn previous_zero<I: Rank + Select0>(index: &I, place: usize) -> Option<usize
 /// There are at least `place` bits.
 /// # Cost
 /// A rank and a selection.
-#[tactic(auto, using(bitm_bits::proofs::Callers::one_from, bitm_bits::proofs::Callers::ones_are_bits))]
 #[inline(always)]
 pub fn select_from<I: Rank + Select>(index: &I, place: usize, k: usize) -> Option<usize>
     requires { place ≤ length (I.bits index.now) }
     ensures { IsSelectFrom (I.bits index.now) true place k result }
 {
+    select_from_in(&mut Counted::new(index), place, k)
+}
+
+/// What `select0_from` answers, by one rank and one selection in a value that counts them.
+#[tactic(auto, using(bitm_bits::proofs::Callers::zero_from, bitm_bits::proofs::Callers::zeros_are_bits))]
+#[inline(always)]
+fn select0_from_in<I: Rank + Select0>(
+    counted: &mut Counted<'_, I>,
+    place: usize,
+    k: usize,
+) -> Option<usize>
+    requires { place ≤ length (I.bits counted.old.value) }
+    ensures answer { IsSelectFrom (I.bits counted.old.value) false place k result }
+    ensures queries { QueriesAtMost counted.old counted.new 1 1 }
+{
     // Where the sum does not fit there are not so many bits, whose number does.
-    let _len = index.len();
-    match index.rank(place).checked_add(k) {
-        Some(rank) => index.try_select(rank),
+    let _len = counted.len();
+    match counted.rank0(place).checked_add(k) {
+        Some(rank) => counted.try_select0(rank),
         None => None,
     }
 }
@@ -139,16 +241,10 @@ pub fn select_from<I: Rank + Select>(index: &I, place: usize, k: usize) -> Optio
 /// There are at least `place` bits.
 /// # Cost
 /// A rank and a selection.
-#[tactic(auto, using(bitm_bits::proofs::Callers::zero_from, bitm_bits::proofs::Callers::zeros_are_bits))]
 #[inline(always)]
 pub fn select0_from<I: Rank + Select0>(index: &I, place: usize, k: usize) -> Option<usize>
     requires { place ≤ length (I.bits index.now) }
     ensures { IsSelectFrom (I.bits index.now) false place k result }
 {
-    // Where the sum does not fit there are not so many bits, whose number does.
-    let _len = index.len();
-    match index.rank0(place).checked_add(k) {
-        Some(rank) => index.try_select0(rank),
-        None => None,
-    }
+    select0_from_in(&mut Counted::new(index), place, k)
 }
