@@ -62,10 +62,13 @@ fn places_of_zeros_come_with_how_many_are_left(rt: HostRuntime) {
 #[test]
 fn a_word_of_ones_has_no_zeros(rt: HostRuntime) {
     let array = [u64::MAX];
-    let content = array.as_slice();
-    let mut none = content.bit_zeros();
+    let full = array.as_slice();
+    let mut none = full.bit_zeros();
     assert!(rt; (none.len(), none.next()) == (0, None));
-    assert!(rt; content.bit_ones().size_hint() == (64, Some(64)));
+    let array = [u64::MAX, 0];
+    let content = array.as_slice();
+    let ones = content.bit_ones();
+    assert!(rt; (ones.len(), ones.size_hint()) == (64, (64, Some(64))));
 }
 
 /// Whether of the bits that come exactly those at the places are ones.

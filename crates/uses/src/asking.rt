@@ -1,7 +1,8 @@
-//! A call whose condition the caller tests first, as a user of the library writes it.
-ghost use Rattle.std.specs.Prelude.{◌<◌, true, count_ones, IfSome, IsSome};
+//! Calls with conditions: the caller tests them first, or they hold as the call stands. A call that breaks one is
+//! refused (`wrong-bodies/`).
+ghost use Rattle.std.specs.Prelude.{◌≡◌, ◌<◌, true, count_ones, IfSome, IsSome};
 ghost use Rattle.bitm.specs.Bits.{low_digits};
-ghost use Rattle.bitm.specs.Count.{IsRank, Picks};
+ghost use Rattle.bitm.specs.Count.{ones_of, IsRank, Picks};
 
 use bitm::{Rank, select64};
 
@@ -16,7 +17,14 @@ pub fn rank_if_inside<I: Rank>(index: &I, place: usize) -> Option<usize>
     }
 }
 
-/// The place of the one of a word with exactly `rank` ones before it; `None` where the word has no more ones than that.
+/// How many bits are 1: the rank at the exact length, which is the greatest index that `rank` takes.
+pub fn rank_of_all<I: Rank>(index: &I) -> usize
+    ensures { result ≡ ones_of (I.bits index.now) }
+{
+    index.rank(index.len())
+}
+
+/// The position of the 1 bit of a word with that rank; `None` where the word has no more 1 bits than that.
 #[tactic(auto, using(bitm::proofs::Callers::ones_of_word))]
 pub fn selected_in_word(word: u64, rank: u8) -> Option<u8>
     ensures picked { IfSome result (Picks (low_digits 64 word) true rank) }

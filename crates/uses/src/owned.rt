@@ -1,7 +1,8 @@
 //! Words that are made: by code that is generic over the vector, where what `BitVec` makes is what `AsSlice` lends, and
 //! piece by piece.
-ghost use Rattle.std.specs.Prelude.{◌≡◌, ◌<◌, ◌∷◌, true, false, IfOk};
-ghost use Rattle.bitm.specs.Bits.{bits_of, item, low_digits};
+ghost use Rattle.std.specs.Prelude.{◌≡◌, ◌<◌, ◌*◌, ◌^◌, ◌∷◌, ℕ, true, false, IfOk};
+ghost use Rattle.bitm.specs.Bits.{bits_of, low_digits};
+ghost use Rattle.bitm.specs.Number.{number_at};
 
 use bitm::{BitVec, BitWriter, words};
 use std::alloc::{AllocError, Global};
@@ -23,6 +24,21 @@ pub fn bit_of_zeros<V: BitVec + Drop>(
 {
     let vector = V::with_zeroed_bits(alloc, len)?;
     Ok(words::get_bit(vector.as_slice(), place))
+}
+
+/// A vector of `count` copies of a number of three bits, side by side.
+///
+/// # Conditions
+/// The number is below 8, and there are fewer than 2^32 copies.
+/// # Errors
+/// `AllocError` if no memory was found.
+pub fn copies<V: BitVec>(alloc: V::Alloc, number: u64, count: usize) -> Result<V, AllocError>
+    requires number { number < 8 }
+    requires count { count < 2 ^ 32 }
+    ensures { IfOk result (λ v. (i : ℕ) → i < count
+        → number_at (bits_of (V.items v)) (i * 3) 3 ≡ number) }
+{
+    V::with_bitwords(alloc, number, 3, count)
 }
 
 /// A content that is written piece by piece: a one, and then the ten lowest digits of a number.
