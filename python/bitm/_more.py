@@ -293,11 +293,11 @@ def load(source: Union[PathLike, int, BinaryIO], *, mmap: bool = False) -> Store
 
 
 def _read(file: Any, shown: str) -> bytes:
-    head = file.read(HEADER)
-    if not isinstance(head, bytes):
-        raise TypeError("the file has to be opened in binary mode")
-    while 0 < len(head) < HEADER and (more := file.read(HEADER - len(head))):
-        head += more
+    head = b""
+    while len(head) < HEADER and (piece := file.read(HEADER - len(head))):
+        if not isinstance(piece, bytes):
+            raise TypeError("the file has to be opened in binary mode")
+        head += piece
     _look(head, None, shown)
     return head + b"".join(iter(lambda: file.read(1 << 20) or b"", b""))
 
