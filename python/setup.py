@@ -20,7 +20,7 @@ HERE = pathlib.Path(__file__).resolve().parent
 def first(variable, *places):
     found = [pathlib.Path(os.environ[variable])] if variable in os.environ else [it for it in places if it.exists()]
     if not found or not found[0].exists():
-        raise SystemExit(f"bitm: there is no {places[-1]}: run `make archive` in the repository, or set {variable}")
+        raise SystemExit(f"bitm: there is no {places[-1]}: run `make archive` in the repository first, or set {variable}")
     return found[0]
 
 

@@ -309,10 +309,22 @@ def _loaded(data: Any, shown: str) -> Stored:
         raise ValueError(f"{shown}: {error}") from None
 
 
+def _copy(share: Callable[[Any], Any]) -> Callable[[Any], Any]:
+    def copy(self: Any) -> Any:
+        """Another value over the same memory, which never changes: each is closed by itself."""
+        made = share(self)
+        if state := getattr(self, "__dict__", None):
+            made.__dict__.update(state)
+        return made
+
+    return copy
+
+
 def complete() -> None:
     """Gives the types of the extension those methods that stand here."""
     for kind in (_core.Index, _core.EliasFano, _core.PerfectHash):
         setattr(kind, "save", save)
+        setattr(kind, "__copy__", _copy(kind.__copy__))
     for each in (_core.BitVector, _core.Index, _core.EliasFano, _core.PerfectHash):
         setattr(each, "__reduce_ex__", reduce)
     setattr(_core.BitVector, "to_numpy", vector_to_numpy)

@@ -306,6 +306,37 @@ for call in (lambda: v[Cut()], lambda: v.__setitem__(Cut(), 1), lambda: v.set_bi
     except IndexError: print("outside")
 """, ["5", "closed", "outside", "outside", "outside", "BitVector('')", "None", "outside", "None"])
 
+    def test_queries_that_close_what_they_ask(self):
+        self.run_program("""
+index, sequence, numbers = bitm.Index(b"\\xff" * 8), bitm.EliasFano([1, 2]), bitm.PerfectHash([1, 2])
+def closing(it):
+    it.close()
+    yield 1
+class Closer:
+    def __init__(self, it): self.it = it
+    def __index__(self): self.it.close(); return 1
+    def __eq__(self, other): self.it.close(); return False
+    __hash__ = None
+closed = 0
+for it in (index, sequence, numbers):
+    for name in dir(it):
+        if name.startswith("_") or name in ("close", "closed", "save", "check", "parts", "words", "to_numpy", "over"): continue
+        for how in (closing, lambda it: [Closer(it)], Closer):
+            made = copy.copy(it)
+            try: getattr(made, name)(how(made))
+            except (ValueError, TypeError): closed += made.closed
+print(closed > 30, index.check(), sequence.check(), numbers.check())
+""", ["True True True True"])
+
+    def test_buffers_of_ctypes_are_bytes(self):
+        self.run_program("""
+import ctypes
+for kind in (ctypes.c_char, ctypes.c_ubyte):
+    it = (kind * 3)(); memoryview(it).cast("B")[:] = b"abc"
+    print(bitm.Index(it).count(), bitm.BitVector.from_words(it) == bitm.BitVector.from_words(b"abc"))
+print(bitm.Index((ctypes.c_uint64 * 2)(1, 3)).count(), list(bitm.EliasFano((ctypes.c_int32 * 2)(1, 3))))
+""", ["10 True", "10 True", "3 [1, 3]"])
+
 
 if __name__ == "__main__":
     unittest.main()
