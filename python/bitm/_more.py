@@ -324,7 +324,7 @@ def complete() -> None:
     """Gives the types of the extension those methods that stand here."""
     for kind in (_core.Index, _core.EliasFano, _core.PerfectHash):
         setattr(kind, "save", save)
-        setattr(kind, "__copy__", _copy(kind.__copy__))
+        setattr(kind, "__copy__", _copy(getattr(kind, "__copy__")))
     for each in (_core.BitVector, _core.Index, _core.EliasFano, _core.PerfectHash):
         setattr(each, "__reduce_ex__", reduce)
     setattr(_core.BitVector, "to_numpy", vector_to_numpy)
