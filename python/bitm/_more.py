@@ -24,7 +24,7 @@ HEADER = 192
 def tables_of(words: Any) -> Tuple["array.array[int]", "array.array[int]", int]:
     """Both tables of a buffer of words, in two new arrays, and the number of 1 bits."""
     index = _core.Index(words)
-    _, _, upper, lower, *_ = _core.index_parts(index)
+    _, (_, upper, lower, *_) = _core.parts(index)
     return array.array("Q", bytes(upper)), array.array("Q", bytes(lower)), index.count()
 
 
@@ -83,13 +83,28 @@ def sequence_to_numpy(self: Any, dtype: Any = None, copy: Optional[bool] = None)
     return _as(array_of(_core.sequence_window(self), ""), dtype, copy)
 
 
-# ---- sequences
+# ---- values over memory that exists already
+
+
+def index_over(cls: Any, words: Any, upper: Any, lower: Any, length: Any = None) -> Any:
+    """An index over tables that exist already. They are not checked."""
+    if length is None:
+        length = len(words) if isinstance(words, _core.BitVector) else 8 * memoryview(words).nbytes
+    return _core.over(cls, (length, 0, 0), (words, upper, lower, b"", b"", b"", b""))
+
+
+def sequence_over(cls: Any, length: Any, width: Any, low: Any, words: Any, upper: Any, lower: Any) -> Any:
+    """A sequence over parts that exist already. They are not checked."""
+    return _core.over(cls, (length, width), (low, words, upper, lower))
 
 
 def parts(self: Any) -> Any:
     """The width and the four parts, as `over` takes them after the length."""
-    _, width, *windows = _core.sequence_parts(self)
+    (_, width), windows = _core.parts(self)
     return (width, *map(memoryview, windows))
+
+
+# ---- sequences
 
 
 def intersection(self: Any, *others: Any) -> "_core.EliasFano":
@@ -120,40 +135,25 @@ def blake(key: Any, seed: int) -> Tuple[int, int]:
 
 
 def _packed(window: Any, protocol: int) -> Any:
-    return pickle.PickleBuffer(window) if protocol >= 5 else bytes(window)
+    return pickle.PickleBuffer(window) if protocol >= 5 and len(window) else bytes(window)
 
 
 def _vector(kind: Any, words: Any, length: int) -> Any:
     return kind.from_words(words, length)
 
 
-def _index(kind: Any, words: Any, upper: Any, lower: Any, length: int, ones: Any, zeros: Any) -> Any:
-    return kind.over(words, upper, lower, length, ones=ones, zeros=zeros)
-
-
-def _sequence(kind: Any, *parts: Any) -> Any:
-    return kind.over(*parts)
-
-
-def _hash(*parts: Any) -> Any:
-    return _core.hash_restored(*parts)
+def _value(kind: Any, numbers: Any, *buffers: Any) -> Any:
+    return _core.over(kind, numbers, buffers)
 
 
 def reduce(self: Any, protocol: Any) -> Any:
-    state = getattr(self, "__dict__", None) or None
     if isinstance(self, _core.BitVector):
         made: Any = (_vector, (type(self), _packed(self, protocol), len(self)))
-    elif isinstance(self, _core.Index):
-        length, words, upper, lower, *samples = _core.index_parts(self)
-        packed = [by and (by[0], _packed(by[1], protocol), _packed(by[2], protocol)) for by in samples]
-        made = (_index, (type(self), *(_packed(it, protocol) for it in (words, upper, lower)), length, *packed))
-    elif isinstance(self, _core.EliasFano):
-        length, width, *windows = _core.sequence_parts(self)
-        made = (_sequence, (type(self), length, width, *(_packed(it, protocol) for it in windows)))
     else:
-        mark, keys, bits, seed, *windows = _core.hash_parts(self)
-        made = (_hash, (type(self), mark, keys, bits, seed, *(_packed(it, protocol) for it in windows)))
-    return made if state is None else (*made, state)
+        numbers, windows = _core.parts(self)
+        made = (_value, (type(self), numbers, *(_packed(it, protocol) for it in windows)))
+    state = getattr(self, "__dict__", None)
+    return (*made, state) if state else made
 
 
 # ---- files
@@ -162,30 +162,30 @@ def reduce(self: Any, protocol: Any) -> Any:
 def _pieces(value: Any) -> Tuple[int, List[Piece]]:
     """The size of the file of a value, and where each piece of it begins. There is one look at the value, and the pieces
     keep their memory, whoever closes it meanwhile."""
+    numbers, windows = _core.parts(value)
     if isinstance(value, _core.EliasFano):
-        length, width, *windows = _core.sequence_parts(value)
-        header, size, (words, upper, lower, low, *_) = _core.sequence_header(length, width, *map(len, windows))
+        header, size, (words, upper, lower, low, *_) = _core.sequence_header(*numbers, *map(len, windows))
         return size, [(0, header), *zip((low, words, upper, lower), windows)]
     if isinstance(value, _core.Index):
-        return _index_pieces(value)
-    mark, keys, bits, seed, *windows, sizes, prints = _core.hash_parts(value)
+        return _index_pieces(numbers, windows)
     header, size, places = _core.index_header(64 * len(windows[0]), 0, 0, 0, 0)
-    pieces: List[Piece] = [(0, header), *zip(places, windows)]
-    head = array.array("Q", [mark, keys, bits, seed, len(sizes), len(prints)])
-    for piece in (head, sizes, prints):
+    pieces: List[Piece] = [(0, header), *zip(places, windows[:3])]
+    sizes, prints = windows[3:]
+    for piece in (array.array("Q", [*numbers, len(sizes), len(prints)]), sizes, prints):
         pieces.append((size, piece))
         size += 8 * len(piece)
     return size, pieces
 
 
-def _index_pieces(index: "_core.Index") -> Tuple[int, List[Piece]]:
-    length, words, upper, lower, ones, zeros = _core.index_parts(index)
-    if length <= 64 * (len(words) - 1):  # tables of fewer words are other tables
-        made = _core.Index(memoryview(words)[: -(-length // 64)], length, sample_log2=(ones or zeros or (None,))[0])
-        _, words, upper, lower, ones, zeros = _core.index_parts(made)
-    ones, zeros = ones or (0, b"", b""), zeros or (0, b"", b"")
-    header, size, places = _core.index_header(length, ones[0], len(ones[1]), zeros[0], len(zeros[1]))
-    return size, [(0, header), *zip(places, (words, upper, lower, b"", ones[2], zeros[2], ones[1], zeros[1]))]
+def _index_pieces(numbers: Any, windows: Any) -> Tuple[int, List[Piece]]:
+    length, ones_log2, zeros_log2 = numbers
+    if length <= 64 * (len(windows[0]) - 1):  # tables of fewer words are other tables
+        words = memoryview(windows[0])[: -(-length // 64)]
+        numbers, windows = _core.parts(_core.Index(words, length, sample_log2=ones_log2 or zeros_log2 or None))
+        length, ones_log2, zeros_log2 = numbers
+    words, upper, lower, samples, starts, samples0, starts0 = windows
+    header, size, places = _core.index_header(length, ones_log2, len(samples), zeros_log2, len(samples0))
+    return size, [(0, header), *zip(places, (words, upper, lower, b"", starts, starts0, samples, samples0))]
 
 
 def _into(write: Callable[[Any], Any], size: int, pieces: List[Piece]) -> None:
@@ -331,5 +331,7 @@ def complete() -> None:
     for name in ("to_numpy", "__array__"):
         setattr(_core.Index, name, index_to_numpy)
         setattr(_core.EliasFano, name, sequence_to_numpy)
+    setattr(_core.Index, "over", classmethod(index_over))
+    setattr(_core.EliasFano, "over", classmethod(sequence_over))
     setattr(_core.EliasFano, "intersection", intersection)
     setattr(_core.EliasFano, "parts", property(parts))

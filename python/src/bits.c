@@ -87,44 +87,21 @@ PyObject *bits_compare(PyObject *self, PyObject *other, int how)
 enum { ROOM = 64 };
 
 typedef struct {
-    PyObject_HEAD
-    PyObject *source; /* a BitVector or an Index; NULL at the end */
+    Walk walk; /* over a BitVector or an Index */
     uint64_t from, stop; /* where the rest lies */
     int bit, is_reversed;
     uint64_t at, count; /* of room */
     uint64_t room[ROOM];
 } Positions;
 
-static int positions_traverse(PyObject *self, visitproc visit, void *arg)
-{
-    Py_VISIT(Py_TYPE(self));
-    Py_VISIT(((Positions *)self)->source);
-    return 0;
-}
-
-static int positions_clear(PyObject *self)
-{
-    Py_CLEAR(((Positions *)self)->source);
-    return 0;
-}
-
-static void positions_dealloc(PyObject *self)
-{
-    PyTypeObject *type = Py_TYPE(self);
-    PyObject_GC_UnTrack(self);
-    Py_CLEAR(((Positions *)self)->source);
-    ((freefunc)PyType_GetSlot(type, Py_tp_free))(self);
-    Py_DECREF(type);
-}
-
 /* The next positions into room: how many is in count. -1 and an error. */
 static int positions_fill(Positions *it)
 {
     Bits bits;
     it->at = it->count = 0;
-    if (it->source == NULL)
+    if (it->walk.source == NULL)
         return 0;
-    if (bits_of(it->source, &bits))
+    if (bits_of(it->walk.source, &bits))
         return -1;
     bits.len = it->stop < bits.len ? it->stop : bits.len;
     if (!it->is_reversed) {
@@ -136,7 +113,7 @@ static int positions_fill(Positions *it)
         it->count = 1;
     }
     if (it->count == 0)
-        Py_CLEAR(it->source);
+        Py_CLEAR(it->walk.source);
     return 0;
 }
 
@@ -148,11 +125,8 @@ static PyObject *positions_next(PyObject *self)
     return PyLong_FromUnsignedLongLong(it->room[it->at++]);
 }
 
-static PyType_Slot positions_slots[] = {{Py_tp_dealloc, positions_dealloc}, {Py_tp_traverse, positions_traverse},
-                                        {Py_tp_clear, positions_clear},     {Py_tp_iter, PyObject_SelfIter},
-                                        {Py_tp_iternext, positions_next},   {0, NULL}};
-PyType_Spec positions_spec = {"bitm._core._Positions", sizeof(Positions), 0,
-                              Py_TPFLAGS_DEFAULT | Py_TPFLAGS_HAVE_GC | Py_TPFLAGS_DISALLOW_INSTANTIATION, positions_slots};
+static PyType_Slot positions_slots[] = {{Py_tp_iternext, positions_next}, WALK_SLOTS, {0, NULL}};
+PyType_Spec positions_spec = {"bitm._core._Positions", sizeof(Positions), 0, WALK_FLAGS, positions_slots};
 
 static PyObject *positions_new(PyObject *source, int bit, const char *name, PyObject *const *args, Py_ssize_t count,
                                PyObject *keywords)
@@ -170,7 +144,7 @@ static PyObject *positions_new(PyObject *source, int bit, const char *name, PyOb
     Positions *it = (Positions *)PyType_GenericAlloc(Positions_Type, 0);
     if (it == NULL)
         return NULL;
-    it->source = Py_NewRef(source);
+    it->walk.source = Py_NewRef(source);
     it->from = from;
     it->stop = stop;
     it->bit = bit;

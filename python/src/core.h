@@ -98,6 +98,7 @@ typedef struct {
     const uint64_t *prints; /* the fingerprints of a hash: hash.keys numbers of print_width bits */
     size_t prints_len;
     uint64_t prints_bits, print_width, seed, mark;
+    uint64_t log2s[2]; /* of the samples of 1 bits and 0 bits, as numbers of 64 bits */
 } Memory;
 
 Memory *memory_new(void);
@@ -170,6 +171,21 @@ extern PyMemberDef value_members[];
     }
 #define VALUE_FLAGS (Py_TPFLAGS_DEFAULT | Py_TPFLAGS_HAVE_GC | Py_TPFLAGS_BASETYPE)
 #define VALUE_CLOSED {"closed", value_closed, NULL, DOC("Whether it was closed."), NULL}
+
+/* An iterator over another object. */
+typedef struct {
+    PyObject_HEAD
+    PyObject *source; /* NULL at the end */
+} Walk;
+int walk_traverse(PyObject *self, visitproc visit, void *arg);
+int walk_clear(PyObject *self);
+void walk_dealloc(PyObject *self);
+#define WALK_SLOTS                                                                                                     \
+    {Py_tp_dealloc, walk_dealloc}, {Py_tp_traverse, walk_traverse}, {Py_tp_clear, walk_clear},                         \
+    {                                                                                                                  \
+        Py_tp_iter, PyObject_SelfIter                                                                                  \
+    }
+#define WALK_FLAGS (Py_TPFLAGS_DEFAULT | Py_TPFLAGS_HAVE_GC | Py_TPFLAGS_DISALLOW_INSTANTIATION)
 
 /* A buffer that Python code may look at: of memory that it keeps (read-only), or of its own (writable). */
 PyObject *window_of(Memory *base, const void *at, size_t len, size_t size);
@@ -251,9 +267,9 @@ uint64_t *keys_hash(PyObject *keys, uint64_t mark, uint64_t seed, size_t *count)
 PyObject *stored_load(PyObject *module, PyObject *file);
 PyObject *stored_index_header(PyObject *module, PyObject *args);
 PyObject *stored_sequence_header(PyObject *module, PyObject *args);
-PyObject *index_parts(PyObject *module, PyObject *index);
-PyObject *sequence_parts(PyObject *module, PyObject *sequence);
-PyObject *hash_parts(PyObject *module, PyObject *hash);
-PyObject *hash_restored(PyObject *module, PyObject *args);
+
+/* ---- parts.c */
+PyObject *parts_of(PyObject *module, PyObject *value);
+PyObject *parts_over(PyObject *module, PyObject *args);
 
 #endif

@@ -269,59 +269,6 @@ static PyObject *hash_repr(PyObject *self)
     return PyUnicode_FromFormat("<PerfectHash of %zu keys, fingerprints of %llu bits>", it->hash.keys, (unsigned long long)it->print_width);
 }
 
-PyObject *hash_parts(PyObject *module, PyObject *self)
-{
-    (void)module;
-    if (!PyObject_TypeCheck(self, Hash_Type)) {
-        PyErr_SetString(PyExc_TypeError, "a PerfectHash is needed");
-        return NULL;
-    }
-    Memory *it = memory_kept(self);
-    if (it == NULL)
-        return NULL;
-    const struct bitm_hash *hash = &it->hash;
-    const struct bitm_index *index = &hash->index;
-    PyObject *made = Py_BuildValue("(KKKKNNNNN)", (unsigned long long)it->mark, (unsigned long long)hash->keys,
-                                   (unsigned long long)it->print_width, (unsigned long long)it->seed,
-                                   window_of(it, index->words, index->words_len, 8), window_of(it, index->upper, index->upper_len, 8),
-                                   window_of(it, index->lower, index->lower_len, 8), window_of(it, hash->sizes, hash->sizes_len, 8),
-                                   window_of(it, it->prints, it->prints_len, 8));
-    DROP(it);
-    return made;
-}
-
-/* A PerfectHash of a class and what hash_parts gives. */
-PyObject *hash_restored(PyObject *module, PyObject *args)
-{
-    PyObject *type, *from[5];
-    unsigned long long mark, keys, width, seed;
-    const void *at[5];
-    size_t len[5];
-    (void)module;
-    if (!PyArg_ParseTuple(args, "OKKKKOOOOO", &type, &mark, &keys, &width, &seed, &from[0], &from[1], &from[2], &from[3], &from[4]))
-        return NULL;
-    if (!PyType_Check(type) || !PyType_IsSubtype((PyTypeObject *)type, Hash_Type)) {
-        PyErr_SetString(PyExc_TypeError, "a class of PerfectHash is needed");
-        return NULL;
-    }
-    Memory *it = memory_new();
-    int status = it == NULL ? -1 : 0;
-    for (int i = 0; i < 5 && status == 0; i++)
-        status = memory_items(it, from[i], 8, &at[i], &len[i]);
-    if (status) {
-        DROP(it);
-        return NULL;
-    }
-    struct bitm_hash hash = {{at[0], len[0], at[1], len[1], at[2], len[2], 0, {0}, {0}, {0, 0}}, at[3], len[3], keys};
-    it->hash = hash;
-    it->prints = at[4];
-    it->prints_len = len[4];
-    it->mark = mark;
-    it->print_width = width;
-    it->seed = seed;
-    return hash_over(type, it);
-}
-
 static PyMethodDef methods[] = {
     KEYWORDS("get", hash_get, "get(key, default=None)\n--\n\nThe number of a key, or the default where its fingerprint shows that it is not one."),
     KEYWORDS("get_list", hash_get_list, "get_list(keys, *, missing=None)\n--\n\nThe numbers of many keys; missing as in Index.select_list."),

@@ -26,6 +26,7 @@ static int build_samples(Memory *it, bool one, uint32_t log2)
     Py_END_ALLOW_THREADS
     struct bitm_samples made = {samples, (size_t)used, starts, it->index.upper_len, log2, 0};
     *(one ? &it->index.ones : &it->index.zeros) = made;
+    it->log2s[one ? 0 : 1] = log2;
     return status == BITM_OK ? 0 : -1;
 }
 
@@ -84,48 +85,6 @@ static int index_init(PyObject *self, PyObject *args, PyObject *keywords)
     else
         value_set(self, it);
     return status;
-}
-
-/* (log2, samples, starts), or None. */
-static int take_samples(Memory *it, PyObject *three, struct bitm_samples *out)
-{
-    const void *samples, *starts;
-    uint64_t log2;
-    if (three == NULL || three == Py_None)
-        return 0;
-    if (!PyTuple_Check(three) || PyTuple_Size(three) != 3) {
-        PyErr_SetString(PyExc_TypeError, "samples are a tuple of log2 and two buffers");
-        return -1;
-    }
-    if (number(PyTuple_GetItem(three, 0), "log2", &log2) ||
-        memory_items(it, PyTuple_GetItem(three, 1), 4, &samples, &out->samples_len) ||
-        memory_items(it, PyTuple_GetItem(three, 2), 8, &starts, &out->starts_len))
-        return -1;
-    out->samples = samples;
-    out->starts = starts;
-    out->log2 = (uint32_t)(log2 > 31 ? 31 : log2);
-    return 0;
-}
-
-static PyObject *over(PyObject *type, PyObject *const *args, Py_ssize_t count, PyObject *keywords)
-{
-    static const char *const names[] = {"words", "upper", "lower", "length", "*ones", "*zeros"};
-    PyObject *given[6];
-    if (pick("over", names, 3, 6, args, count, keywords, given))
-        return NULL;
-    Memory *it = memory_new();
-    if (it == NULL)
-        return NULL;
-    const void *upper, *lower;
-    if (take(it, given[0], given[3]) || memory_items(it, given[1], 8, &upper, &it->index.upper_len) ||
-        memory_items(it, given[2], 8, &lower, &it->index.lower_len) || take_samples(it, given[4], &it->index.ones) ||
-        take_samples(it, given[5], &it->index.zeros)) {
-        DROP(it);
-        return NULL;
-    }
-    it->index.upper = upper;
-    it->index.lower = lower;
-    return index_over(type, it);
 }
 
 /* ---- one query */
@@ -246,38 +205,9 @@ static PyObject *index_words(PyObject *self, void *none)
     return view;
 }
 
-static PyObject *samples_parts(Memory *it, const struct bitm_samples *by)
-{
-    if (by->log2 == 0)
-        return Py_NewRef(Py_None);
-    return Py_BuildValue("(INN)", by->log2, window_of(it, by->samples, by->samples_len, 4), window_of(it, by->starts, by->starts_len, 8));
-}
-
-/* Length, words, tables, and of each kind of samples what over takes. */
-PyObject *index_parts(PyObject *module, PyObject *self)
-{
-    (void)module;
-    if (!PyObject_TypeCheck(self, Index_Type)) {
-        PyErr_SetString(PyExc_TypeError, "an Index is needed");
-        return NULL;
-    }
-    Memory *it = memory_kept(self);
-    if (it == NULL)
-        return NULL;
-    const struct bitm_index *index = &it->index;
-    PyObject *made = Py_BuildValue("(KNNNNN)", (unsigned long long)index->bits_len, window_of(it, index->words, index->words_len, 8),
-                                   window_of(it, index->upper, index->upper_len, 8), window_of(it, index->lower, index->lower_len, 8),
-                                   samples_parts(it, &index->ones), samples_parts(it, &index->zeros));
-    DROP(it);
-    return made;
-}
-
 #define PLAIN(name, text) {#name, index_##name, METH_O, DOC(text)}
 #define NAMED(name, text) KEYWORDS(#name, index_##name, text)
 static PyMethodDef methods[] = {
-    {"over", (PyCFunction)(void (*)(void))over, METH_FASTCALL | METH_KEYWORDS | METH_CLASS,
-     DOC("over(words, upper, lower, length=None, *, ones=None, zeros=None)\n--\n\nAn index over tables that exist already, and "
-         "samples of 1 bits and 0 bits. They are not checked.")},
     PLAIN(rank, "rank(position, /)\n--\n\nHow many 1 bits there are before a position, which may be the length. IndexError past it."),
     PLAIN(rank0, "rank0(position, /)\n--\n\nHow many 0 bits there are before a position."),
     PLAIN(select, "select(rank, /)\n--\n\nThe position of the 1 bit with that rank, or None."),

@@ -7,12 +7,10 @@ PyTypeObject *Memory_Type, *Window_Type, *Positions_Type, *Numbers_Type, *Vector
 static PyMethodDef functions[] = {{"stored_load", stored_load, METH_O, NULL},
                                   {"index_header", stored_index_header, METH_VARARGS, NULL},
                                   {"sequence_header", stored_sequence_header, METH_VARARGS, NULL},
-                                  {"index_parts", index_parts, METH_O, NULL},
-                                  {"sequence_parts", sequence_parts, METH_O, NULL},
+                                  {"parts", parts_of, METH_O, NULL},
+                                  {"over", parts_over, METH_VARARGS, NULL},
                                   {"sequence_window", sequence_window, METH_O, NULL},
                                   {"sequence_common", sequence_common, METH_VARARGS, NULL},
-                                  {"hash_parts", hash_parts, METH_O, NULL},
-                                  {"hash_restored", hash_restored, METH_VARARGS, NULL},
                                   {NULL, NULL, 0, NULL}};
 
 /* The name of what the processor lacks of x86-64-v2, for which the library is compiled; NULL where it has all. */

@@ -4,35 +4,12 @@
 enum { ROOM = 256 };
 
 typedef struct {
-    PyObject_HEAD
-    PyObject *source; /* NULL at the end */
+    Walk walk; /* over an EliasFano */
     uint64_t from, stop; /* the indexes that are left, without those in room */
     int is_reversed;
     size_t at, count; /* of room, in the order of the sequence */
     uint64_t room[ROOM];
 } Numbers;
-
-static int numbers_traverse(PyObject *self, visitproc visit, void *arg)
-{
-    Py_VISIT(Py_TYPE(self));
-    Py_VISIT(((Numbers *)self)->source);
-    return 0;
-}
-
-static int numbers_clear(PyObject *self)
-{
-    Py_CLEAR(((Numbers *)self)->source);
-    return 0;
-}
-
-static void numbers_dealloc(PyObject *self)
-{
-    PyTypeObject *type = Py_TYPE(self);
-    PyObject_GC_UnTrack(self);
-    Py_CLEAR(((Numbers *)self)->source);
-    ((freefunc)PyType_GetSlot(type, Py_tp_free))(self);
-    Py_DECREF(type);
-}
 
 /* The count numbers from an index on, all of which there are: -1 and WrongTables else. */
 static int numbers_at(const Memory *it, uint64_t from, uint64_t *out, size_t count)
@@ -47,9 +24,9 @@ static int numbers_at(const Memory *it, uint64_t from, uint64_t *out, size_t cou
 /* The next numbers into room: 1, 0 where none are left, -1 and an error. */
 static int numbers_fill(Numbers *it)
 {
-    if (it->source == NULL || it->from >= it->stop)
+    if (it->walk.source == NULL || it->from >= it->stop)
         return 0;
-    Memory *memory = memory_of(it->source);
+    Memory *memory = memory_of(it->walk.source);
     if (memory == NULL)
         return -1;
     uint64_t left = it->stop - it->from;
@@ -88,9 +65,9 @@ static int seek(Numbers *it, PyObject *query)
         return 0;
     }
     it->at = it->count = 0;
-    Memory *memory = it->source == NULL ? NULL : memory_of(it->source);
+    Memory *memory = it->walk.source == NULL ? NULL : memory_of(it->walk.source);
     if (memory == NULL)
-        return it->source == NULL ? 0 : -1;
+        return it->walk.source == NULL ? 0 : -1;
     uint32_t status = bitm_sequence_first_at_least(&memory->sequence, value, &out);
     if (status != BITM_OK && status != BITM_NONE) {
         (void)wrong();
@@ -119,12 +96,8 @@ static PyMethodDef numbers_methods[] = {
      DOC("next_geq(value, /)\n--\n\nThe first number, of those that are left, that is at least value, or None. The next one "
          "follows it.")},
     {NULL, NULL, 0, NULL}};
-static PyType_Slot numbers_slots[] = {{Py_tp_dealloc, numbers_dealloc}, {Py_tp_traverse, numbers_traverse},
-                                      {Py_tp_clear, numbers_clear},     {Py_tp_iter, PyObject_SelfIter},
-                                      {Py_tp_iternext, numbers_next},   {Py_tp_methods, numbers_methods},
-                                      {0, NULL}};
-PyType_Spec numbers_spec = {"bitm._core._Numbers", sizeof(Numbers), 0,
-                            Py_TPFLAGS_DEFAULT | Py_TPFLAGS_HAVE_GC | Py_TPFLAGS_DISALLOW_INSTANTIATION, numbers_slots};
+static PyType_Slot numbers_slots[] = {{Py_tp_iternext, numbers_next}, {Py_tp_methods, numbers_methods}, WALK_SLOTS, {0, NULL}};
+PyType_Spec numbers_spec = {"bitm._core._Numbers", sizeof(Numbers), 0, WALK_FLAGS, numbers_slots};
 
 PyObject *numbers_new(PyObject *sequence, uint64_t from, uint64_t stop, int is_reversed)
 {
@@ -135,7 +108,7 @@ PyObject *numbers_new(PyObject *sequence, uint64_t from, uint64_t stop, int is_r
     Numbers *it = (Numbers *)PyType_GenericAlloc(Numbers_Type, 0);
     if (it == NULL)
         return NULL;
-    it->source = Py_NewRef(sequence);
+    it->walk.source = Py_NewRef(sequence);
     it->stop = stop < len ? stop : len;
     it->from = from;
     it->is_reversed = is_reversed;
@@ -211,21 +184,6 @@ static int is_sequence(PyObject *self)
     if (!PyObject_TypeCheck(self, Sequence_Type))
         PyErr_Format(PyExc_TypeError, "an EliasFano is needed, not %R", Py_TYPE(self));
     return PyObject_TypeCheck(self, Sequence_Type);
-}
-
-/* Length, width and the four parts, as over takes them. */
-PyObject *sequence_parts(PyObject *module, PyObject *self)
-{
-    (void)module;
-    Memory *it = is_sequence(self) ? memory_kept(self) : NULL;
-    if (it == NULL)
-        return NULL;
-    const struct bitm_sequence *by = &it->sequence;
-    PyObject *made = Py_BuildValue("(KKNNNN)", (unsigned long long)by->len, (unsigned long long)by->width,
-                                   window_of(it, by->low, by->low_len, 8), window_of(it, by->words, by->words_len, 8),
-                                   window_of(it, by->upper, by->upper_len, 8), window_of(it, by->lower, by->lower_len, 8));
-    DROP(it);
-    return made;
 }
 
 /* All numbers, in memory that Python code may look at. */

@@ -77,33 +77,6 @@ static int sequence_init(PyObject *self, PyObject *args, PyObject *keywords)
     return status;
 }
 
-static PyObject *over(PyObject *type, PyObject *const *args, Py_ssize_t count, PyObject *keywords)
-{
-    static const char *const names[] = {"length", "width", "low", "words", "upper", "lower"};
-    PyObject *given[6];
-    const void *at[4];
-    uint64_t len, width;
-    if (pick("over", names, 6, 6, args, count, keywords, given) || number(given[0], "the length", &len) ||
-        number(given[1], "the width", &width))
-        return NULL;
-    Memory *it = memory_new();
-    if (it == NULL)
-        return NULL;
-    struct bitm_sequence *sequence = &it->sequence;
-    if (memory_items(it, given[2], 8, &at[0], &sequence->low_len) || memory_items(it, given[3], 8, &at[1], &sequence->words_len) ||
-        memory_items(it, given[4], 8, &at[2], &sequence->upper_len) || memory_items(it, given[5], 8, &at[3], &sequence->lower_len)) {
-        DROP(it);
-        return NULL;
-    }
-    sequence->len = len;
-    sequence->width = width;
-    sequence->low = at[0];
-    sequence->words = at[1];
-    sequence->upper = at[2];
-    sequence->lower = at[3];
-    return sequence_over(type, it);
-}
-
 /* ---- one query */
 
 typedef uint32_t (*query_call)(const struct bitm_sequence *, uint64_t, uint64_t *);
@@ -324,8 +297,6 @@ static PyObject *sequence_repr(PyObject *self)
 #define PLAIN(name, function, text) {name, function, METH_O, DOC(text)}
 #define NAMED(name, text) KEYWORDS(#name, sequence_##name, text)
 static PyMethodDef methods[] = {
-    {"over", (PyCFunction)(void (*)(void))over, METH_FASTCALL | METH_KEYWORDS | METH_CLASS,
-     DOC("over(length, width, low, words, upper, lower)\n--\n\nA sequence over parts that exist already. They are not checked.")},
     PLAIN("first_at_least", first_at_least, "first_at_least(value, /)\n--\n\nSuccessor: the least index whose number is at least value, or None."),
     PLAIN("last_at_most", last_at_most, "last_at_most(value, /)\n--\n\nPredecessor: the greatest index whose number is at most value, or None."),
     PLAIN("rank", sequence_rank, "rank(value, /)\n--\n\nHow many numbers are less than value."),

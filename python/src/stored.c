@@ -46,6 +46,8 @@ PyObject *stored_load(PyObject *module, PyObject *file)
         return sequence_over(BORROWED(Sequence_Type), it);
     }
     it->index = bitm_stored_index_of(at, &header);
+    it->log2s[0] = header.ones_log2;
+    it->log2s[1] = header.zeros_log2;
     size_t used = (size_t)(header.size / 8);
     const uint64_t *tail = (const uint64_t *)at + used;
     if (words - used >= TAIL && (tail[0] == MARK_SIP || tail[0] == MARK_BLAKE))

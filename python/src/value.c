@@ -103,31 +103,43 @@ PyObject *more(const char *name, PyObject *args)
     return found;
 }
 
+/* ---- iterators */
+
+int walk_traverse(PyObject *self, visitproc visit, void *arg)
+{
+    Py_VISIT(Py_TYPE(self));
+    Py_VISIT(((Walk *)self)->source);
+    return 0;
+}
+
+int walk_clear(PyObject *self)
+{
+    Py_CLEAR(((Walk *)self)->source);
+    return 0;
+}
+
+void walk_dealloc(PyObject *self)
+{
+    PyTypeObject *type = Py_TYPE(self);
+    PyObject_GC_UnTrack(self);
+    (void)walk_clear(self);
+    ((freefunc)PyType_GetSlot(type, Py_tp_free))(self);
+    Py_DECREF(type);
+}
+
 /* ---- windows */
 
 typedef struct {
-    PyObject_HEAD
-    PyObject *base; /* the memory that it looks at, or NULL where that is its own */
+    Walk walk; /* over the memory that it looks at, or NULL where that is its own */
     void *own;
     const void *at;
     Py_ssize_t len, size;
 } Window;
 
-static int window_traverse(PyObject *self, visitproc visit, void *arg)
-{
-    Py_VISIT(Py_TYPE(self));
-    Py_VISIT(((Window *)self)->base);
-    return 0;
-}
-
 static void window_dealloc(PyObject *self)
 {
-    PyTypeObject *type = Py_TYPE(self);
-    PyObject_GC_UnTrack(self);
     free(((Window *)self)->own);
-    Py_CLEAR(((Window *)self)->base);
-    ((freefunc)PyType_GetSlot(type, Py_tp_free))(self);
-    Py_DECREF(type);
+    walk_dealloc(self);
 }
 
 static int window_buffer(PyObject *self, Py_buffer *out, int flags)
@@ -160,7 +172,7 @@ static Py_ssize_t window_len(PyObject *self)
 }
 
 static PyType_Slot window_slots[] = {{Py_tp_dealloc, window_dealloc},
-                                     {Py_tp_traverse, window_traverse},
+                                     {Py_tp_traverse, walk_traverse},
                                      {Py_bf_getbuffer, window_buffer},
                                      {Py_sq_length, window_len},
                                      {0, NULL}};
@@ -176,7 +188,7 @@ PyObject *window_of(Memory *base, const void *at, size_t len, size_t size)
         DROP(base);
         return NULL;
     }
-    it->base = BORROWED(base);
+    it->walk.source = BORROWED(base);
     it->at = at == NULL ? &nothing : at;
     it->len = (Py_ssize_t)len;
     it->size = (Py_ssize_t)size;

@@ -104,7 +104,7 @@ def turn(make, call, want):
 index = lambda: bitm.Index(b"\\xff" * 8000, sample_log2=7)
 for call, want in ((copy.copy, None), (lambda i: i.words.nbytes, 8000), (lambda i: i.rank_list([1, 2]), [1, 2]), (lambda i: i.select_list(array.array("Q", [1, 2])), [1, 2]),
                    (lambda i: len(pickle.dumps(i, 5)) > 8000, True), (lambda i: i.save(io.BytesIO()), None), (lambda i: list(i.ones(63990)), list(range(63990, 64000))),
-                   (lambda i: i[5:7].count(), 2), (lambda i: i == index(), True), (lambda i: bitm._core.index_parts(i)[0], 64000), (repr, None)):
+                   (lambda i: i[5:7].count(), 2), (lambda i: i == index(), True), (lambda i: bitm._core.parts(i)[0][0], 64000), (repr, None)):
     turn(index, call, want)
 sequence = lambda: bitm.EliasFano(range(1000))
 for call, want in ((copy.copy, None), (lambda s: s.parts[0] >= 0, True), (lambda s: s.get_list([1, 2]), [1, 2]), (lambda s: list(s)[:3], [0, 1, 2]), (lambda s: s[5:7], [5, 6]), (lambda s: s[7:5:-1], [7, 6]),

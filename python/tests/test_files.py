@@ -86,9 +86,10 @@ def refused(data, path, is_file):
         bitm.load(io.BytesIO(data))
     if is_file:
         path.write_bytes(data)
-        for it in (path, open(path, "rb")):
-            with pytest.raises(ValueError, match="stored"):
-                bitm.load(it)
+        with open(path, "rb") as file:
+            for it in (path, file):
+                with pytest.raises(ValueError, match="stored"):
+                    bitm.load(it)
         number = os.open(path, os.O_RDONLY)
         with pytest.raises(ValueError):
             bitm.load(number)

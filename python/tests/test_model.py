@@ -9,13 +9,13 @@ import pickle
 import tempfile
 
 import pytest
-from hypothesis import given, settings, strategies as st
+from hypothesis import HealthCheck, given, settings, strategies as st
 from hypothesis.stateful import RuleBasedStateMachine, initialize, invariant, rule
 
 import bitm
 
 numpy = pytest.importorskip("numpy")
-settings.register_profile("all", deadline=None, max_examples=int(os.environ.get("BITM_EXAMPLES", "60")))
+settings.register_profile("all", deadline=None, suppress_health_check=list(HealthCheck), max_examples=int(os.environ.get("BITM_EXAMPLES", "60")))
 settings.load_profile("all")
 
 BITS = st.one_of(
