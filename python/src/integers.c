@@ -65,6 +65,10 @@ int integers_take(Integers *it, PyObject *from, const char *what)
     memset(it, 0, sizeof *it);
     if (!PyObject_CheckBuffer(from))
         return iterate(it, from, what);
+    if (PyObject_TypeCheck(from, Vector_Type) || is_instance(from, "bitarray", "bitarray")) {
+        PyErr_Format(PyExc_TypeError, "numbers are needed, not the bits of %R: see BitVector.ones", Py_TYPE(from));
+        return -1; /* their buffers are words and bytes */
+    }
     if (PyObject_GetBuffer(from, &it->held, PyBUF_RECORDS_RO))
         return -1;
     it->is_held = 1;

@@ -295,6 +295,15 @@ def test_bitarray():
             assert list(index) == bits and index.count() == sum(bits) and index.check()
 
 
+def test_bits_are_no_numbers():
+    bitarray = pytest.importorskip("bitarray")
+    index, sequence = bitm.Index(b"\xff"), bitm.EliasFano([1])
+    for bits in (bitm.BitVector(5), bitarray.bitarray("0101")):
+        for call in (index.rank_list, index.select_list, sequence.get_list, sequence.contains_list, bitm.EliasFano, bitm.BitVector.from_indices):
+            with pytest.raises(TypeError, match="ones"):
+                call(bits)
+
+
 def test_documentation():
     assert doctest.testmod(bitm).failed == 0
     for kind in (bitm.BitVector, bitm.Index, bitm.EliasFano, bitm.PerfectHash):
