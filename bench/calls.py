@@ -1,11 +1,29 @@
 #!/usr/bin/env python3
-"""calls.py LOG2 ROUNDS: times the calls of the Python package over 2^LOG2 random bits. Rows, words, queries and clock are
-those of the crate `bench`; single calls are timed for the first 2^12 queries alone. With NumPy the lists are arrays."""
+"""calls.py LOG2 ROUNDS: times the calls of the Python package over 2^LOG2 random bits, and beside them bitarray's, NumPy's
+and bisect's, where these are installed. Prints CSV rows: name, by, LOG2, kind of bits, least time of all rounds, unit, sum of the answers.
+Rows, words, queries and clock are those of the crate `bench`; single calls are timed for the first 2^12 queries alone, with
+the loop around them. With NumPy the lists are arrays. With BITM_LIB (the archive) the rows `C` are the library's calls of
+the same lists."""
 import array
+import bisect
+import collections
+import ctypes
+import os
+import subprocess
 import sys
+import tempfile
 import time
 
 import bitm
+
+try:
+    import numpy
+except ImportError:
+    numpy = None
+try:
+    import bitarray
+except ImportError:
+    bitarray = None
 
 MASK = (1 << 64) - 1
 QUERIES, SINGLE = 1 << 17, 1 << 12
@@ -19,17 +37,133 @@ def drawn(state):
         yield state * 0x2545F4914F6CDD1D & MASK
 
 
-def row(name, by, log2, rounds, count, call):
-    least, check = 1 << 62, 0
-    for _ in range(rounds):
-        start = time.thread_time_ns()
-        answers = call()
-        least = min(least, time.thread_time_ns() - start)
-        check = sum(map(int, answers))
-    print(f"{name},{by},{log2},even,{least / count:.2f},ns,{check}")
+class Rows:
+    def __init__(self, log2, rounds):
+        self.log2, self.rounds = log2, rounds
+
+    def add(self, name, by, count, call, answers):
+        least = 1 << 62
+        for _ in range(self.rounds):
+            start = time.thread_time_ns()
+            call()
+            least = min(least, time.thread_time_ns() - start)
+        print(f"{name},{by},{self.log2},even,{least / count:.2f},ns,{sum(map(int, answers())) & MASK}", flush=True)
+
+    def single(self, name, by, call, asked):
+        """A function of one argument, without a Python frame around it."""
+        asked = asked[: SINGLE if by == "Python" or name != "rank" else 64]
+        self.add(name, by, len(asked), lambda: collections.deque(map(call, asked), 0), lambda: map(call, asked))
+
+    def item(self, name, by, it, asked):
+        asked = asked[:SINGLE]
+
+        def loop():
+            for at in asked:
+                it[at]
+
+        self.add(name, by, len(asked), loop, lambda: [it[at] for at in asked])
+
+    def whole(self, name, by, count, call):
+        self.add(name, by, count, call, call)
+
+
+def rank_and_select(rows, index, some):
+    for name, limit in (("rank", len(index)), ("select", index.count(1)), ("select0", index.count(0))):
+        asked, call, many = [at % limit for at in some], getattr(index, name), getattr(index, name + "_list")
+        rows.single(name, "Python", call, asked)
+        queries = listed(asked)
+        choice = {} if name == "rank" else {"missing": "error"}
+        rows.whole(name + "_list", "Python", QUERIES, lambda: many(queries, **choice))
+    asked = [at % len(index) for at in some]
+    rows.single("next_one", "Python", index.next_one, asked)
+    rows.item("index[i]", "Python", index, asked)
+    if numpy is not None:
+        queries = numpy.array(asked, dtype=numpy.int32)
+        rows.whole("rank_list of int32", "Python", QUERIES, lambda: index.rank_list(queries))
+
+
+def changes(rows, vector, some):
+    def set_each(it):
+        def loop():
+            for at in asked:
+                it[at] = True
+
+        return loop
+
+    asked = [at % len(vector) for at in some[:SINGLE]]
+    rows.item("vector[i]", "Python", vector, asked)
+    rows.add("vector[i] = True", "Python", SINGLE, set_each(vector.copy()), lambda: asked)
+    rows.single("vector.next_one", "Python", vector.next_one, asked)
+    rows.whole("from_words", "Python", len(vector), lambda: [bitm.BitVector.from_words(vector).count()])
+    positions = listed(list(vector.ones()))
+    rows.add("from_indices", "Python", len(positions), lambda: bitm.BitVector.from_indices(positions), lambda: positions)
+    rows.whole("list(vector.ones())", "Python", len(positions), lambda: list(vector.ones()))
+    rows.whole("vector[5:-5]", "Python", len(vector), lambda: [vector[5:-5].count()])
+    if numpy is not None:
+        flags = vector.to_numpy()
+        rows.add("from_bits of bools", "Python", len(flags), lambda: bitm.BitVector.from_bits(flags), lambda: [vector.count()])
+    if bitarray is not None:
+        bits = bitarray.bitarray(endian="little")
+        bits.frombytes(vector.tobytes())
+        rows.single("rank", "bitarray", lambda at: bits.count(1, 0, at), asked)
+        rows.single("next_one", "bitarray", lambda at: bits.find(1, at), asked)
+        rows.item("vector[i]", "bitarray", bits, asked)
+        rows.add("vector[i] = True", "bitarray", SINGLE, set_each(bits.copy()), lambda: asked)
+        rows.whole("vector[5:-5]", "bitarray", len(vector), lambda: [bits[5:-5].count()])
+
+
+def sequences(rows, numbers, some):
+    sequence = bitm.EliasFano(numbers)
+    values, indexes = [at % numbers[-1] for at in some], [at % len(numbers) for at in some]
+    rows.add("EliasFano(numbers)", "Python", len(numbers), lambda: bitm.EliasFano(numbers), lambda: numbers)
+    rows.item("ef[i]", "Python", sequence, indexes)
+    rows.single("first_at_least", "Python", sequence.first_at_least, values)
+    rows.single("first_at_least", "bisect", lambda value: bisect.bisect_left(numbers, value), values)
+    rows.whole("list(ef)", "Python", len(numbers), lambda: list(sequence))
+    where, what = listed(indexes), listed(values)
+    rows.whole("ef.get_list", "Python", QUERIES, lambda: sequence.get_list(where))
+    rows.whole("ef.first_at_least_list", "Python", QUERIES, lambda: sequence.first_at_least_list(what, missing="error"))
+    rows.whole("ef.contains_list", "Python", QUERIES, lambda: sequence.contains_list(what))
+    if numpy is not None:
+        plain = numpy.array(numbers, dtype=numpy.uint64)
+        rows.whole("ef.first_at_least_list", "searchsorted", QUERIES, lambda: numpy.searchsorted(plain, what))
+
+
+def hashes(rows):
+    keys = [f"key {at}" for at in range(20000)]
+    made, plain = bitm.PerfectHash(keys), dict.fromkeys(keys, 0)
+    rows.add("PerfectHash(keys)", "Python", len(keys), lambda: bitm.PerfectHash(keys), lambda: [len(made)])
+    rows.item("hash[key]", "Python", made, keys)
+    rows.item("hash[key]", "dict", plain, keys)
+    rows.whole("hash.get_list", "Python", len(keys), lambda: made.get_list(keys, missing="error"))
+
+
+def of_library(rows, index, some):
+    """The library's own lists, by ctypes: a call takes a microsecond more than in C."""
+    with tempfile.TemporaryDirectory() as room:
+        path = os.path.join(room, "bitm.so")
+        subprocess.run(["cc", "-shared", "-nostdlib", "-o", path, "-Wl,--whole-archive", os.environ["BITM_LIB"], "-Wl,--no-whole-archive"], check=True)
+        library = ctypes.CDLL(path)
+    upper, lower, ones = bitm.tables_of(index.words)
+    parts = [numpy.frombuffer(it, dtype=numpy.uint64) for it in (index.words, upper, lower)]
+    struct = numpy.zeros(32, dtype=numpy.uint64)
+    for at, part in enumerate(parts):
+        struct[2 * at : 2 * at + 2] = part.ctypes.data, len(part)
+    struct[6] = len(index)
+    counts, out = numpy.zeros(2, dtype=numpy.uint64), numpy.zeros(QUERIES, dtype=numpy.uint64)
+    for name, call, one, limit in (("rank_list", library.bitm_index_rank_list, 1, len(index)), ("select_list", library.bitm_index_select_list, 1, ones), ("select0_list", library.bitm_index_select_list, 0, len(index) - ones)):
+        queries = numpy.array([at % limit for at in some], dtype=numpy.uint64)
+        call.argtypes = [ctypes.c_void_p, ctypes.c_bool, ctypes.c_void_p, ctypes.c_size_t, ctypes.c_void_p, ctypes.c_size_t, ctypes.c_void_p]
+        given = (struct.ctypes.data, bool(one), queries.ctypes.data, QUERIES, out.ctypes.data, QUERIES, counts.ctypes.data)
+        rows.add(name, "C", QUERIES, lambda: call(*given), lambda: out)
+
+
+def listed(values):
+    return array.array("Q", values) if numpy is None else numpy.array(values, dtype=numpy.uint64)
 
 
 def main(log2, rounds):
+    rows = Rows(log2, rounds)
     draws = drawn(88172645463325252)
     words = array.array("Q", (word for k, word in zip(range(3 << (log2 - 6)), draws) if k % 3 == 0))
     draws = drawn(2463534242088117)
@@ -37,18 +171,13 @@ def main(log2, rounds):
     start = time.thread_time_ns()
     index = bitm.Index(words)
     print(f"build_a_word,Python,{log2},even,{(time.thread_time_ns() - start) / len(words):.2f},ns,{index.count()}")
-    lists = lambda values: array.array("Q", values)  # noqa: E731
-    try:
-        import numpy
-
-        lists = lambda values: numpy.array(values, dtype=numpy.uint64)  # noqa: E731
-    except ImportError:
-        pass
-    for name, limit in (("rank", len(index)), ("select", index.count(1)), ("select0", index.count(0))):
-        asked, single, many = [at % limit for at in some], getattr(index, name), getattr(index, name + "_list")
-        row(name, "Python", log2, rounds, SINGLE, lambda: [single(at) for at in asked[:SINGLE]])
-        queries = lists(asked)
-        row(name + "_list", "Python", log2, rounds, QUERIES, lambda: many(queries))
+    rank_and_select(rows, index, some)
+    if numpy is not None and "BITM_LIB" in os.environ:
+        of_library(rows, index, some)
+    vector = bitm.BitVector.from_words(words)
+    changes(rows, vector, some)
+    sequences(rows, list(vector.ones(0, min(len(vector), 1 << 21))), some)
+    hashes(rows)
 
 
 if __name__ == "__main__":

@@ -13,24 +13,16 @@ proved correct.
 The answers are those of the C library, where they are proved to be plain counting. What this package adds (checks of
 arguments, Python's conventions) is tested.
 """
-from typing import Union
+from collections.abc import MutableSequence, Sequence
 
-from ._bits import BitVector
-from ._buffers import WrongTables
-from ._hash import PerfectHash
-from ._index import Index, build, tables_of
-from ._sequence import EliasFano
-from ._stored import Path, read
+from . import _more
+from ._core import BitVector, EliasFano, Index, PerfectHash, WrongTables
+from ._more import load, loads, tables_of
 
-__version__ = "0.2.0"
-__all__ = ["BitVector", "EliasFano", "Index", "PerfectHash", "WrongTables", "build", "load", "tables_of"]
+__version__ = "0.3.0"
+__all__ = ["BitVector", "EliasFano", "Index", "PerfectHash", "WrongTables", "load", "loads", "tables_of"]
 
-
-def load(path: Path, *, mmap: bool = False) -> Union[Index, EliasFano, PerfectHash]:
-    """The index, sequence or perfect hash that `save` wrote, read into memory, or with `mmap` mapped from the file.
-
-    ValueError if the file has no header of this format and byte order, or is shorter than its header says. The parts'
-    contents are not checked: call `check`. A mapped file must not be truncated while it is used."""
-    header, whole = read(path, mmap)
-    numbers = PerfectHash._stored(header, whole)
-    return (Index if header.kind == 1 else EliasFano)._stored(header, whole) if numbers is None else numbers
+_more.complete()
+Sequence.register(Index)
+Sequence.register(EliasFano)
+MutableSequence.register(BitVector)

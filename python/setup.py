@@ -1,0 +1,61 @@
+"""The extension is linked with the proved archive: that of BITM_LIB, of lib/ beside this file (in an sdist), or of the
+repository. `python setup.py sdist` takes it along, with its header, so that a wheel can be built from the sdist alone.
+
+BITM_LIB, BITM_INCLUDE   another archive, and the folder of its bitm.h
+BITM_TAG                 a platform, as manylinux_2_17_x86_64 or musllinux_1_1_x86_64: the extension then names no
+                         library, and takes the few functions of libc that it calls from the interpreter's process
+BITM_CFLAGS              more flags, as -fsanitize=address
+SOURCE_DATE_EPOCH        makes two builds the same bytes
+"""
+import os
+import pathlib
+import shutil
+
+from setuptools import Extension, setup
+from setuptools.command.sdist import sdist
+
+HERE = pathlib.Path(__file__).resolve().parent
+
+
+def first(variable, *places):
+    found = [pathlib.Path(os.environ[variable])] if variable in os.environ else [it for it in places if it.exists()]
+    if not found or not found[0].exists():
+        raise SystemExit(f"bitm: there is no {places[-1]}: run `make archive` in the repository first, or set {variable}")
+    return found[0]
+
+
+ARCHIVE = first("BITM_LIB", HERE / "lib/libbitm_c.a", HERE.parent / "crates/bitm_c/out/libbitm_c.a")
+INCLUDE = first("BITM_INCLUDE", HERE / "include", HERE.parent / "include")
+TAG = os.environ.get("BITM_TAG")
+FLAGS = os.environ.get("BITM_CFLAGS", "").split()
+COMPILED = ["-std=c11", "-O2", "-g0", "-Wall", "-Wextra", "-fvisibility=hidden", *(["-fno-stack-protector"] if TAG else []), *FLAGS]
+LINKED = ["-Wl,--exclude-libs,ALL", *(it for it in FLAGS if it.startswith("-fsanitize"))]
+
+
+class WithArchive(sdist):
+    """An sdist that has the archive and its header."""
+
+    def make_release_tree(self, base_dir, files):
+        super().make_release_tree(base_dir, files)
+        for source, target in ((ARCHIVE, "lib/libbitm_c.a"), (INCLUDE / "bitm.h", "include/bitm.h")):
+            path = pathlib.Path(base_dir, target)
+            path.parent.mkdir(exist_ok=True)
+            shutil.copyfile(source, path)
+
+
+setup(
+    cmdclass={"sdist": WithArchive},
+    ext_modules=[
+        Extension(
+            "bitm._core",
+            sorted(str(it.relative_to(HERE)) for it in HERE.glob("src/*.c")),
+            depends=[*(str(it.relative_to(HERE)) for it in HERE.glob("src/*.h")), str(ARCHIVE)],
+            include_dirs=[str(INCLUDE)],
+            extra_objects=[os.path.relpath(ARCHIVE, HERE)],
+            extra_compile_args=COMPILED,
+            extra_link_args=[*LINKED, *(["-nostartfiles", "-nodefaultlibs", "-lgcc"] if TAG else [])],
+            py_limited_api=True,
+        )
+    ],
+    options={"bdist_wheel": {"py_limited_api": "cp311", **({"plat_name": TAG} if TAG else {})}},
+)

@@ -1,0 +1,120 @@
+/* Arguments of calls, and the answers and exceptions that all types share. */
+#include "core.h"
+
+static int out_of_range(PyObject *value, const char *what)
+{
+    PyErr_Clear();
+    PyErr_Format(PyExc_OverflowError, "%s has to be at least 0 and below 2**64, not %R", what, value);
+    return -1;
+}
+
+int number(PyObject *value, const char *what, uint64_t *out)
+{
+    PyObject *index = PyLong_Check(value) ? Py_NewRef(value) : PyNumber_Index(value);
+    if (index == NULL)
+        return -1;
+    unsigned long long found = PyLong_AsUnsignedLongLong(index);
+    int status = found == (unsigned long long)-1 && PyErr_Occurred() ? out_of_range(index, what) : 0;
+    Py_DECREF(index);
+    *out = found;
+    return status;
+}
+
+int number_or(PyObject *value, uint64_t other, const char *what, uint64_t *out)
+{
+    *out = other;
+    return value == NULL || value == Py_None ? 0 : number(value, what, out);
+}
+
+int bit_sought(PyObject *value)
+{
+    if (value == Py_True || value == Py_False)
+        return value == Py_True;
+    int is_one = PyObject_RichCompareBool(value, Py_True, Py_EQ);
+    int is_zero = is_one == 0 ? PyObject_RichCompareBool(value, Py_False, Py_EQ) : 0;
+    if (is_one < 0 || is_zero < 0)
+        return -2;
+    return is_one ? 1 : is_zero ? 0 : -1;
+}
+
+int bit_of(PyObject *value)
+{
+    int bit = bit_sought(value);
+    if (bit == -1)
+        PyErr_Format(PyExc_ValueError, "a bit is true or false, not %R", value);
+    return bit < 0 ? -1 : bit;
+}
+
+/* Puts an argument given by name in its place. */
+static int pick_named(const char *call, const char *const *names, int most, PyObject *key, PyObject *value, PyObject **found)
+{
+    for (int i = 0; i < most; i++) {
+        const char *name = names[i] + (names[i][0] == '*');
+        if (PyUnicode_CompareWithASCIIString(key, name) != 0)
+            continue;
+        if (found[i] != NULL) {
+            PyErr_Format(PyExc_TypeError, "%s() got multiple values for argument '%s'", call, name);
+            return -1;
+        }
+        found[i] = value;
+        return 0;
+    }
+    PyErr_Format(PyExc_TypeError, "%s() got an unexpected keyword argument %R", call, key);
+    return -1;
+}
+
+int pick(const char *call, const char *const *names, int least, int most, PyObject *const *args, Py_ssize_t count,
+         PyObject *keywords, PyObject **found)
+{
+    int plain = 0;
+    while (plain < most && names[plain][0] != '*')
+        plain++;
+    if (count > plain) {
+        PyErr_Format(PyExc_TypeError, "%s() takes at most %d positional arguments (%zd given)", call, plain, count);
+        return -1;
+    }
+    for (int i = 0; i < most; i++)
+        found[i] = i < count ? args[i] : NULL;
+    Py_ssize_t named = keywords == NULL ? 0 : PyTuple_Size(keywords);
+    for (Py_ssize_t i = 0; i < named; i++)
+        if (pick_named(call, names, most, PyTuple_GetItem(keywords, i), args[count + i], found))
+            return -1;
+    for (int i = 0; i < least; i++) {
+        if (found[i] == NULL) {
+            PyErr_Format(PyExc_TypeError, "%s() missing required argument '%s'", call, names[i]);
+            return -1;
+        }
+    }
+    return 0;
+}
+
+int inside(Py_ssize_t index, uint64_t len, const char *items, uint64_t *out)
+{
+    *out = index < 0 ? (uint64_t)index + len : (uint64_t)index;
+    if (*out < len)
+        return 0;
+    PyErr_Format(PyExc_IndexError, "index %zd of %llu %s", index, (unsigned long long)len, items);
+    return -1;
+}
+
+PyObject *past_end(uint64_t position, uint64_t len)
+{
+    PyErr_Format(PyExc_IndexError, "position %llu of %llu bits", (unsigned long long)position, (unsigned long long)len);
+    return NULL;
+}
+
+PyObject *wrong(void)
+{
+    PyErr_SetString(WrongTables, "the tables are not those of the words, or the parts not those of a sequence");
+    return NULL;
+}
+
+/* By address: the call that writes the answer may be another argument. */
+PyObject *answer_or_none(uint32_t status, const uint64_t *out)
+{
+    if (status == BITM_OK)
+        return PyLong_FromUnsignedLongLong(*out);
+    if (status == BITM_NONE)
+        Py_RETURN_NONE;
+    return wrong();
+}

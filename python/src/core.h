@@ -1,0 +1,275 @@
+/* What the files of the extension share.
+ *
+ * The answers are the library's: a method takes its arguments, makes one call of bitm.h, and turns the status into a
+ * Python value or an exception. What is here is memory: who holds it, and until when. */
+#ifndef BITM_CORE_H
+#define BITM_CORE_H
+
+#define PY_SSIZE_T_CLEAN
+/* The stable ABI of 3.11, the first that has Py_buffer and PyObject_GetBuffer: one file serves each later version. */
+#define Py_LIMITED_API 0x030B0000
+#include <Python.h>
+#include <structmember.h>
+
+#include <bitm.h>
+#include <stdio.h>
+#include <stdlib.h>
+#include <string.h>
+
+#define BORROWED(it) ((PyObject *)(it))
+#define KEEP(it) Py_XINCREF(BORROWED(it))
+#define DROP(it) Py_XDECREF(BORROWED(it))
+#define DOC(text) PyDoc_STR(text)
+#define KEYWORDS(name, function, text)                                                                                 \
+    {                                                                                                                  \
+        name, (PyCFunction)(void (*)(void))(function), METH_FASTCALL | METH_KEYWORDS, DOC(text)                        \
+    }
+
+extern PyObject *WrongTables;
+extern PyTypeObject *Memory_Type, *Window_Type, *Positions_Type, *Numbers_Type, *Vector_Type, *Index_Type, *Sequence_Type,
+    *Hash_Type;
+extern PyType_Spec memory_spec, window_spec, positions_spec, numbers_spec, vector_spec, index_spec, sequence_spec, hash_spec;
+
+/* ---- arguments.c */
+
+/* A whole number from 0 to 2^64 - 1: -1 and OverflowError for others, TypeError for what is not one. Runs Python code
+ * (__index__), so what that may change is looked at afterwards. */
+int number(PyObject *value, const char *what, uint64_t *out);
+
+/* The same, and another number for None and for an argument that is not given. */
+int number_or(PyObject *value, uint64_t other, const char *what, uint64_t *out);
+
+/* 0 or 1 of what equals 0 or 1: -1 and ValueError for others. Runs Python code (__eq__). */
+int bit_of(PyObject *value);
+
+/* The same for `bit in values`: -1 where it is neither, and -2 and an error. */
+int bit_sought(PyObject *value);
+
+/* Arguments by position and name: found[i] stays NULL where there is none, and the first `least` have to be there. A
+ * name that begins with '*' is given by name alone. */
+int pick(const char *call, const char *const *names, int least, int most, PyObject *const *args, Py_ssize_t count,
+         PyObject *keywords, PyObject **found);
+
+/* The index into len items of a Python index, from the end where it is negative: -1 and IndexError outside. */
+int inside(Py_ssize_t index, uint64_t len, const char *items, uint64_t *out);
+
+/* An exception for a position past the end; WrongTables; the answer of a query that may have none. */
+PyObject *past_end(uint64_t position, uint64_t len);
+PyObject *wrong(void);
+PyObject *answer_or_none(uint32_t status, const uint64_t *out);
+
+/* ---- integers.c: a flat buffer of whole numbers of any width, sign, byte order and stride, or numbers of an iterable */
+typedef struct {
+    Py_buffer held;
+    int is_held;
+    uint64_t *own;
+    size_t len;
+    Py_ssize_t stride;
+    int size, is_signed, is_swapped;
+} Integers;
+
+/* Takes a buffer once, or goes over an iterable. -1 and an error. */
+int integers_take(Integers *it, PyObject *from, const char *what);
+void integers_drop(Integers *it);
+
+/* Copies count items from index from on, and says how many there are before the first that is below 0. Needs no GIL. */
+size_t integers_load(const Integers *it, size_t from, size_t count, uint64_t *out);
+
+/* OverflowError for the item at an index, which is below 0. */
+void integers_below(const Integers *it, size_t at, const char *what);
+
+/* Room for count items of 8 bytes, or NULL and MemoryError. */
+uint64_t *room_for(uint64_t count);
+
+/* ---- memory.c: what an index, a sequence or a hash reads */
+enum { MOST_BUFFERS = 8 };
+
+/* Never given to Python code, and never changed once it is made. All of it stays until the last reference is gone: a
+ * call that runs without the GIL holds a reference, and close drops one. */
+typedef struct {
+    PyObject_HEAD
+    int held_count, own_count;
+    Py_buffer held[MOST_BUFFERS];
+    void *own[MOST_BUFFERS];
+    size_t own_bytes;
+    struct bitm_index index;
+    struct bitm_sequence sequence;
+    struct bitm_hash hash;
+    const uint64_t *prints; /* the fingerprints of a hash: hash.keys numbers of print_width bits */
+    size_t prints_len;
+    uint64_t prints_bits, print_width, seed, mark;
+    uint64_t log2s[2]; /* of the samples of 1 bits and 0 bits, as numbers of 64 bits */
+} Memory;
+
+Memory *memory_new(void);
+
+/* Room for count items of the given size, which belongs to the memory; NULL and MemoryError. */
+void *memory_own(Memory *it, uint64_t count, size_t size);
+
+/* The words of a BitVector, a bitarray (copied in our order of bits) or a buffer of 64-bit words or of bytes: in place,
+ * or copied where bytes do not fill words or are not aligned. One look: address and length are those of the buffer that
+ * is held. bits is how many there are. -1 and an error. */
+int memory_words(Memory *it, PyObject *from, const uint64_t **words, size_t *len, uint64_t *bits);
+
+/* The items of a buffer, of the given size each: in place, or copied where they are not aligned. */
+int memory_items(Memory *it, PyObject *from, size_t size, const void **at, size_t *len);
+
+/* The class of that name in a module that the program has imported, as a new reference; NULL, and no error, if it has
+ * not. Nothing is imported here. */
+PyObject *type_in(const char *module, const char *name);
+int is_instance(PyObject *it, const char *module, const char *name);
+
+/* ---- value.c: an object that has memory, and what Python code may see of it */
+typedef struct {
+    PyObject_HEAD
+    Memory *memory; /* NULL where it is closed, or was never made */
+    PyObject *weak;
+} Value;
+
+/* The memory, borrowed; NULL and ValueError where the value is closed. */
+static inline Memory *memory_of(PyObject *self)
+{
+    Memory *it = ((Value *)self)->memory;
+    if (it == NULL)
+        PyErr_SetString(PyExc_ValueError, "it is closed");
+    return it;
+}
+
+/* The same as a new reference: needed wherever an object that the garbage collector tracks is made meanwhile, for that
+ * may collect, and run a finalizer that closes the value. */
+Memory *memory_kept(PyObject *self);
+
+/* Gives the value other memory, whose reference it takes. */
+void value_set(PyObject *self, Memory *memory);
+
+/* A new value of a type over memory, whose reference it takes even where it fails. */
+PyObject *value_new(PyObject *type, Memory *memory);
+
+int value_traverse(PyObject *self, visitproc visit, void *arg);
+int value_clear(PyObject *self);
+void value_dealloc(PyObject *self);
+PyObject *value_close(PyObject *self, PyObject *none);
+PyObject *value_enter(PyObject *self, PyObject *none);
+PyObject *value_exit(PyObject *self, PyObject *args);
+PyObject *value_closed(PyObject *self, void *none);
+PyObject *value_copy(PyObject *self, PyObject *none);
+PyObject *value_sizeof(PyObject *self, PyObject *none);
+extern PyMemberDef value_members[];
+
+#define VALUE_METHODS                                                                                                  \
+    {"close", value_close, METH_NOARGS,                                                                                \
+     DOC("close()\n--\n\nGives the memory back, once the calls that run have ended. Later calls raise ValueError.")},  \
+        {"__enter__", value_enter, METH_NOARGS, NULL}, {"__exit__", value_exit, METH_VARARGS, NULL},                   \
+        {"__copy__", value_copy, METH_NOARGS, NULL},                                                                   \
+    {                                                                                                                  \
+        "__sizeof__", value_sizeof, METH_NOARGS, NULL                                                                  \
+    }
+#define VALUE_SLOTS                                                                                                    \
+    {Py_tp_dealloc, value_dealloc}, {Py_tp_traverse, value_traverse}, {Py_tp_clear, value_clear},                      \
+    {                                                                                                                  \
+        Py_tp_members, value_members                                                                                   \
+    }
+#define VALUE_FLAGS (Py_TPFLAGS_DEFAULT | Py_TPFLAGS_HAVE_GC | Py_TPFLAGS_BASETYPE)
+#define VALUE_CLOSED {"closed", value_closed, NULL, DOC("Whether it was closed."), NULL}
+
+/* An iterator over another object. */
+typedef struct {
+    PyObject_HEAD
+    PyObject *source; /* NULL at the end */
+} Walk;
+int walk_traverse(PyObject *self, visitproc visit, void *arg);
+int walk_clear(PyObject *self);
+void walk_dealloc(PyObject *self);
+#define WALK_SLOTS                                                                                                     \
+    {Py_tp_dealloc, walk_dealloc}, {Py_tp_traverse, walk_traverse}, {Py_tp_clear, walk_clear},                         \
+    {                                                                                                                  \
+        Py_tp_iter, PyObject_SelfIter                                                                                  \
+    }
+#define WALK_FLAGS (Py_TPFLAGS_DEFAULT | Py_TPFLAGS_HAVE_GC | Py_TPFLAGS_DISALLOW_INSTANTIATION)
+
+/* A buffer that Python code may look at: of memory that it keeps (read-only), or of its own (writable). */
+PyObject *window_of(Memory *base, const void *at, size_t len, size_t size);
+PyObject *window_new(size_t len, uint64_t **at);
+
+/* A function of bitm/_more.py, with arguments that it takes. */
+PyObject *more(const char *name, PyObject *args);
+
+/* ---- lists.c: many queries at once */
+
+/* Asks about count items; out has an answer for each. `one` is for calls that have a kind of bit. Needs no GIL. */
+typedef uint32_t (*list_call)(const Memory *memory, bool one, const uint64_t *in, uint64_t *out, size_t count,
+                              struct bitm_list_counts *counts);
+
+/* What is made of the answers: plain numbers (each item has one), or numbers of which some may be missing, or bools. */
+enum { EACH, SOME, BOOLS };
+
+/* Answers to queries, in the manner of the queries: an array for an array of NumPy, else a list. The queries are copied,
+ * and the GIL is given back while they are answered. */
+PyObject *ask_list(PyObject *self, list_call call, bool one, int kind, const char *name, const char *what,
+                   PyObject *const *args, Py_ssize_t count, PyObject *keywords);
+
+/* The room for answers and what they become: begin, room, then end or drop. */
+typedef struct {
+    int how, of_numpy;
+    uint64_t fill, *out;
+    size_t len;
+    PyObject *window;
+} Answers;
+int answers_begin(Answers *it, PyObject *queries, PyObject *missing, int kind);
+int answers_room(Answers *it, size_t len);
+PyObject *answers_end(Answers *it, uint64_t missing);
+void answers_drop(Answers *it);
+
+/* A list of numbers; with is_none, BITM_NO_ANSWER is None. */
+PyObject *list_of(const uint64_t *items, size_t count, int is_none);
+
+/* ---- bits.c: what BitVector and Index share */
+
+/* Words and how many of their bits are meant, as bitm.h takes them. */
+typedef struct {
+    const uint64_t *words;
+    size_t words_len;
+    uint64_t len;
+} Bits;
+#define BITS(it) (it).words, (it).words_len, (it).len
+
+/* The bits of a BitVector or of an Index that is open: valid as long as no Python code runs. -1 and an error. */
+int bits_of(PyObject *self, Bits *out);
+PyObject *bits_item(PyObject *self, Py_ssize_t index);
+PyObject *bits_subscript(PyObject *self, PyObject *key);
+PyObject *bits_compare(PyObject *self, PyObject *other, int how);
+int bits_contains(PyObject *self, PyObject *value);
+Py_ssize_t bits_len(PyObject *self);
+PyObject *bits_ones(PyObject *self, PyObject *const *args, Py_ssize_t count, PyObject *keywords);
+PyObject *bits_zeros(PyObject *self, PyObject *const *args, Py_ssize_t count, PyObject *keywords);
+
+/* ---- index.c, sequence.c, numbers.c, hash.c, keys.c, stored.c */
+
+/* A new value over memory whose index (sequence, hash) is filled in, and ValueError where its lengths do not fit
+ * together. Takes the reference. */
+PyObject *index_over(PyObject *type, Memory *memory);
+PyObject *sequence_over(PyObject *type, Memory *memory);
+PyObject *hash_over(PyObject *type, Memory *memory);
+
+PyObject *numbers_new(PyObject *sequence, uint64_t from, uint64_t stop, int is_reversed);
+PyObject *numbers_from(PyObject *sequence, PyObject *value);
+PyObject *numbers_compare(PyObject *self, PyObject *other, int how);
+PyObject *sequence_slice(PyObject *self, PyObject *slice);
+PyObject *sequence_window(PyObject *module, PyObject *self);
+PyObject *sequence_common(PyObject *module, PyObject *args);
+
+/* The hash and the fingerprint of a key, or of each key of a list of them, one after another. */
+#define MARK_BLAKE 0x687361686d746962u /* "bitmhash": files of version 0.2.0, whose keys are hashed by BLAKE2b */
+#define MARK_SIP 0x327361686d746962u   /* "bitmhas2": by SipHash-2-4 */
+int key_hash(PyObject *key, uint64_t mark, uint64_t seed, uint64_t out[2]);
+uint64_t *keys_hash(PyObject *keys, uint64_t mark, uint64_t seed, size_t *count);
+
+PyObject *stored_load(PyObject *module, PyObject *file);
+PyObject *stored_index_header(PyObject *module, PyObject *args);
+PyObject *stored_sequence_header(PyObject *module, PyObject *args);
+
+/* ---- parts.c */
+PyObject *parts_of(PyObject *module, PyObject *value);
+PyObject *parts_over(PyObject *module, PyObject *args);
+
+#endif

@@ -1,0 +1,293 @@
+/* bitm.PerfectHash. */
+#include "core.h"
+
+enum { LEVELS = 256 };
+
+/* ---- made */
+
+PyObject *hash_over(PyObject *type, Memory *it)
+{
+    uint64_t out;
+    int is_marked = it->mark == MARK_SIP || it->mark == MARK_BLAKE;
+    it->hash.index.bits_len = 64 * (uint64_t)it->hash.index.words_len;
+    /* No more keys than bits: so the bits of the fingerprints are far below 2^64. */
+    if (is_marked && it->print_width <= 64 && it->hash.index.words_len <= (size_t)1 << 50 && it->hash.keys <= it->hash.index.bits_len) {
+        it->prints_bits = it->hash.keys * it->print_width;
+        if (it->prints_len == bitm_bits_words_len(it->prints_bits) && bitm_hash_get(&it->hash, 0, &out) != BITM_BAD_SIZE)
+            return value_new(type, it);
+    }
+    DROP(it);
+    PyErr_SetString(PyExc_ValueError, "it is not a perfect hash, or not all of it");
+    return NULL;
+}
+
+/* The words of all levels and their index. `both` has the hash and the fingerprint of each key. -1 and an error. */
+static int build_levels(Memory *it, const uint64_t *both, uint32_t percent)
+{
+    size_t count = it->hash.keys, first = bitm_hash_level_len(count, percent);
+    if (first > (size_t)PY_SSIZE_T_MAX / 128) {
+        PyErr_NoMemory();
+        return -1;
+    }
+    /* All levels together have some e^(100 / percent) times the words of the first, and each has one at least. */
+    size_t most = 8 * first + 2 * LEVELS;
+    uint64_t *hashes = room_for(count), *again = room_for(first), *words = memory_own(it, most, 8);
+    uint64_t *sizes = words == NULL ? NULL : memory_own(it, LEVELS, 8), levels = 0, used = 0, left = 0;
+    uint32_t status = BITM_BAD_SIZE;
+    if (hashes != NULL && again != NULL && sizes != NULL) {
+        Py_BEGIN_ALLOW_THREADS
+        for (size_t i = 0; i < count; i++)
+            hashes[i] = both[2 * i];
+        status = bitm_hash_build(hashes, count, percent, words, most, again, first, sizes, LEVELS, &levels, &used, &left);
+        Py_END_ALLOW_THREADS
+        if (status != BITM_OK || left > 0)
+            PyErr_SetString(PyExc_ValueError, "keys are equal, or their hashes are: try another seed");
+    }
+    free(hashes);
+    free(again);
+    it->hash.sizes = sizes;
+    it->hash.sizes_len = (size_t)levels;
+    it->hash.index.words = words;
+    it->hash.index.words_len = (size_t)used;
+    it->hash.index.bits_len = 64 * used;
+    return PyErr_Occurred() ? -1 : 0;
+}
+
+/* Gives back the room that no level took, and builds the tables and the fingerprints. -1 and an error. */
+static int build_tables(Memory *it, const uint64_t *both)
+{
+    struct bitm_index *index = &it->hash.index;
+    uint64_t *words = realloc(it->own[0], 8 * index->words_len + 8), ones, number_there = 0;
+    if (words != NULL)
+        it->own[0] = words;
+    it->own_bytes = 8 * (index->words_len + LEVELS);
+    index->words = it->own[0];
+    index->upper_len = bitm_index_upper_len(index->words_len);
+    index->lower_len = bitm_index_lower_len(index->words_len);
+    it->prints_bits = it->hash.keys * it->print_width;
+    it->prints_len = bitm_bits_words_len(it->prints_bits);
+    uint64_t *upper = memory_own(it, index->upper_len, 8), *lower = upper == NULL ? NULL : memory_own(it, index->lower_len, 8);
+    uint64_t *prints = lower == NULL ? NULL : memory_own(it, it->prints_len, 8);
+    uint32_t status, width = (uint32_t)it->print_width;
+    if (prints == NULL)
+        return -1;
+    memset(prints, 0, 8 * it->prints_len);
+    index->upper = upper;
+    index->lower = lower;
+    it->prints = prints;
+    Py_BEGIN_ALLOW_THREADS
+    status = bitm_index_build(index->words, index->words_len, upper, index->upper_len, lower, index->lower_len, &ones);
+    for (size_t i = 0; i < it->hash.keys && status == BITM_OK && width; i++) {
+        status = bitm_hash_get(&it->hash, both[2 * i], &number_there);
+        if (status == BITM_OK)
+            status = bitm_bits_set_fragment(prints, it->prints_len, it->prints_bits, number_there, width, both[2 * i + 1]);
+    }
+    Py_END_ALLOW_THREADS
+    if (status == BITM_OK)
+        return 0;
+    (void)wrong();
+    return -1;
+}
+
+static int mark_of(PyObject *hash, uint64_t *mark)
+{
+    *mark = MARK_SIP;
+    if (hash == NULL || (PyUnicode_Check(hash) && PyUnicode_CompareWithASCIIString(hash, "siphash") == 0))
+        return 0;
+    *mark = MARK_BLAKE;
+    if (PyUnicode_Check(hash) && PyUnicode_CompareWithASCIIString(hash, "blake2b") == 0)
+        return 0;
+    PyErr_Format(PyExc_ValueError, "hash is 'siphash' or 'blake2b', not %R", hash);
+    return -1;
+}
+
+static int hash_init(PyObject *self, PyObject *args, PyObject *keywords)
+{
+    static char *names[] = {"keys", "bits", "percent", "seed", "hash", NULL};
+    PyObject *keys, *given[4] = {NULL, NULL, NULL, NULL};
+    uint64_t width, percent, seed, mark;
+    size_t count = 0;
+    if (!PyArg_ParseTupleAndKeywords(args, keywords, "O|$OOOO:PerfectHash", names, &keys, &given[0], &given[1], &given[2], &given[3]) ||
+        number_or(given[0], 16, "bits", &width) || number_or(given[1], 100, "percent", &percent) ||
+        number_or(given[2], 0, "the seed", &seed) || mark_of(given[3], &mark))
+        return -1;
+    if (width > 64) {
+        PyErr_SetString(PyExc_ValueError, "a fingerprint has at most 64 bits");
+        return -1;
+    }
+    uint64_t *both = keys_hash(keys, mark, seed, &count);
+    Memory *it = both == NULL ? NULL : memory_new();
+    int status = -1;
+    if (it != NULL) {
+        it->hash.keys = count;
+        it->print_width = width;
+        it->seed = seed;
+        it->mark = mark;
+        status = build_levels(it, both, percent > UINT32_MAX ? UINT32_MAX : (uint32_t)percent) ? -1 : build_tables(it, both);
+    }
+    free(both);
+    if (status)
+        DROP(it);
+    else
+        value_set(self, it);
+    return status;
+}
+
+/* ---- queries */
+
+/* Whether a number's fingerprint is that of a key: BITM_OK, BITM_NONE where it is another, BITM_WRONG. */
+static uint32_t print_of(const Memory *it, uint64_t number_there, uint64_t sought)
+{
+    uint64_t found = 0, mask = it->print_width == 64 ? UINT64_MAX : ((uint64_t)1 << it->print_width) - 1;
+    if (bitm_bits_get_fragment(it->prints, it->prints_len, it->prints_bits, number_there, (uint32_t)it->print_width, &found) != BITM_OK)
+        return BITM_WRONG;
+    return found == (sought & mask) ? BITM_OK : BITM_NONE;
+}
+
+/* The number of a key: 1, 0 where it has none, -1 and an error. */
+static int found(PyObject *self, PyObject *key, uint64_t *out)
+{
+    Memory *it = memory_kept(self);
+    uint64_t both[2];
+    if (it == NULL)
+        return -1;
+    uint32_t status = BITM_WRONG;
+    int is_hashed = key_hash(key, it->mark, it->seed, both) == 0; /* may run code that closes it */
+    if (is_hashed)
+        status = bitm_hash_get(&it->hash, both[0], out);
+    if (status == BITM_OK)
+        status = print_of(it, *out, both[1]);
+    DROP(it);
+    if (is_hashed && status != BITM_OK && status != BITM_NONE)
+        (void)wrong();
+    return status == BITM_OK ? 1 : is_hashed && status == BITM_NONE ? 0 : -1;
+}
+
+static PyObject *hash_get(PyObject *self, PyObject *const *args, Py_ssize_t count, PyObject *keywords)
+{
+    static const char *const names[] = {"key", "default"};
+    PyObject *given[2];
+    uint64_t out = 0;
+    if (pick("get", names, 1, 2, args, count, keywords, given))
+        return NULL;
+    int is_found = found(self, given[0], &out);
+    if (is_found < 0)
+        return NULL;
+    return is_found ? PyLong_FromUnsignedLongLong(out) : Py_NewRef(given[1] == NULL ? Py_None : given[1]);
+}
+
+static PyObject *hash_subscript(PyObject *self, PyObject *key)
+{
+    uint64_t out = 0;
+    int is_found = found(self, key, &out);
+    if (is_found == 0)
+        PyErr_SetObject(PyExc_KeyError, key);
+    return is_found > 0 ? PyLong_FromUnsignedLongLong(out) : NULL;
+}
+
+static int hash_contains(PyObject *self, PyObject *key)
+{
+    uint64_t out = 0;
+    if (!PyUnicode_Check(key) && !PyBytes_Check(key) && !PyIndex_Check(key))
+        return memory_of(self) == NULL ? -1 : 0;
+    return found(self, key, &out);
+}
+
+/* The numbers of many keys from their hashes and fingerprints, which stand one after another. Needs no GIL. */
+static uint32_t numbers(const Memory *it, uint64_t *both, size_t count, uint64_t *out, struct bitm_list_counts *counts)
+{
+    uint64_t *prints = out; /* until the answers are there */
+    for (size_t i = 0; i < count; i++)
+        prints[i] = both[2 * i + 1];
+    for (size_t i = 0; i < count; i++)
+        both[i] = both[2 * i];
+    memcpy(both + count, prints, 8 * count);
+    uint32_t status = bitm_hash_get_list(&it->hash, both, count, out, count, counts);
+    for (size_t i = 0; i < count && status == BITM_OK; i++) {
+        uint32_t is_key = out[i] < BITM_WRONG_TABLES ? print_of(it, out[i], both[count + i]) : BITM_OK;
+        counts->missing += is_key == BITM_NONE;
+        counts->wrong += is_key == BITM_WRONG;
+        out[i] = is_key == BITM_NONE ? BITM_NO_ANSWER : out[i];
+    }
+    return status;
+}
+
+static PyObject *hash_get_list(PyObject *self, PyObject *const *args, Py_ssize_t count, PyObject *keywords)
+{
+    static const char *const names[] = {"keys", "*missing"};
+    PyObject *given[2], *made = NULL;
+    Answers answers;
+    size_t many = 0;
+    if (pick("get_list", names, 1, 2, args, count, keywords, given) || answers_begin(&answers, given[0], given[1], SOME))
+        return NULL;
+    Memory *it = memory_kept(self);
+    uint64_t *both = it == NULL ? NULL : keys_hash(given[0], it->mark, it->seed, &many);
+    if (both != NULL && answers_room(&answers, many) == 0) {
+        struct bitm_list_counts counts = {0, 0};
+        uint32_t status;
+        Py_BEGIN_ALLOW_THREADS
+        status = numbers(it, both, many, answers.out, &counts);
+        Py_END_ALLOW_THREADS
+        made = status != BITM_OK || counts.wrong ? wrong() : answers_end(&answers, counts.missing);
+    }
+    answers_drop(&answers);
+    free(both);
+    DROP(it);
+    return made;
+}
+
+/* ---- the rest */
+
+static Py_ssize_t hash_len(PyObject *self)
+{
+    Memory *it = memory_of(self);
+    return it == NULL ? -1 : (Py_ssize_t)it->hash.keys; /* no more than bits, which are in memory */
+}
+
+static PyObject *hash_check(PyObject *self, PyObject *none)
+{
+    Memory *it = memory_kept(self);
+    uint64_t ones = 0;
+    int is_right;
+    (void)none;
+    if (it == NULL)
+        return NULL;
+    const struct bitm_index *index = &it->hash.index;
+    Py_BEGIN_ALLOW_THREADS
+    is_right = bitm_index_check(index) == BITM_OK && bitm_index_rank(index, true, index->bits_len, &ones) == BITM_OK &&
+               ones == it->hash.keys;
+    Py_END_ALLOW_THREADS
+    DROP(it);
+    return PyBool_FromLong(is_right);
+}
+
+static PyObject *hash_repr(PyObject *self)
+{
+    Memory *it = ((Value *)self)->memory;
+    if (it == NULL)
+        return PyUnicode_FromString("<PerfectHash, closed>");
+    return PyUnicode_FromFormat("<PerfectHash of %zu keys, fingerprints of %llu bits>", it->hash.keys, (unsigned long long)it->print_width);
+}
+
+static PyMethodDef methods[] = {
+    KEYWORDS("get", hash_get, "get(key, default=None)\n--\n\nThe number of a key, or the default where its fingerprint shows that it is not one."),
+    KEYWORDS("get_list", hash_get_list, "get_list(keys, *, missing=None)\n--\n\nThe numbers of many keys; missing as in Index.select_list."),
+    {"check", hash_check, METH_NOARGS, DOC("check()\n--\n\nWhether the tables are those of the words, and there are as many 1 bits as keys.")},
+    VALUE_METHODS,
+    {NULL, NULL, 0, NULL}};
+static PyGetSetDef attributes[] = {VALUE_CLOSED, {NULL, NULL, NULL, NULL, NULL}};
+
+static PyType_Slot slots[] = {
+    {Py_tp_doc, DOC("PerfectHash(keys, *, bits=16, percent=100, seed=0, hash='siphash')\n--\n\nA number of its own, below their count, for "
+                    "each key of a set (str, bytes or int). No key is kept, but a fingerprint of so many bits for each: of others, one "
+                    "in 2**bits is taken for a key.")},
+    {Py_tp_init, hash_init},
+    {Py_tp_methods, methods},
+    {Py_tp_getset, attributes},
+    {Py_tp_repr, hash_repr},
+    {Py_sq_contains, hash_contains},
+    {Py_mp_length, hash_len},
+    {Py_mp_subscript, hash_subscript},
+    VALUE_SLOTS,
+    {0, NULL}};
+PyType_Spec hash_spec = {"bitm.PerfectHash", sizeof(Value), 0, VALUE_FLAGS, slots};

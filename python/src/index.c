@@ -1,0 +1,252 @@
+/* bitm.Index. A query takes its argument first, since that may run Python code, which may close the index; from then on
+ * nothing else runs until the answer is there. */
+#include "core.h"
+
+/* ---- made */
+
+PyObject *index_over(PyObject *type, Memory *it)
+{
+    uint64_t ones;
+    if (bitm_index_rank(&it->index, true, it->index.bits_len, &ones) != BITM_BAD_SIZE)
+        return value_new(type, it);
+    DROP(it);
+    PyErr_SetString(PyExc_ValueError, "a table is not as long as that of the words");
+    return NULL;
+}
+
+static int build_samples(Memory *it, bool one, uint32_t log2)
+{
+    size_t most = bitm_index_samples_len(it->index.words_len, log2);
+    uint32_t *samples = memory_own(it, most, 4), status;
+    uint64_t *starts = samples == NULL ? NULL : memory_own(it, it->index.upper_len, 8), used = 0;
+    if (starts == NULL)
+        return -1;
+    Py_BEGIN_ALLOW_THREADS
+    status = bitm_index_build_samples(&it->index, one, log2, samples, most, starts, it->index.upper_len, &used);
+    Py_END_ALLOW_THREADS
+    struct bitm_samples made = {samples, (size_t)used, starts, it->index.upper_len, log2, 0};
+    *(one ? &it->index.ones : &it->index.zeros) = made;
+    it->log2s[one ? 0 : 1] = log2;
+    return status == BITM_OK ? 0 : -1;
+}
+
+static int build(Memory *it)
+{
+    struct bitm_index *index = &it->index;
+    uint64_t ones;
+    uint32_t status;
+    index->upper_len = bitm_index_upper_len(index->words_len);
+    index->lower_len = bitm_index_lower_len(index->words_len);
+    uint64_t *upper = memory_own(it, index->upper_len, 8), *lower = upper == NULL ? NULL : memory_own(it, index->lower_len, 8);
+    if (lower == NULL)
+        return -1;
+    index->upper = upper;
+    index->lower = lower;
+    Py_BEGIN_ALLOW_THREADS
+    status = bitm_index_build(index->words, index->words_len, upper, index->upper_len, lower, index->lower_len, &ones);
+    Py_END_ALLOW_THREADS
+    if (status == BITM_OK)
+        return 0;
+    PyErr_SetString(PyExc_ValueError, "too many bits");
+    return -1;
+}
+
+/* The words and how many of their bits are meant: those of a length, or all. -1 and an error. */
+static int take(Memory *it, PyObject *bits, PyObject *length)
+{
+    struct bitm_index *index = &it->index;
+    uint64_t most;
+    if (memory_words(it, bits, &index->words, &index->words_len, &most) || number_or(length, most, "the length", &index->bits_len))
+        return -1;
+    if (index->bits_len <= most)
+        return 0;
+    PyErr_Format(PyExc_ValueError, "there are %llu bits, not %llu", (unsigned long long)most, (unsigned long long)index->bits_len);
+    return -1;
+}
+
+static int index_init(PyObject *self, PyObject *args, PyObject *keywords)
+{
+    static char *names[] = {"bits", "length", "sample_log2", NULL};
+    PyObject *bits, *length = NULL, *sampled = NULL;
+    uint64_t log2;
+    if (!PyArg_ParseTupleAndKeywords(args, keywords, "O|O$O:Index", names, &bits, &length, &sampled) ||
+        number_or(sampled, 0, "sample_log2", &log2))
+        return -1;
+    Memory *it = memory_new();
+    int status = it == NULL ? -1 : take(it, bits, length);
+    if (status == 0) {
+        it->index.words_len = bitm_bits_words_len(it->index.bits_len); /* no more words than those that are queried */
+        status = build(it);
+    }
+    for (int one = 1; one >= 0 && status == 0 && sampled != NULL && sampled != Py_None; one--)
+        status = build_samples(it, one, (uint32_t)(log2 < 7 ? 7 : log2 > 31 ? 31 : log2));
+    if (status)
+        DROP(it);
+    else
+        value_set(self, it);
+    return status;
+}
+
+/* ---- one query */
+
+static PyObject *rank(PyObject *self, PyObject *query, bool one)
+{
+    uint64_t position, out = 0;
+    if (number(query, "a position", &position))
+        return NULL;
+    Memory *it = memory_of(self);
+    if (it == NULL)
+        return NULL;
+    uint32_t status = bitm_index_rank(&it->index, one, position, &out);
+    if (status == BITM_OK)
+        return PyLong_FromUnsignedLongLong(out);
+    return status == BITM_NONE ? past_end(position, it->index.bits_len) : wrong();
+}
+
+/* A query that may have no answer: a selection, the next or the previous bit. */
+typedef uint32_t (*query_call)(const struct bitm_index *, bool, uint64_t, uint64_t *);
+
+static PyObject *ask(PyObject *self, PyObject *query, query_call call, bool one, const char *what)
+{
+    uint64_t asked, out = 0;
+    if (number(query, what, &asked))
+        return NULL;
+    Memory *it = memory_of(self);
+    if (it == NULL)
+        return NULL;
+    uint32_t status = call(&it->index, one, asked, &out);
+    return answer_or_none(status, &out);
+}
+
+static PyObject *index_rank(PyObject *self, PyObject *it) { return rank(self, it, true); }
+static PyObject *index_rank0(PyObject *self, PyObject *it) { return rank(self, it, false); }
+static PyObject *index_select(PyObject *self, PyObject *it) { return ask(self, it, bitm_index_select, true, "a rank"); }
+static PyObject *index_select0(PyObject *self, PyObject *it) { return ask(self, it, bitm_index_select, false, "a rank"); }
+static PyObject *index_next_one(PyObject *self, PyObject *it) { return ask(self, it, bitm_index_next, true, "a position"); }
+static PyObject *index_next_zero(PyObject *self, PyObject *it) { return ask(self, it, bitm_index_next, false, "a position"); }
+static PyObject *index_previous_one(PyObject *self, PyObject *it) { return ask(self, it, bitm_index_previous, true, "a position"); }
+static PyObject *index_previous_zero(PyObject *self, PyObject *it) { return ask(self, it, bitm_index_previous, false, "a position"); }
+
+/* ---- lists */
+
+static uint32_t ranks(const Memory *it, bool one, const uint64_t *in, uint64_t *out, size_t count, struct bitm_list_counts *counts)
+{
+    return bitm_index_rank_list(&it->index, one, in, count, out, count, counts);
+}
+
+static uint32_t selections(const Memory *it, bool one, const uint64_t *in, uint64_t *out, size_t count, struct bitm_list_counts *counts)
+{
+    return bitm_index_select_list(&it->index, one, in, count, out, count, counts);
+}
+
+#define LIST(name, call, one, kind, what)                                                                              \
+    static PyObject *index_##name(PyObject *self, PyObject *const *args, Py_ssize_t count, PyObject *keywords)         \
+    {                                                                                                                  \
+        return ask_list(self, call, one, kind, #name, what, args, count, keywords);                                    \
+    }
+LIST(rank_list, ranks, true, EACH, "a position")
+LIST(rank0_list, ranks, false, EACH, "a position")
+LIST(select_list, selections, true, SOME, "a rank")
+LIST(select0_list, selections, false, SOME, "a rank")
+
+/* ---- the rest */
+
+static PyObject *index_count(PyObject *self, PyObject *const *args, Py_ssize_t count, PyObject *keywords)
+{
+    static const char *const names[] = {"bit"};
+    PyObject *given[1];
+    uint64_t out = 0;
+    if (pick("count", names, 0, 1, args, count, keywords, given))
+        return NULL;
+    int bit = given[0] == NULL ? 1 : bit_of(given[0]);
+    Memory *it = bit < 0 ? NULL : memory_of(self);
+    if (it == NULL)
+        return NULL;
+    return bitm_index_rank(&it->index, bit, it->index.bits_len, &out) == BITM_OK ? PyLong_FromUnsignedLongLong(out) : wrong();
+}
+
+static PyObject *index_check(PyObject *self, PyObject *none)
+{
+    Memory *it = memory_kept(self);
+    int is_right;
+    (void)none;
+    if (it == NULL)
+        return NULL;
+    const struct bitm_index *index = &it->index;
+    Py_BEGIN_ALLOW_THREADS
+    is_right = bitm_index_check(index) == BITM_OK &&
+               (index->ones.log2 == 0 || bitm_index_check_samples(index, true) == BITM_OK) &&
+               (index->zeros.log2 == 0 || bitm_index_check_samples(index, false) == BITM_OK);
+    Py_END_ALLOW_THREADS
+    DROP(it);
+    return PyBool_FromLong(is_right);
+}
+
+static PyObject *index_repr(PyObject *self)
+{
+    Memory *it = ((Value *)self)->memory;
+    uint64_t ones = 0;
+    if (it == NULL)
+        return PyUnicode_FromString("<Index, closed>");
+    unsigned long long len = it->index.bits_len;
+    if (bitm_index_rank(&it->index, true, it->index.bits_len, &ones) != BITM_OK)
+        return PyUnicode_FromFormat("<Index of %llu bits, wrong tables>", len);
+    return PyUnicode_FromFormat("<Index of %llu bits, %llu ones>", len, (unsigned long long)ones);
+}
+
+static PyObject *index_words(PyObject *self, void *none)
+{
+    Memory *it = memory_kept(self);
+    (void)none;
+    PyObject *window = it == NULL ? NULL : window_of(it, it->index.words, it->index.words_len, 8);
+    PyObject *view = window == NULL ? NULL : PyMemoryView_FromObject(window);
+    DROP(it);
+    Py_XDECREF(window);
+    return view;
+}
+
+#define PLAIN(name, text) {#name, index_##name, METH_O, DOC(text)}
+#define NAMED(name, text) KEYWORDS(#name, index_##name, text)
+static PyMethodDef methods[] = {
+    PLAIN(rank, "rank(position, /)\n--\n\nHow many 1 bits there are before a position, which may be the length. IndexError past it."),
+    PLAIN(rank0, "rank0(position, /)\n--\n\nHow many 0 bits there are before a position."),
+    PLAIN(select, "select(rank, /)\n--\n\nThe position of the 1 bit with that rank, or None."),
+    PLAIN(select0, "select0(rank, /)\n--\n\nThe position of the 0 bit with that rank, or None."),
+    PLAIN(next_one, "next_one(position, /)\n--\n\nThe position of the first 1 bit at or after a position, or None."),
+    PLAIN(next_zero, "next_zero(position, /)\n--\n\nThe position of the first 0 bit at or after a position, or None."),
+    PLAIN(previous_one, "previous_one(position, /)\n--\n\nThe position of the last 1 bit at or before a position, or None."),
+    PLAIN(previous_zero, "previous_zero(position, /)\n--\n\nThe position of the last 0 bit at or before a position, or None."),
+    NAMED(rank_list, "rank_list(queries)\n--\n\nThe ranks of many positions: an array for an array of NumPy, else a list."),
+    NAMED(rank0_list, "rank0_list(queries)\n--\n\nThe ranks of many positions, of 0 bits."),
+    NAMED(select_list, "select_list(queries, *, missing=None)\n--\n\nThe positions of many ranks: a list with None where there is none, "
+                       "or for an array of NumPy a masked array. missing may be 'error', a number that stands there, or 'mask'."),
+    NAMED(select0_list, "select0_list(queries, *, missing=None)\n--\n\nThe positions of many ranks, of 0 bits; as select_list."),
+    NAMED(count, "count(bit=1)\n--\n\nHow many 1 bits there are, or with 0 how many 0 bits."),
+    KEYWORDS("ones", bits_ones, "ones(start=0, stop=None, *, reverse=False)\n--\n\nThe positions of the 1 bits in a range, rising or falling."),
+    KEYWORDS("zeros", bits_zeros, "zeros(start=0, stop=None, *, reverse=False)\n--\n\nThe positions of the 0 bits in a range, rising or falling."),
+    {"check", index_check, METH_NOARGS, DOC("check()\n--\n\nWhether the tables, and the samples, are those of the words. Reads each word once.")},
+    VALUE_METHODS,
+    {NULL, NULL, 0, NULL}};
+
+static PyGetSetDef attributes[] = {VALUE_CLOSED,
+                                   {"words", index_words, NULL, DOC("The words, to be read."), NULL},
+                                   {NULL, NULL, NULL, NULL, NULL}};
+
+static PyType_Slot slots[] = {
+    {Py_tp_doc, DOC("Index(bits, length=None, *, sample_log2=None)\n--\n\nRank and selection over bits, which stay where they are: a "
+                    "BitVector, or a buffer of 64-bit words or of bytes. They must not change while the index is used; check says "
+                    "whether they have. Samples of each 2**sample_log2 bits make selections faster.")},
+    {Py_tp_init, index_init},
+    {Py_tp_methods, methods},
+    {Py_tp_getset, attributes},
+    {Py_tp_repr, index_repr},
+    {Py_tp_richcompare, bits_compare},
+    {Py_tp_hash, PyObject_HashNotImplemented},
+    {Py_sq_length, bits_len},
+    {Py_sq_item, bits_item},
+    {Py_sq_contains, bits_contains},
+    {Py_mp_length, bits_len},
+    {Py_mp_subscript, bits_subscript},
+    VALUE_SLOTS,
+    {0, NULL}};
+PyType_Spec index_spec = {"bitm.Index", sizeof(Value), 0, VALUE_FLAGS, slots};

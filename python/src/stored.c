@@ -1,0 +1,98 @@
+/* Files: headers, and the value that a file holds, which is read where it lies. */
+#include "core.h"
+
+/* A perfect hash is stored as an index with these numbers after it: mark, keys, bits of a fingerprint, seed, number of
+ * sizes, words of fingerprints; then the sizes and the fingerprints. */
+enum { TAIL = 6 };
+
+static PyObject *not_whole(Memory *it)
+{
+    DROP(it);
+    PyErr_SetString(PyExc_ValueError, "it is not a stored index, sequence or hash of this format, or not all of it");
+    return NULL;
+}
+
+static PyObject *load_hash(Memory *it, const uint64_t *tail, size_t left)
+{
+    if (tail[4] > left - TAIL || tail[5] > left - TAIL - tail[4])
+        return not_whole(it);
+    it->mark = tail[0];
+    it->hash.keys = tail[1];
+    it->print_width = tail[2];
+    it->seed = tail[3];
+    it->hash.index = it->index;
+    it->hash.sizes = tail + TAIL;
+    it->hash.sizes_len = tail[4];
+    it->prints = tail + TAIL + tail[4];
+    it->prints_len = tail[5];
+    return hash_over(BORROWED(Hash_Type), it);
+}
+
+PyObject *stored_load(PyObject *module, PyObject *file)
+{
+    struct bitm_stored header;
+    const void *at;
+    size_t words;
+    Memory *it = memory_new();
+    (void)module;
+    if (it == NULL || memory_items(it, file, 8, &at, &words)) {
+        DROP(it);
+        return NULL;
+    }
+    if (bitm_stored_read(at, words, &header) != BITM_OK)
+        return not_whole(it);
+    if (header.kind == BITM_STORED_SEQUENCE) {
+        it->sequence = bitm_stored_sequence_of(at, &header);
+        return sequence_over(BORROWED(Sequence_Type), it);
+    }
+    it->index = bitm_stored_index_of(at, &header);
+    it->log2s[0] = header.ones_log2;
+    it->log2s[1] = header.zeros_log2;
+    size_t used = (size_t)(header.size / 8);
+    const uint64_t *tail = (const uint64_t *)at + used;
+    if (words - used >= TAIL && (tail[0] == MARK_SIP || tail[0] == MARK_BLAKE))
+        return load_hash(it, tail, words - used);
+    return index_over(BORROWED(Index_Type), it);
+}
+
+/* The header as bytes, the size of the file, and where each part begins. */
+static PyObject *header_of(uint32_t status, const struct bitm_stored *header)
+{
+    if (status != BITM_OK) {
+        PyErr_SetString(PyExc_ValueError, "such lengths cannot be stored");
+        return NULL;
+    }
+    const struct bitm_span *all[] = {&header->words,  &header->upper,   &header->lower,   &header->low,
+                                     &header->starts, &header->starts0, &header->samples, &header->samples0};
+    PyObject *places = PyTuple_New(8);
+    for (int i = 0; places != NULL && i < 8; i++)
+        if (PyTuple_SetItem(places, i, PyLong_FromUnsignedLongLong(all[i]->at)))
+            Py_CLEAR(places);
+    if (places == NULL)
+        return NULL;
+    return Py_BuildValue("(y#KN)", (const char *)header, (Py_ssize_t)sizeof *header, (unsigned long long)header->size, places);
+}
+
+PyObject *stored_index_header(PyObject *module, PyObject *args)
+{
+    unsigned long long bits, ones_len, zeros_len;
+    unsigned int ones_log2, zeros_log2;
+    struct bitm_stored header;
+    (void)module;
+    if (!PyArg_ParseTuple(args, "KIKIK", &bits, &ones_log2, &ones_len, &zeros_log2, &zeros_len))
+        return NULL;
+    uint32_t status = bitm_stored_index(bits, ones_log2, ones_len, zeros_log2, zeros_len, &header);
+    return header_of(status, &header);
+}
+
+PyObject *stored_sequence_header(PyObject *module, PyObject *args)
+{
+    unsigned long long len, width, low, words, upper, lower;
+    struct bitm_stored header;
+    (void)module;
+    if (!PyArg_ParseTuple(args, "KKKKKK", &len, &width, &low, &words, &upper, &lower))
+        return NULL;
+    struct bitm_sequence_lens lens = {width, low, words, upper, lower};
+    uint32_t status = bitm_stored_sequence(len, &lens, &header);
+    return header_of(status, &header);
+}

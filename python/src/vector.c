@@ -1,0 +1,265 @@
+/* bitm.BitVector: its memory, and the type. */
+#include "vector.h"
+
+int vector_is_used(const Vector *it)
+{
+    if (it->exports > 0)
+        PyErr_SetString(PyExc_BufferError, "others use its words (an index, a memoryview): its length cannot change");
+    return it->exports > 0;
+}
+
+/* Other words, of which the first bits are meant. */
+static void replace(Vector *it, uint64_t *words, size_t room, uint64_t len)
+{
+    it->words = words;
+    it->room = room;
+    Bits bits = {words, bitm_bits_words_len(len), len};
+    it->bits = bits;
+}
+
+int vector_resize(Vector *it, uint64_t len)
+{
+    size_t before = it->bits.words_len, after = bitm_bits_words_len(len), room = it->room;
+    uint64_t *words = it->words;
+    if (len == it->bits.len)
+        return 0;
+    if (vector_is_used(it))
+        return -1;
+    if (after > room) {
+        room = it->bits.len > 0 && after < room + room / 8 + 8 ? room + room / 8 + 8 : after;
+        words = room > (size_t)PY_SSIZE_T_MAX / 8 ? NULL : realloc(words, 8 * room);
+        if (words == NULL) {
+            PyErr_NoMemory();
+            return -1;
+        }
+    }
+    if (after > before)
+        memset(words + before, 0, 8 * (after - before));
+    replace(it, words, room, len);
+    return bitm_bits_clear_from(WRITTEN(it)) == BITM_OK ? 0 : -1;
+}
+
+int vector_take(Vector *it, Vector *other)
+{
+    Vector before = *it;
+    if (vector_is_used(it))
+        return -1;
+    replace(it, other->words, other->room, other->bits.len);
+    replace(other, before.words, before.room, before.bits.len);
+    return 0;
+}
+
+Vector *vector_new(PyTypeObject *type, uint64_t len)
+{
+    size_t words = bitm_bits_words_len(len), room = words < 1 ? 1 : words;
+    uint64_t *own = room > (size_t)PY_SSIZE_T_MAX / 8 ? NULL : calloc(room, 8);
+    if (own == NULL)
+        return (Vector *)PyErr_NoMemory();
+    Vector *it = (Vector *)PyType_GenericAlloc(type, 0);
+    if (it == NULL)
+        free(own);
+    else
+        replace(it, own, room, len);
+    return it;
+}
+
+static PyObject *vector_create(PyTypeObject *type, PyObject *args, PyObject *keywords)
+{
+    (void)args;
+    (void)keywords;
+    return (PyObject *)vector_new(type, 0); /* whole without __init__ too */
+}
+
+static int vector_init(PyObject *self, PyObject *args, PyObject *keywords)
+{
+    static char *names[] = {"length", NULL};
+    PyObject *given = NULL;
+    uint64_t len = 0;
+    if (!PyArg_ParseTupleAndKeywords(args, keywords, "|O:BitVector", names, &given) ||
+        (given != NULL && number(given, "the length", &len)))
+        return -1;
+    Vector *made = vector_new(Vector_Type, len);
+    int status = made == NULL ? -1 : vector_take((Vector *)self, made);
+    DROP(made);
+    return status;
+}
+
+static void vector_dealloc(PyObject *self)
+{
+    Vector *it = (Vector *)self;
+    PyTypeObject *type = Py_TYPE(self);
+    if (it->weak != NULL)
+        PyObject_ClearWeakRefs(self);
+    free(it->words);
+    ((freefunc)PyType_GetSlot(type, Py_tp_free))(self);
+    Py_DECREF(type);
+}
+
+void vector_copy_range(Vector *to, uint64_t to_begin, const Bits *from, uint64_t from_begin, uint64_t count)
+{
+    if (bitm_bits_copy_range(to->words, to->bits.words_len, to_begin, from->words, from->words_len, from_begin, count) != BITM_OK)
+        return; /* not reached: each caller names ranges that are inside */
+}
+
+Vector *vector_of_range(const Bits *from, uint64_t begin, uint64_t count)
+{
+    Vector *made = vector_new(Vector_Type, count);
+    if (made != NULL)
+        vector_copy_range(made, 0, from, begin, count);
+    return made;
+}
+
+Vector *vector_of_slice(const Bits *from, Py_ssize_t start, Py_ssize_t step, Py_ssize_t count)
+{
+    if (step == 1)
+        return vector_of_range(from, (uint64_t)start, (uint64_t)count);
+    Vector *made = vector_new(Vector_Type, (uint64_t)count);
+    for (Py_ssize_t i = 0; made != NULL && i < count; i++)
+        bitm_set_bit_at(made->words, (uint64_t)i, bitm_bit_at(from->words, (uint64_t)(start + i * step)));
+    return made;
+}
+
+static PyObject *vector_repr(PyObject *self)
+{
+    const Bits *bits = &((Vector *)self)->bits;
+    char shown[65] = {0};
+    for (uint64_t i = 0; i < bits->len && i < 64; i++)
+        shown[i] = bitm_bit_at(bits->words, i) ? '1' : '0';
+    if (bits->len <= 64)
+        return PyUnicode_FromFormat("BitVector('%s')", shown);
+    return PyUnicode_FromFormat("BitVector('%s..', %llu bits)", shown, (unsigned long long)bits->len);
+}
+
+
+/* ---- memory */
+
+static int vector_buffer(PyObject *self, Py_buffer *out, int flags)
+{
+    Vector *it = (Vector *)self;
+    out->obj = NULL;
+    if (flags & PyBUF_WRITABLE) {
+        PyErr_SetString(PyExc_BufferError, "the words can only be read: bits past the length stay 0");
+        return -1;
+    }
+    it->shape = (Py_ssize_t)it->bits.words_len;
+    it->stride = 8;
+    out->buf = it->words;
+    out->obj = Py_NewRef(self);
+    out->len = 8 * it->shape;
+    out->itemsize = 8;
+    out->readonly = 1;
+    out->ndim = 1;
+    out->format = flags & PyBUF_FORMAT ? "Q" : NULL;
+    out->shape = flags & PyBUF_ND ? &it->shape : NULL;
+    out->strides = (flags & PyBUF_STRIDES) == PyBUF_STRIDES ? &it->stride : NULL;
+    out->suboffsets = NULL;
+    out->internal = NULL;
+    it->exports++;
+    return 0;
+}
+
+static void vector_release(PyObject *self, Py_buffer *held)
+{
+    (void)held;
+    ((Vector *)self)->exports--;
+}
+
+static PyObject *vector_words(PyObject *self, void *none)
+{
+    (void)none;
+    return PyMemoryView_FromObject(self);
+}
+
+static PyObject *vector_tobytes(PyObject *self, PyObject *none)
+{
+    const Bits *bits = &((Vector *)self)->bits;
+    (void)none;
+    return PyBytes_FromStringAndSize((const char *)bits->words, (Py_ssize_t)(bits->len / 8 + (bits->len % 8 != 0)));
+}
+
+static PyObject *vector_sizeof(PyObject *self, PyObject *none)
+{
+    (void)none;
+    return PyLong_FromSize_t(sizeof(Vector) + 8 * ((Vector *)self)->room);
+}
+
+/* ---- the type */
+
+#define PLAIN(name, text) {#name, vector_##name, METH_O, DOC(text)}
+#define NO_ARGUMENT(name, text) {#name, vector_##name, METH_NOARGS, DOC(text)}
+#define NAMED(name, text) KEYWORDS(#name, vector_##name, text)
+static PyMethodDef methods[] = {
+    {"from_bits", vector_from_bits, METH_O | METH_CLASS,
+     DOC("from_bits(bits, /)\n--\n\nThe bits of an iterable, each true or false; of a string of 0 and 1, a bitarray or an array.")},
+    {"from_indices", (PyCFunction)(void (*)(void))vector_from_indices, METH_FASTCALL | METH_KEYWORDS | METH_CLASS,
+     DOC("from_indices(indices, length=None)\n--\n\n1 bits at the positions, 0 bits elsewhere; as long as the greatest position "
+         "needs where no length is given.")},
+    {"from_words", (PyCFunction)(void (*)(void))vector_from_words, METH_FASTCALL | METH_KEYWORDS | METH_CLASS,
+     DOC("from_words(words, length=None)\n--\n\nA copy of the bits of a buffer of 64-bit words or of bytes, lowest bit first: of "
+         "all, or of the first.")},
+    NAMED(count, "count(bit=1, start=0, stop=None)\n--\n\nHow many 1 bits there are, or with 0 how many 0 bits: of all, or in a range."),
+    NAMED(fill, "fill(bit=1, start=0, stop=None)\n--\n\nMakes all bits 1, or with 0 makes them 0: all, or those in a range."),
+    NAMED(flip, "flip(start=0, stop=None)\n--\n\nFlips all bits, or those in a range."),
+    PLAIN(next_one, "next_one(position, /)\n--\n\nThe position of the first 1 bit at or after a position, or None."),
+    PLAIN(next_zero, "next_zero(position, /)\n--\n\nThe position of the first 0 bit at or after a position, or None."),
+    PLAIN(previous_one, "previous_one(position, /)\n--\n\nThe position of the last 1 bit at or before a position, or None."),
+    PLAIN(previous_zero, "previous_zero(position, /)\n--\n\nThe position of the last 0 bit at or before a position, or None."),
+    KEYWORDS("ones", bits_ones, "ones(start=0, stop=None, *, reverse=False)\n--\n\nThe positions of the 1 bits in a range, rising, or "
+                                "falling. They are looked up some at a time: a change of the vector is seen a little later."),
+    KEYWORDS("zeros", bits_zeros, "zeros(start=0, stop=None, *, reverse=False)\n--\n\nThe positions of the 0 bits in a range, as ones."),
+    NO_ARGUMENT(any, "any()\n--\n\nWhether there is a 1 bit."),
+    NO_ARGUMENT(all, "all()\n--\n\nWhether there is no 0 bit."),
+    PLAIN(and_not, "and_not(other, /)\n--\n\nThe 1 bits that are 0 bits of the other vector."),
+    PLAIN(append, "append(bit, /)\n--\n\nAdds a bit at the end."),
+    PLAIN(extend, "extend(bits, /)\n--\n\nAdds bits at the end: whatever from_bits takes."),
+    NAMED(insert, "insert(index, bit)\n--\n\nAs list.insert."),
+    NAMED(pop, "pop(index=-1)\n--\n\nAs list.pop."),
+    NO_ARGUMENT(clear, "clear()\n--\n\nRemoves all bits."),
+    NO_ARGUMENT(copy, "copy()\n--\n\nAnother BitVector with the same bits."),
+    NAMED(find, "find(bit, start=0, stop=None)\n--\n\nThe position of the first such bit in a range, or -1."),
+    NAMED(index, "index(bit, start=0, stop=None)\n--\n\nAs find, but ValueError where there is none."),
+    NAMED(get_bits, "get_bits(begin, length)\n--\n\nThe number in 0 to 64 bits from a position on, lowest bit first."),
+    NAMED(set_bits, "set_bits(begin, length, value)\n--\n\nReplaces the number in these bits; OverflowError where it does not fit."),
+    NAMED(get_fragment, "get_fragment(index, width)\n--\n\nThe number at an index, where the bits are an array of numbers of width bits."),
+    NAMED(set_fragment, "set_fragment(index, width, value)\n--\n\nReplaces the number at an index of such an array."),
+    NO_ARGUMENT(tobytes, "tobytes()\n--\n\nThe bits, eight in a byte, lowest bit first."),
+    {"__sizeof__", vector_sizeof, METH_NOARGS, NULL},
+    {NULL, NULL, 0, NULL}};
+
+static PyGetSetDef attributes[] = {
+    {"words", vector_words, NULL, DOC("The words, to be read: bit i is bit i % 64, lowest first, of word i // 64."), NULL},
+    {NULL, NULL, NULL, NULL, NULL}};
+static PyMemberDef members[] = {{"__weaklistoffset__", T_PYSSIZET, offsetof(Vector, weak), READONLY, NULL}, {NULL, 0, 0, 0, NULL}};
+
+static PyType_Slot slots[] = {
+    {Py_tp_doc, DOC("BitVector(length=0)\n--\n\nBits that can be read, counted and changed; 0 bits at first.")},
+    {Py_tp_new, vector_create},
+    {Py_tp_init, vector_init},
+    {Py_tp_dealloc, vector_dealloc},
+    {Py_tp_methods, methods},
+    {Py_tp_getset, attributes},
+    {Py_tp_members, members},
+    {Py_tp_repr, vector_repr},
+    {Py_tp_richcompare, bits_compare},
+    {Py_tp_hash, PyObject_HashNotImplemented},
+    {Py_sq_length, bits_len},
+    {Py_sq_item, bits_item},
+    {Py_sq_contains, bits_contains},
+    {Py_sq_concat, vector_concat},
+    {Py_sq_inplace_concat, vector_iconcat},
+    {Py_mp_length, bits_len},
+    {Py_mp_subscript, bits_subscript},
+    {Py_mp_ass_subscript, vector_assign},
+    {Py_nb_and, vector_and},
+    {Py_nb_or, vector_or},
+    {Py_nb_xor, vector_xor},
+    {Py_nb_inplace_and, vector_iand},
+    {Py_nb_inplace_or, vector_ior},
+    {Py_nb_inplace_xor, vector_ixor},
+    {Py_nb_invert, vector_invert},
+    {Py_nb_lshift, vector_lshift},
+    {Py_nb_rshift, vector_rshift},
+    {Py_bf_getbuffer, vector_buffer},
+    {Py_bf_releasebuffer, vector_release},
+    {0, NULL}};
+PyType_Spec vector_spec = {"bitm.BitVector", sizeof(Vector), 0, Py_TPFLAGS_DEFAULT | Py_TPFLAGS_BASETYPE, slots};

@@ -1,0 +1,57 @@
+"""The stubs: every name is there, mypy --strict passes, and no user's line is of an unknown type."""
+import inspect
+import pathlib
+import re
+import subprocess
+import sys
+
+import pytest
+
+import bitm
+
+LINES = """
+import bitm, numpy
+bits = bitm.BitVector.from_indices([1, 3])
+index, sequence, numbers = bitm.Index(bits), bitm.EliasFano([1, 2]), bitm.PerfectHash(["a"])
+array = numpy.array([1, 2], dtype=numpy.int64)
+"""
+EXPRESSIONS = """bits[1]; bits[1:]; bits & bits; ~bits; bits << 1; list(bits.ones()); bits.next_one(1); bits.to_numpy(); bits.words; bits.copy()
+index.rank(3); index.select(3); index.rank_list([1]); index.rank_list(array); index.select_list(range(3)); index.select_list(array); index[1:3]
+index.select_list(array, missing="error"); index.select_list(array, missing=7); index.select_list([1], missing=7); index.to_numpy(); index.words
+sequence[0]; sequence[:1]; list(sequence); iter(sequence).next_geq(3); sequence.intersection(sequence); sequence.get_list(array); sequence.parts
+sequence.contains_list(array); sequence.contains_list([1]); sequence.to_numpy(); sequence.first_at_least_list({1}); sequence.from_value(3)
+numbers["a"]; numbers.get("b"); numbers.get("b", "x"); numbers.get_list(["a"]); numbers.get_list(array); numbers.get_list(iter(["a"]), missing=5)
+bitm.load("x"); bitm.load("x").check(); bitm.loads(b""); bitm.tables_of(b""); bitm.Index(b"").over(b"", b"", b"")""".replace("\n", "; ").split("; ")
+
+
+def mypy(*arguments):
+    pytest.importorskip("mypy")
+    done = subprocess.run([sys.executable, "-m", "mypy", "--strict", "--no-error-summary", *arguments], capture_output=True, text=True)
+    return done.stdout
+
+
+def test_the_package_is_strict():
+    assert mypy("-p", "bitm") == ""
+
+
+def test_no_type_of_a_user_is_unknown(tmp_path):
+    pytest.importorskip("numpy")
+    path = tmp_path / "lines.py"
+    path.write_text(LINES + "".join(f"reveal_type({it})\n" for it in EXPRESSIONS))
+    shown = mypy(str(path))
+    types = re.findall(r'Revealed type is "(.*)"', shown)
+    assert len(types) == len(EXPRESSIONS) and "error" not in shown, shown
+    for expression, found in zip(EXPRESSIONS, types):
+        assert "Any" not in re.sub(r"(ndarray|MaskedArray)\[Any,", r"\1[", found), (expression, found)
+
+
+def test_every_name_has_a_stub_and_a_text():
+    stub = pathlib.Path(bitm.__file__).with_name("_core.pyi").read_text()
+    for kind in (bitm.BitVector, bitm.Index, bitm.EliasFano, bitm.PerfectHash):
+        body = re.search(rf"class {kind.__name__}.*?:\n(.*?)(\n\S|\Z)", stub, re.S)[1] + re.search(r"class _Value:\n(.*?)\n\S", stub, re.S)[1]
+        for name in dir(kind):
+            if not name.startswith("_"):
+                assert re.search(rf"def {name}\(", body), (kind, name)
+                assert inspect.getdoc(getattr(kind, name)), (kind, name)
+    for name in bitm.__all__:
+        assert hasattr(bitm, name)
