@@ -5,13 +5,13 @@ use core::ops::Range;
 
 #[doc = include_str!("../docs/bit_access.md")]
 pub trait BitAccess {
-    /// The bit at a position.
+    /// The bit at a position. Tested, not proved.
     fn get_bit(&self, bit_nr: usize) -> bool;
     /// As `get_bit`.
     /// # Safety
     /// It is inside. (This is tested all the same.)
     unsafe fn get_bit_unchecked(&self, bit_nr: usize) -> bool;
-    /// The bit at a position; `None` exactly where there is none.
+    /// The bit at a position; `None` exactly where there is none. Tested, not proved.
     fn try_get_bit(&self, bit_nr: usize) -> Option<bool>;
     /// As `get_bit`.
     #[track_caller]
@@ -26,7 +26,7 @@ pub trait BitAccess {
     fn prefetch_fragment(&self, index: usize, v_size: u8) {
         self.prefetch_bit(index.wrapping_mul(v_size as usize))
     }
-    /// Makes the bit at a position the value.
+    /// Makes the bit at a position the value. Tested, not proved.
     fn set_bit_to(&mut self, bit_nr: usize, value: bool);
     /// As `set_bit_to`.
     /// # Safety
@@ -64,24 +64,24 @@ pub trait BitAccess {
     unsafe fn init_successive_bit_unchecked(&mut self, bit_nr: &mut usize, value: bool) {
         self.init_successive_bit(bit_nr, value)
     }
-    /// Makes the bit at a position 1.
+    /// Makes the bit at a position 1. Tested, not proved.
     fn set_bit(&mut self, bit_nr: usize);
     /// As `set_bit`.
     /// # Safety
     /// It is inside. (This is tested all the same.)
     unsafe fn set_bit_unchecked(&mut self, bit_nr: usize);
-    /// Makes the bit at a position 0.
+    /// Makes the bit at a position 0. Tested, not proved.
     fn clear_bit(&mut self, bit_nr: usize);
     /// As `clear_bit`.
     /// # Safety
     /// It is inside. (This is tested all the same.)
     unsafe fn clear_bit_unchecked(&mut self, bit_nr: usize);
-    /// The bits of a range, unmasked.
+    /// The bits of a range, unmasked. Tested, not proved.
     #[track_caller]
     fn get_bits_unmasked(&self, begin: usize, len: u8) -> u64 {
         inside(self.try_get_bits_unmasked(begin, len), begin, len)
     }
-    /// The number that the bits of a range are, lowest first.
+    /// The number that the bits of a range are, lowest first. Tested, not proved.
     #[track_caller]
     fn get_bits(&self, begin: usize, len: u8) -> u64 {
         inside(self.try_get_bits(begin, len), begin, len)
@@ -110,7 +110,7 @@ pub trait BitAccess {
         *begin += len as usize;
         number
     }
-    /// Makes the bits of a range, which are 0 or the number, the number.
+    /// Makes the bits of a range, which are 0 or the number, the number. Tested, not proved.
     fn init_bits(&mut self, begin: usize, v: u64, len: u8);
     /// As `init_bits`.
     #[track_caller]
@@ -122,7 +122,7 @@ pub trait BitAccess {
     /// # Safety
     /// It is inside. (This is tested all the same.)
     unsafe fn init_bits_unchecked(&mut self, begin: usize, v: u64, len: u8);
-    /// Replaces the bits of a range by the lowest bits of a number.
+    /// Replaces the bits of a range by the lowest bits of a number. Tested, not proved.
     fn set_bits(&mut self, begin: usize, v: u64, len: u8);
     /// As `set_bits`.
     #[track_caller]
@@ -140,7 +140,7 @@ pub trait BitAccess {
     /// # Safety
     /// It is inside. (This is tested all the same.)
     unsafe fn set_bits_unchecked(&mut self, begin: usize, v: u64, len: u8);
-    /// Flips the bits, unmasked, at which the number has 1 bits.
+    /// Flips the bits, unmasked, at which the number has 1 bits. Tested, not proved.
     fn xor_bits(&mut self, begin: usize, v: u64, len: u8);
     /// As `xor_bits`.
     #[track_caller]
@@ -148,28 +148,28 @@ pub trait BitAccess {
         self.xor_bits(*begin, v, len);
         *begin += len as usize;
     }
-    /// How many bits are 0.
+    /// How many bits are 0. One proved call.
     fn count_bit_zeros(&self) -> usize;
-    /// How many bits are 1.
+    /// How many bits are 1. One proved call.
     fn count_bit_ones(&self) -> usize;
-    /// The positions of the 1 bits, rising.
+    /// The positions of the 1 bits, rising. Tested, not proved.
     fn bit_ones(&self) -> BitOnesIterator<'_>;
-    /// The positions of the 0 bits, rising.
+    /// The positions of the 0 bits, rising. Tested, not proved.
     fn bit_zeros(&self) -> BitZerosIterator<'_>;
-    /// The bits.
+    /// The bits. Tested, not proved.
     fn bit_iter(&self) -> BitIterator<'_>;
-    /// The bits of a range.
+    /// The bits of a range. Tested, not proved.
     fn bit_in_range_iter(&self, bit_range: Range<usize>) -> BitIterator<'_>;
     /// As `bit_in_range_iter`.
     /// # Safety
     /// It is inside. (This is tested all the same.)
     unsafe fn bit_in_unchecked_range_iter(&self, bit_range: Range<usize>) -> BitIterator<'_>;
-    /// Fragment `index` of fragments of `v_size` bits, unmasked.
+    /// Fragment `index` of fragments of `v_size` bits, unmasked. Tested, not proved.
     #[track_caller]
     fn get_fragment_unmasked(&self, index: usize, v_size: u8) -> u64 {
         self.get_bits_unmasked(begin_of(index, v_size), v_size)
     }
-    /// Number `index` of an array of numbers of `v_size` bits.
+    /// Number `index` of an array of numbers of `v_size` bits. Tested, not proved.
     #[track_caller]
     fn get_fragment(&self, index: usize, v_size: u8) -> u64 {
         self.get_bits(begin_of(index, v_size), v_size)
@@ -221,7 +221,7 @@ pub trait BitAccess {
     unsafe fn init_fragment_unchecked(&mut self, index: usize, v: u64, v_size: u8) {
         self.init_fragment(index, v, v_size)
     }
-    /// Replaces number `index` of an array of numbers of `v_size` bits.
+    /// Replaces number `index` of an array of numbers of `v_size` bits. Tested, not proved.
     #[track_caller]
     fn set_fragment(&mut self, index: usize, v: u64, v_size: u8) {
         self.set_bits(begin_of(index, v_size), v, v_size)
@@ -250,7 +250,7 @@ pub trait BitAccess {
         self.xor_fragment(*index, v, v_size);
         *index += 1;
     }
-    /// Makes two fragments change places.
+    /// Makes two fragments change places. Tested, not proved.
     #[track_caller]
     fn swap_fragments(&mut self, index1: usize, index2: usize, v_size: u8) {
         let first = self.get_fragment(index1, v_size);
@@ -288,7 +288,7 @@ pub trait BitAccess {
     {
         self.conditionally_change_bits(new_value, begin_of(index, v_size), v_size)
     }
-    /// Copies a range where a closure says so of the old number and that of `src`.
+    /// Copies a range where a closure says so of the old number and that of `src`. Tested, not proved.
     #[track_caller]
     fn conditionally_copy_bits<Pred>(
         &mut self,
@@ -315,15 +315,15 @@ pub trait BitAccess {
     {
         self.conditionally_copy_bits(src, predicate, begin_of(index, v_size), v_size)
     }
-    /// The position of the first 1 bit; the number of bits where there is none.
+    /// The position of the first 1 bit; the number of bits where there is none. One proved call.
     fn trailing_zero_bits(&self) -> usize;
-    /// The position of the first 1 bit at or after `start_index`. Panics where there is none.
+    /// The position of the first 1 bit at or after `start_index`. Panics where there is none. One proved call.
     /// # Safety
     /// There is one. (This is tested all the same.)
     unsafe fn find_bit_one_unchecked(&self, start_index: usize) -> usize;
-    /// The position of the first 1 bit at or after `start_index`; `None` exactly where there is none.
+    /// The position of the first 1 bit at or after `start_index`; `None` exactly where there is none. One proved call.
     fn find_bit_one(&self, start_index: usize) -> Option<usize>;
-    /// The position of the last 1 bit at or before `start_index`. Panics where there is none.
+    /// The position of the last 1 bit at or before `start_index`. Panics where there is none. One proved call.
     /// # Safety
     /// There is one. (This is tested all the same.)
     unsafe fn rfind_bit_one_unchecked(&self, start_index: usize) -> usize;
