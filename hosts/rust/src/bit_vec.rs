@@ -28,18 +28,22 @@ where
     /// `words_count` fragments of `word_len_bits` bits, each equal to `word`, and 0 bits behind them.
     fn with_bitwords(word: u64, word_len_bits: u8, words_count: usize) -> Self;
     /// `segments_len` words 0.
+    #[track_caller]
     fn with_zeroed_64bit_segments(segments_len: usize) -> Self {
         Self::with_64bit_segments(0, segments_len)
     }
     /// `segments_len` words `u64::MAX`.
+    #[track_caller]
     fn with_filled_64bit_segments(segments_len: usize) -> Self {
         Self::with_64bit_segments(u64::MAX, segments_len)
     }
     /// As many words 0 as `bit_len` bits need.
+    #[track_caller]
     fn with_zeroed_bits(bit_len: usize) -> Self {
         Self::with_zeroed_64bit_segments(bit_len.div_ceil(64))
     }
     /// As many words `u64::MAX` as `bit_len` bits need; the whole last word is filled.
+    #[track_caller]
     fn with_filled_bits(bit_len: usize) -> Self {
         Self::with_filled_64bit_segments(bit_len.div_ceil(64))
     }
@@ -102,10 +106,7 @@ impl<const ALIGN: usize> BitVec for aligned_vec::ABox<[u64], aligned_vec::ConstA
         let bits = words_count * word_len_bits as usize;
         let mut all = Self::with_zeroed_bits(bits);
         let done = writes::fill_fragments(&mut all, bits, word_len_bits, word, words_count);
-        assert!(
-            done.is_some(),
-            "fragments of {word_len_bits} bits, which is above 64"
-        );
+        assert!(done.is_some(), "fragments of {word_len_bits} bits, which is above 64");
         all
     }
 }

@@ -20,7 +20,7 @@ pub trait BitAccess {
         *bit_nr += 1;
         bit
     }
-    /// Asks the processor for the word of a bit; any number will do.
+    /// Asks the processor for the word of a bit; any number will do. Tested, not proved.
     fn prefetch_bit(&self, _bit_nr: usize) {}
     /// As `prefetch_bit`, of the first bit of a fragment.
     fn prefetch_fragment(&self, index: usize, v_size: u8) {
@@ -258,14 +258,10 @@ pub trait BitAccess {
         self.set_fragment(index1, second, v_size);
         self.set_fragment(index2, first, v_size);
     }
-    /// Asks a closure for another number of a range, writes it where there is one, and answers the old one.
+    /// Asks a closure for another number of a range, writes it where there is one, and answers the old one. Tested, not
+    /// proved.
     #[track_caller]
-    fn conditionally_change_bits<NewValue>(
-        &mut self,
-        new_value: NewValue,
-        begin: usize,
-        v_size: u8,
-    ) -> u64
+    fn conditionally_change_bits<NewValue>(&mut self, new_value: NewValue, begin: usize, v_size: u8) -> u64
     where
         NewValue: FnOnce(u64) -> Option<u64>,
     {
@@ -277,12 +273,7 @@ pub trait BitAccess {
     }
     /// As `conditionally_change_bits`, of a fragment.
     #[track_caller]
-    fn conditionally_change_fragment<NewValue>(
-        &mut self,
-        new_value: NewValue,
-        index: usize,
-        v_size: u8,
-    ) -> u64
+    fn conditionally_change_fragment<NewValue>(&mut self, new_value: NewValue, index: usize, v_size: u8) -> u64
     where
         NewValue: FnOnce(u64) -> Option<u64>,
     {
@@ -290,13 +281,8 @@ pub trait BitAccess {
     }
     /// Copies a range where a closure says so of the old number and that of `src`. Tested, not proved.
     #[track_caller]
-    fn conditionally_copy_bits<Pred>(
-        &mut self,
-        src: &Self,
-        predicate: Pred,
-        begin: usize,
-        v_size: u8,
-    ) where
+    fn conditionally_copy_bits<Pred>(&mut self, src: &Self, predicate: Pred, begin: usize, v_size: u8)
+    where
         Pred: FnOnce(u64, u64) -> bool,
     {
         let new = src.get_bits(begin, v_size);
@@ -304,13 +290,8 @@ pub trait BitAccess {
     }
     /// As `conditionally_copy_bits`, of a fragment.
     #[track_caller]
-    fn conditionally_copy_fragment<Pred>(
-        &mut self,
-        src: &Self,
-        predicate: Pred,
-        index: usize,
-        v_size: u8,
-    ) where
+    fn conditionally_copy_fragment<Pred>(&mut self, src: &Self, predicate: Pred, index: usize, v_size: u8)
+    where
         Pred: FnOnce(u64, u64) -> bool,
     {
         self.conditionally_copy_bits(src, predicate, begin_of(index, v_size), v_size)

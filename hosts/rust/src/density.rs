@@ -1,7 +1,8 @@
 //! How many items one sample stands for.
 
-/// The logarithm of a density that takes about as much memory for any share of 1 bits: 7 up to `max_result`, which is 7 to
-/// 31. `n` is how many of `len` bits are of the kind. Tested beside the proved call, not proved, as it is used in constants.
+/// The logarithm of a density that takes about as much memory for any share of 1 bits: 7 up to `max_result`, which is 7
+/// to 31. `n` is how many of `len` bits are of the kind. Tested beside the proved call, not proved, as it is used in
+/// constants.
 ///
 /// ```
 /// use bitm_proved::optimal_combined_sampling;
@@ -24,8 +25,8 @@ pub const fn optimal_combined_sampling(n: usize, len: usize, max_result: u8) -> 
     }
 }
 
-/// How many items one sample stands for: a power of two, with a logarithm of 7 to 31. A density may be of a user's own; no
-/// answer depends on it.
+/// How many items one sample stands for: a power of two, with a logarithm of 7 to 31. A density may be of a user's own;
+/// no answer depends on it.
 ///
 /// ```
 /// use bitm_proved::{CombinedSampling, CombinedSamplingDensity, RankSelect101111, Select};
@@ -40,7 +41,8 @@ pub const fn optimal_combined_sampling(n: usize, len: usize, max_result: u8) -> 
 /// }
 /// let bits: RankSelect101111<CombinedSampling<Eight>> = vec![0b1011].into_boxed_slice().into();
 /// assert_eq!(bits.select(2), 3);
-/// assert_eq!((Eight::items_per_sample(()), Eight::divide(700, ()), Eight::is_in_second_half(700, ())), (256, 2, true));
+/// assert_eq!((Eight::items_per_sample(()), Eight::divide(700, ())), (256, 2));
+/// assert!(Eight::is_in_second_half(700, ()));
 /// ```
 pub trait CombinedSamplingDensity: Copy {
     /// What is kept of the choice.

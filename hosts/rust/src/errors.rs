@@ -148,6 +148,12 @@ impl fmt::Display for ListError {
 impl Error for ListError {}
 
 /// Why a file was not opened.
+///
+/// ```
+/// use bitm_proved::{OpenError, StoredError};
+/// let why: OpenError = StoredError::NotWhole.into();
+/// assert_eq!(why.to_string(), "this is no file of the format, or not a whole one");
+/// ```
 #[cfg(feature = "std")]
 #[derive(Debug)]
 #[non_exhaustive]

@@ -5,7 +5,8 @@ use core::iter::FusedIterator;
 use core::ops::Range;
 use core::slice;
 
-/// The positions of the 1 bits of words, or of the 0 bits where `B` is false, rising, from either end. Tested, not proved.
+/// The positions of the 1 bits of words, or of the 0 bits where `B` is false, rising, from either end. Tested, not
+/// proved.
 ///
 /// ```
 /// use bitm_proved::{BitBIterator, BitOnesIterator, BitZerosIterator};

@@ -16,8 +16,8 @@ macro_rules! answers {
                 sure($view.checked_get(index))
             }
 
-            /// The successor: the least index whose number is at least `value`; `None` exactly where each number is less.
-            /// One proved call.
+            /// The successor: the least index whose number is at least `value`; `None` exactly where each number is
+            /// less. One proved call.
             #[inline]
             #[track_caller]
             pub fn first_at_least(&$self, value: u64) -> Option<usize> {
@@ -94,11 +94,7 @@ impl<O> Sequence<O> {
     /// assert_eq!(primes.get_list(&[3, 0, 4, 1], &mut [0; 4]), Ok(&[7, 2][..]));
     /// # Ok::<(), bitm_proved::BuildError>(())
     /// ```
-    pub fn get_list<'b>(
-        &self,
-        indexes: &[usize],
-        out: &'b mut [u64],
-    ) -> Result<&'b [u64], ListError> {
+    pub fn get_list<'b>(&self, indexes: &[usize], out: &'b mut [u64]) -> Result<&'b [u64], ListError> {
         self.view().get_list(indexes, out)
     }
 
@@ -110,11 +106,7 @@ impl<O> Sequence<O> {
     /// assert_eq!((primes.first_at_least_list(&[4, 8], &mut out), out), (Ok(1), [2, NO_ANSWER]));
     /// # Ok::<(), bitm_proved::BuildError>(())
     /// ```
-    pub fn first_at_least_list(
-        &self,
-        values: &[u64],
-        out: &mut [usize],
-    ) -> Result<usize, ListError> {
+    pub fn first_at_least_list(&self, values: &[u64], out: &mut [usize]) -> Result<usize, ListError> {
         self.view().first_at_least_list(values, out)
     }
 
@@ -170,11 +162,7 @@ struct Block {
 }
 
 impl Block {
-    const NONE: Block = Block {
-        from: 0,
-        len: 0,
-        items: [0; BLOCK],
-    };
+    const NONE: Block = Block { from: 0, len: 0, items: [0; BLOCK] };
 
     #[inline(always)]
     fn at(&self, index: usize) -> Option<u64> {
@@ -186,24 +174,23 @@ impl Block {
     #[track_caller]
     fn read(&mut self, view: &SequenceView<'_>, range: Range<usize>) {
         self.from = range.start;
-        self.len = view
-            .items(range.start, &mut self.items[..range.len()])
-            .len();
+        self.len = view.items(range.start, &mut self.items[..range.len()]).len();
         if self.len < range.len() {
             wrong_tables()
         }
     }
 }
 
-/// Numbers of a sequence, from either end, and from a value on. They are read in blocks by the proved call; what is kept
-/// of them is tested, not proved.
+/// Numbers of a sequence, from either end, and from a value on. They are read in blocks by the proved call; what is
+/// kept of them is tested, not proved.
 ///
 /// ```
 /// use bitm_proved::{EliasFano, Numbers};
 /// let primes = EliasFano::build(&[2, 3, 5, 7, 11, 13])?;
 /// assert!(primes.iter().rev().eq([13, 11, 7, 5, 3, 2]) && primes.range(1..3).eq([3, 5]));
 /// let mut from: Numbers<'_> = primes.iter_from(6);
-/// assert_eq!((from.index(), from.len(), from.next(), from.next_geq(12), from.next()), (3, 3, Some(7), Some(13), None));
+/// assert_eq!((from.index(), from.len()), (3, 3));
+/// assert_eq!((from.next(), from.next_geq(12), from.next()), (Some(7), Some(13), None));
 /// assert_eq!((&primes).into_iter().sum::<u64>(), 41);
 /// # Ok::<(), bitm_proved::BuildError>(())
 /// ```
@@ -217,12 +204,7 @@ pub struct Numbers<'a> {
 
 impl<'a> Numbers<'a> {
     fn new(view: SequenceView<'a>, range: Range<usize>) -> Self {
-        Numbers {
-            view,
-            range,
-            front: Block::NONE,
-            back: Block::NONE,
-        }
+        Numbers { view, range, front: Block::NONE, back: Block::NONE }
     }
 
     /// The index of the number that is next from the front.
@@ -310,7 +292,15 @@ pub fn intersection<'a, 'b>(a: Numbers<'a>, b: Numbers<'b>) -> Intersection<'a, 
     Intersection { a, b, least }
 }
 
-/// The numbers that two sequences have both: of [`intersection`].
+/// The numbers that two sequences have both: of [`intersection`]. Tested, not proved.
+///
+/// ```
+/// use bitm_proved::{intersection, EliasFano, Intersection};
+/// let odd = EliasFano::build(&[1, 3, 5])?;
+/// let mut both: Intersection<'_, '_> = intersection(odd.iter(), odd.iter_from(4));
+/// assert_eq!((both.next(), both.next()), (Some(5), None));
+/// # Ok::<(), bitm_proved::BuildError>(())
+/// ```
 #[derive(Clone, Debug)]
 pub struct Intersection<'a, 'b> {
     a: Numbers<'a>,

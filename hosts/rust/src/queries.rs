@@ -16,17 +16,26 @@ use core::ops::{Deref, Range};
 pub const NO_ANSWER: usize = usize::MAX;
 
 /// In a list of answers: the tables are not those of the words.
+///
+/// ```
+/// use bitm_proved::{IndexView, ListError, Queries, WRONG_TABLES};
+/// let (words, wrong, mut out) = ([0u64], [u64::MAX], [0]);
+/// let bits = IndexView::new(&words, 64, &words, &wrong)?;
+/// assert_eq!((bits.rank_list(&[64], &mut out), out), (Err(ListError::WrongTables { wrong: 1 }), [WRONG_TABLES]));
+/// # Ok::<(), bitm_proved::WrongTables>(())
+/// ```
 pub const WRONG_TABLES: usize = usize::MAX - 1;
 
-/// What every index is asked beside rank and selection. Each query is one proved call; iterators go over the words alone,
-/// and are tested, not proved.
+/// What every index is asked beside rank and selection. Each query is one proved call; iterators go over the words
+/// alone, and are tested, not proved.
 ///
 /// A `checked_` form answers an error where the tables turn out not to be those of the words; the others panic then.
 ///
 /// ```
 /// use bitm_proved::{ArrayWithRank101111, ListError, Queries, NO_ANSWER};
 /// let bits: ArrayWithRank101111 = vec![0b1011_0100, 1].into_boxed_slice().into();
-/// assert_eq!((bits.checked_rank(6), bits.checked_rank0(6), bits.checked_rank(129)), (Ok(Some(3)), Ok(Some(3)), Ok(None)));
+/// assert_eq!((bits.checked_rank(6), bits.checked_rank(129)), (Ok(Some(3)), Ok(None)));
+/// assert_eq!(bits.checked_rank0(6), Ok(Some(3)));
 /// assert_eq!((bits.checked_select(4), bits.checked_select0(2)), (Ok(Some(64)), Ok(Some(3))));
 /// assert_eq!((bits.next_one(3), bits.next_zero(2), bits.next_one(65)), (Some(4), Some(3), None));
 /// assert_eq!((bits.previous_one(63), bits.previous_zero(5), bits.previous_one(1)), (Some(7), Some(3), None));
@@ -219,9 +228,7 @@ impl<O> Queries for Index<O> {
     }
 }
 
-impl<S: SelectionStrategy, S0: SelectionStrategy, BV: Deref<Target = [u64]>> Queries
-    for RankSelect101111<S, S0, BV>
-{
+impl<S: SelectionStrategy, S0: SelectionStrategy, BV: Deref<Target = [u64]>> Queries for RankSelect101111<S, S0, BV> {
     #[inline(always)]
     fn view(&self) -> IndexView<'_> {
         self.sampled()

@@ -1,9 +1,7 @@
 //! The index under the original's name, over a content that it keeps, with tables that it makes.
 use crate::errors::{made, sure, BuildError};
 use crate::rank::{Rank, Select, Select0};
-use crate::select::{
-    over, BinaryRankSearch, Select0ForRank101111, SelectForRank101111, SelectionStrategy,
-};
+use crate::select::{over, BinaryRankSearch, Select0ForRank101111, SelectForRank101111, SelectionStrategy};
 use crate::sys::memory::{as_u64_mut, prefetch, zeroed};
 use crate::sys::tables::{build_tables, table_lens};
 use crate::sys::view::IndexView;
@@ -21,11 +19,10 @@ use core::ops::Deref;
 /// ```
 ///
 /// Words and tables may be written: then an answer is inside all the same, or there is none, or a panic says that the
-/// tables are not those of the words. The content has to lend the same words each time, as vectors and slices do; else the
-/// same holds.
+/// tables are not those of the words. The content has to lend the same words each time, as vectors and slices do; else
+/// the same holds.
 #[derive(Clone, Debug)]
-pub struct RankSelect101111<Select = BinaryRankSearch, Select0 = BinaryRankSearch, BV = Box<[u64]>>
-{
+pub struct RankSelect101111<Select = BinaryRankSearch, Select0 = BinaryRankSearch, BV = Box<[u64]>> {
     /// The words.
     pub content: BV,
     /// How many 1 bits are before each upper block of 2^32 bits.
@@ -59,9 +56,7 @@ impl<S, S0, BV> RankSelect101111<S, S0, BV> {
     }
 }
 
-impl<S: SelectForRank101111, S0: Select0ForRank101111, BV: Deref<Target = [u64]>>
-    RankSelect101111<S, S0, BV>
-{
+impl<S: SelectForRank101111, S0: Select0ForRank101111, BV: Deref<Target = [u64]>> RankSelect101111<S, S0, BV> {
     /// An index over the content, and the number of 1 bits. Panics where there is no memory.
     #[track_caller]
     pub fn build(content: BV) -> (Self, usize) {
@@ -84,13 +79,7 @@ impl<S: SelectForRank101111, S0: Select0ForRank101111, BV: Deref<Target = [u64]>
         let ones = build_tables(words, as_u64_mut(&mut l1ranks), &mut l2ranks).ok_or(too_long)?;
         let select = S::try_new(words, &l1ranks, &l2ranks, ones)?;
         let select0 = S0::try_new0(words, &l1ranks, &l2ranks, ones)?;
-        let index = RankSelect101111 {
-            content,
-            l1ranks,
-            l2ranks,
-            select,
-            select0,
-        };
+        let index = RankSelect101111 { content, l1ranks, l2ranks, select, select0 };
         Ok((index, ones))
     }
 }
@@ -102,9 +91,7 @@ impl<S, S0, BV: Deref<Target = [u64]>> RankSelect101111<S, S0, BV> {
     }
 }
 
-impl<S: SelectionStrategy, S0: SelectionStrategy, BV: Deref<Target = [u64]>>
-    RankSelect101111<S, S0, BV>
-{
+impl<S: SelectionStrategy, S0: SelectionStrategy, BV: Deref<Target = [u64]>> RankSelect101111<S, S0, BV> {
     #[inline(always)]
     pub(crate) fn sampled(&self) -> IndexView<'_> {
         let mut view = self.lent();
@@ -124,9 +111,7 @@ fn is_past(index: usize, words: &[u64]) -> bool {
     cfg!(feature = "original-end") && index >= 64 * words.len()
 }
 
-impl<S: SelectForRank101111, S0: Select0ForRank101111, BV: Deref<Target = [u64]>> Rank
-    for RankSelect101111<S, S0, BV>
-{
+impl<S: SelectForRank101111, S0: Select0ForRank101111, BV: Deref<Target = [u64]>> Rank for RankSelect101111<S, S0, BV> {
     #[inline]
     #[track_caller]
     fn try_rank(&self, index: usize) -> Option<usize> {
@@ -155,19 +140,15 @@ impl<S: SelectForRank101111, S0, BV: Deref<Target = [u64]>> Select for RankSelec
     #[inline]
     #[track_caller]
     fn try_select(&self, rank: usize) -> Option<usize> {
-        self.select
-            .select(&self.content, &self.l1ranks, &self.l2ranks, rank)
+        self.select.select(&self.content, &self.l1ranks, &self.l2ranks, rank)
     }
 }
 
-impl<S, S0: Select0ForRank101111, BV: Deref<Target = [u64]>> Select0
-    for RankSelect101111<S, S0, BV>
-{
+impl<S, S0: Select0ForRank101111, BV: Deref<Target = [u64]>> Select0 for RankSelect101111<S, S0, BV> {
     #[inline]
     #[track_caller]
     fn try_select0(&self, rank: usize) -> Option<usize> {
-        self.select0
-            .select0(&self.content, &self.l1ranks, &self.l2ranks, rank)
+        self.select0.select0(&self.content, &self.l1ranks, &self.l2ranks, rank)
     }
 }
 
@@ -199,9 +180,7 @@ impl<S: SelectForRank101111, S0: Select0ForRank101111, BV: Deref<Target = [u64]>
 /// assert_eq!(owned.rank(64), 3);
 /// ```
 #[derive(Clone, Debug)]
-pub struct RankSimple<BV = Box<[u64]>>(
-    pub(crate) RankSelect101111<BinaryRankSearch, BinaryRankSearch, BV>,
-);
+pub struct RankSimple<BV = Box<[u64]>>(pub(crate) RankSelect101111<BinaryRankSearch, BinaryRankSearch, BV>);
 
 /// Rank alone, over words that it owns.
 pub type ArrayWithRankSimple = RankSimple;

@@ -35,13 +35,7 @@ pub trait SelectForRank101111 {
     /// # Safety
     /// There is one. (This is tested all the same.)
     #[track_caller]
-    unsafe fn select_unchecked(
-        &self,
-        content: &[u64],
-        l1ranks: &[usize],
-        l2ranks: &[u64],
-        rank: usize,
-    ) -> usize {
+    unsafe fn select_unchecked(&self, content: &[u64], l1ranks: &[usize], l2ranks: &[u64], rank: usize) -> usize {
         let found = self.select(content, l1ranks, l2ranks, rank);
         found.unwrap_or_else(|| no_such("1", rank))
     }
@@ -71,13 +65,7 @@ pub trait Select0ForRank101111 {
     /// # Safety
     /// There is one. (This is tested all the same.)
     #[track_caller]
-    unsafe fn select0_unchecked(
-        &self,
-        content: &[u64],
-        l1ranks: &[usize],
-        l2ranks: &[u64],
-        rank: usize,
-    ) -> usize {
+    unsafe fn select0_unchecked(&self, content: &[u64], l1ranks: &[usize], l2ranks: &[u64], rank: usize) -> usize {
         let found = self.select0(content, l1ranks, l2ranks, rank);
         found.unwrap_or_else(|| no_such("0", rank))
     }
@@ -115,6 +103,12 @@ pub trait SelectionStrategy: sealed::Sealed {
 }
 
 /// Selection by binary search in the tables, with nothing kept beside them.
+///
+/// ```
+/// use bitm_proved::{BinaryRankSearch, Select0ForRank101111, SelectForRank101111};
+/// assert_eq!(BinaryRankSearch::try_new(&[], &[], &[], 0), Ok(BinaryRankSearch));
+/// assert_eq!(BinaryRankSearch::try_new0(&[], &[], &[], 0), Ok(BinaryRankSearch));
+/// ```
 #[derive(Clone, Copy, PartialEq, Eq, Debug, Default)]
 pub struct BinaryRankSearch;
 
@@ -163,7 +157,8 @@ pub unsafe fn select64(n: u64, rank: u8) -> u8 {
     }
 }
 
-/// Selection that begins at samples, one for each so many 1 bits, or 0 bits. They are a hint: no answer depends on them.
+/// Selection that begins at samples, one for each so many 1 bits, or 0 bits. They are a hint: no answer depends on
+/// them.
 ///
 /// ```
 /// use bitm_proved::{CombinedSampling, ConstCombinedSamplingDensity, RankSelect101111, Select, SelectionStrategy};
@@ -180,11 +175,7 @@ pub struct CombinedSampling<D: CombinedSamplingDensity = AdaptiveCombinedSamplin
 
 impl<D: CombinedSamplingDensity> Clone for CombinedSampling<D> {
     fn clone(&self) -> Self {
-        CombinedSampling {
-            select: self.select.clone(),
-            select_begin: self.select_begin.clone(),
-            density: self.density,
-        }
+        CombinedSampling { select: self.select.clone(), select_begin: self.select_begin.clone(), density: self.density }
     }
 }
 
@@ -209,11 +200,7 @@ impl<D: CombinedSamplingDensity> CombinedSampling<D> {
         let used = used.unwrap_or(0);
         let mut select = zeroed(used)?.into_boxed_slice();
         select.copy_from_slice(&room[..used]);
-        Ok(CombinedSampling {
-            select,
-            select_begin: select_begin.into_boxed_slice(),
-            density,
-        })
+        Ok(CombinedSampling { select, select_begin: select_begin.into_boxed_slice(), density })
     }
 
     #[inline(always)]

@@ -16,9 +16,7 @@ impl<'de> Deserialize<'de> for Index<Vec<u64>> {
     fn deserialize<D: Deserializer<'de>>(from: D) -> Result<Self, D::Error> {
         let index = Index::from_words(Vec::deserialize(from)?).map_err(D::Error::custom)?;
         let right = index.check();
-        right
-            .then_some(index)
-            .ok_or_else(|| D::Error::custom(crate::WrongTables))
+        right.then_some(index).ok_or_else(|| D::Error::custom(crate::WrongTables))
     }
 }
 
@@ -33,8 +31,6 @@ impl<'de> Deserialize<'de> for EliasFano {
     fn deserialize<D: Deserializer<'de>>(from: D) -> Result<Self, D::Error> {
         let numbers = Sequence::from_words(Vec::deserialize(from)?).map_err(D::Error::custom)?;
         let right = numbers.check();
-        right
-            .then_some(numbers)
-            .ok_or_else(|| D::Error::custom(crate::WrongTables))
+        right.then_some(numbers).ok_or_else(|| D::Error::custom(crate::WrongTables))
     }
 }

@@ -1,7 +1,5 @@
 //! How many bytes a value keeps beside itself: by the trait of the crate `dyn_size_of`, with the feature of that name.
-use crate::density::{
-    AdaptiveCombinedSamplingDensity, CombinedSamplingDensity, ConstCombinedSamplingDensity,
-};
+use crate::density::{AdaptiveCombinedSamplingDensity, CombinedSamplingDensity, ConstCombinedSamplingDensity};
 use crate::rank_select::{RankSelect101111, RankSimple};
 use crate::select::{BinaryRankSearch, CombinedSampling};
 use dyn_size_of::GetSize;

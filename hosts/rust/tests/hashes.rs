@@ -10,10 +10,7 @@ fn each_key_has_a_number_of_its_own() {
         for percent in [0, 50, 100, 200, 1000] {
             let hashes: Vec<u64> = (0..keys).map(|_| drawn.next()).collect();
             let made = PerfectHash::build_with(hashes.clone(), percent).expect("no two are equal");
-            let mut numbers: Vec<usize> = hashes
-                .iter()
-                .map(|it| made.get(*it).expect("a key"))
-                .collect();
+            let mut numbers: Vec<usize> = hashes.iter().map(|it| made.get(*it).expect("a key")).collect();
             let mut out = vec![0; keys];
             assert_eq!((made.get_list(&hashes, &mut out), &out), (Ok(0), &numbers));
             numbers.sort();
@@ -25,10 +22,7 @@ fn each_key_has_a_number_of_its_own() {
             let missing = made.get_list(&others, &mut out).expect("right tables");
             assert_eq!(out.iter().filter(|it| **it == NO_ANSWER).count(), missing);
             assert!(out.iter().all(|it| *it == NO_ANSWER || *it < keys));
-            let short = ListError::Lengths {
-                queries: 100,
-                room: 3,
-            };
+            let short = ListError::Lengths { queries: 100, room: 3 };
             assert_eq!(made.get_list(&others, &mut out[..3]), Err(short));
         }
     }
@@ -40,10 +34,7 @@ fn equal_hashes_are_refused() {
     for keys in [2usize, 100, 10_000] {
         let mut hashes: Vec<u64> = (0..keys).map(|_| drawn.next()).collect();
         hashes[keys - 1] = hashes[0];
-        assert_eq!(
-            PerfectHash::build(hashes).err(),
-            Some(BuildError::EqualHashes { left: 2 })
-        );
+        assert_eq!(PerfectHash::build(hashes).err(), Some(BuildError::EqualHashes { left: 2 }));
         let why = PerfectHash::build(vec![7; keys]).err();
         assert_eq!(why, Some(BuildError::EqualHashes { left: keys }));
     }

@@ -1,5 +1,5 @@
-//! Inlined Rust beside the proved calls: single bits, numbers of each width, fragments, masks, bytes and iterators, over
-//! drawn words and at each edge.
+//! Inlined Rust beside the proved calls: single bits, numbers of each width, fragments, masks, bytes and iterators,
+//! over drawn words and at each edge.
 mod common;
 use bitm_proved::{self as bitm, words, BitAccess, BitBIterator, BitIterator, BitVec};
 use common::{bits_of, positions_of, Drawn};
@@ -13,10 +13,7 @@ fn single_bits() {
         let mut proved = mine.clone();
         for position in (0..end + 3).chain([usize::MAX]) {
             let value = drawn.below(2) == 1;
-            assert_eq!(
-                mine.try_get_bit(position),
-                words::get(&proved, end, position)
-            );
+            assert_eq!(mine.try_get_bit(position), words::get(&proved, end, position));
             let done = words::set(&mut proved, end, position, value);
             assert_eq!(done.is_some(), position < end);
             if done.is_some() {
@@ -38,17 +35,9 @@ fn numbers_of_all_widths() {
             for width in (0..=66).chain([128, 255]) {
                 let mut mine = drawn.words(len);
                 let proved = words::get_number(&mine, end, begin, width);
-                assert_eq!(
-                    mine.try_get_bits(begin, width),
-                    proved,
-                    "{width} bits from {begin} of {end}"
-                );
+                assert_eq!(mine.try_get_bits(begin, width), proved, "{width} bits from {begin} of {end}");
                 let unmasked = mine.try_get_bits_unmasked(begin, width);
-                assert_eq!(
-                    unmasked,
-                    reach(begin, width, end)
-                        .and_then(|it| words::get_number(&mine, end, begin, it))
-                );
+                assert_eq!(unmasked, reach(begin, width, end).and_then(|it| words::get_number(&mine, end, begin, it)));
                 let (value, mut other) = (drawn.next(), mine.clone());
                 let done = words::set_number(&mut other, end, begin, width, value);
                 assert_eq!(mine.try_set_bits(begin, value, width), done);
@@ -90,11 +79,7 @@ fn fragments() {
             let mut mine = drawn.words(3);
             let (mut other, value) = (mine.clone(), drawn.next());
             let found = words::get_fragment(&other, 192, index, width);
-            assert_eq!(
-                mine.try_get_fragment(index, width),
-                found,
-                "{index} of {width} bits"
-            );
+            assert_eq!(mine.try_get_fragment(index, width), found, "{index} of {width} bits");
             let done = words::set_fragment(&mut other, 192, index, width, value);
             assert_eq!(done.is_some(), found.is_some());
             if done.is_some() {
@@ -131,31 +116,15 @@ fn masks_digits_and_densities() {
     for _ in 0..20_000 {
         let len = (drawn.next() >> drawn.below(64)) as usize;
         let items = drawn.next() as usize % len.saturating_add(1).max(1);
-        for (items, len) in [
-            (items, len),
-            (0, len),
-            (len, len),
-            (len / 2, len),
-            (len / 4 * 3, len),
-        ] {
+        for (items, len) in [(items, len), (0, len), (len, len), (len / 2, len), (len / 4 * 3, len)] {
             let most = 7 + drawn.below(25) as u8;
             let mine = bitm::optimal_combined_sampling(items, len, most);
-            assert_eq!(
-                mine,
-                words::optimal_log2(items, len, most),
-                "{items} of {len}, {most}"
-            );
+            assert_eq!(mine, words::optimal_log2(items, len, most), "{items} of {len}, {most}");
         }
-        assert_eq!(
-            bitm::ceiling_div(len, 64),
-            len / 64 + usize::from(len % 64 > 0)
-        );
+        assert_eq!(bitm::ceiling_div(len, 64), len / 64 + usize::from(len % 64 > 0));
         let word = drawn.next();
         let (bits, rank) = (positions_of(&bits_of(&[word], 64), true), drawn.below(66));
-        assert_eq!(
-            words::select_in_word(word, rank as u8).map(usize::from),
-            bits.get(rank).copied()
-        );
+        assert_eq!(words::select_in_word(word, rank as u8).map(usize::from), bits.get(rank).copied());
     }
 }
 
@@ -168,14 +137,8 @@ fn bytes() {
         let at = mine.as_mut_ptr();
         // SAFETY: the eight bytes from byte 16 on end at byte 24.
         unsafe {
-            assert_eq!(
-                Some(bitm::get_bits57(at, first_bit)),
-                words::bytes_get57(&other, first_bit)
-            );
-            assert_eq!(
-                Some(bitm::get_bits25(at, first_bit)),
-                words::bytes_get25(&other, first_bit)
-            );
+            assert_eq!(Some(bitm::get_bits57(at, first_bit)), words::bytes_get57(&other, first_bit));
+            assert_eq!(Some(bitm::get_bits25(at, first_bit)), words::bytes_get25(&other, first_bit));
             bitm::init_bits57(at, first_bit, value);
             bitm::init_bits25(at, first_bit, mask as u32);
         }
@@ -193,25 +156,12 @@ fn bytes() {
         assert_eq!(mine, other);
     }
     let mut few = [0; 7];
-    assert_eq!(
-        (words::bytes_get57(&few, 0), words::bytes_get25(&few, 32)),
-        (None, None)
-    );
-    assert_eq!(
-        (
-            words::bytes_set57(&mut few, 0, 1, 1),
-            words::bytes_init25(&mut few, 32, 1)
-        ),
-        (None, None)
-    );
+    assert_eq!((words::bytes_get57(&few, 0), words::bytes_get25(&few, 32)), (None, None));
+    assert_eq!((words::bytes_set57(&mut few, 0, 1, 1), words::bytes_init25(&mut few, 32, 1)), (None, None));
 }
 
 /// From both ends by turns, beside a plain list.
-fn from_both_ends<const B: bool>(
-    content: &[u64],
-    range: std::ops::Range<usize>,
-    drawn: &mut Drawn,
-) {
+fn from_both_ends<const B: bool>(content: &[u64], range: std::ops::Range<usize>, drawn: &mut Drawn) {
     let bits = bits_of(content, 64 * content.len());
     let mut plain = positions_of(&bits, B);
     plain.retain(|it| range.contains(it));
@@ -222,10 +172,7 @@ fn from_both_ends<const B: bool>(
     let mut steps = 0;
     while steps < 2 {
         if drawn.below(8) == 0 {
-            assert_eq!(
-                (walk.len(), walk.size_hint()),
-                (rest.len(), (rest.len(), Some(rest.len())))
-            );
+            assert_eq!((walk.len(), walk.size_hint()), (rest.len(), (rest.len(), Some(rest.len()))));
         }
         let front = drawn.below(2) == 0;
         let (mine, plain) = match front {
@@ -237,14 +184,9 @@ fn from_both_ends<const B: bool>(
     }
     let mut walk = BitIterator::with_range(content, range.clone());
     let bits = &bits[range.start.min(range.end)..range.end];
-    assert!(
-        walk.clone().eq(bits.iter().copied()) && walk.clone().rev().eq(bits.iter().rev().copied())
-    );
+    assert!(walk.clone().eq(bits.iter().copied()) && walk.clone().rev().eq(bits.iter().rev().copied()));
     let step = drawn.below(bits.len() + 2);
-    assert_eq!(
-        (walk.nth(step), walk.len()),
-        (bits.get(step).copied(), bits.len().saturating_sub(step + 1))
-    );
+    assert_eq!((walk.nth(step), walk.len()), (bits.get(step).copied(), bits.len().saturating_sub(step + 1)));
 }
 
 #[test]

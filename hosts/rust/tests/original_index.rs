@@ -1,9 +1,9 @@
-//! Each item of the original's interface that has to do with ranks and selections: its name, its type, and what it does.
+//! Each item of the original's interface that has to do with ranks and selections: its name, its type, what it does.
+#![allow(clippy::type_complexity, clippy::borrowed_box)]
 use bitm_proved::{
-    optimal_combined_sampling, select64, AdaptiveCombinedSamplingDensity, ArrayWithRank101111,
-    ArrayWithRankSimple, BinaryRankSearch, CombinedSampling, CombinedSamplingDensity,
-    ConstCombinedSamplingDensity, Rank, RankSelect101111, RankSimple, Select, Select0,
-    Select0ForRank101111, SelectForRank101111,
+    optimal_combined_sampling, select64, AdaptiveCombinedSamplingDensity, ArrayWithRank101111, ArrayWithRankSimple,
+    BinaryRankSearch, CombinedSampling, CombinedSamplingDensity, ConstCombinedSamplingDensity, Rank, RankSelect101111,
+    RankSimple, Select, Select0, Select0ForRank101111, SelectForRank101111,
 };
 use std::ops::Deref;
 
@@ -50,10 +50,7 @@ fn the_index_of_any_content() {
         ArrayWithRank101111::build(own.clone()).0,
         RankSelect101111::<BinaryRankSearch, BinaryRankSearch, Box<[u64]>>::build(own.clone()).0,
     );
-    is_same(
-        ArrayWithRankSimple::build(own.clone()),
-        RankSimple::build(own),
-    );
+    is_same(ArrayWithRankSimple::build(own.clone()), RankSimple::build(own));
     let simple = RankSimple::build(&words[..]).0.clone();
     let _: (Option<u32>, u32) = (simple.try_rank(64), simple.rank(64));
 }
@@ -61,20 +58,13 @@ fn the_index_of_any_content() {
 #[test]
 fn methods_of_the_traits() {
     type A = ArrayWithRank101111;
-    let _: [fn(&A, usize) -> Option<usize>; 4] =
-        [A::try_rank, A::try_rank0, A::try_select, A::try_select0];
+    let _: [fn(&A, usize) -> Option<usize>; 4] = [A::try_rank, A::try_rank0, A::try_select, A::try_select0];
     let _: [fn(&A, usize) -> usize; 4] = [A::rank, A::rank0, A::select, A::select0];
-    let _: [unsafe fn(&A, usize) -> usize; 4] = [
-        A::rank_unchecked,
-        A::rank0_unchecked,
-        A::select_unchecked,
-        A::select0_unchecked,
-    ];
+    let _: [unsafe fn(&A, usize) -> usize; 4] =
+        [A::rank_unchecked, A::rank0_unchecked, A::select_unchecked, A::select0_unchecked];
     let _: fn(&A, usize) = A::prefetch;
-    let dynamic: [Box<dyn Rank>; 2] = [
-        Box::new(A::build(Box::new([7])).0),
-        Box::new(ArrayWithRankSimple::build(Box::new([7])).0),
-    ];
+    let dynamic: [Box<dyn Rank>; 2] =
+        [Box::new(A::build(Box::new([7])).0), Box::new(ArrayWithRankSimple::build(Box::new([7])).0)];
     assert!(dynamic.iter().all(|it| it.rank(2) == 2));
     let selects: [&dyn Select; 1] = [&A::build(Box::new([7])).0];
     let selects0: [&dyn Select0; 1] = [&A::build(Box::new([7])).0];
@@ -134,19 +124,10 @@ fn users_own_types() {
     assert_eq!((Own.rank(4), Own.rank0(5), Own.try_rank0(11)), (2, 3, None));
     assert_eq!((Own.select(2), Own.select0(2)), (5, 4));
     // SAFETY: all of these are there.
-    let same = unsafe {
-        (
-            Own.rank_unchecked(4),
-            Own.rank0_unchecked(4),
-            Own.select_unchecked(0),
-        )
-    };
+    let same = unsafe { (Own.rank_unchecked(4), Own.rank0_unchecked(4), Own.select_unchecked(0)) };
     assert_eq!(same, (2, 2, 1));
     let (slow, _) = RankSelect101111::<Slow, Slow>::build(Box::new([0b1011]));
-    assert_eq!(
-        (slow.select(2), slow.try_select(3), slow.select0(0)),
-        (3, None, 2)
-    );
+    assert_eq!((slow.select(2), slow.try_select(3), slow.select0(0)), (3, None, 2));
     // SAFETY: both are there.
     let same = unsafe {
         let finds = (Slow, [0b1011u64]);
@@ -169,13 +150,8 @@ fn strategies_and_densities() {
     unit(BinaryRankSearch);
     unit(ConstCombinedSamplingDensity::<13>);
     unit(AdaptiveCombinedSamplingDensity::<13>);
-    let _: (
-        ConstCombinedSamplingDensity,
-        AdaptiveCombinedSamplingDensity,
-    ) = (
-        ConstCombinedSamplingDensity,
-        AdaptiveCombinedSamplingDensity,
-    );
+    let _: (ConstCombinedSamplingDensity, AdaptiveCombinedSamplingDensity) =
+        (ConstCombinedSamplingDensity, AdaptiveCombinedSamplingDensity);
     fn is<D: CombinedSamplingDensity<SamplingDensity = T>, T>() {
         let _: fn(usize, usize) -> D::SamplingDensity = D::density_for;
         let _: fn(D::SamplingDensity) -> u8 = D::items_per_sample_log2;
@@ -208,13 +184,7 @@ fn rank_at_the_exact_end() {
     let (bits, ones) = ArrayWithRank101111::build(Box::new([0b1011, 1]));
     let simple = ArrayWithRankSimple::build(Box::new([0b1011, 1])).0;
     let wanted = (!cfg!(feature = "original-end")).then_some(ones);
-    assert_eq!(
-        (
-            bits.try_rank(128),
-            simple.try_rank(128).map(|it| it as usize)
-        ),
-        (wanted, wanted)
-    );
+    assert_eq!((bits.try_rank(128), simple.try_rank(128).map(|it| it as usize)), (wanted, wanted));
     assert_eq!(bits.try_rank0(128), wanted.map(|it| 128 - it));
     assert_eq!((bits.try_rank(127), bits.try_rank(129)), (Some(4), None));
 }

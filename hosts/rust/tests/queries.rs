@@ -1,9 +1,8 @@
 //! Every query of every kind of index beside plain counting, over words that end inside a word, and over wrong tables.
 mod common;
 use bitm_proved::{
-    BinaryRankSearch, CombinedSampling, ConstCombinedSamplingDensity, Index, IndexView, ListError,
-    Queries, Rank, RankSelect101111, Sampling, Select, Select0, WrongTables, NO_ANSWER,
-    WRONG_TABLES,
+    BinaryRankSearch, CombinedSampling, ConstCombinedSamplingDensity, Index, IndexView, ListError, Queries, Rank,
+    RankSelect101111, Sampling, Select, Select0, WrongTables, NO_ANSWER, WRONG_TABLES,
 };
 use common::{bits_of, positions_of, Drawn};
 
@@ -21,11 +20,7 @@ impl Plain {
             before.push(before[before.len() - 1] + usize::from(*bit));
         }
         let positions = [positions_of(&bits, false), positions_of(&bits, true)];
-        Plain {
-            bits,
-            before,
-            positions,
-        }
+        Plain { bits, before, positions }
     }
 
     fn rank(&self, one: bool, at: usize) -> Option<usize> {
@@ -81,18 +76,8 @@ type List<T> = fn(&T, &[usize], &mut [usize]) -> Result<usize, ListError>;
 
 fn lists<T: Queries>(index: &T, plain: &Plain, drawn: &mut Drawn) {
     let queries: Vec<usize> = (0..70).map(|_| drawn.below(plain.bits.len() + 2)).collect();
-    let rank = |one| {
-        queries
-            .iter()
-            .map(move |it| plain.rank(one, *it))
-            .collect::<Vec<_>>()
-    };
-    let select = |one| {
-        queries
-            .iter()
-            .map(move |it| plain.select(one, *it))
-            .collect::<Vec<_>>()
-    };
+    let rank = |one| queries.iter().map(move |it| plain.rank(one, *it)).collect::<Vec<_>>();
+    let select = |one| queries.iter().map(move |it| plain.select(one, *it)).collect::<Vec<_>>();
     let all: [(List<T>, Vec<Option<usize>>); 4] = [
         (T::rank_list, rank(true)),
         (T::rank0_list, rank(false)),
@@ -103,14 +88,8 @@ fn lists<T: Queries>(index: &T, plain: &Plain, drawn: &mut Drawn) {
         let mut out = vec![7; queries.len()];
         let missing = wanted.iter().filter(|it| it.is_none()).count();
         assert_eq!(call(index, &queries, &mut out), Ok(missing));
-        assert!(out
-            .iter()
-            .zip(&wanted)
-            .all(|(mine, it)| *mine == it.unwrap_or(NO_ANSWER)));
-        let short = ListError::Lengths {
-            queries: 70,
-            room: 69,
-        };
+        assert!(out.iter().zip(&wanted).all(|(mine, it)| *mine == it.unwrap_or(NO_ANSWER)));
+        let short = ListError::Lengths { queries: 70, room: 69 };
         out.fill(7);
         assert_eq!(call(index, &queries, &mut out[1..]), Err(short));
         assert!(out.iter().all(|it| *it == 7));
@@ -138,8 +117,7 @@ fn all_kinds_of_indexes_count() {
             let words = drawn.words(len);
             let plain = Plain::of(bits_of(&words, 64 * len));
             let search = RankSelect101111::<BinaryRankSearch, Sampled, _>::build(&words[..]).0;
-            let adaptive =
-                RankSelect101111::<CombinedSampling, CombinedSampling, _>::build(words.clone()).0;
+            let adaptive = RankSelect101111::<CombinedSampling, CombinedSampling, _>::build(words.clone()).0;
             let owner = Index::build(words.clone());
             single(&search, &plain, &mut drawn);
             single(&adaptive, &plain, &mut drawn);
@@ -150,12 +128,7 @@ fn all_kinds_of_indexes_count() {
             traits(&search, &plain, &mut drawn, to);
             traits(&&adaptive, &plain, &mut drawn, to);
             traits(&owner, &plain, &mut drawn, 64 * len + 2);
-            traits(
-                &std::sync::Arc::new(owner),
-                &plain,
-                &mut drawn,
-                64 * len + 2,
-            );
+            traits(&std::sync::Arc::new(owner), &plain, &mut drawn, 64 * len + 2);
             traits(&search.view(), &plain, &mut drawn, 64 * len + 2);
             assert!(search.view().check() && adaptive.view().check());
         }
@@ -168,15 +141,8 @@ fn what_lies_past_the_length_is_neither_counted_nor_found() {
     for len in [0usize, 1, 63, 64, 65, 127, 2047, 2048, 2049, 5000] {
         let words = drawn.words(len.div_ceil(64) + drawn.0 as usize % 3);
         let plain = Plain::of(bits_of(&words, len));
-        for sampling in [
-            Sampling::default(),
-            Sampling {
-                ones: Some(7),
-                zeros: Some(0),
-            },
-        ] {
-            let owner =
-                Index::try_build(words.clone(), len, sampling).expect("so many bits are there");
+        for sampling in [Sampling::default(), Sampling { ones: Some(7), zeros: Some(0) }] {
+            let owner = Index::try_build(words.clone(), len, sampling).expect("so many bits are there");
             single(&owner, &plain, &mut drawn);
             lists(&owner, &plain, &mut drawn);
             traits(&owner, &plain, &mut drawn, len + 2);
@@ -209,11 +175,7 @@ fn wrong_tables_never_lead_outside() {
             log2: drawn.next() as u32,
         };
         let view = IndexView::new(&words, 64 * len, &upper, &lower).expect("lengths");
-        for view in [
-            view,
-            view.with_samples(true, samples)
-                .with_samples(false, samples),
-        ] {
+        for view in [view, view.with_samples(true, samples).with_samples(false, samples)] {
             for _ in 0..20 {
                 let query = drawn.below(64 * len + 1);
                 match view.checked_rank(query) {
@@ -221,16 +183,8 @@ fn wrong_tables_never_lead_outside() {
                     Err(WrongTables) => wrong += 1,
                 }
                 for one in [true, false] {
-                    let found = if one {
-                        view.checked_select(query)
-                    } else {
-                        view.checked_select0(query)
-                    };
-                    for found in [
-                        found,
-                        view.checked_next(one, query),
-                        view.checked_previous(one, query),
-                    ] {
+                    let found = if one { view.checked_select(query) } else { view.checked_select0(query) };
+                    for found in [found, view.checked_next(one, query), view.checked_previous(one, query)] {
                         match found {
                             Ok(Some(position)) => assert_eq!(plain.bits[position], one),
                             Ok(None) => {}
@@ -240,10 +194,7 @@ fn wrong_tables_never_lead_outside() {
                 }
                 let mut out = [0; 1];
                 match view.rank_list(&[query], &mut out) {
-                    Err(why) => assert_eq!(
-                        (why, out),
-                        (ListError::WrongTables { wrong: 1 }, [WRONG_TABLES])
-                    ),
+                    Err(why) => assert_eq!((why, out), (ListError::WrongTables { wrong: 1 }, [WRONG_TABLES])),
                     Ok(missing) => assert_eq!((missing, out[0] <= query), (0, true)),
                 }
                 right += 1;
@@ -265,15 +216,8 @@ fn samples_are_a_hint() {
         let samples: Vec<u32> = (0..drawn.below(60)).map(|_| drawn.next() as u32).collect();
         let starts: Vec<u64> = (0..drawn.below(3)).map(|_| drawn.next()).collect();
         let log2 = drawn.below(40) as u32;
-        let samples = bitm_proved::Samples {
-            samples: &samples,
-            starts: &starts,
-            log2,
-        };
-        let view = made
-            .view()
-            .with_samples(true, samples)
-            .with_samples(false, samples);
+        let samples = bitm_proved::Samples { samples: &samples, starts: &starts, log2 };
+        let view = made.view().with_samples(true, samples).with_samples(false, samples);
         traits(&view, &plain, &mut drawn, 64 * len + 1);
         lists(&view, &plain, &mut drawn);
     }

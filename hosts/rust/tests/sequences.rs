@@ -1,8 +1,7 @@
-//! Sequences beside plain lists: queries, iterators from either end and from a value, intersections, lists, wrong parts.
+//! Sequences beside plain lists: queries, iterators from either end and from a value, intersections, wrong parts.
 mod common;
 use bitm_proved::{
-    intersection, BuildError, EliasFano, ListError, Sequence, SequenceView, StoredError,
-    WrongTables, NO_ANSWER,
+    intersection, BuildError, EliasFano, ListError, Sequence, SequenceView, StoredError, WrongTables, NO_ANSWER,
 };
 use common::Drawn;
 
@@ -15,30 +14,18 @@ fn numbers(drawn: &mut Drawn) -> Vec<u64> {
 
 fn single<O>(made: &Sequence<O>, plain: &[u64], drawn: &mut Drawn) {
     let len = plain.len();
-    assert_eq!(
-        (made.len(), made.is_empty(), made.check()),
-        (len, len == 0, true)
-    );
+    assert_eq!((made.len(), made.is_empty(), made.check()), (len, len == 0, true));
     for _ in 0..60 {
-        let near = plain
-            .get(drawn.below(len + 1))
-            .copied()
-            .unwrap_or(drawn.next());
+        let near = plain.get(drawn.below(len + 1)).copied().unwrap_or(drawn.next());
         let value = near.wrapping_add(drawn.next() % 3).wrapping_sub(1);
-        let (first, after) = (
-            plain.partition_point(|it| *it < value),
-            plain.partition_point(|it| *it <= value),
-        );
+        let (first, after) = (plain.partition_point(|it| *it < value), plain.partition_point(|it| *it <= value));
         assert_eq!(made.first_at_least(value), (first < len).then_some(first));
         assert_eq!(made.last_at_most(value), after.checked_sub(1));
         assert_eq!(made.contains(value), first < after);
         let index = drawn.below(len + 2);
         assert_eq!(made.get(index), plain.get(index).copied());
         assert!(made.iter_from(value).eq(plain[first..].iter().copied()));
-        assert!(made
-            .iter_from(value)
-            .rev()
-            .eq(plain[first..].iter().rev().copied()));
+        assert!(made.iter_from(value).rev().eq(plain[first..].iter().rev().copied()));
         let to = index.min(len);
         let from = drawn.below(to + 1);
         assert!(made.range(from..to).eq(plain[from..to].iter().copied()));
@@ -50,10 +37,7 @@ fn single<O>(made: &Sequence<O>, plain: &[u64], drawn: &mut Drawn) {
 }
 
 fn by_turns(made: &EliasFano, plain: &[u64], drawn: &mut Drawn) {
-    let (mut walk, mut rest) = (
-        made.iter(),
-        std::collections::VecDeque::from(plain.to_vec()),
-    );
+    let (mut walk, mut rest) = (made.iter(), std::collections::VecDeque::from(plain.to_vec()));
     for _ in 0..plain.len() + 3 {
         let len = plain.len() - rest.len();
         match drawn.below(5) {
@@ -87,10 +71,7 @@ fn sequences_are_plain_lists() {
         let read = Sequence::from_words(&file).expect("just written");
         single(&read, &plain, &mut drawn);
         assert_eq!(read.to_stored(), Ok(file.clone()));
-        assert_eq!(
-            Sequence::from_words(&file[..file.len() - 1]).err(),
-            Some(StoredError::NotWhole)
-        );
+        assert_eq!(Sequence::from_words(&file[..file.len() - 1]).err(), Some(StoredError::NotWhole));
         if !plain.is_empty() {
             by_turns(&made, &plain, &mut drawn);
         }
@@ -103,9 +84,7 @@ fn intersections_have_what_both_have_once() {
     for _ in 0..300 {
         let shift = 54 + drawn.below(8);
         let mut list = || {
-            let mut all: Vec<u64> = (0..drawn.below(150))
-                .map(|_| drawn.next() >> shift)
-                .collect();
+            let mut all: Vec<u64> = (0..drawn.below(150)).map(|_| drawn.next() >> shift).collect();
             all.push(u64::MAX);
             all.sort();
             all
@@ -114,10 +93,7 @@ fn intersections_have_what_both_have_once() {
         let mut wanted = a.clone();
         wanted.retain(|it| b.contains(it));
         wanted.dedup();
-        let (a, b) = (
-            EliasFano::build(&a).expect("sorted"),
-            EliasFano::build(&b).expect("sorted"),
-        );
+        let (a, b) = (EliasFano::build(&a).expect("sorted"), EliasFano::build(&b).expect("sorted"));
         assert!(intersection(a.iter(), b.iter()).eq(wanted.iter().copied()));
         assert!(intersection(b.iter(), a.iter()).eq(wanted));
     }
@@ -134,35 +110,18 @@ fn lists_of_queries() {
         let first = values.iter().map(|it| plain.partition_point(|x| x < it));
         let missing = first.clone().filter(|it| *it == len).count();
         assert_eq!(made.first_at_least_list(&values, &mut out), Ok(missing));
-        assert!(out
-            .iter()
-            .copied()
-            .eq(first.map(|it| if it < len { it } else { NO_ANSWER })));
-        let last = values
-            .iter()
-            .map(|it| plain.partition_point(|x| x <= it).checked_sub(1));
+        assert!(out.iter().copied().eq(first.map(|it| if it < len { it } else { NO_ANSWER })));
+        let last = values.iter().map(|it| plain.partition_point(|x| x <= it).checked_sub(1));
         let missing = last.clone().filter(|it| it.is_none()).count();
         assert_eq!(made.last_at_most_list(&values, &mut out), Ok(missing));
-        assert!(out
-            .iter()
-            .copied()
-            .eq(last.map(|it| it.unwrap_or(NO_ANSWER))));
+        assert!(out.iter().copied().eq(last.map(|it| it.unwrap_or(NO_ANSWER))));
         assert_eq!(made.contains_list(&values, &mut flags), Ok(()));
-        assert!(flags
-            .iter()
-            .zip(&values)
-            .all(|(flag, it)| *flag == u64::from(plain.contains(it))));
+        assert!(flags.iter().zip(&values).all(|(flag, it)| *flag == u64::from(plain.contains(it))));
         let indexes: Vec<usize> = (0..40).map(|_| drawn.below(len + 1)).collect();
         let until = indexes.iter().position(|it| *it == len).unwrap_or(40);
         let found = made.get_list(&indexes, &mut flags).expect("there is room");
-        assert!(found
-            .iter()
-            .copied()
-            .eq(indexes[..until].iter().map(|it| plain[*it])));
-        let short = ListError::Lengths {
-            queries: 40,
-            room: 2,
-        };
+        assert!(found.iter().copied().eq(indexes[..until].iter().map(|it| plain[*it])));
+        let short = ListError::Lengths { queries: 40, room: 2 };
         assert_eq!(made.contains_list(&values, &mut [0; 2]), Err(short));
         assert_eq!(made.get_list(&indexes, &mut [0; 2]).err(), Some(short));
     }
@@ -170,15 +129,12 @@ fn lists_of_queries() {
 
 #[test]
 fn what_is_not_sorted_or_not_a_sequence_is_refused() {
-    assert_eq!(
-        EliasFano::build(&[1, 5, 4, 9]).err(),
-        Some(BuildError::NotSorted { index: 2 })
-    );
+    assert_eq!(EliasFano::build(&[1, 5, 4, 9]).err(), Some(BuildError::NotSorted { index: 2 }));
     let zeros = [0u64];
     let none = SequenceView::new(3, 0, [&[], &zeros, &zeros, &zeros]).expect("the lengths fit");
     assert!(!none.check() && none.checked_get(1) == Err(WrongTables));
     assert_eq!(none.checked_contains(0), Err(WrongTables));
     assert!(SequenceView::new(3, 7, [&[], &zeros, &zeros, &zeros]).is_err());
-    let says = common::says(move || drop(none.iter().next()));
+    let says = common::says(move || assert_eq!(none.iter().next(), None));
     assert_eq!(says, "the tables are not those of the words");
 }

@@ -14,22 +14,10 @@ extern "C" {
     pub fn bitm_bits_words_len(bits_len: u64) -> usize;
 }
 extern "C" {
-    pub fn bitm_bits_get(
-        words: *const u64,
-        words_len: usize,
-        bits_len: u64,
-        position: u64,
-        out: *mut u64,
-    ) -> u32;
+    pub fn bitm_bits_get(words: *const u64, words_len: usize, bits_len: u64, position: u64, out: *mut u64) -> u32;
 }
 extern "C" {
-    pub fn bitm_bits_set(
-        words: *mut u64,
-        words_len: usize,
-        bits_len: u64,
-        position: u64,
-        value: bool,
-    ) -> u32;
+    pub fn bitm_bits_set(words: *mut u64, words_len: usize, bits_len: u64, position: u64, value: bool) -> u32;
 }
 extern "C" {
     pub fn bitm_bits_get_number(
@@ -102,13 +90,7 @@ extern "C" {
     ) -> u32;
 }
 extern "C" {
-    pub fn bitm_bits_count(
-        words: *const u64,
-        words_len: usize,
-        bits_len: u64,
-        one: bool,
-        out: *mut u64,
-    ) -> u32;
+    pub fn bitm_bits_count(words: *const u64, words_len: usize, bits_len: u64, one: bool, out: *mut u64) -> u32;
 }
 extern "C" {
     pub fn bitm_bits_count_range(
@@ -167,21 +149,15 @@ extern "C" {
     ) -> u32;
 }
 extern "C" {
-    pub fn bitm_bits_flip_range(
-        words: *mut u64,
-        words_len: usize,
-        bits_len: u64,
-        from: u64,
-        to: u64,
-    ) -> u32;
+    pub fn bitm_bits_flip_range(words: *mut u64, words_len: usize, bits_len: u64, from: u64, to: u64) -> u32;
 }
 extern "C" {
     pub fn bitm_bits_copy_range(
         to: *mut u64,
-        to_words_len: usize,
+        to_len: usize,
         to_begin: u64,
         from: *const u64,
-        from_words_len: usize,
+        from_len: usize,
         from_begin: u64,
         count: u64,
     ) -> u32;
@@ -189,46 +165,26 @@ extern "C" {
 extern "C" {
     pub fn bitm_bits_equal_range(
         a: *const u64,
-        a_words_len: usize,
+        a_len: usize,
         a_begin: u64,
         b: *const u64,
-        b_words_len: usize,
+        b_len: usize,
         b_begin: u64,
         count: u64,
         out: *mut u64,
     ) -> u32;
 }
 extern "C" {
-    pub fn bitm_bits_and(
-        words: *mut u64,
-        words_len: usize,
-        other: *const u64,
-        other_len: usize,
-    ) -> u32;
+    pub fn bitm_bits_and(words: *mut u64, words_len: usize, other: *const u64, other_len: usize) -> u32;
 }
 extern "C" {
-    pub fn bitm_bits_or(
-        words: *mut u64,
-        words_len: usize,
-        other: *const u64,
-        other_len: usize,
-    ) -> u32;
+    pub fn bitm_bits_or(words: *mut u64, words_len: usize, other: *const u64, other_len: usize) -> u32;
 }
 extern "C" {
-    pub fn bitm_bits_xor(
-        words: *mut u64,
-        words_len: usize,
-        other: *const u64,
-        other_len: usize,
-    ) -> u32;
+    pub fn bitm_bits_xor(words: *mut u64, words_len: usize, other: *const u64, other_len: usize) -> u32;
 }
 extern "C" {
-    pub fn bitm_bits_and_not(
-        words: *mut u64,
-        words_len: usize,
-        other: *const u64,
-        other_len: usize,
-    ) -> u32;
+    pub fn bitm_bits_and_not(words: *mut u64, words_len: usize, other: *const u64, other_len: usize) -> u32;
 }
 extern "C" {
     pub fn bitm_bits_select_in_word(word: u64, rank: u32, out: *mut u64) -> u32;
@@ -237,44 +193,22 @@ extern "C" {
     pub fn bitm_bits_to_store(value: u64) -> u32;
 }
 extern "C" {
-    pub fn bitm_bytes_get57(
-        bytes: *const u8,
-        bytes_len: usize,
-        first_bit: u64,
-        out: *mut u64,
-    ) -> u32;
+    pub fn bitm_bytes_get57(bytes: *const u8, bytes_len: usize, first_bit: u64, out: *mut u64) -> u32;
 }
 extern "C" {
     pub fn bitm_bytes_init57(bytes: *mut u8, bytes_len: usize, first_bit: u64, value: u64) -> u32;
 }
 extern "C" {
-    pub fn bitm_bytes_set57(
-        bytes: *mut u8,
-        bytes_len: usize,
-        first_bit: u64,
-        value: u64,
-        mask: u64,
-    ) -> u32;
+    pub fn bitm_bytes_set57(bytes: *mut u8, bytes_len: usize, first_bit: u64, value: u64, len_mask: u64) -> u32;
 }
 extern "C" {
-    pub fn bitm_bytes_get25(
-        bytes: *const u8,
-        bytes_len: usize,
-        first_bit: u64,
-        out: *mut u32,
-    ) -> u32;
+    pub fn bitm_bytes_get25(bytes: *const u8, bytes_len: usize, first_bit: u64, out: *mut u32) -> u32;
 }
 extern "C" {
     pub fn bitm_bytes_init25(bytes: *mut u8, bytes_len: usize, first_bit: u64, value: u32) -> u32;
 }
 extern "C" {
-    pub fn bitm_bytes_set25(
-        bytes: *mut u8,
-        bytes_len: usize,
-        first_bit: u64,
-        value: u32,
-        mask: u32,
-    ) -> u32;
+    pub fn bitm_bytes_set25(bytes: *mut u8, bytes_len: usize, first_bit: u64, value: u32, len_mask: u32) -> u32;
 }
 extern "C" {
     pub fn bitm_optimal_log2(items: u64, bits_len: u64, most: u32) -> u32;

@@ -73,12 +73,7 @@ extern "C" {
     pub fn bitm_index_check_samples(index: *const bitm_index, one: bool) -> u32;
 }
 extern "C" {
-    pub fn bitm_index_rank(
-        index: *const bitm_index,
-        one: bool,
-        position: u64,
-        out: *mut u64,
-    ) -> u32;
+    pub fn bitm_index_rank(index: *const bitm_index, one: bool, position: u64, out: *mut u64) -> u32;
 }
 extern "C" {
     pub fn bitm_index_select(index: *const bitm_index, one: bool, rank: u64, out: *mut u64) -> u32;
@@ -122,12 +117,7 @@ extern "C" {
     pub fn bitm_index_next(index: *const bitm_index, one: bool, from: u64, out: *mut u64) -> u32;
 }
 extern "C" {
-    pub fn bitm_index_previous(
-        index: *const bitm_index,
-        one: bool,
-        from: u64,
-        out: *mut u64,
-    ) -> u32;
+    pub fn bitm_index_previous(index: *const bitm_index, one: bool, from: u64, out: *mut u64) -> u32;
 }
 #[repr(C)]
 #[derive(Copy, Clone)]
@@ -166,11 +156,7 @@ extern "C" {
     ) -> u32;
 }
 extern "C" {
-    pub fn bitm_stored_sequence(
-        len: u64,
-        lens: *const bitm_sequence_lens,
-        out: *mut bitm_stored,
-    ) -> u32;
+    pub fn bitm_stored_sequence(len: u64, lens: *const bitm_sequence_lens, out: *mut bitm_stored) -> u32;
 }
 extern "C" {
     pub fn bitm_stored_read(file: *const u64, file_len: usize, out: *mut bitm_stored) -> u32;

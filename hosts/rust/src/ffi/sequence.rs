@@ -51,22 +51,13 @@ extern "C" {
     pub fn bitm_sequence_get(sequence: *const bitm_sequence, index: u64, out: *mut u64) -> u32;
 }
 extern "C" {
-    pub fn bitm_sequence_first_at_least(
-        sequence: *const bitm_sequence,
-        value: u64,
-        out: *mut u64,
-    ) -> u32;
+    pub fn bitm_sequence_first_at_least(sequence: *const bitm_sequence, value: u64, out: *mut u64) -> u32;
 }
 extern "C" {
-    pub fn bitm_sequence_last_at_most(
-        sequence: *const bitm_sequence,
-        value: u64,
-        out: *mut u64,
-    ) -> u32;
+    pub fn bitm_sequence_last_at_most(sequence: *const bitm_sequence, value: u64, out: *mut u64) -> u32;
 }
 extern "C" {
-    pub fn bitm_sequence_contains(sequence: *const bitm_sequence, value: u64, out: *mut u64)
-        -> u32;
+    pub fn bitm_sequence_contains(sequence: *const bitm_sequence, value: u64, out: *mut u64) -> u32;
 }
 extern "C" {
     pub fn bitm_sequence_items(

@@ -113,52 +113,80 @@ pub unsafe fn set_bits25(ptr: *mut u8, first_bit: usize, value: u32, len_mask: u
     unsafe { at.write((kept | value << shift).to_le_bytes()) };
 }
 
-macro_rules! windows {
-    ($number:ty, $get:ident, $init:ident, $set:ident, $get_call:ident, $init_call:ident, $set_call:ident, $doc:literal) => {
-        #[doc = concat!("The window of a bit, ", $doc, "; `None` exactly where they are not all inside. Proved.")]
-        ///
-        /// ```
-        #[doc = concat!("assert_eq!(bitm_proved::words::", stringify!($get), "(&[0xA0, 1, 0, 0, 0, 0, 0, 0], 5), Some(13));")]
-        /// ```
-        pub fn $get(bytes: &[u8], first_bit: usize) -> Option<$number> {
-            let mut out = 0;
-            // SAFETY: a slice, and room for one number.
-            let status = unsafe { $get_call(bytes.as_ptr(), bytes.len(), first_bit as u64, &mut out) };
-            (status == BITM_OK).then_some(out)
-        }
-
-        #[doc = concat!("Adds 1 bits to the window of a bit, ", $doc, "; `None` where they are not all inside. Proved.")]
-        ///
-        /// ```
-        /// let mut bytes = [0; 8];
-        #[doc = concat!("assert_eq!((bitm_proved::words::", stringify!($init), "(&mut bytes, 7, 3), bytes[1]), (Some(()), 1));")]
-        /// ```
-        pub fn $init(bytes: &mut [u8], first_bit: usize, value: $number) -> Option<()> {
-            let (at, len) = (bytes.as_mut_ptr(), bytes.len());
-            // SAFETY: a slice that is lent for writing.
-            let status = unsafe { $init_call(at, len, first_bit as u64, value) };
-            (status == BITM_OK).then_some(())
-        }
-
-        #[doc = concat!("Clears the bits of a mask, then adds 1 bits, in the window of a bit, ", $doc, ". Proved.")]
-        ///
-        /// ```
-        /// let mut bytes = [255; 8];
-        #[doc = concat!("assert_eq!((bitm_proved::words::", stringify!($set), "(&mut bytes, 6, 1, 3), bytes[0]), (Some(()), 127));")]
-        /// ```
-        pub fn $set(bytes: &mut [u8], first_bit: usize, value: $number, mask: $number) -> Option<()> {
-            let (at, len) = (bytes.as_mut_ptr(), bytes.len());
-            // SAFETY: a slice that is lent for writing.
-            let status = unsafe { $set_call(at, len, first_bit as u64, value, mask) };
-            (status == BITM_OK).then_some(())
-        }
-    };
+/// The window of a bit: the bits from it to the end of the eight bytes that begin with its byte; `None` exactly where
+/// they are not all inside. Proved.
+///
+/// ```
+/// assert_eq!(bitm_proved::words::bytes_get57(&[0xA0, 1, 0, 0, 0, 0, 0, 0], 5), Some(13));
+/// ```
+pub fn bytes_get57(bytes: &[u8], first_bit: usize) -> Option<u64> {
+    let mut out = 0;
+    // SAFETY: a slice, and room for one number.
+    let status = unsafe { bitm_bytes_get57(bytes.as_ptr(), bytes.len(), first_bit as u64, &mut out) };
+    (status == BITM_OK).then_some(out)
 }
-windows! {
-    u64, bytes_get57, bytes_init57, bytes_set57, bitm_bytes_get57, bitm_bytes_init57, bitm_bytes_set57,
-    "to the end of the eight bytes from its byte on"
+
+/// Adds 1 bits to the window of a bit, as of `bytes_get57`. Proved.
+///
+/// ```
+/// let mut bytes = [0; 8];
+/// assert_eq!((bitm_proved::words::bytes_init57(&mut bytes, 7, 3), bytes[1]), (Some(()), 1));
+/// ```
+pub fn bytes_init57(bytes: &mut [u8], first_bit: usize, value: u64) -> Option<()> {
+    let (at, len) = (bytes.as_mut_ptr(), bytes.len());
+    // SAFETY: a slice that is lent for writing.
+    let status = unsafe { bitm_bytes_init57(at, len, first_bit as u64, value) };
+    (status == BITM_OK).then_some(())
 }
-windows! {
-    u32, bytes_get25, bytes_init25, bytes_set25, bitm_bytes_get25, bitm_bytes_init25, bitm_bytes_set25,
-    "to the end of the four bytes from its byte on"
+
+/// First clears the bits of a mask in the window of a bit, as of `bytes_get57`, then adds 1 bits. Proved.
+///
+/// ```
+/// let mut bytes = [255; 8];
+/// assert_eq!((bitm_proved::words::bytes_set57(&mut bytes, 6, 1, 3), bytes[0]), (Some(()), 127));
+/// ```
+pub fn bytes_set57(bytes: &mut [u8], first_bit: usize, value: u64, mask: u64) -> Option<()> {
+    let (at, len) = (bytes.as_mut_ptr(), bytes.len());
+    // SAFETY: a slice that is lent for writing.
+    let status = unsafe { bitm_bytes_set57(at, len, first_bit as u64, value, mask) };
+    (status == BITM_OK).then_some(())
+}
+
+/// The window of a bit: the bits from it to the end of the four bytes that begin with its byte; `None` exactly where
+/// they are not all inside. Proved.
+///
+/// ```
+/// assert_eq!(bitm_proved::words::bytes_get25(&[0xA0, 1, 0, 0, 0, 0, 0, 0], 5), Some(13));
+/// ```
+pub fn bytes_get25(bytes: &[u8], first_bit: usize) -> Option<u32> {
+    let mut out = 0;
+    // SAFETY: a slice, and room for one number.
+    let status = unsafe { bitm_bytes_get25(bytes.as_ptr(), bytes.len(), first_bit as u64, &mut out) };
+    (status == BITM_OK).then_some(out)
+}
+
+/// Adds 1 bits to the window of a bit, as of `bytes_get25`. Proved.
+///
+/// ```
+/// let mut bytes = [0; 8];
+/// assert_eq!((bitm_proved::words::bytes_init25(&mut bytes, 7, 3), bytes[1]), (Some(()), 1));
+/// ```
+pub fn bytes_init25(bytes: &mut [u8], first_bit: usize, value: u32) -> Option<()> {
+    let (at, len) = (bytes.as_mut_ptr(), bytes.len());
+    // SAFETY: a slice that is lent for writing.
+    let status = unsafe { bitm_bytes_init25(at, len, first_bit as u64, value) };
+    (status == BITM_OK).then_some(())
+}
+
+/// First clears the bits of a mask in the window of a bit, as of `bytes_get25`, then adds 1 bits. Proved.
+///
+/// ```
+/// let mut bytes = [255; 8];
+/// assert_eq!((bitm_proved::words::bytes_set25(&mut bytes, 6, 1, 3), bytes[0]), (Some(()), 127));
+/// ```
+pub fn bytes_set25(bytes: &mut [u8], first_bit: usize, value: u32, mask: u32) -> Option<()> {
+    let (at, len) = (bytes.as_mut_ptr(), bytes.len());
+    // SAFETY: a slice that is lent for writing.
+    let status = unsafe { bitm_bytes_set25(at, len, first_bit as u64, value, mask) };
+    (status == BITM_OK).then_some(())
 }

@@ -11,8 +11,8 @@ use core::fmt;
 
 /// A minimal perfect hash: each of n keys has a number of its own below n, in some three bits a key.
 ///
-/// A key is its hash of 64 bits, by a function of yours; equal hashes are refused. No key is kept: a hash that was none of
-/// them may get any number below n. Each query is one proved call.
+/// A key is its hash of 64 bits, by a function of yours; equal hashes are refused. No key is kept: a hash that was none
+/// of them may get any number below n. Each query is one proved call.
 ///
 /// ```
 /// use bitm_proved::PerfectHash;
@@ -36,8 +36,8 @@ pub struct PerfectHash {
     keys: usize,
 }
 
-/// Room for the words of all levels: those of n hashes have about n * g * e^(1/g) bits, with g = `percent` / 100, and at
-/// least one word each.
+/// Room for the words of all levels: those of n hashes have about n * g * e^(1/g) bits, with g = `percent` / 100, and
+/// at least one word each.
 fn room_of(keys: usize, percent: u32) -> usize {
     let percent_of_all = (percent.max(50) as usize + 200).max(400);
     let bits = (keys as u128 * percent_of_all as u128).div_ceil(90);
@@ -75,12 +75,7 @@ impl PerfectHash {
         words.copy_from_slice(&room[..used]);
         sizes.truncate(levels);
         let tables = Tables::of(&words)?;
-        Ok(PerfectHash {
-            words,
-            tables,
-            sizes,
-            keys,
-        })
+        Ok(PerfectHash { words, tables, sizes, keys })
     }
 
     /// How many levels and words there are, and hashes that are left; `None` where there are too many words.
@@ -162,10 +157,7 @@ impl PerfectHash {
     pub fn get_list(&self, hashes: &[u64], out: &mut [usize]) -> Result<usize, ListError> {
         let (raw, len, room) = (self.raw(), hashes.len(), out.len());
         let (from, to) = (hashes.as_ptr(), as_u64_mut(out).as_mut_ptr());
-        let mut counts = bitm_list_counts {
-            missing: 0,
-            wrong: 0,
-        };
+        let mut counts = bitm_list_counts { missing: 0, wrong: 0 };
         // SAFETY: slices that are lent and do not overlap, and room for the counts.
         let status = unsafe { bitm_hash_get_list(&raw, from, len, to, room, &mut counts) };
         list_answer(status, counts, len, room)

@@ -61,13 +61,9 @@ impl<O: AsRef<[u64]>> Index<O> {
         let mut view = view.map_err(|_| BuildError::TooLong { len: bits_len })?;
         let sampled = |one, log2: Option<u32>| {
             let log2 = log2.map(|it| it.clamp(7, 31));
-            log2.map(|log2| OwnSamples::of(&view, one, log2))
-                .transpose()
+            log2.map(|log2| OwnSamples::of(&view, one, log2)).transpose()
         };
-        let samples = [
-            sampled(true, sampling.ones)?,
-            sampled(false, sampling.zeros)?,
-        ];
+        let samples = [sampled(true, sampling.ones)?, sampled(false, sampling.zeros)?];
         for (one, samples) in [true, false].into_iter().zip(&samples) {
             if let Some(samples) = samples {
                 // SAFETY: as of the tables.

@@ -11,21 +11,14 @@ const PROT_READ: c_int = 1;
 const MAP_PRIVATE: c_int = 2;
 
 extern "C" {
-    fn mmap(
-        at: *mut c_void,
-        len: usize,
-        protection: c_int,
-        flags: c_int,
-        file: c_int,
-        offset: i64,
-    ) -> *mut c_void;
+    fn mmap(at: *mut c_void, len: usize, protection: c_int, flags: c_int, file: c_int, offset: i64) -> *mut c_void;
     fn munmap(at: *mut c_void, len: usize) -> c_int;
 }
 
 /// The bytes of a file, mapped: they are read from it as they are used.
 ///
-/// The file has to stay as it is while it is mapped. If somebody writes to it, answers may be any; if somebody cuts it, the
-/// system ends the program.
+/// The file has to stay as it is while it is mapped. If somebody writes to it, answers may be any; if somebody cuts it,
+/// the system ends the program.
 ///
 /// ```
 /// # fn main() -> std::io::Result<()> {

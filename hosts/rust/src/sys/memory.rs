@@ -6,10 +6,7 @@ use alloc::vec::Vec;
 use core::slice;
 
 // The tables are of numbers of 64 bits for the archive, and of `usize` in the original's interface.
-const _: () = assert!(
-    size_of::<usize>() == 8,
-    "the archive is for 64-bit processors"
-);
+const _: () = assert!(size_of::<usize>() == 8, "the archive is for 64-bit processors");
 
 /// Numbers of which zero bytes are a value.
 ///
@@ -26,9 +23,7 @@ unsafe impl Number for usize {}
 
 /// `len` zeros.
 pub(crate) fn zeroed<T: Number>(len: usize) -> Result<Vec<T>, NoMemory> {
-    let refused = NoMemory {
-        bytes: len.saturating_mul(size_of::<T>()),
-    };
+    let refused = NoMemory { bytes: len.saturating_mul(size_of::<T>()) };
     let layout = Layout::array::<T>(len).map_err(|_| refused)?;
     if layout.size() == 0 {
         return Ok(Vec::new());
@@ -54,9 +49,7 @@ pub(crate) fn filled(value: u64, len: usize) -> Result<Box<[u64]>, NoMemory> {
 /// A vector of one item.
 pub(crate) fn one<T>(item: T) -> Result<Vec<T>, NoMemory> {
     let mut list = Vec::new();
-    list.try_reserve_exact(1).map_err(|_| NoMemory {
-        bytes: size_of::<T>(),
-    })?;
+    list.try_reserve_exact(1).map_err(|_| NoMemory { bytes: size_of::<T>() })?;
     list.push(item);
     Ok(list)
 }
@@ -104,8 +97,7 @@ pub(crate) fn words_of(bytes: &[u8]) -> Option<&[u64]> {
     }
     let at = bytes.as_ptr().cast::<u64>();
     // SAFETY: aligned, inside the bytes, and any eight bytes are a number.
-    at.is_aligned()
-        .then(|| unsafe { slice::from_raw_parts(at, bytes.len() / 8) })
+    at.is_aligned().then(|| unsafe { slice::from_raw_parts(at, bytes.len() / 8) })
 }
 
 /// Asks the processor for item `index` of a slice; any number will do.

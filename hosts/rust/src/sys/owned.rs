@@ -6,7 +6,8 @@ use crate::sys::sequence::{build, SequenceView};
 use alloc::vec::Vec;
 use core::fmt;
 
-/// A monotone integer sequence (Elias-Fano) and the owner of its parts, in about 2 + log2(greatest / length) bits a number.
+/// A monotone integer sequence (Elias-Fano) and the owner of its parts, in about 2 + log2(greatest / length) bits a
+/// number.
 ///
 /// ```
 /// use bitm_proved::EliasFano;

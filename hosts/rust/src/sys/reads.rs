@@ -69,13 +69,7 @@ pub fn count(words: &[u64], bits_len: usize, one: bool) -> usize {
 /// assert_eq!((words::count_range(&[6], 10, true, 2, 10), words::count_range(&[6], 10, true, 0, 11)), (Some(1), None));
 /// ```
 #[track_caller]
-pub fn count_range(
-    words: &[u64],
-    bits_len: usize,
-    one: bool,
-    from: usize,
-    to: usize,
-) -> Option<usize> {
+pub fn count_range(words: &[u64], bits_len: usize, one: bool, from: usize, to: usize) -> Option<usize> {
     let (at, len, mut out) = (words.as_ptr(), words.len(), 0);
     let (bits, from, to) = (bits_len as u64, from as u64, to as u64);
     // SAFETY: a slice, and room for one number.
@@ -120,13 +114,7 @@ pub fn previous(words: &[u64], bits_len: usize, one: bool, from: usize) -> Optio
 /// assert_eq!(words::positions(&[0b10110], 5, true, 2, &mut [0; 9]), [2, 4]);
 /// ```
 #[track_caller]
-pub fn positions<'b>(
-    words: &[u64],
-    bits_len: usize,
-    one: bool,
-    from: usize,
-    out: &'b mut [u64],
-) -> &'b [u64] {
+pub fn positions<'b>(words: &[u64], bits_len: usize, one: bool, from: usize, out: &'b mut [u64]) -> &'b [u64] {
     let (at, len, mut written) = (words.as_ptr(), words.len(), 0);
     let (bits, from, to, room) = (bits_len as u64, from as u64, out.as_mut_ptr(), out.len());
     // SAFETY: two slices that do not overlap, and room for one number.
@@ -141,21 +129,13 @@ pub fn positions<'b>(
 /// use bitm_proved::words;
 /// assert_eq!(words::equal_range(&[0b1100], 2, &[0b11], 0, 2), Some(true));
 /// ```
-pub fn equal_range(
-    a: &[u64],
-    a_begin: usize,
-    b: &[u64],
-    b_begin: usize,
-    count: usize,
-) -> Option<bool> {
+pub fn equal_range(a: &[u64], a_begin: usize, b: &[u64], b_begin: usize, count: usize) -> Option<bool> {
     let (to, to_len, from, from_len) = (a.as_ptr(), a.len(), b.as_ptr(), b.len());
     let (to_begin, from_begin, mut out) = (a_begin as u64, b_begin as u64, 0);
     // SAFETY: two slices, and room for one number.
     let status = unsafe {
         let count = count as u64;
-        bitm_bits_equal_range(
-            to, to_len, to_begin, from, from_len, from_begin, count, &mut out,
-        )
+        bitm_bits_equal_range(to, to_len, to_begin, from, from_len, from_begin, count, &mut out)
     };
     (status == BITM_OK).then_some(out == 1)
 }

@@ -10,16 +10,21 @@ use core::marker::PhantomData;
 use core::{fmt, slice};
 
 type One = unsafe extern "C" fn(*const bitm_sequence, u64, *mut u64) -> u32;
-type Many = unsafe extern "C" fn(
-    *const bitm_sequence,
-    *const u64,
-    usize,
-    *mut u64,
-    usize,
-    *mut bitm_list_counts,
-) -> u32;
+type Many =
+    unsafe extern "C" fn(*const bitm_sequence, *const u64, usize, *mut u64, usize, *mut bitm_list_counts) -> u32;
 
 /// The parts of a sequence, lent, whose lengths fit together. They may hold anything; `check` looks at it.
+///
+/// ```
+/// use bitm_proved::{EliasFano, SequenceView};
+/// let primes = EliasFano::build(&[2, 3, 5, 7])?;
+/// let (len, width, parts) = (primes.len(), primes.view().width(), primes.view().parts());
+/// let view = SequenceView::new(len, width, parts)?;
+/// assert_eq!((view.checked_get(2), view.checked_get(4), view.check()), (Ok(Some(5)), Ok(None), true));
+/// assert_eq!((view.checked_first_at_least(4), view.checked_last_at_most(4)), (Ok(Some(2)), Ok(Some(1))));
+/// assert_eq!((view.checked_contains(4), view.items(1, &mut [0; 2])), (Ok(false), &[3, 5][..]));
+/// # Ok::<(), Box<dyn std::error::Error>>(())
+/// ```
 #[derive(Clone, Copy)]
 pub struct SequenceView<'a> {
     raw: bitm_sequence,
@@ -49,10 +54,7 @@ impl<'a> SequenceView<'a> {
             lower_len: lower.len(),
             reserved: [0; 2],
         };
-        let view = SequenceView {
-            raw,
-            lends: PhantomData,
-        };
+        let view = SequenceView { raw, lends: PhantomData };
         // There is no number at index `len`, so the status speaks of the lengths alone.
         let (status, _) = view.ask(bitm_sequence_get, len as u64);
         (status == NONE).then_some(view).ok_or(WrongTables)
@@ -86,14 +88,9 @@ impl<'a> SequenceView<'a> {
     /// Low bits, words of the high bits, and the two tables of these words.
     pub fn parts(&self) -> [&'a [u64]; 4] {
         let raw = &self.raw;
-        [
-            (raw.low, raw.low_len),
-            (raw.words, raw.words_len),
-            (raw.upper, raw.upper_len),
-            (raw.lower, raw.lower_len),
-        ]
-        // SAFETY: the slices that `new` was given.
-        .map(|(at, len)| unsafe { slice::from_raw_parts(at, len) })
+        [(raw.low, raw.low_len), (raw.words, raw.words_len), (raw.upper, raw.upper_len), (raw.lower, raw.lower_len)]
+            // SAFETY: the slices that `new` was given.
+            .map(|(at, len)| unsafe { slice::from_raw_parts(at, len) })
     }
 
     /// Whether the parts are those of some sequence.
@@ -139,11 +136,7 @@ impl<'a> SequenceView<'a> {
     }
 
     /// The numbers at a list of indexes, up to the first that has none.
-    pub fn get_list<'b>(
-        &self,
-        indexes: &[usize],
-        out: &'b mut [u64],
-    ) -> Result<&'b [u64], ListError> {
+    pub fn get_list<'b>(&self, indexes: &[usize], out: &'b mut [u64]) -> Result<&'b [u64], ListError> {
         let (from, len, room, mut written) = (as_u64(indexes), indexes.len(), out.len(), 0);
         // SAFETY: a view, two slices that do not overlap, the second lent for writing, and room for one number.
         let status = unsafe {
@@ -158,10 +151,7 @@ impl<'a> SequenceView<'a> {
 
     fn list(&self, call: Many, values: &[u64], out: &mut [u64]) -> Result<usize, ListError> {
         let (len, room) = (values.len(), out.len());
-        let mut counts = bitm_list_counts {
-            missing: 0,
-            wrong: 0,
-        };
+        let mut counts = bitm_list_counts { missing: 0, wrong: 0 };
         let (from, to) = (values.as_ptr(), out.as_mut_ptr());
         // SAFETY: a view, two slices that do not overlap, the second lent for writing, and room for the counts.
         let status = unsafe { call(&self.raw, from, len, to, room, &mut counts) };
@@ -169,11 +159,7 @@ impl<'a> SequenceView<'a> {
     }
 
     /// The successors of a list of values; how many have none, which `NO_ANSWER` stands for.
-    pub fn first_at_least_list(
-        &self,
-        values: &[u64],
-        out: &mut [usize],
-    ) -> Result<usize, ListError> {
+    pub fn first_at_least_list(&self, values: &[u64], out: &mut [usize]) -> Result<usize, ListError> {
         self.list(bitm_sequence_first_at_least_list, values, as_u64_mut(out))
     }
 
@@ -184,8 +170,7 @@ impl<'a> SequenceView<'a> {
 
     /// Which of a list of values are there: 1 where one is, else 0.
     pub fn contains_list(&self, values: &[u64], out: &mut [u64]) -> Result<(), ListError> {
-        self.list(bitm_sequence_contains_list, values, out)
-            .map(|_| ())
+        self.list(bitm_sequence_contains_list, values, out).map(|_| ())
     }
 }
 
@@ -210,45 +195,22 @@ pub(crate) fn build(items: &[u64]) -> Result<(Vec<u64>, u64, [usize; 4]), BuildE
     let status = unsafe {
         let (l, w) = (low_part.as_mut_ptr(), words_part.as_mut_ptr());
         let (u, t) = (upper_part.as_mut_ptr(), lower_part.as_mut_ptr());
-        bitm_sequence_build(
-            from,
-            items.len(),
-            l,
-            low,
-            w,
-            words,
-            u,
-            upper,
-            t,
-            lower,
-            &mut width,
-        )
+        bitm_sequence_build(from, items.len(), l, low, w, words, u, upper, t, lower, &mut width)
     };
     match status {
         OK => Ok((all, width, [low, words, upper, lower])),
-        UNSORTED => Err(BuildError::NotSorted {
-            index: unsorted(items),
-        }),
+        UNSORTED => Err(BuildError::NotSorted { index: unsorted(items) }),
         _ => Err(too_long),
     }
 }
 
 fn unsorted(items: &[u64]) -> usize {
-    items
-        .windows(2)
-        .position(|it| it[1] < it[0])
-        .map_or(0, |it| it + 1)
+    items.windows(2).position(|it| it[1] < it[0]).map_or(0, |it| it + 1)
 }
 
 fn sizes(items: &[u64]) -> Option<bitm_sequence_lens> {
     let largest = items.last().copied().unwrap_or(0);
-    let mut out = bitm_sequence_lens {
-        width: 0,
-        low_len: 0,
-        words_len: 0,
-        upper_len: 0,
-        lower_len: 0,
-    };
+    let mut out = bitm_sequence_lens { width: 0, low_len: 0, words_len: 0, upper_len: 0, lower_len: 0 };
     // SAFETY: numbers are passed, and room for the sizes.
     (unsafe { bitm_sequence_sizes(items.len(), largest, &mut out) } == OK).then_some(out)
 }

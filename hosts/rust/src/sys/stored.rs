@@ -48,26 +48,16 @@ fn header(file: &[u64], kind: u32) -> Result<bitm_stored, StoredError> {
 /// The numbers of a span.
 fn part(file: &[u64], span: bitm_span) -> Result<&[u64], StoredError> {
     let rest = file.get((span.at / 8) as usize..);
-    rest.and_then(|it| it.get(..span.len as usize))
-        .ok_or(StoredError::NotWhole)
+    rest.and_then(|it| it.get(..span.len as usize)).ok_or(StoredError::NotWhole)
 }
 
-fn samples(
-    file: &[u64],
-    log2: u64,
-    starts: bitm_span,
-    of: bitm_span,
-) -> Result<Option<Samples<'_>>, StoredError> {
+fn samples(file: &[u64], log2: u64, starts: bitm_span, of: bitm_span) -> Result<Option<Samples<'_>>, StoredError> {
     if log2 == 0 {
         return Ok(None);
     }
     let (at, len) = (of.at, of.len.div_ceil(2));
     let all = halves(part(file, bitm_span { at, len })?);
-    Ok(Some(Samples {
-        samples: &all[..of.len as usize],
-        starts: part(file, starts)?,
-        log2: log2 as u32,
-    }))
+    Ok(Some(Samples { samples: &all[..of.len as usize], starts: part(file, starts)?, log2: log2 as u32 }))
 }
 
 fn put(file: &mut [u64], span: bitm_span, from: &[u64]) -> Result<(), StoredError> {
@@ -180,8 +170,7 @@ impl<'a> IndexView<'a> {
         debug_assert_eq!(table_lens(words.len()).0, tables.upper.len());
         let sampled = |one| {
             let log2 = self.samples(one).map(|it| it.log2.clamp(7, 31));
-            log2.map(|log2| OwnSamples::of(&view, one, log2))
-                .transpose()
+            log2.map(|log2| OwnSamples::of(&view, one, log2)).transpose()
         };
         let made = [sampled(true)?, sampled(false)?];
         for (one, made) in [true, false].into_iter().zip(&made) {
@@ -195,11 +184,7 @@ impl<'a> IndexView<'a> {
 
 impl OwnSamples {
     pub(crate) fn lent(&self) -> Samples<'_> {
-        Samples {
-            samples: &self.samples,
-            starts: &self.starts,
-            log2: self.log2,
-        }
+        Samples { samples: &self.samples, starts: &self.starts, log2: self.log2 }
     }
 }
 
@@ -221,23 +206,14 @@ impl<'a> SequenceView<'a> {
     pub fn to_words(&self) -> Result<Vec<u64>, StoredError> {
         let parts = self.parts();
         let [low_len, words_len, upper_len, lower_len] = parts.map(|it| it.len() as u64);
-        let lens = bitm_sequence_lens {
-            width: self.width(),
-            low_len,
-            words_len,
-            upper_len,
-            lower_len,
-        };
+        let lens = bitm_sequence_lens { width: self.width(), low_len, words_len, upper_len, lower_len };
         let mut of = empty();
         // SAFETY: a number, a struct of numbers, and room for a header.
         if unsafe { bitm_stored_sequence(self.len() as u64, &lens, &mut of) } != OK {
             return Err(StoredError::WrongLength);
         }
         let mut file = begun(&of)?;
-        for (span, from) in [of.low, of.words, of.upper, of.lower]
-            .into_iter()
-            .zip(parts)
-        {
+        for (span, from) in [of.low, of.words, of.upper, of.lower].into_iter().zip(parts) {
             put(&mut file, span, from)?;
         }
         Ok(file)

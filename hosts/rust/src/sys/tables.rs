@@ -13,12 +13,7 @@ use alloc::vec::Vec;
 /// ```
 pub fn table_lens(words_len: usize) -> (usize, usize) {
     // SAFETY: a number is passed.
-    unsafe {
-        (
-            bitm_index_upper_len(words_len),
-            bitm_index_lower_len(words_len),
-        )
-    }
+    unsafe { (bitm_index_upper_len(words_len), bitm_index_lower_len(words_len)) }
 }
 
 /// How many samples of one kind so many words have at most, one for each 2^`log2` bits of it.
@@ -51,8 +46,8 @@ pub fn build_tables(words: &[u64], upper: &mut [u64], lower: &mut [u64]) -> Opti
 
 impl IndexView<'_> {
     /// Writes the samples of the 1 bits, or of the 0 bits where `one` is false, and answers how many there are; `None`,
-    /// and nothing is written, where there is less room than `samples_len` says, or `starts` is not as long as the upper
-    /// table.
+    /// and nothing is written, where there is less room than `samples_len` says, or `starts` is not as long as the
+    /// upper table.
     ///
     /// ```
     /// use bitm_proved::{samples_len, IndexView, Queries, RankSelect101111, BinaryRankSearch};
@@ -60,19 +55,11 @@ impl IndexView<'_> {
     /// let (mut samples, mut starts) = (vec![0; samples_len(40, 7)], [0]);
     /// assert_eq!(index.view().build_samples(true, 7, &mut samples, &mut starts), Some(20));
     /// ```
-    pub fn build_samples(
-        &self,
-        one: bool,
-        log2: u32,
-        samples: &mut [u32],
-        starts: &mut [u64],
-    ) -> Option<usize> {
+    pub fn build_samples(&self, one: bool, log2: u32, samples: &mut [u32], starts: &mut [u64]) -> Option<usize> {
         let (of, mut used) = (self.raw(), 0);
         let (s, t) = (samples.as_mut_ptr(), starts.as_mut_ptr());
         // SAFETY: a view, two slices that are lent for writing, and room for one number.
-        let status = unsafe {
-            bitm_index_build_samples(of, one, log2, s, samples.len(), t, starts.len(), &mut used)
-        };
+        let status = unsafe { bitm_index_build_samples(of, one, log2, s, samples.len(), t, starts.len(), &mut used) };
         (status == OK).then_some(used as usize)
     }
 }
@@ -87,8 +74,7 @@ impl Tables {
     pub(crate) fn of(words: &[u64]) -> Result<Self, BuildError> {
         let (upper_len, lower_len) = table_lens(words.len());
         let (mut upper, mut lower) = (zeroed(upper_len)?, zeroed(lower_len)?);
-        build_tables(words, &mut upper, &mut lower)
-            .ok_or(BuildError::TooLong { len: words.len() })?;
+        build_tables(words, &mut upper, &mut lower).ok_or(BuildError::TooLong { len: words.len() })?;
         Ok(Tables { upper, lower })
     }
 }
@@ -110,10 +96,6 @@ impl OwnSamples {
         let used = used.unwrap_or(0);
         let mut samples = zeroed(used)?;
         samples.copy_from_slice(&room[..used]);
-        Ok(OwnSamples {
-            samples,
-            starts,
-            log2,
-        })
+        Ok(OwnSamples { samples, starts, log2 })
     }
 }

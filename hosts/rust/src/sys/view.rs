@@ -18,9 +18,9 @@ pub struct Samples<'a> {
 
 /// Words and tables that are lent, of which the first so many bits count, and samples, or none.
 ///
-/// Tables may hold anything. Answers are those of plain counting where they are those of the words, which [`check`] says;
-/// else an answer is inside all the same, or says that they are wrong. [`Rank`], [`Select`], [`Select0`] and [`Queries`]
-/// have the queries; each is one call of the archive.
+/// Tables may hold anything. Answers are those of plain counting where they are those of the words, which [`check`]
+/// says; else an answer is inside all the same, or says that they are wrong. [`Rank`], [`Select`], [`Select0`] and
+/// [`Queries`] have the queries; each is one call of the archive.
 ///
 /// [`check`]: IndexView::check
 /// [`Rank`]: crate::Rank
@@ -50,24 +50,13 @@ unsafe impl Send for IndexView<'_> {}
 unsafe impl Sync for IndexView<'_> {}
 
 /// No samples.
-const NO_SAMPLES: bitm_samples = bitm_samples {
-    samples: ptr::null(),
-    samples_len: 0,
-    starts: ptr::null(),
-    starts_len: 0,
-    log2: 0,
-    reserved: 0,
-};
+const NO_SAMPLES: bitm_samples =
+    bitm_samples { samples: ptr::null(), samples_len: 0, starts: ptr::null(), starts_len: 0, log2: 0, reserved: 0 };
 
 impl<'a> IndexView<'a> {
     /// The first `bits_len` bits of words with their tables; an error where there are fewer bits, or a table is not as
     /// long as that of the words.
-    pub fn new(
-        words: &'a [u64],
-        bits_len: usize,
-        upper: &'a [u64],
-        lower: &'a [u64],
-    ) -> Result<Self, WrongTables> {
+    pub fn new(words: &'a [u64], bits_len: usize, upper: &'a [u64], lower: &'a [u64]) -> Result<Self, WrongTables> {
         let view = Self::over(words, bits_len, upper, lower);
         // No position is that large, so the status speaks of the lengths alone.
         let (status, _) = view.ask(bitm_index_rank, true, usize::MAX);
@@ -80,12 +69,7 @@ impl<'a> IndexView<'a> {
 
     /// As `new`, where the lengths may be any: each call tests them.
     #[inline(always)]
-    pub(crate) fn over(
-        words: &'a [u64],
-        bits_len: usize,
-        upper: &'a [u64],
-        lower: &'a [u64],
-    ) -> Self {
+    pub(crate) fn over(words: &'a [u64], bits_len: usize, upper: &'a [u64], lower: &'a [u64]) -> Self {
         let raw = bitm_index {
             words: words.as_ptr(),
             words_len: words.len(),
@@ -98,10 +82,7 @@ impl<'a> IndexView<'a> {
             zeros: NO_SAMPLES,
             reserved: [0; 2],
         };
-        IndexView {
-            raw,
-            lends: PhantomData,
-        }
+        IndexView { raw, lends: PhantomData }
     }
 
     /// With samples of the 1 bits, or of the 0 bits where `one` is false: selections of that kind begin at them.
@@ -195,28 +176,11 @@ impl<'a> IndexView<'a> {
         out: &mut [usize],
     ) -> Result<usize, ListError> {
         let (len, room) = (queries.len(), out.len());
-        let mut counts = bitm_list_counts {
-            missing: 0,
-            wrong: 0,
-        };
-        let call = if selects {
-            bitm_index_select_list
-        } else {
-            bitm_index_rank_list
-        };
+        let mut counts = bitm_list_counts { missing: 0, wrong: 0 };
+        let call = if selects { bitm_index_select_list } else { bitm_index_rank_list };
         let (from, to) = (memory::as_u64(queries), memory::as_u64_mut(out));
         // SAFETY: a view, two slices that do not overlap, the second lent for writing, and room for the counts.
-        let status = unsafe {
-            call(
-                &self.raw,
-                one,
-                from.as_ptr(),
-                len,
-                to.as_mut_ptr(),
-                room,
-                &mut counts,
-            )
-        };
+        let status = unsafe { call(&self.raw, one, from.as_ptr(), len, to.as_mut_ptr(), room, &mut counts) };
         list_answer(status, counts, len, room)
     }
 
@@ -266,16 +230,9 @@ impl<'a> IndexView<'a> {
         }
         // SAFETY: the slices that `with_samples` was given.
         let (samples, starts) = unsafe {
-            (
-                slice::from_raw_parts(raw.samples, raw.samples_len),
-                slice::from_raw_parts(raw.starts, raw.starts_len),
-            )
+            (slice::from_raw_parts(raw.samples, raw.samples_len), slice::from_raw_parts(raw.starts, raw.starts_len))
         };
-        Some(Samples {
-            samples,
-            starts,
-            log2: raw.log2,
-        })
+        Some(Samples { samples, starts, log2: raw.log2 })
     }
 
     /// Whether the tables are those of the words, and the samples too, where there are some.
@@ -300,9 +257,7 @@ pub(crate) fn list_answer(
     room: usize,
 ) -> Result<usize, ListError> {
     match status {
-        OK if counts.wrong > 0 => Err(ListError::WrongTables {
-            wrong: counts.wrong as usize,
-        }),
+        OK if counts.wrong > 0 => Err(ListError::WrongTables { wrong: counts.wrong as usize }),
         OK => Ok(counts.missing as usize),
         _ if queries != room => Err(ListError::Lengths { queries, room }),
         _ => Err(ListError::WrongTables { wrong: queries }),

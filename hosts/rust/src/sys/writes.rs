@@ -27,13 +27,7 @@ pub fn set(words: &mut [u64], bits_len: usize, position: usize, value: bool) -> 
 /// assert_eq!((words::set_number(&mut bits, 70, 62, 4, 0b0111), bits), (Some(()), [3 << 62, 1]));
 /// ```
 #[track_caller]
-pub fn set_number(
-    words: &mut [u64],
-    bits_len: usize,
-    begin: usize,
-    width: u8,
-    value: u64,
-) -> Option<()> {
+pub fn set_number(words: &mut [u64], bits_len: usize, begin: usize, width: u8, value: u64) -> Option<()> {
     let (at, len) = (words.as_mut_ptr(), words.len());
     let (bits, begin, width) = (bits_len as u64, begin as u64, width.into());
     // SAFETY: a slice that is lent for writing.
@@ -49,13 +43,7 @@ pub fn set_number(
 /// assert_eq!((words::xor_number(&mut bits, 4, 1, 2, 0b11), bits), (Some(()), [0b1100]));
 /// ```
 #[track_caller]
-pub fn xor_number(
-    words: &mut [u64],
-    bits_len: usize,
-    begin: usize,
-    width: u8,
-    value: u64,
-) -> Option<()> {
+pub fn xor_number(words: &mut [u64], bits_len: usize, begin: usize, width: u8, value: u64) -> Option<()> {
     let (at, len) = (words.as_mut_ptr(), words.len());
     let (bits, begin, width) = (bits_len as u64, begin as u64, width.into());
     // SAFETY: a slice that is lent for writing.
@@ -71,13 +59,7 @@ pub fn xor_number(
 /// assert_eq!((words::set_fragment(&mut bits, 64, 3, 5, 9), bits), (Some(()), [9 << 15]));
 /// ```
 #[track_caller]
-pub fn set_fragment(
-    words: &mut [u64],
-    bits_len: usize,
-    index: usize,
-    width: u8,
-    value: u64,
-) -> Option<()> {
+pub fn set_fragment(words: &mut [u64], bits_len: usize, index: usize, width: u8, value: u64) -> Option<()> {
     let (at, len) = (words.as_mut_ptr(), words.len());
     let (bits, index, width) = (bits_len as u64, index as u64, width.into());
     // SAFETY: a slice that is lent for writing.
@@ -93,13 +75,7 @@ pub fn set_fragment(
 /// assert_eq!((words::swap_fragments(&mut bits, 8, 0, 1, 4), bits), (Some(()), [0x12]));
 /// ```
 #[track_caller]
-pub fn swap_fragments(
-    words: &mut [u64],
-    bits_len: usize,
-    first: usize,
-    second: usize,
-    width: u8,
-) -> Option<()> {
+pub fn swap_fragments(words: &mut [u64], bits_len: usize, first: usize, second: usize, width: u8) -> Option<()> {
     let (at, len) = (words.as_mut_ptr(), words.len());
     let (bits, first, second) = (bits_len as u64, first as u64, second as u64);
     // SAFETY: a slice that is lent for writing.
@@ -115,13 +91,7 @@ pub fn swap_fragments(
 /// assert_eq!((words::fill_fragments(&mut bits, 64, 4, 5, 3), bits), (Some(()), [0x555]));
 /// ```
 #[track_caller]
-pub fn fill_fragments(
-    words: &mut [u64],
-    bits_len: usize,
-    width: u8,
-    value: u64,
-    count: usize,
-) -> Option<()> {
+pub fn fill_fragments(words: &mut [u64], bits_len: usize, width: u8, value: u64, count: usize) -> Option<()> {
     let (at, len) = (words.as_mut_ptr(), words.len());
     let (bits, width) = (bits_len as u64, width.into());
     // SAFETY: a slice that is lent for writing.
@@ -141,21 +111,15 @@ pub fn clear_from(words: &mut [u64], bits_len: usize) {
     let _ = unsafe { bitm_bits_clear_from(words.as_mut_ptr(), words.len(), bits_len as u64) };
 }
 
-/// Makes the bits from `from` on and before `to` the value; `None`, and nothing is written, exactly where `from` is above
-/// `to`, or `to` above `bits_len`.
+/// Makes the bits from `from` on and before `to` the value; `None`, and nothing is written, exactly where `from` is
+/// above `to`, or `to` above `bits_len`.
 ///
 /// ```
 /// let mut bits = [0];
 /// assert_eq!((bitm_proved::words::fill_range(&mut bits, 64, 2, 4, true), bits), (Some(()), [0b1100]));
 /// ```
 #[track_caller]
-pub fn fill_range(
-    words: &mut [u64],
-    bits_len: usize,
-    from: usize,
-    to: usize,
-    value: bool,
-) -> Option<()> {
+pub fn fill_range(words: &mut [u64], bits_len: usize, from: usize, to: usize, value: bool) -> Option<()> {
     let (at, len) = (words.as_mut_ptr(), words.len());
     let (bits, from, to) = (bits_len as u64, from as u64, to as u64);
     // SAFETY: a slice that is lent for writing.
@@ -185,18 +149,11 @@ pub fn flip_range(words: &mut [u64], bits_len: usize, from: usize, to: usize) ->
 /// let mut bits = [0];
 /// assert_eq!((bitm_proved::words::copy_range(&mut bits, 4, &[0b110], 1, 2), bits), (Some(()), [0b11_0000]));
 /// ```
-pub fn copy_range(
-    to: &mut [u64],
-    to_begin: usize,
-    from: &[u64],
-    from_begin: usize,
-    count: usize,
-) -> Option<()> {
+pub fn copy_range(to: &mut [u64], to_begin: usize, from: &[u64], from_begin: usize, count: usize) -> Option<()> {
     let (at, len, other, other_len) = (to.as_mut_ptr(), to.len(), from.as_ptr(), from.len());
     let (to_begin, from_begin, count) = (to_begin as u64, from_begin as u64, count as u64);
     // SAFETY: a slice that is lent for writing, and one for reading, which do not overlap.
-    let status =
-        unsafe { bitm_bits_copy_range(at, len, to_begin, other, other_len, from_begin, count) };
+    let status = unsafe { bitm_bits_copy_range(at, len, to_begin, other, other_len, from_begin, count) };
     (status == BITM_OK).then_some(())
 }
 

@@ -34,9 +34,7 @@ impl Drawn {
 
 /// The first so many bits, one by one.
 pub fn bits_of(words: &[u64], len: usize) -> Vec<bool> {
-    (0..len)
-        .map(|i| words[i / 64] >> (i % 64) & 1 == 1)
-        .collect()
+    (0..len).map(|i| words[i / 64] >> (i % 64) & 1 == 1).collect()
 }
 
 /// The positions of the bits of a kind.
@@ -49,8 +47,6 @@ pub fn says(call: impl FnOnce() + UnwindSafe) -> String {
     let why = catch_unwind(call).expect_err("this panics");
     match why.downcast::<String>() {
         Ok(text) => *text,
-        Err(why) => why
-            .downcast_ref::<&str>()
-            .map_or(String::new(), |it| it.to_string()),
+        Err(why) => why.downcast_ref::<&str>().map_or(String::new(), |it| it.to_string()),
     }
 }

@@ -1,0 +1,159 @@
+//! Files: what is written is read back, headers that lie and bytes that are cut or begin elsewhere are refused, and
+//! parts that are spoilt never lead outside.
+mod common;
+use bitm_proved::{
+    bytes_of, ArrayWithRank101111, BinaryRankSearch, CombinedSampling, ConstCombinedSamplingDensity, EliasFano, Index,
+    IndexView, Queries, Rank, RankSelect101111, Sampling, Select, Select0, Select0ForRank101111, SelectForRank101111,
+    SelectionStrategy, Sequence, SequenceView, StoredError, WrongTables,
+};
+use common::{bits_of, positions_of, Drawn};
+
+fn as_a_list<T: Queries + Rank + Select + Select0>(index: &T, plain: &[bool], drawn: &mut Drawn) {
+    let (ones, zeros) = (positions_of(plain, true), positions_of(plain, false));
+    assert_eq!(index.view().len(), plain.len());
+    for _ in 0..800 {
+        let i = drawn.below(plain.len() + 2);
+        let before = ones.partition_point(|it| *it < i);
+        let inside = i <= plain.len();
+        assert_eq!(index.try_rank(i), inside.then_some(before));
+        assert_eq!(index.try_rank0(i), inside.then(|| i - before));
+        assert_eq!(index.try_select(i), ones.get(i).copied());
+        assert_eq!(index.try_select0(i), zeros.get(i).copied());
+        assert_eq!(index.view().get(i), plain.get(i).copied());
+    }
+}
+
+fn comes_back<S, S0>(kinds: (bool, bool), drawn: &mut Drawn)
+where
+    S: SelectionStrategy + SelectForRank101111,
+    S0: SelectionStrategy + Select0ForRank101111,
+{
+    for count in [0usize, 1, 63, 64, 65, 2048, 5000] {
+        let words = drawn.words(count.div_ceil(64) + 1);
+        let plain = bits_of(&words, count);
+        let made = RankSelect101111::<S, S0, _>::build(words).0;
+        let past = made.to_stored(64 * made.content.len() + 1);
+        assert_eq!(past.err(), Some(StoredError::WrongLength));
+        let file = made.to_stored(count).expect("so many bits are there");
+        let read = IndexView::from_words(&file).expect("just written");
+        let kept = (read.samples(true).is_some(), read.samples(false).is_some());
+        assert_eq!((kept, read.check()), (kinds, true));
+        as_a_list(&read, &plain, drawn);
+        assert_eq!(read.to_words(), Ok(file.clone()));
+        let again = Index::from_bytes(bytes_of(&file)).expect("words are aligned");
+        as_a_list(&again, &plain, drawn);
+        assert_eq!(again.to_stored(count), Ok(file.clone()));
+        let other = SequenceView::from_words(&file).err();
+        assert_eq!(other, Some(StoredError::OtherKind));
+        as_a_list(&Index::from_words(file).expect("just written"), &plain, drawn);
+    }
+}
+
+#[test]
+fn indexes_come_back() {
+    type Sampled = CombinedSampling<ConstCombinedSamplingDensity<7>>;
+    let mut drawn = Drawn(16);
+    comes_back::<BinaryRankSearch, BinaryRankSearch>((false, false), &mut drawn);
+    comes_back::<Sampled, BinaryRankSearch>((true, false), &mut drawn);
+    comes_back::<BinaryRankSearch, Sampled>((false, true), &mut drawn);
+    comes_back::<CombinedSampling, Sampled>((true, true), &mut drawn);
+}
+
+#[test]
+fn fewer_bits_are_stored_with_samples_of_their_own() {
+    let mut drawn = Drawn(17);
+    let words = drawn.words(100);
+    let sampling = Sampling { ones: Some(7), zeros: Some(9) };
+    let made = Index::try_build(words.clone(), 6400, sampling).expect("6400 bits");
+    for bits in [0, 1, 64, 3000, 6399, 6400] {
+        let file = made.to_stored(bits).expect("so many bits are there");
+        let read = IndexView::from_words(&file).expect("just written");
+        as_a_list(&read, &bits_of(&words, bits), &mut drawn);
+        let log2 = [true, false].map(|one| read.samples(one).map(|it| it.log2));
+        assert_eq!((log2, read.check()), ([Some(7), Some(9)], true));
+    }
+}
+
+#[test]
+fn headers_that_lie_and_bytes_that_are_cut_or_begin_elsewhere_are_refused() {
+    let made: ArrayWithRank101111 = vec![0xF0F0; 40].into_boxed_slice().into();
+    let good = made.to_stored(2500).expect("so many bits are there");
+    let not_whole = Some(StoredError::NotWhole);
+    for at in 0..192 {
+        let mut file = good.clone();
+        file[at / 8] ^= 1 << (8 * (at % 8) + at % 7);
+        assert_eq!(IndexView::from_words(&file).err(), not_whole);
+        assert_eq!(SequenceView::from_words(&file).err(), not_whole);
+    }
+    for end in 0..8 * good.len() {
+        assert_eq!(Index::from_bytes(&bytes_of(&good)[..end]).err(), not_whole);
+    }
+    let mut moved = vec![0; 8 * good.len() + 16];
+    let begin = moved.as_ptr().align_offset(8);
+    for by in 0..8 {
+        let room = &mut moved[begin + by..][..8 * good.len()];
+        room.copy_from_slice(bytes_of(&good));
+        let wanted = (by > 0).then_some(StoredError::Misaligned);
+        assert_eq!(IndexView::from_bytes(room).err(), wanted);
+        let wanted = wanted.unwrap_or(StoredError::OtherKind);
+        assert_eq!(Sequence::from_bytes(&*room).err(), Some(wanted));
+        assert_eq!(SequenceView::from_bytes(room).err(), Some(wanted));
+    }
+}
+
+#[test]
+fn spoilt_parts_never_lead_outside() {
+    let mut drawn = Drawn(18);
+    let words: Vec<u64> = (0..79).map(|_| drawn.next() & drawn.next()).collect();
+    let sampling = Sampling { ones: Some(7), zeros: Some(7) };
+    let made = Index::try_build(words, 5000, sampling).expect("5000 bits");
+    let good = made.to_stored(5000).expect("so many bits are there");
+    let mut wrong = 0;
+    for at in 24..good.len() {
+        let mut file = good.clone();
+        file[at] ^= drawn.next() | 1;
+        let read = IndexView::from_words(&file).expect("the header is right");
+        for _ in 0..50 {
+            let query = drawn.below(5001);
+            match read.checked_rank(query) {
+                Ok(rank) => assert!(rank.expect("inside") <= query),
+                Err(WrongTables) => wrong += 1,
+            }
+            for (found, one) in [(read.checked_select(query), true), (read.checked_select0(query), false)] {
+                match found {
+                    Ok(Some(position)) => assert_eq!(read.get(position), Some(one)),
+                    Ok(None) => {}
+                    Err(WrongTables) => wrong += 1,
+                }
+            }
+        }
+    }
+    assert!(wrong > 0);
+}
+
+#[test]
+fn spoilt_sequences_never_lead_outside() {
+    let mut drawn = Drawn(19);
+    let items: Vec<u64> = (0..1000).map(|i| 1000 * i + drawn.next() % 1000).collect();
+    let good = EliasFano::build(&items).expect("sorted").to_stored().expect("right");
+    let mut wrong = 0;
+    for at in 24..good.len() {
+        let mut file = good.clone();
+        file[at] ^= drawn.next() | 1;
+        let read = Sequence::from_words(&file).expect("the header is right");
+        let view = read.view();
+        for _ in 0..20 {
+            let value = drawn.next() % 1_000_000;
+            for found in [view.checked_first_at_least(value), view.checked_last_at_most(value)] {
+                match found {
+                    Ok(Some(index)) => assert!(index < 1000),
+                    Ok(None) => {}
+                    Err(WrongTables) => wrong += 1,
+                }
+            }
+            wrong += usize::from(view.checked_get(drawn.below(1000)).is_err());
+            wrong += usize::from(view.checked_contains(value).is_err());
+        }
+    }
+    assert!(wrong > 0);
+}
