@@ -177,7 +177,7 @@ impl<S: SelectForRank101111, S0: Select0ForRank101111, BV: Deref<Target = [u64]>
 /// let (bits, ones) = RankSimple::build(vec![0b1011u64]);
 /// assert_eq!((ones, bits.rank(2), bits.try_rank(65), bits.as_ref()), (3, 2, None, &[0b1011][..]));
 /// let owned: ArrayWithRankSimple = vec![7].into_boxed_slice().into();
-/// assert_eq!(owned.rank(64), 3);
+/// assert_eq!(owned.rank(63), 3);
 /// ```
 #[derive(Clone, Debug)]
 pub struct RankSimple<BV = Box<[u64]>>(pub(crate) RankSelect101111<BinaryRankSearch, BinaryRankSearch, BV>);

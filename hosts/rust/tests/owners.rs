@@ -27,7 +27,7 @@ fn any_owner_lends_its_words() {
     asked(words.clone().into_boxed_slice());
     asked(Arc::<[u64]>::from(&words[..]));
     asked(<[u64; 4]>::try_from(&words[..]).expect("four")); // moves with its owner, and is kept in its place
-    asked(std::borrow::Cow::Borrowed(&words[..]).into_owned());
+    asked(std::borrow::Cow::Borrowed(&words[..]));
 }
 
 /// Gives other words each time: the index keeps to the first.
