@@ -1,4 +1,4 @@
-//! Asks one kind of query so often over 2^16 drawn bits: `./instructions` counts the instructions of each.
+//! Makes a given number of queries of one kind over 2^16 random bits: `./instructions` counts the instructions of each.
 use bitm_proved::{
     words, ArrayWithRank101111, BitAccess, CombinedSampling, EliasFano, Index, PerfectHash, Queries, Rank,
     RankSelect101111, Select,
@@ -7,7 +7,7 @@ use std::{env, hint::black_box};
 
 const BITS: usize = 1 << 16;
 
-fn drawn(seed: &mut u64) -> usize {
+fn random(seed: &mut u64) -> usize {
     *seed ^= *seed << 13;
     *seed ^= *seed >> 7;
     *seed ^= *seed << 17;
@@ -17,12 +17,12 @@ fn drawn(seed: &mut u64) -> usize {
 /// Adds up what a query answers.
 fn queries(count: usize, mut query: impl FnMut(usize) -> usize) -> usize {
     let mut seed = 88172645463325252;
-    (0..count).fold(0, |all: usize, _| all.wrapping_add(query(black_box(drawn(&mut seed)))))
+    (0..count).fold(0, |all: usize, _| all.wrapping_add(query(black_box(random(&mut seed)))))
 }
 
 fn main() {
     let mut seed = 1;
-    let mut bits: Vec<u64> = (0..BITS / 64).map(|_| drawn(&mut seed) as u64).collect();
+    let mut bits: Vec<u64> = (0..BITS / 64).map(|_| random(&mut seed) as u64).collect();
     let arguments: Vec<String> = env::args().collect();
     let (what, n) = (arguments[1].as_str(), arguments[2].parse().unwrap_or(0));
     let owned: ArrayWithRank101111 = bits.clone().into_boxed_slice().into();
@@ -31,7 +31,7 @@ fn main() {
     let ones: usize = owned.count_ones();
     let items: Vec<u64> = (0..10_000).map(|i| 100 * i + i % 7).collect();
     let numbers = EliasFano::build(&items).expect("sorted");
-    let hashes: Vec<u64> = (0..10_000).map(|_| drawn(&mut seed) as u64).collect();
+    let hashes: Vec<u64> = (0..10_000).map(|_| random(&mut seed) as u64).collect();
     let hash = PerfectHash::build(hashes.clone()).expect("no two are equal");
     let all = match what {
         "nothing" => queries(n, |at| at % BITS),

@@ -1,4 +1,4 @@
-//! Asks for 2^40 bits, which under `ulimit -v` are not there: each call says so, and none ends the program.
+//! Requests 2^40 bits, which cannot be had under `ulimit -v`: each call says so, and none ends the program.
 use bitm_proved::{BitVec, BuildError, EliasFano, Index, PerfectHash, Sampling};
 
 fn says<T, E: std::fmt::Display>(what: &str, result: Result<T, E>) {

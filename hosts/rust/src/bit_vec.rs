@@ -3,7 +3,7 @@ use crate::errors::{made, NoMemory};
 use crate::sys::{memory, writes};
 use alloc::boxed::Box;
 
-/// Constructors of vectors of words. Those without `try_` panic where there is no memory.
+/// Constructors of vectors of words. Those without `try_` panic where memory cannot be had.
 ///
 /// ```
 /// use bitm_proved::{BitAccess, BitVec};
@@ -25,7 +25,7 @@ where
 {
     /// `segments_len` words equal to `segments_value`.
     fn with_64bit_segments(segments_value: u64, segments_len: usize) -> Self;
-    /// `words_count` fragments of `word_len_bits` bits, each equal to `word`, and 0 bits behind them.
+    /// `words_count` fragments of `word_len_bits` bits, each equal to `word`, and 0 bits after them.
     fn with_bitwords(word: u64, word_len_bits: u8, words_count: usize) -> Self;
     /// `segments_len` words 0.
     #[track_caller]
@@ -47,11 +47,11 @@ where
     fn with_filled_bits(bit_len: usize) -> Self {
         Self::with_filled_64bit_segments(bit_len.div_ceil(64))
     }
-    /// As `with_64bit_segments`; types of this crate answer an error where there is no memory.
+    /// As `with_64bit_segments`; types of this crate return an error where memory cannot be had.
     fn try_with_64bit_segments(value: u64, segments_len: usize) -> Result<Self, NoMemory> {
         Ok(Self::with_64bit_segments(value, segments_len))
     }
-    /// As `with_bitwords`; types of this crate answer an error where there is no memory.
+    /// As `with_bitwords`; types of this crate return an error where memory cannot be had.
     fn try_with_bitwords(word: u64, width: u8, words_count: usize) -> Result<Self, NoMemory> {
         Ok(Self::with_bitwords(word, width, words_count))
     }

@@ -20,7 +20,7 @@ pub trait BitAccess {
         *bit_nr += 1;
         bit
     }
-    /// Asks the processor for the word of a bit; any number will do. Tested, not proved.
+    /// Prefetches the word of a bit; any number will do. Tested, not proved.
     fn prefetch_bit(&self, _bit_nr: usize) {}
     /// As `prefetch_bit`, of the first bit of a fragment.
     fn prefetch_fragment(&self, index: usize, v_size: u8) {
@@ -152,9 +152,9 @@ pub trait BitAccess {
     fn count_bit_zeros(&self) -> usize;
     /// How many bits are 1. One proved call.
     fn count_bit_ones(&self) -> usize;
-    /// The positions of the 1 bits, rising. Tested, not proved.
+    /// The positions of the 1 bits, in increasing order. Tested, not proved.
     fn bit_ones(&self) -> BitOnesIterator<'_>;
-    /// The positions of the 0 bits, rising. Tested, not proved.
+    /// The positions of the 0 bits, in increasing order. Tested, not proved.
     fn bit_zeros(&self) -> BitZerosIterator<'_>;
     /// The bits. Tested, not proved.
     fn bit_iter(&self) -> BitIterator<'_>;
@@ -250,7 +250,7 @@ pub trait BitAccess {
         self.xor_fragment(*index, v, v_size);
         *index += 1;
     }
-    /// Makes two fragments change places. Tested, not proved.
+    /// Swaps two fragments. Tested, not proved.
     #[track_caller]
     fn swap_fragments(&mut self, index1: usize, index2: usize, v_size: u8) {
         let first = self.get_fragment(index1, v_size);
@@ -258,8 +258,8 @@ pub trait BitAccess {
         self.set_fragment(index1, second, v_size);
         self.set_fragment(index2, first, v_size);
     }
-    /// Asks a closure for another number of a range, writes it where there is one, and answers the old one. Tested, not
-    /// proved.
+    /// Calls a closure with the number of a range, writes the number that it returns, if any, and returns the old one.
+    /// Tested, not proved.
     #[track_caller]
     fn conditionally_change_bits<NewValue>(&mut self, new_value: NewValue, begin: usize, v_size: u8) -> u64
     where

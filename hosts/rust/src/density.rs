@@ -45,7 +45,7 @@ pub const fn optimal_combined_sampling(n: usize, len: usize, max_result: u8) -> 
 /// assert!(Eight::is_in_second_half(700, ()));
 /// ```
 pub trait CombinedSamplingDensity: Copy {
-    /// What is kept of the choice.
+    /// The choice, as it is stored.
     type SamplingDensity: Copy;
     /// The choice for the given number of items of `len` bits.
     fn density_for(number_of_items: usize, len: usize) -> Self::SamplingDensity;

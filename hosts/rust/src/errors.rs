@@ -1,16 +1,16 @@
 //! Why something is not made, taken or answered.
 use core::{error::Error, fmt};
 
-/// There is no memory of that many bytes.
+/// Memory could not be had.
 #[derive(Clone, Copy, PartialEq, Eq, Debug)]
 pub struct NoMemory {
-    /// How many bytes were asked for.
+    /// The number of bytes that were requested.
     pub bytes: usize,
 }
 
 impl fmt::Display for NoMemory {
     fn fmt(&self, f: &mut fmt::Formatter<'_>) -> fmt::Result {
-        write!(f, "there is no memory of {} bytes", self.bytes)
+        write!(f, "{} bytes of memory could not be had", self.bytes)
     }
 }
 
@@ -55,7 +55,7 @@ pub enum BuildError {
         /// How many hashes got no number.
         left: usize,
     },
-    /// There is not enough memory.
+    /// Memory could not be had.
     NoMemory(NoMemory),
 }
 
@@ -88,11 +88,11 @@ pub enum StoredError {
     Misaligned,
     /// They have no header of this format, version and byte order, or are fewer than it says.
     NotWhole,
-    /// They are a sequence where an index is asked for, or an index where a sequence is.
+    /// They are a sequence where an index is expected, or an index where a sequence is.
     OtherKind,
     /// A part is not as long as that of the words.
     WrongLength,
-    /// There is not enough memory.
+    /// Memory could not be had.
     NoMemory(NoMemory),
 }
 
@@ -101,7 +101,7 @@ impl fmt::Display for StoredError {
         f.write_str(match self {
             StoredError::Misaligned => "the bytes do not begin at a multiple of 8",
             StoredError::NotWhole => "this is no file of the format, or not a whole one",
-            StoredError::OtherKind => "this is a sequence where an index is asked for, or an index",
+            StoredError::OtherKind => "this is a sequence where an index is expected, or an index where a sequence is",
             StoredError::WrongLength => "a part is not as long as that of the words",
             StoredError::NoMemory(why) => return why.fmt(f),
         })

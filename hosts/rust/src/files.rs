@@ -35,14 +35,15 @@ pub type IndexFile = Index<Mapped>;
 pub type SequenceFile = Sequence<Mapped>;
 
 impl IndexFile {
-    /// The index in a file. What its parts hold is not looked at: `check` does. The file has to stay as it is.
+    /// The index in a file. The contents of its parts are not tested: `check` does that. The file has to stay as it is.
     pub fn open(path: impl AsRef<Path>) -> Result<Self, OpenError> {
         Ok(Index::from_bytes(Mapped::open(path)?)?)
     }
 }
 
 impl SequenceFile {
-    /// The sequence in a file. What its parts hold is not looked at: `check` does. The file has to stay as it is.
+    /// The sequence in a file. The contents of its parts are not tested: `check` does that. The file has to stay as it
+    /// is.
     pub fn open(path: impl AsRef<Path>) -> Result<Self, OpenError> {
         Ok(Sequence::from_bytes(Mapped::open(path)?)?)
     }

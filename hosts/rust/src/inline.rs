@@ -23,7 +23,7 @@ fn is_nothing(words: &[u64], begin: usize, width: u8) -> bool {
     width == 0 && begin / 64 == words.len() && begin % 64 == 0
 }
 
-/// `width` bits from `begin` on, with those behind them up to the end of the word, or up to 64 bits where the range
+/// `width` bits from `begin` on, with those after them up to the end of the word, or up to 64 bits where the range
 /// crosses that end.
 #[inline(always)]
 pub(crate) fn read_unmasked(words: &[u64], begin: usize, width: u8) -> Option<u64> {

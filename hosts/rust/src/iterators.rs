@@ -5,8 +5,8 @@ use core::iter::FusedIterator;
 use core::ops::Range;
 use core::slice;
 
-/// The positions of the 1 bits of words, or of the 0 bits where `B` is false, rising, from either end. Tested, not
-/// proved.
+/// The positions of the 1 bits of words, or of the 0 bits where `B` is false, in increasing order, from either end.
+/// Tested, not proved.
 ///
 /// ```
 /// use bitm_proved::{BitBIterator, BitOnesIterator, BitZerosIterator};
@@ -28,10 +28,10 @@ pub struct BitBIterator<'a, const B: bool> {
     last_at: usize,
 }
 
-/// The positions of the 1 bits, rising. Tested, not proved.
+/// The positions of the 1 bits, in increasing order. Tested, not proved.
 pub type BitOnesIterator<'a> = BitBIterator<'a, true>;
 
-/// The positions of the 0 bits, rising. Tested, not proved.
+/// The positions of the 0 bits, in increasing order. Tested, not proved.
 pub type BitZerosIterator<'a> = BitBIterator<'a, false>;
 
 impl<'a, const B: bool> BitBIterator<'a, B> {
@@ -89,7 +89,7 @@ impl<'a, const B: bool> BitBIterator<'a, B> {
         }
     }
 
-    /// The next of the last word, which the other end has begun.
+    /// The next of the last word, of which the other end has taken some.
     #[cold]
     fn next_of_last(&mut self) -> Option<usize> {
         if self.last == 0 {
@@ -100,7 +100,7 @@ impl<'a, const B: bool> BitBIterator<'a, B> {
         Some(self.last_at + bit)
     }
 
-    /// The last of the first word, which the other end has begun.
+    /// The last of the first word, of which the other end has taken some.
     #[cold]
     fn last_of_first(&mut self) -> Option<usize> {
         if self.first == 0 {

@@ -279,7 +279,7 @@ impl DoubleEndedIterator for Numbers<'_> {
 impl ExactSizeIterator for Numbers<'_> {}
 impl FusedIterator for Numbers<'_> {}
 
-/// The numbers that two sequences have both, rising, each once. Tested, not proved.
+/// The numbers that two sequences have both, in increasing order, each once. Tested, not proved.
 ///
 /// ```
 /// use bitm_proved::{intersection, EliasFano};

@@ -1,4 +1,4 @@
-//! What every index is asked beside rank and selection, and the traits of the original for views and owners.
+//! The queries of every index beside rank and selection, and the traits of the original for views and owners.
 use crate::errors::{sure, ListError, StoredError, WrongTables};
 use crate::iterators::{BitIterator, BitOnesIterator, BitZerosIterator};
 use crate::rank::{Rank, Select, Select0};
@@ -26,10 +26,10 @@ pub const NO_ANSWER: usize = usize::MAX;
 /// ```
 pub const WRONG_TABLES: usize = usize::MAX - 1;
 
-/// What every index is asked beside rank and selection. Each query is one proved call; iterators go over the words
+/// The queries of every index beside rank and selection. Each is one proved call; iterators go over the words
 /// alone, and are tested, not proved.
 ///
-/// A `checked_` form answers an error where the tables turn out not to be those of the words; the others panic then.
+/// A `checked_` form returns an error where the tables turn out not to be those of the words; the others panic then.
 ///
 /// ```
 /// use bitm_proved::{ArrayWithRank101111, ListError, Queries, NO_ANSWER};
@@ -53,49 +53,49 @@ pub const WRONG_TABLES: usize = usize::MAX - 1;
 /// # Ok::<(), bitm_proved::StoredError>(())
 /// ```
 pub trait Queries {
-    /// Words and tables, with the samples that there are, lent.
+    /// A view of words, tables and samples.
     fn view(&self) -> IndexView<'_>;
 
     #[doc(hidden)]
     #[inline(always)]
-    fn ask<R>(&self, with: impl FnOnce(&IndexView<'_>) -> R) -> R {
+    fn query<R>(&self, with: impl FnOnce(&IndexView<'_>) -> R) -> R {
         with(&self.view())
     }
 
     /// How many of the first `position` bits are 1; `None` exactly where there are fewer bits.
     #[inline]
     fn checked_rank(&self, position: usize) -> Result<Option<usize>, WrongTables> {
-        self.ask(|view| view.rank_of(true, position))
+        self.query(|view| view.rank_of(true, position))
     }
 
     /// How many of the first `position` bits are 0; `None` exactly where there are fewer bits.
     #[inline]
     fn checked_rank0(&self, position: usize) -> Result<Option<usize>, WrongTables> {
-        self.ask(|view| view.rank_of(false, position))
+        self.query(|view| view.rank_of(false, position))
     }
 
     /// The position of the 1 bit with a rank; `None` where there is none.
     #[inline]
     fn checked_select(&self, rank: usize) -> Result<Option<usize>, WrongTables> {
-        self.ask(|view| view.select_of(true, rank))
+        self.query(|view| view.select_of(true, rank))
     }
 
     /// The position of the 0 bit with a rank; `None` where there is none.
     #[inline]
     fn checked_select0(&self, rank: usize) -> Result<Option<usize>, WrongTables> {
-        self.ask(|view| view.select_of(false, rank))
+        self.query(|view| view.select_of(false, rank))
     }
 
     /// The position of the first 1 bit, or 0 bit, at or after `from`; `None` where there is none.
     #[inline]
     fn checked_next(&self, one: bool, from: usize) -> Result<Option<usize>, WrongTables> {
-        self.ask(|view| view.next_of(one, from))
+        self.query(|view| view.next_of(one, from))
     }
 
     /// The position of the last 1 bit, or 0 bit, at or before `from`; `None` where there is none.
     #[inline]
     fn checked_previous(&self, one: bool, from: usize) -> Result<Option<usize>, WrongTables> {
-        self.ask(|view| view.previous_of(one, from))
+        self.query(|view| view.previous_of(one, from))
     }
 
     /// The position of the first 1 bit at or after `from`; `None` where there is none.
@@ -128,32 +128,32 @@ pub trait Queries {
 
     /// How many 1 bits there are. The tables are not read.
     fn count_ones(&self) -> usize {
-        self.ask(|view| view.count_of(true))
+        self.query(|view| view.count_of(true))
     }
 
     /// How many 0 bits there are. The tables are not read.
     fn count_zeros(&self) -> usize {
-        self.ask(|view| view.count_of(false))
+        self.query(|view| view.count_of(false))
     }
 
     /// Ranks of a list of positions; how many have none, which `NO_ANSWER` stands for.
     fn rank_list(&self, positions: &[usize], out: &mut [usize]) -> Result<usize, ListError> {
-        self.ask(|view| view.list(false, true, positions, out))
+        self.query(|view| view.list(false, true, positions, out))
     }
 
     /// As `rank_list`, of 0 bits.
     fn rank0_list(&self, positions: &[usize], out: &mut [usize]) -> Result<usize, ListError> {
-        self.ask(|view| view.list(false, false, positions, out))
+        self.query(|view| view.list(false, false, positions, out))
     }
 
     /// Positions of the 1 bits with the ranks of a list; how many have none, which `NO_ANSWER` stands for.
     fn select_list(&self, ranks: &[usize], out: &mut [usize]) -> Result<usize, ListError> {
-        self.ask(|view| view.list(true, true, ranks, out))
+        self.query(|view| view.list(true, true, ranks, out))
     }
 
     /// As `select_list`, of 0 bits.
     fn select0_list(&self, ranks: &[usize], out: &mut [usize]) -> Result<usize, ListError> {
-        self.ask(|view| view.list(true, false, ranks, out))
+        self.query(|view| view.list(true, false, ranks, out))
     }
 
     /// The positions of the 1 bits, from either end.
@@ -190,7 +190,7 @@ pub trait Queries {
         BitIterator::with_range(view.words(), 0..view.len())
     }
 
-    /// The words of a file of the first `bits_len` bits, with the samples that are kept. `WrongLength` where there are
+    /// The words of a file of the first `bits_len` bits, with its samples. `WrongLength` where there are
     /// fewer bits.
     fn to_stored(&self, bits_len: usize) -> Result<Vec<u64>, StoredError> {
         let view = self.view();
@@ -212,7 +212,7 @@ impl Queries for IndexView<'_> {
         *self
     }
     #[inline(always)]
-    fn ask<R>(&self, with: impl FnOnce(&IndexView<'_>) -> R) -> R {
+    fn query<R>(&self, with: impl FnOnce(&IndexView<'_>) -> R) -> R {
         with(self)
     }
 }
@@ -220,11 +220,11 @@ impl Queries for IndexView<'_> {
 impl<O> Queries for Index<O> {
     #[inline(always)]
     fn view(&self) -> IndexView<'_> {
-        *self.lent()
+        *self.as_view()
     }
     #[inline(always)]
-    fn ask<R>(&self, with: impl FnOnce(&IndexView<'_>) -> R) -> R {
-        with(self.lent())
+    fn query<R>(&self, with: impl FnOnce(&IndexView<'_>) -> R) -> R {
+        with(self.as_view())
     }
 }
 

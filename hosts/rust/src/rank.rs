@@ -1,4 +1,4 @@
-//! What is asked of bits with tables, under the names of the original.
+//! The queries of bits with tables, under the names of the original.
 
 /// How many 1 bits, and how many 0 bits, there are before a position.
 ///
@@ -55,7 +55,7 @@ pub trait Rank {
     unsafe fn rank0_unchecked(&self, index: usize) -> usize {
         self.rank0(index)
     }
-    /// Asks the processor for what `rank` of the index reads; any number will do.
+    /// Prefetches what `rank` of the index reads; any number will do.
     fn prefetch(&self, _index: usize) {}
 }
 

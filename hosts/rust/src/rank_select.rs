@@ -1,4 +1,4 @@
-//! The index under the original's name, over a content that it keeps, with tables that it makes.
+//! The index under the original's name: a bit vector and the tables that are built for it.
 use crate::errors::{made, sure, BuildError};
 use crate::rank::{Rank, Select, Select0};
 use crate::select::{over, BinaryRankSearch, Select0ForRank101111, SelectForRank101111, SelectionStrategy};
@@ -8,7 +8,7 @@ use crate::sys::view::IndexView;
 use alloc::boxed::Box;
 use core::ops::Deref;
 
-/// Rank and selection over a content that lends words; the two tables take 3.125 % of extra space.
+/// Rank and selection over a bit vector, which derefs to words; the two tables take 3.125 % of extra space.
 ///
 /// ```
 /// use bitm_proved::{CombinedSampling, Rank, RankSelect101111, Select};
@@ -19,8 +19,8 @@ use core::ops::Deref;
 /// ```
 ///
 /// Words and tables may be written: then an answer is inside all the same, or there is none, or a panic says that the
-/// tables are not those of the words. The content has to lend the same words each time, as vectors and slices do; else
-/// the same holds.
+/// tables are not those of the words. The bit vector has to deref to the same words each time, as vectors and slices
+/// do; else the same holds.
 #[derive(Clone, Debug)]
 pub struct RankSelect101111<Select = BinaryRankSearch, Select0 = BinaryRankSearch, BV = Box<[u64]>> {
     /// The words.
@@ -57,13 +57,13 @@ impl<S, S0, BV> RankSelect101111<S, S0, BV> {
 }
 
 impl<S: SelectForRank101111, S0: Select0ForRank101111, BV: Deref<Target = [u64]>> RankSelect101111<S, S0, BV> {
-    /// An index over the content, and the number of 1 bits. Panics where there is no memory.
+    /// An index over the bit vector, and its number of 1 bits. Panics where memory cannot be had.
     #[track_caller]
     pub fn build(content: BV) -> (Self, usize) {
         made(Self::try_build(content))
     }
 
-    /// An index over the content, and the number of 1 bits.
+    /// An index over the bit vector, and its number of 1 bits.
     ///
     /// ```
     /// use bitm_proved::ArrayWithRank101111;
@@ -86,7 +86,7 @@ impl<S: SelectForRank101111, S0: Select0ForRank101111, BV: Deref<Target = [u64]>
 
 impl<S, S0, BV: Deref<Target = [u64]>> RankSelect101111<S, S0, BV> {
     #[inline(always)]
-    pub(crate) fn lent(&self) -> IndexView<'_> {
+    pub(crate) fn without_samples(&self) -> IndexView<'_> {
         over(&self.content, &self.l1ranks, &self.l2ranks)
     }
 }
@@ -94,7 +94,7 @@ impl<S, S0, BV: Deref<Target = [u64]>> RankSelect101111<S, S0, BV> {
 impl<S: SelectionStrategy, S0: SelectionStrategy, BV: Deref<Target = [u64]>> RankSelect101111<S, S0, BV> {
     #[inline(always)]
     pub(crate) fn sampled(&self) -> IndexView<'_> {
-        let mut view = self.lent();
+        let mut view = self.without_samples();
         if let Some(samples) = self.select.samples() {
             view = view.with_samples(true, samples);
         }
@@ -118,7 +118,7 @@ impl<S: SelectForRank101111, S0: Select0ForRank101111, BV: Deref<Target = [u64]>
         if is_past(index, &self.content) {
             return None;
         }
-        sure(self.lent().rank_of(true, index))
+        sure(self.without_samples().rank_of(true, index))
     }
     #[inline]
     #[track_caller]
@@ -126,7 +126,7 @@ impl<S: SelectForRank101111, S0: Select0ForRank101111, BV: Deref<Target = [u64]>
         if is_past(index, &self.content) {
             return None;
         }
-        sure(self.lent().rank_of(false, index))
+        sure(self.without_samples().rank_of(false, index))
     }
     #[inline]
     fn prefetch(&self, index: usize) {
@@ -186,7 +186,7 @@ pub struct RankSimple<BV = Box<[u64]>>(pub(crate) RankSelect101111<BinaryRankSea
 pub type ArrayWithRankSimple = RankSimple;
 
 impl<BV: Deref<Target = [u64]>> RankSimple<BV> {
-    /// The structure, and the number of 1 bits. Panics where there is no memory, or there are 2^32 1 bits or more.
+    /// The structure, and the number of 1 bits. Panics where memory cannot be had, or there are 2^32 1 bits or more.
     #[track_caller]
     pub fn build(content: BV) -> (Self, u32) {
         made(Self::try_build(content))

@@ -26,7 +26,7 @@ use core::fmt;
 /// assert_eq!((bits.select(2), bits.select_support().0), (3, 3));
 /// ```
 pub trait SelectForRank101111 {
-    /// What is kept for the words, of which `total_rank` bits are 1.
+    /// The support for the words, of which `total_rank` bits are 1.
     fn new(content: &[u64], l1ranks: &[usize], l2ranks: &[u64], total_rank: usize) -> Self;
     /// The position of the 1 bit with a rank; `None` exactly where there is none.
     fn select(&self, content: &[u64], l1: &[usize], l2: &[u64], rank: usize) -> Option<usize>;
@@ -39,7 +39,7 @@ pub trait SelectForRank101111 {
         let found = self.select(content, l1ranks, l2ranks, rank);
         found.unwrap_or_else(|| no_such("1", rank))
     }
-    /// As `new`; types of this crate answer an error where there is no memory.
+    /// As `new`; types of this crate return an error where memory cannot be had.
     fn try_new(words: &[u64], l1: &[usize], l2: &[u64], total: usize) -> Result<Self, NoMemory>
     where
         Self: Sized,
@@ -56,7 +56,7 @@ pub trait SelectForRank101111 {
 /// assert_eq!(finds.select0(&[0b1011], &[0], &[0x00C0_1803_0000_0000], 1), Some(4));
 /// ```
 pub trait Select0ForRank101111 {
-    /// What is kept for the words, of which `total_rank` bits are 1.
+    /// The support for the words, of which `total_rank` bits are 1.
     fn new0(content: &[u64], l1ranks: &[usize], l2ranks: &[u64], total_rank: usize) -> Self;
     /// The position of the 0 bit with a rank; `None` exactly where there is none.
     fn select0(&self, content: &[u64], l1: &[usize], l2: &[u64], rank: usize) -> Option<usize>;
@@ -69,7 +69,7 @@ pub trait Select0ForRank101111 {
         let found = self.select0(content, l1ranks, l2ranks, rank);
         found.unwrap_or_else(|| no_such("0", rank))
     }
-    /// As `new0`; types of this crate answer an error where there is no memory.
+    /// As `new0`; types of this crate return an error where memory cannot be had.
     fn try_new0(words: &[u64], l1: &[usize], l2: &[u64], total: usize) -> Result<Self, NoMemory>
     where
         Self: Sized,
@@ -88,7 +88,7 @@ mod sealed {
     pub trait Sealed {}
 }
 
-/// The strategies of this crate, whose samples an index shows and a file keeps.
+/// The strategies of this crate, whose samples a view and a file have.
 pub trait SelectionStrategy: sealed::Sealed {
     /// The samples, where there are some.
     ///
@@ -102,7 +102,7 @@ pub trait SelectionStrategy: sealed::Sealed {
     }
 }
 
-/// Selection by binary search in the tables, with nothing kept beside them.
+/// Selection by binary search in the tables, with nothing stored beside them.
 ///
 /// ```
 /// use bitm_proved::{BinaryRankSearch, Select0ForRank101111, SelectForRank101111};
@@ -157,7 +157,7 @@ pub unsafe fn select64(n: u64, rank: u8) -> u8 {
     }
 }
 
-/// Selection that begins at samples, one for each so many 1 bits, or 0 bits. They are a hint: no answer depends on
+/// Selection that begins at samples, one for each 2^d 1 bits, or 0 bits. They are a hint: no answer depends on
 /// them.
 ///
 /// ```
@@ -204,7 +204,7 @@ impl<D: CombinedSamplingDensity> CombinedSampling<D> {
     }
 
     #[inline(always)]
-    fn lent(&self) -> Samples<'_> {
+    fn view(&self) -> Samples<'_> {
         Samples {
             samples: &self.select,
             starts: as_u64(&self.select_begin),
@@ -212,7 +212,7 @@ impl<D: CombinedSamplingDensity> CombinedSampling<D> {
         }
     }
 
-    /// How many bytes the samples take.
+    /// The number of bytes of the samples.
     #[cfg(feature = "dyn_size_of")]
     pub(crate) fn bytes(&self) -> usize {
         size_of_val(&*self.select) + size_of_val(&*self.select_begin)
@@ -224,7 +224,7 @@ impl<D: CombinedSamplingDensity> sealed::Sealed for CombinedSampling<D> {}
 impl<D: CombinedSamplingDensity> SelectionStrategy for CombinedSampling<D> {
     #[inline]
     fn samples(&self) -> Option<Samples<'_>> {
-        Some(self.lent())
+        Some(self.view())
     }
 }
 
@@ -236,7 +236,7 @@ impl<D: CombinedSamplingDensity> SelectForRank101111 for CombinedSampling<D> {
     #[inline]
     #[track_caller]
     fn select(&self, content: &[u64], l1: &[usize], l2: &[u64], rank: usize) -> Option<usize> {
-        let view = over(content, l1, l2).with_samples(true, self.lent());
+        let view = over(content, l1, l2).with_samples(true, self.view());
         sure(view.select_of(true, rank))
     }
     fn try_new(words: &[u64], l1: &[usize], l2: &[u64], total: usize) -> Result<Self, NoMemory> {
@@ -252,7 +252,7 @@ impl<D: CombinedSamplingDensity> Select0ForRank101111 for CombinedSampling<D> {
     #[inline]
     #[track_caller]
     fn select0(&self, content: &[u64], l1: &[usize], l2: &[u64], rank: usize) -> Option<usize> {
-        let view = over(content, l1, l2).with_samples(false, self.lent());
+        let view = over(content, l1, l2).with_samples(false, self.view());
         sure(view.select_of(false, rank))
     }
     fn try_new0(words: &[u64], l1: &[usize], l2: &[u64], total: usize) -> Result<Self, NoMemory> {

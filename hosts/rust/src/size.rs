@@ -1,4 +1,5 @@
-//! How many bytes a value keeps beside itself: by the trait of the crate `dyn_size_of`, with the feature of that name.
+//! The number of bytes that a value owns beside itself: by the trait of the crate `dyn_size_of`, with the feature of
+//! that name.
 use crate::density::{AdaptiveCombinedSamplingDensity, CombinedSamplingDensity, ConstCombinedSamplingDensity};
 use crate::rank_select::{RankSelect101111, RankSimple};
 use crate::select::{BinaryRankSearch, CombinedSampling};

@@ -1,4 +1,4 @@
-//! The only module with `unsafe` blocks: calls of the archive, memory, owners that lend, bytes and mapped files.
+//! The only module with `unsafe` blocks: calls of the archive, memory, owners, bytes and mapped files.
 pub(crate) mod bytes;
 pub(crate) mod hash;
 pub(crate) mod held;
@@ -27,7 +27,7 @@ pub fn library_version() -> u32 {
     unsafe { crate::ffi::bits::bitm_version() }
 }
 
-/// What a query of words with tables, or of a sequence, answered.
+/// The answer of a query of words with tables, or of a sequence.
 #[inline(always)]
 pub(crate) fn answer(status: u32, out: u64) -> Result<Option<usize>, WrongTables> {
     match status {
@@ -37,7 +37,7 @@ pub(crate) fn answer(status: u32, out: u64) -> Result<Option<usize>, WrongTables
     }
 }
 
-/// What a query of words answered, whose length was said to be `bits_len`.
+/// The answer of a query of the first `bits_len` bits of words.
 #[inline(always)]
 #[track_caller]
 pub(crate) fn found(status: u32, out: u64, bits_len: usize, words_len: usize) -> Option<u64> {

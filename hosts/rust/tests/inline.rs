@@ -1,18 +1,18 @@
 //! Inlined Rust beside the proved calls: single bits, numbers of each width, fragments, masks, bytes and iterators,
-//! over drawn words and at each edge.
+//! over random words and at each edge.
 mod common;
 use bitm_proved::{self as bitm, words, BitAccess, BitBIterator, BitIterator, BitVec};
-use common::{bits_of, positions_of, Drawn};
+use common::{bits_of, positions_of, Random};
 
 #[test]
 fn single_bits() {
-    let mut drawn = Drawn(1);
+    let mut random = Random(1);
     for _ in 0..300 {
-        let len = drawn.below(4);
-        let (mut mine, end) = (drawn.words(len), 64 * len);
+        let len = random.below(4);
+        let (mut mine, end) = (random.words(len), 64 * len);
         let mut proved = mine.clone();
         for position in (0..end + 3).chain([usize::MAX]) {
-            let value = drawn.below(2) == 1;
+            let value = random.below(2) == 1;
             assert_eq!(mine.try_get_bit(position), words::get(&proved, end, position));
             let done = words::set(&mut proved, end, position, value);
             assert_eq!(done.is_some(), position < end);
@@ -28,17 +28,17 @@ fn single_bits() {
 /// Each width from each position to past the end.
 #[test]
 fn numbers_of_all_widths() {
-    let mut drawn = Drawn(2);
+    let mut random = Random(2);
     for len in 0..4 {
         let end = 64 * len;
         for begin in (0..end + 2).chain([usize::MAX - 3, usize::MAX]) {
             for width in (0..=66).chain([128, 255]) {
-                let mut mine = drawn.words(len);
+                let mut mine = random.words(len);
                 let proved = words::get_number(&mine, end, begin, width);
                 assert_eq!(mine.try_get_bits(begin, width), proved, "{width} bits from {begin} of {end}");
                 let unmasked = mine.try_get_bits_unmasked(begin, width);
                 assert_eq!(unmasked, reach(begin, width, end).and_then(|it| words::get_number(&mine, end, begin, it)));
-                let (value, mut other) = (drawn.next(), mine.clone());
+                let (value, mut other) = (random.next(), mine.clone());
                 let done = words::set_number(&mut other, end, begin, width, value);
                 assert_eq!(mine.try_set_bits(begin, value, width), done);
                 assert_eq!(mine, other);
@@ -73,11 +73,11 @@ fn reach(begin: usize, width: u8, end: usize) -> Option<u8> {
 
 #[test]
 fn fragments() {
-    let mut drawn = Drawn(3);
+    let mut random = Random(3);
     for width in 0..=65u8 {
         for index in (0..200).chain([usize::MAX, usize::MAX / 64 + 1]) {
-            let mut mine = drawn.words(3);
-            let (mut other, value) = (mine.clone(), drawn.next());
+            let mut mine = random.words(3);
+            let (mut other, value) = (mine.clone(), random.next());
             let found = words::get_fragment(&other, 192, index, width);
             assert_eq!(mine.try_get_fragment(index, width), found, "{index} of {width} bits");
             let done = words::set_fragment(&mut other, 192, index, width, value);
@@ -86,7 +86,7 @@ fn fragments() {
                 assert_eq!(Some(mine.get_fragment(index, width)), found);
                 mine.set_fragment(index, value, width);
                 assert_eq!(mine, other);
-                let second = drawn.below(192 / usize::from(width.max(1)));
+                let second = random.below(192 / usize::from(width.max(1)));
                 words::swap_fragments(&mut other, 192, index, second, width);
                 mine.swap_fragments(index, second, width);
                 assert_eq!(mine, other);
@@ -94,7 +94,7 @@ fn fragments() {
         }
     }
     for (width, count) in (0..=64u8).flat_map(|width| [(width, 0), (width, 3), (width, 70)]) {
-        let value = drawn.next() & bitm::n_lowest_bits_0_64(width);
+        let value = random.next() & bitm::n_lowest_bits_0_64(width);
         let made = Box::<[u64]>::with_bitwords(value, width, count);
         assert_eq!(made.len(), (count * usize::from(width)).div_ceil(64));
         assert!((0..count).all(|index| made.get_fragment(index, width) == value));
@@ -112,28 +112,28 @@ fn masks_digits_and_densities() {
             assert_eq!(bitm::bits_to_store(value), words::to_store(value));
         }
     }
-    let mut drawn = Drawn(4);
+    let mut random = Random(4);
     for _ in 0..20_000 {
-        let len = (drawn.next() >> drawn.below(64)) as usize;
-        let items = drawn.next() as usize % len.saturating_add(1).max(1);
+        let len = (random.next() >> random.below(64)) as usize;
+        let items = random.next() as usize % len.saturating_add(1).max(1);
         for (items, len) in [(items, len), (0, len), (len, len), (len / 2, len), (len / 4 * 3, len)] {
-            let most = 7 + drawn.below(25) as u8;
+            let most = 7 + random.below(25) as u8;
             let mine = bitm::optimal_combined_sampling(items, len, most);
             assert_eq!(mine, words::optimal_log2(items, len, most), "{items} of {len}, {most}");
         }
         assert_eq!(bitm::ceiling_div(len, 64), len / 64 + usize::from(len % 64 > 0));
-        let word = drawn.next();
-        let (bits, rank) = (positions_of(&bits_of(&[word], 64), true), drawn.below(66));
+        let word = random.next();
+        let (bits, rank) = (positions_of(&bits_of(&[word], 64), true), random.below(66));
         assert_eq!(words::select_in_word(word, rank as u8).map(usize::from), bits.get(rank).copied());
     }
 }
 
 #[test]
 fn bytes() {
-    let mut drawn = Drawn(5);
+    let mut random = Random(5);
     for first_bit in 0..130 {
-        let mut mine: Vec<u8> = (0..24).map(|_| drawn.next() as u8).collect();
-        let (mut other, value, mask) = (mine.clone(), drawn.next(), drawn.next());
+        let mut mine: Vec<u8> = (0..24).map(|_| random.next() as u8).collect();
+        let (mut other, value, mask) = (mine.clone(), random.next(), random.next());
         let at = mine.as_mut_ptr();
         // SAFETY: the eight bytes from byte 16 on end at byte 24.
         unsafe {
@@ -161,7 +161,7 @@ fn bytes() {
 }
 
 /// From both ends by turns, beside a plain list.
-fn from_both_ends<const B: bool>(content: &[u64], range: std::ops::Range<usize>, drawn: &mut Drawn) {
+fn from_both_ends<const B: bool>(content: &[u64], range: std::ops::Range<usize>, random: &mut Random) {
     let bits = bits_of(content, 64 * content.len());
     let mut plain = positions_of(&bits, B);
     plain.retain(|it| range.contains(it));
@@ -171,10 +171,10 @@ fn from_both_ends<const B: bool>(content: &[u64], range: std::ops::Range<usize>,
     let mut rest = std::collections::VecDeque::from(plain);
     let mut steps = 0;
     while steps < 2 {
-        if drawn.below(8) == 0 {
+        if random.below(8) == 0 {
             assert_eq!((walk.len(), walk.size_hint()), (rest.len(), (rest.len(), Some(rest.len()))));
         }
-        let front = drawn.below(2) == 0;
+        let front = random.below(2) == 0;
         let (mine, plain) = match front {
             true => (walk.next(), rest.pop_front()),
             false => (walk.next_back(), rest.pop_back()),
@@ -185,21 +185,21 @@ fn from_both_ends<const B: bool>(content: &[u64], range: std::ops::Range<usize>,
     let mut walk = BitIterator::with_range(content, range.clone());
     let bits = &bits[range.start.min(range.end)..range.end];
     assert!(walk.clone().eq(bits.iter().copied()) && walk.clone().rev().eq(bits.iter().rev().copied()));
-    let step = drawn.below(bits.len() + 2);
+    let step = random.below(bits.len() + 2);
     assert_eq!((walk.nth(step), walk.len()), (bits.get(step).copied(), bits.len().saturating_sub(step + 1)));
 }
 
 #[test]
 fn iterators_from_both_ends() {
-    let mut drawn = Drawn(6);
+    let mut random = Random(6);
     for _ in 0..1500 {
-        let len = drawn.below(5);
-        let content = drawn.words(len);
-        let mut ends = [drawn.below(64 * len + 1), drawn.below(64 * len + 1)];
+        let len = random.below(5);
+        let content = random.words(len);
+        let mut ends = [random.below(64 * len + 1), random.below(64 * len + 1)];
         ends.sort();
         for range in [ends[0]..ends[1], 0..64 * len, 0..ends[0], ends[1]..64 * len] {
-            from_both_ends::<true>(&content, range.clone(), &mut drawn);
-            from_both_ends::<false>(&content, range, &mut drawn);
+            from_both_ends::<true>(&content, range.clone(), &mut random);
+            from_both_ends::<false>(&content, range, &mut random);
         }
         let mut room = vec![0; 64 * len];
         for (one, from) in [(true, 0), (false, 0), (true, ends[0]), (false, ends[1])] {

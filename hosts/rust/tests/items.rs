@@ -114,7 +114,7 @@ fn names(items: &[String]) -> Vec<String> {
         }
     }
     // Parameters of types, and what is hidden.
-    let others = ["ALIGN", "MAX_RESULT", "VALUE_LOG2", "Sealed", "SamplingDensity", "ask", "fn"];
+    let others = ["ALIGN", "MAX_RESULT", "VALUE_LOG2", "Sealed", "SamplingDensity", "query", "fn"];
     all.retain(|it| !others.contains(&it.as_str()));
     all
 }

@@ -1,4 +1,4 @@
-//! Owners: any that lends words or bytes, moved, shared between threads, kept over panics; errors and panics.
+//! Owners of words or bytes: moved, shared between threads, used after panics; errors and panics.
 mod common;
 use bitm_proved::{
     bytes_of, ArrayWithRank101111, BitAccess, BitIterator, BitOnesIterator, BitVec, BuildError, EliasFano, Index,
@@ -12,9 +12,9 @@ use std::panic::{RefUnwindSafe, UnwindSafe};
 use std::sync::Arc;
 
 #[test]
-fn any_owner_lends_its_words() {
+fn any_owner_has_an_index_over_its_words() {
     let words = vec![0b1011u64, 7, 0, u64::MAX];
-    fn asked<O: AsRef<[u64]>>(owner: O) {
+    fn try_owner<O: AsRef<[u64]>>(owner: O) {
         let mut many: Vec<Index<O>> = vec![Index::build(owner)];
         many.reserve(100); // moves it
         let index = Box::new(many.remove(0));
@@ -22,15 +22,15 @@ fn any_owner_lends_its_words() {
         assert_eq!(index.owner().as_ref().len(), 4);
         assert_eq!(index.into_owner().as_ref()[1], 7);
     }
-    asked(&words[..]);
-    asked(words.clone());
-    asked(words.clone().into_boxed_slice());
-    asked(Arc::<[u64]>::from(&words[..]));
-    asked(<[u64; 4]>::try_from(&words[..]).expect("four")); // moves with its owner, and is kept in its place
-    asked(std::borrow::Cow::Borrowed(&words[..]));
+    try_owner(&words[..]);
+    try_owner(words.clone());
+    try_owner(words.clone().into_boxed_slice());
+    try_owner(Arc::<[u64]>::from(&words[..]));
+    try_owner(<[u64; 4]>::try_from(&words[..]).expect("four")); // inline: moved into memory of its own
+    try_owner(std::borrow::Cow::Borrowed(&words[..]));
 }
 
-/// Gives other words each time: the index keeps to the first.
+/// Borrows other words each time: the index uses the first.
 struct Fickle(Vec<u64>, Vec<u64>, std::cell::Cell<bool>);
 
 impl AsRef<[u64]> for Fickle {
@@ -44,14 +44,14 @@ impl AsRef<[u64]> for Fickle {
 }
 
 #[test]
-fn an_owner_that_lends_other_words_does_no_harm() {
+fn an_owner_that_borrows_other_words_does_no_harm() {
     let fickle = Fickle(vec![7; 50], vec![1], false.into());
     let index = Index::try_build(fickle, 3200, Sampling::default()).expect("the first words");
     assert_eq!((index.rank(3200), index.select(149)), (150, 49 * 64 + 2));
 }
 
 #[test]
-fn all_types_are_shared_and_kept_over_panics() {
+fn all_types_are_send_sync_and_unwind_safe() {
     fn all<T: Send + Sync + UnwindSafe + RefUnwindSafe>() {}
     all::<Index<Vec<u64>>>();
     all::<Index<Arc<[u64]>>>();
@@ -91,23 +91,23 @@ fn errors_are_errors_and_say_the_numbers() {
     assert_eq!(
         texts,
         [
-            "there is no memory of 80 bytes",
+            "80 bytes of memory could not be had",
             "the tables are not those of the words",
             "9 is more than there may be",
             "number 3 is less than the one before it",
             "2 hashes are equal to others",
-            "there is no memory of 80 bytes",
+            "80 bytes of memory could not be had",
             "the bytes do not begin at a multiple of 8",
             "there is room for 6 answers to 7 queries",
             "the tables are not those of the words: 5 answers show it",
         ]
     );
-    fn asks() -> Result<usize, Box<dyn Error>> {
+    fn fails() -> Result<usize, Box<dyn Error>> {
         let words = [0u64];
         let view = IndexView::new(&words, 64, &words, &[u64::MAX])?;
         Ok(view.checked_rank(64)?.unwrap_or(0))
     }
-    assert!(asks().is_err_and(|why| why.is::<WrongTables>()));
+    assert!(fails().is_err_and(|why| why.is::<WrongTables>()));
 }
 
 #[test]
@@ -118,7 +118,7 @@ fn memory_that_is_not_there_is_an_error() {
     assert_eq!(Box::<[u64]>::try_with_filled_bits(1 << 62).err(), Some(refused));
     assert_eq!(Box::<[u64]>::try_with_bitwords(1, 64, 1 << 56).err(), Some(refused));
     let text = says(|| assert!(Box::<[u64]>::with_zeroed_bits(1 << 62).is_empty()));
-    assert_eq!(text, "there is no memory of 576460752303423488 bytes");
+    assert_eq!(text, "576460752303423488 bytes of memory could not be had");
 }
 
 #[test]
@@ -185,7 +185,7 @@ fn panics_name_the_callers_line() {
 
 /// Tables that a user wrote: a panic says that they are wrong, and no answer is `None` for it.
 #[test]
-fn tables_that_a_user_wrote_are_told_apart() {
+fn tables_that_a_user_wrote_are_noticed() {
     let mut index = ArrayWithRank101111::build(vec![0b1011; 100].into_boxed_slice()).0;
     index.l2ranks = Box::new([]);
     let wrong = "the tables are not those of the words";

@@ -4,7 +4,7 @@ use bitm_proved::{
     BinaryRankSearch, CombinedSampling, ConstCombinedSamplingDensity, Index, IndexView, ListError, Queries, Rank,
     RankSelect101111, Sampling, Select, Select0, WrongTables, NO_ANSWER, WRONG_TABLES,
 };
-use common::{bits_of, positions_of, Drawn};
+use common::{bits_of, positions_of, Random};
 
 /// What plain counting says of bits.
 struct Plain {
@@ -44,12 +44,12 @@ impl Plain {
     }
 }
 
-/// Single queries, at each position or at drawn ones.
-fn single<T: Queries>(index: &T, plain: &Plain, drawn: &mut Drawn) {
+/// Single queries, at each position or at random ones.
+fn single<T: Queries>(index: &T, plain: &Plain, random: &mut Random) {
     let len = plain.bits.len();
     let some: Vec<usize> = match len {
         0..=500 => (0..len + 3).collect(),
-        _ => (0..500).map(|_| drawn.below(len + 2)).collect(),
+        _ => (0..500).map(|_| random.below(len + 2)).collect(),
     };
     for at in some.into_iter().chain([len, usize::MAX]) {
         assert_eq!(index.checked_rank(at), Ok(plain.rank(true, at)));
@@ -74,8 +74,8 @@ fn single<T: Queries>(index: &T, plain: &Plain, drawn: &mut Drawn) {
 
 type List<T> = fn(&T, &[usize], &mut [usize]) -> Result<usize, ListError>;
 
-fn lists<T: Queries>(index: &T, plain: &Plain, drawn: &mut Drawn) {
-    let queries: Vec<usize> = (0..70).map(|_| drawn.below(plain.bits.len() + 2)).collect();
+fn lists<T: Queries>(index: &T, plain: &Plain, random: &mut Random) {
+    let queries: Vec<usize> = (0..70).map(|_| random.below(plain.bits.len() + 2)).collect();
     let rank = |one| queries.iter().map(move |it| plain.rank(one, *it)).collect::<Vec<_>>();
     let select = |one| queries.iter().map(move |it| plain.select(one, *it)).collect::<Vec<_>>();
     let all: [(List<T>, Vec<Option<usize>>); 4] = [
@@ -98,9 +98,9 @@ fn lists<T: Queries>(index: &T, plain: &Plain, drawn: &mut Drawn) {
 }
 
 /// The traits of the original, whose answers are those of plain counting.
-fn traits<T: Rank + Select + Select0>(index: &T, plain: &Plain, drawn: &mut Drawn, to: usize) {
+fn traits<T: Rank + Select + Select0>(index: &T, plain: &Plain, random: &mut Random, to: usize) {
     for _ in 0..200 {
-        let at = drawn.below(to + 1);
+        let at = random.below(to + 1);
         assert_eq!(index.try_rank(at), plain.rank(true, at));
         assert_eq!(index.try_rank0(at), plain.rank(false, at));
         assert_eq!(index.try_select(at), plain.select(true, at));
@@ -111,27 +111,27 @@ fn traits<T: Rank + Select + Select0>(index: &T, plain: &Plain, drawn: &mut Draw
 #[test]
 fn all_kinds_of_indexes_count() {
     type Sampled = CombinedSampling<ConstCombinedSamplingDensity<7>>;
-    let mut drawn = Drawn(7);
+    let mut random = Random(7);
     for len in [0usize, 1, 2, 3, 31, 32, 33, 64, 65, 200, 1000] {
         for _ in 0..3 {
-            let words = drawn.words(len);
+            let words = random.words(len);
             let plain = Plain::of(bits_of(&words, 64 * len));
             let search = RankSelect101111::<BinaryRankSearch, Sampled, _>::build(&words[..]).0;
             let adaptive = RankSelect101111::<CombinedSampling, CombinedSampling, _>::build(words.clone()).0;
             let owner = Index::build(words.clone());
-            single(&search, &plain, &mut drawn);
-            single(&adaptive, &plain, &mut drawn);
-            single(&owner, &plain, &mut drawn);
-            lists(&search, &plain, &mut drawn);
-            lists(&adaptive, &plain, &mut drawn);
+            single(&search, &plain, &mut random);
+            single(&adaptive, &plain, &mut random);
+            single(&owner, &plain, &mut random);
+            lists(&search, &plain, &mut random);
+            lists(&adaptive, &plain, &mut random);
             if len > 0 {
                 // With the feature `original-end` these have no rank at the exact end.
-                traits(&search, &plain, &mut drawn, 64 * len - 1);
-                traits(&&adaptive, &plain, &mut drawn, 64 * len - 1);
+                traits(&search, &plain, &mut random, 64 * len - 1);
+                traits(&&adaptive, &plain, &mut random, 64 * len - 1);
             }
-            traits(&owner, &plain, &mut drawn, 64 * len + 2);
-            traits(&std::sync::Arc::new(owner), &plain, &mut drawn, 64 * len + 2);
-            traits(&search.view(), &plain, &mut drawn, 64 * len + 2);
+            traits(&owner, &plain, &mut random, 64 * len + 2);
+            traits(&std::sync::Arc::new(owner), &plain, &mut random, 64 * len + 2);
+            traits(&search.view(), &plain, &mut random, 64 * len + 2);
             assert!(search.view().check() && adaptive.view().check());
         }
     }
@@ -139,20 +139,20 @@ fn all_kinds_of_indexes_count() {
 
 #[test]
 fn what_lies_past_the_length_is_neither_counted_nor_found() {
-    let mut drawn = Drawn(8);
+    let mut random = Random(8);
     for len in [0usize, 1, 63, 64, 65, 127, 2047, 2048, 2049, 5000] {
-        let words = drawn.words(len.div_ceil(64) + drawn.0 as usize % 3);
+        let words = random.words(len.div_ceil(64) + random.0 as usize % 3);
         let plain = Plain::of(bits_of(&words, len));
         for sampling in [Sampling::default(), Sampling { ones: Some(7), zeros: Some(0) }] {
             let owner = Index::try_build(words.clone(), len, sampling).expect("so many bits are there");
-            single(&owner, &plain, &mut drawn);
-            lists(&owner, &plain, &mut drawn);
-            traits(&owner, &plain, &mut drawn, len + 2);
+            single(&owner, &plain, &mut random);
+            lists(&owner, &plain, &mut random);
+            traits(&owner, &plain, &mut random, len + 2);
             assert!(owner.check() && owner.view().len() == len);
             assert_eq!(owner.view().get(len), None);
             assert!((0..len).all(|it| owner.view().get(it) == Some(plain.bits[it])));
             let view = IndexView::new(&words, len, owner.view().upper(), owner.view().lower());
-            single(&view.expect("the lengths are right"), &plain, &mut drawn);
+            single(&view.expect("the lengths are right"), &plain, &mut random);
         }
     }
 }
@@ -160,26 +160,26 @@ fn what_lies_past_the_length_is_neither_counted_nor_found() {
 /// Wrong tables and samples: a panic or an error says so, or the answer is inside and a bit of the kind.
 #[test]
 fn wrong_tables_never_lead_outside() {
-    let mut drawn = Drawn(9);
+    let mut random = Random(9);
     let (mut wrong, mut right) = (0, 0);
     for _ in 0..2000 {
-        let len = 1 + drawn.below(80);
-        let words = drawn.words(len);
+        let len = 1 + random.below(80);
+        let words = random.words(len);
         let plain = Plain::of(bits_of(&words, 64 * len));
         let made = Index::build(&words[..]);
         let (mut upper, mut lower) = (made.view().upper().to_vec(), made.view().lower().to_vec());
-        let at = drawn.below(lower.len());
-        lower[at] ^= drawn.next() >> drawn.below(60);
-        upper[0] ^= u64::from(drawn.below(3) == 0) << drawn.below(64);
+        let at = random.below(lower.len());
+        lower[at] ^= random.next() >> random.below(60);
+        upper[0] ^= u64::from(random.below(3) == 0) << random.below(64);
         let samples = bitm_proved::Samples {
-            samples: &[drawn.next() as u32; 3],
-            starts: &[drawn.next()],
-            log2: drawn.next() as u32,
+            samples: &[random.next() as u32; 3],
+            starts: &[random.next()],
+            log2: random.next() as u32,
         };
         let view = IndexView::new(&words, 64 * len, &upper, &lower).expect("lengths");
         for view in [view, view.with_samples(true, samples).with_samples(false, samples)] {
             for _ in 0..20 {
-                let query = drawn.below(64 * len + 1);
+                let query = random.below(64 * len + 1);
                 match view.checked_rank(query) {
                     Ok(rank) => assert!(rank.expect("inside") <= query),
                     Err(WrongTables) => wrong += 1,
@@ -209,18 +209,18 @@ fn wrong_tables_never_lead_outside() {
 /// Samples may hold anything: over right tables no answer is another.
 #[test]
 fn samples_are_a_hint() {
-    let mut drawn = Drawn(10);
+    let mut random = Random(10);
     for _ in 0..500 {
-        let len = 1 + drawn.below(100);
-        let words = drawn.words(len);
+        let len = 1 + random.below(100);
+        let words = random.words(len);
         let plain = Plain::of(bits_of(&words, 64 * len));
         let made = Index::build(&words[..]);
-        let samples: Vec<u32> = (0..drawn.below(60)).map(|_| drawn.next() as u32).collect();
-        let starts: Vec<u64> = (0..drawn.below(3)).map(|_| drawn.next()).collect();
-        let log2 = drawn.below(40) as u32;
+        let samples: Vec<u32> = (0..random.below(60)).map(|_| random.next() as u32).collect();
+        let starts: Vec<u64> = (0..random.below(3)).map(|_| random.next()).collect();
+        let log2 = random.below(40) as u32;
         let samples = bitm_proved::Samples { samples: &samples, starts: &starts, log2 };
         let view = made.view().with_samples(true, samples).with_samples(false, samples);
-        traits(&view, &plain, &mut drawn, 64 * len + 1);
-        lists(&view, &plain, &mut drawn);
+        traits(&view, &plain, &mut random, 64 * len + 1);
+        lists(&view, &plain, &mut random);
     }
 }

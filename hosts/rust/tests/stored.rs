@@ -6,13 +6,13 @@ use bitm_proved::{
     IndexView, Queries, Rank, RankSelect101111, Sampling, Select, Select0, Select0ForRank101111, SelectForRank101111,
     SelectionStrategy, Sequence, SequenceView, StoredError, WrongTables,
 };
-use common::{bits_of, positions_of, Drawn};
+use common::{bits_of, positions_of, Random};
 
-fn as_a_list<T: Queries + Rank + Select + Select0>(index: &T, plain: &[bool], drawn: &mut Drawn) {
+fn as_a_list<T: Queries + Rank + Select + Select0>(index: &T, plain: &[bool], random: &mut Random) {
     let (ones, zeros) = (positions_of(plain, true), positions_of(plain, false));
     assert_eq!(index.view().len(), plain.len());
     for _ in 0..800 {
-        let i = drawn.below(plain.len() + 2);
+        let i = random.below(plain.len() + 2);
         let before = ones.partition_point(|it| *it < i);
         let inside = i <= plain.len();
         assert_eq!(index.try_rank(i), inside.then_some(before));
@@ -23,13 +23,13 @@ fn as_a_list<T: Queries + Rank + Select + Select0>(index: &T, plain: &[bool], dr
     }
 }
 
-fn comes_back<S, S0>(kinds: (bool, bool), drawn: &mut Drawn)
+fn comes_back<S, S0>(kinds: (bool, bool), random: &mut Random)
 where
     S: SelectionStrategy + SelectForRank101111,
     S0: SelectionStrategy + Select0ForRank101111,
 {
     for count in [0usize, 1, 63, 64, 65, 2048, 5000] {
-        let words = drawn.words(count.div_ceil(64) + 1);
+        let words = random.words(count.div_ceil(64) + 1);
         let plain = bits_of(&words, count);
         let made = RankSelect101111::<S, S0, _>::build(words).0;
         let past = made.to_stored(64 * made.content.len() + 1);
@@ -38,37 +38,37 @@ where
         let read = IndexView::from_words(&file).expect("just written");
         let kept = (read.samples(true).is_some(), read.samples(false).is_some());
         assert_eq!((kept, read.check()), (kinds, true));
-        as_a_list(&read, &plain, drawn);
+        as_a_list(&read, &plain, random);
         assert_eq!(read.to_words(), Ok(file.clone()));
         let again = Index::from_bytes(bytes_of(&file)).expect("words are aligned");
-        as_a_list(&again, &plain, drawn);
+        as_a_list(&again, &plain, random);
         assert_eq!(again.to_stored(count), Ok(file.clone()));
         let other = SequenceView::from_words(&file).err();
         assert_eq!(other, Some(StoredError::OtherKind));
-        as_a_list(&Index::from_words(file).expect("just written"), &plain, drawn);
+        as_a_list(&Index::from_words(file).expect("just written"), &plain, random);
     }
 }
 
 #[test]
 fn indexes_come_back() {
     type Sampled = CombinedSampling<ConstCombinedSamplingDensity<7>>;
-    let mut drawn = Drawn(16);
-    comes_back::<BinaryRankSearch, BinaryRankSearch>((false, false), &mut drawn);
-    comes_back::<Sampled, BinaryRankSearch>((true, false), &mut drawn);
-    comes_back::<BinaryRankSearch, Sampled>((false, true), &mut drawn);
-    comes_back::<CombinedSampling, Sampled>((true, true), &mut drawn);
+    let mut random = Random(16);
+    comes_back::<BinaryRankSearch, BinaryRankSearch>((false, false), &mut random);
+    comes_back::<Sampled, BinaryRankSearch>((true, false), &mut random);
+    comes_back::<BinaryRankSearch, Sampled>((false, true), &mut random);
+    comes_back::<CombinedSampling, Sampled>((true, true), &mut random);
 }
 
 #[test]
 fn fewer_bits_are_stored_with_samples_of_their_own() {
-    let mut drawn = Drawn(17);
-    let words = drawn.words(100);
+    let mut random = Random(17);
+    let words = random.words(100);
     let sampling = Sampling { ones: Some(7), zeros: Some(9) };
     let made = Index::try_build(words.clone(), 6400, sampling).expect("6400 bits");
     for bits in [0, 1, 64, 3000, 6399, 6400] {
         let file = made.to_stored(bits).expect("so many bits are there");
         let read = IndexView::from_words(&file).expect("just written");
-        as_a_list(&read, &bits_of(&words, bits), &mut drawn);
+        as_a_list(&read, &bits_of(&words, bits), &mut random);
         let log2 = [true, false].map(|one| read.samples(one).map(|it| it.log2));
         assert_eq!((log2, read.check()), ([Some(7), Some(9)], true));
     }
@@ -103,18 +103,18 @@ fn headers_that_lie_and_bytes_that_are_cut_or_begin_elsewhere_are_refused() {
 
 #[test]
 fn spoilt_parts_never_lead_outside() {
-    let mut drawn = Drawn(18);
-    let words: Vec<u64> = (0..79).map(|_| drawn.next() & drawn.next()).collect();
+    let mut random = Random(18);
+    let words: Vec<u64> = (0..79).map(|_| random.next() & random.next()).collect();
     let sampling = Sampling { ones: Some(7), zeros: Some(7) };
     let made = Index::try_build(words, 5000, sampling).expect("5000 bits");
     let good = made.to_stored(5000).expect("so many bits are there");
     let mut wrong = 0;
     for at in 24..good.len() {
         let mut file = good.clone();
-        file[at] ^= drawn.next() | 1;
+        file[at] ^= random.next() | 1;
         let read = IndexView::from_words(&file).expect("the header is right");
         for _ in 0..50 {
-            let query = drawn.below(5001);
+            let query = random.below(5001);
             match read.checked_rank(query) {
                 Ok(rank) => assert!(rank.expect("inside") <= query),
                 Err(WrongTables) => wrong += 1,
@@ -133,17 +133,17 @@ fn spoilt_parts_never_lead_outside() {
 
 #[test]
 fn spoilt_sequences_never_lead_outside() {
-    let mut drawn = Drawn(19);
-    let items: Vec<u64> = (0..1000).map(|i| 1000 * i + drawn.next() % 1000).collect();
+    let mut random = Random(19);
+    let items: Vec<u64> = (0..1000).map(|i| 1000 * i + random.next() % 1000).collect();
     let good = EliasFano::build(&items).expect("sorted").to_stored().expect("right");
     let mut wrong = 0;
     for at in 24..good.len() {
         let mut file = good.clone();
-        file[at] ^= drawn.next() | 1;
+        file[at] ^= random.next() | 1;
         let read = Sequence::from_words(&file).expect("the header is right");
         let view = read.view();
         for _ in 0..20 {
-            let value = drawn.next() % 1_000_000;
+            let value = random.next() % 1_000_000;
             for found in [view.checked_first_at_least(value), view.checked_last_at_most(value)] {
                 match found {
                     Ok(Some(index)) => assert!(index < 1000),
@@ -151,7 +151,7 @@ fn spoilt_sequences_never_lead_outside() {
                     Err(WrongTables) => wrong += 1,
                 }
             }
-            wrong += usize::from(view.checked_get(drawn.below(1000)).is_err());
+            wrong += usize::from(view.checked_get(random.below(1000)).is_err());
             wrong += usize::from(view.checked_contains(value).is_err());
         }
     }

@@ -1,4 +1,4 @@
-//! Few bits of bytes: the original's, behind a pointer, and the proved calls on slices.
+//! Few bits of bytes: the original's, by a pointer, and the proved calls on slices.
 use crate::ffi::bits::*;
 
 /// The bits from `first_bit` to the end of the eight bytes that begin with its byte. Tested, not proved.
@@ -134,7 +134,7 @@ pub fn bytes_get57(bytes: &[u8], first_bit: usize) -> Option<u64> {
 /// ```
 pub fn bytes_init57(bytes: &mut [u8], first_bit: usize, value: u64) -> Option<()> {
     let (at, len) = (bytes.as_mut_ptr(), bytes.len());
-    // SAFETY: a slice that is lent for writing.
+    // SAFETY: a mutable slice.
     let status = unsafe { bitm_bytes_init57(at, len, first_bit as u64, value) };
     (status == BITM_OK).then_some(())
 }
@@ -147,7 +147,7 @@ pub fn bytes_init57(bytes: &mut [u8], first_bit: usize, value: u64) -> Option<()
 /// ```
 pub fn bytes_set57(bytes: &mut [u8], first_bit: usize, value: u64, mask: u64) -> Option<()> {
     let (at, len) = (bytes.as_mut_ptr(), bytes.len());
-    // SAFETY: a slice that is lent for writing.
+    // SAFETY: a mutable slice.
     let status = unsafe { bitm_bytes_set57(at, len, first_bit as u64, value, mask) };
     (status == BITM_OK).then_some(())
 }
@@ -173,7 +173,7 @@ pub fn bytes_get25(bytes: &[u8], first_bit: usize) -> Option<u32> {
 /// ```
 pub fn bytes_init25(bytes: &mut [u8], first_bit: usize, value: u32) -> Option<()> {
     let (at, len) = (bytes.as_mut_ptr(), bytes.len());
-    // SAFETY: a slice that is lent for writing.
+    // SAFETY: a mutable slice.
     let status = unsafe { bitm_bytes_init25(at, len, first_bit as u64, value) };
     (status == BITM_OK).then_some(())
 }
@@ -186,7 +186,7 @@ pub fn bytes_init25(bytes: &mut [u8], first_bit: usize, value: u32) -> Option<()
 /// ```
 pub fn bytes_set25(bytes: &mut [u8], first_bit: usize, value: u32, mask: u32) -> Option<()> {
     let (at, len) = (bytes.as_mut_ptr(), bytes.len());
-    // SAFETY: a slice that is lent for writing.
+    // SAFETY: a mutable slice.
     let status = unsafe { bitm_bytes_set25(at, len, first_bit as u64, value, mask) };
     (status == BITM_OK).then_some(())
 }

@@ -9,7 +9,7 @@ use crate::sys::{answer, OK};
 use alloc::vec::Vec;
 use core::fmt;
 
-/// A minimal perfect hash: each of n keys has a number of its own below n, in some three bits a key.
+/// A minimal perfect hash: each of n keys has a number of its own below n, in about three bits a key.
 ///
 /// A key is its hash of 64 bits, by a function of yours; equal hashes are refused. No key is kept: a hash that was none
 /// of them may get any number below n. Each query is one proved call.
@@ -87,7 +87,7 @@ impl PerfectHash {
         sizes: &mut [u64],
     ) -> Option<(usize, usize, usize)> {
         let (mut levels, mut used, mut left) = (0, 0, 0);
-        // SAFETY: four slices that do not overlap and are lent for writing, and room for three numbers.
+        // SAFETY: four mutable slices that do not overlap, and room for three numbers.
         let status = unsafe {
             bitm_hash_build(
                 hashes.as_mut_ptr(),
@@ -128,7 +128,7 @@ impl PerfectHash {
         self.keys == 0
     }
 
-    /// How many bytes it keeps.
+    /// The number of bytes that it owns.
     ///
     /// ```
     /// assert!(bitm_proved::PerfectHash::build(vec![1, 2, 3])?.size_in_bytes() > 0);
@@ -148,7 +148,7 @@ impl PerfectHash {
     /// As `get`, with an error where the tables turn out to be wrong.
     pub fn checked_get(&self, hash: u64) -> Result<Option<usize>, WrongTables> {
         let (raw, mut out) = (self.raw(), 0);
-        // SAFETY: slices that are lent, and room for one number.
+        // SAFETY: borrowed slices, and room for one number.
         let status = unsafe { bitm_hash_get(&raw, hash, &mut out) };
         answer(status, out)
     }
@@ -158,7 +158,7 @@ impl PerfectHash {
         let (raw, len, room) = (self.raw(), hashes.len(), out.len());
         let (from, to) = (hashes.as_ptr(), as_u64_mut(out).as_mut_ptr());
         let mut counts = bitm_list_counts { missing: 0, wrong: 0 };
-        // SAFETY: slices that are lent and do not overlap, and room for the counts.
+        // SAFETY: borrowed slices that do not overlap, and room for the counts.
         let status = unsafe { bitm_hash_get_list(&raw, from, len, to, room, &mut counts) };
         list_answer(status, counts, len, room)
     }

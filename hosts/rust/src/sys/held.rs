@@ -1,9 +1,9 @@
-//! An owner, and what it lends for as long as it is held.
+//! An owner, and a borrow of it for as long as it is held.
 use crate::errors::NoMemory;
 use crate::sys::memory::one;
 use alloc::vec::Vec;
 
-/// An owner at an address that stays. It is never lent for writing, so what it lends stays as long as it.
+/// An owner at an address that does not change. It is never borrowed mutably, so a borrow is valid as long as it lives.
 pub(crate) struct Held<O>(Vec<O>);
 
 impl<O> Held<O> {
@@ -19,17 +19,17 @@ impl<O> Held<O> {
         self.0.remove(0)
     }
 
-    /// What the owner lends.
+    /// What the owner's `as_ref` borrows.
     ///
     /// # Safety
-    /// It is given to nobody for longer than `self` lives.
-    pub(crate) unsafe fn lent<T: ?Sized + 'static>(&self) -> &'static T
+    /// Nobody gets it for longer than `self` lives.
+    pub(crate) unsafe fn borrowed<T: ?Sized + 'static>(&self) -> &'static T
     where
         O: AsRef<T>,
     {
-        let lent: *const T = self.owner().as_ref();
-        // SAFETY: the owner stands in memory of its own, which does not move with `self`; as it is only ever lent for
-        // reading until it is dropped, the loan ends with `self`, and the caller gives it to nobody for longer.
-        unsafe { &*lent }
+        let borrowed: *const T = self.owner().as_ref();
+        // SAFETY: the owner is in memory of its own, which does not move with `self`, and is only ever borrowed shared
+        // until it is dropped. So the borrow is valid while `self` lives; the caller hands it out for no longer.
+        unsafe { &*borrowed }
     }
 }

@@ -1,4 +1,4 @@
-//! An index over words that an owner lends, with tables of its own, or over the words of a file that it lends.
+//! An index over an owner's words, with tables of its own, or over the file that an owner has.
 use crate::errors::{made, BuildError, StoredError};
 use crate::sys::held::Held;
 use crate::sys::memory::words_of;
@@ -6,7 +6,7 @@ use crate::sys::tables::{OwnSamples, Tables};
 use crate::sys::view::IndexView;
 use core::{fmt, mem};
 
-/// An index and the owner of its words: a vector, a box, an `Arc`, a mapped file, or whatever lends `&[u64]`.
+/// An index and the owner of its words: a vector, a box, an `Arc`, a mapped file, or any other `AsRef<[u64]>`.
 ///
 /// The queries are those of [`Rank`](crate::Rank), [`Select`](crate::Select), [`Select0`](crate::Select0) and
 /// [`Queries`](crate::Queries).
@@ -25,7 +25,7 @@ pub struct Index<O> {
     held: Held<O>,
 }
 
-/// Which samples an index keeps: one for each 2^log2 1 bits, or 0 bits; `None` stands for no samples.
+/// Which samples an index has: one for each 2^log2 1 bits, or 0 bits; `None` stands for no samples.
 ///
 /// ```
 /// use bitm_proved::{Index, Queries, Sampling};
@@ -42,7 +42,7 @@ pub struct Sampling {
 }
 
 impl<O: AsRef<[u64]>> Index<O> {
-    /// An index over all bits of the words, without samples. Panics where there is no memory.
+    /// An index over all bits of the words, without samples. Panics where memory cannot be had.
     #[track_caller]
     pub fn build(owner: O) -> Self {
         let bits_len = 64 * owner.as_ref().len();
@@ -52,10 +52,10 @@ impl<O: AsRef<[u64]>> Index<O> {
     /// An index over the first `bits_len` bits of the words.
     pub fn try_build(owner: O, bits_len: usize, sampling: Sampling) -> Result<Self, BuildError> {
         let held = Held::new(owner)?;
-        // SAFETY: `Index` gives it away for as long as it is borrowed itself.
-        let words = unsafe { held.lent::<[u64]>() };
+        // SAFETY: `Index` hands it out only for as long as it is borrowed itself.
+        let words = unsafe { held.borrowed::<[u64]>() };
         let tables = Tables::of(words)?;
-        // SAFETY: vectors that are kept beside it, and never lent for writing: what they lend stays.
+        // SAFETY: the vectors are owned beside the view and never mutated, so their memory stays.
         let (upper, lower) = unsafe { (stays(&tables.upper), stays(&tables.lower)) };
         let view = IndexView::new(words, bits_len, upper, lower);
         let mut view = view.map_err(|_| BuildError::TooLong { len: bits_len })?;
@@ -68,14 +68,14 @@ impl<O: AsRef<[u64]>> Index<O> {
             if let Some(samples) = samples {
                 // SAFETY: as of the tables.
                 let samples: &'static OwnSamples = unsafe { mem::transmute(samples) };
-                view = view.with_samples(one, samples.lent());
+                view = view.with_samples(one, samples.view());
             }
         }
         let tables = Some((tables, samples));
         Ok(Index { view, tables, held })
     }
 
-    /// The index in the words of a file that the owner lends. What its parts hold is not looked at: `check` does.
+    /// The index in a file, whose words the owner has. The contents of its parts are not tested: `check` does that.
     ///
     /// ```
     /// use bitm_proved::{Index, Queries, Rank};
@@ -86,15 +86,15 @@ impl<O: AsRef<[u64]>> Index<O> {
     /// ```
     pub fn from_words(owner: O) -> Result<Self, StoredError> {
         let held = Held::new(owner)?;
-        // SAFETY: `Index` gives it away for as long as it is borrowed itself.
-        let view = IndexView::from_words(unsafe { held.lent() })?;
+        // SAFETY: `Index` hands it out only for as long as it is borrowed itself.
+        let view = IndexView::from_words(unsafe { held.borrowed() })?;
         let tables = None;
         Ok(Index { view, tables, held })
     }
 }
 
 impl<O: AsRef<[u8]>> Index<O> {
-    /// The index in the bytes of a file that the owner lends, which begin at a multiple of 8.
+    /// The index in a file, whose bytes the owner has; they begin at a multiple of 8.
     ///
     /// ```
     /// use bitm_proved::{bytes_of, Index, Queries, Rank, StoredError};
@@ -107,18 +107,18 @@ impl<O: AsRef<[u8]>> Index<O> {
     /// ```
     pub fn from_bytes(owner: O) -> Result<Self, StoredError> {
         let held = Held::new(owner)?;
-        // SAFETY: `Index` gives it away for as long as it is borrowed itself.
-        let words = words_of(unsafe { held.lent() }).ok_or(StoredError::Misaligned)?;
+        // SAFETY: `Index` hands it out only for as long as it is borrowed itself.
+        let words = words_of(unsafe { held.borrowed() }).ok_or(StoredError::Misaligned)?;
         let view = IndexView::from_words(words)?;
         let tables = None;
         Ok(Index { view, tables, held })
     }
 }
 
-/// What a vector lends, for longer than it is borrowed.
+/// A borrow of a vector that the compiler takes for longer than it is.
 ///
 /// # Safety
-/// It is used while the vector lives and is lent for reading alone.
+/// It is used only while the vector lives and is not mutated.
 unsafe fn stays(numbers: &[u64]) -> &'static [u64] {
     // SAFETY: the caller's duty.
     unsafe { mem::transmute(numbers) }
@@ -144,7 +144,7 @@ impl<O> Index<O> {
         self.view.check()
     }
 
-    /// How many bytes the tables and samples take that it keeps beside the words.
+    /// The number of bytes of its tables and samples.
     ///
     /// ```
     /// assert_eq!(bitm_proved::Index::build(vec![7u64; 64]).size_in_bytes(), 24);
@@ -159,13 +159,13 @@ impl<O> Index<O> {
     }
 
     #[inline(always)]
-    pub(crate) fn lent(&self) -> &IndexView<'_> {
+    pub(crate) fn as_view(&self) -> &IndexView<'_> {
         &self.view
     }
 }
 
 impl<O> fmt::Debug for Index<O> {
     fn fmt(&self, f: &mut fmt::Formatter<'_>) -> fmt::Result {
-        f.debug_tuple("Index").field(self.lent()).finish()
+        f.debug_tuple("Index").field(self.as_view()).finish()
     }
 }

@@ -53,7 +53,7 @@ impl Mapped {
             let at = NonNull::<u64>::dangling().cast();
             return Ok(Mapped { at, len });
         }
-        // SAFETY: the system finds the place; nothing that was there is replaced.
+        // SAFETY: the system chooses the address, so nothing that is mapped is replaced.
         let at = unsafe {
             let fd = file.as_raw_fd();
             mmap(ptr::null_mut(), len, PROT_READ, MAP_PRIVATE, fd, 0)
@@ -68,7 +68,7 @@ impl Mapped {
 
 impl AsRef<[u8]> for Mapped {
     fn as_ref(&self) -> &[u8] {
-        // SAFETY: so many bytes are mapped until `self` is dropped.
+        // SAFETY: `len` bytes are mapped until `self` is dropped.
         unsafe { slice::from_raw_parts(self.at.as_ptr(), self.len) }
     }
 }
@@ -76,7 +76,7 @@ impl AsRef<[u8]> for Mapped {
 impl Drop for Mapped {
     fn drop(&mut self) {
         if self.len > 0 {
-            // SAFETY: what was mapped, and nobody has it any more.
+            // SAFETY: this was mapped, and nobody borrows it any more.
             unsafe { munmap(self.at.as_ptr().cast(), self.len) };
         }
     }

@@ -33,7 +33,7 @@ pub(crate) fn zeroed<T: Number>(len: usize) -> Result<Vec<T>, NoMemory> {
     if at.is_null() {
         return Err(refused);
     }
-    // SAFETY: the allocator of vectors gave that many zeros of this layout.
+    // SAFETY: the allocator of vectors returned `len` zeros of this layout.
     Ok(unsafe { Vec::from_raw_parts(at, len, len) })
 }
 
@@ -100,7 +100,7 @@ pub(crate) fn words_of(bytes: &[u8]) -> Option<&[u64]> {
     at.is_aligned().then(|| unsafe { slice::from_raw_parts(at, bytes.len() / 8) })
 }
 
-/// Asks the processor for item `index` of a slice; any number will do.
+/// Prefetches item `index` of a slice; any number will do.
 #[inline(always)]
 pub(crate) fn prefetch<T>(items: &[T], index: usize) {
     #[cfg(target_arch = "x86_64")]

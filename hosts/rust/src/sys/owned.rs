@@ -38,8 +38,8 @@ impl EliasFano {
 
     fn over(all: Vec<u64>, len: usize, width: u64, lens: [usize; 4]) -> Result<Self, StoredError> {
         let held = Held::new(all)?;
-        // SAFETY: `Sequence` gives it away for as long as it is borrowed itself.
-        let mut rest = unsafe { held.lent::<[u64]>() };
+        // SAFETY: `Sequence` hands it out only for as long as it is borrowed itself.
+        let mut rest = unsafe { held.borrowed::<[u64]>() };
         let parts = lens.map(|it| {
             let (part, after) = rest.split_at(it);
             rest = after;
@@ -49,7 +49,7 @@ impl EliasFano {
         Ok(Sequence { view, held })
     }
 
-    /// A copy, where there is memory for it.
+    /// A copy; an error where memory cannot be had.
     ///
     /// ```
     /// use bitm_proved::EliasFano;
@@ -77,7 +77,7 @@ impl Clone for EliasFano {
 }
 
 impl<O: AsRef<[u64]>> Sequence<O> {
-    /// The sequence in the words of a file that the owner lends. What its parts hold is not looked at: `check` does.
+    /// The sequence in a file, whose words the owner has. The contents of its parts are not tested: `check` does that.
     ///
     /// ```
     /// use bitm_proved::{EliasFano, Sequence};
@@ -87,14 +87,14 @@ impl<O: AsRef<[u64]>> Sequence<O> {
     /// ```
     pub fn from_words(owner: O) -> Result<Self, StoredError> {
         let held = Held::new(owner)?;
-        // SAFETY: `Sequence` gives it away for as long as it is borrowed itself.
-        let view = SequenceView::from_words(unsafe { held.lent() })?;
+        // SAFETY: `Sequence` hands it out only for as long as it is borrowed itself.
+        let view = SequenceView::from_words(unsafe { held.borrowed() })?;
         Ok(Sequence { view, held })
     }
 }
 
 impl<O: AsRef<[u8]>> Sequence<O> {
-    /// The sequence in the bytes of a file that the owner lends, which begin at a multiple of 8.
+    /// The sequence in a file, whose bytes the owner has; they begin at a multiple of 8.
     ///
     /// ```
     /// use bitm_proved::{bytes_of, EliasFano, Sequence};
@@ -104,15 +104,15 @@ impl<O: AsRef<[u8]>> Sequence<O> {
     /// ```
     pub fn from_bytes(owner: O) -> Result<Self, StoredError> {
         let held = Held::new(owner)?;
-        // SAFETY: `Sequence` gives it away for as long as it is borrowed itself.
-        let words = words_of(unsafe { held.lent() }).ok_or(StoredError::Misaligned)?;
+        // SAFETY: `Sequence` hands it out only for as long as it is borrowed itself.
+        let words = words_of(unsafe { held.borrowed() }).ok_or(StoredError::Misaligned)?;
         let view = SequenceView::from_words(words)?;
         Ok(Sequence { view, held })
     }
 }
 
 impl<O> Sequence<O> {
-    /// The parts, lent.
+    /// A view of the parts.
     #[inline(always)]
     pub fn view(&self) -> &SequenceView<'_> {
         &self.view

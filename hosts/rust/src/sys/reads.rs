@@ -107,7 +107,7 @@ pub fn previous(words: &[u64], bits_len: usize, one: bool, from: usize) -> Optio
     Some(found(status, out, bits_len, len)? as usize)
 }
 
-/// The positions of the 1 bits, or 0 bits, from `from` on, rising, until there is no more room.
+/// The positions of the 1 bits, or 0 bits, from `from` on, in increasing order, until there is no more room.
 ///
 /// ```
 /// use bitm_proved::words;

@@ -1,4 +1,4 @@
-//! Monotone integer sequences (Elias-Fano) in parts that are lent.
+//! Monotone integer sequences (Elias-Fano) in borrowed parts.
 use crate::errors::{BuildError, ListError, WrongTables};
 use crate::ffi::index::bitm_list_counts;
 use crate::ffi::sequence::*;
@@ -13,7 +13,7 @@ type One = unsafe extern "C" fn(*const bitm_sequence, u64, *mut u64) -> u32;
 type Many =
     unsafe extern "C" fn(*const bitm_sequence, *const u64, usize, *mut u64, usize, *mut bitm_list_counts) -> u32;
 
-/// The parts of a sequence, lent, whose lengths fit together. They may hold anything; `check` looks at it.
+/// The borrowed parts of a sequence, whose lengths fit together. They may hold anything; `check` tests it.
 ///
 /// ```
 /// use bitm_proved::{EliasFano, SequenceView};
@@ -28,10 +28,10 @@ type Many =
 #[derive(Clone, Copy)]
 pub struct SequenceView<'a> {
     raw: bitm_sequence,
-    lends: PhantomData<&'a [u64]>,
+    borrows: PhantomData<&'a [u64]>,
 }
 
-// SAFETY: behind the pointers are slices that are lent for reading, and no call has a state.
+// SAFETY: the pointers are those of shared slices, and no call has state.
 unsafe impl Send for SequenceView<'_> {}
 // SAFETY: as of `Send`.
 unsafe impl Sync for SequenceView<'_> {}
@@ -54,16 +54,16 @@ impl<'a> SequenceView<'a> {
             lower_len: lower.len(),
             reserved: [0; 2],
         };
-        let view = SequenceView { raw, lends: PhantomData };
+        let view = SequenceView { raw, borrows: PhantomData };
         // There is no number at index `len`, so the status speaks of the lengths alone.
-        let (status, _) = view.ask(bitm_sequence_get, len as u64);
+        let (status, _) = view.call(bitm_sequence_get, len as u64);
         (status == NONE).then_some(view).ok_or(WrongTables)
     }
 
     #[inline(always)]
-    fn ask(&self, call: One, query: u64) -> (u32, u64) {
+    fn call(&self, call: One, query: u64) -> (u32, u64) {
         let mut out = 0;
-        // SAFETY: a view whose slices are lent, and room for one number.
+        // SAFETY: a view, which borrows its slices, and room for one number.
         let status = unsafe { call(&self.raw, query, &mut out) };
         (status, out)
     }
@@ -95,42 +95,42 @@ impl<'a> SequenceView<'a> {
 
     /// Whether the parts are those of some sequence.
     pub fn check(&self) -> bool {
-        // SAFETY: a view whose slices are lent.
+        // SAFETY: a view, which borrows its slices.
         unsafe { bitm_sequence_check(&self.raw) == OK }
     }
 
     /// The number at an index; `None` exactly where there is none.
     #[inline]
     pub fn checked_get(&self, index: usize) -> Result<Option<u64>, WrongTables> {
-        let (status, out) = self.ask(bitm_sequence_get, index as u64);
+        let (status, out) = self.call(bitm_sequence_get, index as u64);
         Ok(answer(status, out)?.map(|it| it as u64))
     }
 
     /// The successor: the least index whose number is at least `value`; `None` exactly where each number is less.
     #[inline]
     pub fn checked_first_at_least(&self, value: u64) -> Result<Option<usize>, WrongTables> {
-        let (status, out) = self.ask(bitm_sequence_first_at_least, value);
+        let (status, out) = self.call(bitm_sequence_first_at_least, value);
         answer(status, out)
     }
 
     /// The predecessor: the greatest index whose number is at most `value`; `None` exactly where each is greater.
     #[inline]
     pub fn checked_last_at_most(&self, value: u64) -> Result<Option<usize>, WrongTables> {
-        let (status, out) = self.ask(bitm_sequence_last_at_most, value);
+        let (status, out) = self.call(bitm_sequence_last_at_most, value);
         answer(status, out)
     }
 
     /// Whether a number is there.
     #[inline]
     pub fn checked_contains(&self, value: u64) -> Result<bool, WrongTables> {
-        let (status, out) = self.ask(bitm_sequence_contains, value);
+        let (status, out) = self.call(bitm_sequence_contains, value);
         Ok(answer(status, out)? == Some(1))
     }
 
     /// The numbers from an index on, until there is no more room; fewer only where the parts are wrong.
     pub fn items<'b>(&self, from: usize, out: &'b mut [u64]) -> &'b [u64] {
         let (to, room, mut written) = (out.as_mut_ptr(), out.len(), 0);
-        // SAFETY: a view, a slice that is lent for writing, and room for one number.
+        // SAFETY: a view, a mutable slice, and room for one number.
         let status = unsafe { bitm_sequence_items(&self.raw, from as u64, to, room, &mut written) };
         &out[..if status == OK { written as usize } else { 0 }]
     }
@@ -138,7 +138,7 @@ impl<'a> SequenceView<'a> {
     /// The numbers at a list of indexes, up to the first that has none.
     pub fn get_list<'b>(&self, indexes: &[usize], out: &'b mut [u64]) -> Result<&'b [u64], ListError> {
         let (from, len, room, mut written) = (as_u64(indexes), indexes.len(), out.len(), 0);
-        // SAFETY: a view, two slices that do not overlap, the second lent for writing, and room for one number.
+        // SAFETY: a view, a shared and a mutable slice, which do not overlap, and room for one number.
         let status = unsafe {
             let to = out.as_mut_ptr();
             bitm_sequence_get_list(&self.raw, from.as_ptr(), len, to, room, &mut written)
@@ -153,7 +153,7 @@ impl<'a> SequenceView<'a> {
         let (len, room) = (values.len(), out.len());
         let mut counts = bitm_list_counts { missing: 0, wrong: 0 };
         let (from, to) = (values.as_ptr(), out.as_mut_ptr());
-        // SAFETY: a view, two slices that do not overlap, the second lent for writing, and room for the counts.
+        // SAFETY: a view, a shared and a mutable slice, which do not overlap, and room for the counts.
         let status = unsafe { call(&self.raw, from, len, to, room, &mut counts) };
         list_answer(status, counts, len, room)
     }
@@ -180,7 +180,7 @@ impl fmt::Debug for SequenceView<'_> {
     }
 }
 
-/// The parts of a sequence of the numbers, one behind another, and how many low bits each number has.
+/// The parts of a sequence of the numbers, one after another, and the number of low bits of each number.
 pub(crate) fn build(items: &[u64]) -> Result<(Vec<u64>, u64, [usize; 4]), BuildError> {
     let too_long = BuildError::TooLong { len: items.len() };
     let lens = sizes(items).ok_or(too_long)?;
@@ -191,7 +191,7 @@ pub(crate) fn build(items: &[u64]) -> Result<(Vec<u64>, u64, [usize; 4]), BuildE
     let (words_part, rest) = rest.split_at_mut(words);
     let (upper_part, lower_part) = rest.split_at_mut(upper);
     let (from, mut width) = (items.as_ptr(), 0);
-    // SAFETY: five slices that do not overlap, four of them lent for writing, and room for one number.
+    // SAFETY: five slices that do not overlap, four of them mutable, and room for one number.
     let status = unsafe {
         let (l, w) = (low_part.as_mut_ptr(), words_part.as_mut_ptr());
         let (u, t) = (upper_part.as_mut_ptr(), lower_part.as_mut_ptr());

@@ -82,17 +82,17 @@ fn put_samples(
 }
 
 /// The words of a file with that header and nothing else.
-fn begun(header: &bitm_stored) -> Result<Vec<u64>, StoredError> {
+fn with_header(header: &bitm_stored) -> Result<Vec<u64>, StoredError> {
     let mut file = zeroed((header.size / 8) as usize)?;
     let at: *const bitm_stored = header;
-    // SAFETY: a header is so many numbers of 64 bits, without gaps.
+    // SAFETY: a header is `HEADER` numbers of 64 bits, without gaps.
     let words = unsafe { slice::from_raw_parts(at.cast::<u64>(), HEADER) };
     file[..HEADER].copy_from_slice(words);
     Ok(file)
 }
 
 impl<'a> IndexView<'a> {
-    /// Of the words of a file. What its parts hold is not looked at: `check` does.
+    /// Of the words of a file. The contents of its parts are not tested: `check` does that.
     ///
     /// ```
     /// use bitm_proved::{ArrayWithRank101111, IndexView, Queries, Select, StoredError};
@@ -152,7 +152,7 @@ impl<'a> IndexView<'a> {
         if status != OK {
             return Err(StoredError::WrongLength);
         }
-        let mut file = begun(&of)?;
+        let mut file = with_header(&of)?;
         put(&mut file, of.words, self.words())?;
         put(&mut file, of.upper, self.upper())?;
         put(&mut file, of.lower, self.lower())?;
@@ -175,7 +175,7 @@ impl<'a> IndexView<'a> {
         let made = [sampled(true)?, sampled(false)?];
         for (one, made) in [true, false].into_iter().zip(&made) {
             if let Some(made) = made {
-                view = view.with_samples(one, made.lent());
+                view = view.with_samples(one, made.view());
             }
         }
         view.to_words()
@@ -183,13 +183,13 @@ impl<'a> IndexView<'a> {
 }
 
 impl OwnSamples {
-    pub(crate) fn lent(&self) -> Samples<'_> {
+    pub(crate) fn view(&self) -> Samples<'_> {
         Samples { samples: &self.samples, starts: &self.starts, log2: self.log2 }
     }
 }
 
 impl<'a> SequenceView<'a> {
-    /// Of the words of a file. What its parts hold is not looked at: `check` does.
+    /// Of the words of a file. The contents of its parts are not tested: `check` does that.
     pub fn from_words(file: &'a [u64]) -> Result<Self, StoredError> {
         let of = header(file, BITM_STORED_SEQUENCE)?;
         let (low, words) = (part(file, of.low)?, part(file, of.words)?);
@@ -212,7 +212,7 @@ impl<'a> SequenceView<'a> {
         if unsafe { bitm_stored_sequence(self.len() as u64, &lens, &mut of) } != OK {
             return Err(StoredError::WrongLength);
         }
-        let mut file = begun(&of)?;
+        let mut file = with_header(&of)?;
         for (span, from) in [of.low, of.words, of.upper, of.lower].into_iter().zip(parts) {
             put(&mut file, span, from)?;
         }

@@ -6,7 +6,7 @@ use crate::sys::view::IndexView;
 use crate::sys::OK;
 use alloc::vec::Vec;
 
-/// How many numbers the upper and the lower table of so many words have.
+/// The lengths of the upper and the lower table of the given number of words.
 ///
 /// ```
 /// assert_eq!(bitm_proved::table_lens(33), (1, 2));
@@ -16,7 +16,7 @@ pub fn table_lens(words_len: usize) -> (usize, usize) {
     unsafe { (bitm_index_upper_len(words_len), bitm_index_lower_len(words_len)) }
 }
 
-/// How many samples of one kind so many words have at most, one for each 2^`log2` bits of it.
+/// The greatest number of samples of one kind that the given number of words has, one for each 2^`log2` bits of it.
 ///
 /// ```
 /// assert_eq!(bitm_proved::samples_len(128, 7), 64);
@@ -26,7 +26,7 @@ pub fn samples_len(words_len: usize, log2: u32) -> usize {
     unsafe { bitm_index_samples_len(words_len, log2) }
 }
 
-/// Writes both tables of the words, and answers the number of 1 bits; `None`, and nothing is written, where a table has
+/// Writes both tables of the words, and returns the number of 1 bits; `None`, and nothing is written, where a table has
 /// another length than theirs.
 ///
 /// ```
@@ -36,7 +36,7 @@ pub fn samples_len(words_len: usize, log2: u32) -> usize {
 /// ```
 pub fn build_tables(words: &[u64], upper: &mut [u64], lower: &mut [u64]) -> Option<usize> {
     let (at, len, mut ones) = (words.as_ptr(), words.len(), 0);
-    // SAFETY: three slices that do not overlap, two of them lent for writing, and room for one number.
+    // SAFETY: three slices that do not overlap, two of them mutable, and room for one number.
     let status = unsafe {
         let (u, l) = (upper.as_mut_ptr(), lower.as_mut_ptr());
         bitm_index_build(at, len, u, upper.len(), l, lower.len(), &mut ones)
@@ -45,7 +45,7 @@ pub fn build_tables(words: &[u64], upper: &mut [u64], lower: &mut [u64]) -> Opti
 }
 
 impl IndexView<'_> {
-    /// Writes the samples of the 1 bits, or of the 0 bits where `one` is false, and answers how many there are; `None`,
+    /// Writes the samples of the 1 bits, or of the 0 bits where `one` is false, and returns how many there are; `None`,
     /// and nothing is written, where there is less room than `samples_len` says, or `starts` is not as long as the
     /// upper table.
     ///
@@ -58,7 +58,7 @@ impl IndexView<'_> {
     pub fn build_samples(&self, one: bool, log2: u32, samples: &mut [u32], starts: &mut [u64]) -> Option<usize> {
         let (of, mut used) = (self.raw(), 0);
         let (s, t) = (samples.as_mut_ptr(), starts.as_mut_ptr());
-        // SAFETY: a view, two slices that are lent for writing, and room for one number.
+        // SAFETY: a view, two mutable slices, and room for one number.
         let status = unsafe { bitm_index_build_samples(of, one, log2, s, samples.len(), t, starts.len(), &mut used) };
         (status == OK).then_some(used as usize)
     }

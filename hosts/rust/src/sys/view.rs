@@ -1,22 +1,22 @@
-//! Words with their tables, lent: the struct that each query of the archive takes.
+//! Borrowed words with their tables: the struct that each query of the archive takes.
 use crate::errors::{ListError, WrongTables};
 use crate::ffi::index::*;
 use crate::sys::{answer, found, memory, NONE, OK};
 use core::marker::PhantomData;
 use core::{fmt, ptr, slice};
 
-/// Samples of one kind of bits, lent. They may hold anything: no answer depends on them.
+/// Borrowed samples of one kind of bits. They may hold anything: no answer depends on them.
 #[derive(Clone, Copy, PartialEq, Eq, Debug)]
 pub struct Samples<'a> {
-    /// The samples, and nothing behind them.
+    /// The samples.
     pub samples: &'a [u32],
-    /// How many samples there are before each upper block.
+    /// The number of samples before each upper block.
     pub starts: &'a [u64],
     /// The logarithm of how many bits of the kind one sample stands for.
     pub log2: u32,
 }
 
-/// Words and tables that are lent, of which the first so many bits count, and samples, or none.
+/// Borrowed words and tables, of which the first `bits_len` bits count, and samples, or none.
 ///
 /// Tables may hold anything. Answers are those of plain counting where they are those of the words, which [`check`]
 /// says; else an answer is inside all the same, or says that they are wrong. [`Rank`], [`Select`], [`Select0`] and
@@ -41,10 +41,10 @@ pub struct Samples<'a> {
 #[derive(Clone, Copy)]
 pub struct IndexView<'a> {
     raw: bitm_index,
-    lends: PhantomData<&'a [u64]>,
+    borrows: PhantomData<&'a [u64]>,
 }
 
-// SAFETY: behind the pointers are slices that are lent for reading, and no call has a state.
+// SAFETY: the pointers are those of shared slices, and no call has state.
 unsafe impl Send for IndexView<'_> {}
 // SAFETY: as of `Send`.
 unsafe impl Sync for IndexView<'_> {}
@@ -59,7 +59,7 @@ impl<'a> IndexView<'a> {
     pub fn new(words: &'a [u64], bits_len: usize, upper: &'a [u64], lower: &'a [u64]) -> Result<Self, WrongTables> {
         let view = Self::over(words, bits_len, upper, lower);
         // No position is that large, so the status speaks of the lengths alone.
-        let (status, _) = view.ask(bitm_index_rank, true, usize::MAX);
+        let (status, _) = view.call(bitm_index_rank, true, usize::MAX);
         if status == NONE {
             Ok(view)
         } else {
@@ -82,7 +82,7 @@ impl<'a> IndexView<'a> {
             zeros: NO_SAMPLES,
             reserved: [0; 2],
         };
-        IndexView { raw, lends: PhantomData }
+        IndexView { raw, borrows: PhantomData }
     }
 
     /// With samples of the 1 bits, or of the 0 bits where `one` is false: selections of that kind begin at them.
@@ -124,45 +124,45 @@ impl<'a> IndexView<'a> {
     }
 
     #[inline(always)]
-    fn ask(
+    fn call(
         &self,
         call: unsafe extern "C" fn(*const bitm_index, bool, u64, *mut u64) -> u32,
         one: bool,
         query: usize,
     ) -> (u32, u64) {
         let mut out = 0;
-        // SAFETY: a view whose slices are lent, and room for one number.
+        // SAFETY: a view, which borrows its slices, and room for one number.
         let status = unsafe { call(&self.raw, one, query as u64, &mut out) };
         (status, out)
     }
 
     #[inline(always)]
     pub(crate) fn rank_of(&self, one: bool, position: usize) -> Result<Option<usize>, WrongTables> {
-        let (status, out) = self.ask(bitm_index_rank, one, position);
+        let (status, out) = self.call(bitm_index_rank, one, position);
         answer(status, out)
     }
 
     #[inline(always)]
     pub(crate) fn select_of(&self, one: bool, rank: usize) -> Result<Option<usize>, WrongTables> {
-        let (status, out) = self.ask(bitm_index_select, one, rank);
+        let (status, out) = self.call(bitm_index_select, one, rank);
         answer(status, out)
     }
 
     #[inline(always)]
     pub(crate) fn next_of(&self, one: bool, from: usize) -> Result<Option<usize>, WrongTables> {
-        let (status, out) = self.ask(bitm_index_next, one, from);
+        let (status, out) = self.call(bitm_index_next, one, from);
         answer(status, out)
     }
 
     #[inline(always)]
     pub(crate) fn previous_of(&self, one: bool, from: usize) -> Result<Option<usize>, WrongTables> {
-        let (status, out) = self.ask(bitm_index_previous, one, from);
+        let (status, out) = self.call(bitm_index_previous, one, from);
         answer(status, out)
     }
 
     pub(crate) fn count_of(&self, one: bool) -> usize {
         let mut out = 0;
-        // SAFETY: a view whose slices are lent, and room for one number.
+        // SAFETY: a view, which borrows its slices, and room for one number.
         let status = unsafe { bitm_index_count(&self.raw, one, &mut out) };
         found(status, out, self.len(), self.raw.words_len).unwrap_or(0) as usize
     }
@@ -179,18 +179,18 @@ impl<'a> IndexView<'a> {
         let mut counts = bitm_list_counts { missing: 0, wrong: 0 };
         let call = if selects { bitm_index_select_list } else { bitm_index_rank_list };
         let (from, to) = (memory::as_u64(queries), memory::as_u64_mut(out));
-        // SAFETY: a view, two slices that do not overlap, the second lent for writing, and room for the counts.
+        // SAFETY: a view, a shared and a mutable slice, which do not overlap, and room for the counts.
         let status = unsafe { call(&self.raw, one, from.as_ptr(), len, to.as_mut_ptr(), room, &mut counts) };
         list_answer(status, counts, len, room)
     }
 
-    /// How many bits count.
+    /// The number of bits.
     #[inline]
     pub fn len(&self) -> usize {
         self.raw.bits_len as usize
     }
 
-    /// Whether none does.
+    /// Whether there are none.
     #[inline]
     pub fn is_empty(&self) -> bool {
         self.len() == 0
@@ -237,19 +237,19 @@ impl<'a> IndexView<'a> {
 
     /// Whether the tables are those of the words, and the samples too, where there are some.
     pub fn check(&self) -> bool {
-        // SAFETY: a view whose slices are lent.
+        // SAFETY: a view, which borrows its slices.
         let right = unsafe { bitm_index_check(&self.raw) } == OK;
         right && self.check_samples(true) && self.check_samples(false)
     }
 
     /// Whether there are no samples, or those that `build_samples` writes where the tables are those of the words.
     fn check_samples(&self, one: bool) -> bool {
-        // SAFETY: a view whose slices are lent.
+        // SAFETY: a view, which borrows its slices.
         self.samples(one).is_none() || unsafe { bitm_index_check_samples(&self.raw, one) } == OK
     }
 }
 
-/// What a list of queries answered.
+/// The answer of a list of queries.
 pub(crate) fn list_answer(
     status: u32,
     counts: bitm_list_counts,

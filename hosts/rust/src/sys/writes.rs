@@ -13,7 +13,7 @@ use crate::ffi::bits::*;
 #[track_caller]
 pub fn set(words: &mut [u64], bits_len: usize, position: usize, value: bool) -> Option<()> {
     let (at, len) = (words.as_mut_ptr(), words.len());
-    // SAFETY: a slice that is lent for writing.
+    // SAFETY: a mutable slice.
     let status = unsafe { bitm_bits_set(at, len, bits_len as u64, position as u64, value) };
     found(status, 0, bits_len, len).map(|_| ())
 }
@@ -30,7 +30,7 @@ pub fn set(words: &mut [u64], bits_len: usize, position: usize, value: bool) -> 
 pub fn set_number(words: &mut [u64], bits_len: usize, begin: usize, width: u8, value: u64) -> Option<()> {
     let (at, len) = (words.as_mut_ptr(), words.len());
     let (bits, begin, width) = (bits_len as u64, begin as u64, width.into());
-    // SAFETY: a slice that is lent for writing.
+    // SAFETY: a mutable slice.
     let status = unsafe { bitm_bits_set_number(at, len, bits, begin, width, value) };
     found(status, 0, bits_len, len).map(|_| ())
 }
@@ -46,7 +46,7 @@ pub fn set_number(words: &mut [u64], bits_len: usize, begin: usize, width: u8, v
 pub fn xor_number(words: &mut [u64], bits_len: usize, begin: usize, width: u8, value: u64) -> Option<()> {
     let (at, len) = (words.as_mut_ptr(), words.len());
     let (bits, begin, width) = (bits_len as u64, begin as u64, width.into());
-    // SAFETY: a slice that is lent for writing.
+    // SAFETY: a mutable slice.
     let status = unsafe { bitm_bits_xor_number(at, len, bits, begin, width, value) };
     found(status, 0, bits_len, len).map(|_| ())
 }
@@ -62,12 +62,12 @@ pub fn xor_number(words: &mut [u64], bits_len: usize, begin: usize, width: u8, v
 pub fn set_fragment(words: &mut [u64], bits_len: usize, index: usize, width: u8, value: u64) -> Option<()> {
     let (at, len) = (words.as_mut_ptr(), words.len());
     let (bits, index, width) = (bits_len as u64, index as u64, width.into());
-    // SAFETY: a slice that is lent for writing.
+    // SAFETY: a mutable slice.
     let status = unsafe { bitm_bits_set_fragment(at, len, bits, index, width, value) };
     found(status, 0, bits_len, len).map(|_| ())
 }
 
-/// Makes two numbers of an array of numbers of `width` bits change places; `None` as of `set_number`.
+/// Swaps two numbers of an array of numbers of `width` bits; `None` as of `set_number`.
 ///
 /// ```
 /// use bitm_proved::words;
@@ -78,7 +78,7 @@ pub fn set_fragment(words: &mut [u64], bits_len: usize, index: usize, width: u8,
 pub fn swap_fragments(words: &mut [u64], bits_len: usize, first: usize, second: usize, width: u8) -> Option<()> {
     let (at, len) = (words.as_mut_ptr(), words.len());
     let (bits, first, second) = (bits_len as u64, first as u64, second as u64);
-    // SAFETY: a slice that is lent for writing.
+    // SAFETY: a mutable slice.
     let status = unsafe { bitm_bits_swap_fragments(at, len, bits, first, second, width.into()) };
     found(status, 0, bits_len, len).map(|_| ())
 }
@@ -94,7 +94,7 @@ pub fn swap_fragments(words: &mut [u64], bits_len: usize, first: usize, second: 
 pub fn fill_fragments(words: &mut [u64], bits_len: usize, width: u8, value: u64, count: usize) -> Option<()> {
     let (at, len) = (words.as_mut_ptr(), words.len());
     let (bits, width) = (bits_len as u64, width.into());
-    // SAFETY: a slice that is lent for writing.
+    // SAFETY: a mutable slice.
     let status = unsafe { bitm_bits_fill_fragments(at, len, bits, width, value, count) };
     found(status, 0, bits_len, len).map(|_| ())
 }
@@ -107,7 +107,7 @@ pub fn fill_fragments(words: &mut [u64], bits_len: usize, width: u8, value: u64,
 /// assert_eq!(bits, [7, 0]);
 /// ```
 pub fn clear_from(words: &mut [u64], bits_len: usize) {
-    // SAFETY: a slice that is lent for writing; the call always succeeds.
+    // SAFETY: a mutable slice; the call always succeeds.
     let _ = unsafe { bitm_bits_clear_from(words.as_mut_ptr(), words.len(), bits_len as u64) };
 }
 
@@ -122,7 +122,7 @@ pub fn clear_from(words: &mut [u64], bits_len: usize) {
 pub fn fill_range(words: &mut [u64], bits_len: usize, from: usize, to: usize, value: bool) -> Option<()> {
     let (at, len) = (words.as_mut_ptr(), words.len());
     let (bits, from, to) = (bits_len as u64, from as u64, to as u64);
-    // SAFETY: a slice that is lent for writing.
+    // SAFETY: a mutable slice.
     let status = unsafe { bitm_bits_fill_range(at, len, bits, from, to, value) };
     found(status, 0, bits_len, len).map(|_| ())
 }
@@ -137,7 +137,7 @@ pub fn fill_range(words: &mut [u64], bits_len: usize, from: usize, to: usize, va
 pub fn flip_range(words: &mut [u64], bits_len: usize, from: usize, to: usize) -> Option<()> {
     let (at, len) = (words.as_mut_ptr(), words.len());
     let (bits, from, to) = (bits_len as u64, from as u64, to as u64);
-    // SAFETY: a slice that is lent for writing.
+    // SAFETY: a mutable slice.
     let status = unsafe { bitm_bits_flip_range(at, len, bits, from, to) };
     found(status, 0, bits_len, len).map(|_| ())
 }
@@ -152,7 +152,7 @@ pub fn flip_range(words: &mut [u64], bits_len: usize, from: usize, to: usize) ->
 pub fn copy_range(to: &mut [u64], to_begin: usize, from: &[u64], from_begin: usize, count: usize) -> Option<()> {
     let (at, len, other, other_len) = (to.as_mut_ptr(), to.len(), from.as_ptr(), from.len());
     let (to_begin, from_begin, count) = (to_begin as u64, from_begin as u64, count as u64);
-    // SAFETY: a slice that is lent for writing, and one for reading, which do not overlap.
+    // SAFETY: a mutable slice and a shared one, which do not overlap.
     let status = unsafe { bitm_bits_copy_range(at, len, to_begin, other, other_len, from_begin, count) };
     (status == BITM_OK).then_some(())
 }
@@ -162,7 +162,7 @@ macro_rules! combines {
         $(#[$doc])*
         pub fn $name(words: &mut [u64], other: &[u64]) -> Option<()> {
             let (at, len) = (words.as_mut_ptr(), words.len());
-            // SAFETY: a slice that is lent for writing, and one for reading, which do not overlap.
+            // SAFETY: a mutable slice and a shared one, which do not overlap.
             let status = unsafe { $call(at, len, other.as_ptr(), other.len()) };
             (status == BITM_OK).then_some(())
         }

@@ -1,10 +1,10 @@
-//! What several tests use: drawn numbers, plain lists of bits, and panics with their words.
+//! Shared by the tests: random numbers, plain lists of bits, and the messages of panics.
 #![allow(dead_code)]
 use std::panic::{catch_unwind, UnwindSafe};
 
-pub struct Drawn(pub u64);
+pub struct Random(pub u64);
 
-impl Drawn {
+impl Random {
     pub fn next(&mut self) -> u64 {
         self.0 ^= self.0 << 13;
         self.0 ^= self.0 >> 7;
@@ -32,7 +32,7 @@ impl Drawn {
     }
 }
 
-/// The first so many bits, one by one.
+/// The first `len` bits, one by one.
 pub fn bits_of(words: &[u64], len: usize) -> Vec<bool> {
     (0..len).map(|i| words[i / 64] >> (i % 64) & 1 == 1).collect()
 }
