@@ -1,12 +1,13 @@
-//! Writes an index and a sequence into the first folder, and reads those of all: what other hosts wrote too.
-use bitm_proved::lent::Sequence;
-use bitm_proved::stored::{bytes_of, StoredIndex};
-use bitm_proved::{CombinedSampling, ConstCombinedSamplingDensity, EliasFano, RankSelect101111};
+//! Writes an index and a sequence into the first folder, and reads those of all: what other languages wrote too.
+use bitm_proved::{
+    bytes_of, CombinedSampling, ConstCombinedSamplingDensity, EliasFano, Index, Queries, Rank, RankSelect101111,
+    Select, Select0, Sequence,
+};
 use std::{env, error::Error, fs, path::Path};
 
-const BITS: u64 = 100_001;
+const BITS: usize = 100_001;
 
-fn bit(i: u64) -> bool {
+fn bit(i: usize) -> bool {
     i * i % 7 < 2 || i % 1000 < 100
 }
 
@@ -16,16 +17,12 @@ fn numbers() -> Vec<u64> {
 
 fn write(folder: &Path) -> Result<(), Box<dyn Error>> {
     type Sampled = CombinedSampling<ConstCombinedSamplingDensity<9>>;
-    let word =
-        |w| (64 * w..BITS.min(64 * w + 64)).fold(0, |all, i| all | u64::from(bit(i)) << (i % 64));
+    let word = |w: usize| (64 * w..BITS.min(64 * w + 64)).fold(0, |all, i| all | u64::from(bit(i)) << (i % 64));
     let words: Vec<u64> = (0..BITS.div_ceil(64)).map(word).collect();
     let (index, _) = RankSelect101111::<Sampled, Sampled, _>::build(words);
-    fs::write(
-        folder.join("index"),
-        bytes_of(&index.to_stored(BITS as usize)?),
-    )?;
+    fs::write(folder.join("index"), bytes_of(&index.to_stored(BITS)?))?;
     let sequence = EliasFano::build(&numbers())?;
-    fs::write(folder.join("sequence"), bytes_of(&sequence.to_stored()))?;
+    fs::write(folder.join("sequence"), bytes_of(&sequence.to_stored()?))?;
     Ok(())
 }
 
@@ -37,28 +34,20 @@ fn words_of(path: &Path) -> Result<Vec<u64>, Box<dyn Error>> {
 }
 
 fn read(folder: &Path) -> Result<(), Box<dyn Error>> {
-    let (of_index, of_sequence) = (
-        words_of(&folder.join("index"))?,
-        words_of(&folder.join("sequence"))?,
-    );
-    let (index, sequence) = (
-        StoredIndex::from_words(&of_index)?,
-        Sequence::from_words(&of_sequence)?,
-    );
-    assert!(index.check() && sequence.check() && index.len() as u64 == BITS);
+    let index = Index::from_words(words_of(&folder.join("index"))?)?;
+    let sequence = Sequence::from_words(words_of(&folder.join("sequence"))?)?;
+    assert!(index.check() && sequence.check() && index.view().len() == BITS);
     let (mut ones, mut zeros) = (0, 0);
     for i in 0..BITS {
-        assert_eq!(index.rank(i as usize), Ok(Some(ones)));
-        let (found, before) = if bit(i) {
-            (index.select(ones as usize), &mut ones)
-        } else {
-            (index.select0(zeros as usize), &mut zeros)
+        assert_eq!(index.rank(i), ones);
+        let (found, before) = match bit(i) {
+            true => (index.select(ones), &mut ones),
+            false => (index.select0(zeros), &mut zeros),
         };
-        assert_eq!(found, Ok(Some(i)));
+        assert_eq!(found, i);
         *before += 1;
     }
-    let mut found = [0; 3001];
-    assert_eq!(sequence.items(0, &mut found), numbers());
+    assert!(sequence.iter().eq(numbers()));
     Ok(())
 }
 

@@ -1,0 +1,50 @@
+//! Indexes and sequences over mapped files.
+use crate::errors::OpenError;
+use crate::sys::index::Index;
+use crate::sys::mapped::Mapped;
+use crate::sys::owned::Sequence;
+use std::path::Path;
+
+/// An index over a file that is mapped: one value has the file and answers.
+///
+/// ```
+/// use bitm_proved::{bytes_of, Index, IndexFile, Queries, Select};
+/// # fn main() -> Result<(), Box<dyn std::error::Error>> {
+/// let path = std::env::temp_dir().join(format!("bitm-index-{}", std::process::id()));
+/// std::fs::write(&path, bytes_of(&Index::build(vec![0b1011u64]).to_stored(64)?))?;
+/// let index = IndexFile::open(&path)?;
+/// assert!(index.check() && index.select(2) == 3);
+/// # std::fs::remove_file(&path)?;
+/// # Ok(())
+/// # }
+/// ```
+pub type IndexFile = Index<Mapped>;
+
+/// A sequence over a file that is mapped: one value has the file and answers.
+///
+/// ```
+/// use bitm_proved::{bytes_of, EliasFano, SequenceFile};
+/// # fn main() -> Result<(), Box<dyn std::error::Error>> {
+/// let path = std::env::temp_dir().join(format!("bitm-sequence-{}", std::process::id()));
+/// std::fs::write(&path, bytes_of(&EliasFano::build(&[2, 3, 5])?.to_stored()?))?;
+/// assert_eq!(SequenceFile::open(&path)?.get(2), Some(5));
+/// # std::fs::remove_file(&path)?;
+/// # Ok(())
+/// # }
+/// ```
+pub type SequenceFile = Sequence<Mapped>;
+
+impl IndexFile {
+    /// The index in a file. The contents of its parts are not tested: `check` does that. The file has to stay as it is.
+    pub fn open(path: impl AsRef<Path>) -> Result<Self, OpenError> {
+        Ok(Index::from_bytes(Mapped::open(path)?)?)
+    }
+}
+
+impl SequenceFile {
+    /// The sequence in a file. The contents of its parts are not tested: `check` does that. The file has to stay as it
+    /// is.
+    pub fn open(path: impl AsRef<Path>) -> Result<Self, OpenError> {
+        Ok(Sequence::from_bytes(Mapped::open(path)?)?)
+    }
+}

@@ -1,0 +1,272 @@
+//! The positions of the 1 bits or 0 bits of words, and their bits, from either end: Rust, tested and not proved.
+use crate::bits::BitAccess;
+use crate::sys::reads;
+use core::iter::FusedIterator;
+use core::ops::Range;
+use core::slice;
+
+/// The positions of the 1 bits of words, or of the 0 bits where `B` is false, in increasing order, from either end.
+/// Tested, not proved.
+///
+/// ```
+/// use bitm_proved::{BitBIterator, BitOnesIterator, BitZerosIterator};
+/// let words = [0b1011, 1];
+/// assert!(BitOnesIterator::new(&words).eq([0, 1, 3, 64]));
+/// assert!(BitBIterator::<true>::with_range(&words, 1..64).rev().eq([3, 1]));
+/// assert!(BitZerosIterator::with_range(&words, 0..6).eq([2, 4, 5]));
+/// assert_eq!(BitZerosIterator::new(&words).len(), 124);
+/// ```
+#[derive(Clone, Debug)]
+pub struct BitBIterator<'a, const B: bool> {
+    /// The words between the first and the last.
+    words: slice::Iter<'a, u64>,
+    /// 1 bits for what is still to come of the first word, which begins at a position.
+    first: u64,
+    first_at: usize,
+    /// The same of the last word.
+    last: u64,
+    last_at: usize,
+}
+
+/// The positions of the 1 bits, in increasing order. Tested, not proved.
+pub type BitOnesIterator<'a> = BitBIterator<'a, true>;
+
+/// The positions of the 0 bits, in increasing order. Tested, not proved.
+pub type BitZerosIterator<'a> = BitBIterator<'a, false>;
+
+impl<'a, const B: bool> BitBIterator<'a, B> {
+    /// Over all words of a slice.
+    #[inline]
+    pub fn new(slice: &'a [u64]) -> Self {
+        BitBIterator {
+            words: slice.iter(),
+            first: 0,
+            first_at: 0usize.wrapping_sub(64),
+            last: 0,
+            last_at: 64 * slice.len(),
+        }
+    }
+
+    /// Those in a range. Panics where it ends past the end; a range that ends before it begins has none.
+    #[inline]
+    #[track_caller]
+    pub fn with_range(slice: &'a [u64], range: Range<usize>) -> Self {
+        let bits = 64 * slice.len();
+        if range.end > bits {
+            past_the_end(range, bits)
+        }
+        if range.is_empty() {
+            return Self::new(&[]);
+        }
+        let (begin, end) = (range.start / 64, range.end.div_ceil(64));
+        let (from, to) = (range.start % 64, (64 - range.end % 64) % 64);
+        let first = Self::kind(slice[begin]) >> from << from;
+        if begin + 1 == end {
+            return BitBIterator {
+                words: [].iter(),
+                first: first << to >> to,
+                first_at: 64 * begin,
+                last: 0,
+                last_at: 64 * end,
+            };
+        }
+        BitBIterator {
+            words: slice[begin + 1..end - 1].iter(),
+            first,
+            first_at: 64 * begin,
+            last: Self::kind(slice[end - 1]) << to >> to,
+            last_at: 64 * (end - 1),
+        }
+    }
+
+    /// The word with 1 bits for the bits of the kind.
+    #[inline(always)]
+    fn kind(word: u64) -> u64 {
+        if B {
+            word
+        } else {
+            !word
+        }
+    }
+
+    /// The next of the last word, of which the other end has taken some.
+    #[cold]
+    fn next_of_last(&mut self) -> Option<usize> {
+        if self.last == 0 {
+            return None;
+        }
+        let bit = self.last.trailing_zeros() as usize;
+        self.last &= self.last - 1;
+        Some(self.last_at + bit)
+    }
+
+    /// The last of the first word, of which the other end has taken some.
+    #[cold]
+    fn last_of_first(&mut self) -> Option<usize> {
+        if self.first == 0 {
+            return None;
+        }
+        let bit = 63 - self.first.leading_zeros() as usize;
+        self.first &= !(1 << bit);
+        Some(self.first_at + bit)
+    }
+}
+
+#[cold]
+#[track_caller]
+fn past_the_end(range: Range<usize>, bits: usize) -> ! {
+    panic!("the range {range:?} ends past {bits} bits")
+}
+
+impl<const B: bool> Iterator for BitBIterator<'_, B> {
+    type Item = usize;
+
+    #[inline]
+    fn next(&mut self) -> Option<usize> {
+        while self.first == 0 {
+            let Some(word) = self.words.next() else {
+                return self.next_of_last();
+            };
+            self.first = Self::kind(*word);
+            self.first_at = self.first_at.wrapping_add(64);
+        }
+        let bit = self.first.trailing_zeros() as usize;
+        self.first &= self.first - 1;
+        Some(self.first_at + bit)
+    }
+
+    #[inline]
+    fn size_hint(&self) -> (usize, Option<usize>) {
+        let len = self.len();
+        (len, Some(len))
+    }
+
+    #[inline]
+    fn count(self) -> usize {
+        self.len()
+    }
+}
+
+impl<const B: bool> DoubleEndedIterator for BitBIterator<'_, B> {
+    #[inline]
+    fn next_back(&mut self) -> Option<usize> {
+        while self.last == 0 {
+            let Some(word) = self.words.next_back() else {
+                return self.last_of_first();
+            };
+            self.last = Self::kind(*word);
+            self.last_at -= 64;
+        }
+        let bit = 63 - self.last.leading_zeros() as usize;
+        self.last &= !(1 << bit);
+        Some(self.last_at + bit)
+    }
+}
+
+impl<const B: bool> ExactSizeIterator for BitBIterator<'_, B> {
+    /// Counts the bits that are still to come.
+    fn len(&self) -> usize {
+        let between = self.words.as_slice();
+        let ends = self.first.count_ones() + self.last.count_ones();
+        ends as usize + reads::count(between, 64 * between.len(), B)
+    }
+}
+
+impl<const B: bool> FusedIterator for BitBIterator<'_, B> {}
+
+/// The bits of a range of words, from either end. Tested, not proved.
+///
+/// ```
+/// use bitm_proved::BitIterator;
+/// let mut bits = BitIterator::with_range(&[0b1011], 1..4);
+/// assert_eq!((bits.len(), bits.next(), bits.next_back(), bits.bit_range()), (3, Some(true), Some(true), &(2..3)));
+/// assert_eq!((bits.bit_vec(), BitIterator::new(&[1]).len()), (&[0b1011][..], 64));
+/// ```
+#[derive(Clone, Debug)]
+pub struct BitIterator<'bv> {
+    bit_vec: &'bv [u64],
+    bit_range: Range<usize>,
+}
+
+impl<'bv> BitIterator<'bv> {
+    /// All bits.
+    #[inline]
+    pub fn new(bit_vec: &'bv [u64]) -> Self {
+        Self::with_range(bit_vec, 0..64 * bit_vec.len())
+    }
+
+    /// As `with_range`.
+    ///
+    /// # Safety
+    /// The range ends inside. (This is tested all the same.)
+    ///
+    /// ```
+    /// // SAFETY: there are 64 bits.
+    /// assert_eq!(unsafe { bitm_proved::BitIterator::with_range_unchecked(&[3], 0..3) }.filter(|it| *it).count(), 2);
+    /// ```
+    #[track_caller]
+    pub unsafe fn with_range_unchecked(bit_vec: &'bv [u64], bit_range: Range<usize>) -> Self {
+        Self::with_range(bit_vec, bit_range)
+    }
+
+    /// The bits of a range. Panics where it ends past the end.
+    #[inline]
+    #[track_caller]
+    pub fn with_range(bit_vec: &'bv [u64], bit_range: Range<usize>) -> Self {
+        let bits = 64 * bit_vec.len();
+        if bit_range.end > bits {
+            past_the_end(bit_range, bits)
+        }
+        BitIterator { bit_vec, bit_range }
+    }
+
+    /// The range that is still to come.
+    #[inline]
+    pub fn bit_range(&self) -> &Range<usize> {
+        &self.bit_range
+    }
+
+    /// The words.
+    #[inline]
+    pub fn bit_vec(&self) -> &'bv [u64] {
+        self.bit_vec
+    }
+}
+
+impl Iterator for BitIterator<'_> {
+    type Item = bool;
+
+    #[inline]
+    fn next(&mut self) -> Option<bool> {
+        let position = self.bit_range.next()?;
+        Some(self.bit_vec.get_bit(position))
+    }
+
+    #[inline]
+    fn nth(&mut self, n: usize) -> Option<bool> {
+        let position = self.bit_range.nth(n)?;
+        Some(self.bit_vec.get_bit(position))
+    }
+
+    #[inline]
+    fn size_hint(&self) -> (usize, Option<usize>) {
+        self.bit_range.size_hint()
+    }
+}
+
+impl DoubleEndedIterator for BitIterator<'_> {
+    #[inline]
+    fn next_back(&mut self) -> Option<bool> {
+        let position = self.bit_range.next_back()?;
+        Some(self.bit_vec.get_bit(position))
+    }
+
+    #[inline]
+    fn nth_back(&mut self, n: usize) -> Option<bool> {
+        let position = self.bit_range.nth_back(n)?;
+        Some(self.bit_vec.get_bit(position))
+    }
+}
+
+impl ExactSizeIterator for BitIterator<'_> {}
+impl FusedIterator for BitIterator<'_> {}

@@ -1,0 +1,331 @@
+//! The numbers of a sequence: queries that panic where its parts are wrong, iterators, and intersections.
+use crate::errors::{sure, wrong_tables, ListError, StoredError};
+use crate::sys::owned::Sequence;
+use crate::sys::sequence::SequenceView;
+use alloc::vec::Vec;
+use core::iter::FusedIterator;
+use core::ops::Range;
+
+macro_rules! answers {
+    ($kind:ty, $self:ident, $view:expr, $($generic:tt)*) => {
+        impl $($generic)* $kind {
+            /// The number at an index; `None` exactly where there is none. One proved call.
+            #[inline]
+            #[track_caller]
+            pub fn get(&$self, index: usize) -> Option<u64> {
+                sure($view.checked_get(index))
+            }
+
+            /// The successor: the least index whose number is at least `value`; `None` exactly where each number is
+            /// less. One proved call.
+            #[inline]
+            #[track_caller]
+            pub fn first_at_least(&$self, value: u64) -> Option<usize> {
+                sure($view.checked_first_at_least(value))
+            }
+
+            /// The predecessor: the greatest index whose number is at most `value`; `None` exactly where each number is
+            /// greater. One proved call.
+            #[inline]
+            #[track_caller]
+            pub fn last_at_most(&$self, value: u64) -> Option<usize> {
+                sure($view.checked_last_at_most(value))
+            }
+
+            /// Whether a number is there. One proved call.
+            #[inline]
+            #[track_caller]
+            pub fn contains(&$self, value: u64) -> bool {
+                sure($view.checked_contains(value))
+            }
+
+            /// The numbers, from either end.
+            pub fn iter(&$self) -> Numbers<'_> {
+                Numbers::new(*$view, 0..$view.len())
+            }
+
+            /// The numbers whose indexes are in a range. Panics where it ends past the end.
+            #[track_caller]
+            pub fn range(&$self, range: Range<usize>) -> Numbers<'_> {
+                let len = $view.len();
+                assert!(range.end <= len, "the range {range:?} ends past {len} numbers");
+                Numbers::new(*$view, range)
+            }
+
+            /// The numbers that are at least `value`, from either end.
+            #[track_caller]
+            pub fn iter_from(&$self, value: u64) -> Numbers<'_> {
+                let (len, first) = ($view.len(), $self.first_at_least(value));
+                Numbers::new(*$view, first.unwrap_or(len)..len)
+            }
+        }
+    };
+}
+answers!(SequenceView<'_>, self, self,);
+answers!(Sequence<O>, self, self.view(), <O>);
+
+impl<O> Sequence<O> {
+    /// How many numbers there are.
+    #[inline]
+    pub fn len(&self) -> usize {
+        self.view().len()
+    }
+
+    /// Whether there are none.
+    #[inline]
+    pub fn is_empty(&self) -> bool {
+        self.len() == 0
+    }
+
+    /// Whether the parts are those of some sequence.
+    pub fn check(&self) -> bool {
+        self.view().check()
+    }
+
+    /// The words of a file of this sequence.
+    pub fn to_stored(&self) -> Result<Vec<u64>, StoredError> {
+        self.view().to_words()
+    }
+
+    /// The numbers at a list of indexes, up to the first that has none.
+    ///
+    /// ```
+    /// let primes = bitm_proved::EliasFano::build(&[2, 3, 5, 7])?;
+    /// assert_eq!(primes.get_list(&[3, 0, 4, 1], &mut [0; 4]), Ok(&[7, 2][..]));
+    /// # Ok::<(), bitm_proved::BuildError>(())
+    /// ```
+    pub fn get_list<'b>(&self, indexes: &[usize], out: &'b mut [u64]) -> Result<&'b [u64], ListError> {
+        self.view().get_list(indexes, out)
+    }
+
+    /// The successors of a list of values; how many have none, which `NO_ANSWER` stands for.
+    ///
+    /// ```
+    /// use bitm_proved::{EliasFano, NO_ANSWER};
+    /// let (primes, mut out) = (EliasFano::build(&[2, 3, 5, 7])?, [0; 2]);
+    /// assert_eq!((primes.first_at_least_list(&[4, 8], &mut out), out), (Ok(1), [2, NO_ANSWER]));
+    /// # Ok::<(), bitm_proved::BuildError>(())
+    /// ```
+    pub fn first_at_least_list(&self, values: &[u64], out: &mut [usize]) -> Result<usize, ListError> {
+        self.view().first_at_least_list(values, out)
+    }
+
+    /// The predecessors of a list of values; how many have none, which `NO_ANSWER` stands for.
+    ///
+    /// ```
+    /// use bitm_proved::{EliasFano, NO_ANSWER};
+    /// let (primes, mut out) = (EliasFano::build(&[2, 3, 5, 7])?, [0; 2]);
+    /// assert_eq!((primes.last_at_most_list(&[4, 1], &mut out), out), (Ok(1), [1, NO_ANSWER]));
+    /// # Ok::<(), bitm_proved::BuildError>(())
+    /// ```
+    pub fn last_at_most_list(&self, values: &[u64], out: &mut [usize]) -> Result<usize, ListError> {
+        self.view().last_at_most_list(values, out)
+    }
+
+    /// Which of a list of values are there: 1 where one is, else 0.
+    ///
+    /// ```
+    /// let (primes, mut out) = (bitm_proved::EliasFano::build(&[2, 3, 5, 7])?, [9; 2]);
+    /// assert_eq!((primes.contains_list(&[4, 5], &mut out), out), (Ok(()), [0, 1]));
+    /// # Ok::<(), bitm_proved::BuildError>(())
+    /// ```
+    pub fn contains_list(&self, values: &[u64], out: &mut [u64]) -> Result<(), ListError> {
+        self.view().contains_list(values, out)
+    }
+}
+
+impl<'a, O> IntoIterator for &'a Sequence<O> {
+    type Item = u64;
+    type IntoIter = Numbers<'a>;
+    fn into_iter(self) -> Numbers<'a> {
+        self.iter()
+    }
+}
+
+impl<'a> IntoIterator for &'a SequenceView<'_> {
+    type Item = u64;
+    type IntoIter = Numbers<'a>;
+    fn into_iter(self) -> Numbers<'a> {
+        self.iter()
+    }
+}
+
+/// How many numbers are read by one call.
+const BLOCK: usize = 16;
+
+/// Numbers that were read, from an index on.
+#[derive(Clone, Debug)]
+struct Block {
+    from: usize,
+    len: usize,
+    items: [u64; BLOCK],
+}
+
+impl Block {
+    const NONE: Block = Block { from: 0, len: 0, items: [0; BLOCK] };
+
+    #[inline(always)]
+    fn at(&self, index: usize) -> Option<u64> {
+        let items = &self.items[..self.len];
+        items.get(index.wrapping_sub(self.from)).copied()
+    }
+
+    #[cold]
+    #[track_caller]
+    fn read(&mut self, view: &SequenceView<'_>, range: Range<usize>) {
+        self.from = range.start;
+        self.len = view.items(range.start, &mut self.items[..range.len()]).len();
+        if self.len < range.len() {
+            wrong_tables()
+        }
+    }
+}
+
+/// Numbers of a sequence, from either end, and from a value on. They are read in blocks by the proved call; what is
+/// kept of them is tested, not proved.
+///
+/// ```
+/// use bitm_proved::{EliasFano, Numbers};
+/// let primes = EliasFano::build(&[2, 3, 5, 7, 11, 13])?;
+/// assert!(primes.iter().rev().eq([13, 11, 7, 5, 3, 2]) && primes.range(1..3).eq([3, 5]));
+/// let mut from: Numbers<'_> = primes.iter_from(6);
+/// assert_eq!((from.index(), from.len()), (3, 3));
+/// assert_eq!((from.next(), from.next_geq(12), from.next()), (Some(7), Some(13), None));
+/// assert_eq!((&primes).into_iter().sum::<u64>(), 41);
+/// # Ok::<(), bitm_proved::BuildError>(())
+/// ```
+#[derive(Clone, Debug)]
+pub struct Numbers<'a> {
+    view: SequenceView<'a>,
+    range: Range<usize>,
+    front: Block,
+    back: Block,
+}
+
+impl<'a> Numbers<'a> {
+    fn new(view: SequenceView<'a>, range: Range<usize>) -> Self {
+        Numbers { view, range, front: Block::NONE, back: Block::NONE }
+    }
+
+    /// The index of the number that is next from the front.
+    pub fn index(&self) -> usize {
+        self.range.start
+    }
+
+    /// Moves on to the first number that is still to come and is at least `value`, and takes it.
+    #[track_caller]
+    pub fn next_geq(&mut self, value: u64) -> Option<u64> {
+        if self.front.at(self.range.start).is_some() {
+            let read = &self.front.items[..self.front.len];
+            let within = read.partition_point(|it| *it < value);
+            if within < read.len() {
+                self.range.start = self.range.start.max(self.front.from + within);
+                return self.next();
+            }
+        }
+        let first = self.view.first_at_least(value).unwrap_or(self.range.end);
+        self.range.start = self.range.start.max(first).min(self.range.end);
+        self.next()
+    }
+}
+
+impl Iterator for Numbers<'_> {
+    type Item = u64;
+
+    #[inline]
+    #[track_caller]
+    fn next(&mut self) -> Option<u64> {
+        if self.range.is_empty() {
+            return None;
+        }
+        let index = self.range.start;
+        if self.front.at(index).is_none() {
+            let end = self.range.end.min(index + BLOCK);
+            self.front.read(&self.view, index..end);
+        }
+        self.range.start += 1;
+        self.front.at(index)
+    }
+
+    #[inline]
+    fn nth(&mut self, n: usize) -> Option<u64> {
+        self.range.start = self.range.start.saturating_add(n).min(self.range.end);
+        self.next()
+    }
+
+    #[inline]
+    fn size_hint(&self) -> (usize, Option<usize>) {
+        self.range.size_hint()
+    }
+}
+
+impl DoubleEndedIterator for Numbers<'_> {
+    #[inline]
+    #[track_caller]
+    fn next_back(&mut self) -> Option<u64> {
+        if self.range.is_empty() {
+            return None;
+        }
+        let index = self.range.end - 1;
+        if self.back.at(index).is_none() {
+            let from = self.range.end.saturating_sub(BLOCK).max(self.range.start);
+            self.back.read(&self.view, from..self.range.end);
+        }
+        self.range.end = index;
+        self.back.at(index)
+    }
+}
+
+impl ExactSizeIterator for Numbers<'_> {}
+impl FusedIterator for Numbers<'_> {}
+
+/// The numbers that two sequences have both, in increasing order, each once. Tested, not proved.
+///
+/// ```
+/// use bitm_proved::{intersection, EliasFano};
+/// let (odd, primes) = (EliasFano::build(&[1, 3, 5, 7, 9, 11])?, EliasFano::build(&[2, 3, 5, 5, 7, 11])?);
+/// assert!(intersection(odd.iter(), primes.iter_from(4)).eq([5, 7, 11]));
+/// # Ok::<(), bitm_proved::BuildError>(())
+/// ```
+pub fn intersection<'a, 'b>(a: Numbers<'a>, b: Numbers<'b>) -> Intersection<'a, 'b> {
+    let least = Some(0);
+    Intersection { a, b, least }
+}
+
+/// The numbers that two sequences have both: of [`intersection`]. Tested, not proved.
+///
+/// ```
+/// use bitm_proved::{intersection, EliasFano, Intersection};
+/// let odd = EliasFano::build(&[1, 3, 5])?;
+/// let mut both: Intersection<'_, '_> = intersection(odd.iter(), odd.iter_from(4));
+/// assert_eq!((both.next(), both.next()), (Some(5), None));
+/// # Ok::<(), bitm_proved::BuildError>(())
+/// ```
+#[derive(Clone, Debug)]
+pub struct Intersection<'a, 'b> {
+    a: Numbers<'a>,
+    b: Numbers<'b>,
+    /// The next number is no less.
+    least: Option<u64>,
+}
+
+impl Iterator for Intersection<'_, '_> {
+    type Item = u64;
+
+    fn next(&mut self) -> Option<u64> {
+        let least = self.least.take()?;
+        let mut a = self.a.next_geq(least)?;
+        let mut b = self.b.next_geq(a)?;
+        while a != b {
+            if a < b {
+                a = self.a.next_geq(b)?;
+            } else {
+                b = self.b.next_geq(a)?;
+            }
+        }
+        self.least = a.checked_add(1);
+        Some(a)
+    }
+}
+
+impl FusedIterator for Intersection<'_, '_> {}

@@ -1,0 +1,55 @@
+//! The only module with `unsafe` blocks: calls of the archive, memory, owners, bytes and mapped files.
+pub(crate) mod bytes;
+pub(crate) mod hash;
+pub(crate) mod held;
+pub(crate) mod index;
+#[cfg(all(feature = "mmap", unix))]
+pub(crate) mod mapped;
+pub(crate) mod memory;
+pub(crate) mod owned;
+pub(crate) mod reads;
+pub(crate) mod sequence;
+pub(crate) mod stored;
+pub(crate) mod tables;
+pub(crate) mod view;
+pub(crate) mod writes;
+
+use crate::errors::WrongTables;
+pub(crate) use crate::ffi::bits::{BITM_NONE as NONE, BITM_OK as OK, BITM_UNSORTED as UNSORTED};
+
+/// The number of the archive's version: 10000 times the major, 100 times the minor one, and the patch.
+///
+/// ```
+/// assert!(bitm_proved::library_version() >= 300);
+/// ```
+pub fn library_version() -> u32 {
+    // SAFETY: the call takes nothing.
+    unsafe { crate::ffi::bits::bitm_version() }
+}
+
+/// The answer of a query of words with tables, or of a sequence.
+#[inline(always)]
+pub(crate) fn answer(status: u32, out: u64) -> Result<Option<usize>, WrongTables> {
+    match status {
+        OK => Ok(Some(out as usize)),
+        NONE => Ok(None),
+        _ => Err(WrongTables),
+    }
+}
+
+/// The answer of a query of the first `bits_len` bits of words.
+#[inline(always)]
+#[track_caller]
+pub(crate) fn found(status: u32, out: u64, bits_len: usize, words_len: usize) -> Option<u64> {
+    match status {
+        OK => Some(out),
+        NONE => None,
+        _ => wrong_length(bits_len, words_len),
+    }
+}
+
+#[cold]
+#[track_caller]
+fn wrong_length(bits_len: usize, words_len: usize) -> ! {
+    panic!("{bits_len} bits of {words_len} words: there are no more than 64 in each, of fewer than 2^58 words")
+}

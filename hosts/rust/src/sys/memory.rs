@@ -1,0 +1,114 @@
+//! Memory that may be refused, and numbers seen as others of the same size.
+use crate::errors::NoMemory;
+use alloc::alloc::{alloc_zeroed, Layout};
+use alloc::boxed::Box;
+use alloc::vec::Vec;
+use core::slice;
+
+// The tables are of numbers of 64 bits for the archive, and of `usize` in the original's interface.
+const _: () = assert!(size_of::<usize>() == 8, "the archive is for 64-bit processors");
+
+/// Numbers of which zero bytes are a value.
+///
+/// # Safety
+/// They are.
+pub(crate) unsafe trait Number: Copy {}
+
+// SAFETY: zero bytes are the number 0.
+unsafe impl Number for u64 {}
+// SAFETY: zero bytes are the number 0.
+unsafe impl Number for u32 {}
+// SAFETY: zero bytes are the number 0.
+unsafe impl Number for usize {}
+
+/// `len` zeros.
+pub(crate) fn zeroed<T: Number>(len: usize) -> Result<Vec<T>, NoMemory> {
+    let refused = NoMemory { bytes: len.saturating_mul(size_of::<T>()) };
+    let layout = Layout::array::<T>(len).map_err(|_| refused)?;
+    if layout.size() == 0 {
+        return Ok(Vec::new());
+    }
+    // SAFETY: the layout has a size.
+    let at = unsafe { alloc_zeroed(layout) }.cast::<T>();
+    if at.is_null() {
+        return Err(refused);
+    }
+    // SAFETY: the allocator of vectors returned `len` zeros of this layout.
+    Ok(unsafe { Vec::from_raw_parts(at, len, len) })
+}
+
+/// `len` words equal to `value`.
+pub(crate) fn filled(value: u64, len: usize) -> Result<Box<[u64]>, NoMemory> {
+    let mut words = zeroed(len)?;
+    if value != 0 {
+        words.fill(value);
+    }
+    Ok(words.into_boxed_slice())
+}
+
+/// A vector of one item.
+pub(crate) fn one<T>(item: T) -> Result<Vec<T>, NoMemory> {
+    let mut list = Vec::new();
+    list.try_reserve_exact(1).map_err(|_| NoMemory { bytes: size_of::<T>() })?;
+    list.push(item);
+    Ok(list)
+}
+
+/// The numbers as `u64`.
+#[inline(always)]
+pub(crate) fn as_u64(numbers: &[usize]) -> &[u64] {
+    // SAFETY: `usize` has 64 bits.
+    unsafe { slice::from_raw_parts(numbers.as_ptr().cast(), numbers.len()) }
+}
+
+/// The numbers as `u64`.
+#[inline(always)]
+pub(crate) fn as_u64_mut(numbers: &mut [usize]) -> &mut [u64] {
+    // SAFETY: `usize` has 64 bits.
+    unsafe { slice::from_raw_parts_mut(numbers.as_mut_ptr().cast(), numbers.len()) }
+}
+
+/// Words as twice as many numbers of 32 bits.
+pub(crate) fn halves(words: &[u64]) -> &[u32] {
+    // SAFETY: each word is two of them, which begin at a multiple of 4.
+    unsafe { slice::from_raw_parts(words.as_ptr().cast(), 2 * words.len()) }
+}
+
+/// Words as twice as many numbers of 32 bits.
+pub(crate) fn halves_mut(words: &mut [u64]) -> &mut [u32] {
+    // SAFETY: each word is two of them, which begin at a multiple of 4.
+    unsafe { slice::from_raw_parts_mut(words.as_mut_ptr().cast(), 2 * words.len()) }
+}
+
+/// The bytes of words, as a file has them.
+///
+/// ```
+/// assert_eq!(bitm_proved::bytes_of(&[1u64, 0]).len(), 16);
+/// ```
+pub fn bytes_of(words: &[u64]) -> &[u8] {
+    // SAFETY: each byte of a number is a number of 8 bits, and a byte stands anywhere.
+    unsafe { slice::from_raw_parts(words.as_ptr().cast(), size_of_val(words)) }
+}
+
+/// The whole words of bytes that begin at a multiple of 8.
+pub(crate) fn words_of(bytes: &[u8]) -> Option<&[u64]> {
+    if bytes.len() < 8 {
+        return Some(&[]);
+    }
+    let at = bytes.as_ptr().cast::<u64>();
+    // SAFETY: aligned, inside the bytes, and any eight bytes are a number.
+    at.is_aligned().then(|| unsafe { slice::from_raw_parts(at, bytes.len() / 8) })
+}
+
+/// Prefetches item `index` of a slice; any number will do.
+#[inline(always)]
+pub(crate) fn prefetch<T>(items: &[T], index: usize) {
+    #[cfg(target_arch = "x86_64")]
+    // SAFETY: an address that is not there is no fault of this instruction.
+    unsafe {
+        use core::arch::x86_64::{_mm_prefetch, _MM_HINT_T0};
+        _mm_prefetch::<_MM_HINT_T0>(items.as_ptr().wrapping_add(index).cast());
+    }
+    #[cfg(not(target_arch = "x86_64"))]
+    let _ = (items, index);
+}

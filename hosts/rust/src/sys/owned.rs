@@ -1,0 +1,146 @@
+//! A sequence and the owner of its parts.
+use crate::errors::{BuildError, StoredError};
+use crate::sys::held::Held;
+use crate::sys::memory::{words_of, zeroed};
+use crate::sys::sequence::{build, SequenceView};
+use alloc::vec::Vec;
+use core::fmt;
+
+/// A monotone integer sequence (Elias-Fano) and the owner of its parts, in about 2 + log2(greatest / length) bits a
+/// number.
+///
+/// ```
+/// use bitm_proved::EliasFano;
+/// let primes = EliasFano::build(&[2, 3, 5, 7, 11, 13])?;
+/// assert_eq!((primes.get(4), primes.get(6), primes.len()), (Some(11), None, 6));
+/// assert_eq!((primes.first_at_least(8), primes.last_at_most(8)), (Some(4), Some(3)));
+/// assert!(primes.contains(7) && !primes.contains(8) && !primes.is_empty() && primes.check());
+/// # Ok::<(), bitm_proved::BuildError>(())
+/// ```
+pub struct Sequence<O> {
+    view: SequenceView<'static>,
+    held: Held<O>,
+}
+
+/// A sequence whose parts stand in one vector.
+pub type EliasFano = Sequence<Vec<u64>>;
+
+impl EliasFano {
+    /// The sequence of the numbers, each of which is at least the one before it.
+    pub fn build(items: &[u64]) -> Result<Self, BuildError> {
+        let (all, width, lens) = build(items)?;
+        let made = Self::over(all, items.len(), width, lens);
+        made.map_err(|why| match why {
+            StoredError::NoMemory(why) => BuildError::NoMemory(why),
+            _ => BuildError::TooLong { len: items.len() },
+        })
+    }
+
+    fn over(all: Vec<u64>, len: usize, width: u64, lens: [usize; 4]) -> Result<Self, StoredError> {
+        let held = Held::new(all)?;
+        // SAFETY: `Sequence` hands it out only for as long as it is borrowed itself.
+        let mut rest = unsafe { held.borrowed::<[u64]>() };
+        let parts = lens.map(|it| {
+            let (part, after) = rest.split_at(it);
+            rest = after;
+            part
+        });
+        let view = SequenceView::new(len, width, parts).map_err(|_| StoredError::WrongLength)?;
+        Ok(Sequence { view, held })
+    }
+
+    /// A copy; an error where memory cannot be had.
+    ///
+    /// ```
+    /// use bitm_proved::EliasFano;
+    /// assert_eq!(EliasFano::build(&[2, 3])?.try_clone()?.get(1), Some(3));
+    /// # Ok::<(), Box<dyn std::error::Error>>(())
+    /// ```
+    pub fn try_clone(&self) -> Result<Self, StoredError> {
+        let parts = self.view().parts();
+        let lens = parts.map(<[u64]>::len);
+        let mut all = zeroed(lens.iter().sum())?;
+        let mut rest = &mut all[..];
+        for part in parts {
+            let (to, after) = rest.split_at_mut(part.len());
+            to.copy_from_slice(part);
+            rest = after;
+        }
+        Self::over(all, self.len(), self.view().width(), lens)
+    }
+}
+
+impl Clone for EliasFano {
+    fn clone(&self) -> Self {
+        crate::errors::made(self.try_clone())
+    }
+}
+
+impl<O: AsRef<[u64]>> Sequence<O> {
+    /// The sequence in a file, whose words the owner has. The contents of its parts are not tested: `check` does that.
+    ///
+    /// ```
+    /// use bitm_proved::{EliasFano, Sequence};
+    /// let file = EliasFano::build(&[2, 3, 5])?.to_stored()?;
+    /// assert_eq!(Sequence::from_words(&file)?.get(2), Some(5));
+    /// # Ok::<(), Box<dyn std::error::Error>>(())
+    /// ```
+    pub fn from_words(owner: O) -> Result<Self, StoredError> {
+        let held = Held::new(owner)?;
+        // SAFETY: `Sequence` hands it out only for as long as it is borrowed itself.
+        let view = SequenceView::from_words(unsafe { held.borrowed() })?;
+        Ok(Sequence { view, held })
+    }
+}
+
+impl<O: AsRef<[u8]>> Sequence<O> {
+    /// The sequence in a file, whose bytes the owner has; they begin at a multiple of 8.
+    ///
+    /// ```
+    /// use bitm_proved::{bytes_of, EliasFano, Sequence};
+    /// let file = EliasFano::build(&[2, 3, 5])?.to_stored()?;
+    /// assert_eq!(Sequence::from_bytes(bytes_of(&file))?.len(), 3);
+    /// # Ok::<(), Box<dyn std::error::Error>>(())
+    /// ```
+    pub fn from_bytes(owner: O) -> Result<Self, StoredError> {
+        let held = Held::new(owner)?;
+        // SAFETY: `Sequence` hands it out only for as long as it is borrowed itself.
+        let words = words_of(unsafe { held.borrowed() }).ok_or(StoredError::Misaligned)?;
+        let view = SequenceView::from_words(words)?;
+        Ok(Sequence { view, held })
+    }
+}
+
+impl<O> Sequence<O> {
+    /// A view of the parts.
+    #[inline(always)]
+    pub fn view(&self) -> &SequenceView<'_> {
+        &self.view
+    }
+
+    /// The owner.
+    ///
+    /// ```
+    /// assert!(bitm_proved::EliasFano::build(&[9])?.owner().len() < 8);
+    /// # Ok::<(), bitm_proved::BuildError>(())
+    /// ```
+    pub fn owner(&self) -> &O {
+        self.held.owner()
+    }
+
+    /// The owner, without the sequence.
+    ///
+    /// ```
+    /// assert!(bitm_proved::EliasFano::build(&[9])?.into_owner().len() < 8);
+    /// # Ok::<(), bitm_proved::BuildError>(())
+    /// ```
+    pub fn into_owner(self) -> O {
+        self.held.into_owner()
+    }
+}
+
+impl<O> fmt::Debug for Sequence<O> {
+    fn fmt(&self, f: &mut fmt::Formatter<'_>) -> fmt::Result {
+        self.view().fmt(f)
+    }
+}

@@ -1,0 +1,216 @@
+//! Monotone integer sequences (Elias-Fano) in borrowed parts.
+use crate::errors::{BuildError, ListError, WrongTables};
+use crate::ffi::index::bitm_list_counts;
+use crate::ffi::sequence::*;
+use crate::sys::memory::{as_u64, as_u64_mut, zeroed};
+use crate::sys::view::list_answer;
+use crate::sys::{answer, NONE, OK, UNSORTED};
+use alloc::vec::Vec;
+use core::marker::PhantomData;
+use core::{fmt, slice};
+
+type One = unsafe extern "C" fn(*const bitm_sequence, u64, *mut u64) -> u32;
+type Many =
+    unsafe extern "C" fn(*const bitm_sequence, *const u64, usize, *mut u64, usize, *mut bitm_list_counts) -> u32;
+
+/// The borrowed parts of a sequence, whose lengths fit together. They may hold anything; `check` tests it.
+///
+/// ```
+/// use bitm_proved::{EliasFano, SequenceView};
+/// let primes = EliasFano::build(&[2, 3, 5, 7])?;
+/// let (len, width, parts) = (primes.len(), primes.view().width(), primes.view().parts());
+/// let view = SequenceView::new(len, width, parts)?;
+/// assert_eq!((view.checked_get(2), view.checked_get(4), view.check()), (Ok(Some(5)), Ok(None), true));
+/// assert_eq!((view.checked_first_at_least(4), view.checked_last_at_most(4)), (Ok(Some(2)), Ok(Some(1))));
+/// assert_eq!((view.checked_contains(4), view.items(1, &mut [0; 2])), (Ok(false), &[3, 5][..]));
+/// # Ok::<(), Box<dyn std::error::Error>>(())
+/// ```
+#[derive(Clone, Copy)]
+pub struct SequenceView<'a> {
+    raw: bitm_sequence,
+    borrows: PhantomData<&'a [u64]>,
+}
+
+// SAFETY: the pointers are those of shared slices, and no call has state.
+unsafe impl Send for SequenceView<'_> {}
+// SAFETY: as of `Send`.
+unsafe impl Sync for SequenceView<'_> {}
+
+impl<'a> SequenceView<'a> {
+    /// Of `len` numbers with `width` low bits: low bits, words of the high bits, and the two tables of these words. An
+    /// error where a length does not fit.
+    pub fn new(len: usize, width: u64, parts: [&'a [u64]; 4]) -> Result<Self, WrongTables> {
+        let [low, words, upper, lower] = parts;
+        let raw = bitm_sequence {
+            len,
+            width,
+            low: low.as_ptr(),
+            low_len: low.len(),
+            words: words.as_ptr(),
+            words_len: words.len(),
+            upper: upper.as_ptr(),
+            upper_len: upper.len(),
+            lower: lower.as_ptr(),
+            lower_len: lower.len(),
+            reserved: [0; 2],
+        };
+        let view = SequenceView { raw, borrows: PhantomData };
+        // There is no number at index `len`, so the status speaks of the lengths alone.
+        let (status, _) = view.call(bitm_sequence_get, len as u64);
+        (status == NONE).then_some(view).ok_or(WrongTables)
+    }
+
+    #[inline(always)]
+    fn call(&self, call: One, query: u64) -> (u32, u64) {
+        let mut out = 0;
+        // SAFETY: a view, which borrows its slices, and room for one number.
+        let status = unsafe { call(&self.raw, query, &mut out) };
+        (status, out)
+    }
+
+    /// How many numbers there are.
+    #[inline]
+    pub fn len(&self) -> usize {
+        self.raw.len
+    }
+
+    /// Whether there are none.
+    #[inline]
+    pub fn is_empty(&self) -> bool {
+        self.len() == 0
+    }
+
+    /// How many low bits each number has.
+    pub fn width(&self) -> u64 {
+        self.raw.width
+    }
+
+    /// Low bits, words of the high bits, and the two tables of these words.
+    pub fn parts(&self) -> [&'a [u64]; 4] {
+        let raw = &self.raw;
+        [(raw.low, raw.low_len), (raw.words, raw.words_len), (raw.upper, raw.upper_len), (raw.lower, raw.lower_len)]
+            // SAFETY: the slices that `new` was given.
+            .map(|(at, len)| unsafe { slice::from_raw_parts(at, len) })
+    }
+
+    /// Whether the parts are those of some sequence.
+    pub fn check(&self) -> bool {
+        // SAFETY: a view, which borrows its slices.
+        unsafe { bitm_sequence_check(&self.raw) == OK }
+    }
+
+    /// The number at an index; `None` exactly where there is none.
+    #[inline]
+    pub fn checked_get(&self, index: usize) -> Result<Option<u64>, WrongTables> {
+        let (status, out) = self.call(bitm_sequence_get, index as u64);
+        Ok(answer(status, out)?.map(|it| it as u64))
+    }
+
+    /// The successor: the least index whose number is at least `value`; `None` exactly where each number is less.
+    #[inline]
+    pub fn checked_first_at_least(&self, value: u64) -> Result<Option<usize>, WrongTables> {
+        let (status, out) = self.call(bitm_sequence_first_at_least, value);
+        answer(status, out)
+    }
+
+    /// The predecessor: the greatest index whose number is at most `value`; `None` exactly where each is greater.
+    #[inline]
+    pub fn checked_last_at_most(&self, value: u64) -> Result<Option<usize>, WrongTables> {
+        let (status, out) = self.call(bitm_sequence_last_at_most, value);
+        answer(status, out)
+    }
+
+    /// Whether a number is there.
+    #[inline]
+    pub fn checked_contains(&self, value: u64) -> Result<bool, WrongTables> {
+        let (status, out) = self.call(bitm_sequence_contains, value);
+        Ok(answer(status, out)? == Some(1))
+    }
+
+    /// The numbers from an index on, until there is no more room; fewer only where the parts are wrong.
+    pub fn items<'b>(&self, from: usize, out: &'b mut [u64]) -> &'b [u64] {
+        let (to, room, mut written) = (out.as_mut_ptr(), out.len(), 0);
+        // SAFETY: a view, a mutable slice, and room for one number.
+        let status = unsafe { bitm_sequence_items(&self.raw, from as u64, to, room, &mut written) };
+        &out[..if status == OK { written as usize } else { 0 }]
+    }
+
+    /// The numbers at a list of indexes, up to the first that has none.
+    pub fn get_list<'b>(&self, indexes: &[usize], out: &'b mut [u64]) -> Result<&'b [u64], ListError> {
+        let (from, len, room, mut written) = (as_u64(indexes), indexes.len(), out.len(), 0);
+        // SAFETY: a view, a shared and a mutable slice, which do not overlap, and room for one number.
+        let status = unsafe {
+            let to = out.as_mut_ptr();
+            bitm_sequence_get_list(&self.raw, from.as_ptr(), len, to, room, &mut written)
+        };
+        if status != OK {
+            return Err(ListError::Lengths { queries: len, room });
+        }
+        Ok(&out[..written as usize])
+    }
+
+    fn list(&self, call: Many, values: &[u64], out: &mut [u64]) -> Result<usize, ListError> {
+        let (len, room) = (values.len(), out.len());
+        let mut counts = bitm_list_counts { missing: 0, wrong: 0 };
+        let (from, to) = (values.as_ptr(), out.as_mut_ptr());
+        // SAFETY: a view, a shared and a mutable slice, which do not overlap, and room for the counts.
+        let status = unsafe { call(&self.raw, from, len, to, room, &mut counts) };
+        list_answer(status, counts, len, room)
+    }
+
+    /// The successors of a list of values; how many have none, which `NO_ANSWER` stands for.
+    pub fn first_at_least_list(&self, values: &[u64], out: &mut [usize]) -> Result<usize, ListError> {
+        self.list(bitm_sequence_first_at_least_list, values, as_u64_mut(out))
+    }
+
+    /// The predecessors of a list of values; how many have none, which `NO_ANSWER` stands for.
+    pub fn last_at_most_list(&self, values: &[u64], out: &mut [usize]) -> Result<usize, ListError> {
+        self.list(bitm_sequence_last_at_most_list, values, as_u64_mut(out))
+    }
+
+    /// Which of a list of values are there: 1 where one is, else 0.
+    pub fn contains_list(&self, values: &[u64], out: &mut [u64]) -> Result<(), ListError> {
+        self.list(bitm_sequence_contains_list, values, out).map(|_| ())
+    }
+}
+
+impl fmt::Debug for SequenceView<'_> {
+    fn fmt(&self, f: &mut fmt::Formatter<'_>) -> fmt::Result {
+        write!(f, "{} numbers with {} low bits", self.len(), self.width())
+    }
+}
+
+/// The parts of a sequence of the numbers, one after another, and the number of low bits of each number.
+pub(crate) fn build(items: &[u64]) -> Result<(Vec<u64>, u64, [usize; 4]), BuildError> {
+    let too_long = BuildError::TooLong { len: items.len() };
+    let lens = sizes(items).ok_or(too_long)?;
+    let [low, words, upper, lower] =
+        [lens.low_len, lens.words_len, lens.upper_len, lens.lower_len].map(|it| it as usize);
+    let mut all = zeroed(low + words + upper + lower)?;
+    let (low_part, rest) = all.split_at_mut(low);
+    let (words_part, rest) = rest.split_at_mut(words);
+    let (upper_part, lower_part) = rest.split_at_mut(upper);
+    let (from, mut width) = (items.as_ptr(), 0);
+    // SAFETY: five slices that do not overlap, four of them mutable, and room for one number.
+    let status = unsafe {
+        let (l, w) = (low_part.as_mut_ptr(), words_part.as_mut_ptr());
+        let (u, t) = (upper_part.as_mut_ptr(), lower_part.as_mut_ptr());
+        bitm_sequence_build(from, items.len(), l, low, w, words, u, upper, t, lower, &mut width)
+    };
+    match status {
+        OK => Ok((all, width, [low, words, upper, lower])),
+        UNSORTED => Err(BuildError::NotSorted { index: unsorted(items) }),
+        _ => Err(too_long),
+    }
+}
+
+fn unsorted(items: &[u64]) -> usize {
+    items.windows(2).position(|it| it[1] < it[0]).map_or(0, |it| it + 1)
+}
+
+fn sizes(items: &[u64]) -> Option<bitm_sequence_lens> {
+    let largest = items.last().copied().unwrap_or(0);
+    let mut out = bitm_sequence_lens { width: 0, low_len: 0, words_len: 0, upper_len: 0, lower_len: 0 };
+    // SAFETY: numbers are passed, and room for the sizes.
+    (unsafe { bitm_sequence_sizes(items.len(), largest, &mut out) } == OK).then_some(out)
+}

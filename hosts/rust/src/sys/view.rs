@@ -1,0 +1,275 @@
+//! Borrowed words with their tables: the struct that each query of the archive takes.
+use crate::errors::{ListError, WrongTables};
+use crate::ffi::index::*;
+use crate::sys::{answer, found, memory, NONE, OK};
+use core::marker::PhantomData;
+use core::{fmt, ptr, slice};
+
+/// Borrowed samples of one kind of bits. They may hold anything: no answer depends on them.
+#[derive(Clone, Copy, PartialEq, Eq, Debug)]
+pub struct Samples<'a> {
+    /// The samples.
+    pub samples: &'a [u32],
+    /// The number of samples before each upper block.
+    pub starts: &'a [u64],
+    /// The logarithm of how many bits of the kind one sample stands for.
+    pub log2: u32,
+}
+
+/// Borrowed words and tables, of which the first `bits_len` bits count, and samples, or none.
+///
+/// Tables may hold anything. Answers are those of plain counting where they are those of the words, which [`check`]
+/// says; else an answer is inside all the same, or says that they are wrong. [`Rank`], [`Select`], [`Select0`] and
+/// [`Queries`] have the queries; each is one call of the archive.
+///
+/// [`check`]: IndexView::check
+/// [`Rank`]: crate::Rank
+/// [`Select`]: crate::Select
+/// [`Select0`]: crate::Select0
+/// [`Queries`]: crate::Queries
+///
+/// ```
+/// use bitm_proved::{build_tables, IndexView, Rank, Select};
+/// let (words, mut upper, mut lower) = ([0b1011_0110], [0], [0]);
+/// build_tables(&words, &mut upper, &mut lower);
+/// let bits = IndexView::new(&words, 6, &upper, &lower)?; // of 64 bits the first 6
+/// assert_eq!((bits.rank(6), bits.try_rank(7), bits.select(3), bits.try_select(4)), (4, None, 5, None));
+/// assert_eq!((bits.len(), bits.is_empty(), bits.get(5), bits.get(6)), (6, false, Some(true), None));
+/// assert!(bits.check());
+/// # Ok::<(), bitm_proved::WrongTables>(())
+/// ```
+#[derive(Clone, Copy)]
+pub struct IndexView<'a> {
+    raw: bitm_index,
+    borrows: PhantomData<&'a [u64]>,
+}
+
+// SAFETY: the pointers are those of shared slices, and no call has state.
+unsafe impl Send for IndexView<'_> {}
+// SAFETY: as of `Send`.
+unsafe impl Sync for IndexView<'_> {}
+
+/// No samples.
+const NO_SAMPLES: bitm_samples =
+    bitm_samples { samples: ptr::null(), samples_len: 0, starts: ptr::null(), starts_len: 0, log2: 0, reserved: 0 };
+
+impl<'a> IndexView<'a> {
+    /// The first `bits_len` bits of words with their tables; an error where there are fewer bits, or a table is not as
+    /// long as that of the words.
+    pub fn new(words: &'a [u64], bits_len: usize, upper: &'a [u64], lower: &'a [u64]) -> Result<Self, WrongTables> {
+        let view = Self::over(words, bits_len, upper, lower);
+        // No position is that large, so the status speaks of the lengths alone.
+        let (status, _) = view.call(bitm_index_rank, true, usize::MAX);
+        if status == NONE {
+            Ok(view)
+        } else {
+            Err(WrongTables)
+        }
+    }
+
+    /// As `new`, where the lengths may be any: each call tests them.
+    #[inline(always)]
+    pub(crate) fn over(words: &'a [u64], bits_len: usize, upper: &'a [u64], lower: &'a [u64]) -> Self {
+        let raw = bitm_index {
+            words: words.as_ptr(),
+            words_len: words.len(),
+            upper: upper.as_ptr(),
+            upper_len: upper.len(),
+            lower: lower.as_ptr(),
+            lower_len: lower.len(),
+            bits_len: bits_len as u64,
+            ones: NO_SAMPLES,
+            zeros: NO_SAMPLES,
+            reserved: [0; 2],
+        };
+        IndexView { raw, borrows: PhantomData }
+    }
+
+    /// With samples of the 1 bits, or of the 0 bits where `one` is false: selections of that kind begin at them.
+    ///
+    /// ```
+    /// use bitm_proved::{ArrayWithRank101111, Queries, Samples, Select};
+    /// let index: ArrayWithRank101111 = vec![u64::MAX; 40].into_boxed_slice().into();
+    /// let samples = Samples { samples: &[0; 20], starts: &[0], log2: 7 };
+    /// let sampled = index.view().with_samples(true, samples);
+    /// assert_eq!((sampled.select(1000), sampled.samples(true), sampled.samples(false)), (1000, Some(samples), None));
+    /// ```
+    #[inline(always)]
+    pub fn with_samples(mut self, one: bool, samples: Samples<'a>) -> Self {
+        let raw = bitm_samples {
+            samples: samples.samples.as_ptr(),
+            samples_len: samples.samples.len(),
+            starts: samples.starts.as_ptr(),
+            starts_len: samples.starts.len(),
+            log2: samples.log2,
+            reserved: 0,
+        };
+        if one {
+            self.raw.ones = raw;
+        } else {
+            self.raw.zeros = raw;
+        }
+        self
+    }
+
+    /// The first `bits_len` of its bits, or all where there are fewer.
+    pub(crate) fn cut(mut self, bits_len: usize) -> Self {
+        self.raw.bits_len = self.raw.bits_len.min(bits_len as u64);
+        self
+    }
+
+    #[inline(always)]
+    pub(crate) fn raw(&self) -> &bitm_index {
+        &self.raw
+    }
+
+    #[inline(always)]
+    fn call(
+        &self,
+        call: unsafe extern "C" fn(*const bitm_index, bool, u64, *mut u64) -> u32,
+        one: bool,
+        query: usize,
+    ) -> (u32, u64) {
+        let mut out = 0;
+        // SAFETY: a view, which borrows its slices, and room for one number.
+        let status = unsafe { call(&self.raw, one, query as u64, &mut out) };
+        (status, out)
+    }
+
+    #[inline(always)]
+    pub(crate) fn rank_of(&self, one: bool, position: usize) -> Result<Option<usize>, WrongTables> {
+        let (status, out) = self.call(bitm_index_rank, one, position);
+        answer(status, out)
+    }
+
+    #[inline(always)]
+    pub(crate) fn select_of(&self, one: bool, rank: usize) -> Result<Option<usize>, WrongTables> {
+        let (status, out) = self.call(bitm_index_select, one, rank);
+        answer(status, out)
+    }
+
+    #[inline(always)]
+    pub(crate) fn next_of(&self, one: bool, from: usize) -> Result<Option<usize>, WrongTables> {
+        let (status, out) = self.call(bitm_index_next, one, from);
+        answer(status, out)
+    }
+
+    #[inline(always)]
+    pub(crate) fn previous_of(&self, one: bool, from: usize) -> Result<Option<usize>, WrongTables> {
+        let (status, out) = self.call(bitm_index_previous, one, from);
+        answer(status, out)
+    }
+
+    pub(crate) fn count_of(&self, one: bool) -> usize {
+        let mut out = 0;
+        // SAFETY: a view, which borrows its slices, and room for one number.
+        let status = unsafe { bitm_index_count(&self.raw, one, &mut out) };
+        found(status, out, self.len(), self.raw.words_len).unwrap_or(0) as usize
+    }
+
+    /// A list of queries; how many have no answer.
+    pub(crate) fn list(
+        &self,
+        selects: bool,
+        one: bool,
+        queries: &[usize],
+        out: &mut [usize],
+    ) -> Result<usize, ListError> {
+        let (len, room) = (queries.len(), out.len());
+        let mut counts = bitm_list_counts { missing: 0, wrong: 0 };
+        let call = if selects { bitm_index_select_list } else { bitm_index_rank_list };
+        let (from, to) = (memory::as_u64(queries), memory::as_u64_mut(out));
+        // SAFETY: a view, a shared and a mutable slice, which do not overlap, and room for the counts.
+        let status = unsafe { call(&self.raw, one, from.as_ptr(), len, to.as_mut_ptr(), room, &mut counts) };
+        list_answer(status, counts, len, room)
+    }
+
+    /// The number of bits.
+    #[inline]
+    pub fn len(&self) -> usize {
+        self.raw.bits_len as usize
+    }
+
+    /// Whether there are none.
+    #[inline]
+    pub fn is_empty(&self) -> bool {
+        self.len() == 0
+    }
+
+    /// The bit at a position; `None` exactly where there is none. Tested, not proved.
+    #[inline]
+    pub fn get(&self, position: usize) -> Option<bool> {
+        let bit = crate::inline::bit(self.words(), position)?;
+        (position < self.len()).then_some(bit)
+    }
+
+    /// The words.
+    #[inline(always)]
+    pub fn words(&self) -> &'a [u64] {
+        // SAFETY: the slice that `over` was given.
+        unsafe { slice::from_raw_parts(self.raw.words, self.raw.words_len) }
+    }
+
+    /// The upper table: how many 1 bits are before each upper block of 2^32 bits.
+    pub fn upper(&self) -> &'a [u64] {
+        // SAFETY: the slice that `over` was given.
+        unsafe { slice::from_raw_parts(self.raw.upper, self.raw.upper_len) }
+    }
+
+    /// The lower table: one number for each lower block of 2048 bits.
+    pub fn lower(&self) -> &'a [u64] {
+        // SAFETY: the slice that `over` was given.
+        unsafe { slice::from_raw_parts(self.raw.lower, self.raw.lower_len) }
+    }
+
+    /// The samples of the 1 bits, or of the 0 bits where `one` is false.
+    pub fn samples(&self, one: bool) -> Option<Samples<'a>> {
+        let raw = if one { &self.raw.ones } else { &self.raw.zeros };
+        if raw.samples.is_null() {
+            return None;
+        }
+        // SAFETY: the slices that `with_samples` was given.
+        let (samples, starts) = unsafe {
+            (slice::from_raw_parts(raw.samples, raw.samples_len), slice::from_raw_parts(raw.starts, raw.starts_len))
+        };
+        Some(Samples { samples, starts, log2: raw.log2 })
+    }
+
+    /// Whether the tables are those of the words, and the samples too, where there are some.
+    pub fn check(&self) -> bool {
+        // SAFETY: a view, which borrows its slices.
+        let right = unsafe { bitm_index_check(&self.raw) } == OK;
+        right && self.check_samples(true) && self.check_samples(false)
+    }
+
+    /// Whether there are no samples, or those that `build_samples` writes where the tables are those of the words.
+    fn check_samples(&self, one: bool) -> bool {
+        // SAFETY: a view, which borrows its slices.
+        self.samples(one).is_none() || unsafe { bitm_index_check_samples(&self.raw, one) } == OK
+    }
+}
+
+/// The answer of a list of queries.
+pub(crate) fn list_answer(
+    status: u32,
+    counts: bitm_list_counts,
+    queries: usize,
+    room: usize,
+) -> Result<usize, ListError> {
+    match status {
+        OK if counts.wrong > 0 => Err(ListError::WrongTables { wrong: counts.wrong as usize }),
+        OK => Ok(counts.missing as usize),
+        _ if queries != room => Err(ListError::Lengths { queries, room }),
+        _ => Err(ListError::WrongTables { wrong: queries }),
+    }
+}
+
+impl fmt::Debug for IndexView<'_> {
+    fn fmt(&self, f: &mut fmt::Formatter<'_>) -> fmt::Result {
+        f.debug_struct("IndexView")
+            .field("bits", &self.len())
+            .field("samples", &self.samples(true).map(|it| it.log2))
+            .field("samples0", &self.samples(false).map(|it| it.log2))
+            .finish()
+    }
+}

@@ -1,0 +1,230 @@
+//! Owners of words or bytes: moved, shared between threads, used after panics; errors and panics.
+mod common;
+use bitm_proved::{
+    bytes_of, ArrayWithRank101111, BitAccess, BitIterator, BitOnesIterator, BitVec, BuildError, EliasFano, Index,
+    IndexView, ListError, NoMemory, Numbers, PerfectHash, Queries, Rank, RankSelect101111, RankSimple, Sampling,
+    Select, Select0, Sequence, SequenceView, StoredError, WrongTables,
+};
+use common::says;
+use std::cell::RefCell;
+use std::error::Error;
+use std::panic::{RefUnwindSafe, UnwindSafe};
+use std::sync::Arc;
+
+#[test]
+fn any_owner_has_an_index_over_its_words() {
+    let words = vec![0b1011u64, 7, 0, u64::MAX];
+    fn try_owner<O: AsRef<[u64]>>(owner: O) {
+        let mut many: Vec<Index<O>> = vec![Index::build(owner)];
+        many.reserve(100); // moves it
+        let index = Box::new(many.remove(0));
+        assert_eq!((index.rank(256), index.select(6), index.select0(0)), (70, 192, 2));
+        assert_eq!(index.owner().as_ref().len(), 4);
+        assert_eq!(index.into_owner().as_ref()[1], 7);
+    }
+    try_owner(&words[..]);
+    try_owner(words.clone());
+    try_owner(words.clone().into_boxed_slice());
+    try_owner(Arc::<[u64]>::from(&words[..]));
+    try_owner(<[u64; 4]>::try_from(&words[..]).expect("four")); // inline: moved into memory of its own
+    try_owner(std::borrow::Cow::Borrowed(&words[..]));
+}
+
+/// Borrows other words each time: the index uses the first.
+struct Fickle(Vec<u64>, Vec<u64>, std::cell::Cell<bool>);
+
+impl AsRef<[u64]> for Fickle {
+    fn as_ref(&self) -> &[u64] {
+        if self.2.replace(true) {
+            &self.1
+        } else {
+            &self.0
+        }
+    }
+}
+
+#[test]
+fn an_owner_that_borrows_other_words_does_no_harm() {
+    let fickle = Fickle(vec![7; 50], vec![1], false.into());
+    let index = Index::try_build(fickle, 3200, Sampling::default()).expect("the first words");
+    assert_eq!((index.rank(3200), index.select(149)), (150, 49 * 64 + 2));
+}
+
+#[test]
+fn all_types_are_send_sync_and_unwind_safe() {
+    fn all<T: Send + Sync + UnwindSafe + RefUnwindSafe>() {}
+    all::<Index<Vec<u64>>>();
+    all::<Index<Arc<[u64]>>>();
+    all::<IndexView<'_>>();
+    all::<ArrayWithRank101111>();
+    all::<RankSelect101111<bitm_proved::CombinedSampling, bitm_proved::CombinedSampling>>();
+    all::<RankSimple>();
+    all::<EliasFano>();
+    all::<Sequence<&[u8]>>();
+    all::<SequenceView<'_>>();
+    all::<Numbers<'_>>();
+    all::<PerfectHash>();
+    all::<(BitOnesIterator<'_>, BitIterator<'_>)>();
+    all::<(BuildError, StoredError, ListError, NoMemory, WrongTables)>();
+    let index = Index::build(vec![0b1011u64; 100]);
+    std::thread::scope(|threads| {
+        for _ in 0..4 {
+            threads.spawn(|| (0..300).for_each(|i| assert_eq!(index.select(i) / 64, i / 3)));
+        }
+    });
+}
+
+#[test]
+fn errors_are_errors_and_say_the_numbers() {
+    let errors: [Box<dyn Error + Send + Sync>; 9] = [
+        Box::new(NoMemory { bytes: 80 }),
+        Box::new(WrongTables),
+        Box::new(BuildError::TooLong { len: 9 }),
+        Box::new(BuildError::NotSorted { index: 3 }),
+        Box::new(BuildError::EqualHashes { left: 2 }),
+        Box::new(BuildError::NoMemory(NoMemory { bytes: 80 })),
+        Box::new(StoredError::Misaligned),
+        Box::new(ListError::Lengths { queries: 7, room: 6 }),
+        Box::new(ListError::WrongTables { wrong: 5 }),
+    ];
+    let texts: Vec<String> = errors.iter().map(|it| it.to_string()).collect();
+    assert_eq!(
+        texts,
+        [
+            "80 bytes of memory could not be had",
+            "the tables are not those of the words",
+            "9 is more than there may be",
+            "number 3 is less than the one before it",
+            "2 hashes are equal to others",
+            "80 bytes of memory could not be had",
+            "the bytes do not begin at a multiple of 8",
+            "there is room for 6 answers to 7 queries",
+            "the tables are not those of the words: 5 answers show it",
+        ]
+    );
+    fn fails() -> Result<usize, Box<dyn Error>> {
+        let words = [0u64];
+        let view = IndexView::new(&words, 64, &words, &[u64::MAX])?;
+        Ok(view.checked_rank(64)?.unwrap_or(0))
+    }
+    assert!(fails().is_err_and(|why| why.is::<WrongTables>()));
+}
+
+#[test]
+fn memory_that_is_not_there_is_an_error() {
+    let bytes = 1 << 59;
+    let refused = NoMemory { bytes };
+    assert_eq!(Box::<[u64]>::try_with_zeroed_bits(1 << 62).err(), Some(refused));
+    assert_eq!(Box::<[u64]>::try_with_filled_bits(1 << 62).err(), Some(refused));
+    assert_eq!(Box::<[u64]>::try_with_bitwords(1, 64, 1 << 56).err(), Some(refused));
+    let text = says(|| assert!(Box::<[u64]>::with_zeroed_bits(1 << 62).is_empty()));
+    assert_eq!(text, "576460752303423488 bytes of memory could not be had");
+}
+
+#[test]
+fn panics_say_the_numbers() {
+    let cases: [(fn(), &str); 14] = [
+        (|| assert!([0u64].get_bit(64)), "there is no bit 64 of 64 bits"),
+        (|| [0u64].set_bit(70), "there is no bit 70 of 64 bits"),
+        (
+            || assert_eq!([0u64].get_bits(60, 5), 0),
+            "5 bits from position 60 on are not all inside: there are 64, and at most 64 are taken",
+        ),
+        (
+            || [0u64].set_fragment(9, 1, 7),
+            "7 bits from position 63 on are not all inside: there are 64, and at most 64 are taken",
+        ),
+        (
+            || assert_eq!([0u64].get_fragment(usize::MAX, 7), 0),
+            "fragment 18446744073709551615 of fragments of 7 bits begins past all positions",
+        ),
+        (|| assert_eq!(BitIterator::with_range(&[0], 3..65).next(), None), "the range 3..65 ends past 64 bits"),
+        (|| assert_eq!(BitOnesIterator::with_range(&[0], 3..65).next(), None), "the range 3..65 ends past 64 bits"),
+        (|| assert_eq!(Index::build([7u64]).rank(65), 0), "rank of the first 65 bits: there are fewer"),
+        (|| assert_eq!(Index::build([7u64]).select(3), 0), "there is no 1 bit with rank 3"),
+        (|| assert_eq!(Index::build([7u64]).select0(61), 0), "there is no 0 bit with rank 61"),
+        (|| assert_eq!(Index::build([7u64]).ones_in(0..65).next(), None), "the range 0..65 ends past 64 bits"),
+        (
+            || assert_eq!(bitm_proved::words::count(&[7], 65, true), 0),
+            "65 bits of 1 words: there are no more than 64 in each, of fewer than 2^58 words",
+        ),
+        (|| assert!(Box::<[u64]>::with_bitwords(8, 3, 1).is_empty()), "8 has no place in 3 bits of at most 64"),
+        (
+            || assert!(EliasFano::build(&[7]).is_ok_and(|it| it.range(0..2).next().is_none())),
+            "the range 0..2 ends past 1 numbers",
+        ),
+    ];
+    for (call, wanted) in cases {
+        assert_eq!(says(call), wanted);
+    }
+}
+
+/// A panic is where the call is, not in the crate.
+#[test]
+fn panics_name_the_callers_line() {
+    thread_local!(static WHERE: RefCell<String> = const { RefCell::new(String::new()) });
+    let before = std::panic::take_hook();
+    std::panic::set_hook(Box::new(|why| {
+        let file = why.location().map_or("", |it| it.file()).to_string();
+        WHERE.with_borrow_mut(|it| *it = file);
+    }));
+    let calls: [fn(); 5] = [
+        || [0u64].set_bit(64),
+        || assert!([0u64].get_bits(1, 64) == 0),
+        || assert_eq!(Index::build([7u64]).select(3), 0),
+        || assert_eq!(ArrayWithRank101111::build(Box::new([7])).0.rank(65), 0),
+        || assert!(EliasFano::build(&[7]).is_ok_and(|it| it.range(0..2).len() == 2)),
+    ];
+    let wheres = calls.map(|call| {
+        says(call);
+        WHERE.take()
+    });
+    std::panic::set_hook(before);
+    assert!(wheres.iter().all(|it| it.ends_with("owners.rs")), "{wheres:?}");
+}
+
+/// Tables that a user wrote: a panic says that they are wrong, and no answer is `None` for it.
+#[test]
+fn tables_that_a_user_wrote_are_noticed() {
+    let mut index = ArrayWithRank101111::build(vec![0b1011; 100].into_boxed_slice()).0;
+    index.l2ranks = Box::new([]);
+    let wrong = "the tables are not those of the words";
+    let index = Arc::new(index);
+    for call in [ArrayWithRank101111::try_rank, ArrayWithRank101111::try_select, Select0::try_select0] {
+        let index = index.clone();
+        assert_eq!(says(move || assert_eq!(call(&index, 1), None)), wrong);
+    }
+    assert_eq!(index.checked_select(1), Err(WrongTables));
+    let file = index.to_stored(64).map(|it| bytes_of(&it).len());
+    assert!(file.is_ok(), "fewer words have tables of their own");
+}
+
+#[cfg(all(feature = "mmap", unix))]
+mod mapped {
+    use bitm_proved::{
+        bytes_of, EliasFano, Index, IndexFile, OpenError, Queries, Rank, Select, SequenceFile, StoredError,
+    };
+    use std::fs;
+
+    #[test]
+    fn a_mapped_file_answers_and_is_shared() {
+        let folder = std::env::temp_dir().join(format!("bitm-owners-{}", std::process::id()));
+        fs::create_dir_all(&folder).expect("a folder");
+        let (path, other) = (folder.join("index"), folder.join("sequence"));
+        let made = Index::build(vec![0b1011u64; 1000]);
+        fs::write(&path, bytes_of(&made.to_stored(63_999).expect("so many"))).expect("written");
+        let numbers = EliasFano::build(&[2, 3, 5]).expect("sorted");
+        fs::write(&other, bytes_of(&numbers.to_stored().expect("right"))).expect("written");
+        let index = IndexFile::open(&path).expect("just written");
+        assert!(index.check());
+        let answers = std::thread::spawn(move || (index.rank(63_999), index.select(2999), index.try_rank(64_000)));
+        assert_eq!(answers.join().expect("no panic"), (3000, 63_939, None));
+        assert!(SequenceFile::open(&other).expect("just written").iter().eq([2, 3, 5]));
+        let why = IndexFile::open(&other).expect_err("a sequence");
+        assert!(matches!(why, OpenError::Stored(StoredError::OtherKind)));
+        assert!(matches!(IndexFile::open(folder.join("none")), Err(OpenError::System(_))));
+        fs::write(&other, "").expect("written");
+        assert!(matches!(IndexFile::open(&other), Err(OpenError::Stored(StoredError::NotWhole))));
+        fs::remove_dir_all(&folder).expect("removed");
+    }
+}
