@@ -1,135 +1,516 @@
-// bitm.hpp against plain loops: an index and a sequence, owned and as views, their ranges, errors, copies and moves.
-#include "bitm.hpp"
+// The C++ interface against std::vector<bool> and plain loops. check [SEED [TURNS]]
+#include <bitm/bitm.hpp>
 
 #include <algorithm>
 #include <cstdio>
-#include <cstdlib>
+#include <fstream>
+#include <map>
+#include <numeric>
 #include <random>
+#include <set>
+#include <sstream>
+#include <string>
+#include <unordered_set>
+#include <vector>
+#if __cplusplus >= 202002L
+#include <ranges>
+#include <span>
+#endif
 
-namespace {
+using u64 = std::uint64_t;
+static unsigned long long checks, failures;
+#define CHECK(...)                                                                                                     \
+    do {                                                                                                               \
+        checks++;                                                                                                      \
+        if (!(__VA_ARGS__) && failures++ < 20) std::printf("line %d: %s\n", __LINE__, #__VA_ARGS__);                   \
+    } while (0)
+#if defined __cpp_exceptions
+#define THROWS(Type, ...)                                                                                              \
+    do {                                                                                                               \
+        bool thrown_ = false;                                                                                          \
+        try {                                                                                                          \
+            (void)(__VA_ARGS__);                                                                                       \
+        } catch (const Type &) {                                                                                       \
+            thrown_ = true;                                                                                            \
+        }                                                                                                              \
+        CHECK(thrown_);                                                                                                \
+    } while (0)
+#else
+#define THROWS(Type, ...) (void)0
+#endif
 
-void must(bool so, const char *what)
+static std::mt19937_64 random_numbers(7);
+static u64 below(u64 n) { return n ? random_numbers() % n : 0; }
+
+template <class T> constexpr bool regular()
 {
-    if (so) return;
-    std::fprintf(stderr, "not so: %s\n", what);
-    std::exit(1);
+    return std::is_default_constructible_v<T> && std::is_copy_constructible_v<T> && std::is_copy_assignable_v<T> &&
+           std::is_nothrow_move_constructible_v<T> && std::is_nothrow_move_assignable_v<T> &&
+           std::is_nothrow_swappable_v<T> && std::is_nothrow_default_constructible_v<T>;
+}
+static_assert(regular<bitm::bits>() && regular<bitm::bits_view>() && regular<bitm::rank_index>() && regular<bitm::rank_index_view>());
+static_assert(regular<bitm::sequence>() && regular<bitm::sequence_view>() && regular<bitm::perfect_hash>());
+// No owner is, or converts by itself to, a view.
+template <class Owner, class View>
+constexpr bool apart = !std::is_convertible_v<Owner, View> && !std::is_convertible_v<Owner &, View> &&
+                       !std::is_convertible_v<Owner *, View *> && !std::is_constructible_v<View, Owner>;
+static_assert(apart<bitm::bits, bitm::bits_view> && apart<bitm::rank_index, bitm::rank_index_view> &&
+              apart<bitm::sequence, bitm::sequence_view>);
+// Bits are no container of words: their size counts bits.
+static_assert(!std::is_convertible_v<bitm::bits &, bitm::words_in> && !std::is_constructible_v<bitm::words_in, bitm::bits_view &> &&
+              !std::is_constructible_v<bitm::bits_view, bitm::bits &> && !std::is_constructible_v<bitm::words_in, bitm::sequence &>);
+#if __cplusplus >= 202002L
+namespace sr = std::ranges;
+static_assert(std::random_access_iterator<bitm::bits_iterator> && std::random_access_iterator<bitm::sequence_iterator>);
+static_assert(std::bidirectional_iterator<bitm::ones_range::iterator> && std::bidirectional_iterator<bitm::zeros_range::iterator>);
+static_assert(sr::random_access_range<bitm::bits> && sr::random_access_range<bitm::bits_view> &&
+              sr::random_access_range<bitm::rank_index> && sr::random_access_range<bitm::sequence> &&
+              sr::random_access_range<const bitm::sequence_view>);
+static_assert(sr::sized_range<bitm::bits> && sr::sized_range<bitm::sequence> && sr::common_range<bitm::sequence>);
+static_assert(sr::view<bitm::bits_view> && sr::view<bitm::sequence_view> && sr::view<bitm::ones_range> && sr::view<bitm::rank_index_view>);
+static_assert(sr::borrowed_range<bitm::bits_view> && sr::borrowed_range<bitm::ones_range> && sr::borrowed_range<bitm::sequence_view>);
+static_assert(!sr::borrowed_range<bitm::bits> && !sr::borrowed_range<bitm::sequence>);
+static_assert(sr::bidirectional_range<bitm::ones_range> && sr::bidirectional_range<bitm::zeros_range>);
+static_assert(sr::random_access_range<bitm::fragments_range> && sr::view<bitm::fragments_range> && sr::sized_range<bitm::fragments_range>);
+static_assert(sr::input_range<bitm::sequence_walk>);
+#endif
+
+static std::vector<u64> positions(const std::vector<bool> &of, bool value)
+{
+    std::vector<u64> found;
+    for (u64 i = 0; i < of.size(); i++)
+        if (of[i] == value) found.push_back(i);
+    return found;
+}
+static bitm::maybe_position at_least(const std::vector<u64> &in, u64 value)
+{
+    const auto it = std::lower_bound(in.begin(), in.end(), value);
+    return it == in.end() ? bitm::maybe_position() : *it;
+}
+static bitm::maybe_position at_most(const std::vector<u64> &in, u64 value)
+{
+    const auto it = std::upper_bound(in.begin(), in.end(), value);
+    return it == in.begin() ? bitm::maybe_position() : it[-1];
 }
 
-template <class Error, class Call> void throws(Call call, const char *what)
+// All that an owner or a view of bits answers, against a model.
+template <class Bits> static void same(const Bits &b, const std::vector<bool> &model)
 {
-    try {
-        call();
-    } catch (const Error &) {
-        return;
+    const u64 n = model.size();
+    CHECK(b.size() == n && b.empty() == (n == 0));
+    const std::vector<u64> ones = positions(model, true), zeros = positions(model, false);
+    CHECK(b.count() == ones.size() && b.any() == !ones.empty() && b.none() == ones.empty() && b.all() == zeros.empty());
+    CHECK(std::equal(b.begin(), b.end(), model.begin(), model.end()));
+    CHECK(std::equal(b.rbegin(), b.rend(), model.rbegin(), model.rend()));
+    const auto ones_of = b.ones();
+    const auto zeros_of = b.zeros();
+    CHECK(std::equal(ones_of.begin(), ones_of.end(), ones.begin(), ones.end()));
+    CHECK(std::equal(ones_of.rbegin(), ones_of.rend(), ones.rbegin(), ones.rend()));
+    CHECK(std::equal(zeros_of.begin(), zeros_of.end(), zeros.begin(), zeros.end()));
+    CHECK(std::equal(zeros_of.rbegin(), zeros_of.rend(), zeros.rbegin(), zeros.rend()));
+    const std::uint32_t width = 1 + static_cast<std::uint32_t>(below(64));
+    const auto fragments = b.fragments(width);
+    CHECK(fragments.size() == n / width && fragments.end() - fragments.begin() == static_cast<std::ptrdiff_t>(n / width));
+    u64 first = 0;
+    for (const u64 number : fragments) {
+        CHECK(number == b.get_bits(first, width));
+        first += width;
     }
-    must(false, what);
-}
-
-std::mt19937_64 draw(7);
-
-bitm::place item(const std::vector<std::uint64_t> &places, std::size_t at)
-{
-    if (at < places.size()) return places[at];
-    return {};
-}
-
-template <class Bits> void as_a_loop(const Bits &bits, const std::vector<bool> &plain)
-{
-    std::vector<std::uint64_t> places[2], asked, ranks;
-    for (std::size_t i = 0; i <= plain.size(); i++) {
-        asked.push_back(i), ranks.push_back(places[1].size());
-        must(bits.rank(i) == places[1].size() && bits.rank0(i) == places[0].size(), "rank");
-        must(bits.previous_one(i) == bits.previous_one(std::min<std::size_t>(i, plain.size())), "previous at the end");
-        if (i < plain.size()) {
-            must(bits[i] == plain[i] && bits.at(i) == plain[i], "a bit");
-            places[plain[i]].push_back(i);
-            must(bits.previous_one(i) == (places[1].empty() ? bitm::place() : places[1].back()), "previous_one");
-            must(bits.previous_zero(i) == (places[0].empty() ? bitm::place() : places[0].back()), "previous_zero");
+    std::vector<u64> walked;
+    b.for_each_one([&](u64 at) { walked.push_back(at); });
+    CHECK(walked == ones);
+    for (int turn = 0; turn < 6; turn++) {
+        const u64 at = below(n + 3), other = below(n + 1), from = std::min(at, other), to = std::max(at, other);
+        CHECK(b.next_one(at) == at_least(ones, at) && b.next_zero(at) == at_least(zeros, at));
+        CHECK(b.previous_one(at) == at_most(ones, at) && b.previous_zero(at) == at_most(zeros, at));
+        const auto later = b.ones(at);
+        CHECK(std::equal(later.begin(), later.end(), std::lower_bound(ones.begin(), ones.end(), at), ones.end()));
+        if (to <= n) CHECK(b.count(from, to) == static_cast<u64>(std::count(model.begin() + static_cast<std::ptrdiff_t>(from), model.begin() + static_cast<std::ptrdiff_t>(to), true)));
+        else THROWS(std::out_of_range, b.count(from, to));
+        if (at < n) CHECK(b[at] == model[at] && b.at(at) == model[at] && b.test(at) == model[at]);
+        else THROWS(std::out_of_range, b.at(at));
+        const std::uint32_t len = static_cast<std::uint32_t>(below(65));
+        if (at + len <= n) {
+            u64 number = 0;
+            for (std::uint32_t i = 0; i < len; i++) number |= u64{model[at + i]} << i;
+            CHECK(b.get_bits(at, len) == number);
+            if (len && at % len == 0) CHECK(b.fragment(at / len, len) == number);
+            if (len) THROWS(std::out_of_range, b.fragment(n / len, len));
+        } else {
+            THROWS(std::out_of_range, b.get_bits(at, len));
         }
     }
-    must(bits.rank(asked) == ranks, "a list of ranks");
-    const auto ones = bits.select(asked), zeros = bits.select0(asked);
-    for (std::size_t r = 0; r <= plain.size(); r++) {
-        must(bits.select(r) == item(places[1], r) && ones[r] == item(places[1], r), "select");
-        must(bits.select0(r) == item(places[0], r) && zeros[r] == item(places[0], r), "select0");
-        const auto next = std::lower_bound(places[1].begin(), places[1].end(), r) - places[1].begin();
-        must(bits.next_one(r) == item(places[1], std::size_t(next)), "next_one");
-        const auto next0 = std::lower_bound(places[0].begin(), places[0].end(), r) - places[0].begin();
-        must(bits.next_zero(r) == item(places[0], std::size_t(next0)), "next_zero");
-    }
-    const auto all = bits.ones();
-    must(std::equal(all.begin(), all.end(), places[1].begin(), places[1].end()), "the places of ones");
-    must(bits.check() && bits.size() == plain.size() && bits.empty() == plain.empty(), "check and size");
-    throws<std::out_of_range>([&] { bits.rank(plain.size() + 1); }, "a rank past the end");
-    throws<std::out_of_range>([&] { bits.at(plain.size()); }, "a bit past the end");
 }
 
-void indexes()
+static std::vector<bool> random_model(u64 n)
 {
-    for (std::size_t n : {0u, 1u, 8u, 32u, 33u, 100u})
-        for (std::size_t cut : {0u, 1u, 63u}) {
-            if (n == 0 && cut) continue;
-            std::vector<std::uint64_t> words(n);
-            std::vector<bool> plain;
-            for (auto &word : words) {
-                word = draw() & draw();
-                for (int i = 0; i < 64; i++) plain.push_back(word >> i & 1);
+    std::vector<bool> model(n);
+    const u64 kind = below(5);
+    bool run = false;
+    for (u64 i = 0; i < n; i++) {
+        if (below(kind == 4 ? 100 : 2) == 0) run = !run;
+        model[i] = kind == 0 ? false : kind == 1 ? true : kind == 2 ? below(2) : kind == 3 ? below(40) == 0 : run;
+    }
+    return model;
+}
+static u64 random_size() { return below(4) == 0 ? below(5000) : below(3) == 0 ? 64 * below(8) : below(300); }
+
+static void bits_case()
+{
+    std::vector<bool> model = random_model(random_size());
+    bitm::bits b(model.begin(), model.end());
+    same(b, model);
+    for (int turn = 0; turn < 40; turn++) {
+        const u64 n = model.size(), at = below(n), to = at + below(n - at + 1);
+        const auto m = [&](u64 i) { return model.begin() + static_cast<std::ptrdiff_t>(i); };
+        const bool value = below(2);
+        switch (below(22)) {
+        case 0: if (n) b.set(at, value), model[at] = value; break;
+        case 1: if (n) b[at] = value, model[at] = value; break;
+        case 2: if (n) { b.flip(at), model[at].flip(); CHECK(b.test_set(at, value) == model[at]); model[at] = value; } break;
+        case 3: b.push_back(value), model.push_back(value); break;
+        case 4: if (n) b.pop_back(), model.pop_back(); break;
+        case 5: b.fill(at, to, value), std::fill(m(at), m(to), value); break;
+        case 6: b.flip(at, to), std::transform(m(at), m(to), m(at), [](bool x) { return !x; }); break;
+        case 7: { const u64 size = random_size(); b.resize(size, value), model.resize(size, value); break; }
+        case 8: {
+            const u64 number = random_numbers();
+            const std::uint32_t len = static_cast<std::uint32_t>(below(65));
+            b.append(number, len);
+            for (std::uint32_t i = 0; i < len; i++) model.push_back(number >> i & 1);
+            break;
+        }
+        case 9: {
+            const auto other = random_model(random_size());
+            bitm::bits longer(other.begin(), other.end());
+            if (value) longer.append(~u64{}, 64);
+            b.append(bitm::bits_view(longer.words(), other.size())), model.insert(model.end(), other.begin(), other.end());
+            break;
+        }
+        case 10: if (n < 3000) { b.append(b); const auto copy = model; model.insert(model.end(), copy.begin(), copy.end()); } break;
+        case 11: case 12: case 13: case 14: {
+            const auto other = random_model(n);
+            // a view with 1 bits past its end
+            bitm::bits longer(other.begin(), other.end());
+            longer.append(~u64{}, 64);
+            const bitm::bits exact(other.begin(), other.end());
+            const bitm::bits_view view(longer.words(), n);
+            same(view, other);
+            CHECK(view == exact && exact == view && !(view != exact));
+            std::vector<u64> both, mine = positions(model, true), its = places(other, true);
+            std::set_intersection(mine.begin(), mine.end(), its.begin(), its.end(), std::back_inserter(both));
+            CHECK(b.intersects(view) == !both.empty() && b.is_subset_of(exact) == (both == mine) && view.is_subset_of(b) == (both == its));
+            CHECK(b.is_proper_subset_of(view) == (both == mine && mine != its));
+            CHECK((b == view) == (model == other));
+            const u64 which = below(4);
+            if (which == 0) b &= view; else if (which == 1) b |= exact; else if (which == 2) b ^= view; else b -= view;
+            for (u64 i = 0; i < n; i++) model[i] = which == 0 ? model[i] && other[i] : which == 1 ? model[i] || other[i] : which == 2 ? model[i] != other[i] : model[i] && !other[i];
+            break;
+        }
+        case 15: {
+            const u64 by = below(n + 70);
+            std::vector<bool> shifted(n);
+            for (u64 i = 0; i + by < n; i++) shifted[i + by] = model[i];
+            if (value) b <<= by; else b = b << by;
+            model = shifted;
+            break;
+        }
+        case 16: {
+            const u64 by = below(n + 70);
+            std::vector<bool> shifted(n);
+            for (u64 i = 0; i + by < n; i++) shifted[i] = model[i + by];
+            b >>= by, model = shifted;
+            break;
+        }
+        case 17: { const bitm::bits cut = b.slice(at, to); same(cut, std::vector<bool>(m(at), m(to))); b.shrink_to_fit(), b.reserve(below(9000)); break; }
+        case 20: // a view of some of its own words, which move
+            if (n > 64 && n < 3000) {
+                const bitm::bits_view later(bitm::words_in(b.words_data() + 1, b.words_len() - 1), n - 64);
+                const std::vector<bool> copy(m(64), model.end());
+                b.append(later), model.insert(model.end(), copy.begin(), copy.end());
             }
-            plain.resize(64 * n - cut);
-            bitm::index made(words, plain.size());
-            as_a_loop(made, plain);
-            as_a_loop(bitm::index_view(made.view(), made.size()), plain);
-            bitm::index copied(made), moved(std::move(made));
-            as_a_loop(copied, plain), as_a_loop(moved, plain);
-            must(made.size() == 0 && made.rank(0) == 0 && !made.select(0), "what was moved is empty");
-            made = copied;
-            as_a_loop(made, plain);
+            break;
+        case 21: // its words from the second on, with the first again behind: and with itself, moved by a word
+            if (n % 64 == 0 && n >= 128) {
+                const std::vector<bool> old = model;
+                b.push_back(false), b.resize(n + 64);
+                const bitm::bits_view later(bitm::words_in(b.words_data() + 1, b.words_len() - 1));
+                b.resize(n), b &= later;
+                for (u64 i = 0; i < n; i++) model[i] = old[i] && i + 64 < n && old[i + 64];
+            }
+            break;
+        case 18: { b = ~b; model.flip(); b ^= *&b; CHECK(b.none()); std::fill(model.begin(), model.end(), false); break; }
+        default: {
+            const u64 number = random_numbers();
+            const std::uint32_t len = static_cast<std::uint32_t>(below(65));
+            if (at + len > n) { THROWS(std::out_of_range, b.set_bits(at, len, number)); break; }
+            b.set_bits(at, len, number);
+            for (std::uint32_t i = 0; i < len; i++) model[at + i] = number >> i & 1;
         }
-    throws<std::invalid_argument>([] { bitm::index({1, 2}, 129); }, "more bits than there are");
-    const bitm::index two{1, 2};
-    bitm_view short_of = two.view();
-    short_of.lower_len = 0;
-    throws<std::invalid_argument>([&] { bitm::index_view wrong(short_of); }, "a table too short");
-    const std::uint64_t wrong[] = {UINT64_MAX};
-    bitm_view of_others = two.view();
-    of_others.lower = wrong;
-    throws<bitm::wrong_tables>([&] { bitm::index_view(of_others).select(1); }, "wrong tables");
-    throws<bitm::wrong_tables>([&] { bitm::index_view(of_others).rank(1); }, "a rank of wrong tables");
-    throws<bitm::wrong_tables>([&] { bitm::index_view(of_others).rank({0, 1}); }, "ranks of wrong tables");
+        }
+        CHECK(b.size() == model.size() && std::equal(b.begin(), b.end(), model.begin(), model.end()));
+        CHECK(b.size() == 0 || b.size() % 64 == 0 || b.words()[b.words_len() - 1] >> b.size() % 64 == 0);
+        CHECK(reinterpret_cast<std::uintptr_t>(b.words_data()) % 64 == 0);
+    }
+    same(b, model), same(b.view(), model);
+    bitm::bits copy = b, moved = std::move(b);
+    CHECK(copy == moved && b.empty() && std::hash<bitm::bits>()(copy) == std::hash<bitm::bits>()(moved));
+    same(b, {}), b.push_back(true), same(b, {true});
+    b = std::move(moved), same(b, model), swap(b, copy), b = *&b, same(b, model);
+    std::ostringstream text;
+    text << b;
+    CHECK(bitm::bits(text.str()) == b);
+    const auto ones = positions(model, true);
+    CHECK(bitm::bits::of_positions(ones, model.size()) == b);
 }
 
-void sequences()
+static void index_against(const bitm::rank_index &x, const std::vector<bool> &model)
 {
-    for (std::size_t n : {0u, 1u, 7u, 300u}) {
-        std::vector<std::uint64_t> items(n);
-        for (auto &item : items) item = draw() >> 50;
-        std::sort(items.begin(), items.end());
-        bitm::elias_fano made(items);
-        const bitm::elias_fano copied(made), moved(std::move(made));
-        must(made.empty(), "what was moved is empty");
-        for (const bitm::elias_fano_view &sequence : {bitm::elias_fano_view(copied.view()), bitm::elias_fano_view(moved.view())}) {
-            must(std::equal(sequence.begin(), sequence.end(), items.begin(), items.end()), "the numbers");
-            must(sequence.check() && sequence.size() == n, "check and size");
-            throws<std::out_of_range>([&] { sequence[n]; }, "a number past the end");
-            for (std::uint64_t value = 0; value < 1 << 14; value++) {
-                const auto least = std::lower_bound(items.begin(), items.end(), value) - items.begin();
-                const auto past = std::upper_bound(items.begin(), items.end(), value) - items.begin();
-                must(sequence.rank(value) == std::uint64_t(least), "rank of a value");
-                must(sequence.first_at_least(value).has_value() == (std::size_t(least) < n), "first_at_least");
-                must(sequence.last_at_most(value) == (past ? bitm::place(past - 1) : bitm::place()), "last_at_most");
-                must(sequence.contains(value) == (least != past), "contains");
-            }
-            must(sequence.last_at_most(UINT64_MAX) == (n ? bitm::place(n - 1) : bitm::place()), "the greatest value");
+    const u64 n = model.size();
+    const auto ones = positions(model, true), zeros = positions(model, false);
+    std::vector<u64> before(1);
+    for (const bool bit : model) before.push_back(before.back() + bit);
+    CHECK(x.size() == n && x.check() && x.count() == ones.size() && x.count0() == zeros.size());
+    std::vector<u64> positions_queried, ranks_queried;
+    const bitm::rank_index_view v = x.view();
+    for (int turn = 0; turn < 12; turn++) {
+        const u64 at = below(n + 1), rank = below(n + 3), past = n + 1 + below(100);
+        CHECK(x.rank(at) == before[at] && v.rank0(at) == at - before[at] && *x.try_rank(at) == before[at]);
+        CHECK(x.select(rank) == (rank < ones.size() ? bitm::maybe_position(ones[rank]) : bitm::maybe_position()));
+        CHECK(v.select0(rank) == (rank < zeros.size() ? bitm::maybe_position(zeros[rank]) : bitm::maybe_position()));
+        CHECK(*x.try_select(rank) == x.select(rank) && *v.try_select0(rank) == x.select0(rank));
+        CHECK(x.next_one(at) == at_least(ones, at) && v.next_zero(at) == at_least(zeros, at));
+        CHECK(x.previous_one(at) == at_most(ones, at) && v.previous_zero(past) == at_most(zeros, past));
+        CHECK(!x.try_rank(past) && x.try_rank(past).error() == (bitm::failure{bitm::errc::outside, past, n}));
+        THROWS(std::out_of_range, x.rank(past));
+        if (at < n) CHECK(x[at] == model[at]);
+        else THROWS(std::out_of_range, v[at]);
+        positions_queried.push_back(below(4) ? at : past), ranks_queried.push_back(rank);
+    }
+    std::vector<u64> r(12), r0(12), s(12), s0(12);
+    x.rank(positions_queried, r), v.rank0(positions_queried, r0), x.select(ranks_queried, s), v.select0(ranks_queried, s0);
+    for (std::size_t i = 0; i < 12; i++) {
+        const u64 at = positions_queried[i], rank = ranks_queried[i];
+        CHECK(r[i] == (at <= n ? before[at] : bitm::no_answer) && r0[i] == (at <= n ? at - before[at] : bitm::no_answer));
+        CHECK(s[i] == (rank < ones.size() ? ones[rank] : bitm::no_answer) && s0[i] == (rank < zeros.size() ? zeros[rank] : bitm::no_answer));
+    }
+    std::vector<u64> few(3);
+    THROWS(std::invalid_argument, (x.rank(positions_queried, few), 0));
+    same(x.content(), model);
+    const auto walk = x.ones();
+    CHECK(std::equal(walk.begin(), walk.end(), ones.begin(), ones.end()));
+}
+
+static std::string scratch;
+
+static void index_case()
+{
+    const auto model = random_model(below(6) ? random_size() : 20000 + below(20000));
+    const bitm::bits b(model.begin(), model.end());
+    const auto log2 = [] { return below(2) ? 0 : 7 + static_cast<std::uint32_t>(below(25)); };
+    const bitm::sampling how{log2(), log2()};
+    bitm::rank_index x(b, how);
+    index_against(x, model);
+    const bitm::rank_index copy = x;
+    index_against(copy, model);
+    bitm::rank_index moved = std::move(x);
+    index_against(moved, model), index_against(x, {});
+    CHECK(moved == copy && (x == copy) == model.empty() && std::hash<bitm::rank_index>()(moved) == std::hash<bitm::rank_index>()(copy));
+    swap(x, moved), moved = x, index_against(moved, model), x = std::move(moved), index_against(x, model);
+    // Files.
+    x.save(scratch);
+    index_against(bitm::rank_index::map(scratch), model), index_against(bitm::rank_index::load(scratch, bitm::verify::yes), model);
+    std::stringstream stream;
+    x.save(stream) << "and more after it";
+    const bitm::rank_index streamed = bitm::rank_index::load(stream);
+    index_against(streamed, model);
+    std::string rest;
+    std::getline(stream, rest);
+    CHECK(rest == "and more after it");
+    CHECK(std::equal(streamed.bytes().begin(), streamed.bytes().end(), x.bytes().begin(), x.bytes().end()));
+    index_against(bitm::rank_index::of_bytes(x.bytes()), model);
+    const std::vector<u64> words(reinterpret_cast<const u64 *>(x.bytes().data()), reinterpret_cast<const u64 *>(x.bytes().data() + x.bytes().size()));
+    CHECK(bitm::rank_index_view::in(words) == x && bitm::rank_index_view::in(words).check());
+    // A file that is cut, and one with a byte changed: refused, or its answers are safe.
+    std::vector<unsigned char> bytes(x.bytes().begin(), x.bytes().end());
+    const auto refused = bitm::rank_index::try_of_bytes({bytes.data(), bytes.size() - 8 * (1 + below(bytes.size() / 8))});
+    CHECK(!refused && refused.error().code == bitm::errc::wrong_file);
+    for (int turn = 0; turn < 6; turn++) {
+        auto wrong = bytes;
+        wrong[below(wrong.size())] ^= static_cast<unsigned char>(1 + below(255));
+        const auto y = bitm::rank_index::try_of_bytes(wrong);
+        if (!y) continue;
+        for (int ask = 0; ask < 10; ask++) {
+            const u64 at = below(y->size() + 1);
+            if (const auto rank = y->try_rank(at)) CHECK(*rank <= at);
+            if (const auto found = y->try_select(at); found && *found) CHECK(**found < y->size() && (*y)[**found]);
+            if (const auto found = y->try_select0(at); found && *found) CHECK(**found < y->size() && !(*y)[**found]);
         }
     }
-    throws<std::invalid_argument>([] { bitm::elias_fano({2, 1}); }, "numbers that fall");
+    // 1 bits past the end of a view are not in the file.
+    bitm::bits longer = b;
+    longer.append(~u64{}, 64);
+    const bitm::rank_index cut(bitm::bits_view(longer.words(), b.size()), how);
+    CHECK(std::equal(cut.bytes().begin(), cut.bytes().end(), x.bytes().begin(), x.bytes().end()));
+    THROWS(bitm::wrong_file, bitm::rank_index::load("no/such/file"));
+    THROWS(std::invalid_argument, bitm::rank_index(b, {6, 0}));
+    THROWS(std::invalid_argument, bitm::rank_index(std::vector<u64>{1}, 65));
 }
 
-} // namespace
-
-int main()
+static void sequence_case()
 {
-    indexes();
-    sequences();
-    std::puts("C++ host: all answers as the plain loop's, and each error an exception");
+    std::vector<u64> numbers(below(3) ? below(200) : below(5000));
+    const u64 bits = below(64) + 1;
+    for (u64 &it : numbers) it = random_numbers() >> (64 - bits);
+    std::sort(numbers.begin(), numbers.end());
+    bitm::sequence s(numbers);
+    const auto against = [&](const bitm::sequence &of) {
+        CHECK(of.size() == numbers.size() && of.check());
+        CHECK(std::equal(of.begin(), of.end(), numbers.begin(), numbers.end()));
+        CHECK(std::equal(of.rbegin(), of.rend(), numbers.rbegin(), numbers.rend()));
+        std::vector<u64> walked;
+        for (const u64 it : of.walk()) walked.push_back(it);
+        CHECK(walked == numbers);
+        std::vector<u64> queried, at_indexes;
+        for (int turn = 0; turn < 10; turn++) {
+            const u64 value = below(3) && !numbers.empty() ? numbers[below(numbers.size())] + below(3) - 1 : random_numbers() >> (64 - bits);
+            const auto lower = std::lower_bound(numbers.begin(), numbers.end(), value);
+            const auto upper = std::upper_bound(numbers.begin(), numbers.end(), value);
+            const u64 first = static_cast<u64>(lower - numbers.begin()), end = static_cast<u64>(upper - numbers.begin());
+            CHECK(of.first_at_least(value) == (lower == numbers.end() ? bitm::maybe_position() : bitm::maybe_position(first)) && of.rank(value) == first);
+            CHECK(of.last_at_most(value) == (end ? bitm::maybe_position(end - 1) : bitm::maybe_position()) && of.contains(value) == (first != end));
+            CHECK(static_cast<u64>(std::lower_bound(of.begin(), of.end(), value) - of.begin()) == first);
+            queried.push_back(value);
+            if (!numbers.empty()) at_indexes.push_back(below(numbers.size()));
+            auto walk = of.walk(below(first + 1));
+            CHECK(walk.advance_to(value) == (lower != numbers.end()) && (!walk || (walk.position() >= first && *walk >= value)));
+        }
+        std::vector<u64> found(queried.size()), got(at_indexes.size());
+        of.first_at_least(queried, found), of.at(at_indexes, got);
+        for (std::size_t i = 0; i < queried.size(); i++) CHECK(found[i] == of.first_at_least(queried[i]).value_or(bitm::no_answer));
+        for (std::size_t i = 0; i < got.size(); i++) CHECK(got[i] == numbers[at_indexes[i]]);
+        THROWS(std::out_of_range, of[numbers.size()]);
+    };
+    against(s);
+    bitm::sequence copy = s, moved = std::move(s);
+    against(copy), against(moved);
+    CHECK(s.empty() && copy == moved && (s == copy) == numbers.empty() && std::hash<bitm::sequence>()(copy) == std::hash<bitm::sequence>()(moved));
+    moved.save(scratch), against(bitm::sequence::map(scratch)), against(bitm::sequence::load(scratch, bitm::verify::yes));
+    CHECK(bitm::sequence_view(moved.raw()) == moved && !bitm::rank_index::try_load(scratch));
+    if (numbers.size() > 1 && numbers.front() != numbers.back()) {
+        std::vector<u64> falling = numbers;
+        std::swap(falling.front(), falling.back());
+        const auto refused = bitm::sequence::try_of(falling);
+        CHECK(!refused);
+        THROWS(std::invalid_argument, bitm::sequence(falling));
+    }
+    std::vector<u64> others(below(3000));
+    for (u64 &it : others) it = below(2) && !numbers.empty() ? numbers[below(numbers.size())] : random_numbers() >> (64 - bits);
+    std::sort(others.begin(), others.end());
+    const std::set<u64> x(numbers.begin(), numbers.end()), y(others.begin(), others.end());
+    std::vector<u64> both, met;
+    std::set_intersection(x.begin(), x.end(), y.begin(), y.end(), std::back_inserter(both));
+    intersect(moved, bitm::sequence(others), [&](u64 it) { met.push_back(it); });
+    CHECK(both == met);
+}
+
+static void hash_case()
+{
+    std::set<u64> keys;
+    const u64 n = below(4) ? below(300) : below(20000);
+    while (keys.size() < n) keys.insert(random_numbers());
+    const bitm::perfect_hash h(keys.begin(), keys.end(), [](u64 key) { return key; }, 100 + static_cast<unsigned>(below(101)));
+    CHECK(h.size() == n && h.check());
+    std::vector<bool> used(n);
+    for (const u64 key : keys) {
+        const bitm::maybe_position number = h(key);
+        CHECK(number && *number < n && !used[*number]);
+        if (number && *number < n) used[*number] = true;
+    }
+    for (int turn = 0; turn < 20; turn++) CHECK(h(random_numbers()).value_or(0) < std::max<u64>(n, 1));
+    const std::vector<u64> all(keys.begin(), keys.end());
+    std::vector<u64> numbers(n);
+    h(all, numbers);
+    for (std::size_t i = 0; i < n; i++) CHECK(numbers[i] == *h(all[i]));
+    std::stringstream stream;
+    h.save(stream) << "more";
+    CHECK(bitm::perfect_hash::load(stream, bitm::verify::yes) == h && stream.get() == 'm');
+    h.save(scratch);
+    bitm::perfect_hash again = bitm::perfect_hash::map(scratch, bitm::verify::yes), copy = again;
+    CHECK(again == h && copy == h);
+    copy = std::move(again);
+    CHECK(again.empty() && !again(7) && copy == h);
+    std::vector<u64> twice(all);
+    twice.push_back(17), twice.push_back(17);
+    const auto refused = bitm::perfect_hash::try_of(twice);
+    CHECK(!refused && refused.error().code == bitm::errc::equal_keys);
+}
+
+static void once()
+{
+    CHECK(bitm::version_fits());
+    const bitm::bits b{true, false, true};
+    CHECK(b.size() == 3 && b[2] && !b[1] && bitm::bits("101") == b && b.front() && b.back());
+    THROWS(std::invalid_argument, bitm::bits("102"));
+    bitm::bits e;
+    CHECK(e.empty() && !e.next_one(0) && e.all() && e.none() && e.ones().empty());
+    bitm::rank_index none;
+    CHECK(none.empty() && !none.select(0) && none.rank(0) == 0 && none.check() && none.bytes().size() == 0);
+    std::unordered_set<bitm::bits> set{b, e, bitm::bits("101")};
+    CHECK(set.size() == 2);
+    std::ostringstream out;
+    out << b << ' ' << bitm::sequence{2, 3, 5} << ' ' << bitm::rank_index(b);
+    CHECK(out.str() == "101 [2, 3, 5] 101");
+    bitm::rank_index direct = bitm::rank_index::build(130, {7, 7}, [](bitm::words_out words) { words[0] = 5, words[2] = ~u64{}; });
+    CHECK(direct.count() == 4 && direct.check() && *direct.select(3) == 129 && !direct.select(4));
+    const std::map<std::string, bitm::rank_index> member{{"a", direct}};
+    CHECK(member.at("a").count() == 4);
+#if __cplusplus >= 202002L && (!defined __clang__ || __clang_major__ >= 16) // older ones do not compile libstdc++'s views
+    namespace v = std::views;
+    u64 sum = 0;
+    for (const u64 at : direct.ones() | v::filter([](u64 p) { return p % 2 == 0; }) | v::transform([](u64 p) { return p + 1; })) sum += at;
+    CHECK(sum == 1 + 3 + 129);
+    std::vector<u64> last;
+    for (const u64 at : direct.ones() | v::reverse | v::take(2)) last.push_back(at);
+    CHECK((last == std::vector<u64>{129, 128}));
+    const bitm::sequence s{2, 3, 5, 7, 11};
+    CHECK(std::ranges::distance(s) == 5 && *std::ranges::lower_bound(s, u64{6}) == 7 && std::ranges::count(s, u64{7}) == 1);
+    CHECK(*(s | v::drop(2) | v::take(2)).begin() == 5 && std::ranges::max(s) == 11);
+    CHECK(std::ranges::equal(s | v::reverse | v::take(2), std::vector<u64>{11, 7}));
+    auto walk = s.walk(1);
+    CHECK(std::ranges::equal(walk | v::take(2), std::vector<u64>{3, 5}));
+    CHECK(std::ranges::count(b, true) == 2 && std::ranges::equal(b.view() | v::reverse, b));
+    const std::vector<u64> words{5, 6};
+    const bitm::bits_view of_span{std::span<const u64>(words)};
+    CHECK(of_span.count() == 4);
+    const std::span<const u64> back(bitm::words_in{words});
+    CHECK(back.size() == 2);
+#endif
+#if defined __cpp_lib_format
+    CHECK(std::format("{} {:>5} {}", b, b, s) == "101   101 [2, 3, 5, 7, 11]");
+    CHECK(std::format("{}", direct.view()).size() == 130);
+    std::puts("std::format tried");
+#endif
+#if defined __cpp_lib_expected
+    const std::expected<u64, bitm::failure> got = direct.try_rank(1000);
+    CHECK(!got && got.error().code == bitm::errc::outside);
+    const std::expected<bitm::rank_index, bitm::failure> file = bitm::rank_index::try_load("no/such/file");
+    CHECK(!file);
+    std::puts("std::expected tried");
+#endif
+}
+
+int main(int argc, char **argv)
+{
+    if (argc > 1) random_numbers.seed(std::strtoull(argv[1], nullptr, 10));
+    const int turns = argc > 2 ? std::atoi(argv[2]) : 300;
+    scratch = argv[0] + std::string(".scratch");
+    once();
+    for (int turn = 0; turn < turns; turn++) {
+        bits_case(), index_case(), sequence_case();
+        if (turn % 8 == 0) hash_case();
+    }
+    std::remove(scratch.c_str());
+    std::printf("%llu checks, %llu failures\n", checks, failures);
+    return failures != 0;
 }

@@ -1,0 +1,707 @@
+// Bits: an owner that grows, and a view of bits in memory of the caller's.
+//
+//     bitm::bits b(1000);
+//     b.set(17), b[18] = true, b.push_back(true), b.append(other), b &= other;
+//     for (auto position : b.ones()) ..             // forwards and backwards; b.ones(from), b.zeros()
+//     b.count(), b.next_one(5), b.get_bits(3, 13);
+//
+// Bit i is bit i % 64, lowest first, of word i / 64. Positions past the end fail everywhere, also in `[]`.
+#ifndef BITM_BITS_HPP
+#define BITM_BITS_HPP
+
+#include <bitm/core.hpp>
+
+#include <iosfwd>
+#include <string_view>
+
+BITM_NAMESPACE_BEGIN
+
+class bits;
+class bits_view;
+class fragments_range;
+template <bool One> class positions_range;
+
+BITM_NAMESPACE_END
+
+#if __cplusplus >= 202002L
+template <> inline constexpr bool std::ranges::enable_borrowed_range<bitm::bits_view> = true;
+template <> inline constexpr bool std::ranges::enable_view<bitm::bits_view> = true;
+template <> inline constexpr bool std::ranges::enable_borrowed_range<bitm::fragments_range> = true;
+template <> inline constexpr bool std::ranges::enable_view<bitm::fragments_range> = true;
+template <bool One> inline constexpr bool std::ranges::enable_borrowed_range<bitm::positions_range<One>> = true;
+template <bool One> inline constexpr bool std::ranges::enable_view<bitm::positions_range<One>> = true;
+#endif
+
+BITM_NAMESPACE_BEGIN
+
+namespace detail {
+
+// Words and the number of their bits: exactly as many words as these bits need.
+struct bits_parts {
+    const std::uint64_t *words = nullptr;
+    std::size_t len = 0;
+    std::uint64_t size = 0;
+};
+
+inline bool bit_of(const bits_parts &of, std::uint64_t at)
+{
+    if (BITM_RARELY(at >= of.size)) outside(at, of.size);
+    return bitm_bit_at(of.words, at);
+}
+
+} // namespace detail
+
+// The bits one after another, by position.
+class bits_iterator : public detail::at_position<bits_iterator, bool> {
+public:
+    bits_iterator() noexcept = default;
+    bits_iterator(const detail::bits_parts &of, std::uint64_t at) noexcept : at_position(at), of_(of) {}
+    bool read(std::uint64_t at) const { return detail::bit_of(of_, at); }
+
+private:
+    detail::bits_parts of_;
+};
+
+// The positions of the 1 bits, or 0 bits: a range in both directions, whose iterators outlive it. Each step reads the
+// bits, so changes made meanwhile are seen.
+template <bool One> class positions_range {
+public:
+    class iterator {
+    public:
+        using iterator_category = std::input_iterator_tag;
+#if __cplusplus >= 202002L
+        using iterator_concept = std::bidirectional_iterator_tag;
+#endif
+        using value_type = std::uint64_t;
+        using difference_type = std::ptrdiff_t;
+        using pointer = void;
+        using reference = std::uint64_t;
+
+        iterator() noexcept = default;
+        std::uint64_t operator*() const noexcept { return at_; }
+        iterator &operator++()
+        {
+            if (BITM_RARELY(at_ >= of_.size)) detail::outside(at_, of_.size);
+            at_ = next(of_, at_ + 1);
+            return *this;
+        }
+        iterator &operator--()
+        {
+            std::uint64_t out = 0;
+            if (BITM_RARELY(at_ == 0)) detail::outside(at_, of_.size);
+            const std::uint32_t status = bitm_bits_previous(of_.words, of_.len, of_.size, One, at_ - 1, &out);
+            if (BITM_RARELY(status != BITM_OK)) detail::fail_status(status, at_, of_.size);
+            at_ = out;
+            return *this;
+        }
+        iterator operator++(int)
+        {
+            iterator before = *this;
+            ++*this;
+            return before;
+        }
+        iterator operator--(int)
+        {
+            iterator before = *this;
+            --*this;
+            return before;
+        }
+        friend bool operator==(const iterator &a, const iterator &b) noexcept { return a.at_ == b.at_; }
+        friend bool operator!=(const iterator &a, const iterator &b) noexcept { return a.at_ != b.at_; }
+
+    private:
+        friend class positions_range;
+        iterator(const detail::bits_parts &of, std::uint64_t at) noexcept : of_(of), at_(at) {}
+
+        detail::bits_parts of_;
+        std::uint64_t at_ = 0;
+    };
+
+    positions_range() noexcept = default;
+    positions_range(const detail::bits_parts &of, std::uint64_t from) : of_(of), first_(next(of, from)) {}
+    iterator begin() const noexcept { return {of_, first_}; }
+    iterator end() const noexcept { return {of_, of_.size}; }
+    // Backwards: `*rbegin()` is the greatest position.
+    std::reverse_iterator<iterator> rbegin() const noexcept { return std::reverse_iterator<iterator>(end()); }
+    std::reverse_iterator<iterator> rend() const noexcept { return std::reverse_iterator<iterator>(begin()); }
+    bool empty() const noexcept { return first_ >= of_.size; }
+    // Those that are at a position or after it.
+    positions_range from(std::uint64_t position) const { return {of_, detail::greater(position, first_)}; }
+
+private:
+    static std::uint64_t next(const detail::bits_parts &of, std::uint64_t from)
+    {
+        std::uint64_t out = 0;
+        return detail::there(bitm_bits_next(of.words, of.len, of.size, One, from, &out)) ? out : of.size;
+    }
+
+    detail::bits_parts of_;
+    std::uint64_t first_ = 0;
+};
+
+// Bits as an array of numbers of `width` bits each: by index, and as a range.
+class fragments_range {
+public:
+    class iterator : public detail::at_position<iterator, std::uint64_t> {
+    public:
+        iterator() noexcept = default;
+        std::uint64_t read(std::uint64_t at) const { return number(of_, width_, at); }
+
+    private:
+        friend class fragments_range;
+        iterator(const detail::bits_parts &of, std::uint32_t width, std::uint64_t at) noexcept
+            : at_position(at), of_(of), width_(width)
+        {
+        }
+        detail::bits_parts of_;
+        std::uint32_t width_ = 0;
+    };
+
+    fragments_range() noexcept = default;
+    fragments_range(const detail::bits_parts &of, std::uint32_t width) : of_(of), width_(width)
+    {
+        if (width == 0 || width > 64) detail::outside(width, 64);
+    }
+    std::uint64_t size() const noexcept { return width_ ? of_.size / width_ : 0; }
+    bool empty() const noexcept { return size() == 0; }
+    std::uint32_t width() const noexcept { return width_; }
+    std::uint64_t operator[](std::uint64_t at) const { return number(of_, width_, at); }
+    iterator begin() const noexcept { return {of_, width_, 0}; }
+    iterator end() const noexcept { return {of_, width_, size()}; }
+
+private:
+    static std::uint64_t number(const detail::bits_parts &of, std::uint32_t width, std::uint64_t at)
+    {
+        std::uint64_t out = 0;
+        const std::uint32_t status = bitm_bits_get_fragment(of.words, of.len, of.size, at, width, &out);
+        if (BITM_RARELY(status != BITM_OK || width == 0)) detail::outside(at, width ? of.size / width : 0);
+        return out;
+    }
+    detail::bits_parts of_;
+    std::uint32_t width_ = 0;
+};
+
+using ones_range = positions_range<true>;
+using zeros_range = positions_range<false>;
+
+namespace detail {
+
+// The queries of bits, of an owner and of a view alike; `Self` has parts().
+template <class Self> class bits_calls {
+public:
+    std::uint64_t size() const noexcept { return parts().size; }
+    bool empty() const noexcept { return size() == 0; }
+    // The words: bits of the last one past size() are 0 bits in an owner, anything in a view.
+    const std::uint64_t *words_data() const noexcept { return parts().words; }
+    std::size_t words_len() const noexcept { return parts().len; }
+
+    bool operator[](std::uint64_t at) const { return bit_of(parts(), at); }
+    bool at(std::uint64_t at) const { return bit_of(parts(), at); }
+    bool test(std::uint64_t at) const { return bit_of(parts(), at); }
+    bool front() const { return bit_of(parts(), 0); }
+    bool back() const { return bit_of(parts(), size() - 1); }
+
+    // The number in the `len` bits from position `begin` on, lowest bit first; 0 to 64 bits.
+    std::uint64_t get_bits(std::uint64_t begin, std::uint32_t len) const
+    {
+        std::uint64_t out = 0;
+        const bits_parts of = parts();
+        const std::uint32_t status = bitm_bits_get_number(of.words, of.len, of.size, begin, len, &out);
+        if (BITM_RARELY(status != BITM_OK)) fail_status(status, begin, of.size);
+        return out;
+    }
+    // Number `index` of an array of numbers of `width` bits.
+    std::uint64_t fragment(std::uint64_t index, std::uint32_t width) const
+    {
+        std::uint64_t out = 0;
+        const bits_parts of = parts();
+        const std::uint32_t status = bitm_bits_get_fragment(of.words, of.len, of.size, index, width, &out);
+        if (BITM_RARELY(status != BITM_OK)) fail_status(status, index, of.size);
+        return out;
+    }
+
+    // How many 1 bits there are: of all, or of those from one position on and before another.
+    std::uint64_t count() const { return count(0, size()); }
+    std::uint64_t count(std::uint64_t from, std::uint64_t to) const
+    {
+        std::uint64_t out = 0;
+        const bits_parts of = parts();
+        const std::uint32_t status = bitm_bits_count_range(of.words, of.len, of.size, true, from, to, &out);
+        if (BITM_RARELY(status != BITM_OK)) fail_status(status, to, of.size);
+        return out;
+    }
+    bool any() const { return next_one(0).has_value(); }
+    bool none() const { return !any(); }
+    bool all() const { return !next_zero(0); }
+
+    // The position of the first 1 bit, or 0 bit, at or after a position; of the last one at or before it.
+    maybe_position next_one(std::uint64_t from) const { return near(bitm_bits_next, true, from); }
+    maybe_position next_zero(std::uint64_t from) const { return near(bitm_bits_next, false, from); }
+    maybe_position previous_one(std::uint64_t from) const { return near(bitm_bits_previous, true, from); }
+    maybe_position previous_zero(std::uint64_t from) const { return near(bitm_bits_previous, false, from); }
+
+    // Writes the positions of the 1 bits, or 0 bits, from a position on until `out` is full: how many were written.
+    std::size_t ones(std::uint64_t from, words_out out) const { return written(true, from, out); }
+    std::size_t zeros(std::uint64_t from, words_out out) const { return written(false, from, out); }
+    // Calls `each` with the position of each 1 bit, from a position on, in order: the fastest walk.
+    template <class Each> void for_each_one(Each &&each, std::uint64_t from = 0) const
+    {
+        std::uint64_t room[256];
+        for (std::size_t got = 256; got == 256;) {
+            got = ones(from, {room, 256});
+            for (std::size_t i = 0; i < got; i++) each(room[i]);
+            if (got > 0) from = room[got - 1] + 1;
+        }
+    }
+
+    // Whether each 1 bit is a 1 bit of the other; whether some position has a 1 bit in both. Both have the same size.
+    template <class Other> bool is_subset_of(const bits_calls<Other> &other) const
+    {
+        return !some(other, [](std::uint64_t a, std::uint64_t b) { return (a & ~b) != 0; });
+    }
+    template <class Other> bool is_proper_subset_of(const bits_calls<Other> &other) const
+    {
+        return is_subset_of(other) && count() < other.count();
+    }
+    template <class Other> bool intersects(const bits_calls<Other> &other) const
+    {
+        return some(other, [](std::uint64_t a, std::uint64_t b) { return (a & b) != 0; });
+    }
+
+    template <class Other> friend bool operator==(const bits_calls &a, const bits_calls<Other> &b)
+    {
+        return a.same(b);
+    }
+    template <class Other> friend bool operator!=(const bits_calls &a, const bits_calls<Other> &b) { return !(a == b); }
+
+    // As text of zeros and ones, position 0 first.
+    template <class Char, class Traits>
+    friend std::basic_ostream<Char, Traits> &operator<<(std::basic_ostream<Char, Traits> &to, const bits_calls &of)
+    {
+        for (std::uint64_t i = 0; i < of.size(); i++) to.put(to.widen(of[i] ? '1' : '0'));
+        return to;
+    }
+
+protected:
+    bits_calls() noexcept = default;
+    ~bits_calls() = default;
+    bits_calls(const bits_calls &) noexcept = default;
+    bits_calls &operator=(const bits_calls &) noexcept = default;
+
+private:
+    template <class> friend class bits_calls;
+    bits_parts parts() const noexcept { return static_cast<const Self &>(*this).parts(); }
+
+    template <class Call> maybe_position near(Call call, bool one, std::uint64_t from) const
+    {
+        std::uint64_t out = 0;
+        const bits_parts of = parts();
+        const std::uint32_t status = call(of.words, of.len, of.size, one, from, &out);
+        return found(status, out);
+    }
+    std::size_t written(bool one, std::uint64_t from, words_out out) const
+    {
+        std::uint64_t count = 0;
+        const bits_parts of = parts();
+        need(bitm_bits_positions(of.words, of.len, of.size, one, from, out.data(), out.size(), &count));
+        return static_cast<std::size_t>(count);
+    }
+    template <class Other> bool same(const bits_calls<Other> &other) const
+    {
+        std::uint64_t equal = 0;
+        const bits_parts a = parts(), b = other.parts();
+        if (a.size != b.size) return false;
+        need(bitm_bits_equal_range(a.words, a.len, 0, b.words, b.len, 0, a.size, &equal));
+        return equal != 0;
+    }
+    // Whether `test` holds of some 64 bits of both, or of the last fewer.
+    template <class Other, class Test> bool some(const bits_calls<Other> &other, Test test) const
+    {
+        if (BITM_RARELY(size() != other.size())) fail({errc::bad_size, other.size(), size()});
+        for (std::uint64_t at = 0; at < size(); at += 64) {
+            const std::uint32_t len = static_cast<std::uint32_t>(lesser(64, size() - at));
+            if (test(get_bits(at, len), other.get_bits(at, len))) return true;
+        }
+        return false;
+    }
+};
+
+} // namespace detail
+
+// Bits in memory of the caller's: words and the number of their bits. It owns nothing.
+class BITM_POINTER bits_view : public detail::bits_calls<bits_view> {
+public:
+    using value_type = bool;
+    using const_iterator = bits_iterator;
+    using iterator = bits_iterator;
+
+    bits_view() noexcept = default;
+    // All bits of the words, or the first `size` of them. Temporary containers do not convert.
+    explicit bits_view(detail::kept<const std::uint64_t> words BITM_LIFETIMEBOUND, maybe_position size = {})
+        : parts_{words.data(), words.size(), size.value_or(64 * words.size())}
+    {
+        const std::size_t len = bitm_bits_words_len(parts_.size);
+        if (len > parts_.len) fail({errc::bad_size, parts_.size, 64 * words.size()});
+        parts_.len = len;
+    }
+    using bits_calls::ones, bits_calls::zeros;
+    ones_range ones(std::uint64_t from = 0) const { return {parts_, from}; }
+    zeros_range zeros(std::uint64_t from = 0) const { return {parts_, from}; }
+    fragments_range fragments(std::uint32_t width) const { return {parts_, width}; }
+    bits_iterator begin() const noexcept { return {parts_, 0}; }
+    bits_iterator end() const noexcept { return {parts_, parts_.size}; }
+    std::reverse_iterator<bits_iterator> rbegin() const { return std::reverse_iterator<bits_iterator>(end()); }
+    std::reverse_iterator<bits_iterator> rend() const { return std::reverse_iterator<bits_iterator>(begin()); }
+    const detail::bits_parts &parts() const noexcept { return parts_; }
+
+private:
+    friend class bits;
+    explicit bits_view(const detail::bits_parts &of) noexcept : parts_(of) {}
+    detail::bits_parts parts_;
+};
+
+namespace detail {
+
+// The hash of the whole words as text, and of the bits of the last one as a number.
+inline std::size_t hash_of(const bits_view &of)
+{
+    const std::uint32_t rest = of.size() % 64;
+    const std::size_t whole = static_cast<std::size_t>(of.size() / 64);
+    return std::hash<std::string_view>()({reinterpret_cast<const char *>(of.words_data()), 8 * whole}) ^
+           std::hash<std::uint64_t>()(rest ? of.get_bits(of.size() - rest, rest) : 0) ^ of.size();
+}
+
+} // namespace detail
+
+// Bits that it owns, in words aligned to 64 bytes. Moves are cheap and leave an empty one. Views, ranges and iterators
+// are valid until the size or the capacity changes, as those of a std::vector.
+class BITM_OWNER bits : public detail::bits_calls<bits> {
+public:
+    using value_type = bool;
+    using size_type = std::uint64_t;
+    using difference_type = std::ptrdiff_t;
+    using const_iterator = bits_iterator;
+    using iterator = bits_iterator;
+
+    // One bit, as `b[i]` of bits that may change.
+    class reference {
+    public:
+        operator bool() const { return detail::bit_of(of_->parts(), at_); }
+        reference &operator=(bool value) { return of_->set(at_, value), *this; }
+        reference &operator=(const reference &other) { return *this = static_cast<bool>(other); }
+        reference &operator|=(bool value) { return value ? *this = true : *this; }
+        reference &operator&=(bool value) { return value ? *this : *this = false; }
+        reference &operator^=(bool value) { return value ? flip() : *this; }
+        reference &flip() { return *this = !*this; }
+        bool operator~() const { return !*this; }
+        reference(const reference &) = default;
+
+    private:
+        friend class bits;
+        reference(bits &of, std::uint64_t at) : of_(&of), at_(at) {}
+        bits *of_;
+        std::uint64_t at_;
+    };
+
+    bits() noexcept = default;
+    explicit bits(std::uint64_t size, bool value = false) { resize(size, value); }
+    bits(std::initializer_list<bool> values) : bits(values.begin(), values.end()) {}
+    template <class It, class = typename std::iterator_traits<It>::iterator_category> bits(It first, It last)
+    {
+        for (; first != last; ++first) push_back(static_cast<bool>(*first));
+    }
+    explicit bits(bits_view of) { append(of); }
+    explicit bits(words_in words) { append(bits_view(words)); }
+    // From text of zeros and ones, position 0 first: fails where there is another letter.
+    explicit bits(std::string_view text)
+    {
+        reserve(text.size());
+        for (const char letter : text) {
+            if (letter != '0' && letter != '1') fail({errc::bad_size});
+            push_back(letter == '1');
+        }
+    }
+    explicit bits(const char *text) : bits(std::string_view(text)) {}
+    // `size` bits with 1 bits at the positions, in any order.
+    template <class It> static bits of_positions(It first, It last, std::uint64_t size)
+    {
+        bits made(size);
+        for (; first != last; ++first) made.set(static_cast<std::uint64_t>(*first));
+        return made;
+    }
+    template <class Positions, class = decltype(std::begin(std::declval<const Positions &>()))>
+    static bits of_positions(const Positions &positions, std::uint64_t size)
+    {
+        return of_positions(std::begin(positions), std::end(positions), size);
+    }
+    static bits of_positions(std::initializer_list<std::uint64_t> positions, std::uint64_t size)
+    {
+        return of_positions(positions.begin(), positions.end(), size);
+    }
+
+    bits(const bits &other) : bits_calls(), block_(other.len_), len_(other.len_), size_(other.size_)
+    {
+        if (len_) std::memcpy(block_.data(), other.block_.data(), 8 * len_);
+    }
+    bits(bits &&other) noexcept { swap(other); }
+    bits &operator=(const bits &other)
+    {
+        bits copy(other);
+        swap(copy);
+        return *this;
+    }
+    bits &operator=(bits &&other) noexcept
+    {
+        bits moved(std::move(other));
+        swap(moved);
+        return *this;
+    }
+    ~bits() = default;
+    void swap(bits &other) noexcept
+    {
+        block_.swap(other.block_), std::swap(len_, other.len_), std::swap(size_, other.size_);
+    }
+    friend void swap(bits &a, bits &b) noexcept { a.swap(b); }
+
+    // ---- size
+    std::uint64_t capacity() const noexcept { return 64 * block_.size(); }
+    void reserve(std::uint64_t size)
+    {
+        const std::size_t words = bitm_bits_words_len(size);
+        if (words > block_.size()) hold(words);
+    }
+    void resize(std::uint64_t size, bool value = false)
+    {
+        const std::uint64_t old = size_;
+        if (size > old) {
+            grow(size);
+            if (value) fill(old, size, true);
+        } else {
+            detail::need(bitm_bits_clear_from(block_.data(), len_, size));
+            size_ = size, len_ = bitm_bits_words_len(size);
+        }
+    }
+    void clear() noexcept
+    {
+        resize(0);
+    }
+    void shrink_to_fit()
+    {
+        if (len_ < block_.size()) hold(len_);
+    }
+
+    // ---- changes
+    using bits_calls::operator[];
+    reference operator[](std::uint64_t at) BITM_LIFETIMEBOUND
+    {
+        if (BITM_RARELY(at >= size_)) detail::outside(at, size_);
+        return {*this, at};
+    }
+    bits &set(std::uint64_t at, bool value = true)
+    {
+        if (BITM_RARELY(at >= size_)) detail::outside(at, size_);
+        return bitm_set_bit_at(block_.data(), at, value), *this;
+    }
+    bits &reset(std::uint64_t at) { return set(at, false); }
+    // Sets a bit: what it was before.
+    bool test_set(std::uint64_t at, bool value = true)
+    {
+        const bool before = test(at);
+        return set(at, value), before;
+    }
+    bits &flip(std::uint64_t at)
+    {
+        if (BITM_RARELY(at >= size_)) detail::outside(at, size_);
+        return flip(at, at + 1);
+    }
+    bits &set() { return fill(0, size_, true); }
+    bits &reset() { return fill(0, size_, false); }
+    bits &flip() { return flip(0, size_); }
+    // The bits from one position on and before another: makes them equal to a value, or flips them.
+    bits &fill(std::uint64_t from, std::uint64_t to, bool value)
+    {
+        return done(bitm_bits_fill_range(block_.data(), len_, size_, from, to, value), detail::greater(from, to));
+    }
+    bits &flip(std::uint64_t from, std::uint64_t to)
+    {
+        return done(bitm_bits_flip_range(block_.data(), len_, size_, from, to), detail::greater(from, to));
+    }
+    // Replaces the number in the `len` bits from position `begin` on; or combines it with a value by exclusive or.
+    bits &set_bits(std::uint64_t begin, std::uint32_t len, std::uint64_t value)
+    {
+        return done(bitm_bits_set_number(block_.data(), len_, size_, begin, len, value), begin);
+    }
+    bits &xor_bits(std::uint64_t begin, std::uint32_t len, std::uint64_t value)
+    {
+        return done(bitm_bits_xor_number(block_.data(), len_, size_, begin, len, value), begin);
+    }
+    // The bits as an array of numbers of `width` bits: replaces one, exchanges two, or makes the first `count` a value.
+    bits &set_fragment(std::uint64_t index, std::uint32_t width, std::uint64_t value)
+    {
+        return done(bitm_bits_set_fragment(block_.data(), len_, size_, index, width, value), index);
+    }
+    bits &swap_fragments(std::uint64_t first, std::uint64_t second, std::uint32_t width)
+    {
+        return done(bitm_bits_swap_fragments(block_.data(), len_, size_, first, second, width), detail::greater(first, second));
+    }
+    bits &fill_fragments(std::uint32_t width, std::uint64_t value, std::size_t count)
+    {
+        return done(bitm_bits_fill_fragments(block_.data(), len_, size_, width, value, count), count);
+    }
+    void push_back(bool value)
+    {
+        grow(size_ + 1);
+        if (value) set(size_ - 1);
+    }
+    void pop_back()
+    {
+        if (size_ == 0) detail::outside(0, 0);
+        resize(size_ - 1);
+    }
+    // Appends the `len` lowest bits of a number, or other bits.
+    void append(std::uint64_t value, std::uint32_t len)
+    {
+        if (BITM_RARELY(len > 64)) detail::outside(len, 64);
+        grow(size_ + len);
+        set_bits(size_ - len, len, value);
+    }
+    void append(bits_view other)
+    {
+        if (BITM_RARELY(mine(other))) { // memory that C writes overlaps no other argument, and growing may move it
+            const bits copy(other);
+            return append(copy.view());
+        }
+        const std::uint64_t old = size_;
+        grow(old + other.size());
+        done(bitm_bits_copy_range(block_.data(), len_, old, other.words_data(), other.words_len(), 0, other.size()));
+    }
+    void append(const bits &other) { append(other.view()); }
+
+    // Combines each bit with the bit of the other at the same position; the sizes have to be equal.
+    bits &operator&=(bits_view other) { return with(bitm_bits_and, other); }
+    bits &operator|=(bits_view other) { return with(bitm_bits_or, other); }
+    bits &operator^=(bits_view other) { return with(bitm_bits_xor, other); }
+    bits &operator-=(bits_view other) { return with(bitm_bits_and_not, other); }
+    bits &operator&=(const bits &other) { return *this &= other.view(); }
+    bits &operator|=(const bits &other) { return *this |= other.view(); }
+    bits &operator^=(const bits &other) { return *this ^= other.view(); }
+    bits &operator-=(const bits &other) { return *this -= other.view(); }
+    friend bits operator&(bits a, const bits &b) { return std::move(a &= b); }
+    friend bits operator|(bits a, const bits &b) { return std::move(a |= b); }
+    friend bits operator^(bits a, const bits &b) { return std::move(a ^= b); }
+    friend bits operator-(bits a, const bits &b) { return std::move(a -= b); }
+    friend bits operator~(bits a) { return std::move(a.flip()); }
+    // Moves each bit to a higher, or lower, position; 0 bits come in and the size stays.
+    friend bits operator<<(const bits &a, std::uint64_t by) { return moved(a, 0, by); }
+    friend bits operator>>(const bits &a, std::uint64_t by) { return moved(a, by, 0); }
+    bits &operator<<=(std::uint64_t by) { return *this = *this << by; }
+    bits &operator>>=(std::uint64_t by) { return *this = *this >> by; }
+    // A copy of the bits from one position on and before another.
+    bits slice(std::uint64_t from, std::uint64_t to) const
+    {
+        if (BITM_RARELY(from > to || to > size_)) detail::outside(detail::greater(from, to), size_);
+        bits made(to - from);
+        made.take(*this, from, 0);
+        return made;
+    }
+
+    // ---- views and walks: deleted for temporaries
+    bits_view view() const &noexcept BITM_LIFETIMEBOUND { return bits_view(parts()); }
+    using bits_calls::ones, bits_calls::zeros;
+    ones_range ones(std::uint64_t from = 0) const &BITM_LIFETIMEBOUND { return {parts(), from}; }
+    zeros_range zeros(std::uint64_t from = 0) const &BITM_LIFETIMEBOUND { return {parts(), from}; }
+    fragments_range fragments(std::uint32_t width) const &BITM_LIFETIMEBOUND { return {parts(), width}; }
+    bits_iterator begin() const &noexcept BITM_LIFETIMEBOUND { return {parts(), 0}; }
+    bits_iterator end() const &noexcept BITM_LIFETIMEBOUND { return {parts(), size_}; }
+    std::reverse_iterator<bits_iterator> rbegin() const &BITM_LIFETIMEBOUND
+    {
+        return std::reverse_iterator<bits_iterator>(end());
+    }
+    std::reverse_iterator<bits_iterator> rend() const &BITM_LIFETIMEBOUND
+    {
+        return std::reverse_iterator<bits_iterator>(begin());
+    }
+    words_in words() const &noexcept BITM_LIFETIMEBOUND { return {block_.data(), len_}; }
+    const std::uint64_t *words_data() const &noexcept BITM_LIFETIMEBOUND { return block_.data(); }
+    void view() const && = delete;
+    void ones(std::uint64_t = 0) const && = delete;
+    void zeros(std::uint64_t = 0) const && = delete;
+    void fragments(std::uint32_t) const && = delete;
+    void begin() const && = delete;
+    void end() const && = delete;
+    void rbegin() const && = delete;
+    void rend() const && = delete;
+    void words() const && = delete;
+    void words_data() const && = delete;
+
+    detail::bits_parts parts() const noexcept { return {block_.data(), len_, size_}; }
+
+private:
+    void hold(std::size_t words)
+    {
+        detail::block more(words);
+        if (len_) std::memcpy(more.data(), block_.data(), 8 * len_);
+        block_.swap(more);
+    }
+    // Makes the size this one; new bits are 0 bits, since all words past the size are zeros at all times.
+    void grow(std::uint64_t size)
+    {
+        if (BITM_RARELY(size < size_)) fail({errc::bad_size}); // past 2^64
+        const std::size_t words = bitm_bits_words_len(size);
+        if (words > block_.size()) hold(detail::greater(words, detail::greater(8, block_.size() + block_.size() / 2)));
+        len_ = words, size_ = size;
+    }
+    bits &done(std::uint32_t status, std::uint64_t at = 0)
+    {
+        if (BITM_RARELY(status != BITM_OK)) detail::fail_status(status, at, size_);
+        return *this;
+    }
+    // Whether a view lies in the memory of this owner.
+    bool mine(const bits_view &other) const noexcept
+    {
+        const auto at = reinterpret_cast<std::uintptr_t>(other.words_data()), own = reinterpret_cast<std::uintptr_t>(block_.data());
+        return other.size() && size_ && at < own + 8 * block_.size() && own < at + 8 * other.words_len();
+    }
+    template <class Call> bits &with(Call call, bits_view other)
+    {
+        if (BITM_RARELY(other.size() != size_)) fail({errc::bad_size, other.size(), size_});
+        if (BITM_RARELY(mine(other))) {
+            const bits copy(other);
+            return with(call, copy.view());
+        }
+        done(call(block_.data(), len_, other.words_data(), other.words_len()));
+        return done(bitm_bits_clear_from(block_.data(), len_, size_)); // a view may have 1 bits past its end
+    }
+    // Copies the bits from position `from` on to positions from `to` on, until either ends.
+    void take(const bits &other, std::uint64_t from, std::uint64_t to)
+    {
+        if (from >= other.size_ || to >= size_) return;
+        const std::uint64_t all = detail::lesser(other.size_ - from, size_ - to);
+        done(bitm_bits_copy_range(block_.data(), len_, to, other.block_.data(), other.len_, from, all));
+    }
+    static bits moved(const bits &of, std::uint64_t from, std::uint64_t to)
+    {
+        bits made(of.size_);
+        made.take(of, from, to);
+        return made;
+    }
+
+    detail::block block_;
+    std::size_t len_ = 0;
+    std::uint64_t size_ = 0;
+};
+
+BITM_NAMESPACE_END
+
+// Equal bits have equal hashes.
+template <> struct std::hash<bitm::bits_view> {
+    std::size_t operator()(const bitm::bits_view &of) const { return bitm::detail::hash_of(of); }
+};
+template <> struct std::hash<bitm::bits> {
+    std::size_t operator()(const bitm::bits &of) const
+    {
+        return bitm::detail::hash_of(of.view());
+    }
+};
+
+#endif
