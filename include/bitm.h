@@ -331,8 +331,8 @@ BITM_MUST_USE uint32_t bitm_index_select(const struct bitm_index *index, bool on
 /* out[i] answers query i as the call of one query does, or is BITM_NO_ANSWER for BITM_NONE and BITM_WRONG_TABLES for
  * BITM_WRONG; counts says how many of each there are. Selections are searched side by side, so over tables that are not
  * those of the words a list may find another position of the kind than the call of one query, or none where that finds
- * one. BITM_BAD_SIZE also if out_len is not the number of queries. out and counts may overlap neither each other nor the
- * queries. */
+ * one. BITM_BAD_SIZE also if out_len is not the number of queries. out and counts may overlap neither each other nor
+ * the queries. */
 BITM_MUST_USE uint32_t bitm_index_rank_list(const struct bitm_index *index, bool one, const uint64_t *positions,
                                             size_t positions_len, uint64_t *out, size_t out_len,
                                             struct bitm_list_counts *counts);

@@ -48,7 +48,8 @@ template <class T> constexpr bool regular()
            std::is_nothrow_move_constructible_v<T> && std::is_nothrow_move_assignable_v<T> &&
            std::is_nothrow_swappable_v<T> && std::is_nothrow_default_constructible_v<T>;
 }
-static_assert(regular<bitm::bits>() && regular<bitm::bits_view>() && regular<bitm::rank_index>() && regular<bitm::rank_index_view>());
+static_assert(regular<bitm::bits>() && regular<bitm::bits_view>() && regular<bitm::rank_index>() &&
+              regular<bitm::rank_index_view>());
 static_assert(regular<bitm::sequence>() && regular<bitm::sequence_view>() && regular<bitm::perfect_hash>());
 // No owner is, or converts by itself to, a view.
 template <class Owner, class View>
@@ -57,21 +58,27 @@ constexpr bool apart = !std::is_convertible_v<Owner, View> && !std::is_convertib
 static_assert(apart<bitm::bits, bitm::bits_view> && apart<bitm::rank_index, bitm::rank_index_view> &&
               apart<bitm::sequence, bitm::sequence_view>);
 // Bits are no container of words: their size counts bits.
-static_assert(!std::is_convertible_v<bitm::bits &, bitm::words_in> && !std::is_constructible_v<bitm::words_in, bitm::bits_view &> &&
-              !std::is_constructible_v<bitm::bits_view, bitm::bits &> && !std::is_constructible_v<bitm::words_in, bitm::sequence &>);
+static_assert(!std::is_convertible_v<bitm::bits &, bitm::words_in> &&
+              !std::is_constructible_v<bitm::words_in, bitm::bits_view &> &&
+              !std::is_constructible_v<bitm::bits_view, bitm::bits &> &&
+              !std::is_constructible_v<bitm::words_in, bitm::sequence &>);
 #if __cplusplus >= 202002L
 namespace sr = std::ranges;
 static_assert(std::random_access_iterator<bitm::bits_iterator> && std::random_access_iterator<bitm::sequence_iterator>);
-static_assert(std::bidirectional_iterator<bitm::ones_range::iterator> && std::bidirectional_iterator<bitm::zeros_range::iterator>);
+static_assert(std::bidirectional_iterator<bitm::ones_range::iterator> &&
+              std::bidirectional_iterator<bitm::zeros_range::iterator>);
 static_assert(sr::random_access_range<bitm::bits> && sr::random_access_range<bitm::bits_view> &&
               sr::random_access_range<bitm::rank_index> && sr::random_access_range<bitm::sequence> &&
               sr::random_access_range<const bitm::sequence_view>);
 static_assert(sr::sized_range<bitm::bits> && sr::sized_range<bitm::sequence> && sr::common_range<bitm::sequence>);
-static_assert(sr::view<bitm::bits_view> && sr::view<bitm::sequence_view> && sr::view<bitm::ones_range> && sr::view<bitm::rank_index_view>);
-static_assert(sr::borrowed_range<bitm::bits_view> && sr::borrowed_range<bitm::ones_range> && sr::borrowed_range<bitm::sequence_view>);
+static_assert(sr::view<bitm::bits_view> && sr::view<bitm::sequence_view> && sr::view<bitm::ones_range> &&
+              sr::view<bitm::rank_index_view>);
+static_assert(sr::borrowed_range<bitm::bits_view> && sr::borrowed_range<bitm::ones_range> &&
+              sr::borrowed_range<bitm::sequence_view>);
 static_assert(!sr::borrowed_range<bitm::bits> && !sr::borrowed_range<bitm::sequence>);
 static_assert(sr::bidirectional_range<bitm::ones_range> && sr::bidirectional_range<bitm::zeros_range>);
-static_assert(sr::random_access_range<bitm::fragments_range> && sr::view<bitm::fragments_range> && sr::sized_range<bitm::fragments_range>);
+static_assert(sr::random_access_range<bitm::fragments_range> && sr::view<bitm::fragments_range> &&
+              sr::sized_range<bitm::fragments_range>);
 static_assert(sr::input_range<bitm::sequence_walk>);
 #endif
 
@@ -110,7 +117,8 @@ template <class Bits> static void same(const Bits &b, const std::vector<bool> &m
     CHECK(std::equal(zeros_of.rbegin(), zeros_of.rend(), zeros.rbegin(), zeros.rend()));
     const std::uint32_t width = 1 + static_cast<std::uint32_t>(below(64));
     const auto fragments = b.fragments(width);
-    CHECK(fragments.size() == n / width && fragments.end() - fragments.begin() == static_cast<std::ptrdiff_t>(n / width));
+    CHECK(fragments.size() == n / width &&
+          fragments.end() - fragments.begin() == static_cast<std::ptrdiff_t>(n / width));
     u64 first = 0;
     for (const u64 number : fragments) {
         CHECK(number == b.get_bits(first, width));
@@ -125,7 +133,10 @@ template <class Bits> static void same(const Bits &b, const std::vector<bool> &m
         CHECK(b.previous_one(at) == at_most(ones, at) && b.previous_zero(at) == at_most(zeros, at));
         const auto later = b.ones(at);
         CHECK(std::equal(later.begin(), later.end(), std::lower_bound(ones.begin(), ones.end(), at), ones.end()));
-        if (to <= n) CHECK(b.count(from, to) == static_cast<u64>(std::count(model.begin() + static_cast<std::ptrdiff_t>(from), model.begin() + static_cast<std::ptrdiff_t>(to), true)));
+        if (to <= n)
+            CHECK(b.count(from, to) ==
+                  static_cast<u64>(std::count(model.begin() + static_cast<std::ptrdiff_t>(from),
+                                              model.begin() + static_cast<std::ptrdiff_t>(to), true)));
         else THROWS(std::out_of_range, b.count(from, to));
         if (at < n) CHECK(b[at] == model[at] && b.at(at) == model[at] && b.test(at) == model[at]);
         else THROWS(std::out_of_range, b.at(at));
@@ -167,7 +178,13 @@ static void bits_case()
         switch (below(22)) {
         case 0: if (n) b.set(at, value), model[at] = value; break;
         case 1: if (n) b[at] = value, model[at] = value; break;
-        case 2: if (n) { b.flip(at), model[at].flip(); CHECK(b.test_set(at, value) == model[at]); model[at] = value; } break;
+        case 2:
+            if (n) {
+                b.flip(at), model[at].flip();
+                CHECK(b.test_set(at, value) == model[at]);
+                model[at] = value;
+            }
+            break;
         case 3: b.push_back(value), model.push_back(value); break;
         case 4: if (n) b.pop_back(), model.pop_back(); break;
         case 5: b.fill(at, to, value), std::fill(m(at), m(to), value); break;
@@ -184,10 +201,17 @@ static void bits_case()
             const auto other = random_model(random_size());
             bitm::bits longer(other.begin(), other.end());
             if (value) longer.append(~u64{}, 64);
-            b.append(bitm::bits_view(longer.words(), other.size())), model.insert(model.end(), other.begin(), other.end());
+            b.append(bitm::bits_view(longer.words(), other.size())),
+                model.insert(model.end(), other.begin(), other.end());
             break;
         }
-        case 10: if (n < 3000) { b.append(b); const auto copy = model; model.insert(model.end(), copy.begin(), copy.end()); } break;
+        case 10:
+            if (n < 3000) {
+                b.append(b);
+                const auto copy = model;
+                model.insert(model.end(), copy.begin(), copy.end());
+            }
+            break;
         case 11: case 12: case 13: case 14: {
             const auto other = random_model(n);
             // a view with 1 bits past its end
@@ -199,12 +223,17 @@ static void bits_case()
             CHECK(view == exact && exact == view && !(view != exact));
             std::vector<u64> both, mine = positions(model, true), its = places(other, true);
             std::set_intersection(mine.begin(), mine.end(), its.begin(), its.end(), std::back_inserter(both));
-            CHECK(b.intersects(view) == !both.empty() && b.is_subset_of(exact) == (both == mine) && view.is_subset_of(b) == (both == its));
+            CHECK(b.intersects(view) == !both.empty() && b.is_subset_of(exact) == (both == mine) &&
+                  view.is_subset_of(b) == (both == its));
             CHECK(b.is_proper_subset_of(view) == (both == mine && mine != its));
             CHECK((b == view) == (model == other));
             const u64 which = below(4);
             if (which == 0) b &= view; else if (which == 1) b |= exact; else if (which == 2) b ^= view; else b -= view;
-            for (u64 i = 0; i < n; i++) model[i] = which == 0 ? model[i] && other[i] : which == 1 ? model[i] || other[i] : which == 2 ? model[i] != other[i] : model[i] && !other[i];
+            for (u64 i = 0; i < n; i++)
+                model[i] = which == 0   ? model[i] && other[i]
+                           : which == 1 ? model[i] || other[i]
+                           : which == 2 ? model[i] != other[i]
+                                        : model[i] && !other[i];
             break;
         }
         case 15: {
@@ -222,7 +251,12 @@ static void bits_case()
             b >>= by, model = shifted;
             break;
         }
-        case 17: { const bitm::bits cut = b.slice(at, to); same(cut, std::vector<bool>(m(at), m(to))); b.shrink_to_fit(), b.reserve(below(9000)); break; }
+        case 17: {
+            const bitm::bits cut = b.slice(at, to);
+            same(cut, std::vector<bool>(m(at), m(to)));
+            b.shrink_to_fit(), b.reserve(below(9000));
+            break;
+        }
         case 20: // a view of some of its own words, which move
             if (n > 64 && n < 3000) {
                 const bitm::bits_view later(bitm::words_in(b.words_data() + 1, b.words_len() - 1), n - 64);
@@ -239,7 +273,14 @@ static void bits_case()
                 for (u64 i = 0; i < n; i++) model[i] = old[i] && i + 64 < n && old[i + 64];
             }
             break;
-        case 18: { b = ~b; model.flip(); b ^= *&b; CHECK(b.none()); std::fill(model.begin(), model.end(), false); break; }
+        case 18: {
+            b = ~b;
+            model.flip();
+            b ^= *&b;
+            CHECK(b.none());
+            std::fill(model.begin(), model.end(), false);
+            break;
+        }
         default: {
             const u64 number = random_numbers();
             const std::uint32_t len = static_cast<std::uint32_t>(below(65));
@@ -288,11 +329,14 @@ static void index_against(const bitm::rank_index &x, const std::vector<bool> &mo
         positions_queried.push_back(below(4) ? at : past), ranks_queried.push_back(rank);
     }
     std::vector<u64> r(12), r0(12), s(12), s0(12);
-    x.rank(positions_queried, r), v.rank0(positions_queried, r0), x.select(ranks_queried, s), v.select0(ranks_queried, s0);
+    x.rank(positions_queried, r), v.rank0(positions_queried, r0), x.select(ranks_queried, s),
+        v.select0(ranks_queried, s0);
     for (std::size_t i = 0; i < 12; i++) {
         const u64 at = positions_queried[i], rank = ranks_queried[i];
-        CHECK(r[i] == (at <= n ? before[at] : bitm::no_answer) && r0[i] == (at <= n ? at - before[at] : bitm::no_answer));
-        CHECK(s[i] == (rank < ones.size() ? ones[rank] : bitm::no_answer) && s0[i] == (rank < zeros.size() ? zeros[rank] : bitm::no_answer));
+        CHECK(r[i] == (at <= n ? before[at] : bitm::no_answer) &&
+              r0[i] == (at <= n ? at - before[at] : bitm::no_answer));
+        CHECK(s[i] == (rank < ones.size() ? ones[rank] : bitm::no_answer) &&
+              s0[i] == (rank < zeros.size() ? zeros[rank] : bitm::no_answer));
     }
     std::vector<u64> few(3);
     THROWS(std::invalid_argument, (x.rank(positions_queried, few), 0));
@@ -315,11 +359,13 @@ static void index_case()
     index_against(copy, model);
     bitm::rank_index moved = std::move(x);
     index_against(moved, model), index_against(x, {});
-    CHECK(moved == copy && (x == copy) == model.empty() && std::hash<bitm::rank_index>()(moved) == std::hash<bitm::rank_index>()(copy));
+    CHECK(moved == copy && (x == copy) == model.empty() &&
+          std::hash<bitm::rank_index>()(moved) == std::hash<bitm::rank_index>()(copy));
     swap(x, moved), moved = x, index_against(moved, model), x = std::move(moved), index_against(x, model);
     // Files.
     x.save(scratch);
-    index_against(bitm::rank_index::map(scratch), model), index_against(bitm::rank_index::load(scratch, bitm::verify::yes), model);
+    index_against(bitm::rank_index::map(scratch), model),
+        index_against(bitm::rank_index::load(scratch, bitm::verify::yes), model);
     std::stringstream stream;
     x.save(stream) << "and more after it";
     const bitm::rank_index streamed = bitm::rank_index::load(stream);
@@ -329,11 +375,13 @@ static void index_case()
     CHECK(rest == "and more after it");
     CHECK(std::equal(streamed.bytes().begin(), streamed.bytes().end(), x.bytes().begin(), x.bytes().end()));
     index_against(bitm::rank_index::of_bytes(x.bytes()), model);
-    const std::vector<u64> words(reinterpret_cast<const u64 *>(x.bytes().data()), reinterpret_cast<const u64 *>(x.bytes().data() + x.bytes().size()));
+    const std::vector<u64> words(reinterpret_cast<const u64 *>(x.bytes().data()),
+                                 reinterpret_cast<const u64 *>(x.bytes().data() + x.bytes().size()));
     CHECK(bitm::rank_index_view::in(words) == x && bitm::rank_index_view::in(words).check());
     // A file that is cut, and one with a byte changed: refused, or its answers are safe.
     std::vector<unsigned char> bytes(x.bytes().begin(), x.bytes().end());
-    const auto refused = bitm::rank_index::try_of_bytes({bytes.data(), bytes.size() - 8 * (1 + below(bytes.size() / 8))});
+    const auto refused =
+        bitm::rank_index::try_of_bytes({bytes.data(), bytes.size() - 8 * (1 + below(bytes.size() / 8))});
     CHECK(!refused && refused.error().code == bitm::errc::wrong_file);
     for (int turn = 0; turn < 6; turn++) {
         auto wrong = bytes;
@@ -373,29 +421,38 @@ static void sequence_case()
         CHECK(walked == numbers);
         std::vector<u64> queried, at_indexes;
         for (int turn = 0; turn < 10; turn++) {
-            const u64 value = below(3) && !numbers.empty() ? numbers[below(numbers.size())] + below(3) - 1 : random_numbers() >> (64 - bits);
+            const u64 value = below(3) && !numbers.empty() ? numbers[below(numbers.size())] + below(3) - 1
+                                                           : random_numbers() >> (64 - bits);
             const auto lower = std::lower_bound(numbers.begin(), numbers.end(), value);
             const auto upper = std::upper_bound(numbers.begin(), numbers.end(), value);
-            const u64 first = static_cast<u64>(lower - numbers.begin()), end = static_cast<u64>(upper - numbers.begin());
-            CHECK(of.first_at_least(value) == (lower == numbers.end() ? bitm::maybe_position() : bitm::maybe_position(first)) && of.rank(value) == first);
-            CHECK(of.last_at_most(value) == (end ? bitm::maybe_position(end - 1) : bitm::maybe_position()) && of.contains(value) == (first != end));
+            const u64 first = static_cast<u64>(lower - numbers.begin()),
+                      end = static_cast<u64>(upper - numbers.begin());
+            CHECK(of.first_at_least(value) ==
+                      (lower == numbers.end() ? bitm::maybe_position() : bitm::maybe_position(first)) &&
+                  of.rank(value) == first);
+            CHECK(of.last_at_most(value) == (end ? bitm::maybe_position(end - 1) : bitm::maybe_position()) &&
+                  of.contains(value) == (first != end));
             CHECK(static_cast<u64>(std::lower_bound(of.begin(), of.end(), value) - of.begin()) == first);
             queried.push_back(value);
             if (!numbers.empty()) at_indexes.push_back(below(numbers.size()));
             auto walk = of.walk(below(first + 1));
-            CHECK(walk.advance_to(value) == (lower != numbers.end()) && (!walk || (walk.position() >= first && *walk >= value)));
+            CHECK(walk.advance_to(value) == (lower != numbers.end()) &&
+                  (!walk || (walk.position() >= first && *walk >= value)));
         }
         std::vector<u64> found(queried.size()), got(at_indexes.size());
         of.first_at_least(queried, found), of.at(at_indexes, got);
-        for (std::size_t i = 0; i < queried.size(); i++) CHECK(found[i] == of.first_at_least(queried[i]).value_or(bitm::no_answer));
+        for (std::size_t i = 0; i < queried.size(); i++)
+            CHECK(found[i] == of.first_at_least(queried[i]).value_or(bitm::no_answer));
         for (std::size_t i = 0; i < got.size(); i++) CHECK(got[i] == numbers[at_indexes[i]]);
         THROWS(std::out_of_range, of[numbers.size()]);
     };
     against(s);
     bitm::sequence copy = s, moved = std::move(s);
     against(copy), against(moved);
-    CHECK(s.empty() && copy == moved && (s == copy) == numbers.empty() && std::hash<bitm::sequence>()(copy) == std::hash<bitm::sequence>()(moved));
-    moved.save(scratch), against(bitm::sequence::map(scratch)), against(bitm::sequence::load(scratch, bitm::verify::yes));
+    CHECK(s.empty() && copy == moved && (s == copy) == numbers.empty() &&
+          std::hash<bitm::sequence>()(copy) == std::hash<bitm::sequence>()(moved));
+    moved.save(scratch), against(bitm::sequence::map(scratch)),
+        against(bitm::sequence::load(scratch, bitm::verify::yes));
     CHECK(bitm::sequence_view(moved.raw()) == moved && !bitm::rank_index::try_load(scratch));
     if (numbers.size() > 1 && numbers.front() != numbers.back()) {
         std::vector<u64> falling = numbers;
@@ -405,7 +462,8 @@ static void sequence_case()
         THROWS(std::invalid_argument, bitm::sequence(falling));
     }
     std::vector<u64> others(below(3000));
-    for (u64 &it : others) it = below(2) && !numbers.empty() ? numbers[below(numbers.size())] : random_numbers() >> (64 - bits);
+    for (u64 &it : others)
+        it = below(2) && !numbers.empty() ? numbers[below(numbers.size())] : random_numbers() >> (64 - bits);
     std::sort(others.begin(), others.end());
     const std::set<u64> x(numbers.begin(), numbers.end()), y(others.begin(), others.end());
     std::vector<u64> both, met;
@@ -419,7 +477,8 @@ static void hash_case()
     std::set<u64> keys;
     const u64 n = below(4) ? below(300) : below(20000);
     while (keys.size() < n) keys.insert(random_numbers());
-    const bitm::perfect_hash h(keys.begin(), keys.end(), [](u64 key) { return key; }, 100 + static_cast<unsigned>(below(101)));
+    const bitm::perfect_hash h(
+        keys.begin(), keys.end(), [](u64 key) { return key; }, 100 + static_cast<unsigned>(below(101)));
     CHECK(h.size() == n && h.check());
     std::vector<bool> used(n);
     for (const u64 key : keys) {
@@ -461,20 +520,25 @@ static void once()
     std::ostringstream out;
     out << b << ' ' << bitm::sequence{2, 3, 5} << ' ' << bitm::rank_index(b);
     CHECK(out.str() == "101 [2, 3, 5] 101");
-    bitm::rank_index direct = bitm::rank_index::build(130, {7, 7}, [](bitm::words_out words) { words[0] = 5, words[2] = ~u64{}; });
+    bitm::rank_index direct =
+        bitm::rank_index::build(130, {7, 7}, [](bitm::words_out words) { words[0] = 5, words[2] = ~u64{}; });
     CHECK(direct.count() == 4 && direct.check() && *direct.select(3) == 129 && !direct.select(4));
     const std::map<std::string, bitm::rank_index> member{{"a", direct}};
     CHECK(member.at("a").count() == 4);
-#if __cplusplus >= 202002L && (!defined __clang__ || __clang_major__ >= 16) // older ones do not compile libstdc++'s views
+#if __cplusplus >= 202002L &&                                                                                          \
+    (!defined __clang__ || __clang_major__ >= 16) // older ones do not compile libstdc++'s views
     namespace v = std::views;
     u64 sum = 0;
-    for (const u64 at : direct.ones() | v::filter([](u64 p) { return p % 2 == 0; }) | v::transform([](u64 p) { return p + 1; })) sum += at;
+    for (const u64 at :
+         direct.ones() | v::filter([](u64 p) { return p % 2 == 0; }) | v::transform([](u64 p) { return p + 1; }))
+        sum += at;
     CHECK(sum == 1 + 3 + 129);
     std::vector<u64> last;
     for (const u64 at : direct.ones() | v::reverse | v::take(2)) last.push_back(at);
     CHECK((last == std::vector<u64>{129, 128}));
     const bitm::sequence s{2, 3, 5, 7, 11};
-    CHECK(std::ranges::distance(s) == 5 && *std::ranges::lower_bound(s, u64{6}) == 7 && std::ranges::count(s, u64{7}) == 1);
+    CHECK(std::ranges::distance(s) == 5 && *std::ranges::lower_bound(s, u64{6}) == 7 &&
+          std::ranges::count(s, u64{7}) == 1);
     CHECK(*(s | v::drop(2) | v::take(2)).begin() == 5 && std::ranges::max(s) == 11);
     CHECK(std::ranges::equal(s | v::reverse | v::take(2), std::vector<u64>{11, 7}));
     auto walk = s.walk(1);

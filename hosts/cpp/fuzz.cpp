@@ -22,7 +22,8 @@ static void changes(FuzzedDataProvider &from)
     bitm::bits b;
     std::vector<bool> model;
     while (from.remaining_bytes() > 0) {
-        const u64 n = model.size(), at = from.ConsumeIntegralInRange<u64>(0, n), to = from.ConsumeIntegralInRange<u64>(at, n);
+        const u64 n = model.size(), at = from.ConsumeIntegralInRange<u64>(0, n),
+                  to = from.ConsumeIntegralInRange<u64>(at, n);
         const bool value = from.ConsumeBool();
         const auto m = [&](u64 i) { return model.begin() + static_cast<std::ptrdiff_t>(i); };
         switch (from.ConsumeIntegralInRange(0, 12)) {
@@ -30,17 +31,50 @@ static void changes(FuzzedDataProvider &from)
         case 1: if (at < n) b.set(at, value), model[at] = value; break;
         case 2: b.fill(at, to, value), std::fill(m(at), m(to), value); break;
         case 3: b.flip(at, to), std::transform(m(at), m(to), m(at), [](bool x) { return !x; }); break;
-        case 4: { const u64 size = from.ConsumeIntegralInRange<u64>(0, 2000); b.resize(size, value), model.resize(size, value); break; }
-        case 5: { const u64 x = from.ConsumeIntegral<u64>(); const std::uint32_t len = from.ConsumeIntegralInRange(0u, 64u); b.append(x, len); for (std::uint32_t i = 0; i < len; i++) model.push_back(x >> i & 1); break; }
-        case 6: if (n < 4000) { b.append(b); const auto c = model; model.insert(model.end(), c.begin(), c.end()); } break;
+        case 4: {
+            const u64 size = from.ConsumeIntegralInRange<u64>(0, 2000);
+            b.resize(size, value), model.resize(size, value);
+            break;
+        }
+        case 5: {
+            const u64 x = from.ConsumeIntegral<u64>();
+            const std::uint32_t len = from.ConsumeIntegralInRange(0u, 64u);
+            b.append(x, len);
+            for (std::uint32_t i = 0; i < len; i++) model.push_back(x >> i & 1);
+            break;
+        }
+        case 6:
+            if (n < 4000) {
+                b.append(b);
+                const auto c = model;
+                model.insert(model.end(), c.begin(), c.end());
+            }
+            break;
         case 7: b <<= at, model.insert(model.begin(), at, false), model.resize(n); break;
         case 8: b >>= at, model.erase(m(0), m(at)), model.resize(n); break;
         case 9: b = b.slice(at, to), model = std::vector<bool>(m(at), m(to)); break;
-        case 10: { const std::uint32_t len = static_cast<std::uint32_t>(std::min<u64>(64, n - at)); const u64 x = from.ConsumeIntegral<u64>(); b.set_bits(at, len, x); for (std::uint32_t i = 0; i < len; i++) model[at + i] = x >> i & 1; break; }
-        case 11: { bitm::bits other = b; other.flip(at, to); const u64 k = from.ConsumeIntegralInRange<u64>(0, 3); std::vector<bool> o = model; std::transform(o.begin() + static_cast<std::ptrdiff_t>(at), o.begin() + static_cast<std::ptrdiff_t>(to), o.begin() + static_cast<std::ptrdiff_t>(at), [](bool x) { return !x; });
+        case 10: {
+            const std::uint32_t len = static_cast<std::uint32_t>(std::min<u64>(64, n - at));
+            const u64 x = from.ConsumeIntegral<u64>();
+            b.set_bits(at, len, x);
+            for (std::uint32_t i = 0; i < len; i++) model[at + i] = x >> i & 1;
+            break;
+        }
+        case 11: {
+            bitm::bits other = b;
+            other.flip(at, to);
+            const u64 k = from.ConsumeIntegralInRange<u64>(0, 3);
+            std::vector<bool> o = model;
+            std::transform(o.begin() + static_cast<std::ptrdiff_t>(at), o.begin() + static_cast<std::ptrdiff_t>(to),
+                           o.begin() + static_cast<std::ptrdiff_t>(at), [](bool x) { return !x; });
             if (k == 0) b &= other; else if (k == 1) b |= other; else if (k == 2) b ^= other; else b -= other;
-            for (u64 i = 0; i < n; i++) model[i] = k == 0 ? model[i] && o[i] : k == 1 ? model[i] || o[i] : k == 2 ? model[i] != o[i] : model[i] && !o[i];
-            break; }
+            for (u64 i = 0; i < n; i++)
+                model[i] = k == 0   ? model[i] && o[i]
+                           : k == 1 ? model[i] || o[i]
+                           : k == 2 ? model[i] != o[i]
+                                    : model[i] && !o[i];
+            break;
+        }
         default: b.shrink_to_fit();
         }
         if (model.size() > 20000) b.resize(20000), model.resize(20000);
@@ -62,10 +96,13 @@ static void any_index(FuzzedDataProvider &from)
 {
     // A right header before any contents.
     const u64 bits = from.ConsumeIntegralInRange<u64>(0, 6000), len = bits / 64 + (bits % 64 != 0);
-    const std::uint32_t log2 = from.ConsumeBool() ? from.ConsumeIntegralInRange(7u, 31u) : 0, log2_0 = from.ConsumeBool() ? 8u : 0;
-    const u64 most = log2 ? bitm_index_samples_len(len, log2) : 0, most0 = log2_0 ? bitm_index_samples_len(len, log2_0) : 0;
+    const std::uint32_t log2 = from.ConsumeBool() ? from.ConsumeIntegralInRange(7u, 31u) : 0,
+                        log2_0 = from.ConsumeBool() ? 8u : 0;
+    const u64 most = log2 ? bitm_index_samples_len(len, log2) : 0,
+              most0 = log2_0 ? bitm_index_samples_len(len, log2_0) : 0;
     bitm_stored header;
-    if (bitm_stored_index(bits, log2, from.ConsumeIntegralInRange<u64>(0, most), log2_0, most0, &header) != BITM_OK) return;
+    if (bitm_stored_index(bits, log2, from.ConsumeIntegralInRange<u64>(0, most), log2_0, most0, &header) != BITM_OK)
+        return;
     std::vector<unsigned char> file(header.size);
     std::memcpy(file.data(), &header, sizeof header);
     const auto body = from.ConsumeRemainingBytes<unsigned char>();
@@ -103,7 +140,8 @@ static void any_index(FuzzedDataProvider &from)
 
 static void any_sequence(FuzzedDataProvider &from)
 {
-    const u64 n = from.ConsumeIntegralInRange<u64>(0, 400), largest = n ? from.ConsumeIntegral<u64>() >> from.ConsumeIntegralInRange(0, 63) : 0;
+    const u64 n = from.ConsumeIntegralInRange<u64>(0, 400),
+              largest = n ? from.ConsumeIntegral<u64>() >> from.ConsumeIntegralInRange(0, 63) : 0;
     bitm_sequence_lens lens;
     bitm_stored header;
     if (bitm_sequence_sizes(n, largest, &lens) != BITM_OK || bitm_stored_sequence(n, &lens, &header) != BITM_OK) return;
@@ -145,7 +183,8 @@ static void any_hash(FuzzedDataProvider &from)
     for (const u64 it : hashes) MUST(h(it) && *h(it) < used.size() && !used[*h(it)]), used[*h(it)] = true;
     // any contents after the header
     std::vector<unsigned char> file(h.bytes().begin(), h.bytes().end());
-    while (from.remaining_bytes() > 0) file[from.ConsumeIntegralInRange<std::size_t>(0, file.size() - 1)] = from.ConsumeIntegral<unsigned char>();
+    while (from.remaining_bytes() > 0)
+        file[from.ConsumeIntegralInRange<std::size_t>(0, file.size() - 1)] = from.ConsumeIntegral<unsigned char>();
     const auto wrong = bitm::perfect_hash::try_of_bytes(file);
     if (!wrong) return;
     for (const u64 it : hashes) {

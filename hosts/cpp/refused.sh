@@ -1,6 +1,6 @@
 #!/usr/bin/env bash
-# Compiles each program of refused.cpp: those that must not compile are refused by an error, those from 100 on by clang's
-# warnings of dangling addresses. refused.sh COMPILER.., run in the repository; each argument is a compiler with its flags.
+# Compiles each program of refused.cpp: those that must not compile are refused by an error, those from 100 on by
+# clang's warnings of dangling addresses. refused.sh COMPILER..: each argument is a compiler with its flags.
 set -u
 cd "$(dirname "$0")/../.." || exit 1
 said=$(mktemp) || exit 1
@@ -15,7 +15,7 @@ for compiler in "${@:-g++ -std=c++17}"; do
             flags="-Werror=dangling -Werror=dangling-gsl -Werror=return-stack-address"
         fi
         # shellcheck disable=SC2086
-        if $compiler $flags -Iinclude -DCASE="$case" -fsyntax-only hosts/cpp/refused.cpp 2> "$said"; then got=0; else got=1; fi
+        $compiler $flags -Iinclude -DCASE="$case" -fsyntax-only hosts/cpp/refused.cpp 2> "$said" && got=0 || got=1
         if ((case == 0 ? got == 0 : got == 1)); then
             refused=$((refused + got))
         else

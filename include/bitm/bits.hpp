@@ -43,6 +43,13 @@ struct bits_parts {
     std::uint64_t size = 0;
 };
 
+// How many bits the words have.
+inline std::uint64_t bits_in(std::size_t words)
+{
+    if (BITM_RARELY(words >= (std::size_t{1} << 58))) fail({errc::bad_size, words, std::uint64_t{1} << 58});
+    return 64 * static_cast<std::uint64_t>(words);
+}
+
 inline bool bit_of(const bits_parts &of, std::uint64_t at)
 {
     if (BITM_RARELY(at >= of.size)) outside(at, of.size);
@@ -338,10 +345,10 @@ public:
     bits_view() noexcept = default;
     // All bits of the words, or the first `size` of them. Temporary containers do not convert.
     explicit bits_view(detail::kept<const std::uint64_t> words BITM_LIFETIMEBOUND, maybe_position size = {})
-        : parts_{words.data(), words.size(), size.value_or(64 * words.size())}
+        : parts_{words.data(), words.size(), size ? *size : detail::bits_in(words.size())}
     {
         const std::size_t len = bitm_bits_words_len(parts_.size);
-        if (len > parts_.len) fail({errc::bad_size, parts_.size, 64 * words.size()});
+        if (len > parts_.len) fail({errc::bad_size, parts_.size, words.size()});
         parts_.len = len;
     }
     using bits_calls::ones, bits_calls::zeros;
@@ -542,7 +549,8 @@ public:
     }
     bits &swap_fragments(std::uint64_t first, std::uint64_t second, std::uint32_t width)
     {
-        return done(bitm_bits_swap_fragments(block_.data(), len_, size_, first, second, width), detail::greater(first, second));
+        return done(bitm_bits_swap_fragments(block_.data(), len_, size_, first, second, width),
+                    detail::greater(first, second));
     }
     bits &fill_fragments(std::uint32_t width, std::uint64_t value, std::size_t count)
     {
@@ -659,7 +667,8 @@ private:
     // Whether a view lies in the memory of this owner.
     bool mine(const bits_view &other) const noexcept
     {
-        const auto at = reinterpret_cast<std::uintptr_t>(other.words_data()), own = reinterpret_cast<std::uintptr_t>(block_.data());
+        const auto at = reinterpret_cast<std::uintptr_t>(other.words_data()),
+                   own = reinterpret_cast<std::uintptr_t>(block_.data());
         return other.size() && size_ && at < own + 8 * block_.size() && own < at + 8 * other.words_len();
     }
     template <class Call> bits &with(Call call, bits_view other)

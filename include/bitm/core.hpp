@@ -237,14 +237,17 @@ inline void need_list(std::uint32_t status, const bitm_list_counts &counts)
 
 template <class T> using bare = std::remove_cv_t<std::remove_reference_t<T>>;
 template <class Held> using data_of = decltype(std::declval<Held &>().data());
-// Containers of numbers one after another: data() points at the items that begin() reads and size() counts. (The size of
-// bits counts bits, so they are none.)
+// Containers of numbers one after another: data() points at the items that begin() reads and size() counts. (The size
+// of bits counts bits, so they are none.)
 template <class Held, class T, class = void> struct holds : std::false_type {};
-template <class Held, class T>
-struct holds<Held, T, std::void_t<data_of<Held>, decltype(std::declval<Held &>().size()), decltype(*std::declval<Held &>().begin())>>
-    : std::bool_constant<std::is_convertible_v<data_of<Held>, T *> &&
-                         std::is_same_v<decltype(*std::declval<Held &>().begin()), decltype(*std::declval<Held &>().data())> &&
-                         std::is_same_v<std::remove_cv_t<std::remove_pointer_t<data_of<Held>>>, std::remove_cv_t<T>>> {};
+template <class Held, class T> struct holds<
+    Held, T,
+    std::void_t<data_of<Held>, decltype(std::declval<Held &>().size()), decltype(*std::declval<Held &>().begin())>>
+    : std::bool_constant<
+          std::is_convertible_v<data_of<Held>, T *> &&
+          std::is_same_v<decltype(*std::declval<Held &>().begin()), decltype(*std::declval<Held &>().data())> &&
+          std::is_same_v<std::remove_cv_t<std::remove_pointer_t<data_of<Held>>>, std::remove_cv_t<T>>> {
+};
 
 // Types whose data outlive them: a view may keep what a temporary of such a type points at.
 template <class T> struct borrows
@@ -258,8 +261,8 @@ template <class T> struct borrows
 
 // ---- spans of items of the caller's
 
-// Items one after another: std::vector, std::array and std::span convert to it, and it to std::span. As an argument it is
-// used during the call and not kept.
+// Items one after another: std::vector, std::array and std::span convert to it, and it to std::span. As an argument it
+// is used during the call and not kept.
 template <class T> class BITM_POINTER span {
 public:
     using element_type = T;
@@ -272,7 +275,8 @@ public:
     constexpr span(Held &&held BITM_LIFETIMEBOUND) noexcept : data_(held.data()), size_(held.size())
     {
     }
-    template <class Held, std::enable_if_t<detail::holds<const Held, T>::value && detail::borrows<Held>::value, int> = 0>
+    template <class Held,
+              std::enable_if_t<detail::holds<const Held, T>::value && detail::borrows<Held>::value, int> = 0>
     constexpr span(const Held &held) noexcept : data_(held.data()), size_(held.size())
     {
     }

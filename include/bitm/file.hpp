@@ -82,7 +82,8 @@ public:
         : path_(path), name_(new (std::nothrow) char[std::strlen(path) + 48])
     {
         for (unsigned attempt = 0; name_ && attempt < 100; attempt++) {
-            std::snprintf(name_.get(), std::strlen(path) + 48, "%s.%ld-%u.tmp", path, static_cast<long>(::getpid()), attempt);
+            std::snprintf(name_.get(), std::strlen(path) + 48, "%s.%ld-%u.tmp", path, static_cast<long>(::getpid()),
+                          attempt);
             to_ = ::open(name_.get(), O_WRONLY | O_CREAT | O_EXCL | O_CLOEXEC, 0666);
             if (to_ >= 0 || errno != EEXIST) return;
         }
@@ -188,7 +189,8 @@ public:
 
     result<bool> try_save(path_of path) const noexcept { return written(path, bytes_().data(), bytes_().size()); }
     void save(path_of path) const { (void)try_save(path).value(); }
-    template <class Char, class Traits> std::basic_ostream<Char, Traits> &save(std::basic_ostream<Char, Traits> &to) const
+    template <class Char, class Traits>
+    std::basic_ostream<Char, Traits> &save(std::basic_ostream<Char, Traits> &to) const
     {
         return to.write(reinterpret_cast<const Char *>(bytes_().data()), static_cast<std::ptrdiff_t>(bytes_().size()));
     }

@@ -6,8 +6,8 @@
 //     x.save("a.bitm"), bitm::rank_index::map("a.bitm"); // the file is read where it lies
 //     f(x.view());                                  // a view; not of a temporary
 //
-// Answers over tables that are not those of the words (of a wrong file) are safe: bitm.h says how. Where wrong tables are
-// noticed, the call fails by bitm::wrong_tables; the `try_` calls return a bitm::result instead.
+// Answers over tables that are not those of the words (of a wrong file) are safe: bitm.h says how. Where wrong tables
+// are noticed, the call fails by bitm::wrong_tables; the `try_` calls return a bitm::result instead.
 #ifndef BITM_INDEX_HPP
 #define BITM_INDEX_HPP
 
@@ -66,13 +66,17 @@ public:
     std::uint64_t count() const { return rank(size()); }
     std::uint64_t count0() const { return rank0(size()); }
 
-    // The position of the first 1 bit, or 0 bit, at or after a position; of the last one at or before it. By the tables:
-    // a long run costs no more. (`bits_view::next_one` reads the words, and is faster where the next one is near.)
+    // The position of the first 1 bit, or 0 bit, at or after a position; of the last one at or before it. By the
+    // tables: a long run costs no more. (`bits_view::next_one` reads the words, and is faster where the next one is
+    // near.)
     maybe_position next_one(std::uint64_t from) const { return near(bitm_index_next, true, from); }
     maybe_position next_zero(std::uint64_t from) const { return near(bitm_index_next, false, from); }
     maybe_position previous_one(std::uint64_t from) const { return near(bitm_index_previous, true, from); }
     maybe_position previous_zero(std::uint64_t from) const { return near(bitm_index_previous, false, from); }
-    result<maybe_position> try_next_one(std::uint64_t from) const noexcept { return try_near(bitm_index_next, true, from); }
+    result<maybe_position> try_next_one(std::uint64_t from) const noexcept
+    {
+        return try_near(bitm_index_next, true, from);
+    }
     result<maybe_position> try_next_zero(std::uint64_t from) const noexcept
     {
         return try_near(bitm_index_next, false, from);
@@ -107,7 +111,10 @@ public:
     {
         return a.self().content() == static_cast<const Other &>(b).content();
     }
-    template <class Other> friend bool operator!=(const index_calls &a, const index_calls<Other> &b) { return !(a == b); }
+    template <class Other> friend bool operator!=(const index_calls &a, const index_calls<Other> &b)
+    {
+        return !(a == b);
+    }
 
     template <class Char, class Traits>
     friend std::basic_ostream<Char, Traits> &operator<<(std::basic_ostream<Char, Traits> &to, const index_calls &of)
@@ -173,7 +180,7 @@ public:
     explicit rank_index_view(const bitm_index &raw) : raw_(raw)
     {
         std::uint64_t out;
-        detail::need(bitm_index_rank(&raw_, true, 0, &out));
+        if (bitm_index_rank(&raw_, true, 0, &out) == BITM_BAD_SIZE) fail({errc::bad_size});
     }
     // The index in the words of a file that was mapped or read.
     static result<rank_index_view> try_in(detail::kept<const std::uint64_t> file BITM_LIFETIMEBOUND) noexcept
@@ -184,7 +191,10 @@ public:
         view.raw_ = bitm_stored_index_of(file.data(), &*header);
         return view;
     }
-    static rank_index_view in(detail::kept<const std::uint64_t> file BITM_LIFETIMEBOUND) { return try_in(file).value(); }
+    static rank_index_view in(detail::kept<const std::uint64_t> file BITM_LIFETIMEBOUND)
+    {
+        return try_in(file).value();
+    }
 
     bits_view content() const { return plain(); }
     ones_range ones(std::uint64_t from = 0) const { return plain().ones(from); }
@@ -198,7 +208,8 @@ private:
     bitm_index raw_{};
 };
 
-// An index that owns its bits and tables: one block of memory, which is the file. Moves are cheap and leave an empty one.
+// An index that owns its bits and tables: one block of memory, which is the file. Moves are cheap and leave an empty
+// one.
 class BITM_OWNER rank_index : public detail::index_calls<rank_index>, public detail::stored_calls<rank_index> {
 public:
     rank_index() noexcept = default;

@@ -83,7 +83,8 @@ public:
 
     perfect_hash(const perfect_hash &other) : stored_calls()
     {
-        if (other.used_) *this = opened(detail::copied(other.block_.data(), 8 * other.used_).value(), verify::no).value();
+        if (other.used_)
+            *this = opened(detail::copied(other.block_.data(), 8 * other.used_).value(), verify::no).value();
     }
     perfect_hash(perfect_hash &&other) noexcept { swap(other); }
     perfect_hash &operator=(const perfect_hash &other)
@@ -128,7 +129,8 @@ private:
     }
     static result<perfect_hash> made(words_in hashes, unsigned percent)
     {
-        // The levels have about e^(100 / percent) * percent / 100 bits for each key: more room where that is not enough.
+        // The levels have about e^(100 / percent) * percent / 100 bits for each key: more room where that is not
+        // enough.
         const std::size_t first = bitm_hash_level_len(hashes.size(), percent);
         for (std::size_t room = 4 * first + detail::hash_levels;; room = 2 * room) {
             detail::block own(hashes.size()), words(room), again(first), sizes(detail::hash_levels);

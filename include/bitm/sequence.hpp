@@ -162,8 +162,8 @@ public:
         return out;
     }
 
-    // Successor, the least index whose number is at least a value; predecessor, the greatest whose number is at most it;
-    // and how many numbers are less.
+    // Successor, the least index whose number is at least a value; predecessor, the greatest whose number is at most
+    // it; and how many numbers are less.
     maybe_position first_at_least(std::uint64_t value) const
     {
         std::uint64_t out = 0;
@@ -196,8 +196,8 @@ public:
         return out != 0;
     }
 
-    // Lists, into memory of the caller's as long as the queries: bitm::no_answer where there is no such index. Where the
-    // parts are noticed to be wrong, the call fails once all is answered. Whether values are there is 0 or 1.
+    // Lists, into memory of the caller's as long as the queries: bitm::no_answer where there is no such index. Where
+    // the parts are noticed to be wrong, the call fails once all is answered. Whether values are there is 0 or 1.
     void first_at_least(words_in values, words_out out) const { list(bitm_sequence_first_at_least_list, values, out); }
     void last_at_most(words_in values, words_out out) const { list(bitm_sequence_last_at_most_list, values, out); }
     void contains(words_in values, words_out out) const { list(bitm_sequence_contains_list, values, out); }
@@ -227,7 +227,10 @@ public:
             if (*x != *y) return false;
         return true;
     }
-    template <class Other> friend bool operator!=(const sequence_calls &a, const sequence_calls<Other> &b) { return !(a == b); }
+    template <class Other> friend bool operator!=(const sequence_calls &a, const sequence_calls<Other> &b)
+    {
+        return !(a == b);
+    }
     template <class Char, class Traits>
     friend std::basic_ostream<Char, Traits> &operator<<(std::basic_ostream<Char, Traits> &to, const sequence_calls &of)
     {
@@ -317,9 +320,9 @@ public:
         detail::block all(header.size / 8);
         const auto room = [&](bitm_span part) { return bitm_stored_room(all.data(), part); };
         std::uint64_t width = 0;
-        const std::uint32_t status =
-            bitm_sequence_build(numbers.data(), numbers.size(), room(header.low), header.low.len, room(header.words),
-                                header.words.len, room(header.upper), header.upper.len, room(header.lower), header.lower.len, &width);
+        const std::uint32_t status = bitm_sequence_build(
+            numbers.data(), numbers.size(), room(header.low), header.low.len, room(header.words), header.words.len,
+            room(header.upper), header.upper.len, room(header.lower), header.lower.len, &width);
         if (status != BITM_OK) return detail::error_of(status);
         std::memcpy(all.data(), &header, sizeof header);
         return opened(std::move(all), verify::no);
