@@ -202,13 +202,13 @@ BITM_MUST_USE uint32_t bitm_bits_flip_range(uint64_t *words, size_t words_len, u
 
 /* Copies count bits, from position from_begin on, to position to_begin on. BITM_NONE if a range is not inside its
  * words. The words of to and from may not overlap. */
-BITM_MUST_USE uint32_t bitm_bits_copy_range(uint64_t *to, size_t to_words_len, uint64_t to_begin, const uint64_t *from,
-                                            size_t from_words_len, uint64_t from_begin, uint64_t count);
+BITM_MUST_USE uint32_t bitm_bits_copy_range(uint64_t *to, size_t to_len, uint64_t to_begin, const uint64_t *from,
+                                            size_t from_len, uint64_t from_begin, uint64_t count);
 
 /* Whether count bits of a, from position a_begin on, equal those of b from position b_begin on, as 0 or 1. BITM_NONE if
  * a range is not inside its words. a and b may overlap. */
-BITM_MUST_USE uint32_t bitm_bits_equal_range(const uint64_t *a, size_t a_words_len, uint64_t a_begin, const uint64_t *b,
-                                             size_t b_words_len, uint64_t b_begin, uint64_t count, uint64_t *out);
+BITM_MUST_USE uint32_t bitm_bits_equal_range(const uint64_t *a, size_t a_len, uint64_t a_begin, const uint64_t *b,
+                                             size_t b_len, uint64_t b_begin, uint64_t count, uint64_t *out);
 
 /* Combines each word with the word of other at the same index: and, or, exclusive or, and with the complement of
  * other's. BITM_BAD_SIZE if the lengths differ. words and other may not overlap. */
@@ -227,18 +227,18 @@ uint32_t bitm_bits_to_store(uint64_t value);
  *
  * Bit i of the bytes is bit i % 8, lowest first, of bytes[i / 8]. The window of bit first_bit goes from it to the end
  * of the 8 bytes (57 to 64 bits) or 4 bytes (25 to 32 bits) that begin with its byte; BITM_NONE if there are not 8 (4)
- * bytes from bytes[first_bit / 8] on. Bits of value and mask that lie past the window are ignored.
+ * bytes from bytes[first_bit / 8] on. Bits of value and len_mask that lie past the window are ignored.
  *   - get: the window as a number, lowest bit first;
  *   - init: makes each bit of the window 1 where value has a 1 bit;
- *   - set: first makes each bit of the window 0 where mask has a 1 bit, then does as init. */
+ *   - set: first makes each bit of the window 0 where len_mask has a 1 bit, then does as init. */
 BITM_MUST_USE uint32_t bitm_bytes_get57(const uint8_t *bytes, size_t bytes_len, uint64_t first_bit, uint64_t *out);
 BITM_MUST_USE uint32_t bitm_bytes_init57(uint8_t *bytes, size_t bytes_len, uint64_t first_bit, uint64_t value);
 BITM_MUST_USE uint32_t bitm_bytes_set57(uint8_t *bytes, size_t bytes_len, uint64_t first_bit, uint64_t value,
-                                        uint64_t mask);
+                                        uint64_t len_mask);
 BITM_MUST_USE uint32_t bitm_bytes_get25(const uint8_t *bytes, size_t bytes_len, uint64_t first_bit, uint32_t *out);
 BITM_MUST_USE uint32_t bitm_bytes_init25(uint8_t *bytes, size_t bytes_len, uint64_t first_bit, uint32_t value);
 BITM_MUST_USE uint32_t bitm_bytes_set25(uint8_t *bytes, size_t bytes_len, uint64_t first_bit, uint32_t value,
-                                        uint32_t mask);
+                                        uint32_t len_mask);
 
 /* ---- the index: words with tables */
 
@@ -347,8 +347,9 @@ BITM_MUST_USE uint32_t bitm_index_positions(const struct bitm_index *index, bool
                                             size_t out_len, uint64_t *written);
 
 /* The position of the first 1 bit, or 0 bit, at or after position from; of the last one at or before it, where from may
- * be past the end. BITM_NONE if there is none; BITM_WRONG if the tables turn out not to be those of the words. By the
- * tables, however far it lies: reads what a rank and a selection read. */
+ * be past the end. BITM_NONE if there is none; BITM_WRONG if the tables turn out not to be those of the words. Any
+ * position returned is on that side of from, whatever the tables hold. By the tables, however far it lies: reads what a
+ * rank and a selection read. */
 BITM_MUST_USE uint32_t bitm_index_next(const struct bitm_index *index, bool one, uint64_t from, uint64_t *out);
 BITM_MUST_USE uint32_t bitm_index_previous(const struct bitm_index *index, bool one, uint64_t from, uint64_t *out);
 
