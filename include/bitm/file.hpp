@@ -3,7 +3,7 @@
 #ifndef BITM_FILE_HPP
 #define BITM_FILE_HPP
 
-#include <bitm/core.hpp>
+#include <bitm/memory.hpp>
 
 #include <cerrno>
 #include <iosfwd>
