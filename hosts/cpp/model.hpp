@@ -87,6 +87,15 @@ template <class Bits> static void same(const Bits &b, const std::vector<bool> &m
         CHECK(number == b.get_bits(first, width));
         first += width;
     }
+    std::vector<u64> some(5);
+    const u64 start = below(n + 3);
+    for (int one = 0; one < 2; one++) {
+        const std::vector<u64> &all = one ? ones : zeros;
+        const auto from = std::lower_bound(all.begin(), all.end(), start);
+        const std::size_t got = one ? b.ones(start, some) : b.zeros(start, some);
+        CHECK(got == std::min<std::size_t>(5, static_cast<std::size_t>(all.end() - from)));
+        CHECK(std::equal(some.begin(), some.begin() + static_cast<std::ptrdiff_t>(got), from));
+    }
     std::vector<u64> walked;
     b.for_each_one([&](u64 at) { walked.push_back(at); });
     CHECK(walked == ones);
