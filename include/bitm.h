@@ -136,7 +136,7 @@ static inline bool bitm_bit_at(const uint64_t *words, uint64_t position)
 }
 static inline void bitm_set_bit_at(uint64_t *words, uint64_t position, bool value)
 {
-    const uint64_t bit = (uint64_t)1 << (position % 64);
+    const uint64_t bit = UINT64_C(1) << (position % 64);
     if (value) words[position / 64] |= bit;
     else words[position / 64] &= ~bit;
 }
@@ -570,11 +570,16 @@ static inline struct bitm_samples bitm_stored_samples_of(const uint64_t *file, s
                                                          struct bitm_span starts, uint64_t log2)
 {
     struct bitm_samples some;
-    some.samples = (const uint32_t *)(const void *)bitm_stored_items(file, samples);
+    const void *const at = bitm_stored_items(file, samples);
+#ifdef __cplusplus
+    some.samples = static_cast<const uint32_t *>(at);
+#else
+    some.samples = at;
+#endif
     some.samples_len = samples.len;
     some.starts = bitm_stored_items(file, starts);
     some.starts_len = starts.len;
-    some.log2 = (uint32_t)log2;
+    some.log2 = log2 & UINT32_MAX;
     some.reserved = 0;
     return some;
 }
