@@ -100,7 +100,7 @@ static void query_index(const uint64_t *file, size_t size)
     struct bitm_stored s;
     uint64_t ones = 0, zeros = 0, position;
     MUST(bitm_stored_read(file, size / 8, &s) == BITM_OK && s.kind == BITM_STORED_INDEX);
-    MUST(s.len == BITS && s.size == size);
+    MUST(s.len == BITS && s.size == size && memcmp(&s.mark, "bitmtab\2", 8) == 0);
     struct bitm_index index = bitm_stored_index_of(file, &s), turned = index;
     MUST(index.bits_len == BITS && index.ones.log2 == LOG2 && index.zeros.log2 == LOG2);
     MUST(index.reserved[0] == 0 && index.reserved[1] == 0 && index.ones.reserved == 0 && index.zeros.reserved == 0);
