@@ -4,6 +4,8 @@
 
 #include "model.hpp"
 
+#include <strings.h>
+
 template <class T> constexpr bool regular()
 {
     return std::is_default_constructible_v<T> && std::is_copy_constructible_v<T> && std::is_copy_assignable_v<T> &&
@@ -43,8 +45,19 @@ static_assert(sr::random_access_range<bitm::fragments_range> && sr::view<bitm::f
               sr::sized_range<bitm::fragments_range>);
 static_assert(sr::input_range<bitm::sequence_walk>);
 #endif
+// The names are not those of <strings.h>, which has a function `index`.
+static void by_using()
+{
+    using namespace bitm;
+    const bits b("101");
+    const rank_index x(b);
+    const rank_index_view v = x.view();
+    CHECK(x.count() == 2 && v.select(1) == maybe_position(2));
+}
+
 static void once()
 {
+    by_using();
     CHECK(bitm::version_fits());
     const bitm::bits b{true, false, true};
     CHECK(b.size() == 3 && b[2] && !b[1] && bitm::bits("101") == b && b.front() && b.back());

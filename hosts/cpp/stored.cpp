@@ -297,6 +297,10 @@ void replaced(const std::string &folder)
     must(!refused && refused.error().code == bitm::errc::no_file, "a folder that is not there");
     fs::create_directory(fs::path(folder) / "a folder");
     must(!made.try_save((fs::path(folder) / "a folder").string()), "a folder is no file");
+    if (fs::is_character_file("/dev/full")) {
+        must(!made.try_save("/dev/full"), "a device without room");
+        must(fs::is_character_file("/dev/full"), "a device is not replaced");
+    }
     std::size_t files = 0;
     for (const auto &entry : fs::directory_iterator(folder))
         files += entry.path().string().find(".tmp") != std::string::npos;
