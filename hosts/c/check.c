@@ -1,5 +1,5 @@
-/* Builds an index into a mapped file, maps the file again read-only, asks, and compares every answer with a plain
- * loop. Then asks with spoilt tables and samples, wrong lengths and no words. Each block has the exact size, so that
+/* Builds an index into a mapped file, maps the file again read-only, queries it, and compares every answer with a plain
+ * loop. Then queries with spoilt tables and samples, wrong lengths and no words. Each block has the exact size, so that
  * the sanitizers see a read or write of one number too far. */
 #define _GNU_SOURCE
 #include "common.h"
@@ -93,29 +93,29 @@ static void next_and_previous(const struct bitm_index *view)
     }
 }
 
-/* The places of all ones, in one buffer and three at a time. */
-static void places_of_ones(const uint64_t *words, size_t words_len, uint64_t ones)
+/* The positions of all 1 bits, in one buffer and three at a time. */
+static void positions_of_ones(const uint64_t *words, size_t words_len, uint64_t ones)
 {
-    uint64_t *places = malloc(8 * (ones + 2)), few[3], written, at = 0, bits = (uint64_t)words_len * 64;
-    MUST(places);
-    places[ones] = UNTOUCHED;
-    MUST(bitm_bits_positions(words, words_len, 64 * words_len, true, 0, places, ones + 1, &written) == BITM_OK &&
+    uint64_t *positions = malloc(8 * (ones + 2)), few[3], written, at = 0, bits = (uint64_t)words_len * 64;
+    MUST(positions);
+    positions[ones] = UNTOUCHED;
+    MUST(bitm_bits_positions(words, words_len, 64 * words_len, true, 0, positions, ones + 1, &written) == BITM_OK &&
          written == ones);
-    MUST(places[ones] == UNTOUCHED);
+    MUST(positions[ones] == UNTOUCHED);
     for (uint64_t i = 0; i < bits; i++)
         if (bit_of(words, i)) {
-            MUST(places[at] == i);
+            MUST(positions[at] == i);
             if (at % 7 == 0) {
                 uint64_t want = ones - at < 3 ? ones - at : 3;
                 MUST(bitm_bits_positions(words, words_len, 64 * words_len, true, i, few, 3, &written) == BITM_OK &&
                      written == want);
-                MUST(memcmp(few, places + at, 8 * want) == 0);
+                MUST(memcmp(few, positions + at, 8 * want) == 0);
             }
             at++;
         }
     MUST(bitm_bits_positions(words, words_len, 64 * words_len, true, SIZE_MAX, few, 3, &written) == BITM_OK &&
          written == 0);
-    free(places);
+    free(positions);
 }
 
 static uint64_t word_of_kind(int kind, size_t i)
@@ -160,12 +160,12 @@ static void in_a_file(size_t words_len, int kind)
     next_and_previous(&view);
     sampled_queries(&view, 7);
     sampled_queries(&view, 12);
-    places_of_ones(view.words, words_len, ones);
+    positions_of_ones(view.words, words_len, ones);
     MUST(munmap((void *)(uintptr_t)read, s.size) == 0);
 }
 
-/* Any tables: a rank is at most its index, or the tables are called wrong, exactly where there are so many bits, and a
- * place that is found has the bit. Answers how often tables were called wrong. */
+/* Any tables: a rank is at most its index, or the tables are called wrong, exactly where there are that many bits, and
+ * a position that is found has the bit. Answers how often tables were called wrong. */
 static unsigned any_tables(const struct bitm_index *view, unsigned queries)
 {
     uint64_t bits = (uint64_t)view->words_len * 64;
@@ -280,7 +280,7 @@ static void no_words(void)
          got == UNTOUCHED);
 }
 
-/* Bits and fragments, with numbers worked out by hand. */
+/* Bits and fragments, with numbers computed by hand. */
 static void bits_and_fragments(void)
 {
     uint64_t words[3] = {0, 0, 0}, got;

@@ -85,7 +85,7 @@ static unsigned long query_an_index(void)
     MUST(check_samples(&view, true, &by) != BITM_BAD_SIZE && check_samples(&view, false, &by) != BITM_BAD_SIZE);
     MUST(bitm_stored_read(words, n, &stored) == BITM_WRONG);
 
-    unsigned char *mine = ends_at_the_guard(&low_of, bits + 1); /* one byte for each place, and the end */
+    unsigned char *mine = ends_at_the_guard(&low_of, bits + 1); /* one byte for each position, and the end */
     for (unsigned turn = 0; turn < 40; turn++) {
         size_t query = draw() % 4 ? draw() % (bits + 3) : draw();
         uint64_t out = UNTOUCHED;
@@ -116,19 +116,19 @@ static unsigned long query_an_index(void)
         MUST(bitm_bits_xor_number(words, n, 64 * n, bits + draw() % 9, 1, 1) == BITM_NONE);
     }
 
-    size_t asked = draw() % 40;
-    uint64_t *queries = numbers(&queries_of, asked, true), *out = numbers(&out_of, asked, false);
-    for (size_t i = 0; i < asked; i++)
+    size_t count = draw() % 40;
+    uint64_t *queries = numbers(&queries_of, count, true), *out = numbers(&out_of, count, false);
+    for (size_t i = 0; i < count; i++)
         if (draw() % 2) queries[i] %= bits + 3;
     for (int one = 0; one < 2; one++) {
         const struct bitm_index sampled = with_samples(view, one, &by);
-        query_a_list(&view, false, one, queries, asked, out, mine);
-        query_a_list(&view, true, one, queries, asked, out, mine);
-        query_a_list(&sampled, true, one, queries, asked, out, mine);
+        query_a_list(&view, false, one, queries, count, out, mine);
+        query_a_list(&view, true, one, queries, count, out, mine);
+        query_a_list(&sampled, true, one, queries, count, out, mine);
     }
     uint64_t written = UNTOUCHED;
-    MUST(bitm_bits_positions(words, n, 64 * n, true, draw() % (bits + 2), out, asked, &written) == BITM_OK &&
-         written <= asked);
+    MUST(bitm_bits_positions(words, n, 64 * n, true, draw() % (bits + 2), out, count, &written) == BITM_OK &&
+         written <= count);
     return 40 * 10 + 11 + query_cut(&view, right, mine);
 }
 
@@ -149,13 +149,13 @@ static unsigned long query_a_sequence(void)
     const struct bitm_sequence view = {n,     width,          low,   lens.low_len,   words,  lens.words_len,
                                        upper, lens.upper_len, lower, lens.lower_len, {0, 0}};
     for (unsigned turn = 0; turn < 40; turn++) {
-        size_t place = draw() % 4 ? draw() % (n + 2) : draw();
+        size_t index = draw() % 4 ? draw() % (n + 2) : draw();
         uint64_t out = UNTOUCHED;
-        if (answered(bitm_sequence_get(&view, place, &out), out)) MUST(place < n);
+        if (answered(bitm_sequence_get(&view, index, &out), out)) MUST(index < n);
         size_t room = draw() % 70;
         uint64_t *some = numbers(&out_of, room, false), written = UNTOUCHED;
-        MUST(bitm_sequence_items(&view, place, some, room, &written) == BITM_OK && written <= room);
-        MUST(place < n ? written <= n - place : written == 0);
+        MUST(bitm_sequence_items(&view, index, some, room, &written) == BITM_OK && written <= room);
+        MUST(index < n ? written <= n - index : written == 0);
         out = UNTOUCHED;
         uint64_t value = draw() >> draw() % 64;
         if (answered(bitm_sequence_contains(&view, value, &out), out)) MUST(out <= 1);
@@ -167,16 +167,16 @@ static unsigned long query_a_sequence(void)
             items[out] = value;
         }
     }
-    size_t asked = draw() % 40;
-    uint64_t *queries = numbers(&starts_of, asked, true), *out = numbers(&out_of, asked, false), written = UNTOUCHED;
-    MUST(first_at_least_list(&view, queries, asked, out, asked) == BITM_OK);
-    for (size_t i = 0; i < asked; i++) MUST(out[i] < n || out[i] >= BITM_WRONG_TABLES);
-    MUST(value_list(bitm_sequence_last_at_most_list, &view, queries, asked, out, asked) == BITM_OK);
-    for (size_t i = 0; i < asked; i++) MUST(out[i] < n || out[i] >= BITM_WRONG_TABLES);
-    MUST(value_list(bitm_sequence_contains_list, &view, queries, asked, out, asked) == BITM_OK);
-    for (size_t i = 0; i < asked; i++) MUST(out[i] <= 1 || out[i] == BITM_WRONG_TABLES);
-    for (size_t i = 0; n > 0 && i < asked; i++) queries[i] %= n;
-    MUST(bitm_sequence_get_list(&view, queries, asked, out, asked, &written) == BITM_OK && written <= asked);
+    size_t count = draw() % 40;
+    uint64_t *queries = numbers(&starts_of, count, true), *out = numbers(&out_of, count, false), written = UNTOUCHED;
+    MUST(first_at_least_list(&view, queries, count, out, count) == BITM_OK);
+    for (size_t i = 0; i < count; i++) MUST(out[i] < n || out[i] >= BITM_WRONG_TABLES);
+    MUST(value_list(bitm_sequence_last_at_most_list, &view, queries, count, out, count) == BITM_OK);
+    for (size_t i = 0; i < count; i++) MUST(out[i] < n || out[i] >= BITM_WRONG_TABLES);
+    MUST(value_list(bitm_sequence_contains_list, &view, queries, count, out, count) == BITM_OK);
+    for (size_t i = 0; i < count; i++) MUST(out[i] <= 1 || out[i] == BITM_WRONG_TABLES);
+    for (size_t i = 0; n > 0 && i < count; i++) queries[i] %= n;
+    MUST(bitm_sequence_get_list(&view, queries, count, out, count, &written) == BITM_OK && written <= count);
     return 204;
 }
 

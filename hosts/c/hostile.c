@@ -73,8 +73,8 @@ int main(int argc, char **argv)
     MUST(file >= 0 && unlink(name) == 0 && ftruncate(file, (off_t)room) == 0);
     uint64_t *written = mapped(file, s.size, PROT_READ | PROT_WRITE);
     const uint64_t *read = mapped(file, s.size, PROT_READ);
-    unsigned long asked = 0, answered = 0;
-    while (asked < QUERIES) {
+    unsigned long made = 0, answered = 0;
+    while (made < QUERIES) {
         write_hostile(written);
         MUST(bitm_stored_read(read, s.size / 8, &s) == BITM_OK && s.words.len == WORDS && s.lower.len == LOWERS);
         const struct bitm_index view = bitm_stored_index_of(read, &s);
@@ -82,10 +82,10 @@ int main(int argc, char **argv)
         uint64_t start = draw() % 4;
         for (size_t i = 0; i < 40; i++) samples[i] = (uint32_t)(draw() >> draw() % 64);
         const struct bitm_samples by = {samples, 40, &start, 1, 7, 0};
-        for (unsigned turn = 0; turn < 1000; turn++, asked += KINDS)
+        for (unsigned turn = 0; turn < 1000; turn++, made += KINDS)
             answered += query_all(&view, &by, draw() % 16 ? draw() % (BITS + 2) : draw());
     }
-    MUST(answered > asked / 8 && close(file) == 0);
+    MUST(answered > made / 8 && close(file) == 0);
     puts("C host: ten million queries of a mapped file with hostile tables, each answer indexes the caller's array");
     return 0;
 }

@@ -52,8 +52,8 @@ static inline void sampled_list(const struct bitm_index *view, const struct bitm
     for (int i = 0; i < 32; i++) {
         uint64_t got = UNWRITTEN;
         uint32_t status = sampled_select(view, one, made, ranks[i], &got);
-        uint64_t told = status == BITM_OK ? got : status == BITM_NONE ? BITM_NO_ANSWER : BITM_WRONG_TABLES;
-        MUST(status != BITM_BAD_SIZE && answers[i] == told);
+        uint64_t listed = status == BITM_OK ? got : status == BITM_NONE ? BITM_NO_ANSWER : BITM_WRONG_TABLES;
+        MUST(status != BITM_BAD_SIZE && answers[i] == listed);
     }
     answers[0] = UNWRITTEN;
     MUST(sampled_select_list(view, one, made, ranks, 32, answers, 31) == BITM_BAD_SIZE && answers[0] == UNWRITTEN);
@@ -83,15 +83,15 @@ static inline void sampled_queries(const struct bitm_index *view, uint32_t log2)
     free_samples(of_zeros);
 }
 
-/* Any samples: where the tables are right an answer is that of the search without them; else a place is inside and has
- * the bit. */
+/* Any samples: where the tables are right an answer is that of the search without them; else a position is inside and
+ * has the bit. */
 static inline void any_samples(const struct bitm_index *view, int right, const struct bitm_samples *made,
                                    uint64_t kind)
 {
-    uint64_t bits = (uint64_t)view->words_len * 64, ranks[100], told[100];
+    uint64_t bits = (uint64_t)view->words_len * 64, ranks[100], listed[100];
     for (unsigned i = 0; i < 100; i++)
         ranks[i] = i == 0 ? UINT64_MAX : draw() % (bits + 2);
-    MUST(sampled_select_list(view, kind, made, ranks, 100, told, 100) == BITM_OK);
+    MUST(sampled_select_list(view, kind, made, ranks, 100, listed, 100) == BITM_OK);
     for (unsigned i = 0; i < 100; i++) {
         uint64_t got = UNWRITTEN, want = UNWRITTEN;
         uint32_t status = sampled_select(view, kind, made, ranks[i], &got);
@@ -99,8 +99,8 @@ static inline void any_samples(const struct bitm_index *view, int right, const s
         MUST(status != BITM_BAD_SIZE && (status == BITM_OK || got == UNWRITTEN));
         MUST(status != BITM_OK || (got < bits && bit_of(view->words, got) == kind));
         MUST(!right || (status == wanted && got == want));
-        MUST(!right || told[i] == (wanted == BITM_OK ? want : BITM_NO_ANSWER));
-        MUST(told[i] >= BITM_WRONG_TABLES || (told[i] < bits && bit_of(view->words, told[i]) == kind));
+        MUST(!right || listed[i] == (wanted == BITM_OK ? want : BITM_NO_ANSWER));
+        MUST(listed[i] >= BITM_WRONG_TABLES || (listed[i] < bits && bit_of(view->words, listed[i]) == kind));
     }
 }
 

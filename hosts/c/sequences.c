@@ -70,11 +70,11 @@ static void in_order(const struct bitm_sequence *view, const uint64_t *items, ui
 }
 
 /* Each number by its index, and each value beside a number, against the numbers themselves. */
-static void ask_sequence(const struct bitm_sequence *view, const uint64_t *items)
+static void query_sequence(const struct bitm_sequence *view, const uint64_t *items)
 {
-    uint64_t got, written, *places = block_of(view->len + 1), *out = block_of(view->len + 1);
+    uint64_t got, written, *indexes = block_of(view->len + 1), *out = block_of(view->len + 1);
     for (size_t i = 0; i <= view->len; i++)
-        places[i] = i;
+        indexes[i] = i;
     for (size_t i = 0; i < view->len; i++) {
         MUST(bitm_sequence_get(view, i, &got) == BITM_OK && got == items[i]);
         size_t first = i;
@@ -94,10 +94,10 @@ static void ask_sequence(const struct bitm_sequence *view, const uint64_t *items
         MUST(bitm_sequence_first_at_least(view, above, &got) == BITM_NONE);
         MUST(bitm_sequence_first_at_least(view, UINT64_MAX, &got) == BITM_NONE && got == UNTOUCHED);
     }
-    MUST(bitm_sequence_get_list(view, places, view->len + 1, out, view->len + 1, &written) == BITM_OK);
+    MUST(bitm_sequence_get_list(view, indexes, view->len + 1, out, view->len + 1, &written) == BITM_OK);
     MUST(written == view->len && out[view->len] == UNTOUCHED && memcmp(out, items, 8 * view->len) == 0);
-    MUST(bitm_sequence_get_list(view, places, view->len + 1, out, view->len, &written) == BITM_BAD_SIZE);
-    free(places);
+    MUST(bitm_sequence_get_list(view, indexes, view->len + 1, out, view->len, &written) == BITM_BAD_SIZE);
+    free(indexes);
     free(out);
 }
 
@@ -106,21 +106,21 @@ static unsigned any_parts(const struct bitm_sequence *view, unsigned queries)
 {
     unsigned wrong = 0;
     for (unsigned i = 0; i < queries; i++) {
-        uint64_t place = draw() % (view->len + 2), value = draw() >> draw() % 64, got = UNTOUCHED, written = UNTOUCHED;
-        uint32_t status = bitm_sequence_get(view, place, &got);
-        MUST(place < view->len ? status == BITM_OK || status == BITM_WRONG : status == BITM_NONE);
+        uint64_t index = draw() % (view->len + 2), value = draw() >> draw() % 64, got = UNTOUCHED, written = UNTOUCHED;
+        uint32_t status = bitm_sequence_get(view, index, &got);
+        MUST(index < view->len ? status == BITM_OK || status == BITM_WRONG : status == BITM_NONE);
         MUST(status == BITM_OK || got == UNTOUCHED);
         wrong += status == BITM_WRONG;
         uint64_t one = UNTOUCHED;
-        MUST(bitm_sequence_get_list(view, &place, 1, &one, 1, &written) == BITM_OK && written <= (place < view->len));
+        MUST(bitm_sequence_get_list(view, &index, 1, &one, 1, &written) == BITM_OK && written <= (index < view->len));
         MUST(written == 1 || one == UNTOUCHED);
         got = UNTOUCHED;
         status = bitm_sequence_first_at_least(view, value, &got);
         /* a list may find another index in parts of no sequence */
         MUST(first_at_least_list(view, &value, 1, &one, 1) == BITM_OK);
         MUST(one < view->len || one == BITM_NO_ANSWER || one == BITM_WRONG_TABLES);
-        uint64_t told = one;
-        MUST(first_at_least_list(view, &value, 1, &one, 0) == BITM_BAD_SIZE && one == told);
+        uint64_t kept = one;
+        MUST(first_at_least_list(view, &value, 1, &one, 0) == BITM_BAD_SIZE && one == kept);
         MUST(status == BITM_OK ? got < view->len : status != BITM_BAD_SIZE && got == UNTOUCHED);
         wrong += status == BITM_WRONG;
         MUST(value_list(bitm_sequence_last_at_most_list, view, &value, 1, &one, 1) == BITM_OK);
@@ -134,9 +134,9 @@ static unsigned any_parts(const struct bitm_sequence *view, unsigned queries)
         status = bitm_sequence_contains(view, value, &got);
         MUST(status == BITM_OK ? got <= 1 : status == BITM_WRONG && got == UNTOUCHED);
         wrong += status == BITM_WRONG;
-        uint64_t left = place < view->len ? view->len - place : 0;
+        uint64_t left = index < view->len ? view->len - index : 0;
         uint64_t some[4] = {UNTOUCHED, UNTOUCHED, UNTOUCHED, UNTOUCHED};
-        MUST(bitm_sequence_items(view, place, some, 3, &written) == BITM_OK && written <= 3 && written <= left);
+        MUST(bitm_sequence_items(view, index, some, 3, &written) == BITM_OK && written <= 3 && written <= left);
         for (uint64_t k = written; k < 4; k++) MUST(some[k] == UNTOUCHED);
         wrong += written < 3 && written < left;
     }
@@ -157,7 +157,7 @@ static unsigned spoilt_parts(const struct bitm_sequence *view, uint64_t *const p
         for (uint64_t turn = 0; turn < 3 * lens[part]; turn++) {
             uint64_t *entry = parts[part] + turn / 3, kept = *entry;
             *entry = turn % 3 == 0 ? 0 : turn % 3 == 1 ? UINT64_MAX : draw();
-            /* Other low digits or words may be those of other numbers; their tables have no other value. */
+            /* Other low bits or words may be those of other numbers; their tables have no other value. */
             uint32_t status = bitm_sequence_check(view);
             MUST(*entry == kept ? status == BITM_OK : part < 2 ? status != BITM_BAD_SIZE : status == BITM_WRONG);
             MUST(any_parts(view, 100) == 0 || status == BITM_WRONG);
@@ -185,7 +185,7 @@ static void wrong_lengths(const struct bitm_sequence *view, const uint64_t *item
     }
 }
 
-/* A sequence of len numbers of so many bits: built, asked, with wrong lengths, and spoilt part by part. Answers how
+/* A sequence of len numbers of that many bits: built, queried, with wrong lengths, and spoilt part by part. Answers how
  * often parts were called wrong. */
 static unsigned sequence_of(size_t len, int bits)
 {
@@ -207,7 +207,7 @@ static unsigned sequence_of(size_t len, int bits)
                              &width) == BITM_OK && width == of.width);
     struct bitm_sequence view = {len,   width,        low,   of.low_len,   words,  of.words_len,
                                  upper, of.upper_len, lower, of.lower_len, {0, 0}};
-    ask_sequence(&view, items);
+    query_sequence(&view, items);
     MUST(bitm_sequence_check(&view) == BITM_OK && any_parts(&view, 100) == 0);
     wrong_lengths(&view, items);
     uint64_t *const parts[] = {low, words, upper, lower};

@@ -235,7 +235,7 @@ static void files(void)
     LEAVES(BITM_BAD_SIZE, bitm_stored_sequence(3, &low, &written.stored));
     LEAVES(BITM_WRONG, bitm_stored_read(words, WORDS, &written.stored));
     LEAVES(BITM_WRONG, bitm_stored_read(NULL, 0, &written.stored));
-    /* worked out by hand: 10 words from byte 192 on, then each part from a multiple of 64 on */
+    /* computed by hand: 10 words from byte 192 on, then each part from a multiple of 64 on */
     MUST(bitm_stored_index(640, 7, 5, 8, 3, &read) == BITM_OK && read.kind == 1 && read.len == 640 && read.width == 0);
     MUST(read.ones_log2 == 7 && read.zeros_log2 == 8 && read.words.at == 192 && read.words.len == 10);
     MUST(read.upper.at == 320 && read.upper.len == 1 && read.lower.at == 384 && read.lower.len == 1);
@@ -255,7 +255,7 @@ static void files(void)
     MUST(read.starts0.at == 384 && read.samples.at == 384 && read.samples0.at == 384);
 }
 
-/* A list of zeros: the same query again and again, for ranks and for places. */
+/* A list of zeros: the same query again and again, for ranks and for selections. */
 static void lists_of_zeros(const struct bitm_index *view)
 {
     uint64_t out[LIST], first_one, first_zero;
@@ -274,7 +274,7 @@ static void lists_of_zeros(const struct bitm_index *view)
 /* 64 zeros, of which the tables say that two ones stand before them: a rank is at most its index, or they are wrong. */
 static void ranks_of_wrong_tables(void)
 {
-    const uint64_t zero = 0, none = 0, two = 2, most = UINT64_MAX, asked[] = {0, 1, 2, 64, 65};
+    const uint64_t zero = 0, none = 0, two = 2, most = UINT64_MAX, some[] = {0, 1, 2, 64, 65};
     uint64_t got, out[5];
     struct bitm_index view = index_over(&zero, 1, &none, 1, &two, 1);
     MUST(bitm_index_check(&view) == BITM_WRONG && bitm_index_rank(&view, true, 0, &got) == BITM_OK && got == 0);
@@ -282,9 +282,9 @@ static void ranks_of_wrong_tables(void)
     LEAVES(BITM_WRONG, bitm_index_rank(&view, false, 1, &written.one));
     MUST(bitm_index_rank(&view, true, 2, &got) == BITM_OK && got == 2 &&
          bitm_index_rank(&view, false, 2, &got) == BITM_OK && got == 0);
-    MUST(rank_list(&view, true, asked, 5, out, 5) == BITM_OK && out[0] == 0 && out[1] == BITM_WRONG_TABLES);
+    MUST(rank_list(&view, true, some, 5, out, 5) == BITM_OK && out[0] == 0 && out[1] == BITM_WRONG_TABLES);
     MUST(out[2] == 2 && out[3] == 2 && out[4] == BITM_NO_ANSWER);
-    MUST(rank_list(&view, false, asked, 5, out, 5) == BITM_OK && out[0] == 0 && out[1] == BITM_WRONG_TABLES);
+    MUST(rank_list(&view, false, some, 5, out, 5) == BITM_OK && out[0] == 0 && out[1] == BITM_WRONG_TABLES);
     MUST(out[2] == 0 && out[3] == 62 && out[4] == BITM_NO_ANSWER);
     view.lower = &most;
     LEAVES(BITM_WRONG, bitm_index_rank(&view, true, 64, &written.one));
@@ -313,13 +313,13 @@ static void ranks_of_wrong_tables(void)
     const struct bitm_hash hash = {one_word, sizes, 1, 5}, wrong_sizes = {one_word, &two, 1, 5};
     LEAVES(BITM_NONE, bitm_hash_get(&hash, 7, &written.one));
     LEAVES(BITM_WRONG, bitm_hash_get(&wrong_sizes, 7, &written.one));
-    MUST(bitm_hash_get_list(&wrong_sizes, asked, 5, out, 5, &counts) == BITM_OK && counts.wrong == 5 &&
+    MUST(bitm_hash_get_list(&wrong_sizes, some, 5, out, 5, &counts) == BITM_OK && counts.wrong == 5 &&
          counts.missing == 0);
-    MUST(bitm_hash_get_list(&hash, asked, 5, out, 5, &counts) == BITM_OK && counts.wrong == 0 && counts.missing == 5);
-    LEAVES(BITM_BAD_SIZE, bitm_hash_get_list(&hash, asked, 5, written.list, LIST - 1, &written.counts));
+    MUST(bitm_hash_get_list(&hash, some, 5, out, 5, &counts) == BITM_OK && counts.wrong == 0 && counts.missing == 5);
+    LEAVES(BITM_BAD_SIZE, bitm_hash_get_list(&hash, some, 5, written.list, LIST - 1, &written.counts));
 }
 
-/* Sequences: lengths, numbers that fall, places past the end, and parts of no sequence. */
+/* Sequences: lengths, numbers that fall, indexes past the end, and parts of no sequence. */
 static void sequences(void)
 {
     const uint64_t rising[] = {2, 3, 5, 7, 11, 13, 24}, falling[] = {2, 3, 5, 7, 13, 11, 24}, far[] = {7, 0, 1, 2, 3};

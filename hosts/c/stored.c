@@ -35,7 +35,7 @@ static const uint64_t *map_file(const char *name, size_t *size)
     return file;
 }
 
-/* Samples of each kind, built in their place: the header is written again with as many as there are. */
+/* Samples of each kind, built in their place: the header is written again with their number. */
 static struct bitm_stored sampled(uint64_t *file, struct bitm_stored s, const struct bitm_index *view)
 {
     uint64_t ones, zeros;

@@ -99,7 +99,7 @@ static void bits_case()
                 b.append(later), model.insert(model.end(), copy.begin(), copy.end());
             }
             break;
-        case 21: // its words from the second on, with the first again behind: and with itself, moved by a word
+        case 21: // its words from the second on, with the first again after it; and with itself, moved by a word
             if (n % 64 == 0 && n >= 128) {
                 const std::vector<bool> old = model;
                 b.push_back(false), b.resize(n + 64);
@@ -205,7 +205,7 @@ static void index_against(const bitm::rank_index &x, const std::vector<bool> &mo
     }
     std::vector<u64> few(3);
     THROWS(std::invalid_argument, (x.rank(positions_queried, few), 0));
-    same(x.content(), model);
+    same(x.as_bits(), model);
     const auto walk = x.ones();
     CHECK(std::equal(walk.begin(), walk.end(), ones.begin(), ones.end()));
 }
@@ -253,7 +253,7 @@ static void index_case()
         wrong[below(wrong.size())] ^= static_cast<unsigned char>(1 + below(255));
         const auto y = bitm::rank_index::try_of_bytes(wrong);
         if (!y) continue;
-        for (int ask = 0; ask < 10; ask++) {
+        for (int query = 0; query < 10; query++) {
             const u64 at = below(y->size() + 1);
             if (const auto rank = y->try_rank(at)) CHECK(*rank <= at);
             if (const auto found = y->try_select(at); found && *found) CHECK(**found < y->size() && (*y)[**found]);

@@ -1,4 +1,4 @@
-// libFuzzer over the C++ interface: changes of bits against std::vector<bool>, and files with any contents.
+// libFuzzer over the C++ interface: changes of bits against std::vector<bool>, and files that hold anything.
 //     clang++ -std=c++17 -g -O1 -fsanitize=fuzzer,address,undefined -Iinclude hosts/cpp/fuzz.cpp ARCHIVE -o fuzz
 //     ./fuzz -max_total_time=60 -max_len=4096 corpus
 #include <bitm/bitm.hpp>
@@ -94,7 +94,7 @@ static void changes(FuzzedDataProvider &from)
 
 static void any_index(FuzzedDataProvider &from)
 {
-    // A right header before any contents.
+    // A right header before anything.
     const u64 bits = from.ConsumeIntegralInRange<u64>(0, 6000), len = bits / 64 + (bits % 64 != 0);
     const std::uint32_t log2 = from.ConsumeBool() ? from.ConsumeIntegralInRange(7u, 31u) : 0,
                         log2_0 = from.ConsumeBool() ? 8u : 0;
@@ -109,20 +109,20 @@ static void any_index(FuzzedDataProvider &from)
     std::copy_n(body.begin(), std::min(body.size(), file.size() - sizeof header), file.begin() + sizeof header);
     const bitm::rank_index x = bitm::rank_index::of_bytes(file);
     const bool right = x.check();
-    const bitm::bits_view content = x.content();
+    const bitm::bits_view bits_of_it = x.as_bits();
     std::vector<u64> q, out(40), out0(40);
     for (u64 i = 0; i < 40; i++) {
         const u64 at = (i * 0x9E3779B97F4A7C15u) % (bits + 2);
         q.push_back(at);
         const auto rank = x.try_rank(at);
         if (at > bits) MUST(!rank && rank.error().code == bitm::errc::outside);
-        else if (rank) MUST(*rank <= at && (!right || *rank == content.count(0, at)));
+        else if (rank) MUST(*rank <= at && (!right || *rank == bits_of_it.count(0, at)));
         const auto found = x.try_select(at), found0 = x.try_select0(at);
-        if (found && *found) MUST(**found < bits && x[**found] && (!right || content.count(0, **found) == at));
+        if (found && *found) MUST(**found < bits && x[**found] && (!right || bits_of_it.count(0, **found) == at));
         if (found0 && *found0) MUST(**found0 < bits && !x[**found0]);
         if (right) MUST(rank.has_value() == (at <= bits) && found && found0);
         try {
-            if (const auto next = x.next_one(at)) MUST(!right || next == content.next_one(at));
+            if (const auto next = x.next_one(at)) MUST(!right || next == bits_of_it.next_one(at));
         } catch (const bitm::wrong_tables &) {
             MUST(!right);
         }
@@ -135,7 +135,7 @@ static void any_index(FuzzedDataProvider &from)
     for (const u64 it : out) MUST(it < std::max<u64>(bits, 1) || it >= bitm::wrong_answer);
     u64 walked = 0;
     for (const u64 at : x.ones()) MUST(x[at]), walked++;
-    MUST(walked == content.count());
+    MUST(walked == bits_of_it.count());
 }
 
 static void any_sequence(FuzzedDataProvider &from)
@@ -181,7 +181,7 @@ static void any_hash(FuzzedDataProvider &from)
     const bitm::perfect_hash h(hashes, from.ConsumeIntegralInRange(0u, 300u));
     std::vector<bool> used(hashes.size());
     for (const u64 it : hashes) MUST(h(it) && *h(it) < used.size() && !used[*h(it)]), used[*h(it)] = true;
-    // any contents after the header
+    // anything after the header
     std::vector<unsigned char> file(h.bytes().begin(), h.bytes().end());
     while (from.remaining_bytes() > 0)
         file[from.ConsumeIntegralInRange<std::size_t>(0, file.size() - 1)] = from.ConsumeIntegral<unsigned char>();

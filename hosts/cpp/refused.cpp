@@ -109,7 +109,7 @@ int main()
     const auto constant = []() -> const bitm::rank_index { return made(); };
     auto v = constant().view();
 #elif CASE == 17
-    auto v = std::move(x).content();
+    auto v = std::move(x).as_bits();
 #elif CASE == 18 // views of files in temporaries
     auto v = bitm::rank_index_view::in(words(100));
 #elif CASE == 19

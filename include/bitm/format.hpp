@@ -37,13 +37,13 @@ template <> struct std::formatter<bitm::bits, char> : bitm::detail::text_format 
 template <> struct std::formatter<bitm::rank_index_view, char> : bitm::detail::text_format {
     template <class Context> auto format(const bitm::rank_index_view &of, Context &to) const
     {
-        return put(of.content(), to);
+        return put(of.as_bits(), to);
     }
 };
 template <> struct std::formatter<bitm::rank_index, char> : bitm::detail::text_format {
     template <class Context> auto format(const bitm::rank_index &of, Context &to) const
     {
-        return put(of.content(), to);
+        return put(of.as_bits(), to);
     }
 };
 template <> struct std::formatter<bitm::sequence_view, char> : bitm::detail::text_format {

@@ -109,7 +109,7 @@ public:
     // Equal bits; tables and samples are not compared.
     template <class Other> friend bool operator==(const index_calls &a, const index_calls<Other> &b)
     {
-        return a.self().content() == static_cast<const Other &>(b).content();
+        return a.self().as_bits() == static_cast<const Other &>(b).as_bits();
     }
     template <class Other> friend bool operator!=(const index_calls &a, const index_calls<Other> &b)
     {
@@ -119,7 +119,7 @@ public:
     template <class Char, class Traits>
     friend std::basic_ostream<Char, Traits> &operator<<(std::basic_ostream<Char, Traits> &to, const index_calls &of)
     {
-        return to << of.self().content();
+        return to << of.self().as_bits();
     }
 
 protected:
@@ -196,7 +196,7 @@ public:
         return try_in(file).value();
     }
 
-    bits_view content() const { return plain(); }
+    bits_view as_bits() const { return plain(); }
     ones_range ones(std::uint64_t from = 0) const { return plain().ones(from); }
     zeros_range zeros(std::uint64_t from = 0) const { return plain().zeros(from); }
     bits_iterator begin() const { return plain().begin(); }
@@ -291,14 +291,14 @@ public:
         return view;
     }
     const bitm_index &raw() const &noexcept BITM_LIFETIMEBOUND { return index_calls::raw(); }
-    bits_view content() const &BITM_LIFETIMEBOUND { return plain(); }
+    bits_view as_bits() const &BITM_LIFETIMEBOUND { return plain(); }
     ones_range ones(std::uint64_t from = 0) const &BITM_LIFETIMEBOUND { return plain().ones(from); }
     zeros_range zeros(std::uint64_t from = 0) const &BITM_LIFETIMEBOUND { return plain().zeros(from); }
     bits_iterator begin() const &BITM_LIFETIMEBOUND { return plain().begin(); }
     bits_iterator end() const &BITM_LIFETIMEBOUND { return plain().end(); }
     void view() const && = delete;
     void raw() const && = delete;
-    void content() const && = delete;
+    void as_bits() const && = delete;
     void ones(std::uint64_t = 0) const && = delete;
     void zeros(std::uint64_t = 0) const && = delete;
     void begin() const && = delete;
@@ -343,7 +343,7 @@ BITM_NAMESPACE_END
 
 // Equal bits have equal hashes.
 template <> struct std::hash<bitm::rank_index> {
-    std::size_t operator()(const bitm::rank_index &of) const { return bitm::detail::hash_of(of.content()); }
+    std::size_t operator()(const bitm::rank_index &of) const { return bitm::detail::hash_of(of.as_bits()); }
 };
 
 #endif

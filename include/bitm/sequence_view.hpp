@@ -1,5 +1,5 @@
-// Monotone sequences (Elias-Fano) in memory of the caller's: a view, iterators and walks, and the queries that it shares
-// with the owner of bitm/sequence.hpp.
+// Monotone sequences (Elias-Fano) in memory of the caller's: a view, iterators and walks, and the queries that it
+// shares with the owner of bitm/sequence.hpp.
 #ifndef BITM_SEQUENCE_VIEW_HPP
 #define BITM_SEQUENCE_VIEW_HPP
 
