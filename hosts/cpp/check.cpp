@@ -284,6 +284,7 @@ static void sequence_case()
         std::vector<u64> walked;
         for (const u64 it : of.walk()) walked.push_back(it);
         CHECK(walked == numbers);
+        CHECK(of.last_at_most(~u64{}) == (numbers.empty() ? bitm::maybe_position() : numbers.size() - 1));
         std::vector<u64> queried, at_indexes;
         for (int turn = 0; turn < 10; turn++) {
             const u64 value = below(3) && !numbers.empty() ? numbers[below(numbers.size())] + below(3) - 1
