@@ -185,10 +185,11 @@ void indexes()
     raw.lower_len = 0;
     throws<std::invalid_argument>([&] { bitm::rank_index_view view(raw); }, "a table too short");
     raw = made.raw(), raw.lower = wrong;
+    Words out(2);
+    throws<std::invalid_argument>([&] { made.rank(out, out); }, "a list that overlaps its answers");
     const bitm::rank_index_view others(raw);
     throws<bitm::wrong_tables>([&] { others.select(1); }, "wrong tables");
     throws<bitm::wrong_tables>([&] { others.rank(1); }, "a rank over wrong tables");
-    Words out(2);
     throws<bitm::wrong_tables>([&] { others.rank(two, out); }, "ranks over wrong tables");
     must(out == Words{bitm::wrong_answer, bitm::wrong_answer}, "each says so");
     must(!others.try_select(1) && others.try_select(1).error().code == bitm::errc::wrong,
@@ -273,6 +274,7 @@ void sequences()
     none.low = none.words = none.upper = none.lower = zeros;
     Words out(3);
     throws<bitm::wrong_tables>([&] { bitm::sequence_view(none).read(0, out); }, "items of no sequence");
+    throws<std::invalid_argument>([&] { three.at(out, out); }, "indexes that overlap their numbers");
     throws<bitm::wrong_tables>([&] { bitm::sequence_view(none).walk(); }, "a walk through no sequence");
     throws<bitm::wrong_tables>(
         [&] {

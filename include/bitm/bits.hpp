@@ -300,9 +300,7 @@ private:
     // Whether a view lies in the memory of this owner.
     bool mine(const bits_view &other) const noexcept
     {
-        const auto at = reinterpret_cast<std::uintptr_t>(other.words_data()),
-                   own = reinterpret_cast<std::uintptr_t>(block_.data());
-        return other.size() && size_ && at < own + 8 * block_.size() && own < at + 8 * other.words_len();
+        return detail::overlap({other.words_data(), other.words_len()}, {block_.data(), block_.size()});
     }
     template <class Call> bits &with(Call call, bits_view other)
     {

@@ -304,6 +304,7 @@ private:
     {
         std::uint64_t count = 0;
         const bits_parts of = parts();
+        need_apart({of.words, of.len}, out);
         need(bitm_bits_positions(of.words, of.len, of.size, one, from, out.data(), out.size(), &count));
         return static_cast<std::size_t>(count);
     }

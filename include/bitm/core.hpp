@@ -89,7 +89,8 @@ enum class errc : std::uint8_t {
     outside = 16,             // a position past the end
     wrong_file,               // not a file of this format, or not a whole one
     no_file,                  // the system does not open, read, map or write it
-    equal_keys                // two keys of a perfect hash have one hash
+    equal_keys,               // two keys of a perfect hash have one hash
+    overlap                   // memory that is written overlaps what is read
 };
 
 // What went wrong: position `at` of `of` where it is `outside`; `at` is errno where it is `no_file`.
@@ -108,6 +109,7 @@ struct failure {
         case errc::wrong_file: return "bitm: not a file of this format, or not a whole one";
         case errc::no_file: return "bitm: the file cannot be opened, read or written";
         case errc::equal_keys: return "bitm: two keys are equal, or their hashes are";
+        case errc::overlap: return "bitm: memory that is written overlaps what is read";
         }
         return "bitm: not an error of this library";
     }

@@ -163,6 +163,7 @@ private:
     }
     template <class Call> void list(Call call, bool one, words_in queries, words_out out) const
     {
+        need_apart(queries, out);
         bitm_list_counts counts{};
         const std::uint32_t status =
             call(&raw(), one, queries.data(), queries.size(), out.data(), out.size(), &counts);

@@ -50,6 +50,18 @@ using words_out = span<std::uint64_t>;
 
 namespace detail {
 
+// Whether two spans have memory in common.
+inline bool overlap(words_in a, words_in b) noexcept
+{
+    const auto x = reinterpret_cast<std::uintptr_t>(a.data()), y = reinterpret_cast<std::uintptr_t>(b.data());
+    return a.size() > 0 && b.size() > 0 && x < y + 8 * b.size() && y < x + 8 * a.size();
+}
+// C writes no memory that it reads in the same call.
+inline void need_apart(words_in read, words_out written)
+{
+    if (BITM_RARELY(overlap(read, {written.data(), written.size()}))) fail({errc::overlap});
+}
+
 // An argument that is kept: a temporary container does not convert.
 template <class T> class BITM_POINTER kept {
 public:

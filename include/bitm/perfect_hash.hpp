@@ -64,6 +64,7 @@ public:
     // Of a list: out[i] is the number of hashes[i], or bitm::no_answer.
     void operator()(words_in hashes, words_out out) const
     {
+        detail::need_apart(hashes, out);
         bitm_list_counts counts{};
         const std::uint32_t status =
             bitm_hash_get_list(&raw_, hashes.data(), hashes.size(), out.data(), out.size(), &counts);

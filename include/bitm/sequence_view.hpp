@@ -200,6 +200,7 @@ public:
     void at(words_in indexes, words_out out) const
     {
         std::uint64_t written = 0;
+        need_apart(indexes, out);
         need(bitm_sequence_get_list(&raw(), indexes.data(), indexes.size(), out.data(), out.size(), &written));
         if (BITM_RARELY(written < indexes.size())) (void)at(indexes.data()[written]), fail({errc::wrong});
     }
@@ -246,6 +247,7 @@ protected:
 private:
     template <class Call> void list(Call call, words_in values, words_out out) const
     {
+        need_apart(values, out);
         bitm_list_counts counts{};
         const std::uint32_t status = call(&raw(), values.data(), values.size(), out.data(), out.size(), &counts);
         need_list(status, counts);
