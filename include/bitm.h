@@ -1,54 +1,46 @@
 /* Succinct bit vectors with rank and select: words, and two tables of counts beside them. And monotone integer
  * sequences (Elias-Fano) and minimal perfect hashes, in words with such tables.
  *
- * Bit i of the words is bit i % 64, lowest first, of words[i / 64]. You own the memory of words and tables, which may
- * be a mapped file. No call allocates, keeps a pointer or has state, so any number of threads may ask at once.
+ * Bit i is bit i % 64, lowest first, of words[i / 64]. You own the memory of words and tables, which may be a mapped
+ * file. No call allocates, keeps a pointer or has state, so any number of threads may query at once.
  *
- *     size_t m = bitm_upper_len(n), k = bitm_lower_len(n);
- *     uint64_t ones, place;
- *     if (bitm_build(words, n, upper, m, lower, k, &ones) != BITM_OK) ..
- *     struct bitm_index index = {.view = {words, n, upper, m, lower, k}, .bits_len = 64 * n};
- *     if (bitm_select(&index, true, 17, &place) == BITM_OK) ..
+ *     size_t m = bitm_index_upper_len(n), k = bitm_index_lower_len(n);
+ *     uint64_t ones, position;
+ *     if (bitm_index_build(words, n, upper, m, lower, k, &ones) != BITM_OK) ..
+ *     struct bitm_index index = {.words = words, .words_len = n, .upper = upper, .upper_len = m, .lower = lower,
+ *                                .lower_len = k, .bits_len = bits};
+ *     if (bitm_index_select(&index, true, 17, &position) == BITM_OK) ..
  *
- * LENGTHS ARE IN WORDS. Bits of the last word behind the end of your data are bits like others, which are counted and
- * found: bitm_clear_from makes them zeros, so that they are no ones, and places of zeros you compare with your length.
+ * NAMES. The prefix says what is queried: bitm_bits_ (words without tables), bitm_index_ (words with tables),
+ * bitm_sequence_, bitm_hash_, bitm_stored_. `bool one` says which bits are meant: true the 1 bits, false the 0 bits. A
+ * position counts from 0; the rank of a bit is how many bits of its kind there are before it.
  *
- * Proved of each call, for all arguments that keep the duties below:
- *   - it returns, and reads and writes only memory that it is lent, WHATEVER the tables hold;
- *   - a status other than BITM_OK leaves everything that it could have written unchanged;
- *   - if the tables are stale or hostile, a rank is still at most its index, and any place that selection returns is
- *     inside and holds the requested bit: each answer may index an array of yours that has an item for each bit and
- *     one more. BITM_WRONG says that the tables are not those of the words; BITM_OK does not say that they are.
- *     BITM_NONE of a selection means that tables and words count at most rank such bits: the last upper entry, plus the
- *     last lower entry up to one of its records that no words follow, plus the bits from that record on (modulo 2^64).
- *     Each item of a list means the same;
- *   - if the tables are those of the words, the answer is plain counting, and no call on words and tables alone returns
- *     BITM_WRONG. They are if bitm_build made them or bitm_check passes them, as long as neither words nor tables
- *     change afterwards. Samples, whatever they hold, make no answer another;
- *   - sequences likewise: with parts that bitm_sequence_build made or bitm_sequence_check passes, the answers are
+ * LENGTHS. words_len, upper_len, lower_len, samples_len, .. count the items of that pointer; bits_len counts bits, and
+ * is at most 64 * words_len. What lies past the first bits_len bits is neither counted nor found nor changed.
+ *
+ * Promised, and proved of each call, for all arguments that keep the duties below:
+ *   - it returns, and reads and writes only the memory that it is passed, WHATEVER the tables hold;
+ *   - a status other than BITM_OK leaves all that the call could have written unchanged;
+ *   - over any tables, stale and hostile ones too, a rank is at most its position and a selection finds a position that
+ *     is inside and holds the requested bit; BITM_WRONG says that the tables are not those of the words, but BITM_OK
+ *     does not say that they are;
+ *   - if the tables are those of the words, the answer is that of plain counting, and a query of words and tables never
+ *     returns BITM_WRONG. They are if bitm_index_build wrote them or bitm_index_check passes them, as long as neither
+ *     words nor tables change afterwards. Samples never change an answer, whatever they hold;
+ *   - sequences likewise: over parts that bitm_sequence_build wrote or bitm_sequence_check passes, the answers are
  *     those of one sequence of numbers.
  *
- * Cost: the reads that single queries and lists of selections name below are upper bounds for all tables, right or
- * wrong, and proved of the library calls that these exports make (crates/bitm_tables, crates/bitm_search,
- * crates/bitm_lent, crates/elias_fano, crates/perfect_hash). That an export makes just this call, and the passes over
- * words and items that builds and checks name, are read in the code. Time is not proved.
- *
- * Lengths: each call tests those that it needs. bitm_build, bitm_write_header, the calls with a view, and those that
- * count ones or look for the next or previous bit return BITM_BAD_SIZE for 2^58 words or more; those that get or write
- * bits take any number of words, and bitm_upper_len, bitm_lower_len and bitm_samples_len answer for any.
+ * Cost: the reads that are named below are upper bounds for all tables, right or wrong. Time is not proved.
  *
  * Your duties, as for any C function that takes pointers (nothing here can test them):
- *   - a pointer to n numbers is aligned to 8 bytes (samples: to 4) and n numbers can be read there; it may be NULL if
- *     n is 0. Pointers to one number (out, ones, written, used, width) and to structs are never NULL;
- *   - what a view or samples point to counts as passed;
+ *   - a pointer to n numbers is aligned (to 8 bytes; samples to 4, bytes to 1) and n numbers can be read there; it may
+ *     be NULL if n is 0. Pointers to one number (out, ones, written, used, ..) and to structs are never NULL;
+ *   - what the pointers in a struct point to counts as passed;
  *   - memory that a call writes (no const) overlaps nothing else that is passed, and nobody else reads or writes it
- *     during the call;
- *   - memory that a call reads (const) is not written during the call. If it is all the same, nothing above is proved;
- *     bitm_sequence_build and bitm_build_samples test each place once more where they write it, and tests by a second
- *     thread and by memory that overlaps saw them write nothing outside;
+ *     during the call; it may hold any bytes before, but is allocated;
+ *   - memory that a call reads (const) is not written during the call;
  *   - a mapped file is not truncated while a call runs: the system would end the process;
- *   - memory that a call writes may hold any bytes before, but is allocated;
- *   - a bool is 0 or 1, as a C compiler ensures; the processor counts ones in hardware (x86-64-v2). */
+ *   - a bool is 0 or 1, as a C compiler ensures; the processor counts bits in hardware (x86-64-v2). */
 #ifndef BITM_H
 #define BITM_H
 
@@ -56,16 +48,29 @@
 #include <stddef.h>
 #include <stdint.h>
 
+/* The archive is for processors with 64-bit addresses that store the lowest byte first. */
+#if defined __BYTE_ORDER__ && defined __ORDER_BIG_ENDIAN__
+#if __BYTE_ORDER__ == __ORDER_BIG_ENDIAN__
+#error "bitm: the library is for little-endian processors"
+#endif
+#endif
+#if defined __SIZEOF_POINTER__
+#if __SIZEOF_POINTER__ != 8
+#error "bitm: the library is for processors with 64-bit addresses"
+#endif
+#elif SIZE_MAX < UINT64_MAX
+#error "bitm: the library is for processors with 64-bit addresses"
+#endif
+
 #ifdef __cplusplus
 extern "C" {
 #endif
 
-/* The archive is for machines with 64-bit addresses. */
-typedef char bitm_sizes_are_64_bits[sizeof(size_t) == 8 ? 1 : -1];
+typedef char bitm_sizes_are_64_bits[sizeof(size_t) == 8 && sizeof(void *) == 8 ? 1 : -1];
 
-/* The version of this header; `make install` names the shared object by it. */
-#define BITM_VERSION "0.2.0"
-#define BITM_VERSION_NUMBER 200 /* 10000 * major + 100 * minor + patch */
+/* The version of this header. */
+#define BITM_VERSION "0.3.0"
+#define BITM_VERSION_NUMBER 300 /* 10000 * major + 100 * minor + patch */
 
 /* Before each call that returns a status: the compiler warns where it is not looked at. Define it as nothing before
  * this file is included if you do not want that. */
@@ -77,13 +82,13 @@ typedef char bitm_sizes_are_64_bits[sizeof(size_t) == 8 ? 1 : -1];
 #endif
 #endif
 
-/* The number of the library's version, to compare with BITM_VERSION_NUMBER of this header. */
+/* The version of the library that is linked, to compare with BITM_VERSION_NUMBER of this header. */
 uint32_t bitm_version(void);
 
 /* What a call returns; each call names those that it may return. */
 enum bitm_status {
     BITM_OK = 0,       /* the answer was written */
-    BITM_NONE = 1,     /* there is no such place or bit */
+    BITM_NONE = 1,     /* there is no such position, bit or number */
     BITM_BAD_SIZE = 2, /* a length is wrong: see each call */
     BITM_WRONG = 3,    /* the tables or samples are not those of the words, the parts not those of a sequence, or the
                         * header is not one */
@@ -95,190 +100,266 @@ static inline const char *bitm_status_text(uint32_t status)
 {
     switch (status) {
     case BITM_OK: return "ok";
-    case BITM_NONE: return "there is no such place or bit";
-    case BITM_BAD_SIZE: return "a length is not as it has to be";
+    case BITM_NONE: return "there is no such position, bit or number";
+    case BITM_BAD_SIZE: return "a length is wrong";
     case BITM_WRONG: return "the tables, samples, parts or header are not right";
     case BITM_UNSORTED: return "a number is less than the one before it";
-    default: return "no status of this library";
+    default: return "not a status of this library";
     }
 }
 
-/* In a list of answers: there is no such place or bit; the tables are not those of the words. No place, and no rank
- * where the tables are right, is one of these. */
+/* In a list of answers: there is no such position, bit or number; the tables are not those of the words. No position,
+ * and no rank where the tables are right, is one of these. */
 #define BITM_NO_ANSWER UINT64_MAX
 #define BITM_WRONG_TABLES (UINT64_MAX - 1)
 
-/* ---- the index */
-
-/* Words and their two tables, as pointers and numbers of items. You may copy and keep the struct; the duties hold for
- * its pointers while a call runs. Calls that take one return BITM_BAD_SIZE if words_len is 2^58 or more, or a table
- * is not as long as bitm_upper_len and bitm_lower_len say. */
-struct bitm_view {
-    const uint64_t *words;
-    size_t words_len;
-    const uint64_t *upper;
-    size_t upper_len;
-    const uint64_t *lower;
-    size_t lower_len;
+/* How many answers of a list are BITM_NO_ANSWER, and how many BITM_WRONG_TABLES. */
+struct bitm_list_counts {
+    uint64_t missing;
+    uint64_t wrong;
 };
 
-/* The lengths of the tables of so many words: one number for each begun 2^26 words, and one for each begun 32 words. */
-size_t bitm_upper_len(size_t words_len);
-size_t bitm_lower_len(size_t words_len);
-
-/* Writes both tables of the words, and the number of ones. Returns BITM_OK, or BITM_BAD_SIZE as for a view, and then
- * writes nothing. Neither table nor ones may overlap another of the four. Reads each word once. */
-BITM_MUST_USE uint32_t bitm_build(const uint64_t *words, size_t words_len, uint64_t *upper, size_t upper_len,
-                                  uint64_t *lower, size_t lower_len, uint64_t *ones);
-
-/* Whether the tables are those of the words: BITM_OK, BITM_WRONG or BITM_BAD_SIZE. Reads each word at most once. */
-BITM_MUST_USE uint32_t bitm_check(const struct bitm_view *view);
-
-/* ---- samples */
-
-/* Samples of the ones, or of the zeros: one of 32 bits for each 2^log2 of them in a part of 2^32 bits, and for each
- * part the number of samples before it. A logarithm below 7 counts as 7, above 31 as 31. A larger one takes less
- * space and a longer search.
+/* ---- words without tables
  *
- *     size_t most = bitm_samples_len(n, 12);
+ * The first bits_len bits of words_len words. All these calls return BITM_BAD_SIZE if bits_len is above 64 * words_len;
+ * those that count bits or find positions (count, count_range, next, previous, positions) also if words_len is 2^58 or
+ * more. Where bits are written, every other bit stays as it was; but whole words are read and written, so other threads
+ * may not use these words meanwhile. */
+
+/* How many words hold the given number of bits: bits_len / 64, rounded up. */
+size_t bitm_bits_words_len(uint64_t bits_len);
+
+/* One bit at a position that you know to be below 64 * words_len: nothing is tested. */
+static inline bool bitm_bit_at(const uint64_t *words, uint64_t position)
+{
+    return (words[position / 64] >> (position % 64)) & 1;
+}
+static inline void bitm_set_bit_at(uint64_t *words, uint64_t position, bool value)
+{
+    const uint64_t bit = UINT64_C(1) << (position % 64);
+    if (value) words[position / 64] |= bit;
+    else words[position / 64] &= ~bit;
+}
+
+/* The bit at a position, as 0 or 1; makes it equal to value. BITM_NONE if position is bits_len or more. */
+BITM_MUST_USE uint32_t bitm_bits_get(const uint64_t *words, size_t words_len, uint64_t bits_len, uint64_t position,
+                                     uint64_t *out);
+BITM_MUST_USE uint32_t bitm_bits_set(uint64_t *words, size_t words_len, uint64_t bits_len, uint64_t position,
+                                     bool value);
+
+/* The number in the width bits from position begin on, lowest bit first; replaces it by the width lowest bits of value;
+ * combines these bits with the width lowest bits of value by exclusive or. A width is 0 to 64; the number of width 0 is
+ * 0. BITM_NONE if begin + width is above bits_len or width is above 64. Reads or writes at most two words. */
+BITM_MUST_USE uint32_t bitm_bits_get_number(const uint64_t *words, size_t words_len, uint64_t bits_len, uint64_t begin,
+                                            uint32_t width, uint64_t *out);
+BITM_MUST_USE uint32_t bitm_bits_set_number(uint64_t *words, size_t words_len, uint64_t bits_len, uint64_t begin,
+                                            uint32_t width, uint64_t value);
+BITM_MUST_USE uint32_t bitm_bits_xor_number(uint64_t *words, size_t words_len, uint64_t bits_len, uint64_t begin,
+                                            uint32_t width, uint64_t value);
+
+/* Fragments: the bits as an array of numbers of width bits, of which number index begins at bit index * width. Reads
+ * one; replaces one by the width lowest bits of value; exchanges two; replaces each of the first count. BITM_NONE if a
+ * fragment ends past bits_len or width is above 64. Fragments of width 0 are 0 and take no bits. */
+BITM_MUST_USE uint32_t bitm_bits_get_fragment(const uint64_t *words, size_t words_len, uint64_t bits_len,
+                                              uint64_t index, uint32_t width, uint64_t *out);
+BITM_MUST_USE uint32_t bitm_bits_set_fragment(uint64_t *words, size_t words_len, uint64_t bits_len, uint64_t index,
+                                              uint32_t width, uint64_t value);
+BITM_MUST_USE uint32_t bitm_bits_swap_fragments(uint64_t *words, size_t words_len, uint64_t bits_len, uint64_t first,
+                                                uint64_t second, uint32_t width);
+BITM_MUST_USE uint32_t bitm_bits_fill_fragments(uint64_t *words, size_t words_len, uint64_t bits_len, uint32_t width,
+                                                uint64_t value, size_t count);
+
+/* How many 1 bits, or 0 bits, there are: of all, and of those from position from on and before position to. BITM_NONE
+ * if from is above to or to is above bits_len. Reads each word of the range once. */
+BITM_MUST_USE uint32_t bitm_bits_count(const uint64_t *words, size_t words_len, uint64_t bits_len, bool one,
+                                       uint64_t *out);
+BITM_MUST_USE uint32_t bitm_bits_count_range(const uint64_t *words, size_t words_len, uint64_t bits_len, bool one,
+                                             uint64_t from, uint64_t to, uint64_t *out);
+
+/* The position of the first 1 bit, or 0 bit, at or after position from; of the last one at or before it, where from may
+ * be past the end. BITM_NONE if there is none. Reads each word on the way once. */
+BITM_MUST_USE uint32_t bitm_bits_next(const uint64_t *words, size_t words_len, uint64_t bits_len, bool one,
+                                      uint64_t from, uint64_t *out);
+BITM_MUST_USE uint32_t bitm_bits_previous(const uint64_t *words, size_t words_len, uint64_t bits_len, bool one,
+                                          uint64_t from, uint64_t *out);
+
+/* Writes the positions of the 1 bits, or 0 bits, from position from on, in increasing order, until out is full or there
+ * are no more, and to written how many; the rest of out stays as it was. out and written may not overlap each other or
+ * the words. */
+BITM_MUST_USE uint32_t bitm_bits_positions(const uint64_t *words, size_t words_len, uint64_t bits_len, bool one,
+                                           uint64_t from, uint64_t *out, size_t out_len, uint64_t *written);
+
+/* Makes every bit of the words from position bits_len on 0. Returns BITM_OK always: if bits_len is 64 * words_len or
+ * more, there is nothing to do. */
+BITM_MUST_USE uint32_t bitm_bits_clear_from(uint64_t *words, size_t words_len, uint64_t bits_len);
+
+/* Makes the bits from position from on and before position to equal to value, or flips them. BITM_NONE if from is above
+ * to or to is above bits_len. */
+BITM_MUST_USE uint32_t bitm_bits_fill_range(uint64_t *words, size_t words_len, uint64_t bits_len, uint64_t from,
+                                            uint64_t to, bool value);
+BITM_MUST_USE uint32_t bitm_bits_flip_range(uint64_t *words, size_t words_len, uint64_t bits_len, uint64_t from,
+                                            uint64_t to);
+
+/* Copies count bits, from position from_begin on, to position to_begin on. BITM_NONE if a range is not inside its
+ * words. The words of to and from may not overlap. */
+BITM_MUST_USE uint32_t bitm_bits_copy_range(uint64_t *to, size_t to_len, uint64_t to_begin, const uint64_t *from,
+                                            size_t from_len, uint64_t from_begin, uint64_t count);
+
+/* Whether count bits of a, from position a_begin on, equal those of b from position b_begin on, as 0 or 1. BITM_NONE if
+ * a range is not inside its words. a and b may overlap. */
+BITM_MUST_USE uint32_t bitm_bits_equal_range(const uint64_t *a, size_t a_len, uint64_t a_begin, const uint64_t *b,
+                                             size_t b_len, uint64_t b_begin, uint64_t count, uint64_t *out);
+
+/* Combines each word with the word of other at the same index: and, or, exclusive or, and with the complement of
+ * other's. BITM_BAD_SIZE if the lengths differ. words and other may not overlap. */
+BITM_MUST_USE uint32_t bitm_bits_and(uint64_t *words, size_t words_len, const uint64_t *other, size_t other_len);
+BITM_MUST_USE uint32_t bitm_bits_or(uint64_t *words, size_t words_len, const uint64_t *other, size_t other_len);
+BITM_MUST_USE uint32_t bitm_bits_xor(uint64_t *words, size_t words_len, const uint64_t *other, size_t other_len);
+BITM_MUST_USE uint32_t bitm_bits_and_not(uint64_t *words, size_t words_len, const uint64_t *other, size_t other_len);
+
+/* The position, 0 to 63, of the 1 bit of a word with the given rank. BITM_NONE if the word has no more than rank. */
+BITM_MUST_USE uint32_t bitm_bits_select_in_word(uint64_t word, uint32_t rank, uint64_t *out);
+
+/* The width that stores a number: how many binary digits it has, 0 for 0. */
+uint32_t bitm_bits_to_store(uint64_t value);
+
+/* ---- bytes: few bits from any bit on, by one read of 8 or 4 bytes
+ *
+ * Bit i of the bytes is bit i % 8, lowest first, of bytes[i / 8]. The window of bit first_bit goes from it to the end
+ * of the 8 bytes (57 to 64 bits) or 4 bytes (25 to 32 bits) that begin with its byte; BITM_NONE if there are not 8 (4)
+ * bytes from bytes[first_bit / 8] on. Bits of value and len_mask that lie past the window are ignored.
+ *   - get: the window as a number, lowest bit first;
+ *   - init: makes each bit of the window 1 where value has a 1 bit;
+ *   - set: first makes each bit of the window 0 where len_mask has a 1 bit, then does as init. */
+BITM_MUST_USE uint32_t bitm_bytes_get57(const uint8_t *bytes, size_t bytes_len, uint64_t first_bit, uint64_t *out);
+BITM_MUST_USE uint32_t bitm_bytes_init57(uint8_t *bytes, size_t bytes_len, uint64_t first_bit, uint64_t value);
+BITM_MUST_USE uint32_t bitm_bytes_set57(uint8_t *bytes, size_t bytes_len, uint64_t first_bit, uint64_t value,
+                                        uint64_t len_mask);
+BITM_MUST_USE uint32_t bitm_bytes_get25(const uint8_t *bytes, size_t bytes_len, uint64_t first_bit, uint32_t *out);
+BITM_MUST_USE uint32_t bitm_bytes_init25(uint8_t *bytes, size_t bytes_len, uint64_t first_bit, uint32_t value);
+BITM_MUST_USE uint32_t bitm_bytes_set25(uint8_t *bytes, size_t bytes_len, uint64_t first_bit, uint32_t value,
+                                        uint32_t len_mask);
+
+/* ---- the index: words with tables */
+
+/* Samples of the 1 bits, or of the 0 bits: one number of 32 bits for each 2^log2 of them in an upper block (2^32 bits),
+ * and for each upper block the number of samples before it. log2 below 7 counts as 7, above 31 as 31. A larger one
+ * takes less space and a longer search.
+ *
+ *     size_t most = bitm_index_samples_len(n, 12);
  *     uint64_t used;
- *     if (bitm_build_samples(&index.view, true, 12, numbers, most, starts, m, &used) != BITM_OK) ..
- *     index.ones = (struct bitm_samples){numbers, used, starts, m, 12};
- *     if (bitm_select(&index, true, 17, &place) == BITM_OK) ..
+ *     if (bitm_index_build_samples(&index, true, 12, samples, most, starts, m, &used) != BITM_OK) ..
+ *     index.ones = (struct bitm_samples){samples, used, starts, m, 12, 0};
  *
- * samples_len is what the build wrote to used; the rest of the list is not part of the samples. The contents and
- * lengths of both lists and the logarithm may be anything: if the tables are those of the words, no samples lead to a
- * wrong place, and in any case none leads to a read outside. */
+ * samples_len is what the build wrote to used; the rest of the list is not part of the samples. Lists, lengths and log2
+ * may be anything: samples shorten a search, never change an answer, and never lead to a read outside. */
 struct bitm_samples {
     const uint32_t *samples;
     size_t samples_len;
     const uint64_t *starts;
     size_t starts_len;
     uint32_t log2;
+    uint32_t reserved; /* 0 */
 };
 
-/* The greatest number of samples of one kind that so many words can have: one for each begun 2^(log2 - 6) words. */
-size_t bitm_samples_len(size_t words_len, uint32_t log2);
-
-/* Writes the samples of ones, or zeros, for each part the number of samples before it, and to used how many there
- * are; items behind these stay as they were. If the tables are those of the words, so are the samples; else they are
- * arbitrary numbers. Returns BITM_OK, or BITM_BAD_SIZE as for a view, or if samples_len is less than bitm_samples_len
- * says or starts_len is not the length of the upper table, and then writes nothing. samples, starts and used may not
- * overlap one another, nor the words or tables. Reads both tables once, up to two lower entries again for each sample,
- * and at most eight words. */
-BITM_MUST_USE uint32_t bitm_build_samples(const struct bitm_view *view, bool one, uint32_t log2, uint32_t *samples,
-                                          size_t samples_len, uint64_t *starts, size_t starts_len, uint64_t *used);
-
-/* Whether the samples of the ones, or zeros, are those that bitm_build_samples writes, where the tables are those of the
- * words: BITM_OK or BITM_WRONG; else either. BITM_BAD_SIZE as for a view. */
-BITM_MUST_USE uint32_t bitm_check_samples(const struct bitm_view *view, bool one, const struct bitm_samples *samples);
-
-/* ---- all that is asked of an index */
-
-/* Words and tables, of which the first bits_len bits are the content, and samples of the ones and of the zeros, or none:
- * {0} stands for no samples. Samples make no answer another, WHATEVER they hold. What stands behind the content is
- * neither counted nor found. Calls that take one return BITM_BAD_SIZE as for a view, or if bits_len is above
- * 64 * words_len. */
+/* Words, their two tables, how many of their bits are meant, and samples or none. You may copy and keep the struct; the
+ * duties hold for its pointers while a call runs. Calls that take one return BITM_BAD_SIZE if words_len is 2^58 or
+ * more, a table is not as long as bitm_index_upper_len and bitm_index_lower_len say, or the words have fewer than
+ * bits_len bits. */
 struct bitm_index {
-    struct bitm_view view;
+    const uint64_t *words;
+    size_t words_len;
+    const uint64_t *upper;
+    size_t upper_len;
+    const uint64_t *lower;
+    size_t lower_len;
     uint64_t bits_len;
-    struct bitm_samples ones;
-    struct bitm_samples zeros;
+    struct bitm_samples ones;  /* {0}: none */
+    struct bitm_samples zeros; /* {0}: none */
+    uint64_t reserved[2];      /* 0: not given */
 };
 
-/* How many of the first `at` bits are ones, or zeros: at most `at`. BITM_NONE exactly if `at` is above bits_len, whatever
- * the tables hold; BITM_WRONG if they turn out not to be those of the words. Reads at most one upper entry, one lower
- * entry and eight words. */
-BITM_MUST_USE uint32_t bitm_rank(const struct bitm_index *index, bool one, size_t at, uint64_t *out);
+/* The lengths of the tables for the given number of words: one entry for each upper block (2^26 words) and one for each
+ * lower block (32 words), the last of which may be shorter. */
+size_t bitm_index_upper_len(size_t words_len);
+size_t bitm_index_lower_len(size_t words_len);
 
-/* The place of the one, or zero, with exactly rank such bits before it. BITM_NONE if there is none, BITM_WRONG if the
- * tables turn out not to be those of the words. Reads at most D + 1 upper entries, where D is the number of binary
- * digits of how many there are, 23 lower entries and eight words; with samples 28 lower entries, and 51 if these are not
- * those of the words. */
-BITM_MUST_USE uint32_t bitm_select(const struct bitm_index *index, bool one, size_t rank, uint64_t *out);
+/* The greatest number of samples of one kind that the given number of words can have: words_len / 2^(log2 - 6), rounded
+ * up. */
+size_t bitm_index_samples_len(size_t words_len, uint32_t log2);
 
-/* out[i] answers queries[i] as the call of one query does, or is BITM_NO_ANSWER for BITM_NONE and BITM_WRONG_TABLES
- * for BITM_WRONG. Selections are searched for side by side, so in tables that are not those of the words a list may
- * find another place with the bit than the call of one query, or none where that finds one. Returns BITM_OK, or
- * BITM_BAD_SIZE (also if out_len is not queries_len), and then writes nothing. out may not overlap the queries. */
-BITM_MUST_USE uint32_t bitm_rank_list(const struct bitm_index *index, bool one, const uint64_t *queries,
-                                      size_t queries_len, uint64_t *out, size_t out_len);
-BITM_MUST_USE uint32_t bitm_select_list(const struct bitm_index *index, bool one, const uint64_t *queries,
-                                        size_t queries_len, uint64_t *out, size_t out_len);
+/* A log2 for samples of `items` bits of one kind among bits_len, such that samples take about the same share of the
+ * memory however many items there are: 7 to most, where most (below 7 it counts as 7, above 31 as 31) is for items and
+ * others in equal number, or mostly items. */
+uint32_t bitm_optimal_log2(uint64_t items, uint64_t bits_len, uint32_t most);
 
-/* How many ones, and the places of the ones or zeros from place from on, as bitm_count and bitm_ones: the tables are
- * not read, so the answers are right whatever these hold. BITM_OK or BITM_BAD_SIZE. out and written may not overlap
- * each other, the index or its words. */
-BITM_MUST_USE uint32_t bitm_ones_in(const struct bitm_index *index, uint64_t *out);
-BITM_MUST_USE uint32_t bitm_places(const struct bitm_index *index, bool one, size_t from, uint64_t *out, size_t out_len,
-                                   uint64_t *written);
+/* Writes both tables of the words, and to ones the number of 1 bits of all the words. BITM_BAD_SIZE if words_len is
+ * 2^58 or more, or a table is not as long as the calls above say. No two of words, upper, lower and ones may overlap.
+ * Reads each word once. */
+BITM_MUST_USE uint32_t bitm_index_build(const uint64_t *words, size_t words_len, uint64_t *upper, size_t upper_len,
+                                        uint64_t *lower, size_t lower_len, uint64_t *ones);
 
-/* ---- bits and numbers in bits, with no tables */
+/* Whether the tables (not the samples) are those of the words: BITM_OK, BITM_WRONG or BITM_BAD_SIZE. Reads each word at
+ * most once. */
+BITM_MUST_USE uint32_t bitm_index_check(const struct bitm_index *index);
 
-/* How many ones. BITM_BAD_SIZE if words_len is 2^58 or more. Reads each word once. */
-BITM_MUST_USE uint32_t bitm_count(const uint64_t *words, size_t words_len, uint64_t *out);
+/* Writes the samples of the 1 bits, or 0 bits, of all the words, for each upper block the number of samples before it,
+ * and to used how many samples there are; items past these stay as they were. If the tables are those of the words, so
+ * are the samples; else they are arbitrary numbers. BITM_BAD_SIZE also if samples_len is less than
+ * bitm_index_samples_len says or starts_len is not upper_len. samples, starts and used may not overlap one another, nor
+ * what the struct points to. Reads both tables once, up to two lower entries again for each sample, and at most eight
+ * words. */
+BITM_MUST_USE uint32_t bitm_index_build_samples(const struct bitm_index *index, bool one, uint32_t log2,
+                                                uint32_t *samples, size_t samples_len, uint64_t *starts,
+                                                size_t starts_len, uint64_t *used);
 
-/* Writes the places of the ones from place from on, in increasing order, as many as out has room for, and to written
- * how many these are; the rest of out stays as it was. BITM_BAD_SIZE if words_len is 2^58 or more. out and written may
- * not overlap each other or the words. */
-BITM_MUST_USE uint32_t bitm_ones(const uint64_t *words, size_t words_len, size_t from, uint64_t *out, size_t out_len,
-                                 uint64_t *written);
+/* Whether index->ones, or index->zeros, are the samples that bitm_index_build_samples writes, where the tables are
+ * those of the words: BITM_OK or BITM_WRONG; over other tables either of these. BITM_BAD_SIZE as for all. */
+BITM_MUST_USE uint32_t bitm_index_check_samples(const struct bitm_index *index, bool one);
 
-/* Bit index, as 0 or 1. BITM_NONE if there is none. Where a bit, bits or a fragment are set, every other bit stays as
- * it was; but their words are read and written whole, so other threads may not use them meanwhile. */
-BITM_MUST_USE uint32_t bitm_get_bit(const uint64_t *words, size_t words_len, size_t index, uint64_t *out);
-BITM_MUST_USE uint32_t bitm_set_bit(uint64_t *words, size_t words_len, size_t index, bool value);
+/* How many 1 bits, or 0 bits, there are before a position; position bits_len asks for all. At most position. BITM_NONE
+ * exactly if position is above bits_len; BITM_WRONG if the tables turn out not to be those of the words. Reads at most
+ * one upper entry, one lower entry and eight words. */
+BITM_MUST_USE uint32_t bitm_index_rank(const struct bitm_index *index, bool one, uint64_t position, uint64_t *out);
 
-/* Makes the bits from place bit on zeros, and leaves those before it. bit may be any number: there is nothing to do if
- * there are not so many bits. Writes each word from that place on once. */
-void bitm_clear_from(uint64_t *words, size_t words_len, size_t bit);
+/* The position of the 1 bit, or 0 bit, with the given rank. BITM_NONE if there is none; BITM_WRONG if the tables turn
+ * out not to be those of the words. Reads at most D + 1 upper entries, where D is the number of binary digits of
+ * upper_len, 23 lower entries and eight words; with samples 28 lower entries, and 51 if these are not those of the
+ * words. */
+BITM_MUST_USE uint32_t bitm_index_select(const struct bitm_index *index, bool one, uint64_t rank, uint64_t *out);
 
-/* The number that the len bits from begin on spell, lowest first; 0 to 64 bits. BITM_NONE if begin is no place, begin
- * + len is past the end, or len is above 64. Bits of value from len on are ignored. */
-BITM_MUST_USE uint32_t bitm_get_bits(const uint64_t *words, size_t words_len, size_t begin, uint32_t len,
-                                     uint64_t *out);
-BITM_MUST_USE uint32_t bitm_set_bits(uint64_t *words, size_t words_len, size_t begin, uint32_t len, uint64_t value);
+/* out[i] answers query i as the call of one query does, or is BITM_NO_ANSWER for BITM_NONE and BITM_WRONG_TABLES for
+ * BITM_WRONG; counts says how many of each there are. Selections are searched side by side, so over tables that are not
+ * those of the words a list may find another position of the kind than the call of one query, or none where that finds
+ * one. BITM_BAD_SIZE also if out_len is not the number of queries. out and counts may overlap neither each other nor
+ * the queries. */
+BITM_MUST_USE uint32_t bitm_index_rank_list(const struct bitm_index *index, bool one, const uint64_t *positions,
+                                            size_t positions_len, uint64_t *out, size_t out_len,
+                                            struct bitm_list_counts *counts);
+BITM_MUST_USE uint32_t bitm_index_select_list(const struct bitm_index *index, bool one, const uint64_t *ranks,
+                                              size_t ranks_len, uint64_t *out, size_t out_len,
+                                              struct bitm_list_counts *counts);
 
-/* The same for the width bits from index * width on: fragment index of an array of numbers of width bits. */
-BITM_MUST_USE uint32_t bitm_get_fragment(const uint64_t *words, size_t words_len, size_t index, uint32_t width,
-                                         uint64_t *out);
-BITM_MUST_USE uint32_t bitm_set_fragment(uint64_t *words, size_t words_len, size_t index, uint32_t width,
-                                         uint64_t value);
+/* bitm_bits_count and bitm_bits_positions of the words and bits_len: the tables are not read, so these answers are
+ * right whatever they hold. */
+BITM_MUST_USE uint32_t bitm_index_count(const struct bitm_index *index, bool one, uint64_t *out);
+BITM_MUST_USE uint32_t bitm_index_positions(const struct bitm_index *index, bool one, uint64_t from, uint64_t *out,
+                                            size_t out_len, uint64_t *written);
 
-/* ---- ranges of bits and whole contents, with no tables: one pass over their words */
-
-/* How many of the bits from bit from on and before bit to are ones. BITM_NONE if from is above to or to is past the
- * end, BITM_BAD_SIZE if words_len is 2^58 or more. */
-BITM_MUST_USE uint32_t bitm_count_range(const uint64_t *words, size_t words_len, size_t from, size_t to,
-                                        uint64_t *out);
-
-/* The place of the first one, or zero, at place from or after it; of the last one, or zero, at place from or before
- * it. BITM_NONE if there is none, or the last is sought and from is no place; BITM_BAD_SIZE if words_len is 2^58 or
- * more. */
-BITM_MUST_USE uint32_t bitm_next_one(const uint64_t *words, size_t words_len, size_t from, uint64_t *out);
-BITM_MUST_USE uint32_t bitm_next_zero(const uint64_t *words, size_t words_len, size_t from, uint64_t *out);
-BITM_MUST_USE uint32_t bitm_previous_one(const uint64_t *words, size_t words_len, size_t from, uint64_t *out);
-BITM_MUST_USE uint32_t bitm_previous_zero(const uint64_t *words, size_t words_len, size_t from, uint64_t *out);
-
-/* Makes the bits from bit from on and before bit to equal to value, or negates them, and leaves the others; BITM_NONE
- * as bitm_count_range. Words are read and written whole, as where a bit is set. */
-BITM_MUST_USE uint32_t bitm_fill_range(uint64_t *words, size_t words_len, size_t from, size_t to, bool value);
-BITM_MUST_USE uint32_t bitm_flip_range(uint64_t *words, size_t words_len, size_t from, size_t to);
-
-/* Combines each bit of words with the bit of other at the same place: and, or, exclusive or, and with the negation of
- * other's. BITM_BAD_SIZE if the lengths differ. */
-BITM_MUST_USE uint32_t bitm_and(uint64_t *words, size_t words_len, const uint64_t *other, size_t other_len);
-BITM_MUST_USE uint32_t bitm_or(uint64_t *words, size_t words_len, const uint64_t *other, size_t other_len);
-BITM_MUST_USE uint32_t bitm_xor(uint64_t *words, size_t words_len, const uint64_t *other, size_t other_len);
-BITM_MUST_USE uint32_t bitm_and_not(uint64_t *words, size_t words_len, const uint64_t *other, size_t other_len);
+/* The position of the first 1 bit, or 0 bit, at or after position from; of the last one at or before it, where from may
+ * be past the end. BITM_NONE if there is none; BITM_WRONG if the tables turn out not to be those of the words. Any
+ * position returned is on that side of from, whatever the tables hold. By the tables, however far it lies: reads what a
+ * rank and a selection read. */
+BITM_MUST_USE uint32_t bitm_index_next(const struct bitm_index *index, bool one, uint64_t from, uint64_t *out);
+BITM_MUST_USE uint32_t bitm_index_previous(const struct bitm_index *index, bool one, uint64_t from, uint64_t *out);
 
 /* ---- monotone integer sequences (Elias-Fano) */
 
-/* The parts of a sequence of len numbers, as pointers and numbers of items: width low bits of each number in low, the
- * rest as ones in words, and the two tables of these words. The duties are those of a bitm_view. Calls that take one
- * return BITM_BAD_SIZE if len is 2^56 or more, width is above 63, low does not have as many words as len * width bits
- * take, or words and tables do not fit together as in a bitm_view. */
-struct bitm_sequence_view {
+/* The parts of a sequence of len numbers: the width low bits of each number in low, the high bits as 1 bits in words,
+ * and the two tables of these words. Calls that take one return BITM_BAD_SIZE if len is 2^56 or more, width is above
+ * 63, low does not have as many words as len * width bits take, words_len is 2^58 or more, or a table is not as long as
+ * bitm_index_upper_len and bitm_index_lower_len say. */
+struct bitm_sequence {
     size_t len;
     uint64_t width;
     const uint64_t *low;
@@ -289,6 +370,7 @@ struct bitm_sequence_view {
     size_t upper_len;
     const uint64_t *lower;
     size_t lower_len;
+    uint64_t reserved[2]; /* 0: not given */
 };
 
 /* How many low bits each number has, and how many items each part. */
@@ -300,121 +382,136 @@ struct bitm_sequence_lens {
     uint64_t lower_len;
 };
 
-/* The sizes for len numbers, of which the last, and so the largest, is largest (0 if there are none). BITM_BAD_SIZE
+/* The lengths for len numbers, of which the last, and so the largest, is largest (0 if there are none). BITM_BAD_SIZE
  * if len is 2^56 or more, or len is 0 and largest is not. low and words together have at most len * (width + 3) + 126
  * bits. */
 BITM_MUST_USE uint32_t bitm_sequence_sizes(size_t len, uint64_t largest, struct bitm_sequence_lens *out);
 
-/* Writes the parts of a sequence of the items, and width. Returns BITM_OK; BITM_BAD_SIZE if a length is not what
- * bitm_sequence_sizes says for items_len and the last item; else BITM_UNSORTED if an item is less than the one before
- * it; then writes nothing. None of the parts, nor width, may overlap another or the items. Passes three times over the
- * items and once over the words; what was in the parts' memory is not read. */
+/* Writes the parts of a sequence of the items, and width. BITM_BAD_SIZE if a length is not what bitm_sequence_sizes
+ * says for items_len and the last item; else BITM_UNSORTED if an item is less than the one before it. None of the
+ * parts, nor width, may overlap another or the items. Passes three times over the items and once over the words. */
 BITM_MUST_USE uint32_t bitm_sequence_build(const uint64_t *items, size_t items_len, uint64_t *low, size_t low_len,
                                            uint64_t *words, size_t words_len, uint64_t *upper, size_t upper_len,
                                            uint64_t *lower, size_t lower_len, uint64_t *width);
 
 /* Whether the parts are those of some sequence, as bitm_sequence_build writes them: BITM_OK, BITM_WRONG or
  * BITM_BAD_SIZE. Passes twice over the words, and reads at most one fragment of low for each number. */
-BITM_MUST_USE uint32_t bitm_sequence_check(const struct bitm_sequence_view *view);
+BITM_MUST_USE uint32_t bitm_sequence_check(const struct bitm_sequence *sequence);
 
-/* Number index, counted from 0. BITM_NONE exactly if index is len or more, whatever the parts hold; BITM_WRONG if the
- * parts turn out not to be those of a sequence. Reads what a selection reads, and at most one fragment of low. */
-BITM_MUST_USE uint32_t bitm_sequence_get(const struct bitm_sequence_view *view, size_t index, uint64_t *out);
+/* The number at an index, counted from 0. BITM_NONE exactly if index is len or more; BITM_WRONG if the parts turn out
+ * not to be those of a sequence. Reads what a selection reads, and at most one fragment of low. */
+BITM_MUST_USE uint32_t bitm_sequence_get(const struct bitm_sequence *sequence, uint64_t index, uint64_t *out);
 
-/* The successor: the least place whose number is at least value. BITM_NONE if every number is less, BITM_WRONG if the
- * parts turn out not to be those of a sequence; any place returned is below len, whatever the parts hold. Reads what
- * two selections read, and at most one fragment of low for each binary digit of how many numbers share the upper bits
- * of value, in parts of no sequence for each of len.
- *
- * Whatever the parts hold, BITM_OK and BITM_NONE report what the parts tell; take len as the place for BITM_NONE. Let h
- * be value >> width. The upper words tell that first numbers have upper bits below h (0 if h is 0), and end numbers
- * upper bits of at most h. The place is one from first to end: the low bits just before it, if it is above first, are
- * less than those of value; the low bits at it, if it is below end, are not. If width is 0, the place is first. Upper
- * words tell that c numbers have upper bits of at most z by a zero bit at place z + c (modulo 2^64), or, if c is len,
- * by counting at most z zeros together with the tables, as for BITM_NONE of bitm_select of zeros. */
-BITM_MUST_USE uint32_t bitm_sequence_first_at_least(const struct bitm_sequence_view *view, uint64_t value,
+/* Successor: the least index whose number is at least value, and so how many numbers are less. BITM_NONE if every
+ * number is less; BITM_WRONG if the parts turn out not to be those of a sequence. Any index returned is below len,
+ * whatever the parts hold. Reads what two selections read, and one fragment of low for each binary digit of how many
+ * numbers share the high bits of value; over parts of no sequence for each digit of len. */
+BITM_MUST_USE uint32_t bitm_sequence_first_at_least(const struct bitm_sequence *sequence, uint64_t value,
                                                     uint64_t *out);
 
-/* The predecessor: the greatest place whose number is at most value. BITM_NONE if every number is more, BITM_WRONG if
- * the parts turn out not to be those of a sequence; any place returned is below len, whatever the parts hold. Reads
- * what bitm_sequence_first_at_least reads for value + 1, and nothing if value is 2^64 - 1.
- *
- * Whatever the parts hold, BITM_NONE means that they tell, as for bitm_sequence_first_at_least, that the numbers less
- * than value + 1 end at place 0; if value is 2^64 - 1, that len is 0. */
-BITM_MUST_USE uint32_t bitm_sequence_last_at_most(const struct bitm_sequence_view *view, uint64_t value,
-                                                  uint64_t *out);
+/* Predecessor: the greatest index whose number is at most value. BITM_NONE if every number is more; BITM_WRONG if the
+ * parts turn out not to be those of a sequence. Any index returned is below len, whatever the parts hold. Reads what
+ * bitm_sequence_first_at_least reads for value + 1, and nothing if value is 2^64 - 1. */
+BITM_MUST_USE uint32_t bitm_sequence_last_at_most(const struct bitm_sequence *sequence, uint64_t value, uint64_t *out);
 
 /* Whether value is one of the numbers, as 0 or 1. BITM_WRONG if the parts turn out not to be those of a sequence. Reads
- * what bitm_sequence_first_at_least reads, and where that finds a place what bitm_sequence_get reads. Whatever the
- * parts hold, with BITM_OK they tell where the numbers less than value end, and if that is at len, the answer is 0. */
-BITM_MUST_USE uint32_t bitm_sequence_contains(const struct bitm_sequence_view *view, uint64_t value, uint64_t *out);
+ * what bitm_sequence_first_at_least reads, and where that finds an index what bitm_sequence_get reads. */
+BITM_MUST_USE uint32_t bitm_sequence_contains(const struct bitm_sequence *sequence, uint64_t value, uint64_t *out);
 
-/* Writes the numbers from place from on, in order, as many as there are and out has room for, and to written how many
- * these are; the rest of out stays as it was. If the parts are not those of a sequence, the numbers are arbitrary, and
- * only then may there be fewer than both out_len and len - from. Returns BITM_OK, or BITM_BAD_SIZE, and then writes
- * nothing. out and written may not overlap each other or the parts. One selection, a pass over words from there on, and
- * at most one fragment of low for each number. */
-BITM_MUST_USE uint32_t bitm_sequence_items(const struct bitm_sequence_view *view, size_t from, uint64_t *out,
+/* Writes the numbers from index from on, in order, until out is full or there are no more, and to written how many; the
+ * rest of out stays as it was. If the parts are not those of a sequence, the numbers are arbitrary, and only then may
+ * there be fewer than both out_len and len - from. out and written may not overlap each other or the parts. Reads what
+ * a selection reads, passes over the words from there on, and reads at most one fragment of low for each number. */
+BITM_MUST_USE uint32_t bitm_sequence_items(const struct bitm_sequence *sequence, uint64_t from, uint64_t *out,
                                            size_t out_len, uint64_t *written);
 
-/* out[i] answers queries[i] as bitm_sequence_first_at_least does, or is BITM_NO_ANSWER for BITM_NONE and
- * BITM_WRONG_TABLES for BITM_WRONG. Zeros are selected side by side, so if the parts are not those of a sequence, it
- * may be another place than bitm_sequence_first_at_least answers. Returns BITM_OK, or BITM_BAD_SIZE (also if out_len is
- * not queries_len), and then writes nothing. out may not overlap the queries. */
-BITM_MUST_USE uint32_t bitm_sequence_first_at_least_list(const struct bitm_sequence_view *view, const uint64_t *queries,
-                                                         size_t queries_len, uint64_t *out, size_t out_len);
+/* The numbers at a list of indexes, as bitm_sequence_get answers them, up to the first for which it does not return
+ * BITM_OK; written is how many these are, and the rest of out stays as it was. BITM_BAD_SIZE also if out_len is not
+ * indexes_len. 1 bits are selected side by side, so if the parts are not those of a sequence, a number may differ from
+ * that of bitm_sequence_get. out and written may not overlap each other, the indexes or the parts. */
+BITM_MUST_USE uint32_t bitm_sequence_get_list(const struct bitm_sequence *sequence, const uint64_t *indexes,
+                                              size_t indexes_len, uint64_t *out, size_t out_len, uint64_t *written);
 
-/* The numbers at a list of places, as bitm_sequence_get answers them, up to the first place for which it does not
- * return BITM_OK; written is how many these are, and the rest of out stays as it was. Ones are selected side by side,
- * so if the parts are not those of a sequence, a number may differ from that of bitm_sequence_get. Returns BITM_OK, or
- * BITM_BAD_SIZE (also if out_len is not queries_len), and then writes nothing. out and written may not overlap the
- * queries. */
-BITM_MUST_USE uint32_t bitm_sequence_get_list(const struct bitm_sequence_view *view, const uint64_t *queries,
-                                              size_t queries_len, uint64_t *out, size_t out_len, uint64_t *written);
+/* out[i] answers values[i] as the call of one value does, or is BITM_NO_ANSWER for BITM_NONE and BITM_WRONG_TABLES for
+ * BITM_WRONG; counts says how many of each there are. Over parts that are not those of a sequence it may be another
+ * answer than the call of one value gives. BITM_BAD_SIZE also if out_len is not values_len. out and counts may
+ * overlap neither each other nor the values. */
+BITM_MUST_USE uint32_t bitm_sequence_first_at_least_list(const struct bitm_sequence *sequence, const uint64_t *values,
+                                                         size_t values_len, uint64_t *out, size_t out_len,
+                                                         struct bitm_list_counts *counts);
+BITM_MUST_USE uint32_t bitm_sequence_last_at_most_list(const struct bitm_sequence *sequence, const uint64_t *values,
+                                                       size_t values_len, uint64_t *out, size_t out_len,
+                                                       struct bitm_list_counts *counts);
+BITM_MUST_USE uint32_t bitm_sequence_contains_list(const struct bitm_sequence *sequence, const uint64_t *values,
+                                                   size_t values_len, uint64_t *out, size_t out_len,
+                                                   struct bitm_list_counts *counts);
 
 /* ---- minimal perfect hashes
  *
- * Each of n keys gets a number of its own below n, in some three bits a key; no key is kept. You hash each key to 64
- * bits. Levels are made one after another, each for the hashes that are left, and their words stand one behind another
+ * Each of n keys gets a number of its own below n, in about three bits a key; no key is kept. You hash each key to 64
+ * bits. Levels are built one after another, each for the hashes that are left, and their words stand one after another
  * under one index:
  *
- *     uint64_t left = n, begin = 0, levels = 0, sizes[256];
- *     for (; left > 0 && levels < 256; levels++) {
- *         sizes[levels] = left / 64 + 1; // takes least memory; left / 32 + 1 less time
- *         if (bitm_hash_level(hashes, left, levels, words + begin, sizes[levels], again, sizes[levels], &left)) ..
- *         begin += sizes[levels];
- *     } // where some are left, keys are equal, or their hashes are
- *     if (bitm_build(words, begin, ..)) ..
- *     if (bitm_hash_get(&view, sizes, levels, n, hash, &number) == BITM_OK) .. */
+ *     uint64_t levels, used, left, ones;
+ *     if (bitm_hash_build(hashes, n, 100, words, words_len, again, again_len, sizes, 256, &levels, &used, &left)) ..
+ *     if (left > 0) .. (keys are equal, or their hashes are, or words_len is too small)
+ *     if (bitm_index_build(words, used, upper, m, lower, k, &ones)) ..
+ *     struct bitm_hash hash = {.index = {..}, .sizes = sizes, .sizes_len = levels, .keys = n};
+ *     if (bitm_hash_get(&hash, key_hash, &number) == BITM_OK) .. */
+struct bitm_hash {
+    struct bitm_index index; /* of the words of all levels; bits_len is 64 * words_len */
+    const uint64_t *sizes;   /* the words of each level */
+    size_t sizes_len;
+    size_t keys;
+};
 
-/* Makes the words of a level: their ones are the bits that exactly one of the hashes falls on. The hashes that fall on
- * no one go to the front, in their order, and left is how many they are; what stands behind them and in again means
- * nothing then. BITM_OK, or BITM_BAD_SIZE if ones_len is 0 or 2^58 or more, or again_len is not ones_len. Two passes
- * over the hashes. */
-BITM_MUST_USE uint32_t bitm_hash_level(uint64_t *hashes, size_t hashes_len, uint32_t level, uint64_t *ones,
-                                       size_t ones_len, uint64_t *again, size_t again_len, uint64_t *left);
+/* The words of a level for the given number of hashes: `percent` bits for each 100 of them (below 50 it counts as 50),
+ * at least one word: left * percent / 6400 + 1. 100 takes least memory, 200 less time. */
+size_t bitm_hash_level_len(size_t left, uint32_t percent);
+
+/* Writes the words of a level: its 1 bits are the bits that exactly one of the hashes falls on. The hashes that fall on
+ * no 1 bit go to the front, in their order, and left is how many they are; what lies after them and in again means
+ * nothing then. BITM_BAD_SIZE if words_len is 0 or 2^58 or more, or again_len is not words_len. Two passes over the
+ * hashes. */
+BITM_MUST_USE uint32_t bitm_hash_level(uint64_t *hashes, size_t hashes_len, uint32_t level, uint64_t *words,
+                                       size_t words_len, uint64_t *again, size_t again_len, uint64_t *left);
+
+/* Writes the words of all levels one after another, of bitm_hash_level_len words each, to sizes how many words each
+ * has, to levels how many levels there are and to used_words how many words. It ends where no hash is left, or where
+ * words, again or sizes have no room for one more level; left is how many hashes have no number: 0 unless hashes are
+ * equal or there was no room. hashes are moved; what lies in again, and in words and sizes past the levels, means
+ * nothing then. BITM_BAD_SIZE if words_len is 2^58 or more. No two of the memory may overlap. */
+BITM_MUST_USE uint32_t bitm_hash_build(uint64_t *hashes, size_t hashes_len, uint32_t percent, uint64_t *words,
+                                       size_t words_len, uint64_t *again, size_t again_len, uint64_t *sizes,
+                                       size_t sizes_len, uint64_t *levels, uint64_t *used_words, uint64_t *left);
 
 /* The number of a hash: BITM_OK with a number below keys, WHATEVER tables and sizes hold; BITM_NONE where it falls on
- * no one of a level; BITM_WRONG where tables or sizes are not those of the words, or there are more numbers than keys;
- * BITM_BAD_SIZE also if sizes_len is over 256. Over right tables, of levels of these sizes with no more ones than keys,
- * it is the number of the hash, and BITM_WRONG is not returned. A hash that was none of those may get any number below
- * keys. At most one word a level, and what bitm_rank reads. */
-BITM_MUST_USE uint32_t bitm_hash_get(const struct bitm_view *view, const uint64_t *sizes, size_t sizes_len, size_t keys,
-                                     uint64_t hash, uint64_t *out);
+ * no 1 bit of a level; BITM_WRONG where tables or sizes are not those of the words, or there are more numbers than
+ * keys; BITM_BAD_SIZE as for an index, or if sizes_len is above 256. Over right tables, and levels of these sizes with
+ * no more 1 bits than keys, it is the number of the hash, and BITM_WRONG is not returned. A hash of no key may get any
+ * number below keys. Reads at most one word a level, and what a rank reads. */
+BITM_MUST_USE uint32_t bitm_hash_get(const struct bitm_hash *hash, uint64_t key_hash, uint64_t *out);
+
+/* out[i] is the number of key_hashes[i], or BITM_NO_ANSWER for BITM_NONE and BITM_WRONG_TABLES for BITM_WRONG; counts
+ * says how many of each there are. BITM_BAD_SIZE also if out_len is not key_hashes_len. out and counts may overlap
+ * neither each other nor the hashes. */
+BITM_MUST_USE uint32_t bitm_hash_get_list(const struct bitm_hash *hash, const uint64_t *key_hashes,
+                                          size_t key_hashes_len, uint64_t *out, size_t out_len,
+                                          struct bitm_list_counts *counts);
 
 /* ---- stored
  *
  * A file is a header of 192 bytes and the parts that it names, in this order, each from a multiple of 64 bytes on:
- * words, upper and lower table, low bits of a sequence, starts and samples. The lengths determine all of it; a part's
- * offset follows from the parts before it. So map a file of size bytes, copy the header to its front, and build each
- * part in its place; once samples are built, write the header again with as many as there are, samples of ones first,
- * and cut the file.
+ * words, upper and lower table, low bits of a sequence, starts and samples. The lengths determine all of it. So map a
+ * file of size bytes, copy the header to its front, and build each part in its place; once samples are built, write the
+ * header again with their number, samples of 1 bits first, and cut the file.
  *
  *     struct bitm_stored s;
- *     if (bitm_read_stored(file, bytes / 8, &s) != BITM_OK || s.kind != BITM_STORED_INDEX) ..
- *     struct bitm_view view = bitm_stored_view(file, &s);
+ *     if (bitm_stored_read(file, bytes / 8, &s) != BITM_OK || s.kind != BITM_STORED_INDEX) ..
+ *     struct bitm_index index = bitm_stored_index_of(file, &s);
  *
- * A header does not vouch for the contents of the parts: bitm_check, bitm_check_samples and bitm_sequence_check do. */
+ * A header says nothing of the contents of the parts: bitm_index_check, bitm_index_check_samples and
+ * bitm_sequence_check do. */
 #define BITM_STORED_INDEX 1
 #define BITM_STORED_SEQUENCE 2
 
@@ -436,114 +533,91 @@ struct bitm_stored {
     struct bitm_span upper;
     struct bitm_span lower;
     struct bitm_span low;
-    struct bitm_span starts; /* of the samples of ones */
-    struct bitm_span starts0; /* of the samples of zeros */
+    struct bitm_span starts;  /* of the samples of 1 bits */
+    struct bitm_span starts0; /* of the samples of 0 bits */
     struct bitm_span samples;
     struct bitm_span samples0;
     uint64_t checksum; /* of the numbers above */
 };
 
-/* Writes the header of an index of bits_len bits, with so many samples of ones and of zeros, each with a logarithm
- * of 7 to 31, or 0 and no samples. BITM_BAD_SIZE for other logarithms, more samples than bitm_samples_len says for
- * the words, or more than 2^64 - 64 bits. */
+/* Writes the header of an index of bits_len bits, with the given numbers of samples of 1 bits and of 0 bits, each with
+ * a log2 of 7 to 31, or 0 and no samples. BITM_BAD_SIZE for other log2, more samples than bitm_index_samples_len says
+ * for the words, or more than 2^64 - 64 bits. */
 BITM_MUST_USE uint32_t bitm_stored_index(uint64_t bits_len, uint32_t ones_log2, uint64_t ones_len, uint32_t zeros_log2,
                                          uint64_t zeros_len, struct bitm_stored *out);
 
-/* Writes the header of a sequence of len numbers. BITM_BAD_SIZE where no view of a sequence can have such lengths. */
+/* Writes the header of a sequence of len numbers. BITM_BAD_SIZE where no sequence can have such lengths. */
 BITM_MUST_USE uint32_t bitm_stored_sequence(uint64_t len, const struct bitm_sequence_lens *lens,
                                             struct bitm_stored *out);
 
-/* The header that file_len words begin with, as they stand in a file that was mapped or read. BITM_OK exactly if it
- * is one that the two calls above write on this machine, and the file has as many bytes as it says, or more: then
- * each part lies inside these, behind the one before it (proved). BITM_WRONG else. */
-BITM_MUST_USE uint32_t bitm_read_stored(const uint64_t *file, size_t file_len, struct bitm_stored *out);
+/* The header that file_len words begin with, as they stand in a file that was mapped or read. BITM_OK exactly if it is
+ * one that the two calls above write on this machine, and the file has at least as many bytes as it says: then each
+ * part lies inside these, after the one before it. BITM_WRONG else. */
+BITM_MUST_USE uint32_t bitm_stored_read(const uint64_t *file, size_t file_len, struct bitm_stored *out);
 
-
-/* The items of a span of the file. */
-static inline const void *bitm_stored_items(const uint64_t *file, struct bitm_span span)
+/* The items of a part of the file: to read them, and to build them in their place. Parts begin at whole words. */
+static inline const uint64_t *bitm_stored_items(const uint64_t *file, struct bitm_span part)
 {
-    return (const char *)file + span.at;
+    return file + part.at / 8;
+}
+static inline uint64_t *bitm_stored_room(uint64_t *file, struct bitm_span part)
+{
+    return file + part.at / 8;
 }
 
-/* The parts of a file, where bitm_read_stored returned BITM_OK: they lie inside it. */
-static inline struct bitm_view bitm_stored_view(const uint64_t *file, const struct bitm_stored *s)
+/* The parts of a file, where bitm_stored_read returned BITM_OK: they lie inside it. */
+static inline struct bitm_samples bitm_stored_samples_of(const uint64_t *file, struct bitm_span samples,
+                                                         struct bitm_span starts, uint64_t log2)
 {
-    struct bitm_view view;
-    view.words = (const uint64_t *)bitm_stored_items(file, s->words);
-    view.words_len = s->words.len;
-    view.upper = (const uint64_t *)bitm_stored_items(file, s->upper);
-    view.upper_len = s->upper.len;
-    view.lower = (const uint64_t *)bitm_stored_items(file, s->lower);
-    view.lower_len = s->lower.len;
-    return view;
+    struct bitm_samples some;
+    const void *const at = bitm_stored_items(file, samples);
+#ifdef __cplusplus
+    some.samples = static_cast<const uint32_t *>(at);
+#else
+    some.samples = at;
+#endif
+    some.samples_len = samples.len;
+    some.starts = bitm_stored_items(file, starts);
+    some.starts_len = starts.len;
+    some.log2 = log2 & UINT32_MAX;
+    some.reserved = 0;
+    return some;
 }
 
-static inline struct bitm_samples bitm_stored_samples(const uint64_t *file, const struct bitm_stored *s)
-{
-    struct bitm_samples samples;
-    samples.samples = (const uint32_t *)bitm_stored_items(file, s->samples);
-    samples.samples_len = s->samples.len;
-    samples.starts = (const uint64_t *)bitm_stored_items(file, s->starts);
-    samples.starts_len = s->starts.len;
-    samples.log2 = (uint32_t)s->ones_log2;
-    return samples;
-}
-
-static inline struct bitm_samples bitm_stored_samples0(const uint64_t *file, const struct bitm_stored *s)
-{
-    struct bitm_samples samples;
-    samples.samples = (const uint32_t *)bitm_stored_items(file, s->samples0);
-    samples.samples_len = s->samples0.len;
-    samples.starts = (const uint64_t *)bitm_stored_items(file, s->starts0);
-    samples.starts_len = s->starts0.len;
-    samples.log2 = (uint32_t)s->zeros_log2;
-    return samples;
-}
-
-/* All of a stored index, as it is asked. */
 static inline struct bitm_index bitm_stored_index_of(const uint64_t *file, const struct bitm_stored *s)
 {
     struct bitm_index index;
-    index.view = bitm_stored_view(file, s);
+    index.words = bitm_stored_items(file, s->words);
+    index.words_len = s->words.len;
+    index.upper = bitm_stored_items(file, s->upper);
+    index.upper_len = s->upper.len;
+    index.lower = bitm_stored_items(file, s->lower);
+    index.lower_len = s->lower.len;
     index.bits_len = s->len;
-    index.ones = bitm_stored_samples(file, s);
-    index.zeros = bitm_stored_samples0(file, s);
+    index.ones = bitm_stored_samples_of(file, s->samples, s->starts, s->ones_log2);
+    index.zeros = bitm_stored_samples_of(file, s->samples0, s->starts0, s->zeros_log2);
+    index.reserved[0] = 0;
+    index.reserved[1] = 0;
     return index;
 }
 
-static inline struct bitm_sequence_view bitm_stored_sequence_view(const uint64_t *file, const struct bitm_stored *s)
+static inline struct bitm_sequence bitm_stored_sequence_of(const uint64_t *file, const struct bitm_stored *s)
 {
-    struct bitm_sequence_view view;
-    view.len = s->len;
-    view.width = s->width;
-    view.low = (const uint64_t *)bitm_stored_items(file, s->low);
-    view.low_len = s->low.len;
-    view.words = (const uint64_t *)bitm_stored_items(file, s->words);
-    view.words_len = s->words.len;
-    view.upper = (const uint64_t *)bitm_stored_items(file, s->upper);
-    view.upper_len = s->upper.len;
-    view.lower = (const uint64_t *)bitm_stored_items(file, s->lower);
-    view.lower_len = s->lower.len;
-    return view;
+    struct bitm_sequence sequence;
+    sequence.len = s->len;
+    sequence.width = s->width;
+    sequence.low = bitm_stored_items(file, s->low);
+    sequence.low_len = s->low.len;
+    sequence.words = bitm_stored_items(file, s->words);
+    sequence.words_len = s->words.len;
+    sequence.upper = bitm_stored_items(file, s->upper);
+    sequence.upper_len = s->upper.len;
+    sequence.lower = bitm_stored_items(file, s->lower);
+    sequence.lower_len = s->lower.len;
+    sequence.reserved[0] = 0;
+    sequence.reserved[1] = 0;
+    return sequence;
 }
-
-/* ---- a header for files, version 1 */
-
-/* 32 bytes that may precede stored words, upper table and lower table: they say what follows, in which version, and
- * in which byte order. */
-struct bitm_header {
-    uint64_t mark;
-    uint64_t words_len;
-    uint64_t upper_len;
-    uint64_t lower_len;
-};
-
-/* Writes the header for so many words. BITM_BAD_SIZE if words_len is 2^58 or more. */
-BITM_MUST_USE uint32_t bitm_write_header(size_t words_len, struct bitm_header *out);
-
-/* The number of words that the header announces. BITM_WRONG exactly if it is not what bitm_write_header writes on
- * this machine for any number of words: another format, version or byte order, or lengths that do not fit together. */
-BITM_MUST_USE uint32_t bitm_read_header(const struct bitm_header *header, uint64_t *words_len);
 
 #ifdef __cplusplus
 }

@@ -1,5 +1,5 @@
-/* Builds an index into a mapped file, maps the file again read-only, asks, and compares every answer with a plain
- * loop. Then asks with spoilt tables and samples, wrong lengths and no words. Each block has the exact size, so that
+/* Builds an index into a mapped file, maps the file again read-only, queries it, and compares every answer with a plain
+ * loop. Then queries with spoilt tables and samples, wrong lengths and no words. Each block has the exact size, so that
  * the sanitizers see a read or write of one number too far. */
 #define _GNU_SOURCE
 #include "common.h"
@@ -12,79 +12,110 @@
 #include <unistd.h>
 
 /* Every rank and every selection, one by one. Answers the number of ones. */
-static uint64_t single_queries(const struct bitm_view *view)
+static uint64_t single_queries(const struct bitm_index *view)
 {
     uint64_t got, ones = 0, zeros = 0, bits = (uint64_t)view->words_len * 64;
     for (uint64_t i = 0; i < bits; i++) {
-        MUST(bitm_rank(view, i, &got) == BITM_OK && got == ones);
-        MUST(bitm_rank0(view, i, &got) == BITM_OK && got == zeros);
+        MUST(bitm_index_rank(view, true, i, &got) == BITM_OK && got == ones);
+        MUST(bitm_index_rank(view, false, i, &got) == BITM_OK && got == zeros);
         if (bit_of(view->words, i)) {
-            MUST(bitm_select(view, ones++, &got) == BITM_OK && got == i);
+            MUST(bitm_index_select(view, true, ones++, &got) == BITM_OK && got == i);
         } else {
-            MUST(bitm_select0(view, zeros++, &got) == BITM_OK && got == i);
+            MUST(bitm_index_select(view, false, zeros++, &got) == BITM_OK && got == i);
         }
     }
-    MUST(bitm_rank(view, bits, &got) == BITM_OK && got == ones);
-    MUST(bitm_rank0(view, bits, &got) == BITM_OK && got == zeros);
+    MUST(bitm_index_rank(view, true, bits, &got) == BITM_OK && got == ones);
+    MUST(bitm_index_rank(view, false, bits, &got) == BITM_OK && got == zeros);
     got = UNTOUCHED;
-    MUST(bitm_rank(view, bits + 1, &got) == BITM_NONE && bitm_rank(view, SIZE_MAX, &got) == BITM_NONE);
-    MUST(bitm_select(view, ones, &got) == BITM_NONE && bitm_select(view, SIZE_MAX, &got) == BITM_NONE);
-    MUST(bitm_select0(view, zeros, &got) == BITM_NONE && bitm_select0(view, SIZE_MAX, &got) == BITM_NONE);
+    MUST(bitm_index_rank(view, true, bits + 1, &got) == BITM_NONE &&
+         bitm_index_rank(view, true, SIZE_MAX, &got) == BITM_NONE);
+    MUST(bitm_index_select(view, true, ones, &got) == BITM_NONE &&
+         bitm_index_select(view, true, SIZE_MAX, &got) == BITM_NONE);
+    MUST(bitm_index_select(view, false, zeros, &got) == BITM_NONE &&
+         bitm_index_select(view, false, SIZE_MAX, &got) == BITM_NONE);
     MUST(got == UNTOUCHED);
     return ones;
 }
 
-typedef uint32_t one_call(const struct bitm_view *, size_t, uint64_t *);
-typedef uint32_t list_call(const struct bitm_view *, const uint64_t *, size_t, uint64_t *, size_t);
-
-/* A list of queries answers each as the call of one query does where the tables are right, and a list of ranks in any;
- * a list of selections in wrong tables finds bits of the kind that was asked. */
-static void list_of_queries(const struct bitm_view *view, one_call *one, list_call *list, int same, uint64_t kind)
+/* A list of queries answers each as the call of one query does where the tables are right, and a list of ranks over
+ * any; a list of selections over wrong tables finds bits of the kind. */
+static void list_of_queries(const struct bitm_index *view, bool select, bool one, bool same)
 {
     uint64_t queries[32], answers[32], bits = (uint64_t)view->words_len * 64;
     for (int i = 0; i < 32; i++)
         queries[i] = i == 0 ? UINT64_MAX : draw() % (bits + 2);
-    MUST(list(view, queries, 32, answers, 32) == BITM_OK);
+    MUST((select ? select_list : rank_list)(view, one, queries, 32, answers, 32) == BITM_OK);
     for (int i = 0; i < 32; i++) {
         uint64_t got = UNTOUCHED;
-        uint32_t status = one(view, queries[i], &got);
-        uint64_t told = status == BITM_OK ? got : status == BITM_NONE ? BITM_NO_ANSWER : BITM_WRONG_TABLES;
-        MUST(status != BITM_BAD_SIZE && (!same || answers[i] == told));
-        MUST(same || answers[i] >= BITM_WRONG_TABLES || (answers[i] < bits && bit_of(view->words, answers[i]) == kind));
+        uint32_t status = (select ? bitm_index_select : bitm_index_rank)(view, one, queries[i], &got);
+        uint64_t coded = status == BITM_OK ? got : status == BITM_NONE ? BITM_NO_ANSWER : BITM_WRONG_TABLES;
+        MUST(status != BITM_BAD_SIZE && (!same || answers[i] == coded));
+        MUST(same || answers[i] >= BITM_WRONG_TABLES || (answers[i] < bits && bit_of(view->words, answers[i]) == one));
     }
     answers[0] = UNTOUCHED;
-    MUST(list(view, queries, 32, answers, 31) == BITM_BAD_SIZE && answers[0] == UNTOUCHED);
-    MUST(list(view, NULL, 0, NULL, 0) == BITM_OK);
+    MUST((select ? select_list : rank_list)(view, one, queries, 32, answers, 31) == BITM_BAD_SIZE);
+    MUST(answers[0] == UNTOUCHED);
+    MUST((select ? select_list : rank_list)(view, one, NULL, 0, NULL, 0) == BITM_OK);
 }
 
-static void lists_of_queries(const struct bitm_view *view, int right)
+static void lists_of_queries(const struct bitm_index *view, bool right)
 {
-    list_of_queries(view, bitm_rank, bitm_rank_list, 1, 1);
-    list_of_queries(view, bitm_rank0, bitm_rank0_list, 1, 0);
-    list_of_queries(view, bitm_select, bitm_select_list, right, 1);
-    list_of_queries(view, bitm_select0, bitm_select0_list, right, 0);
+    list_of_queries(view, false, true, true);
+    list_of_queries(view, false, false, true);
+    list_of_queries(view, true, true, right);
+    list_of_queries(view, true, false, right);
 }
 
-/* The places of all ones, in one buffer and three at a time. */
-static void places_of_ones(const uint64_t *words, size_t words_len, uint64_t ones)
+/* The bits next to each position, by the tables, with and without samples, and next to positions past the end. */
+static void next_and_previous(const struct bitm_index *view)
 {
-    uint64_t *places = malloc(8 * (ones + 2)), few[3], written, at = 0, bits = (uint64_t)words_len * 64;
-    MUST(places);
-    places[ones] = UNTOUCHED;
-    MUST(bitm_ones(words, words_len, 0, places, ones + 1, &written) == BITM_OK && written == ones);
-    MUST(places[ones] == UNTOUCHED);
+    const uint64_t bits = view->bits_len;
+    for (int one = 0; one < 2; one++) {
+        uint64_t got, last = UINT64_MAX;
+        for (uint64_t i = 0; i < bits; i++) {
+            if (bit_of(view->words, i) == (uint64_t)one) {
+                for (uint64_t k = last + 1; k <= i && i - k < 70; k++)
+                    MUST(bitm_index_next(view, one, k, &got) == BITM_OK && got == i);
+                last = i;
+            }
+            const uint32_t status = bitm_index_previous(view, one, i, &got);
+            MUST(last == UINT64_MAX ? status == BITM_NONE : status == BITM_OK && got == last);
+        }
+        got = UNTOUCHED;
+        MUST(last + 1 >= bits || bitm_index_next(view, one, last + 1, &got) == BITM_NONE);
+        MUST(bitm_index_next(view, one, bits, &got) == BITM_NONE &&
+             bitm_index_next(view, one, UINT64_MAX, &got) == BITM_NONE);
+        MUST(got == UNTOUCHED);
+        for (int far = 0; far < 2; far++) {
+            const uint32_t status = bitm_index_previous(view, one, far ? UINT64_MAX : bits, &got);
+            MUST(last == UINT64_MAX ? status == BITM_NONE : status == BITM_OK && got == last);
+        }
+    }
+}
+
+/* The positions of all 1 bits, in one buffer and three at a time. */
+static void positions_of_ones(const uint64_t *words, size_t words_len, uint64_t ones)
+{
+    uint64_t *positions = malloc(8 * (ones + 2)), few[3], written, at = 0, bits = (uint64_t)words_len * 64;
+    MUST(positions);
+    positions[ones] = UNTOUCHED;
+    MUST(bitm_bits_positions(words, words_len, 64 * words_len, true, 0, positions, ones + 1, &written) == BITM_OK &&
+         written == ones);
+    MUST(positions[ones] == UNTOUCHED);
     for (uint64_t i = 0; i < bits; i++)
         if (bit_of(words, i)) {
-            MUST(places[at] == i);
+            MUST(positions[at] == i);
             if (at % 7 == 0) {
                 uint64_t want = ones - at < 3 ? ones - at : 3;
-                MUST(bitm_ones(words, words_len, i, few, 3, &written) == BITM_OK && written == want);
-                MUST(memcmp(few, places + at, 8 * want) == 0);
+                MUST(bitm_bits_positions(words, words_len, 64 * words_len, true, i, few, 3, &written) == BITM_OK &&
+                     written == want);
+                MUST(memcmp(few, positions + at, 8 * want) == 0);
             }
             at++;
         }
-    MUST(bitm_ones(words, words_len, SIZE_MAX, few, 3, &written) == BITM_OK && written == 0);
-    free(places);
+    MUST(bitm_bits_positions(words, words_len, 64 * words_len, true, SIZE_MAX, few, 3, &written) == BITM_OK &&
+         written == 0);
+    free(positions);
 }
 
 static uint64_t word_of_kind(int kind, size_t i)
@@ -98,40 +129,44 @@ static uint64_t word_of_kind(int kind, size_t i)
     }
 }
 
-/* A file: a header, the words, both tables. It is built through one mapping and asked through another, read-only one.
- * */
+/* A file: a header, the words, both tables. It is built through one mapping and queried through another, read-only
+ * one. */
 static void in_a_file(size_t words_len, int kind)
 {
-    size_t upper_len = bitm_upper_len(words_len), lower_len = bitm_lower_len(words_len);
-    size_t bytes = sizeof(struct bitm_header) + 8 * (words_len + upper_len + lower_len);
+    struct bitm_stored s, again;
+    MUST(bitm_stored_index(64 * words_len, 0, 0, 0, 0, &s) == BITM_OK && s.words.len == words_len);
     char name[] = "bitm-XXXXXX";
     int file = mkstemp(name);
-    MUST(file >= 0 && unlink(name) == 0 && ftruncate(file, (off_t)bytes) == 0);
-    void *mapped = mmap(NULL, bytes, PROT_READ | PROT_WRITE, MAP_SHARED, file, 0);
-    MUST(mapped != MAP_FAILED && bitm_write_header(words_len, mapped) == BITM_OK);
-    uint64_t *words = (uint64_t *)mapped + 4, *upper = words + words_len, *lower = upper + upper_len, ones, got;
+    MUST(file >= 0 && unlink(name) == 0 && ftruncate(file, (off_t)s.size) == 0);
+    uint64_t *mapped = mmap(NULL, s.size, PROT_READ | PROT_WRITE, MAP_SHARED, file, 0);
+    MUST(mapped != MAP_FAILED);
+    memcpy(mapped, &s, sizeof s);
+    uint64_t *words = bitm_stored_room(mapped, s.words), ones, got;
     for (size_t i = 0; i < words_len; i++)
         words[i] = word_of_kind(kind, i);
-    MUST(bitm_build(words, words_len, upper, upper_len, lower, lower_len, &ones) == BITM_OK);
-    MUST(munmap(mapped, bytes) == 0);
+    MUST(bitm_index_build(words, words_len, bitm_stored_room(mapped, s.upper), s.upper.len,
+                          bitm_stored_room(mapped, s.lower), s.lower.len, &ones) == BITM_OK);
+    MUST(munmap(mapped, s.size) == 0);
 
-    const uint64_t *read = mmap(NULL, bytes, PROT_READ, MAP_SHARED, file, 0);
+    const uint64_t *read = mmap(NULL, s.size, PROT_READ, MAP_SHARED, file, 0);
     MUST(read != MAP_FAILED && close(file) == 0);
-    MUST(bitm_read_header((const struct bitm_header *)(const void *)read, &got) == BITM_OK && got == words_len);
-    const uint64_t *from = read + 4;
-    struct bitm_view view = {from, words_len, from + words_len, upper_len, from + words_len + upper_len, lower_len};
-    MUST(bitm_check(&view) == BITM_OK && single_queries(&view) == ones);
-    MUST(bitm_count(from, words_len, &got) == BITM_OK && got == ones);
-    lists_of_queries(&view, 1);
+    MUST(bitm_stored_read(read, s.size / 8, &again) == BITM_OK && memcmp(&again, &s, sizeof s) == 0);
+    const struct bitm_index view = bitm_stored_index_of(read, &again);
+    MUST(bitm_index_check(&view) == BITM_OK && single_queries(&view) == ones);
+    MUST(bitm_bits_count(view.words, words_len, 64 * words_len, true, &got) == BITM_OK && got == ones);
+    MUST(bitm_bits_count(view.words, words_len, 64 * words_len, false, &got) == BITM_OK &&
+         got == 64 * words_len - ones);
+    lists_of_queries(&view, true);
+    next_and_previous(&view);
     sampled_queries(&view, 7);
     sampled_queries(&view, 12);
-    places_of_ones(from, words_len, ones);
-    MUST(munmap((void *)(uintptr_t)read, bytes) == 0);
+    positions_of_ones(view.words, words_len, ones);
+    MUST(munmap((void *)(uintptr_t)read, s.size) == 0);
 }
 
-/* Any tables: a rank is at most its index, or the tables are called wrong, exactly where there are so many bits, and a
- * place that is found has the bit. Answers how often tables were called wrong. */
-static unsigned any_tables(const struct bitm_view *view, unsigned queries)
+/* Any tables: a rank is at most its index, or the tables are called wrong, exactly where there are that many bits, and
+ * a position that is found has the bit. Answers how often tables were called wrong. */
+static unsigned any_tables(const struct bitm_index *view, unsigned queries)
 {
     uint64_t bits = (uint64_t)view->words_len * 64;
     unsigned wrong = 0;
@@ -139,17 +174,25 @@ static unsigned any_tables(const struct bitm_view *view, unsigned queries)
         uint64_t query = i == 0 ? UINT64_MAX : i == 1 ? bits - 1 : draw() % (bits + 3), got = UNTOUCHED;
         for (uint64_t kind = 0; kind < 2; kind++) {
             got = UNTOUCHED;
-            uint32_t status = (kind ? bitm_rank : bitm_rank0)(view, query, &got);
+            uint32_t status = bitm_index_rank(view, kind, query, &got);
             wrong += status == BITM_WRONG;
             MUST(query <= bits ? status == BITM_OK || status == BITM_WRONG : status == BITM_NONE);
             MUST(status == BITM_OK ? got <= query : got == UNTOUCHED);
         }
         for (uint64_t kind = 0; kind < 2; kind++) {
             got = UNTOUCHED;
-            uint32_t status = (kind ? bitm_select : bitm_select0)(view, query, &got);
+            uint32_t status = bitm_index_select(view, kind, query, &got);
             wrong += status == BITM_WRONG;
             MUST(status != BITM_BAD_SIZE && (status == BITM_OK || got == UNTOUCHED));
             MUST(status != BITM_OK || (got < bits && bit_of(view->words, got) == kind));
+            got = UNTOUCHED;
+            status = bitm_index_next(view, kind, query, &got);
+            MUST(status != BITM_BAD_SIZE && (status == BITM_OK || got == UNTOUCHED));
+            MUST(status != BITM_OK || (got >= query && got < bits && bit_of(view->words, got) == kind));
+            got = UNTOUCHED;
+            status = bitm_index_previous(view, kind, query, &got);
+            MUST(status != BITM_BAD_SIZE && (status == BITM_OK || got == UNTOUCHED));
+            MUST(status != BITM_OK || (got <= query && got < bits && bit_of(view->words, got) == kind));
         }
     }
     return wrong;
@@ -158,34 +201,34 @@ static unsigned any_tables(const struct bitm_view *view, unsigned queries)
 /* Each entry of both tables in turn set to 0, to all ones and to anything; then all entries at once. */
 static void spoilt_tables(size_t words_len)
 {
-    size_t upper_len = bitm_upper_len(words_len), lower_len = bitm_lower_len(words_len);
+    size_t upper_len = bitm_index_upper_len(words_len), lower_len = bitm_index_lower_len(words_len);
     uint64_t *words = malloc(8 * words_len), *upper = malloc(8 * upper_len), *lower = malloc(8 * lower_len), ones;
     MUST(words && upper && lower);
     for (size_t i = 0; i < words_len; i++)
         words[i] = draw();
-    MUST(bitm_build(words, words_len, upper, upper_len, lower, lower_len, &ones) == BITM_OK);
-    struct bitm_view view = {words, words_len, upper, upper_len, lower, lower_len};
+    MUST(bitm_index_build(words, words_len, upper, upper_len, lower, lower_len, &ones) == BITM_OK);
+    struct bitm_index view = index_over(words, words_len, upper, upper_len, lower, lower_len);
     size_t turns = 3 * (upper_len + lower_len);
     unsigned each = (unsigned)(10000 / turns) + 1, wrong = 0;
     for (size_t turn = 0; turn < turns; turn++) {
         uint64_t *entry = turn / 3 < upper_len ? upper + turn / 3 : lower + (turn / 3 - upper_len), kept = *entry;
         *entry = turn % 3 == 0 ? 0 : turn % 3 == 1 ? UINT64_MAX : draw();
-        MUST(bitm_check(&view) == (*entry == kept ? BITM_OK : BITM_WRONG));
+        MUST(bitm_index_check(&view) == (*entry == kept ? BITM_OK : BITM_WRONG));
         wrong += any_tables(&view, each);
         *entry = kept;
     }
     words[words_len / 2] ^= 1;
-    MUST(bitm_check(&view) == BITM_WRONG);
+    MUST(bitm_index_check(&view) == BITM_WRONG);
     any_tables(&view, 1000);
     words[words_len / 2] ^= 1;
-    MUST(bitm_check(&view) == BITM_OK && any_tables(&view, 1000) == 0);
+    MUST(bitm_index_check(&view) == BITM_OK && any_tables(&view, 1000) == 0);
     for (int turn = 0; turn < 10; turn++) {
         for (size_t i = 0; i < lower_len; i++)
             lower[i] = turn == 0 ? 0 : turn == 1 ? UINT64_MAX : draw();
         for (size_t i = 0; i < upper_len; i++)
             upper[i] = turn % 2 ? draw() : 0;
         wrong += any_tables(&view, 1000);
-        lists_of_queries(&view, 0);
+        lists_of_queries(&view, false);
     }
     MUST(wrong > 0);
     free(words);
@@ -198,89 +241,84 @@ static void wrong_lengths(void)
 {
     uint64_t words[33] = {1}, got = UNTOUCHED;
     uint64_t upper[2] = {UNTOUCHED, UNTOUCHED}, lower[3] = {UNTOUCHED, UNTOUCHED, UNTOUCHED};
-    MUST(bitm_build(words, 33, upper, 1, lower, 1, &got) == BITM_BAD_SIZE);
-    MUST(bitm_build(words, 33, upper, 2, lower, 2, &got) == BITM_BAD_SIZE);
-    MUST(bitm_build(words, 33, upper, 1, lower, 3, &got) == BITM_BAD_SIZE);
-    MUST(bitm_build(words, (size_t)1 << 60, upper, 1, lower, 2, &got) == BITM_BAD_SIZE);
+    MUST(bitm_index_build(words, 33, upper, 1, lower, 1, &got) == BITM_BAD_SIZE);
+    MUST(bitm_index_build(words, 33, upper, 2, lower, 2, &got) == BITM_BAD_SIZE);
+    MUST(bitm_index_build(words, 33, upper, 1, lower, 3, &got) == BITM_BAD_SIZE);
+    MUST(bitm_index_build(words, (size_t)1 << 60, upper, 1, lower, 2, &got) == BITM_BAD_SIZE);
     MUST(got == UNTOUCHED && upper[0] == UNTOUCHED && lower[0] == UNTOUCHED && lower[2] == UNTOUCHED);
-    MUST(bitm_build(words, 33, upper, 1, lower, 2, &got) == BITM_OK && got == 1);
+    MUST(bitm_index_build(words, 33, upper, 1, lower, 2, &got) == BITM_OK && got == 1);
     got = UNTOUCHED;
-    struct bitm_view bad[] = {
-        {words, 33, upper, 1, lower, 1}, {words, 33, upper, 0, lower, 2}, {words, 32, upper, 1, lower, 2},
-        {words, 0, upper, 1, lower, 2}, {words, (size_t)1 << 60, upper, 1, lower, 2}, {NULL, 0, NULL, 0, lower, 1},
+    struct bitm_index bad[] = {
+        index_over(words, 33, upper, 1, lower, 1), index_over(words, 33, upper, 0, lower, 2),
+        index_over(words, 32, upper, 1, lower, 2), index_over(words, 0, upper, 1, lower, 2),
+        index_over(words, (size_t)1 << 60, upper, 1, lower, 2), index_over(NULL, 0, NULL, 0, lower, 1),
+        cut_at(index_over(words, 33, upper, 1, lower, 2), 64 * 33 + 1),
     };
     for (size_t i = 0; i < sizeof bad / sizeof *bad; i++) {
-        MUST(bitm_check(&bad[i]) == BITM_BAD_SIZE && bitm_rank(&bad[i], 0, &got) == BITM_BAD_SIZE);
-        MUST(bitm_rank0(&bad[i], 0, &got) == BITM_BAD_SIZE && bitm_select(&bad[i], 0, &got) == BITM_BAD_SIZE);
-        MUST(bitm_select0(&bad[i], 0, &got) == BITM_BAD_SIZE);
-        MUST(bitm_rank_list(&bad[i], words, 1, &got, 1) == BITM_BAD_SIZE);
-        MUST(bitm_select0_list(&bad[i], words, 1, &got, 1) == BITM_BAD_SIZE && got == UNTOUCHED);
+        MUST(bitm_index_check(&bad[i]) == BITM_BAD_SIZE && bitm_index_rank(&bad[i], true, 0, &got) == BITM_BAD_SIZE);
+        MUST(bitm_index_rank(&bad[i], false, 0, &got) == BITM_BAD_SIZE &&
+             bitm_index_select(&bad[i], true, 0, &got) == BITM_BAD_SIZE);
+        MUST(bitm_index_select(&bad[i], false, 0, &got) == BITM_BAD_SIZE);
+        MUST(rank_list(&bad[i], true, words, 1, &got, 1) == BITM_BAD_SIZE);
+        MUST(select_list(&bad[i], false, words, 1, &got, 1) == BITM_BAD_SIZE && got == UNTOUCHED);
     }
-    MUST(bitm_count(words, (size_t)1 << 60, &got) == BITM_BAD_SIZE && got == UNTOUCHED);
-    MUST(bitm_ones(words, (size_t)1 << 60, 0, upper, 1, &got) == BITM_BAD_SIZE && got == UNTOUCHED);
+    MUST(bitm_bits_count(words, (size_t)1 << 60, 64 * ((size_t)1 << 60), true, &got) == BITM_BAD_SIZE &&
+         got == UNTOUCHED);
+    MUST(bitm_bits_positions(words, (size_t)1 << 60, 64 * ((size_t)1 << 60), true, 0, upper, 1, &got) ==
+             BITM_BAD_SIZE &&
+         got == UNTOUCHED);
 }
 
 static void no_words(void)
 {
     uint64_t got = UNTOUCHED;
-    struct bitm_view none = {NULL, 0, NULL, 0, NULL, 0};
-    MUST(bitm_build(NULL, 0, NULL, 0, NULL, 0, &got) == BITM_OK && got == 0);
-    MUST(bitm_check(&none) == BITM_OK && bitm_rank(&none, 0, &got) == BITM_OK && got == 0);
+    struct bitm_index none = index_over(NULL, 0, NULL, 0, NULL, 0);
+    MUST(bitm_index_build(NULL, 0, NULL, 0, NULL, 0, &got) == BITM_OK && got == 0);
+    MUST(bitm_index_check(&none) == BITM_OK && bitm_index_rank(&none, true, 0, &got) == BITM_OK && got == 0);
     got = UNTOUCHED;
-    MUST(bitm_rank(&none, 1, &got) == BITM_NONE && bitm_select(&none, 0, &got) == BITM_NONE && got == UNTOUCHED);
+    MUST(bitm_index_rank(&none, true, 1, &got) == BITM_NONE && bitm_index_select(&none, true, 0, &got) == BITM_NONE &&
+         got == UNTOUCHED);
 }
 
-/* Bits and fragments, with numbers worked out by hand. */
+/* Bits and fragments, with numbers computed by hand. */
 static void bits_and_fragments(void)
 {
     uint64_t words[3] = {0, 0, 0}, got;
-    MUST(bitm_set_bit(words, 3, 100, true) == BITM_OK && words[1] == (uint64_t)1 << 36);
-    MUST(bitm_get_bit(words, 3, 100, &got) == BITM_OK && got == 1);
-    MUST(bitm_get_bit(words, 3, 99, &got) == BITM_OK && got == 0 && bitm_get_bit(words, 3, 192, &got) == BITM_NONE);
-    MUST(bitm_set_bit(words, 3, 192, true) == BITM_NONE);
-    MUST(bitm_set_bit(words, 3, 100, false) == BITM_OK && words[1] == 0);
-    MUST(bitm_set_bits(words, 3, 60, 10, 0x3FF) == BITM_OK && words[0] == (uint64_t)0xF << 60 && words[1] == 0x3F);
-    MUST(bitm_get_bits(words, 3, 59, 12, &got) == BITM_OK && got == 0x7FE);
-    MUST(bitm_get_bits(words, 3, 181, 12, &got) == BITM_NONE);
-    MUST(bitm_get_bits(words, 3, SIZE_MAX, 60, &got) == BITM_NONE);
-    MUST(bitm_get_bits(words, 3, 0, 65, &got) == BITM_NONE && bitm_set_bits(words, 3, 0, 65, 0) == BITM_NONE);
-    MUST(bitm_get_bits(words, 3, 0, UINT32_MAX, &got) == BITM_NONE);
-    MUST(bitm_get_bits(words, 3, 6, 64, &got) == BITM_OK && got == ((uint64_t)0x3FF << 54));
-    MUST(bitm_set_bits(words, 3, 6, 64, 0x123456789ABCDEF0) == BITM_OK && words[0] == 0x8D159E26AF37BC00);
-    MUST(words[1] == 4 && bitm_get_bits(words, 3, 6, 64, &got) == BITM_OK && got == 0x123456789ABCDEF0);
-    MUST(bitm_get_bits(words, 3, 129, 64, &got) == BITM_NONE && bitm_set_bits(words, 3, 129, 64, 0) == BITM_NONE);
-    MUST(bitm_set_bits(words, 3, 128, 63, UINT64_MAX) == BITM_OK && words[2] == UINT64_MAX >> 1);
+    MUST(bitm_bits_set(words, 3, 64 * 3, 100, true) == BITM_OK && words[1] == (uint64_t)1 << 36);
+    MUST(bitm_bits_get(words, 3, 64 * 3, 100, &got) == BITM_OK && got == 1);
+    MUST(bitm_bits_get(words, 3, 64 * 3, 99, &got) == BITM_OK && got == 0 &&
+         bitm_bits_get(words, 3, 64 * 3, 192, &got) == BITM_NONE);
+    MUST(bitm_bits_set(words, 3, 64 * 3, 192, true) == BITM_NONE);
+    MUST(bitm_bits_set(words, 3, 64 * 3, 100, false) == BITM_OK && words[1] == 0);
+    MUST(bitm_bits_set_number(words, 3, 64 * 3, 60, 10, 0x3FF) == BITM_OK && words[0] == (uint64_t)0xF << 60 &&
+         words[1] == 0x3F);
+    MUST(bitm_bits_get_number(words, 3, 64 * 3, 59, 12, &got) == BITM_OK && got == 0x7FE);
+    MUST(bitm_bits_get_number(words, 3, 64 * 3, 181, 12, &got) == BITM_NONE);
+    MUST(bitm_bits_get_number(words, 3, 64 * 3, SIZE_MAX, 60, &got) == BITM_NONE);
+    MUST(bitm_bits_get_number(words, 3, 64 * 3, 0, 65, &got) == BITM_NONE &&
+         bitm_bits_set_number(words, 3, 64 * 3, 0, 65, 0) == BITM_NONE);
+    MUST(bitm_bits_get_number(words, 3, 64 * 3, 0, UINT32_MAX, &got) == BITM_NONE);
+    MUST(bitm_bits_get_number(words, 3, 64 * 3, 6, 64, &got) == BITM_OK && got == ((uint64_t)0x3FF << 54));
+    MUST(bitm_bits_set_number(words, 3, 64 * 3, 6, 64, 0x123456789ABCDEF0) == BITM_OK &&
+         words[0] == 0x8D159E26AF37BC00);
+    MUST(words[1] == 4 && bitm_bits_get_number(words, 3, 64 * 3, 6, 64, &got) == BITM_OK && got == 0x123456789ABCDEF0);
+    MUST(bitm_bits_get_number(words, 3, 64 * 3, 129, 64, &got) == BITM_NONE &&
+         bitm_bits_set_number(words, 3, 64 * 3, 129, 64, 0) == BITM_NONE);
+    MUST(bitm_bits_set_number(words, 3, 64 * 3, 128, 63, UINT64_MAX) == BITM_OK && words[2] == UINT64_MAX >> 1);
     for (size_t i = 0; i < 14; i++) /* numbers of 13 bits, of which 14 fit in 192 */
-        MUST(bitm_set_fragment(words, 3, i, 13, i * 500) == BITM_OK);
+        MUST(bitm_bits_set_fragment(words, 3, 64 * 3, i, 13, i * 500) == BITM_OK);
     for (size_t i = 0; i < 14; i++)
-        MUST(bitm_get_fragment(words, 3, i, 13, &got) == BITM_OK && got == i * 500 && got < 1 << 13);
-    MUST(bitm_get_fragment(words, 3, 14, 13, &got) == BITM_NONE && bitm_set_fragment(words, 3, 14, 13, 0) == BITM_NONE);
-    MUST(bitm_get_fragment(words, 3, SIZE_MAX, 63, &got) == BITM_NONE);
-    MUST(bitm_set_fragment(words, 3, SIZE_MAX, 63, 0) == BITM_NONE);
-    MUST(bitm_set_fragment(words, 3, 1, 64, 77) == BITM_OK && words[1] == 77);
-    MUST(bitm_get_fragment(words, 3, 1, 64, &got) == BITM_OK && got == 77);
-    MUST(bitm_get_fragment(words, 3, 3, 64, &got) == BITM_NONE && bitm_set_fragment(words, 3, 3, 64, 0) == BITM_NONE);
-    MUST(bitm_set_fragment(words, 3, 1, 65, 0) == BITM_NONE && bitm_set_fragment(words, 3, 0, 257, 0) == BITM_NONE);
-}
-
-/* A header says what it was written for, and no other number of words. */
-static void headers(void)
-{
-    struct bitm_header header = {1, 2, 3, 4}, other;
-    uint64_t got = UNTOUCHED;
-    MUST(bitm_write_header((size_t)1 << 58, &header) == BITM_BAD_SIZE && header.mark == 1 && header.lower_len == 4);
-    MUST(bitm_write_header(((size_t)1 << 26) + 1, &header) == BITM_OK);
-    MUST(memcmp(&header.mark, "bitmtab\1", 8) == 0 && header.words_len == ((uint64_t)1 << 26) + 1);
-    MUST(header.upper_len == 2 && header.lower_len == ((uint64_t)1 << 21) + 1);
-    other = header, other.mark = __builtin_bswap64(header.mark); /* of a machine with the other order of bytes */
-    MUST(bitm_read_header(&other, &got) == BITM_WRONG);
-    other = header, other.words_len += 64;
-    MUST(bitm_read_header(&other, &got) == BITM_WRONG);
-    other = header, other.words_len = (uint64_t)1 << 60;
-    MUST(bitm_read_header(&other, &got) == BITM_WRONG);
-    other = header, other.upper_len = 1;
-    MUST(bitm_read_header(&other, &got) == BITM_WRONG && got == UNTOUCHED);
-    MUST(bitm_read_header(&header, &got) == BITM_OK && got == header.words_len);
+        MUST(bitm_bits_get_fragment(words, 3, 64 * 3, i, 13, &got) == BITM_OK && got == i * 500 && got < 1 << 13);
+    MUST(bitm_bits_get_fragment(words, 3, 64 * 3, 14, 13, &got) == BITM_NONE &&
+         bitm_bits_set_fragment(words, 3, 64 * 3, 14, 13, 0) == BITM_NONE);
+    MUST(bitm_bits_get_fragment(words, 3, 64 * 3, SIZE_MAX, 63, &got) == BITM_NONE);
+    MUST(bitm_bits_set_fragment(words, 3, 64 * 3, SIZE_MAX, 63, 0) == BITM_NONE);
+    MUST(bitm_bits_set_fragment(words, 3, 64 * 3, 1, 64, 77) == BITM_OK && words[1] == 77);
+    MUST(bitm_bits_get_fragment(words, 3, 64 * 3, 1, 64, &got) == BITM_OK && got == 77);
+    MUST(bitm_bits_get_fragment(words, 3, 64 * 3, 3, 64, &got) == BITM_NONE &&
+         bitm_bits_set_fragment(words, 3, 64 * 3, 3, 64, 0) == BITM_NONE);
+    MUST(bitm_bits_set_fragment(words, 3, 64 * 3, 1, 65, 0) == BITM_NONE &&
+         bitm_bits_set_fragment(words, 3, 64 * 3, 0, 257, 0) == BITM_NONE);
 }
 
 int main(int argc, char **argv)
@@ -302,7 +340,6 @@ int main(int argc, char **argv)
     no_words();
     bits_and_fragments();
     ranges();
-    headers();
     puts("C host: all answers as the plain loop's, and none of spoilt tables and samples outside");
     return 0;
 }

@@ -6,19 +6,21 @@
 
 int main(void)
 {
-    const uint64_t words[40] = {[1] = (uint64_t)1 << 36, [39] = 1}; /* the ones at places 100 and 2496 */
-    size_t upper_len = bitm_upper_len(40), lower_len = bitm_lower_len(40);
-    uint64_t *upper = malloc(8 * upper_len), *lower = malloc(8 * lower_len), ones, rank, place;
+    const uint64_t words[40] = {[1] = (uint64_t)1 << 36, [39] = 1}; /* 1 bits at positions 100 and 2496 */
+    size_t upper_len = bitm_index_upper_len(40), lower_len = bitm_index_lower_len(40);
+    uint64_t *upper = malloc(8 * upper_len), *lower = malloc(8 * lower_len), ones, rank, position;
     if (!upper || !lower)
         return 1;
-    if (bitm_build(words, 40, upper, upper_len, lower, lower_len, &ones) != BITM_OK)
+    if (bitm_index_build(words, 40, upper, upper_len, lower, lower_len, &ones) != BITM_OK)
         return 1;
-    struct bitm_index index = {.view = {words, 40, upper, upper_len, lower, lower_len}, .bits_len = 64 * 40};
-    if (bitm_rank(&index, true, 101, &rank) != BITM_OK || bitm_select(&index, true, 1, &place) != BITM_OK)
+    struct bitm_index index = {.words = words, .words_len = 40, .upper = upper, .upper_len = upper_len,
+                               .lower = lower, .lower_len = lower_len, .bits_len = 64 * 40};
+    if (bitm_index_rank(&index, true, 101, &rank) != BITM_OK ||
+        bitm_index_select(&index, true, 1, &position) != BITM_OK)
         return 1;
-    printf("%llu ones, %llu of them among the first 101 bits, the second one at %llu\n", (unsigned long long)ones,
-           (unsigned long long)rank, (unsigned long long)place);
+    printf("%llu bits are 1, %llu of them before position 101, the second at %llu\n", (unsigned long long)ones,
+           (unsigned long long)rank, (unsigned long long)position);
     free(upper);
     free(lower);
-    return ones == 2 && rank == 1 && place == 2496 ? 0 : 1;
+    return ones == 2 && rank == 1 && position == 2496 ? 0 : 1;
 }

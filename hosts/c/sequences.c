@@ -1,11 +1,11 @@
-/* Builds monotone integer sequences, asks them, and compares every answer with the numbers. Then asks with
+/* Builds monotone integer sequences, queries them, and compares every answer with the numbers. Then queries with
  * wrong lengths and with each part spoilt. Each block has the exact size, so that the sanitizers see a read or write of
  * one number too far. */
 #include "common.h"
 
 #include <string.h>
 
-/* A number for each place of blocks of the exact size. */
+/* A block of the exact size. */
 static uint64_t *block_of(uint64_t count)
 {
     uint64_t *block = malloc(count ? 8 * count : 1);
@@ -16,7 +16,7 @@ static uint64_t *block_of(uint64_t count)
 }
 
 /* The last number at most a value, and whether it is one: of each number and of what is beside it. */
-static void around_values(const struct bitm_sequence_view *view, const uint64_t *items)
+static void around_values(const struct bitm_sequence *view, const uint64_t *items)
 {
     for (size_t i = 0; i <= view->len; i++)
         for (int beside = 0; beside < 3; beside++) {
@@ -27,11 +27,33 @@ static void around_values(const struct bitm_sequence_view *view, const uint64_t 
             MUST(count ? status == BITM_OK && got == count - 1 : status == BITM_NONE);
             MUST(bitm_sequence_contains(view, value, &got) == BITM_OK);
             MUST(got == (count && items[count - 1] == value));
+            uint64_t listed;
+            MUST(value_list(bitm_sequence_last_at_most_list, view, &value, 1, &listed, 1) == BITM_OK);
+            MUST(listed == (count ? count - 1 : BITM_NO_ANSWER));
+            MUST(value_list(bitm_sequence_contains_list, view, &value, 1, &listed, 1) == BITM_OK && listed == got);
         }
 }
 
-/* The numbers from each place on, as many as all, three and none. */
-static void in_order(const struct bitm_sequence_view *view, const uint64_t *items, uint64_t *out)
+/* Lists of values answer each as the call of one value does. */
+static void lists_of_values(const struct bitm_sequence *view, const uint64_t *items)
+{
+    uint64_t values[40], firsts[40], lasts[40], there[40], got;
+    for (int i = 0; i < 40; i++)
+        values[i] = view->len && i % 2 ? items[draw() % view->len] + draw() % 3 - 1 : draw() >> draw() % 64;
+    MUST(first_at_least_list(view, values, 40, firsts, 40) == BITM_OK);
+    MUST(value_list(bitm_sequence_last_at_most_list, view, values, 40, lasts, 40) == BITM_OK);
+    MUST(value_list(bitm_sequence_contains_list, view, values, 40, there, 40) == BITM_OK);
+    for (int i = 0; i < 40; i++) {
+        const uint32_t first = bitm_sequence_first_at_least(view, values[i], &got);
+        MUST(first == BITM_OK ? firsts[i] == got : first == BITM_NONE && firsts[i] == BITM_NO_ANSWER);
+        const uint32_t last = bitm_sequence_last_at_most(view, values[i], &got);
+        MUST(last == BITM_OK ? lasts[i] == got : last == BITM_NONE && lasts[i] == BITM_NO_ANSWER);
+        MUST(bitm_sequence_contains(view, values[i], &got) == BITM_OK && there[i] == got);
+    }
+}
+
+/* The numbers from each index on: all, three and none. */
+static void in_order(const struct bitm_sequence *view, const uint64_t *items, uint64_t *out)
 {
     uint64_t written;
     for (size_t from = 0; from <= view->len + 1; from++) {
@@ -47,12 +69,12 @@ static void in_order(const struct bitm_sequence_view *view, const uint64_t *item
     for (size_t i = 0; i <= view->len; i++) out[i] = UNTOUCHED;
 }
 
-/* Each number by its place, and each value beside a number, against the numbers themselves. */
-static void ask_sequence(const struct bitm_sequence_view *view, const uint64_t *items)
+/* Each number by its index, and each value beside a number, against the numbers themselves. */
+static void query_sequence(const struct bitm_sequence *view, const uint64_t *items)
 {
-    uint64_t got, written, *places = block_of(view->len + 1), *out = block_of(view->len + 1);
+    uint64_t got, written, *indexes = block_of(view->len + 1), *out = block_of(view->len + 1);
     for (size_t i = 0; i <= view->len; i++)
-        places[i] = i;
+        indexes[i] = i;
     for (size_t i = 0; i < view->len; i++) {
         MUST(bitm_sequence_get(view, i, &got) == BITM_OK && got == items[i]);
         size_t first = i;
@@ -63,6 +85,7 @@ static void ask_sequence(const struct bitm_sequence_view *view, const uint64_t *
         MUST(bitm_sequence_first_at_least(view, before, &got) == BITM_OK && got == first);
     }
     around_values(view, items);
+    lists_of_values(view, items);
     in_order(view, items, out);
     got = UNTOUCHED;
     MUST(bitm_sequence_get(view, view->len, &got) == BITM_NONE && bitm_sequence_get(view, SIZE_MAX, &got) == BITM_NONE);
@@ -71,35 +94,39 @@ static void ask_sequence(const struct bitm_sequence_view *view, const uint64_t *
         MUST(bitm_sequence_first_at_least(view, above, &got) == BITM_NONE);
         MUST(bitm_sequence_first_at_least(view, UINT64_MAX, &got) == BITM_NONE && got == UNTOUCHED);
     }
-    MUST(bitm_sequence_get_list(view, places, view->len + 1, out, view->len + 1, &written) == BITM_OK);
+    MUST(bitm_sequence_get_list(view, indexes, view->len + 1, out, view->len + 1, &written) == BITM_OK);
     MUST(written == view->len && out[view->len] == UNTOUCHED && memcmp(out, items, 8 * view->len) == 0);
-    MUST(bitm_sequence_get_list(view, places, view->len + 1, out, view->len, &written) == BITM_BAD_SIZE);
-    free(places);
+    MUST(bitm_sequence_get_list(view, indexes, view->len + 1, out, view->len, &written) == BITM_BAD_SIZE);
+    free(indexes);
     free(out);
 }
 
-/* Any parts: a number exactly where there is one or the parts are called wrong, and a place that is one. */
-static unsigned any_parts(const struct bitm_sequence_view *view, unsigned queries)
+/* Any parts: a number exactly where there is one or the parts are called wrong, and an index that is inside. */
+static unsigned any_parts(const struct bitm_sequence *view, unsigned queries)
 {
     unsigned wrong = 0;
     for (unsigned i = 0; i < queries; i++) {
-        uint64_t place = draw() % (view->len + 2), value = draw() >> draw() % 64, got = UNTOUCHED, written = UNTOUCHED;
-        uint32_t status = bitm_sequence_get(view, place, &got);
-        MUST(place < view->len ? status == BITM_OK || status == BITM_WRONG : status == BITM_NONE);
+        uint64_t index = draw() % (view->len + 2), value = draw() >> draw() % 64, got = UNTOUCHED, written = UNTOUCHED;
+        uint32_t status = bitm_sequence_get(view, index, &got);
+        MUST(index < view->len ? status == BITM_OK || status == BITM_WRONG : status == BITM_NONE);
         MUST(status == BITM_OK || got == UNTOUCHED);
         wrong += status == BITM_WRONG;
         uint64_t one = UNTOUCHED;
-        MUST(bitm_sequence_get_list(view, &place, 1, &one, 1, &written) == BITM_OK && written <= (place < view->len));
+        MUST(bitm_sequence_get_list(view, &index, 1, &one, 1, &written) == BITM_OK && written <= (index < view->len));
         MUST(written == 1 || one == UNTOUCHED);
         got = UNTOUCHED;
         status = bitm_sequence_first_at_least(view, value, &got);
-        /* a list may find another place in parts of no sequence */
-        MUST(bitm_sequence_first_at_least_list(view, &value, 1, &one, 1) == BITM_OK);
+        /* a list may find another index in parts of no sequence */
+        MUST(first_at_least_list(view, &value, 1, &one, 1) == BITM_OK);
         MUST(one < view->len || one == BITM_NO_ANSWER || one == BITM_WRONG_TABLES);
-        uint64_t told = one;
-        MUST(bitm_sequence_first_at_least_list(view, &value, 1, &one, 0) == BITM_BAD_SIZE && one == told);
+        uint64_t kept = one;
+        MUST(first_at_least_list(view, &value, 1, &one, 0) == BITM_BAD_SIZE && one == kept);
         MUST(status == BITM_OK ? got < view->len : status != BITM_BAD_SIZE && got == UNTOUCHED);
         wrong += status == BITM_WRONG;
+        MUST(value_list(bitm_sequence_last_at_most_list, view, &value, 1, &one, 1) == BITM_OK);
+        MUST(one < view->len || one == BITM_NO_ANSWER || one == BITM_WRONG_TABLES);
+        MUST(value_list(bitm_sequence_contains_list, view, &value, 1, &one, 1) == BITM_OK);
+        MUST(one <= 1 || one == BITM_WRONG_TABLES);
         got = UNTOUCHED;
         status = bitm_sequence_last_at_most(view, value, &got);
         MUST(status == BITM_OK ? got < view->len : status != BITM_BAD_SIZE && got == UNTOUCHED);
@@ -107,9 +134,9 @@ static unsigned any_parts(const struct bitm_sequence_view *view, unsigned querie
         status = bitm_sequence_contains(view, value, &got);
         MUST(status == BITM_OK ? got <= 1 : status == BITM_WRONG && got == UNTOUCHED);
         wrong += status == BITM_WRONG;
-        uint64_t left = place < view->len ? view->len - place : 0;
+        uint64_t left = index < view->len ? view->len - index : 0;
         uint64_t some[4] = {UNTOUCHED, UNTOUCHED, UNTOUCHED, UNTOUCHED};
-        MUST(bitm_sequence_items(view, place, some, 3, &written) == BITM_OK && written <= 3 && written <= left);
+        MUST(bitm_sequence_items(view, index, some, 3, &written) == BITM_OK && written <= 3 && written <= left);
         for (uint64_t k = written; k < 4; k++) MUST(some[k] == UNTOUCHED);
         wrong += written < 3 && written < left;
     }
@@ -123,14 +150,14 @@ static int compare(const void *a, const void *b)
 }
 
 /* Each number of each part in turn set to 0, to all ones and to anything; then all at once. */
-static unsigned spoilt_parts(const struct bitm_sequence_view *view, uint64_t *const parts[4], const uint64_t lens[4])
+static unsigned spoilt_parts(const struct bitm_sequence *view, uint64_t *const parts[4], const uint64_t lens[4])
 {
     unsigned wrong = 0;
     for (int part = 0; part < 4; part++)
         for (uint64_t turn = 0; turn < 3 * lens[part]; turn++) {
             uint64_t *entry = parts[part] + turn / 3, kept = *entry;
             *entry = turn % 3 == 0 ? 0 : turn % 3 == 1 ? UINT64_MAX : draw();
-            /* Other low digits or words may be those of other numbers; their tables have no other value. */
+            /* Other low bits or words may be those of other numbers; their tables have no other value. */
             uint32_t status = bitm_sequence_check(view);
             MUST(*entry == kept ? status == BITM_OK : part < 2 ? status != BITM_BAD_SIZE : status == BITM_WRONG);
             MUST(any_parts(view, 100) == 0 || status == BITM_WRONG);
@@ -145,9 +172,9 @@ static unsigned spoilt_parts(const struct bitm_sequence_view *view, uint64_t *co
 }
 
 /* Lengths that do not fit: the status, and nothing is written. */
-static void wrong_lengths(const struct bitm_sequence_view *view, const uint64_t *items)
+static void wrong_lengths(const struct bitm_sequence *view, const uint64_t *items)
 {
-    struct bitm_sequence_view bad[4] = {*view, *view, *view, *view};
+    struct bitm_sequence bad[4] = {*view, *view, *view, *view};
     bad[0].width = 64, bad[1].low_len++, bad[2].upper_len++, bad[3].len = (size_t)1 << 56;
     for (int i = 0; i < 4; i++) {
         uint64_t got = UNTOUCHED;
@@ -158,7 +185,7 @@ static void wrong_lengths(const struct bitm_sequence_view *view, const uint64_t 
     }
 }
 
-/* A sequence of len numbers of so many bits: built, asked, with wrong lengths, and spoilt part by part. Answers how
+/* A sequence of len numbers of that many bits: built, queried, with wrong lengths, and spoilt part by part. Answers how
  * often parts were called wrong. */
 static unsigned sequence_of(size_t len, int bits)
 {
@@ -178,9 +205,9 @@ static unsigned sequence_of(size_t len, int bits)
     MUST(width == UNTOUCHED && words[0] == UNTOUCHED && lower[0] == UNTOUCHED);
     MUST(bitm_sequence_build(items, len, low, of.low_len, words, of.words_len, upper, of.upper_len, lower, of.lower_len,
                              &width) == BITM_OK && width == of.width);
-    struct bitm_sequence_view view = {len, width, low, of.low_len, words, of.words_len, upper, of.upper_len, lower,
-                                      of.lower_len};
-    ask_sequence(&view, items);
+    struct bitm_sequence view = {len,   width,        low,   of.low_len,   words,  of.words_len,
+                                 upper, of.upper_len, lower, of.lower_len, {0, 0}};
+    query_sequence(&view, items);
     MUST(bitm_sequence_check(&view) == BITM_OK && any_parts(&view, 100) == 0);
     wrong_lengths(&view, items);
     uint64_t *const parts[] = {low, words, upper, lower};
@@ -201,7 +228,7 @@ static void sequences(void)
         for (size_t k = 0; k < sizeof bits / sizeof *bits; k++)
             wrong += sequence_of(lens[i], bits[k]);
     MUST(wrong > 0);
-    /* numbers worked out by hand: of each one low digit, and the rest as the place of a one */
+    /* numbers computed by hand: of each one low bit, and the high bits as the position of a 1 bit */
     const uint64_t primes[] = {2, 3, 5, 7, 11, 13, 24}, falling[] = {2, 3, 5, 7, 13, 11, 24};
     uint64_t low[1] = {UNTOUCHED}, words[1] = {UNTOUCHED}, upper[1] = {UNTOUCHED}, lower[1] = {UNTOUCHED};
     uint64_t width = UNTOUCHED;

@@ -1,167 +1,221 @@
 /* The statuses, call by call: which one each call returns where it cannot answer, and that all which it could have
- * written is then as it was. And reads and writes of bits, fragments and ends, against a loop over all bits. */
-#include "common.h"
+ * written is then as it was. And reads and writes of bits (writes.h). */
+#include "leaves.h"
+#include "writes.h"
 
-#include <string.h>
-
-enum { WORDS = 70, UPPERS = 1, LOWERS = 3, LIST = 5, ROOM = 40 };
-
-/* What the calls below may write: each is filled before a call, and looked at after it. */
-static struct {
-    uint64_t one, other, list[LIST], starts[LIST];
-    uint32_t samples[ROOM];
-    struct bitm_sequence_lens lens;
-    struct bitm_header header;
-    struct bitm_stored stored;
-} written, untouched;
-
-static uint64_t words[WORDS], upper[UPPERS], lower[LOWERS];
-static const uint64_t queries[LIST] = {0, 0, 0, 1, 2}, zeros[LIST] = {0, 0, 0, 0, 0};
-
-/* Whether a call returns this status and leaves everything as it was. */
-#define LEAVES(wanted, call)                                              \
-    do {                                                                  \
-        memset(&written, UNTOUCHED, sizeof written);                      \
-        MUST((call) == (wanted));                                         \
-        MUST(memcmp(&written, &untouched, sizeof written) == 0);          \
-        MUST(strcmp(bitm_status_text(wanted), bitm_status_text(99)) != 0); \
-    } while (0)
-
-/* Every call that takes a view, one by one. */
-static void refused_by_all(const struct bitm_view *view)
+/* Every call that takes an index, one by one. */
+static void refused_by_all(const struct bitm_index *view)
 {
-    const struct bitm_samples by = {NULL, 0, written.starts, 1, 7};
-    const struct bitm_bits_view bits = {*view, 0};
-    LEAVES(BITM_BAD_SIZE, bitm_check(view));
-    LEAVES(BITM_BAD_SIZE, bitm_check_samples(view, &by));
-    LEAVES(BITM_BAD_SIZE, bitm_check_samples0(view, &by));
-    LEAVES(BITM_BAD_SIZE, bitm_bits_rank(&bits, 0, &written.one));
-    LEAVES(BITM_BAD_SIZE, bitm_bits_rank0(&bits, SIZE_MAX, &written.one));
-    LEAVES(BITM_BAD_SIZE, bitm_bits_select(&bits, 0, &written.one));
-    LEAVES(BITM_BAD_SIZE, bitm_bits_select0(&bits, SIZE_MAX, &written.one));
-    LEAVES(BITM_BAD_SIZE, bitm_rank(view, 0, &written.one));
-    LEAVES(BITM_BAD_SIZE, bitm_rank0(view, SIZE_MAX, &written.one));
-    LEAVES(BITM_BAD_SIZE, bitm_select(view, 0, &written.one));
-    LEAVES(BITM_BAD_SIZE, bitm_select0(view, SIZE_MAX, &written.one));
-    LEAVES(BITM_BAD_SIZE, bitm_rank_list(view, queries, LIST, written.list, LIST));
-    LEAVES(BITM_BAD_SIZE, bitm_rank0_list(view, queries, LIST, written.list, LIST));
-    LEAVES(BITM_BAD_SIZE, bitm_select_list(view, queries, LIST, written.list, LIST));
-    LEAVES(BITM_BAD_SIZE, bitm_select0_list(view, NULL, 0, NULL, 0));
-    LEAVES(BITM_BAD_SIZE, bitm_build_samples(view, 7, written.samples, ROOM, written.starts, 1, &written.one));
-    LEAVES(BITM_BAD_SIZE, bitm_build_samples0(view, 7, written.samples, ROOM, written.starts, 1, &written.one));
-    LEAVES(BITM_BAD_SIZE, bitm_sampled_select(view, &by, 0, &written.one));
-    LEAVES(BITM_BAD_SIZE, bitm_sampled_select0(view, &by, 0, &written.one));
-    LEAVES(BITM_BAD_SIZE, bitm_sampled_select_list(view, &by, queries, LIST, written.list, LIST));
-    LEAVES(BITM_BAD_SIZE, bitm_sampled_select0_list(view, &by, queries, LIST, written.list, LIST));
+    const struct bitm_samples by = {NULL, 0, written.starts, 1, 7, 0};
+    const struct bitm_hash hash = {*view, zeros, 0, 1};
+    for (int one = 0; one < 2; one++) {
+        LEAVES(BITM_BAD_SIZE, bitm_index_check(view));
+        LEAVES(BITM_BAD_SIZE, bitm_index_check_samples(view, one));
+        LEAVES(BITM_BAD_SIZE, check_samples(view, one, &by));
+        LEAVES(BITM_BAD_SIZE, bitm_index_rank(view, one, 0, &written.one));
+        LEAVES(BITM_BAD_SIZE, bitm_index_rank(view, one, SIZE_MAX, &written.one));
+        LEAVES(BITM_BAD_SIZE, bitm_index_select(view, one, 0, &written.one));
+        LEAVES(BITM_BAD_SIZE, bitm_index_select(view, one, SIZE_MAX, &written.one));
+        LEAVES(BITM_BAD_SIZE, bitm_index_next(view, one, 0, &written.one));
+        LEAVES(BITM_BAD_SIZE, bitm_index_next(view, one, SIZE_MAX, &written.one));
+        LEAVES(BITM_BAD_SIZE, bitm_index_previous(view, one, 0, &written.one));
+        LEAVES(BITM_BAD_SIZE, bitm_index_previous(view, one, SIZE_MAX, &written.one));
+        LEAVES(BITM_BAD_SIZE, bitm_index_count(view, one, &written.one));
+        LEAVES(BITM_BAD_SIZE, bitm_index_positions(view, one, 0, written.list, LIST, &written.one));
+        LEAVES(BITM_BAD_SIZE, bitm_index_rank_list(view, one, queries, LIST, written.list, LIST, &written.counts));
+        LEAVES(BITM_BAD_SIZE, bitm_index_rank_list(view, one, NULL, 0, NULL, 0, &written.counts));
+        LEAVES(BITM_BAD_SIZE, bitm_index_select_list(view, one, queries, LIST, written.list, LIST, &written.counts));
+        LEAVES(BITM_BAD_SIZE, bitm_index_select_list(view, one, NULL, 0, NULL, 0, &written.counts));
+        LEAVES(BITM_BAD_SIZE,
+               bitm_index_build_samples(view, one, 7, written.samples, ROOM, written.starts, 1, &written.one));
+        LEAVES(BITM_BAD_SIZE, sampled_select(view, one, &by, 0, &written.one));
+        LEAVES(BITM_BAD_SIZE, sampled_select_list(view, one, &by, queries, LIST, written.list, LIST));
+    }
+    LEAVES(BITM_BAD_SIZE, bitm_hash_get(&hash, 7, &written.one));
+    LEAVES(BITM_BAD_SIZE, bitm_hash_get_list(&hash, queries, LIST, written.list, LIST, &written.counts));
+}
+
+/* Every call of words without tables, where these have fewer than bits_len bits. */
+static void fewer_bits_than(uint64_t bits_len)
+{
+    uint64_t *const some = written.list;
+    for (int one = 0; one < 2; one++) {
+        LEAVES(BITM_BAD_SIZE, bitm_bits_count(words, WORDS, bits_len, one, &written.one));
+        LEAVES(BITM_BAD_SIZE, bitm_bits_count_range(words, WORDS, bits_len, one, 0, 1, &written.one));
+        LEAVES(BITM_BAD_SIZE, bitm_bits_next(words, WORDS, bits_len, one, 0, &written.one));
+        LEAVES(BITM_BAD_SIZE, bitm_bits_previous(words, WORDS, bits_len, one, 0, &written.one));
+        LEAVES(BITM_BAD_SIZE, bitm_bits_positions(words, WORDS, bits_len, one, 0, some, LIST, &written.one));
+        LEAVES(BITM_BAD_SIZE, bitm_bits_set(some, LIST, bits_len, 0, one));
+        LEAVES(BITM_BAD_SIZE, bitm_bits_fill_range(some, LIST, bits_len, 0, 1, one));
+    }
+    LEAVES(BITM_BAD_SIZE, bitm_bits_get(words, WORDS, bits_len, 0, &written.one));
+    LEAVES(BITM_BAD_SIZE, bitm_bits_get_number(words, WORDS, bits_len, 0, 1, &written.one));
+    LEAVES(BITM_BAD_SIZE, bitm_bits_set_number(some, LIST, bits_len, 0, 1, 1));
+    LEAVES(BITM_BAD_SIZE, bitm_bits_xor_number(some, LIST, bits_len, 0, 1, 1));
+    LEAVES(BITM_BAD_SIZE, bitm_bits_get_fragment(words, WORDS, bits_len, 0, 1, &written.one));
+    LEAVES(BITM_BAD_SIZE, bitm_bits_set_fragment(some, LIST, bits_len, 0, 1, 1));
+    LEAVES(BITM_BAD_SIZE, bitm_bits_swap_fragments(some, LIST, bits_len, 0, 1, 1));
+    LEAVES(BITM_BAD_SIZE, bitm_bits_fill_fragments(some, LIST, bits_len, 1, 1, 1));
+    LEAVES(BITM_BAD_SIZE, bitm_bits_flip_range(some, LIST, bits_len, 0, 1));
 }
 
 /* Lengths that differ by one either way, too many words, and tables of no words. */
 static void wrong_lengths(void)
 {
     const size_t many = (size_t)1 << 58;
-    const struct bitm_view bad[] = {
-        {words, WORDS, upper, 0, lower, LOWERS},     {words, WORDS, upper, 2, lower, LOWERS},
-        {words, WORDS, upper, UPPERS, lower, 2},     {words, WORDS, upper, UPPERS, lower, 4},
-        {words, 64, upper, UPPERS, lower, LOWERS},   {words, 97, upper, UPPERS, lower, LOWERS},
-        {words, 0, upper, UPPERS, lower, LOWERS},    {NULL, 0, NULL, 0, lower, 1},
-        {words, many, upper, bitm_upper_len(many), lower, bitm_lower_len(many)},
-        {words, SIZE_MAX, upper, bitm_upper_len(SIZE_MAX), lower, bitm_lower_len(SIZE_MAX)},
+    const struct bitm_index bad[] = {
+        index_over(words, WORDS, upper, 0, lower, LOWERS), index_over(words, WORDS, upper, 2, lower, LOWERS),
+        index_over(words, WORDS, upper, UPPERS, lower, 2), index_over(words, WORDS, upper, UPPERS, lower, 4),
+        index_over(words, 64, upper, UPPERS, lower, LOWERS), index_over(words, 97, upper, UPPERS, lower, LOWERS),
+        index_over(words, 0, upper, UPPERS, lower, LOWERS), index_over(NULL, 0, NULL, 0, lower, 1),
+        index_over(words, many, upper, bitm_index_upper_len(many), lower, bitm_index_lower_len(many)),
+        index_over(words, SIZE_MAX, upper, bitm_index_upper_len(SIZE_MAX), lower, bitm_index_lower_len(SIZE_MAX)),
+        cut_at(index_over(words, WORDS, upper, UPPERS, lower, LOWERS), 64 * WORDS + 1),
+        cut_at(index_over(words, WORDS, upper, UPPERS, lower, LOWERS), UINT64_MAX),
+        cut_at(index_over(NULL, 0, NULL, 0, NULL, 0), 1),
     };
     for (size_t i = 0; i < sizeof bad / sizeof *bad; i++)
         refused_by_all(&bad[i]);
-    LEAVES(BITM_BAD_SIZE, bitm_build(words, WORDS, written.list, 2, written.starts, LOWERS, &written.one));
-    LEAVES(BITM_BAD_SIZE, bitm_build(words, WORDS, written.list, 1, written.starts, 2, &written.one));
-    LEAVES(BITM_BAD_SIZE, bitm_build(words, many, written.list, bitm_upper_len(many), written.starts,
-                                     bitm_lower_len(many), &written.one));
-    LEAVES(BITM_BAD_SIZE, bitm_count(words, many, &written.one));
-    LEAVES(BITM_BAD_SIZE, bitm_ones(words, many, 0, written.list, LIST, &written.one));
-    LEAVES(BITM_BAD_SIZE, bitm_count_range(words, many, 0, 1, &written.one));
-    LEAVES(BITM_BAD_SIZE, bitm_next_one(words, many, 0, &written.one));
-    LEAVES(BITM_BAD_SIZE, bitm_next_zero(words, SIZE_MAX, 0, &written.one));
-    LEAVES(BITM_BAD_SIZE, bitm_previous_one(words, many, 0, &written.one));
-    LEAVES(BITM_BAD_SIZE, bitm_previous_zero(words, SIZE_MAX, 0, &written.one));
-    LEAVES(BITM_BAD_SIZE, bitm_and(written.list, LIST, queries, LIST - 1));
-    LEAVES(BITM_BAD_SIZE, bitm_or(written.list, LIST - 1, queries, LIST));
-    LEAVES(BITM_BAD_SIZE, bitm_xor(written.list, LIST, NULL, 0));
-    LEAVES(BITM_BAD_SIZE, bitm_and_not(NULL, 0, queries, 1));
-    LEAVES(BITM_BAD_SIZE, bitm_write_header(many, &written.header));
-    const struct bitm_header other = {1, 2, 3, 4};
-    LEAVES(BITM_WRONG, bitm_read_header(&other, &written.one));
+    fewer_bits_than(64 * WORDS + 1);
+    fewer_bits_than(UINT64_MAX);
+    LEAVES(BITM_BAD_SIZE, bitm_index_build(words, WORDS, written.list, 2, written.starts, LOWERS, &written.one));
+    LEAVES(BITM_BAD_SIZE, bitm_index_build(words, WORDS, written.list, 1, written.starts, 2, &written.one));
+    LEAVES(BITM_BAD_SIZE, bitm_index_build(words, many, written.list, bitm_index_upper_len(many), written.starts,
+                                           bitm_index_lower_len(many), &written.one));
+    LEAVES(BITM_BAD_SIZE, bitm_bits_count(words, many, 64, true, &written.one));
+    LEAVES(BITM_BAD_SIZE, bitm_bits_positions(words, many, 64, true, 0, written.list, LIST, &written.one));
+    LEAVES(BITM_BAD_SIZE, bitm_bits_count_range(words, many, 64, true, 0, 1, &written.one));
+    LEAVES(BITM_BAD_SIZE, bitm_bits_next(words, many, 64, true, 0, &written.one));
+    LEAVES(BITM_BAD_SIZE, bitm_bits_next(words, SIZE_MAX, 64, false, 0, &written.one));
+    LEAVES(BITM_BAD_SIZE, bitm_bits_previous(words, many, 64, true, 0, &written.one));
+    LEAVES(BITM_BAD_SIZE, bitm_bits_previous(words, SIZE_MAX, 64, false, 0, &written.one));
+    LEAVES(BITM_BAD_SIZE, bitm_bits_and(written.list, LIST, queries, LIST - 1));
+    LEAVES(BITM_BAD_SIZE, bitm_bits_or(written.list, LIST - 1, queries, LIST));
+    LEAVES(BITM_BAD_SIZE, bitm_bits_xor(written.list, LIST, NULL, 0));
+    LEAVES(BITM_BAD_SIZE, bitm_bits_and_not(NULL, 0, queries, 1));
 }
 
 /* One past the end, far past it, and lists without room: of a view that is right. */
-static void none_of_right_tables(const struct bitm_view *view, uint64_t ones)
+static void none_of_right_tables(const struct bitm_index *view, uint64_t ones)
 {
     const size_t bits = 64 * WORDS;
     uint64_t got;
-    MUST(bitm_rank(view, bits, &got) == BITM_OK && got == ones);
-    MUST(bitm_rank0(view, bits, &got) == BITM_OK && got == bits - ones);
+    MUST(bitm_index_rank(view, true, bits, &got) == BITM_OK && got == ones);
+    MUST(bitm_index_rank(view, false, bits, &got) == BITM_OK && got == bits - ones);
     for (int far = 0; far < 2; far++) {
-        LEAVES(BITM_NONE, bitm_rank(view, far ? SIZE_MAX : bits + 1, &written.one));
-        LEAVES(BITM_NONE, bitm_rank0(view, far ? SIZE_MAX : bits + 1, &written.one));
-        LEAVES(BITM_NONE, bitm_select(view, far ? SIZE_MAX : ones, &written.one));
-        LEAVES(BITM_NONE, bitm_select0(view, far ? SIZE_MAX : bits - ones, &written.one));
-        LEAVES(BITM_NONE, bitm_get_bit(words, WORDS, far ? SIZE_MAX : bits, &written.one));
-        LEAVES(BITM_NONE, bitm_get_bits(words, WORDS, far ? SIZE_MAX : bits - 3, 4, &written.one));
-        LEAVES(BITM_NONE, bitm_get_bits(words, WORDS, 0, far ? UINT32_MAX : 65, &written.one));
-        LEAVES(BITM_NONE, bitm_get_fragment(words, WORDS, far ? SIZE_MAX : bits / 7, 7, &written.one));
-        LEAVES(BITM_NONE, bitm_get_fragment(words, WORDS, 0, far ? UINT32_MAX : 65, &written.one));
-        LEAVES(BITM_NONE, bitm_count_range(words, WORDS, 0, far ? SIZE_MAX : bits + 1, &written.one));
-        LEAVES(BITM_NONE, bitm_count_range(words, WORDS, far ? SIZE_MAX : 5, 4, &written.one));
-        LEAVES(BITM_NONE, bitm_fill_range(written.list, LIST, 0, far ? SIZE_MAX : 64 * LIST + 1, far));
-        LEAVES(BITM_NONE, bitm_fill_range(written.list, LIST, far ? SIZE_MAX : 5, 4, far));
-        LEAVES(BITM_NONE, bitm_flip_range(written.list, LIST, 0, far ? SIZE_MAX : 64 * LIST + 1));
-        LEAVES(BITM_NONE, bitm_flip_range(written.list, LIST, far ? SIZE_MAX : 5, 4));
-        LEAVES(BITM_NONE, bitm_next_one(words, WORDS, far ? SIZE_MAX : bits, &written.one));
-        LEAVES(BITM_NONE, bitm_next_zero(words, WORDS, far ? SIZE_MAX : bits, &written.one));
-        LEAVES(BITM_NONE, bitm_previous_one(words, WORDS, far ? SIZE_MAX : bits, &written.one));
-        LEAVES(BITM_NONE, bitm_previous_zero(words, WORDS, far ? SIZE_MAX : bits, &written.one));
-        LEAVES(BITM_NONE, bitm_next_one(zeros, LIST, far ? 64 : 0, &written.one));
-        LEAVES(BITM_NONE, bitm_previous_one(zeros, LIST, far ? 64 : 0, &written.one));
+        LEAVES(BITM_NONE, bitm_index_rank(view, true, far ? SIZE_MAX : bits + 1, &written.one));
+        LEAVES(BITM_NONE, bitm_index_rank(view, false, far ? SIZE_MAX : bits + 1, &written.one));
+        LEAVES(BITM_NONE, bitm_index_select(view, true, far ? SIZE_MAX : ones, &written.one));
+        LEAVES(BITM_NONE, bitm_index_select(view, false, far ? SIZE_MAX : bits - ones, &written.one));
+        LEAVES(BITM_NONE, bitm_index_next(view, true, far ? SIZE_MAX : bits, &written.one));
+        LEAVES(BITM_NONE, bitm_index_next(view, false, far ? SIZE_MAX : bits, &written.one));
+        LEAVES(BITM_NONE, bitm_bits_get(words, WORDS, bits, far ? SIZE_MAX : bits, &written.one));
+        LEAVES(BITM_NONE, bitm_bits_get(words, WORDS, bits - 3, far ? bits - 1 : bits - 3, &written.one));
+        LEAVES(BITM_NONE, bitm_bits_set(written.list, LIST, 64 * LIST - 3, 64 * LIST - (far ? 1 : 3), true));
+        LEAVES(BITM_NONE, bitm_bits_get_number(words, WORDS, bits, far ? SIZE_MAX : bits - 3, 4, &written.one));
+        LEAVES(BITM_NONE, bitm_bits_get_number(words, WORDS, bits, 0, far ? UINT32_MAX : 65, &written.one));
+        LEAVES(BITM_NONE, bitm_bits_get_number(words, WORDS, bits, far ? SIZE_MAX : bits + 1, 0, &written.one));
+        LEAVES(BITM_NONE,
+               bitm_bits_set_number(written.list, LIST, 64 * LIST - 1, far ? SIZE_MAX : 64 * LIST - 4, 4, 9));
+        LEAVES(BITM_NONE, bitm_bits_set_number(written.list, LIST, 64 * LIST, 0, far ? UINT32_MAX : 65, 9));
+        LEAVES(BITM_NONE,
+               bitm_bits_xor_number(written.list, LIST, 64 * LIST - 1, far ? SIZE_MAX : 64 * LIST - 4, 4, 9));
+        LEAVES(BITM_NONE, bitm_bits_xor_number(written.list, LIST, 64 * LIST, 0, far ? UINT32_MAX : 65, 9));
+        LEAVES(BITM_NONE, bitm_bits_get_fragment(words, WORDS, bits, far ? SIZE_MAX : bits / 7, 7, &written.one));
+        LEAVES(BITM_NONE, bitm_bits_get_fragment(words, WORDS, bits, 0, far ? UINT32_MAX : 65, &written.one));
+        LEAVES(BITM_NONE, bitm_bits_set_fragment(written.list, LIST, 69, far ? SIZE_MAX : 9, 7, 5));
+        LEAVES(BITM_NONE, bitm_bits_swap_fragments(written.list, LIST, 69, 0, far ? SIZE_MAX : 9, 7));
+        LEAVES(BITM_NONE, bitm_bits_swap_fragments(written.list, LIST, 69, far ? SIZE_MAX : 9, 0, 7));
+        LEAVES(BITM_NONE, bitm_bits_swap_fragments(written.list, LIST, 69, 0, 0, far ? UINT32_MAX : 65));
+        LEAVES(BITM_NONE, bitm_bits_fill_fragments(written.list, LIST, 69, 7, 5, far ? SIZE_MAX : 10));
+        LEAVES(BITM_NONE, bitm_bits_fill_fragments(written.list, LIST, 69, far ? UINT32_MAX : 65, 5, 0));
+        LEAVES(BITM_NONE, bitm_bits_count_range(words, WORDS, bits, true, 0, far ? SIZE_MAX : bits + 1, &written.one));
+        LEAVES(BITM_NONE, bitm_bits_count_range(words, WORDS, bits, false, far ? SIZE_MAX : 5, 4, &written.one));
+        LEAVES(BITM_NONE, bitm_bits_count_range(words, WORDS, 9, true, 0, far ? bits : 10, &written.one));
+        LEAVES(BITM_NONE, bitm_bits_fill_range(written.list, LIST, 64 * LIST, 0, far ? SIZE_MAX : 64 * LIST + 1, far));
+        LEAVES(BITM_NONE, bitm_bits_fill_range(written.list, LIST, 64 * LIST, far ? SIZE_MAX : 5, 4, far));
+        LEAVES(BITM_NONE, bitm_bits_flip_range(written.list, LIST, 64 * LIST, 0, far ? SIZE_MAX : 64 * LIST + 1));
+        LEAVES(BITM_NONE, bitm_bits_flip_range(written.list, LIST, 9, far ? SIZE_MAX : 5, far ? SIZE_MAX : 10));
+        LEAVES(BITM_NONE, bitm_bits_next(words, WORDS, bits, true, far ? SIZE_MAX : bits, &written.one));
+        LEAVES(BITM_NONE, bitm_bits_next(words, WORDS, bits, false, far ? SIZE_MAX : bits, &written.one));
+        LEAVES(BITM_NONE, bitm_bits_next(zeros, LIST, 64 * LIST, true, far ? 64 : 0, &written.one));
+        LEAVES(BITM_NONE, bitm_bits_previous(zeros, LIST, 64 * LIST, true, far ? SIZE_MAX : 0, &written.one));
+        LEAVES(BITM_NONE, bitm_bits_previous(words, WORDS, 0, far, 0, &written.one));
+        LEAVES(BITM_NONE, bitm_bits_copy_range(written.list, LIST, far ? SIZE_MAX : 64 * LIST - 4, words, WORDS, 0, 5));
+        LEAVES(BITM_NONE, bitm_bits_copy_range(written.list, LIST, 0, words, WORDS, far ? SIZE_MAX : bits - 4, 5));
+        LEAVES(BITM_NONE,
+               bitm_bits_equal_range(words, WORDS, far ? SIZE_MAX : bits - 4, zeros, LIST, 0, 5, &written.one));
+        LEAVES(BITM_NONE,
+               bitm_bits_equal_range(words, WORDS, 0, zeros, LIST, 5, far ? SIZE_MAX : 64 * LIST, &written.one));
+        LEAVES(BITM_NONE, bitm_bits_select_in_word(far ? 0 : 5, far ? 0 : 2, &written.one));
+        LEAVES(BITM_NONE, bitm_bits_select_in_word(UINT64_MAX, far ? UINT32_MAX : 64, &written.one));
+        /* from past the end: the last one */
+        MUST(bitm_bits_previous(words, WORDS, bits, true, far ? SIZE_MAX : bits, &got) == BITM_OK && got == bits - 1);
+        MUST(bitm_index_previous(view, true, far ? SIZE_MAX : bits, &got) == BITM_OK && got == bits - 1);
     }
-    LEAVES(BITM_BAD_SIZE, bitm_rank_list(view, queries, LIST, written.list, LIST - 1));
-    LEAVES(BITM_BAD_SIZE, bitm_rank0_list(view, queries, LIST - 1, written.list, LIST));
-    LEAVES(BITM_BAD_SIZE, bitm_select_list(view, queries, LIST, written.list, 0));
-    LEAVES(BITM_BAD_SIZE, bitm_select0_list(view, queries, 0, written.list, 1));
-    const size_t most = bitm_samples_len(WORDS, 7);
+    LEAVES(BITM_BAD_SIZE, bitm_index_rank_list(view, true, queries, LIST, written.list, LIST - 1, &written.counts));
+    LEAVES(BITM_BAD_SIZE, bitm_index_rank_list(view, false, queries, LIST - 1, written.list, LIST, &written.counts));
+    LEAVES(BITM_BAD_SIZE, bitm_index_select_list(view, true, queries, LIST, written.list, 0, &written.counts));
+    LEAVES(BITM_BAD_SIZE, bitm_index_select_list(view, false, queries, 0, written.list, 1, &written.counts));
+    const size_t most = bitm_index_samples_len(WORDS, 7);
     MUST(most == 35 && most <= ROOM);
-    LEAVES(BITM_BAD_SIZE, bitm_build_samples(view, 7, written.samples, most - 1, written.starts, 1, &written.one));
-    LEAVES(BITM_BAD_SIZE, bitm_build_samples0(view, 7, written.samples, most, written.starts, 2, &written.one));
-    LEAVES(BITM_BAD_SIZE, bitm_build_samples0(view, 7, written.samples, most, written.starts, 0, &written.one));
-    /* one sample, by which the first ones, and zeros, would stand in the last entry: no answer is another */
-    const uint32_t stale[] = {2};
-    const uint64_t start[] = {0};
-    const struct bitm_samples by = {stale, 1, start, 1, 7};
-    uint64_t want;
-    MUST(bitm_sampled_select(view, &by, 0, &got) == BITM_OK && bitm_select(view, 0, &want) == BITM_OK && got == want);
-    MUST(bitm_sampled_select0(view, &by, 0, &got) == BITM_OK && bitm_select0(view, 0, &want) == BITM_OK && got == want);
-    LEAVES(BITM_BAD_SIZE, bitm_sampled_select_list(view, &by, queries, LIST, written.list, LIST + 1));
-    LEAVES(BITM_BAD_SIZE, bitm_sampled_select0_list(view, &by, queries, LIST, written.list, LIST - 1));
+    for (int one = 0; one < 2; one++) {
+        LEAVES(BITM_BAD_SIZE,
+               bitm_index_build_samples(view, one, 7, written.samples, most - 1, written.starts, 1, &written.one));
+        LEAVES(BITM_BAD_SIZE,
+               bitm_index_build_samples(view, one, 7, written.samples, most, written.starts, 2, &written.one));
+        LEAVES(BITM_BAD_SIZE,
+               bitm_index_build_samples(view, one, 7, written.samples, most, written.starts, 0, &written.one));
+        /* one sample, by which the first bits of the kind would be in the last entry: no answer is another */
+        const uint32_t stale[] = {2};
+        const uint64_t start[] = {0};
+        const struct bitm_samples by = {stale, 1, start, 1, 7, 0};
+        const struct bitm_index sampled = with_samples(*view, one, &by);
+        uint64_t want;
+        MUST(bitm_index_select(&sampled, one, 0, &got) == BITM_OK && bitm_index_select(view, one, 0, &want) == BITM_OK);
+        MUST(got == want);
+        LEAVES(BITM_BAD_SIZE,
+               bitm_index_select_list(&sampled, one, queries, LIST, written.list, LIST + 1, &written.counts));
+        LEAVES(BITM_BAD_SIZE,
+               bitm_index_select_list(&sampled, one, queries, LIST, written.list, LIST - 1, &written.counts));
+    }
+    /* the bytes of the original's calls */
+    const uint8_t bytes[9] = {1, 2, 3, 4, 5, 6, 7, 8, 9};
+    uint8_t *const some = (uint8_t *)written.list;
+    uint32_t few;
+    MUST(bitm_bytes_get57(bytes, 9, 8, &got) == BITM_OK && got == 0x0908070605040302);
+    MUST(bitm_bytes_get57(bytes, 9, 15, &got) == BITM_OK && got == 0x0908070605040302 >> 7);
+    MUST(bitm_bytes_get25(bytes, 9, 47, &few) == BITM_OK && few == 0x09080706 >> 7);
+    LEAVES(BITM_NONE, bitm_bytes_get57(bytes, 9, 16, &written.one));
+    LEAVES(BITM_NONE, bitm_bytes_get57(bytes, 9, UINT64_MAX, &written.one));
+    LEAVES(BITM_NONE, bitm_bytes_get25(bytes, 9, 48, written.samples));
+    LEAVES(BITM_NONE, bitm_bytes_init57(some, 9, 16, UINT64_MAX));
+    LEAVES(BITM_NONE, bitm_bytes_set57(some, 9, 16, 1, UINT64_MAX));
+    LEAVES(BITM_NONE, bitm_bytes_init25(some, 9, 48, UINT32_MAX));
+    LEAVES(BITM_NONE, bitm_bytes_set25(some, 9, UINT64_MAX, 1, UINT32_MAX));
+    LEAVES(BITM_NONE, bitm_bytes_init25(some, 0, 0, 1));
 }
 
-/* Bits of right tables, of which so many count: one past the end, and more bits than there are. */
-static void bits_of_right_tables(const struct bitm_view *view)
+/* The first bits of right tables: one past the end, and samples that are not those of the words. */
+static void bits_of_right_tables(const struct bitm_index *view)
 {
-    struct bitm_bits_view bits = {*view, 64 * WORDS - 5};
+    const struct bitm_index bits = cut_at(*view, 64 * WORDS - 5);
     uint64_t ones, zeros_of, got;
-    MUST(bitm_bits_rank(&bits, bits.bits_len, &ones) == BITM_OK);
-    MUST(bitm_bits_rank0(&bits, bits.bits_len, &zeros_of) == BITM_OK && ones + zeros_of == bits.bits_len);
+    MUST(bitm_index_rank(&bits, true, bits.bits_len, &ones) == BITM_OK);
+    MUST(bitm_index_rank(&bits, false, bits.bits_len, &zeros_of) == BITM_OK && ones + zeros_of == bits.bits_len);
+    MUST(bitm_index_count(&bits, true, &got) == BITM_OK && got == ones);
+    MUST(bitm_index_count(&bits, false, &got) == BITM_OK && got == zeros_of);
     for (int far = 0; far < 2; far++) {
-        LEAVES(BITM_NONE, bitm_bits_rank(&bits, far ? SIZE_MAX : bits.bits_len + 1, &written.one));
-        LEAVES(BITM_NONE, bitm_bits_rank0(&bits, far ? SIZE_MAX : bits.bits_len + 1, &written.one));
-        LEAVES(BITM_NONE, bitm_bits_select(&bits, far ? SIZE_MAX : ones, &written.one));
-        LEAVES(BITM_NONE, bitm_bits_select0(&bits, far ? SIZE_MAX : zeros_of, &written.one));
+        LEAVES(BITM_NONE, bitm_index_rank(&bits, true, far ? SIZE_MAX : bits.bits_len + 1, &written.one));
+        LEAVES(BITM_NONE, bitm_index_rank(&bits, false, far ? SIZE_MAX : bits.bits_len + 1, &written.one));
+        LEAVES(BITM_NONE, bitm_index_select(&bits, true, far ? SIZE_MAX : ones, &written.one));
+        LEAVES(BITM_NONE, bitm_index_select(&bits, false, far ? SIZE_MAX : zeros_of, &written.one));
     }
-    MUST(bitm_select(view, ones, &got) == BITM_OK && got >= bits.bits_len);
-    bits.bits_len = 64 * WORDS + 1;
-    LEAVES(BITM_BAD_SIZE, bitm_bits_rank(&bits, 0, &written.one));
-    LEAVES(BITM_BAD_SIZE, bitm_bits_rank0(&bits, 0, &written.one));
-    LEAVES(BITM_BAD_SIZE, bitm_bits_select(&bits, 0, &written.one));
-    LEAVES(BITM_BAD_SIZE, bitm_bits_select0(&bits, 0, &written.one));
+    MUST(bitm_index_select(view, true, ones, &got) == BITM_OK && got >= bits.bits_len);
     const uint32_t none[] = {0};
-    const struct bitm_samples by = {none, 1, zeros, 1, 7};
-    LEAVES(BITM_WRONG, bitm_check_samples(view, &by));
-    LEAVES(BITM_WRONG, bitm_check_samples0(view, &by));
+    const struct bitm_samples by = {none, 1, zeros, 1, 7, 0};
+    LEAVES(BITM_WRONG, check_samples(view, true, &by));
+    LEAVES(BITM_WRONG, check_samples(view, false, &by));
 }
 
 /* Headers of files: lengths that none has, and words that are none. */
@@ -179,9 +233,9 @@ static void files(void)
     LEAVES(BITM_BAD_SIZE, bitm_stored_sequence(large, &right, &written.stored));
     LEAVES(BITM_BAD_SIZE, bitm_stored_sequence(3, &wrong, &written.stored));
     LEAVES(BITM_BAD_SIZE, bitm_stored_sequence(3, &low, &written.stored));
-    LEAVES(BITM_WRONG, bitm_read_stored(words, WORDS, &written.stored));
-    LEAVES(BITM_WRONG, bitm_read_stored(NULL, 0, &written.stored));
-    /* worked out by hand: 10 words from byte 192 on, then each part from a multiple of 64 on */
+    LEAVES(BITM_WRONG, bitm_stored_read(words, WORDS, &written.stored));
+    LEAVES(BITM_WRONG, bitm_stored_read(NULL, 0, &written.stored));
+    /* computed by hand: 10 words from byte 192 on, then each part from a multiple of 64 on */
     MUST(bitm_stored_index(640, 7, 5, 8, 3, &read) == BITM_OK && read.kind == 1 && read.len == 640 && read.width == 0);
     MUST(read.ones_log2 == 7 && read.zeros_log2 == 8 && read.words.at == 192 && read.words.len == 10);
     MUST(read.upper.at == 320 && read.upper.len == 1 && read.lower.at == 384 && read.lower.len == 1);
@@ -190,9 +244,9 @@ static void files(void)
     MUST(read.samples0.len == 3 && read.size == 704);
     uint64_t file[88] = {0};
     memcpy(file, &read, sizeof read);
-    LEAVES(BITM_WRONG, bitm_read_stored(file, 87, &written.stored));
+    LEAVES(BITM_WRONG, bitm_stored_read(file, 87, &written.stored));
     struct bitm_stored again;
-    MUST(bitm_read_stored(file, 88, &again) == BITM_OK && memcmp(&again, &read, sizeof read) == 0);
+    MUST(bitm_stored_read(file, 88, &again) == BITM_OK && memcmp(&again, &read, sizeof read) == 0);
     MUST(bitm_stored_sequence(3, &right, &read) == BITM_OK && read.kind == 2 && read.len == 3 && read.width == 0);
     MUST(read.words.at == 192 && read.upper.at == 256 && read.lower.at == 320 && read.size == 384);
     MUST(read.ones_log2 == 0 && read.zeros_log2 == 0 && read.words.len == 1 && read.upper.len == 1);
@@ -201,56 +255,77 @@ static void files(void)
     MUST(read.starts0.at == 384 && read.samples.at == 384 && read.samples0.at == 384);
 }
 
-/* A list of zeros: the same query again and again, for ranks and for places. */
-static void lists_of_zeros(const struct bitm_view *view)
+/* A list of zeros: the same query again and again, for ranks and for selections. */
+static void lists_of_zeros(const struct bitm_index *view)
 {
     uint64_t out[LIST], first_one, first_zero;
-    MUST(bitm_select(view, 0, &first_one) == BITM_OK && bitm_select0(view, 0, &first_zero) == BITM_OK);
-    MUST(bitm_rank_list(view, zeros, LIST, out, LIST) == BITM_OK);
+    MUST(bitm_index_select(view, true, 0, &first_one) == BITM_OK &&
+         bitm_index_select(view, false, 0, &first_zero) == BITM_OK);
+    MUST(rank_list(view, true, zeros, LIST, out, LIST) == BITM_OK);
     for (int i = 0; i < LIST; i++) MUST(out[i] == 0);
-    MUST(bitm_rank0_list(view, zeros, LIST, out, LIST) == BITM_OK);
+    MUST(rank_list(view, false, zeros, LIST, out, LIST) == BITM_OK);
     for (int i = 0; i < LIST; i++) MUST(out[i] == 0);
-    MUST(bitm_select_list(view, zeros, LIST, out, LIST) == BITM_OK);
+    MUST(select_list(view, true, zeros, LIST, out, LIST) == BITM_OK);
     for (int i = 0; i < LIST; i++) MUST(out[i] == first_one);
-    MUST(bitm_select0_list(view, zeros, LIST, out, LIST) == BITM_OK);
+    MUST(select_list(view, false, zeros, LIST, out, LIST) == BITM_OK);
     for (int i = 0; i < LIST; i++) MUST(out[i] == first_zero);
 }
 
 /* 64 zeros, of which the tables say that two ones stand before them: a rank is at most its index, or they are wrong. */
 static void ranks_of_wrong_tables(void)
 {
-    const uint64_t zero = 0, none = 0, two = 2, most = UINT64_MAX, asked[] = {0, 1, 2, 64, 65};
+    const uint64_t zero = 0, none = 0, two = 2, most = UINT64_MAX, some[] = {0, 1, 2, 64, 65};
     uint64_t got, out[5];
-    struct bitm_view view = {&zero, 1, &none, 1, &two, 1};
-    MUST(bitm_check(&view) == BITM_WRONG && bitm_rank(&view, 0, &got) == BITM_OK && got == 0);
-    LEAVES(BITM_WRONG, bitm_rank(&view, 1, &written.one));
-    LEAVES(BITM_WRONG, bitm_rank0(&view, 1, &written.one));
-    MUST(bitm_rank(&view, 2, &got) == BITM_OK && got == 2 && bitm_rank0(&view, 2, &got) == BITM_OK && got == 0);
-    MUST(bitm_rank_list(&view, asked, 5, out, 5) == BITM_OK && out[0] == 0 && out[1] == BITM_WRONG_TABLES);
+    struct bitm_index view = index_over(&zero, 1, &none, 1, &two, 1);
+    MUST(bitm_index_check(&view) == BITM_WRONG && bitm_index_rank(&view, true, 0, &got) == BITM_OK && got == 0);
+    LEAVES(BITM_WRONG, bitm_index_rank(&view, true, 1, &written.one));
+    LEAVES(BITM_WRONG, bitm_index_rank(&view, false, 1, &written.one));
+    MUST(bitm_index_rank(&view, true, 2, &got) == BITM_OK && got == 2 &&
+         bitm_index_rank(&view, false, 2, &got) == BITM_OK && got == 0);
+    MUST(rank_list(&view, true, some, 5, out, 5) == BITM_OK && out[0] == 0 && out[1] == BITM_WRONG_TABLES);
     MUST(out[2] == 2 && out[3] == 2 && out[4] == BITM_NO_ANSWER);
-    MUST(bitm_rank0_list(&view, asked, 5, out, 5) == BITM_OK && out[0] == 0 && out[1] == BITM_WRONG_TABLES);
+    MUST(rank_list(&view, false, some, 5, out, 5) == BITM_OK && out[0] == 0 && out[1] == BITM_WRONG_TABLES);
     MUST(out[2] == 0 && out[3] == 62 && out[4] == BITM_NO_ANSWER);
     view.lower = &most;
-    LEAVES(BITM_WRONG, bitm_rank(&view, 64, &written.one));
-    LEAVES(BITM_WRONG, bitm_rank0(&view, 64, &written.one));
-    LEAVES(BITM_NONE, bitm_rank0(&view, 65, &written.one));
+    LEAVES(BITM_WRONG, bitm_index_rank(&view, true, 64, &written.one));
+    LEAVES(BITM_WRONG, bitm_index_rank(&view, false, 64, &written.one));
+    LEAVES(BITM_NONE, bitm_index_rank(&view, false, 65, &written.one));
     const uint64_t all[LOWERS] = {UINT64_MAX, UINT64_MAX, UINT64_MAX};
-    view = (struct bitm_view){words, WORDS, upper, UPPERS, all, LOWERS};
-    LEAVES(BITM_WRONG, bitm_select(&view, 0, &written.one));
-    LEAVES(BITM_WRONG, bitm_select0(&view, 0, &written.one));
-    LEAVES(BITM_WRONG, bitm_check(&view));
-    const struct bitm_bits_view bits = {view, 64 * WORDS - 5}, one_word = {{&zero, 1, &none, 1, &two, 1}, 60};
-    LEAVES(BITM_WRONG, bitm_bits_rank(&one_word, 1, &written.one));
-    LEAVES(BITM_WRONG, bitm_bits_rank0(&one_word, 1, &written.one));
-    LEAVES(BITM_WRONG, bitm_bits_select(&bits, 0, &written.one));
-    LEAVES(BITM_WRONG, bitm_bits_select0(&bits, 0, &written.one));
+    view = index_over(words, WORDS, upper, UPPERS, all, LOWERS);
+    LEAVES(BITM_WRONG, bitm_index_select(&view, true, 0, &written.one));
+    LEAVES(BITM_WRONG, bitm_index_select(&view, false, 0, &written.one));
+    LEAVES(BITM_WRONG, bitm_index_check(&view));
+    const struct bitm_index bits = cut_at(view, 64 * WORDS - 5);
+    const struct bitm_index one_word = cut_at(index_over(&zero, 1, &none, 1, &two, 1), 60);
+    LEAVES(BITM_WRONG, bitm_index_rank(&one_word, true, 1, &written.one));
+    LEAVES(BITM_WRONG, bitm_index_rank(&one_word, false, 1, &written.one));
+    LEAVES(BITM_WRONG, bitm_index_select(&bits, true, 0, &written.one));
+    LEAVES(BITM_WRONG, bitm_index_select(&bits, false, 0, &written.one));
+    for (int one = 0; one < 2; one++) {
+        LEAVES(BITM_WRONG, bitm_index_next(&one_word, one, 1, &written.one));
+        LEAVES(BITM_WRONG, bitm_index_previous(&one_word, one, 0, &written.one));
+    }
+    const uint64_t ranks[] = {0, 1, UINT64_MAX};
+    struct bitm_list_counts counts;
+    MUST(bitm_index_select_list(&bits, true, ranks, 3, out, 3, &counts) == BITM_OK);
+    MUST(out[0] == BITM_WRONG_TABLES && counts.wrong + counts.missing == 3);
+    const uint64_t sizes[] = {1};
+    const struct bitm_hash hash = {one_word, sizes, 1, 5}, wrong_sizes = {one_word, &two, 1, 5};
+    LEAVES(BITM_NONE, bitm_hash_get(&hash, 7, &written.one));
+    LEAVES(BITM_WRONG, bitm_hash_get(&wrong_sizes, 7, &written.one));
+    MUST(bitm_hash_get_list(&wrong_sizes, some, 5, out, 5, &counts) == BITM_OK && counts.wrong == 5 &&
+         counts.missing == 0);
+    MUST(bitm_hash_get_list(&hash, some, 5, out, 5, &counts) == BITM_OK && counts.wrong == 0 && counts.missing == 5);
+    LEAVES(BITM_BAD_SIZE, bitm_hash_get_list(&hash, some, 5, written.list, LIST - 1, &written.counts));
 }
 
-/* Sequences: lengths, numbers that fall, places past the end, and parts of no sequence. */
+/* Sequences: lengths, numbers that fall, indexes past the end, and parts of no sequence. */
 static void sequences(void)
 {
     const uint64_t rising[] = {2, 3, 5, 7, 11, 13, 24}, falling[] = {2, 3, 5, 7, 13, 11, 24}, far[] = {7, 0, 1, 2, 3};
     uint64_t low, upper_vector, part, lower_part, width;
+    value_list_call *const lists[] = {bitm_sequence_first_at_least_list, bitm_sequence_last_at_most_list,
+                                      bitm_sequence_contains_list};
     LEAVES(BITM_BAD_SIZE, bitm_sequence_sizes((size_t)1 << 56, 9, &written.lens));
     LEAVES(BITM_BAD_SIZE, bitm_sequence_sizes(0, 1, &written.lens));
 #define BUILD(items, n)                                                                                              \
@@ -261,7 +336,7 @@ static void sequences(void)
     LEAVES(BITM_BAD_SIZE, BUILD(rising, 0));
     LEAVES(BITM_BAD_SIZE, BUILD(rising, 2));
     MUST(bitm_sequence_build(rising, 7, &low, 1, &upper_vector, 1, &part, 1, &lower_part, 1, &width) == BITM_OK);
-    struct bitm_sequence_view view = {7, width, &low, 1, &upper_vector, 1, &part, 1, &lower_part, 1};
+    struct bitm_sequence view = {7, width, &low, 1, &upper_vector, 1, &part, 1, &lower_part, 1, {0, 0}};
     MUST(bitm_sequence_check(&view) == BITM_OK);
     LEAVES(BITM_NONE, bitm_sequence_get(&view, 7, &written.one));
     LEAVES(BITM_NONE, bitm_sequence_get(&view, SIZE_MAX, &written.one));
@@ -270,7 +345,8 @@ static void sequences(void)
     MUST(bitm_sequence_items(&view, 7, written.list, LIST, &width) == BITM_OK && width == 0);
     MUST(bitm_sequence_items(&view, SIZE_MAX, written.list, LIST, &width) == BITM_OK && width == 0);
     LEAVES(BITM_BAD_SIZE, bitm_sequence_get_list(&view, far, LIST, written.list, LIST - 1, &written.one));
-    LEAVES(BITM_BAD_SIZE, bitm_sequence_first_at_least_list(&view, far, LIST, written.list, LIST - 1));
+    for (size_t i = 0; i < sizeof lists / sizeof *lists; i++)
+        LEAVES(BITM_BAD_SIZE, lists[i](&view, far, LIST, written.list, LIST - 1, &written.counts));
     MUST(bitm_sequence_get_list(&view, far, LIST, written.list, LIST, &width) == BITM_OK && width == 0);
     view.width = 64;
     LEAVES(BITM_BAD_SIZE, bitm_sequence_check(&view));
@@ -280,7 +356,8 @@ static void sequences(void)
     LEAVES(BITM_BAD_SIZE, bitm_sequence_contains(&view, 2, &written.one));
     LEAVES(BITM_BAD_SIZE, bitm_sequence_items(&view, 0, written.list, LIST, &written.one));
     LEAVES(BITM_BAD_SIZE, bitm_sequence_get_list(&view, far, LIST, written.list, LIST, &written.one));
-    LEAVES(BITM_BAD_SIZE, bitm_sequence_first_at_least_list(&view, far, LIST, written.list, LIST));
+    for (size_t i = 0; i < sizeof lists / sizeof *lists; i++)
+        LEAVES(BITM_BAD_SIZE, lists[i](&view, far, LIST, written.list, LIST, &written.counts));
     view.width = 1, upper_vector = 0;
     LEAVES(BITM_WRONG, bitm_sequence_check(&view));
     LEAVES(BITM_WRONG, bitm_sequence_get(&view, 3, &written.one));
@@ -291,75 +368,6 @@ static void sequences(void)
     LEAVES(BITM_WRONG, bitm_sequence_contains(&view, 2, &written.one));
 }
 
-/* Whether the words are those before, but for the len bits from begin on: these are of the value. */
-static void others_are_kept(const uint64_t *before, uint64_t begin, uint64_t len, uint64_t value)
-{
-    for (uint64_t i = 0; i < 64 * WORDS; i++) {
-        bool inside = i >= begin && i - begin < len;
-        MUST(bit_of(words, i) == (inside ? i - begin < 64 ? value >> (i - begin) & 1 : 0 : bit_of(before, i)));
-    }
-}
-
-/* The number that the len bits from begin on spell, by a loop. */
-static uint64_t spelled(uint64_t begin, uint32_t len)
-{
-    uint64_t value = 0;
-    for (uint32_t i = 0; i < len; i++) value |= bit_of(words, begin + i) << i;
-    return value;
-}
-
-/* A bit, bits and a fragment of the words, as the loop reads them. */
-static void reads_are_right(uint64_t at, uint32_t len)
-{
-    uint64_t got;
-    MUST(bitm_get_bit(words, WORDS, at, &got) == BITM_OK && got == bit_of(words, at));
-    at %= 64 * WORDS - 63;
-    MUST(bitm_get_bits(words, WORDS, at, len, &got) == BITM_OK && got == spelled(at, len));
-    at %= len ? 64 * WORDS / len : 1;
-    MUST(bitm_get_fragment(words, WORDS, at, len, &got) == BITM_OK && got == spelled(at * len, len));
-}
-
-static void bits_and_nothing_else(void)
-{
-    uint64_t before[WORDS];
-    const uint64_t bits = 64 * WORDS;
-    for (uint64_t turn = 0; turn < 3000; turn++) {
-        for (size_t i = 0; i < WORDS; i++) words[i] = draw();
-        memcpy(before, words, sizeof words);
-        uint64_t value = draw(), at = turn < bits ? turn : draw() % bits;
-        uint32_t len = (uint32_t)(draw() % 65);
-        reads_are_right(at, len);
-        switch (turn % 4) {
-        case 0:
-            MUST(bitm_set_bit(words, WORDS, at, value & 1) == BITM_OK);
-            others_are_kept(before, at, 1, value);
-            break;
-        case 1:
-            at %= bits - 63;
-            MUST(bitm_set_bits(words, WORDS, at, len, value) == BITM_OK);
-            others_are_kept(before, at, len, value);
-            break;
-        case 2:
-            at %= len ? bits / len : 1;
-            MUST(bitm_set_fragment(words, WORDS, at, len, value) == BITM_OK);
-            others_are_kept(before, at * len, len, value);
-            break;
-        default:
-            at = turn % 8 == 7 ? at / 64 * 64 : at;
-            bitm_clear_from(words, WORDS, at);
-            others_are_kept(before, at, bits, 0);
-        }
-    }
-    memcpy(before, words, sizeof words);
-    bitm_clear_from(words, WORDS, bits), bitm_clear_from(words, WORDS, SIZE_MAX), bitm_clear_from(NULL, 0, 0);
-    MUST(bitm_set_bit(words, WORDS, bits, true) == BITM_NONE);
-    MUST(bitm_set_bit(words, WORDS, SIZE_MAX, true) == BITM_NONE);
-    MUST(bitm_set_bits(words, WORDS, bits - 3, 4, 9) == BITM_NONE);
-    MUST(bitm_set_bits(words, WORDS, 0, 65, 9) == BITM_NONE);
-    MUST(bitm_set_fragment(words, WORDS, bits / 7, 7, 9) == BITM_NONE);
-    MUST(bitm_set_fragment(words, WORDS, 0, 65, 9) == BITM_NONE && memcmp(words, before, sizeof words) == 0);
-}
-
 int main(int argc, char **argv)
 {
     take_seed(argc, argv);
@@ -367,9 +375,11 @@ int main(int argc, char **argv)
     MUST(bitm_version() == BITM_VERSION_NUMBER);
     uint64_t ones;
     for (size_t i = 0; i < WORDS; i++) words[i] = draw() | (uint64_t)1 << 63;
-    MUST(bitm_build(words, WORDS, upper, UPPERS, lower, LOWERS, &ones) == BITM_OK);
-    const struct bitm_view view = {words, WORDS, upper, UPPERS, lower, LOWERS};
+    MUST(bitm_index_build(words, WORDS, upper, UPPERS, lower, LOWERS, &ones) == BITM_OK);
+    const struct bitm_index view = index_over(words, WORDS, upper, UPPERS, lower, LOWERS);
     wrong_lengths();
+    numbers_by_hand();
+    bytes_by_hand();
     none_of_right_tables(&view, ones);
     bits_of_right_tables(&view);
     files();

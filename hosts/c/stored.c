@@ -1,6 +1,6 @@
-/* Writes an index with samples and a sequence into files, each part built in its place, maps them and asks them.
+/* Writes an index with samples and a sequence into files, each part built in its place, maps them and queries them.
  * Then spoils each byte of the headers, cuts the files at each byte, and reads 10,000 headers that were drawn: no
- * view leads outside the bytes, behind which stands a page that may not be touched. */
+ * view leads outside the bytes, past which stands a page that may not be touched. */
 #define _DEFAULT_SOURCE
 #include "guard.h"
 
@@ -13,9 +13,9 @@
 #define ONES "stored.index"
 #define NUMBERS "stored.sequence"
 
-static void *part(uint64_t *file, struct bitm_span span)
+static uint32_t *samples_room(uint64_t *file, struct bitm_span part)
 {
-    return (char *)file + span.at;
+    return (uint32_t *)(void *)bitm_stored_room(file, part);
 }
 
 static void write_file(const char *name, const uint64_t *file, uint64_t size)
@@ -24,7 +24,7 @@ static void write_file(const char *name, const uint64_t *file, uint64_t size)
     MUST(out && fwrite(file, 1, size, out) == size && fclose(out) == 0);
 }
 
-/* The file's bytes, mapped; what is behind them is a page that may not be touched, or the rest of the last page. */
+/* The file's bytes, mapped; what is past them is a page that may not be touched, or the rest of the last page. */
 static const uint64_t *map_file(const char *name, size_t *size)
 {
     FILE *in = fopen(name, "rb");
@@ -35,15 +35,15 @@ static const uint64_t *map_file(const char *name, size_t *size)
     return file;
 }
 
-/* Samples of each kind, built in their place: the header is written again with as many as there are. */
-static struct bitm_stored sampled(uint64_t *file, struct bitm_stored s, const struct bitm_view *view)
+/* Samples of each kind, built in their place: the header is written again with their number. */
+static struct bitm_stored sampled(uint64_t *file, struct bitm_stored s, const struct bitm_index *view)
 {
     uint64_t ones, zeros;
-    MUST(bitm_build_samples(view, LOG2, part(file, s.samples), s.samples.len, part(file, s.starts), s.starts.len,
-                            &ones) == BITM_OK);
+    MUST(bitm_index_build_samples(view, true, LOG2, samples_room(file, s.samples), s.samples.len,
+                                  bitm_stored_room(file, s.starts), s.starts.len, &ones) == BITM_OK);
     MUST(bitm_stored_index(BITS, LOG2, ones, LOG2, s.samples0.len, &s) == BITM_OK);
-    MUST(bitm_build_samples0(view, LOG2, part(file, s.samples0), s.samples0.len, part(file, s.starts0), s.starts0.len,
-                             &zeros) == BITM_OK);
+    MUST(bitm_index_build_samples(view, false, LOG2, samples_room(file, s.samples0), s.samples0.len,
+                                  bitm_stored_room(file, s.starts0), s.starts0.len, &zeros) == BITM_OK);
     MUST(bitm_stored_index(BITS, LOG2, ones, LOG2, zeros, &s) == BITM_OK);
     memcpy(file, &s, sizeof s);
     return s;
@@ -52,18 +52,19 @@ static struct bitm_stored sampled(uint64_t *file, struct bitm_stored s, const st
 static void write_index(void)
 {
     struct bitm_stored s;
-    uint64_t most = bitm_samples_len(WORDS, LOG2), ones;
+    uint64_t most = bitm_index_samples_len(WORDS, LOG2), ones;
     MUST(bitm_stored_index(BITS, LOG2, most, LOG2, most, &s) == BITM_OK && sizeof s == 192 && s.size % 64 == 0);
-    MUST(s.words.at == 192 && s.words.len == WORDS && s.upper.len == bitm_upper_len(WORDS));
+    MUST(s.words.at == 192 && s.words.len == WORDS && s.upper.len == bitm_index_upper_len(WORDS));
     uint64_t *file = aligned_alloc(64, s.size);
     MUST(file);
     memset(file, 0, s.size);
-    uint64_t *words = part(file, s.words);
+    uint64_t *words = bitm_stored_room(file, s.words);
     for (size_t i = 0; i < WORDS; i++)
         words[i] = draw() & draw();
-    bitm_clear_from(words, WORDS, BITS);
-    MUST(bitm_build(words, WORDS, part(file, s.upper), s.upper.len, part(file, s.lower), s.lower.len, &ones) == BITM_OK);
-    struct bitm_view view = bitm_stored_view(file, &s);
+    MUST(bitm_bits_clear_from(words, WORDS, BITS) == BITM_OK);
+    MUST(bitm_index_build(words, WORDS, bitm_stored_room(file, s.upper), s.upper.len, bitm_stored_room(file, s.lower),
+                          s.lower.len, &ones) == BITM_OK);
+    struct bitm_index view = bitm_stored_index_of(file, &s);
     s = sampled(file, s, &view);
     write_file(ONES, file, s.size);
     free(file);
@@ -81,41 +82,45 @@ static void write_sequence(void)
     uint64_t *file = aligned_alloc(64, s.size);
     MUST(file);
     memset(file, 0, s.size);
-    MUST(bitm_sequence_build(items, ITEMS, part(file, s.low), s.low.len, part(file, s.words), s.words.len,
-                             part(file, s.upper), s.upper.len, part(file, s.lower), s.lower.len, &width) == BITM_OK);
+    MUST(bitm_sequence_build(items, ITEMS, bitm_stored_room(file, s.low), s.low.len, bitm_stored_room(file, s.words),
+                             s.words.len, bitm_stored_room(file, s.upper), s.upper.len, bitm_stored_room(file, s.lower),
+                             s.lower.len, &width) == BITM_OK);
     memcpy(file, &s, sizeof s);
     write_file(NUMBERS, file, s.size);
     for (size_t i = 0; i < ITEMS; i++) {
         uint64_t got;
-        struct bitm_sequence_view view = bitm_stored_sequence_view(file, &s);
+        struct bitm_sequence view = bitm_stored_sequence_of(file, &s);
         MUST(bitm_sequence_get(&view, i, &got) == BITM_OK && got == items[i]);
     }
     free(file);
 }
 
-static void ask_index(const uint64_t *file, size_t size)
+static void query_index(const uint64_t *file, size_t size)
 {
     struct bitm_stored s;
-    uint64_t ones = 0, zeros = 0, place;
-    MUST(bitm_read_stored(file, size / 8, &s) == BITM_OK && s.kind == BITM_STORED_INDEX);
-    MUST(s.len == BITS && s.size == size);
-    struct bitm_view view = bitm_stored_view(file, &s);
-    struct bitm_samples samples = bitm_stored_samples(file, &s), samples0 = bitm_stored_samples0(file, &s);
-    MUST(bitm_check(&view) == BITM_OK && bitm_check_samples(&view, &samples) == BITM_OK);
-    MUST(bitm_check_samples0(&view, &samples0) == BITM_OK);
-    MUST(bitm_check_samples0(&view, &samples) == BITM_WRONG && bitm_check_samples(&view, &samples0) == BITM_WRONG);
+    uint64_t ones = 0, zeros = 0, position;
+    MUST(bitm_stored_read(file, size / 8, &s) == BITM_OK && s.kind == BITM_STORED_INDEX);
+    MUST(s.len == BITS && s.size == size && memcmp(&s.mark, "bitmtab\2", 8) == 0);
+    struct bitm_index index = bitm_stored_index_of(file, &s), turned = index;
+    MUST(index.bits_len == BITS && index.ones.log2 == LOG2 && index.zeros.log2 == LOG2);
+    MUST(index.reserved[0] == 0 && index.reserved[1] == 0 && index.ones.reserved == 0 && index.zeros.reserved == 0);
+    MUST(bitm_index_check(&index) == BITM_OK && bitm_index_check_samples(&index, true) == BITM_OK);
+    MUST(bitm_index_check_samples(&index, false) == BITM_OK);
+    turned.ones = index.zeros, turned.zeros = index.ones;
+    MUST(bitm_index_check_samples(&turned, false) == BITM_WRONG &&
+         bitm_index_check_samples(&turned, true) == BITM_WRONG);
     for (uint64_t i = 0; i < BITS; i++) {
-        if (bit_of(view.words, i))
-            MUST(bitm_sampled_select(&view, &samples, ones++, &place) == BITM_OK && place == i);
+        if (bit_of(index.words, i))
+            MUST(bitm_index_select(&index, true, ones++, &position) == BITM_OK && position == i);
         else
-            MUST(bitm_sampled_select0(&view, &samples0, zeros++, &place) == BITM_OK && place == i);
+            MUST(bitm_index_select(&index, false, zeros++, &position) == BITM_OK && position == i);
     }
-    MUST(bitm_sampled_select(&view, &samples, ones, &place) == BITM_NONE);
+    MUST(bitm_index_select(&index, true, ones, &position) == BITM_NONE);
 }
 
-/* The count of ones, and all places of both kinds, as the bits themselves say: by steps of some places, into room
- * behind which nothing is written. */
-static void list_bits(const struct bitm_bits_view *bits)
+/* The counts and positions of both kinds, as the bits themselves say: some positions at a time, into room past which
+ * nothing is written. */
+static void list_bits(const struct bitm_index *bits)
 {
     uint64_t out[40], written, ones = 0, got;
     for (uint64_t kind = 0; kind < 2; kind++)
@@ -123,10 +128,9 @@ static void list_bits(const struct bitm_bits_view *bits)
             size_t room = 1 + draw() % 39;
             for (size_t i = 0; i < 40; i++)
                 out[i] = UNTOUCHED;
-            MUST((kind ? bitm_bits_ones(bits, from, out, room, &written)
-                       : bitm_bits_zeros(bits, from, out, room, &written)) == BITM_OK && written <= room);
+            MUST(bitm_index_positions(bits, kind, from, out, room, &written) == BITM_OK && written <= room);
             for (size_t i = 0; i < written; i++, next++, ones += kind) {
-                while (next < bits->bits_len && bit_of(bits->view.words, next) != kind)
+                while (next < bits->bits_len && bit_of(bits->words, next) != kind)
                     next++;
                 MUST(out[i] == next && next < bits->bits_len);
             }
@@ -134,47 +138,53 @@ static void list_bits(const struct bitm_bits_view *bits)
                 MUST(out[i] == UNTOUCHED);
             done = written < room;
             while (done && next < bits->bits_len)
-                MUST(bit_of(bits->view.words, next++) != kind);
+                MUST(bit_of(bits->words, next++) != kind);
         }
-    MUST(bitm_bits_count(bits, &got) == BITM_OK && got == ones);
+    MUST(bitm_index_count(bits, true, &got) == BITM_OK && got == ones);
+    MUST(bitm_index_count(bits, false, &got) == BITM_OK && got == bits->bits_len - ones);
 }
 
-/* Bits behind the content, ones or zeros, are neither counted nor found. */
-static void ask_bits(const uint64_t *file, size_t size)
+/* Bits past the end, 1 bits or 0 bits, are neither counted nor found. */
+static void query_bits(const uint64_t *file, size_t size)
 {
     struct bitm_stored s;
-    uint64_t ones = 0, got, kept = UNTOUCHED, behind[2] = {UINT64_MAX, 0};
-    MUST(bitm_read_stored(file, size / 8, &s) == BITM_OK);
-    struct bitm_bits_view bits = bitm_stored_bits_view(file, &s);
+    uint64_t ones = 0, got, kept = UNTOUCHED, past[2] = {UINT64_MAX, 0};
+    MUST(bitm_stored_read(file, size / 8, &s) == BITM_OK);
+    struct bitm_index bits = bitm_stored_index_of(file, &s);
     for (uint64_t i = 0; i < BITS; i++) {
         if (i % 61 == 0)
-            MUST(bitm_bits_rank(&bits, i, &got) == BITM_OK && got == ones);
-        if (bit_of(bits.view.words, i))
-            MUST(bitm_bits_select(&bits, ones++, &got) == BITM_OK && got == i);
+            MUST(bitm_index_rank(&bits, true, i, &got) == BITM_OK && got == ones);
+        if (bit_of(bits.words, i))
+            MUST(bitm_index_select(&bits, true, ones++, &got) == BITM_OK && got == i);
         else
-            MUST(bitm_bits_select0(&bits, i - ones, &got) == BITM_OK && got == i);
+            MUST(bitm_index_select(&bits, false, i - ones, &got) == BITM_OK && got == i);
     }
-    MUST(bitm_bits_rank(&bits, BITS, &got) == BITM_OK && got == ones);
-    MUST(bitm_bits_rank0(&bits, BITS, &got) == BITM_OK && got == BITS - ones);
-    MUST(bitm_bits_rank(&bits, BITS + 1, &kept) == BITM_NONE && bitm_bits_rank0(&bits, BITS + 1, &kept) == BITM_NONE);
-    MUST(bitm_select0(&bits.view, BITS - ones, &got) == BITM_OK && got == BITS);
-    MUST(bitm_bits_select0(&bits, BITS - ones, &kept) == BITM_NONE && bitm_bits_select(&bits, ones, &kept) == BITM_NONE);
+    MUST(bitm_index_rank(&bits, true, BITS, &got) == BITM_OK && got == ones);
+    MUST(bitm_index_rank(&bits, false, BITS, &got) == BITM_OK && got == BITS - ones);
+    MUST(bitm_index_rank(&bits, true, BITS + 1, &kept) == BITM_NONE &&
+         bitm_index_rank(&bits, false, BITS + 1, &kept) == BITM_NONE);
+    const struct bitm_index whole = cut_at(bits, 64 * WORDS);
+    MUST(bitm_index_select(&whole, false, BITS - ones, &got) == BITM_OK && got == BITS);
+    MUST(bitm_index_select(&bits, false, BITS - ones, &kept) == BITM_NONE &&
+         bitm_index_select(&bits, true, ones, &kept) == BITM_NONE);
     list_bits(&bits);
     bits.bits_len = 64 * WORDS + 1;
-    MUST(bitm_bits_rank(&bits, 0, &kept) == BITM_BAD_SIZE && bitm_bits_select(&bits, 0, &kept) == BITM_BAD_SIZE);
-    MUST(bitm_bits_count(&bits, &kept) == BITM_BAD_SIZE);
-    MUST(bitm_bits_ones(&bits, 0, behind, 1, &kept) == BITM_BAD_SIZE && behind[0] == UINT64_MAX);
-    MUST(bitm_bits_zeros(&bits, 0, behind, 1, &kept) == BITM_BAD_SIZE && behind[0] == UINT64_MAX);
+    MUST(bitm_index_rank(&bits, true, 0, &kept) == BITM_BAD_SIZE &&
+         bitm_index_select(&bits, true, 0, &kept) == BITM_BAD_SIZE);
+    MUST(bitm_index_count(&bits, true, &kept) == BITM_BAD_SIZE);
+    MUST(bitm_index_positions(&bits, true, 0, past, 1, &kept) == BITM_BAD_SIZE && past[0] == UINT64_MAX);
+    MUST(bitm_index_positions(&bits, false, 0, past, 1, &kept) == BITM_BAD_SIZE && past[0] == UINT64_MAX);
 
     uint64_t upper, lower;
-    MUST(bitm_build(behind, 2, &upper, 1, &lower, 1, &got) == BITM_OK);
+    MUST(bitm_index_build(past, 2, &upper, 1, &lower, 1, &got) == BITM_OK);
     for (uint64_t len = 0; len <= 128; len++) {
-        struct bitm_bits_view cut = {{behind, 2, &upper, 1, &lower, 1}, len};
+        struct bitm_index cut = cut_at(index_over(past, 2, &upper, 1, &lower, 1), len);
         uint64_t all = len < 64 ? len : 64;
-        MUST(bitm_bits_rank(&cut, len, &got) == BITM_OK && got == all);
+        MUST(bitm_index_rank(&cut, true, len, &got) == BITM_OK && got == all);
         list_bits(&cut);
-        MUST(bitm_bits_select(&cut, all, &kept) == BITM_NONE && bitm_bits_select0(&cut, len - all, &kept) == BITM_NONE);
-        MUST(all == 0 || (bitm_bits_select(&cut, all - 1, &got) == BITM_OK && got == all - 1));
+        MUST(bitm_index_select(&cut, true, all, &kept) == BITM_NONE &&
+             bitm_index_select(&cut, false, len - all, &kept) == BITM_NONE);
+        MUST(all == 0 || (bitm_index_select(&cut, true, all - 1, &got) == BITM_OK && got == all - 1));
     }
     MUST(kept == UNTOUCHED);
 }
@@ -183,9 +193,9 @@ static void ask_bits(const uint64_t *file, size_t size)
 static void spoil_samples(const uint64_t *file, size_t size)
 {
     struct bitm_stored s;
-    MUST(bitm_read_stored(file, size / 8, &s) == BITM_OK);
-    struct bitm_view view = bitm_stored_view(file, &s);
-    struct bitm_samples samples = bitm_stored_samples(file, &s);
+    MUST(bitm_stored_read(file, size / 8, &s) == BITM_OK);
+    struct bitm_index view = bitm_stored_index_of(file, &s);
+    struct bitm_samples samples = view.ones;
     uint32_t *numbers = malloc(4 * samples.samples_len);
     uint64_t start = 1;
     MUST(numbers);
@@ -193,17 +203,17 @@ static void spoil_samples(const uint64_t *file, size_t size)
     samples.samples = numbers;
     for (size_t i = 0; i < samples.samples_len; i++) {
         numbers[i]++;
-        MUST(bitm_check_samples(&view, &samples) == BITM_WRONG);
+        MUST(check_samples(&view, true, &samples) == BITM_WRONG);
         numbers[i]--;
     }
-    MUST(bitm_check_samples(&view, &samples) == BITM_OK);
+    MUST(check_samples(&view, true, &samples) == BITM_OK);
     samples.samples_len--;
-    MUST(bitm_check_samples(&view, &samples) == BITM_WRONG);
+    MUST(check_samples(&view, true, &samples) == BITM_WRONG);
     samples.samples_len++;
     samples.starts = &start;
-    MUST(bitm_check_samples(&view, &samples) == BITM_WRONG);
+    MUST(check_samples(&view, true, &samples) == BITM_WRONG);
     samples.starts_len = 0;
-    MUST(bitm_check_samples(&view, &samples) == BITM_WRONG);
+    MUST(check_samples(&view, true, &samples) == BITM_WRONG);
     free(numbers);
 }
 
@@ -219,39 +229,26 @@ static void spoil(const uint64_t *file, size_t size)
     for (size_t i = 0; i < 192; i++)
         for (unsigned less = 1; less < 256; less++) {
             ((unsigned char *)copy)[i] ^= (unsigned char)less;
-            MUST(bitm_read_stored(copy, size / 8, &read) == BITM_WRONG && memcmp(&read, &s, sizeof s) == 0);
+            MUST(bitm_stored_read(copy, size / 8, &read) == BITM_WRONG && memcmp(&read, &s, sizeof s) == 0);
             ((unsigned char *)copy)[i] ^= (unsigned char)less;
         }
     for (size_t words = 0; words < size / 8; words++)
-        MUST(bitm_read_stored(copy, words, &read) == BITM_WRONG);
-    MUST(bitm_read_stored(NULL, 0, &read) == BITM_WRONG && memcmp(&read, &s, sizeof s) == 0);
+        MUST(bitm_stored_read(copy, words, &read) == BITM_WRONG);
+    MUST(bitm_stored_read(NULL, 0, &read) == BITM_WRONG && memcmp(&read, &s, sizeof s) == 0);
     for (size_t i = 0; i < 24; i++) { /* the other byte order */
         uint64_t turned = 0;
         for (unsigned b = 0; b < 8; b++)
             turned |= (file[i] >> 8 * b & 255) << (56 - 8 * b);
         copy[i] = turned;
     }
-    MUST(bitm_read_stored(copy, size / 8, &read) == BITM_WRONG);
+    MUST(bitm_stored_read(copy, size / 8, &read) == BITM_WRONG);
     free(copy);
-}
-
-/* A header of version 1 is read as such, and neither version is read as the other. */
-static void old_header(const uint64_t *file)
-{
-    struct bitm_header old;
-    struct bitm_stored s;
-    uint64_t block[64] = {0}, len;
-    MUST(bitm_write_header(WORDS, &old) == BITM_OK && bitm_read_header(&old, &len) == BITM_OK && len == WORDS);
-    memcpy(block, &old, sizeof old);
-    MUST(bitm_read_stored(block, 64, &s) == BITM_WRONG);
-    memcpy(&old, file, sizeof old);
-    MUST(bitm_read_header(&old, &len) == BITM_WRONG);
 }
 
 static uint64_t little(void) { return draw() >> draw() % 64; }
 
-/* Lengths that were drawn: where a header is written for them, its parts lie inside as many bytes as it says, and a
- * file of so many is read again, and asked where it is short. */
+/* Lengths that were drawn: where a header is written for them, its parts lie inside the bytes that it says, and a
+ * file of that size is read again, and queried where it is short. */
 static unsigned drawn(void)
 {
     struct guarded block = guard(1 << 16);
@@ -274,19 +271,21 @@ static unsigned drawn(void)
         memcpy(file, &s, sizeof s);
         if (draw() % 4 == 0)
             file[draw() % 24] = little();
-        if (bitm_read_stored(file, s.size / 8, &again) != BITM_OK)
+        if (bitm_stored_read(file, s.size / 8, &again) != BITM_OK)
             continue;
         read++;
-        struct bitm_view view = bitm_stored_view(file, &again);
-        struct bitm_samples samples = bitm_stored_samples(file, &again), samples0 = bitm_stored_samples0(file, &again);
-        struct bitm_sequence_view sequence = bitm_stored_sequence_view(file, &again);
+        struct bitm_index view = bitm_stored_index_of(file, &again);
+        if (again.kind == BITM_STORED_SEQUENCE)
+            view.bits_len = 64 * view.words_len; /* the words of a sequence as an index */
+                struct bitm_sequence sequence = bitm_stored_sequence_of(file, &again);
         uint64_t got;
-        MUST(bitm_check(&view) != BITM_BAD_SIZE && bitm_check_samples(&view, &samples) != BITM_BAD_SIZE);
-        MUST(bitm_check_samples0(&view, &samples0) != BITM_BAD_SIZE);
+        MUST(bitm_index_check(&view) != BITM_BAD_SIZE && bitm_index_check_samples(&view, true) != BITM_BAD_SIZE);
+        MUST(bitm_index_check_samples(&view, false) != BITM_BAD_SIZE);
         MUST(again.kind == BITM_STORED_INDEX || bitm_sequence_check(&sequence) != BITM_BAD_SIZE);
         for (unsigned k = 0; k < 8; k++) {
-            MUST(bitm_rank(&view, little(), &got) != BITM_BAD_SIZE && bitm_select0(&view, little(), &got) != BITM_BAD_SIZE);
-            MUST(bitm_sampled_select(&view, &samples, little(), &got) != BITM_BAD_SIZE);
+            MUST(bitm_index_rank(&view, true, little(), &got) != BITM_BAD_SIZE &&
+                 bitm_index_select(&view, false, little(), &got) != BITM_BAD_SIZE);
+            MUST(bitm_index_select(&view, true, little(), &got) != BITM_BAD_SIZE);
             MUST(again.kind == BITM_STORED_INDEX || bitm_sequence_get(&sequence, little(), &got) != BITM_BAD_SIZE);
         }
     }
@@ -301,19 +300,19 @@ int main(int argc, char **argv)
     write_index();
     write_sequence();
     const uint64_t *index = map_file(ONES, &size), *sequence = map_file(NUMBERS, &length);
-    ask_index(index, size);
-    ask_bits(index, size);
+    query_index(index, size);
+    query_bits(index, size);
     spoil_samples(index, size);
     spoil(index, size);
-    MUST(bitm_read_stored(sequence, length / 8, &s) == BITM_OK && s.kind == BITM_STORED_SEQUENCE && s.len == ITEMS);
-    struct bitm_sequence_view view = bitm_stored_sequence_view(sequence, &s);
+    MUST(bitm_stored_read(sequence, length / 8, &s) == BITM_OK && s.kind == BITM_STORED_SEQUENCE && s.len == ITEMS);
+    struct bitm_sequence view = bitm_stored_sequence_of(sequence, &s);
     MUST(bitm_sequence_check(&view) == BITM_OK);
     spoil(sequence, length);
-    old_header(index);
     unsigned read = drawn();
     MUST(read > 1000);
     MUST(remove(ONES) == 0 && remove(NUMBERS) == 0);
-    printf("stored: an index of %zu bytes and a sequence of %zu, each byte of their headers spoilt, %u drawn headers read\n",
+    printf("stored: an index of %zu bytes and a sequence of %zu, each byte of their headers spoilt, %u drawn headers "
+           "read\n",
            size, length, read);
     return 0;
 }

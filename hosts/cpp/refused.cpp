@@ -1,0 +1,162 @@
+// Programs that must not compile, one for each CASE; CASE 0 has to compile. Those from 100 on keep the address of an
+// object that ends in a way that no C++17 overload sees: clang has to warn. refused.sh compiles them all.
+#include <bitm/bitm.hpp>
+
+#include <array>
+#include <vector>
+#if __cplusplus >= 202002L
+#include <span>
+#endif
+
+using words = std::vector<std::uint64_t>;
+bitm::bits some() { return bitm::bits(1000, true); }
+bitm::rank_index made() { return bitm::rank_index(words(1000, 5)); }
+bitm::sequence numbers() { return {1, 2, 3}; }
+struct held {
+    words w;
+    const std::uint64_t *data() const { return w.data(); }
+    std::size_t size() const { return w.size(); }
+    const std::uint64_t *begin() const { return data(); }
+};
+std::uint64_t query(bitm::rank_index_view v) { return v.rank(5); }
+
+#if CASE >= 100
+bitm::rank_index_view returned()
+{
+    bitm::rank_index x = made();
+    (void)x.rank(5);
+#if CASE == 100 // a view of a local index is returned
+    return x.view();
+#elif CASE == 101 // a view of the local words of a file
+    words file(100);
+    return bitm::rank_index_view::in(file);
+#endif
+    return {};
+}
+#if CASE == 103
+bitm::ones_range walk()
+{
+    const bitm::bits b = some();
+    return b.ones();
+}
+#elif CASE == 104
+bitm::bits_view over()
+{
+    const words w(5);
+    return bitm::bits_view(w);
+}
+#elif CASE == 105
+bitm::sequence_iterator first()
+{
+    const bitm::sequence s = numbers();
+    return s.begin();
+}
+#elif CASE == 106
+bitm::words_in kept()
+{
+    const words w(5);
+    return w;
+}
+#elif CASE == 107
+void kept() { bitm::words_in w = words(5); (void)w; }
+#endif
+#endif
+
+int main()
+{
+    std::vector<bitm::rank_index_view> all;
+    bitm::rank_index x = made(), y = made();
+    const words file;
+    (void)all, (void)x, (void)y, (void)file;
+#if CASE == 0 // all of these are right
+    const bitm::rank_index_view v = x.view();
+    all.push_back(x.view()), all.emplace_back(y.view());
+    for (auto p : x.ones()) (void)p;
+    for (bool b : made()) (void)b; // the index lives as long as the loop
+    (void)query(v), (void)query(made().rank(3) ? x.view() : y.view());
+#elif CASE == 1 // an owner becomes a view, which would point at what it owns
+    bitm::rank_index_view v = made();
+#elif CASE == 2
+    bitm::sequence_view v = numbers();
+#elif CASE == 3
+    bitm::rank_index_view &v = x;
+    v = y;
+#elif CASE == 4
+    all.push_back(x);
+#elif CASE == 5
+    static_cast<bitm::rank_index_view &>(x) = y.view();
+#elif CASE == 6
+    bitm::rank_index_view v(made());
+#elif CASE == 7
+    bitm::rank_index_view v{x};
+#elif CASE == 8
+    all.emplace_back(made());
+#elif CASE == 9 // views, walks and iterators of temporaries
+    auto v = made().view();
+#elif CASE == 10
+    for (auto p : made().ones()) (void)p;
+#elif CASE == 11
+    for (auto p : some().zeros(3)) (void)p;
+#elif CASE == 12
+    auto it = numbers().begin();
+#elif CASE == 13
+    auto w = numbers().walk();
+#elif CASE == 14
+    bitm::words_in w = some().words();
+#elif CASE == 15
+    auto b = made().bytes();
+#elif CASE == 16
+    const auto constant = []() -> const bitm::rank_index { return made(); };
+    auto v = constant().view();
+#elif CASE == 17
+    auto v = std::move(x).as_bits();
+#elif CASE == 18 // views of files in temporaries
+    auto v = bitm::rank_index_view::in(words(100));
+#elif CASE == 19
+    auto v = bitm::rank_index_view::in(held{words(100)});
+#elif CASE == 20
+    auto v = bitm::rank_index_view::in(static_cast<const words &&>(file));
+#elif CASE == 21
+    auto v = bitm::sequence_view::in(words(100));
+#elif CASE == 22
+    bitm::bits_view v(words(100));
+#elif CASE == 23
+    bitm::bits_view v(std::array<std::uint64_t, 4>{});
+#elif CASE == 25 // changes of constants
+    const bitm::bits b = some();
+    b[3] = true;
+#elif CASE == 26
+    x[3] = true;
+#elif CASE == 27
+    std::vector<int> falling{3, 4};
+    bitm::sequence s(falling.begin(), falling.end());
+#elif CASE == 28
+    bitm::rank_index *owner = nullptr;
+    bitm::rank_index_view *v = owner;
+#elif CASE == 29
+    (void)query(made());
+#elif CASE == 30
+    auto h = bitm::perfect_hash(file).sizes();
+#elif CASE == 31
+    auto v = bitm::rank_index::try_load("a")->view();
+#elif CASE == 32
+    auto &v = made().raw();
+#elif CASE == 33
+    auto p = some().words_data();
+#elif CASE == 34
+    bitm::bits b{100, true}; // a list of bits: the size goes into ( )
+#elif CASE == 35
+    const bool b = x == made().rank(3);
+#elif CASE == 36 // bits are not numbers: their size counts bits
+    const bitm::bits b = some();
+    bitm::words_in w = b;
+#elif CASE == 37
+    const bitm::bits b = some();
+    bitm::bits_view v(b);
+#elif CASE == 110 // an answer that is not looked at
+    bitm::rank_index::try_load("a");
+#elif CASE >= 100
+#else
+#error "no such case"
+#endif
+}

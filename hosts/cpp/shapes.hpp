@@ -1,0 +1,118 @@
+// What the types of the C++ interface are, which of them convert, and single examples with answers by hand.
+#ifndef SHAPES_HPP
+#define SHAPES_HPP
+
+#include "model.hpp"
+
+#include <strings.h>
+
+template <class T> constexpr bool regular()
+{
+    return std::is_default_constructible_v<T> && std::is_copy_constructible_v<T> && std::is_copy_assignable_v<T> &&
+           std::is_nothrow_move_constructible_v<T> && std::is_nothrow_move_assignable_v<T> &&
+           std::is_nothrow_swappable_v<T> && std::is_nothrow_default_constructible_v<T>;
+}
+static_assert(regular<bitm::bits>() && regular<bitm::bits_view>() && regular<bitm::rank_index>() &&
+              regular<bitm::rank_index_view>());
+static_assert(regular<bitm::sequence>() && regular<bitm::sequence_view>() && regular<bitm::perfect_hash>());
+// No owner is, or converts by itself to, a view.
+template <class Owner, class View>
+constexpr bool apart = !std::is_convertible_v<Owner, View> && !std::is_convertible_v<Owner &, View> &&
+                       !std::is_convertible_v<Owner *, View *> && !std::is_constructible_v<View, Owner>;
+static_assert(apart<bitm::bits, bitm::bits_view> && apart<bitm::rank_index, bitm::rank_index_view> &&
+              apart<bitm::sequence, bitm::sequence_view>);
+// Bits are no container of words: their size counts bits.
+static_assert(!std::is_convertible_v<bitm::bits &, bitm::words_in> &&
+              !std::is_constructible_v<bitm::words_in, bitm::bits_view &> &&
+              !std::is_constructible_v<bitm::bits_view, bitm::bits &> &&
+              !std::is_constructible_v<bitm::words_in, bitm::sequence &>);
+#if __cplusplus >= 202002L
+namespace sr = std::ranges;
+static_assert(std::random_access_iterator<bitm::bits_iterator> && std::random_access_iterator<bitm::sequence_iterator>);
+static_assert(std::bidirectional_iterator<bitm::ones_range::iterator> &&
+              std::bidirectional_iterator<bitm::zeros_range::iterator>);
+static_assert(sr::random_access_range<bitm::bits> && sr::random_access_range<bitm::bits_view> &&
+              sr::random_access_range<bitm::rank_index> && sr::random_access_range<bitm::sequence> &&
+              sr::random_access_range<const bitm::sequence_view>);
+static_assert(sr::sized_range<bitm::bits> && sr::sized_range<bitm::sequence> && sr::common_range<bitm::sequence>);
+static_assert(sr::view<bitm::bits_view> && sr::view<bitm::sequence_view> && sr::view<bitm::ones_range> &&
+              sr::view<bitm::rank_index_view>);
+static_assert(sr::borrowed_range<bitm::bits_view> && sr::borrowed_range<bitm::ones_range> &&
+              sr::borrowed_range<bitm::sequence_view>);
+static_assert(!sr::borrowed_range<bitm::bits> && !sr::borrowed_range<bitm::sequence>);
+static_assert(sr::bidirectional_range<bitm::ones_range> && sr::bidirectional_range<bitm::zeros_range>);
+static_assert(sr::random_access_range<bitm::fragments_range> && sr::view<bitm::fragments_range> &&
+              sr::sized_range<bitm::fragments_range>);
+static_assert(sr::input_range<bitm::sequence_walk>);
+#endif
+// The names are not those of <strings.h>, which has a function `index`.
+static void by_using()
+{
+    using namespace bitm;
+    const bits b("101");
+    const rank_index x(b);
+    const rank_index_view v = x.view();
+    CHECK(x.count() == 2 && v.select(1) == maybe_position(2));
+}
+
+static void once()
+{
+    by_using();
+    CHECK(bitm::version_fits());
+    const bitm::bits b{true, false, true};
+    CHECK(b.size() == 3 && b[2] && !b[1] && bitm::bits("101") == b && b.front() && b.back());
+    THROWS(std::invalid_argument, bitm::bits("102"));
+    bitm::bits e;
+    CHECK(e.empty() && !e.next_one(0) && e.all() && e.none() && e.ones().empty());
+    bitm::rank_index none;
+    CHECK(none.empty() && !none.select(0) && none.rank(0) == 0 && none.check() && none.bytes().size() == 0);
+    std::unordered_set<bitm::bits> set{b, e, bitm::bits("101")};
+    CHECK(set.size() == 2);
+    std::ostringstream out;
+    out << b << ' ' << bitm::sequence{2, 3, 5} << ' ' << bitm::rank_index(b);
+    CHECK(out.str() == "101 [2, 3, 5] 101");
+    bitm::rank_index direct =
+        bitm::rank_index::build(130, {7, 7}, [](bitm::words_out words) { words[0] = 5, words[2] = ~u64{}; });
+    CHECK(direct.count() == 4 && direct.check() && *direct.select(3) == 129 && !direct.select(4));
+    const std::map<std::string, bitm::rank_index> member{{"a", direct}};
+    CHECK(member.at("a").count() == 4);
+#if __cplusplus >= 202002L &&                                                                                          \
+    (!defined __clang__ || __clang_major__ >= 16) // older ones do not compile libstdc++'s views
+    namespace v = std::views;
+    u64 sum = 0;
+    for (const u64 at :
+         direct.ones() | v::filter([](u64 p) { return p % 2 == 0; }) | v::transform([](u64 p) { return p + 1; }))
+        sum += at;
+    CHECK(sum == 1 + 3 + 129);
+    std::vector<u64> last;
+    for (const u64 at : direct.ones() | v::reverse | v::take(2)) last.push_back(at);
+    CHECK((last == std::vector<u64>{129, 128}));
+    const bitm::sequence s{2, 3, 5, 7, 11};
+    CHECK(std::ranges::distance(s) == 5 && *std::ranges::lower_bound(s, u64{6}) == 7 &&
+          std::ranges::count(s, u64{7}) == 1);
+    CHECK(*(s | v::drop(2) | v::take(2)).begin() == 5 && std::ranges::max(s) == 11);
+    CHECK(std::ranges::equal(s | v::reverse | v::take(2), std::vector<u64>{11, 7}));
+    auto walk = s.walk(1);
+    CHECK(std::ranges::equal(walk | v::take(2), std::vector<u64>{3, 5}));
+    CHECK(std::ranges::count(b, true) == 2 && std::ranges::equal(b.view() | v::reverse, b));
+    const std::vector<u64> words{5, 6};
+    const bitm::bits_view of_span{std::span<const u64>(words)};
+    CHECK(of_span.count() == 4);
+    const std::span<const u64> back(bitm::words_in{words});
+    CHECK(back.size() == 2);
+#endif
+#if defined __cpp_lib_format
+    CHECK(std::format("{} {:>5} {}", b, b, s) == "101   101 [2, 3, 5, 7, 11]");
+    CHECK(std::format("{}", direct.view()).size() == 130);
+    std::puts("std::format tried");
+#endif
+#if defined __cpp_lib_expected
+    const std::expected<u64, bitm::failure> got = direct.try_rank(1000);
+    CHECK(!got && got.error().code == bitm::errc::outside);
+    const std::expected<bitm::rank_index, bitm::failure> file = bitm::rank_index::try_load("no/such/file");
+    CHECK(!file);
+    std::puts("std::expected tried");
+#endif
+}
+
+#endif

@@ -1,0 +1,266 @@
+// What all of the headers of bitm share: errors, results, and which types outlive a call. C++17, more in C++20.
+//
+// Each type is the same in every language mode, so that units compiled as C++17, 20 and 23 link together: where the
+// standard library of the mode has a type of the same use (std::span, std::expected), values convert. Units without
+// exceptions differ, and so have an inline namespace of another name.
+#ifndef BITM_CORE_HPP
+#define BITM_CORE_HPP
+
+#include <bitm.h>
+
+#include <cstddef>
+#include <cstdint>
+#include <cstdio>
+#include <cstdlib>
+#include <cstring>
+#include <initializer_list>
+#include <iterator>
+#include <limits>
+#include <new>
+#include <optional>
+#include <type_traits>
+#include <utility>
+
+#if defined __cpp_exceptions
+#include <stdexcept>
+#include <string>
+#endif
+#if __cplusplus >= 202002L
+#include <ranges>
+#include <version>
+#endif
+#if defined __cpp_lib_expected
+#include <expected>
+#endif
+
+// The result, or the object, points into what the argument, or *this, holds: clang warns where that ends first.
+#if defined __has_cpp_attribute
+#if __has_cpp_attribute(clang::lifetimebound)
+#define BITM_LIFETIMEBOUND [[clang::lifetimebound]]
+#elif __has_cpp_attribute(msvc::lifetimebound)
+#define BITM_LIFETIMEBOUND [[msvc::lifetimebound]]
+#endif
+#if __has_cpp_attribute(gsl::Pointer)
+#define BITM_POINTER [[gsl::Pointer]]
+#define BITM_OWNER [[gsl::Owner]]
+#endif
+#endif
+#ifndef BITM_LIFETIMEBOUND
+#define BITM_LIFETIMEBOUND
+#endif
+#ifndef BITM_POINTER
+#define BITM_POINTER
+#define BITM_OWNER
+#endif
+
+#if defined __GNUC__
+#define BITM_RARELY(condition) __builtin_expect(static_cast<bool>(condition), 0)
+#define BITM_COLD __attribute__((cold, noinline))
+#else
+#define BITM_RARELY(condition) (condition)
+#define BITM_COLD
+#endif
+
+#if defined __cpp_exceptions
+#define BITM_NAMESPACE_BEGIN namespace bitm { inline namespace v1 {
+#else
+#define BITM_NAMESPACE_BEGIN namespace bitm { inline namespace v1_no_exceptions {
+#endif
+#define BITM_NAMESPACE_END } }
+
+BITM_NAMESPACE_BEGIN
+
+// A position, or none.
+using maybe_position = std::optional<std::uint64_t>;
+
+// In lists of answers: there is no such position; the tables are not those of the words.
+inline constexpr std::uint64_t no_answer = BITM_NO_ANSWER, wrong_answer = BITM_WRONG_TABLES;
+
+// Whether the library that is linked is the one of these headers.
+inline bool version_fits() noexcept { return bitm_version() == BITM_VERSION_NUMBER; }
+
+// ---- errors
+
+enum class errc : std::uint8_t {
+    none = 0,
+    bad_size = BITM_BAD_SIZE, // sizes that do not fit, or more words than 2^58
+    wrong = BITM_WRONG,       // the tables are not those of the words, the parts not those of a sequence
+    unsorted = BITM_UNSORTED, // a number is less than the one before it
+    outside = 16,             // a position past the end
+    wrong_file,               // not a file of this format, or not a whole one
+    no_file,                  // the system does not open, read, map or write it
+    equal_keys,               // two keys of a perfect hash have one hash
+    overlap                   // memory that is written overlaps what is read
+};
+
+// What went wrong: position `at` of `of` where it is `outside`; `at` is errno where it is `no_file`.
+struct failure {
+    errc code = errc::none;
+    std::uint64_t at = 0, of = 0;
+
+    const char *text() const noexcept
+    {
+        switch (code) {
+        case errc::none: return "bitm: no error";
+        case errc::bad_size: return "bitm: sizes that do not fit together, or 2^58 words or more";
+        case errc::wrong: return "bitm: the tables are not those of the words";
+        case errc::unsorted: return "bitm: a number is less than the one before it";
+        case errc::outside: return "bitm: a position past the end";
+        case errc::wrong_file: return "bitm: not a file of this format, or not a whole one";
+        case errc::no_file: return "bitm: the file cannot be opened, read or written";
+        case errc::equal_keys: return "bitm: two keys are equal, or their hashes are";
+        case errc::overlap: return "bitm: memory that is written overlaps what is read";
+        }
+        return "bitm: not an error of this library";
+    }
+    friend bool operator==(const failure &a, const failure &b) noexcept
+    {
+        return a.code == b.code && a.at == b.at && a.of == b.of;
+    }
+    friend bool operator!=(const failure &a, const failure &b) noexcept { return !(a == b); }
+};
+
+#if defined __cpp_exceptions
+struct wrong_tables : std::runtime_error {
+    wrong_tables() : std::runtime_error("bitm: the tables are not those of the words") {}
+};
+struct wrong_file : std::runtime_error {
+    using std::runtime_error::runtime_error;
+};
+#endif
+
+// Throws the exception of an error: std::invalid_argument, std::out_of_range, bitm::wrong_tables or bitm::wrong_file.
+// Without exceptions it ends the program with a line that says what was wrong: use the `try_` calls there.
+[[noreturn]] BITM_COLD inline void fail(const failure &why)
+{
+#if defined __cpp_exceptions
+    switch (why.code) {
+    case errc::wrong: throw wrong_tables();
+    case errc::wrong_file: throw wrong_file(why.text());
+    case errc::no_file: throw wrong_file(why.text() + std::string(": ") + std::strerror(static_cast<int>(why.at)));
+    case errc::outside:
+        throw std::out_of_range(why.text() + (": " + std::to_string(why.at)) + " of " + std::to_string(why.of));
+    default: throw std::invalid_argument(why.text());
+    }
+#else
+    std::fprintf(stderr, "%s: %llu of %llu\n", why.text(), static_cast<unsigned long long>(why.at),
+                 static_cast<unsigned long long>(why.of));
+    std::abort();
+#endif
+}
+
+// A value, or the error because of which there is none. Converts to std::expected where there is one.
+template <class T> class [[nodiscard]] result {
+public:
+    result(T value) noexcept(std::is_nothrow_move_constructible_v<T>) : value_(std::move(value)) {}
+    result(failure why) noexcept : error_(why) {}
+
+    bool has_value() const noexcept { return error_.code == errc::none; }
+    explicit operator bool() const noexcept { return has_value(); }
+    // The value: fails where there is none.
+    T &value() & BITM_LIFETIMEBOUND { return checked(), value_; }
+    const T &value() const & BITM_LIFETIMEBOUND { return checked(), value_; }
+    T value() && { return checked(), std::move(value_); }
+    T &operator*() & BITM_LIFETIMEBOUND { return value(); }
+    const T &operator*() const & BITM_LIFETIMEBOUND { return value(); }
+    T operator*() && { return std::move(*this).value(); }
+    T *operator->() & BITM_LIFETIMEBOUND { return &value(); }
+    const T *operator->() const & BITM_LIFETIMEBOUND { return &value(); }
+    void operator->() const && = delete; // a view of its value would end with the line: write (*try_load(..)).rank(5)
+    T value_or(T other) const & { return has_value() ? value_ : std::move(other); }
+    T value_or(T other) && { return has_value() ? std::move(value_) : std::move(other); }
+    const failure &error() const & noexcept BITM_LIFETIMEBOUND { return error_; }
+    failure error() && noexcept { return error_; }
+#if defined __cpp_lib_expected
+    operator std::expected<T, failure>() const &
+    {
+        if (has_value()) return value_;
+        return std::unexpected(error_);
+    }
+    operator std::expected<T, failure>() &&
+    {
+        if (has_value()) return std::move(value_);
+        return std::unexpected(error_);
+    }
+#endif
+
+private:
+    void checked() const
+    {
+        if (BITM_RARELY(!has_value())) fail(error_);
+    }
+    T value_{};
+    failure error_{};
+};
+
+namespace detail {
+
+[[noreturn]] BITM_COLD inline void outside(std::uint64_t at, std::uint64_t of) { fail({errc::outside, at, of}); }
+
+// The error of a status that is not BITM_OK, where BITM_NONE means that a position is past the end.
+inline failure error_of(std::uint32_t status, std::uint64_t at = 0, std::uint64_t of = 0) noexcept
+{
+    if (status == BITM_NONE) return {errc::outside, at, of};
+    return {static_cast<errc>(status), 0, 0};
+}
+[[noreturn]] BITM_COLD inline void fail_status(std::uint32_t status, std::uint64_t at = 0, std::uint64_t of = 0)
+{
+    fail(error_of(status, at, of));
+}
+inline void need(std::uint32_t status)
+{
+    if (BITM_RARELY(status != BITM_OK)) fail_status(status);
+}
+// Where BITM_NONE means that there is none: returns whether the answer was written.
+inline bool there(std::uint32_t status)
+{
+    if (BITM_RARELY(status > BITM_NONE)) fail_status(status);
+    return status == BITM_OK;
+}
+// The number of an answer, or none: fails where the status is neither BITM_OK nor BITM_NONE.
+inline maybe_position found(std::uint32_t status, std::uint64_t out)
+{
+    if (status == BITM_OK) return out;
+    if (BITM_RARELY(status != BITM_NONE)) fail_status(status);
+    return std::nullopt;
+}
+inline result<maybe_position> tried(std::uint32_t status, std::uint64_t out) noexcept
+{
+    if (status == BITM_OK) return maybe_position(out);
+    if (status == BITM_NONE) return maybe_position();
+    return error_of(status);
+}
+// The status of a list, whose answers are written: fails where one of them says that the tables are wrong.
+inline void need_list(std::uint32_t status, const bitm_list_counts &counts)
+{
+    need(status);
+    if (BITM_RARELY(counts.wrong != 0)) fail_status(BITM_WRONG);
+}
+
+template <class T> using bare = std::remove_cv_t<std::remove_reference_t<T>>;
+template <class Held> using data_of = decltype(std::declval<Held &>().data());
+// Containers of numbers one after another: data() points at the items that begin() reads and size() counts. (The size
+// of bits counts bits, so they are none.)
+template <class Held, class T, class = void> struct holds : std::false_type {};
+template <class Held, class T> struct holds<
+    Held, T,
+    std::void_t<data_of<Held>, decltype(std::declval<Held &>().size()), decltype(*std::declval<Held &>().begin())>>
+    : std::bool_constant<
+          std::is_convertible_v<data_of<Held>, T *> &&
+          std::is_same_v<decltype(*std::declval<Held &>().begin()), decltype(*std::declval<Held &>().data())> &&
+          std::is_same_v<std::remove_cv_t<std::remove_pointer_t<data_of<Held>>>, std::remove_cv_t<T>>> {
+};
+
+// Types whose data outlive them: a view may keep what a temporary of such a type points at.
+template <class T> struct borrows
+#if __cplusplus >= 202002L
+    : std::bool_constant<std::ranges::borrowed_range<T>> {};
+#else
+    : std::false_type {};
+#endif
+
+} // namespace detail
+
+BITM_NAMESPACE_END
+
+#endif

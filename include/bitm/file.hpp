@@ -1,0 +1,258 @@
+// Files: an owner is one block of memory, which is the file byte for byte; so it is written at once and mapped where it
+// lies. Part of the other headers.
+#ifndef BITM_FILE_HPP
+#define BITM_FILE_HPP
+
+#include <bitm/memory.hpp>
+
+#include <cerrno>
+#include <iosfwd>
+#include <memory>
+
+#include <fcntl.h>
+#include <sys/mman.h>
+#include <sys/stat.h>
+#include <unistd.h>
+
+BITM_NAMESPACE_BEGIN
+
+// Whether the tables of what is loaded are checked (one pass), or its header alone. Over wrong tables answers are safe,
+// but may be wrong.
+enum class verify : bool { no, yes };
+
+namespace detail {
+
+// A path as the system takes it, of a std::string, a std::filesystem::path or a literal.
+class path_of {
+public:
+    path_of(const char *path) noexcept : path_(path) {}
+    template <class Path, class = std::enable_if_t<
+                              std::is_convertible_v<decltype(std::declval<const Path &>().c_str()), const char *>>>
+    path_of(const Path &path BITM_LIFETIMEBOUND) noexcept : path_(path.c_str())
+    {
+    }
+    const char *get() const noexcept { return path_; }
+
+private:
+    const char *path_;
+};
+
+inline failure no_file() noexcept { return {errc::no_file, static_cast<std::uint64_t>(errno), 0}; }
+
+struct open_file {
+    explicit open_file(int descriptor) noexcept : at(descriptor) {}
+    ~open_file()
+    {
+        if (at >= 0) ::close(at);
+    }
+    open_file(const open_file &) = delete;
+    open_file &operator=(const open_file &) = delete;
+    int at;
+};
+
+inline void free_map(std::uint64_t *data, std::size_t words) noexcept { ::munmap(data, 8 * words); }
+
+// A file that is read where it lies. If it is truncated meanwhile, the system ends the program (SIGBUS).
+inline result<block> mapped(path_of path) noexcept
+{
+    const open_file file(::open(path.get(), O_RDONLY | O_CLOEXEC));
+    struct stat about;
+    if (file.at < 0 || ::fstat(file.at, &about) != 0) return no_file();
+    const std::size_t words = static_cast<std::size_t>(about.st_size) / 8;
+    if (about.st_size < static_cast<off_t>(sizeof(bitm_stored))) return failure{errc::wrong_file};
+    void *at = ::mmap(nullptr, 8 * words, PROT_READ, MAP_SHARED, file.at, 0);
+    if (at == MAP_FAILED) return no_file();
+    return block(static_cast<std::uint64_t *>(at), words, free_map);
+}
+
+inline bool write_all(int to, const void *data, std::size_t bytes) noexcept
+{
+    for (std::size_t done = 0; done < bytes;) {
+        const ssize_t got = ::write(to, static_cast<const char *>(data) + done, bytes - done);
+        if (got < 0 && errno != EINTR) return false;
+        if (got > 0) done += static_cast<std::size_t>(got);
+    }
+    return true;
+}
+
+// A new file beside a path, opened exclusively, which becomes the file of that path or is removed.
+class replacement {
+public:
+    explicit replacement(const char *path) noexcept
+        : path_(path), name_(new (std::nothrow) char[std::strlen(path) + 48])
+    {
+        for (unsigned attempt = 0; name_ && attempt < 100; attempt++) {
+            std::snprintf(name_.get(), std::strlen(path) + 48, "%s.%ld-%u.tmp", path, static_cast<long>(::getpid()),
+                          attempt);
+            to_ = ::open(name_.get(), O_WRONLY | O_CREAT | O_EXCL | O_CLOEXEC, 0666);
+            if (to_ >= 0 || errno != EEXIST) return;
+        }
+    }
+    ~replacement()
+    {
+        const int before = errno;
+        if (to_ >= 0) ::close(to_), ::unlink(name_.get());
+        errno = before;
+    }
+    replacement(const replacement &) = delete;
+    replacement &operator=(const replacement &) = delete;
+    int descriptor() const noexcept { return to_; }
+    // Makes it the file of the path once its bytes are on the disk. `old` is what the path was, if it was there.
+    bool commit(const struct stat *old) noexcept
+    {
+        if (old && ::fchmod(to_, old->st_mode & 07777) != 0) return false;
+        if (::fsync(to_) != 0 || ::rename(name_.get(), path_) != 0) return false;
+        ::close(to_), to_ = -1;
+        char *const slash = std::strrchr(name_.get(), '/'); // the name is on the disk with its folder
+        if (slash) slash[slash == name_.get()] = '\0';
+        const open_file folder(::open(slash ? name_.get() : ".", O_RDONLY | O_DIRECTORY | O_CLOEXEC));
+        if (folder.at >= 0) (void)!::fsync(folder.at);
+        return true;
+    }
+
+private:
+    const char *path_;
+    std::unique_ptr<char[]> name_;
+    int to_ = -1;
+};
+
+// Writes a whole file, or leaves what was there: beside it, and renamed once it is on the disk. What is there and no
+// regular file (a device, a pipe) is written as it is.
+inline result<bool> written(path_of path, const void *data, std::size_t bytes) noexcept
+{
+    struct stat old;
+    const bool is_there = ::stat(path.get(), &old) == 0;
+    if (is_there && !S_ISREG(old.st_mode)) {
+        const open_file file(::open(path.get(), O_WRONLY | O_CLOEXEC));
+        if (file.at < 0 || !write_all(file.at, data, bytes)) return no_file();
+        return true;
+    }
+    replacement made(path.get());
+    if (made.descriptor() < 0 || !write_all(made.descriptor(), data, bytes) || !made.commit(is_there ? &old : nullptr))
+        return no_file();
+    return true;
+}
+
+// The words of a stream from where it stands, as many as `needed` says of those that were read. Their header is not
+// checked before all is read, so memory grows with the bytes that arrive.
+template <class Char, class Traits, class Needed>
+result<block> streamed(std::basic_istream<Char, Traits> &from, Needed &&needed)
+{
+    static_assert(sizeof(Char) == 1, "a stream of bytes");
+    block all;
+    for (std::size_t have = 0, want = sizeof(bitm_stored) / 8; have < want;) {
+        const std::size_t more = lesser(want - have, greater(have, 1 << 17));
+        block longer(have + more);
+        if (have) std::memcpy(longer.data(), all.data(), 8 * have);
+        if (!from.read(reinterpret_cast<Char *>(longer.data() + have), static_cast<std::ptrdiff_t>(8 * more)))
+            return failure{errc::wrong_file};
+        all.swap(longer), have += more;
+        if (have == want) want = needed(static_cast<const std::uint64_t *>(all.data()), have);
+    }
+    return all;
+}
+// The number of words of a file that its header gives.
+inline std::size_t needed_of(const std::uint64_t *file, std::size_t) noexcept
+{
+    bitm_stored header;
+    std::memcpy(&header, file, sizeof header);
+    return static_cast<std::size_t>(header.size / 8);
+}
+
+inline result<block> copied(const void *bytes, std::size_t size)
+{
+    if (size < sizeof(bitm_stored)) return failure{errc::wrong_file};
+    block all(size / 8);
+    std::memcpy(all.data(), bytes, 8 * all.size());
+    return all;
+}
+
+// The header of a file of some kind.
+inline result<bitm_stored> header_of(const std::uint64_t *file, std::size_t words, std::uint64_t kind) noexcept
+{
+    bitm_stored header;
+    if (words < sizeof header / 8 || bitm_stored_read(file, words, &header) != BITM_OK || header.kind != kind)
+        return failure{errc::wrong_file};
+    return header;
+}
+
+// Saving and loading of owners that are one block. `Self` has `opened(block, verify)` and `size_of(words)`.
+template <class Self> class stored_calls {
+public:
+    // The file: header and parts. An owner that was built of no bits has one too; one that was default constructed has
+    // no bytes.
+    span<const unsigned char> bytes() const &noexcept BITM_LIFETIMEBOUND
+    {
+        return {reinterpret_cast<const unsigned char *>(self().block_.data()), 8 * self().used_};
+    }
+    void bytes() const && = delete;
+
+    result<bool> try_save(path_of path) const noexcept { return written(path, bytes_().data(), bytes_().size()); }
+    void save(path_of path) const { (void)try_save(path).value(); }
+    template <class Char, class Traits>
+    std::basic_ostream<Char, Traits> &save(std::basic_ostream<Char, Traits> &to) const
+    {
+        return to.write(reinterpret_cast<const Char *>(bytes_().data()), static_cast<std::ptrdiff_t>(bytes_().size()));
+    }
+
+    // From a path, copied (load) or read where it lies (map); from a stream; from bytes, which are copied.
+    static result<Self> try_load(path_of path, verify how = verify::no)
+    {
+        result<block> all = mapped(path);
+        if (!all) return all.error();
+        // The header is checked before memory is taken for a copy.
+        const result<std::size_t> size = Self::size_of(all->data(), all->size());
+        if (!size) return size.error();
+        result<block> copy = copied(all->data(), 8 * *size);
+        if (!copy) return copy.error();
+        return Self::opened(std::move(*copy), how);
+    }
+    static result<Self> try_map(path_of path, verify how = verify::no)
+    {
+        result<block> all = mapped(path);
+        if (!all) return all.error();
+        return Self::opened(std::move(*all), how);
+    }
+    static result<Self> try_of_bytes(span<const unsigned char> bytes, verify how = verify::no)
+    {
+        result<block> all = copied(bytes.data(), bytes.size());
+        if (!all) return all.error();
+        return Self::opened(std::move(*all), how);
+    }
+    template <class Char, class Traits>
+    static result<Self> try_load(std::basic_istream<Char, Traits> &from, verify how = verify::no)
+    {
+        result<block> all = streamed(from, Self::needed);
+        if (!all) return all.error();
+        return Self::opened(std::move(*all), how);
+    }
+    static Self load(path_of path, verify how = verify::no) { return try_load(path, how).value(); }
+    static Self map(path_of path, verify how = verify::no) { return try_map(path, how).value(); }
+    static Self of_bytes(span<const unsigned char> bytes, verify how = verify::no)
+    {
+        return try_of_bytes(bytes, how).value();
+    }
+    template <class Char, class Traits>
+    static Self load(std::basic_istream<Char, Traits> &from, verify how = verify::no)
+    {
+        return try_load(from, how).value();
+    }
+
+protected:
+    stored_calls() noexcept = default;
+    ~stored_calls() = default;
+    stored_calls(const stored_calls &) noexcept = default;
+    stored_calls &operator=(const stored_calls &) noexcept = default;
+
+    static std::size_t needed(const std::uint64_t *file, std::size_t have) noexcept { return needed_of(file, have); }
+
+private:
+    const Self &self() const noexcept { return static_cast<const Self &>(*this); }
+    span<const unsigned char> bytes_() const noexcept { return bytes(); }
+};
+
+} // namespace detail
+
+BITM_NAMESPACE_END
+
+#endif

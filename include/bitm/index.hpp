@@ -1,0 +1,350 @@
+// Rank and selection: an owner of bits with their tables, and a view of both in memory of the caller's.
+//
+//     bitm::rank_index x(bits);                     // or of words; bitm::rank_index x(bits, {12, 12}) with samples
+//     x.rank(70), x.select(3), x.next_one(5);       // a number; optionals
+//     x.rank(queries, answers);                     // lists, into memory of the caller's
+//     x.save("a.bitm"), bitm::rank_index::map("a.bitm"); // the file is read where it lies
+//     f(x.view());                                  // a view; not of a temporary
+//
+// Answers over tables that are not those of the words (of a wrong file) are safe: bitm.h says how. Where wrong tables
+// are noticed, the call fails by bitm::wrong_tables; the `try_` calls return a bitm::result instead.
+#ifndef BITM_INDEX_HPP
+#define BITM_INDEX_HPP
+
+#include <bitm/bits.hpp>
+#include <bitm/file.hpp>
+
+BITM_NAMESPACE_BEGIN
+
+class rank_index;
+class rank_index_view;
+
+BITM_NAMESPACE_END
+
+#if __cplusplus >= 202002L
+template <> inline constexpr bool std::ranges::enable_borrowed_range<bitm::rank_index_view> = true;
+template <> inline constexpr bool std::ranges::enable_view<bitm::rank_index_view> = true;
+#endif
+
+BITM_NAMESPACE_BEGIN
+
+// The log2 of the samples of 1 bits and of 0 bits, 7 to 31, by which selection is faster; 0 for none.
+struct sampling {
+    std::uint32_t ones = 0, zeros = 0;
+};
+
+namespace detail {
+
+template <class Self> class index_calls {
+public:
+    std::uint64_t size() const noexcept { return raw().bits_len; }
+    bool empty() const noexcept { return size() == 0; }
+    // All of it as C takes it.
+    const bitm_index &raw() const noexcept BITM_LIFETIMEBOUND { return self().raw_; }
+    bool operator[](std::uint64_t at) const { return bit_of(parts(), at); }
+    bool at(std::uint64_t at) const { return bit_of(parts(), at); }
+
+    // How many 1 bits, or 0 bits, there are before a position: fails where that is past size().
+    std::uint64_t rank(std::uint64_t position) const { return counted(true, position); }
+    std::uint64_t rank0(std::uint64_t position) const { return counted(false, position); }
+    result<std::uint64_t> try_rank(std::uint64_t position) const noexcept { return try_counted(true, position); }
+    result<std::uint64_t> try_rank0(std::uint64_t position) const noexcept { return try_counted(false, position); }
+
+    // The position of the 1 bit, or 0 bit, with a rank; none where there is none.
+    maybe_position select(std::uint64_t rank) const { return near(bitm_index_select, true, rank); }
+    maybe_position select0(std::uint64_t rank) const { return near(bitm_index_select, false, rank); }
+    result<maybe_position> try_select(std::uint64_t rank) const noexcept
+    {
+        return try_near(bitm_index_select, true, rank);
+    }
+    result<maybe_position> try_select0(std::uint64_t rank) const noexcept
+    {
+        return try_near(bitm_index_select, false, rank);
+    }
+
+    // How many 1 bits, or 0 bits, there are in all, by the tables.
+    std::uint64_t count() const { return rank(size()); }
+    std::uint64_t count0() const { return rank0(size()); }
+
+    // The position of the first 1 bit, or 0 bit, at or after a position; of the last one at or before it. By the
+    // tables: a long run costs no more. (`bits_view::next_one` reads the words, and is faster where the next one is
+    // near.)
+    maybe_position next_one(std::uint64_t from) const { return near(bitm_index_next, true, from); }
+    maybe_position next_zero(std::uint64_t from) const { return near(bitm_index_next, false, from); }
+    maybe_position previous_one(std::uint64_t from) const { return near(bitm_index_previous, true, from); }
+    maybe_position previous_zero(std::uint64_t from) const { return near(bitm_index_previous, false, from); }
+    result<maybe_position> try_next_one(std::uint64_t from) const noexcept
+    {
+        return try_near(bitm_index_next, true, from);
+    }
+    result<maybe_position> try_next_zero(std::uint64_t from) const noexcept
+    {
+        return try_near(bitm_index_next, false, from);
+    }
+    result<maybe_position> try_previous_one(std::uint64_t from) const noexcept
+    {
+        return try_near(bitm_index_previous, true, from);
+    }
+    result<maybe_position> try_previous_zero(std::uint64_t from) const noexcept
+    {
+        return try_near(bitm_index_previous, false, from);
+    }
+
+    // Lists, into memory of the caller's as long as the queries: out[i] answers queries[i], or is bitm::no_answer (also
+    // for the rank of a position past the end). Where tables are noticed to be wrong, the call fails once all is
+    // answered, and those answers are bitm::wrong_answer.
+    void rank(words_in positions, words_out out) const { list(bitm_index_rank_list, true, positions, out); }
+    void rank0(words_in positions, words_out out) const { list(bitm_index_rank_list, false, positions, out); }
+    void select(words_in ranks, words_out out) const { list(bitm_index_select_list, true, ranks, out); }
+    void select0(words_in ranks, words_out out) const { list(bitm_index_select_list, false, ranks, out); }
+
+    // Whether tables and samples are those of the words. Reads each word once.
+    bool check() const noexcept
+    {
+        return bitm_index_check(&raw()) == BITM_OK &&
+               (!raw().ones.log2 || bitm_index_check_samples(&raw(), true) == BITM_OK) &&
+               (!raw().zeros.log2 || bitm_index_check_samples(&raw(), false) == BITM_OK);
+    }
+
+    // Equal bits; tables and samples are not compared.
+    template <class Other> friend bool operator==(const index_calls &a, const index_calls<Other> &b)
+    {
+        return a.self().as_bits() == static_cast<const Other &>(b).as_bits();
+    }
+    template <class Other> friend bool operator!=(const index_calls &a, const index_calls<Other> &b)
+    {
+        return !(a == b);
+    }
+
+    template <class Char, class Traits>
+    friend std::basic_ostream<Char, Traits> &operator<<(std::basic_ostream<Char, Traits> &to, const index_calls &of)
+    {
+        return to << of.self().as_bits();
+    }
+
+protected:
+    index_calls() noexcept = default;
+    ~index_calls() = default;
+    index_calls(const index_calls &) noexcept = default;
+    index_calls &operator=(const index_calls &) noexcept = default;
+
+    bits_parts parts() const noexcept { return {raw().words, bitm_bits_words_len(size()), size()}; }
+    bits_view plain() const { return bits_view(kept<const std::uint64_t>(raw().words, raw().words_len), size()); }
+
+private:
+    template <class> friend class index_calls;
+    const Self &self() const noexcept { return static_cast<const Self &>(*this); }
+
+    std::uint64_t counted(bool one, std::uint64_t position) const
+    {
+        std::uint64_t out = 0;
+        const std::uint32_t status = bitm_index_rank(&raw(), one, position, &out);
+        if (BITM_RARELY(status != BITM_OK)) fail_status(status, position, size());
+        return out;
+    }
+    result<std::uint64_t> try_counted(bool one, std::uint64_t position) const noexcept
+    {
+        std::uint64_t out = 0;
+        const std::uint32_t status = bitm_index_rank(&raw(), one, position, &out);
+        if (status != BITM_OK) return error_of(status, position, size());
+        return out;
+    }
+    template <class Call> maybe_position near(Call call, bool one, std::uint64_t at) const
+    {
+        std::uint64_t out = 0;
+        const std::uint32_t status = call(&raw(), one, at, &out);
+        return found(status, out);
+    }
+    template <class Call> result<maybe_position> try_near(Call call, bool one, std::uint64_t at) const noexcept
+    {
+        std::uint64_t out = 0;
+        const std::uint32_t status = call(&raw(), one, at, &out);
+        return tried(status, out);
+    }
+    template <class Call> void list(Call call, bool one, words_in queries, words_out out) const
+    {
+        need_apart(queries, out);
+        bitm_list_counts counts{};
+        const std::uint32_t status =
+            call(&raw(), one, queries.data(), queries.size(), out.data(), out.size(), &counts);
+        need_list(status, counts);
+    }
+};
+
+} // namespace detail
+
+// An index in memory of the caller's, who keeps it: it owns nothing.
+class BITM_POINTER rank_index_view : public detail::index_calls<rank_index_view> {
+public:
+    rank_index_view() noexcept = default;
+    // Fails where the lengths do not fit together.
+    explicit rank_index_view(const bitm_index &raw) : raw_(raw)
+    {
+        std::uint64_t out;
+        if (bitm_index_rank(&raw_, true, 0, &out) == BITM_BAD_SIZE) fail({errc::bad_size});
+    }
+    // The index in the words of a file that was mapped or read.
+    static result<rank_index_view> try_in(detail::kept<const std::uint64_t> file BITM_LIFETIMEBOUND) noexcept
+    {
+        const result<bitm_stored> header = detail::header_of(file.data(), file.size(), BITM_STORED_INDEX);
+        if (!header) return header.error();
+        rank_index_view view;
+        view.raw_ = bitm_stored_index_of(file.data(), &*header);
+        return view;
+    }
+    static rank_index_view in(detail::kept<const std::uint64_t> file BITM_LIFETIMEBOUND)
+    {
+        return try_in(file).value();
+    }
+
+    bits_view as_bits() const { return plain(); }
+    ones_range ones(std::uint64_t from = 0) const { return plain().ones(from); }
+    zeros_range zeros(std::uint64_t from = 0) const { return plain().zeros(from); }
+    bits_iterator begin() const { return plain().begin(); }
+    bits_iterator end() const { return plain().end(); }
+
+private:
+    friend class rank_index;
+    friend class detail::index_calls<rank_index_view>;
+    bitm_index raw_{};
+};
+
+// An index that owns its bits and tables: one block of memory, which is the file. Moves are cheap and leave an empty
+// one.
+class BITM_OWNER rank_index : public detail::index_calls<rank_index>, public detail::stored_calls<rank_index> {
+public:
+    rank_index() noexcept = default;
+    explicit rank_index(bits_view of, sampling how = {})
+        : rank_index(build(of.size(), how, [&](words_out to) {
+              if (of.words_len()) std::memcpy(to.data(), of.words_data(), 8 * of.words_len());
+          }))
+    {
+    }
+    explicit rank_index(const bits &of, sampling how = {}) : rank_index(of.view(), how) {}
+    explicit rank_index(words_in words, maybe_position size = {}, sampling how = {})
+        : rank_index(bits_view(detail::kept<const std::uint64_t>(words.data(), words.size()), size), how)
+    {
+    }
+    // An index of `size` bits, which `fill` writes into words of zeros: without a copy.
+    template <class Fill> static rank_index build(std::uint64_t size, sampling how, Fill &&fill)
+    {
+        const auto most = [&](std::uint32_t log2) {
+            return log2 ? bitm_index_samples_len(bitm_bits_words_len(size), log2) : 0;
+        };
+        bitm_stored header;
+        detail::need(bitm_stored_index(size, how.ones, most(how.ones), how.zeros, most(how.zeros), &header));
+        rank_index made;
+        made.block_ = detail::block(header.size / 8);
+        std::uint64_t *const file = made.block_.data();
+        std::uint64_t *const words = bitm_stored_room(file, header.words);
+        fill(words_out(words, header.words.len));
+        detail::need(bitm_bits_clear_from(words, header.words.len, size));
+        std::uint64_t ones = 0, used[2] = {most(how.ones), most(how.zeros)};
+        detail::need(bitm_index_build(words, header.words.len, bitm_stored_room(file, header.upper), header.upper.len,
+                                      bitm_stored_room(file, header.lower), header.lower.len, &ones));
+        // Samples of 1 bits first: those of 0 bits begin where they end, which the header says once they are made.
+        const bitm_index over = bitm_stored_index_of(file, &header);
+        if (how.ones) {
+            used[0] = sampled(over, true, how.ones, file, header.samples, header.starts);
+            detail::need(bitm_stored_index(size, how.ones, used[0], how.zeros, used[1], &header));
+        }
+        if (how.zeros) {
+            used[1] = sampled(over, false, how.zeros, file, header.samples0, header.starts0);
+            detail::need(bitm_stored_index(size, how.ones, used[0], how.zeros, used[1], &header));
+        }
+        std::memcpy(file, &header, sizeof header);
+        made.used_ = header.size / 8;
+        made.raw_ = bitm_stored_index_of(file, &header);
+        return made;
+    }
+
+    rank_index(const rank_index &other) : index_calls(), stored_calls(), block_(other.used_), used_(other.used_)
+    {
+        if (used_ == 0) return;
+        std::memcpy(block_.data(), other.block_.data(), 8 * used_);
+        const bitm_stored header = *detail::header_of(block_.data(), used_, BITM_STORED_INDEX);
+        raw_ = bitm_stored_index_of(block_.data(), &header);
+    }
+    rank_index(rank_index &&other) noexcept { swap(other); }
+    rank_index &operator=(const rank_index &other)
+    {
+        rank_index copy(other);
+        swap(copy);
+        return *this;
+    }
+    rank_index &operator=(rank_index &&other) noexcept
+    {
+        rank_index moved(std::move(other));
+        swap(moved);
+        return *this;
+    }
+    ~rank_index() = default;
+    void swap(rank_index &other) noexcept
+    {
+        block_.swap(other.block_), std::swap(used_, other.used_), std::swap(raw_, other.raw_);
+    }
+    friend void swap(rank_index &a, rank_index &b) noexcept { a.swap(b); }
+
+    rank_index_view view() const &noexcept BITM_LIFETIMEBOUND
+    {
+        rank_index_view view;
+        view.raw_ = raw_;
+        return view;
+    }
+    const bitm_index &raw() const &noexcept BITM_LIFETIMEBOUND { return index_calls::raw(); }
+    bits_view as_bits() const &BITM_LIFETIMEBOUND { return plain(); }
+    ones_range ones(std::uint64_t from = 0) const &BITM_LIFETIMEBOUND { return plain().ones(from); }
+    zeros_range zeros(std::uint64_t from = 0) const &BITM_LIFETIMEBOUND { return plain().zeros(from); }
+    bits_iterator begin() const &BITM_LIFETIMEBOUND { return plain().begin(); }
+    bits_iterator end() const &BITM_LIFETIMEBOUND { return plain().end(); }
+    void view() const && = delete;
+    void raw() const && = delete;
+    void as_bits() const && = delete;
+    void ones(std::uint64_t = 0) const && = delete;
+    void zeros(std::uint64_t = 0) const && = delete;
+    void begin() const && = delete;
+    void end() const && = delete;
+
+private:
+    friend class detail::index_calls<rank_index>;
+    friend class detail::stored_calls<rank_index>;
+    // Builds samples in their place in the file: how many there are.
+    static std::uint64_t sampled(const bitm_index &over, bool one, std::uint32_t log2, std::uint64_t *file,
+                                 bitm_span samples, bitm_span starts)
+    {
+        std::uint64_t used = 0;
+        detail::need(bitm_index_build_samples(&over, one, log2,
+                                              reinterpret_cast<std::uint32_t *>(bitm_stored_room(file, samples)),
+                                              samples.len, bitm_stored_room(file, starts), starts.len, &used));
+        return used;
+    }
+    static result<std::size_t> size_of(const std::uint64_t *file, std::size_t words) noexcept
+    {
+        const result<bitm_stored> header = detail::header_of(file, words, BITM_STORED_INDEX);
+        if (!header) return header.error();
+        return static_cast<std::size_t>(header->size / 8);
+    }
+    static result<rank_index> opened(detail::block &&all, verify how) noexcept
+    {
+        const result<bitm_stored> header = detail::header_of(all.data(), all.size(), BITM_STORED_INDEX);
+        if (!header) return header.error();
+        rank_index made;
+        made.block_.swap(all), made.used_ = header->size / 8;
+        made.raw_ = bitm_stored_index_of(made.block_.data(), &*header);
+        if (how == verify::yes && !made.check()) return failure{errc::wrong};
+        return made;
+    }
+
+    detail::block block_;
+    std::size_t used_ = 0; // words of the file
+    bitm_index raw_{};
+};
+
+BITM_NAMESPACE_END
+
+// Equal bits have equal hashes.
+template <> struct std::hash<bitm::rank_index> {
+    std::size_t operator()(const bitm::rank_index &of) const { return bitm::detail::hash_of(of.as_bits()); }
+};
+
+#endif

@@ -1,0 +1,219 @@
+// What the headers of bitm share beside bitm/core.hpp: spans, memory, and the base of iterators.
+#ifndef BITM_MEMORY_HPP
+#define BITM_MEMORY_HPP
+
+#include <bitm/core.hpp>
+
+BITM_NAMESPACE_BEGIN
+
+// ---- spans of items of the caller's
+
+// Items one after another: std::vector, std::array and std::span convert to it, and it to std::span. As an argument it
+// is used during the call and not kept.
+template <class T> class BITM_POINTER span {
+public:
+    using element_type = T;
+    using value_type = std::remove_cv_t<T>;
+
+    constexpr span() noexcept = default;
+    constexpr span(T *data, std::size_t size) noexcept : data_(data), size_(size) {}
+    template <class Held,
+              std::enable_if_t<detail::holds<Held, T>::value && !detail::borrows<detail::bare<Held>>::value, int> = 0>
+    constexpr span(Held &&held BITM_LIFETIMEBOUND) noexcept : data_(held.data()), size_(held.size())
+    {
+    }
+    template <class Held,
+              std::enable_if_t<detail::holds<const Held, T>::value && detail::borrows<Held>::value, int> = 0>
+    constexpr span(const Held &held) noexcept : data_(held.data()), size_(held.size())
+    {
+    }
+    constexpr T *data() const noexcept { return data_; }
+    constexpr std::size_t size() const noexcept { return size_; }
+    constexpr bool empty() const noexcept { return size_ == 0; }
+    constexpr T *begin() const noexcept { return data_; }
+    constexpr T *end() const noexcept { return data_ + size_; }
+    constexpr T &operator[](std::size_t at) const
+    {
+        if (BITM_RARELY(at >= size_)) detail::outside(at, size_);
+        return data_[at];
+    }
+
+private:
+    T *data_ = nullptr;
+    std::size_t size_ = 0;
+};
+
+template <class T> struct detail::borrows<span<T>> : std::true_type {};
+
+using words_in = span<const std::uint64_t>;
+using words_out = span<std::uint64_t>;
+
+namespace detail {
+
+// Whether two spans have memory in common.
+inline bool overlap(words_in a, words_in b) noexcept
+{
+    const auto x = reinterpret_cast<std::uintptr_t>(a.data()), y = reinterpret_cast<std::uintptr_t>(b.data());
+    return a.size() > 0 && b.size() > 0 && x < y + 8 * b.size() && y < x + 8 * a.size();
+}
+// C writes no memory that it reads in the same call.
+inline void need_apart(words_in read, words_out written)
+{
+    if (BITM_RARELY(overlap(read, {written.data(), written.size()}))) fail({errc::overlap});
+}
+
+// An argument that is kept: a temporary container does not convert.
+template <class T> class BITM_POINTER kept {
+public:
+    constexpr kept() noexcept = default;
+    constexpr kept(T *data, std::size_t size) noexcept : over_(data, size) {}
+    template <class Held, std::enable_if_t<holds<Held, T>::value && !borrows<bare<Held>>::value, int> = 0>
+    constexpr kept(Held &held BITM_LIFETIMEBOUND) noexcept : over_(held.data(), held.size())
+    {
+    }
+    template <class Held, std::enable_if_t<holds<Held, T>::value && !borrows<bare<Held>>::value, int> = 0>
+    kept(const Held &&held) = delete;
+    template <class Held, std::enable_if_t<holds<const Held, T>::value && borrows<Held>::value, int> = 0>
+    constexpr kept(const Held &held) noexcept : over_(held.data(), held.size())
+    {
+    }
+    constexpr T *data() const noexcept { return over_.data(); }
+    constexpr std::size_t size() const noexcept { return over_.size(); }
+
+private:
+    span<T> over_;
+};
+
+// ---- memory
+
+// A block of words aligned to 64 bytes, on the heap or mapped, which it owns.
+class block {
+public:
+    block() noexcept = default;
+    explicit block(std::size_t words)
+    {
+        if (words == 0) return;
+        if (BITM_RARELY(words >= (std::size_t{1} << 58))) fail({errc::bad_size});
+        data_ = static_cast<std::uint64_t *>(::operator new(8 * words, std::align_val_t(64)));
+        len_ = words, drop_ = free_heap;
+        std::memset(data_, 0, 8 * words);
+    }
+    block(std::uint64_t *data, std::size_t words, void (*drop)(std::uint64_t *, std::size_t) noexcept) noexcept
+        : data_(data), len_(words), drop_(drop)
+    {
+    }
+    block(block &&other) noexcept { swap(other); }
+    block &operator=(block &&other) noexcept
+    {
+        block moved(std::move(other));
+        swap(moved);
+        return *this;
+    }
+    block(const block &) = delete;
+    block &operator=(const block &) = delete;
+    ~block()
+    {
+        if (data_) drop_(data_, len_);
+    }
+    void swap(block &other) noexcept
+    {
+        std::swap(data_, other.data_), std::swap(len_, other.len_), std::swap(drop_, other.drop_);
+    }
+    std::uint64_t *data() const noexcept { return data_; }
+    std::size_t size() const noexcept { return len_; }
+
+private:
+    static void free_heap(std::uint64_t *data, std::size_t) noexcept { ::operator delete(data, std::align_val_t(64)); }
+
+    std::uint64_t *data_ = nullptr;
+    std::size_t len_ = 0;
+    void (*drop_)(std::uint64_t *, std::size_t) noexcept = nullptr;
+};
+
+// Numbers gathered one by one in a block that grows.
+class gathered {
+public:
+    void push(std::uint64_t number)
+    {
+        if (len_ == all_.size()) {
+            block more(len_ < 32 ? 32 : 2 * len_);
+            if (len_) std::memcpy(more.data(), all_.data(), 8 * len_);
+            all_.swap(more);
+        }
+        all_.data()[len_++] = number;
+    }
+    std::uint64_t *data() const noexcept { return all_.data(); }
+    std::size_t size() const noexcept { return len_; }
+
+private:
+    block all_;
+    std::size_t len_ = 0;
+};
+
+constexpr std::uint64_t lesser(std::uint64_t a, std::uint64_t b) noexcept { return b < a ? b : a; }
+constexpr std::uint64_t greater(std::uint64_t a, std::uint64_t b) noexcept { return a < b ? b : a; }
+
+// The base of random access iterators that hold some parts and a position: `It` has `read(at)`.
+template <class It, class Value> class at_position {
+public:
+    using iterator_category = std::input_iterator_tag; // C++17: * gives a value, no reference
+#if __cplusplus >= 202002L
+    using iterator_concept = std::random_access_iterator_tag;
+#endif
+    using value_type = Value;
+    using difference_type = std::ptrdiff_t;
+    using pointer = void;
+    using reference = Value;
+
+    Value operator*() const { return self().read(at_); }
+    Value operator[](difference_type by) const { return self().read(at_ + static_cast<std::uint64_t>(by)); }
+    It &operator++() noexcept { return ++at_, self(); }
+    It &operator--() noexcept { return --at_, self(); }
+    It operator++(int) noexcept
+    {
+        It before = self();
+        return ++at_, before;
+    }
+    It operator--(int) noexcept
+    {
+        It before = self();
+        return --at_, before;
+    }
+    It &operator+=(difference_type by) noexcept { return at_ += static_cast<std::uint64_t>(by), self(); }
+    It &operator-=(difference_type by) noexcept { return at_ -= static_cast<std::uint64_t>(by), self(); }
+    friend It operator+(It it, difference_type by) noexcept { return it += by; }
+    friend It operator+(difference_type by, It it) noexcept { return it += by; }
+    friend It operator-(It it, difference_type by) noexcept { return it -= by; }
+    friend difference_type operator-(const It &a, const It &b) noexcept
+    {
+        return static_cast<difference_type>(a.at_ - b.at_);
+    }
+    friend bool operator==(const It &a, const It &b) noexcept { return a.at_ == b.at_; }
+    friend bool operator!=(const It &a, const It &b) noexcept { return a.at_ != b.at_; }
+    friend bool operator<(const It &a, const It &b) noexcept { return a.at_ < b.at_; }
+    friend bool operator>(const It &a, const It &b) noexcept { return a.at_ > b.at_; }
+    friend bool operator<=(const It &a, const It &b) noexcept { return a.at_ <= b.at_; }
+    friend bool operator>=(const It &a, const It &b) noexcept { return a.at_ >= b.at_; }
+    // Its position in the range.
+    std::uint64_t position() const noexcept { return at_; }
+
+protected:
+    at_position() noexcept = default;
+    explicit at_position(std::uint64_t at) noexcept : at_(at) {}
+    std::uint64_t at_ = 0;
+
+private:
+    It &self() noexcept { return static_cast<It &>(*this); }
+    const It &self() const noexcept { return static_cast<const It &>(*this); }
+};
+
+} // namespace detail
+
+BITM_NAMESPACE_END
+
+#if __cplusplus >= 202002L
+template <class T> inline constexpr bool std::ranges::enable_borrowed_range<bitm::span<T>> = true;
+template <class T> inline constexpr bool std::ranges::enable_view<bitm::span<T>> = true;
+#endif
+
+#endif

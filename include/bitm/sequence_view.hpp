@@ -1,0 +1,296 @@
+// Monotone sequences (Elias-Fano) in memory of the caller's: a view, iterators and walks, and the queries that it
+// shares with the owner of bitm/sequence.hpp.
+#ifndef BITM_SEQUENCE_VIEW_HPP
+#define BITM_SEQUENCE_VIEW_HPP
+
+#include <bitm/file.hpp>
+
+#include <string_view>
+
+BITM_NAMESPACE_BEGIN
+
+class sequence;
+class sequence_view;
+class sequence_walk;
+
+BITM_NAMESPACE_END
+
+#if __cplusplus >= 202002L
+template <> inline constexpr bool std::ranges::enable_borrowed_range<bitm::sequence_view> = true;
+template <> inline constexpr bool std::ranges::enable_view<bitm::sequence_view> = true;
+#endif
+
+BITM_NAMESPACE_BEGIN
+
+namespace detail {
+
+inline std::uint64_t number_of(const bitm_sequence &of, std::uint64_t at)
+{
+    std::uint64_t out = 0;
+    const std::uint32_t status = bitm_sequence_get(&of, at, &out);
+    if (BITM_RARELY(status != BITM_OK)) fail_status(status, at, of.len);
+    return out;
+}
+
+} // namespace detail
+
+// The numbers by index: each is one selection. It holds the parts, so it outlives a view (not an owner).
+class sequence_iterator : public detail::at_position<sequence_iterator, std::uint64_t> {
+public:
+    sequence_iterator() noexcept = default;
+    sequence_iterator(const bitm_sequence &of, std::uint64_t at) noexcept : at_position(at), of_(of) {}
+    std::uint64_t read(std::uint64_t at) const { return detail::number_of(of_, at); }
+
+private:
+    bitm_sequence of_{};
+};
+
+// A walk through the numbers from an index on, which reads them in blocks: a range to go through once, which may be
+// advanced to a value.
+class sequence_walk {
+public:
+    struct end_mark {};
+    class iterator {
+    public:
+        using iterator_category = std::input_iterator_tag;
+        using value_type = std::uint64_t;
+        using difference_type = std::ptrdiff_t;
+        using pointer = const std::uint64_t *;
+        using reference = std::uint64_t;
+
+        iterator() noexcept = default;
+        std::uint64_t operator*() const { return of_->found_[of_->at_]; }
+        iterator &operator++()
+        {
+            of_->next();
+            return *this;
+        }
+        void operator++(int) { of_->next(); }
+        friend bool operator==(const iterator &it, end_mark) noexcept { return it.of_->done(); }
+        friend bool operator!=(const iterator &it, end_mark) noexcept { return !it.of_->done(); }
+        friend bool operator==(end_mark, const iterator &it) noexcept { return it.of_->done(); }
+        friend bool operator!=(end_mark, const iterator &it) noexcept { return !it.of_->done(); }
+
+    private:
+        friend class sequence_walk;
+        explicit iterator(sequence_walk *of) noexcept : of_(of) {}
+        sequence_walk *of_ = nullptr;
+    };
+
+    sequence_walk() noexcept = default;
+    sequence_walk(const bitm_sequence &of, std::uint64_t from) : of_(of) { fill(from); }
+    bool done() const noexcept { return count_ == 0; }
+    explicit operator bool() const noexcept { return !done(); }
+    // The number where it stands, and its index.
+    std::uint64_t value() const
+    {
+        if (BITM_RARELY(done())) detail::outside(position(), of_.len);
+        return found_[at_];
+    }
+    std::uint64_t operator*() const { return value(); }
+    std::uint64_t position() const noexcept { return first_ + at_; }
+    sequence_walk &next()
+    {
+        if (BITM_RARELY(++at_ >= count_)) more();
+        return *this;
+    }
+    sequence_walk &operator++() { return next(); }
+    // To the first number from here on that is at least a value: whether there is one. It never goes back.
+    bool advance_to(std::uint64_t value)
+    {
+        if (done() || found_[at_] >= value) return !done();
+        if (found_[count_ - 1] >= value) {
+            while (found_[at_] < value) at_++;
+            return true;
+        }
+        std::uint64_t out = 0;
+        const std::uint32_t status = bitm_sequence_first_at_least(&of_, value, &out);
+        if (status == BITM_OK) {
+            fill(out < first_ + count_ ? first_ + count_ : out);
+            return !done();
+        }
+        if (BITM_RARELY(status != BITM_NONE)) detail::fail_status(status);
+        first_ = of_.len, at_ = count_ = 0;
+        return false;
+    }
+    iterator begin() noexcept BITM_LIFETIMEBOUND { return iterator(this); }
+    end_mark end() const noexcept { return {}; }
+
+private:
+    BITM_COLD void more()
+    {
+        if (done()) at_ = 0, detail::outside(position(), of_.len);
+        fill(first_ + count_);
+    }
+    void fill(std::uint64_t from)
+    {
+        std::uint64_t written = 0;
+        if (from < of_.len) detail::need(bitm_sequence_items(&of_, from, found_, room, &written));
+        first_ = from, at_ = 0, count_ = static_cast<std::size_t>(written);
+        if (BITM_RARELY(written == 0 && from < of_.len)) fail({errc::wrong});
+    }
+
+    static constexpr std::size_t room = 64;
+    bitm_sequence of_{};
+    std::uint64_t found_[room] = {}, first_ = 0;
+    std::size_t at_ = 0, count_ = 0;
+};
+
+namespace detail {
+
+template <class Self> class sequence_calls {
+public:
+    std::uint64_t size() const noexcept { return raw().len; }
+    bool empty() const noexcept { return size() == 0; }
+    const bitm_sequence &raw() const noexcept BITM_LIFETIMEBOUND { return static_cast<const Self &>(*this).raw_; }
+
+    // The number at an index: fails past the end.
+    std::uint64_t operator[](std::uint64_t at) const { return number_of(raw(), at); }
+    std::uint64_t at(std::uint64_t at) const { return number_of(raw(), at); }
+    std::uint64_t front() const { return number_of(raw(), 0); }
+    std::uint64_t back() const { return number_of(raw(), size() - 1); }
+    result<std::uint64_t> try_at(std::uint64_t at) const noexcept
+    {
+        std::uint64_t out = 0;
+        const std::uint32_t status = bitm_sequence_get(&raw(), at, &out);
+        if (status != BITM_OK) return error_of(status, at, size());
+        return out;
+    }
+
+    // Successor, the least index whose number is at least a value; predecessor, the greatest whose number is at most
+    // it; and how many numbers are less.
+    maybe_position first_at_least(std::uint64_t value) const
+    {
+        std::uint64_t out = 0;
+        const std::uint32_t status = bitm_sequence_first_at_least(&raw(), value, &out);
+        return found(status, out);
+    }
+    maybe_position last_at_most(std::uint64_t value) const
+    {
+        std::uint64_t out = 0;
+        const std::uint32_t status = bitm_sequence_last_at_most(&raw(), value, &out);
+        return found(status, out);
+    }
+    result<maybe_position> try_first_at_least(std::uint64_t value) const noexcept
+    {
+        std::uint64_t out = 0;
+        const std::uint32_t status = bitm_sequence_first_at_least(&raw(), value, &out);
+        return tried(status, out);
+    }
+    result<maybe_position> try_last_at_most(std::uint64_t value) const noexcept
+    {
+        std::uint64_t out = 0;
+        const std::uint32_t status = bitm_sequence_last_at_most(&raw(), value, &out);
+        return tried(status, out);
+    }
+    std::uint64_t rank(std::uint64_t value) const { return first_at_least(value).value_or(size()); }
+    bool contains(std::uint64_t value) const
+    {
+        std::uint64_t out = 0;
+        need(bitm_sequence_contains(&raw(), value, &out));
+        return out != 0;
+    }
+
+    // Lists, into memory of the caller's as long as the queries: bitm::no_answer where there is no such index. Where
+    // the parts are noticed to be wrong, the call fails once all is answered. Whether values are there is 0 or 1.
+    void first_at_least(words_in values, words_out out) const { list(bitm_sequence_first_at_least_list, values, out); }
+    void last_at_most(words_in values, words_out out) const { list(bitm_sequence_last_at_most_list, values, out); }
+    void contains(words_in values, words_out out) const { list(bitm_sequence_contains_list, values, out); }
+    // The numbers at a list of indexes: fails where one is past the end.
+    void at(words_in indexes, words_out out) const
+    {
+        std::uint64_t written = 0;
+        need_apart(indexes, out);
+        need(bitm_sequence_get_list(&raw(), indexes.data(), indexes.size(), out.data(), out.size(), &written));
+        if (BITM_RARELY(written < indexes.size())) (void)at(indexes.data()[written]), fail({errc::wrong});
+    }
+    // Writes the numbers from an index on until `out` is full or there are no more: how many. Fails where the parts are
+    // noticed to be wrong.
+    std::size_t read(std::uint64_t from, words_out out) const
+    {
+        std::uint64_t written = 0;
+        need(bitm_sequence_items(&raw(), from, out.data(), out.size(), &written));
+        if (BITM_RARELY(written < out.size() && from < size() && written < size() - from)) fail({errc::wrong});
+        return static_cast<std::size_t>(written);
+    }
+
+    bool check() const noexcept { return bitm_sequence_check(&raw()) == BITM_OK; }
+
+    template <class Other> friend bool operator==(const sequence_calls &a, const sequence_calls<Other> &b)
+    {
+        if (a.size() != b.size()) return false;
+        for (sequence_walk x(a.raw(), 0), y(b.raw(), 0); x; ++x, ++y)
+            if (*x != *y) return false;
+        return true;
+    }
+    template <class Other> friend bool operator!=(const sequence_calls &a, const sequence_calls<Other> &b)
+    {
+        return !(a == b);
+    }
+    template <class Char, class Traits>
+    friend std::basic_ostream<Char, Traits> &operator<<(std::basic_ostream<Char, Traits> &to, const sequence_calls &of)
+    {
+        to.put(to.widen('['));
+        for (sequence_walk it(of.raw(), 0); it; ++it) {
+            if (it.position()) to.put(to.widen(',')).put(to.widen(' '));
+            to << *it;
+        }
+        return to.put(to.widen(']'));
+    }
+
+protected:
+    sequence_calls() noexcept = default;
+    ~sequence_calls() = default;
+    sequence_calls(const sequence_calls &) noexcept = default;
+    sequence_calls &operator=(const sequence_calls &) noexcept = default;
+
+private:
+    template <class Call> void list(Call call, words_in values, words_out out) const
+    {
+        need_apart(values, out);
+        bitm_list_counts counts{};
+        const std::uint32_t status = call(&raw(), values.data(), values.size(), out.data(), out.size(), &counts);
+        need_list(status, counts);
+    }
+};
+
+} // namespace detail
+
+// A sequence whose parts are in memory of the caller's, who keeps them.
+class BITM_POINTER sequence_view : public detail::sequence_calls<sequence_view> {
+public:
+    using value_type = std::uint64_t;
+    using const_iterator = sequence_iterator;
+    using iterator = sequence_iterator;
+
+    sequence_view() noexcept = default;
+    explicit sequence_view(const bitm_sequence &raw) : raw_(raw)
+    {
+        std::uint64_t out;
+        if (bitm_sequence_get(&raw_, 0, &out) == BITM_BAD_SIZE) fail({errc::bad_size});
+    }
+    static result<sequence_view> try_in(detail::kept<const std::uint64_t> file BITM_LIFETIMEBOUND) noexcept
+    {
+        const result<bitm_stored> header = detail::header_of(file.data(), file.size(), BITM_STORED_SEQUENCE);
+        if (!header) return header.error();
+        sequence_view view;
+        view.raw_ = bitm_stored_sequence_of(file.data(), &*header);
+        return view;
+    }
+    static sequence_view in(detail::kept<const std::uint64_t> file BITM_LIFETIMEBOUND) { return try_in(file).value(); }
+
+    sequence_iterator begin() const noexcept { return {raw_, 0}; }
+    sequence_iterator end() const noexcept { return {raw_, raw_.len}; }
+    std::reverse_iterator<sequence_iterator> rbegin() const { return std::reverse_iterator<sequence_iterator>(end()); }
+    std::reverse_iterator<sequence_iterator> rend() const { return std::reverse_iterator<sequence_iterator>(begin()); }
+    sequence_walk walk(std::uint64_t from = 0) const { return {raw_, from}; }
+
+private:
+    friend class sequence;
+    friend class detail::sequence_calls<sequence_view>;
+    bitm_sequence raw_{};
+};
+
+BITM_NAMESPACE_END
+
+#endif
