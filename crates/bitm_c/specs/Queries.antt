@@ -1,21 +1,16 @@
 -- What the exported calls answer of the first bits of words: a status, and a number written where the caller says.
 use Rattle.std.specs.Prelude.{◌≡◌, ℕ, ◌+◌, ◌-◌, ◌<◌, ◌≤◌, Bool, List, length, min, slice_index}
 use Rattle.bitm.specs.Count.{count_before, count_of, Picks}
-use Rattle.bitm.specs.Tables.{HasSizes}
-use Rattle.bitm_lent.specs.Cut.{Cut, cut_at, IsWithin}
-use Rattle.bitm_lent.specs.Queries.{RanksIn, SelectsIn}
+use Rattle.bitm_lent.specs.Cut.{Cut, cut_at, IsSizedCut}
+use Rattle.bitm_lent.specs.Queries.{NextIn, PreviousIn, RanksIn, SelectsIn}
 use Rattle.bitm_c.specs.Rank.{counted}
-use Rattle.bitm_c.specs.Status.{selected, view_lists, Exported}
-use Rattle.bitm_c.specs.declared.queries.Index.{Index}
+use Rattle.bitm_lent.specs.Sizes.{lists_of}
+use Rattle.bitm_c.specs.Status.{selected, Exported}
+use Rattle.bitm_c.specs.declared.view.Index.{Index}
 
--- the words and tables that a view lends, and how many bits are the content
+-- the words and tables of an index, and the length of the bit vector
 abbrev pub cut_of : Index → Cut
-cut_of index = cut_at (view_lists index.view) index.bits_len
-
--- the lengths are right, and there are so many bits
-pub record IsSizedCut (c : Cut) : Type 0 where
-  pub sizes : HasSizes c.lists
-  pub within : IsWithin c
+cut_of index = cut_at (lists_of index.words.now index.upper.now index.lower.now) index.bits_len
 
 -- a rank of the first index bits, of kind v
 abbrev pub RankAnswered : Bool → Cut → ℕ → ℕ → ℕ → ℕ → Type 0
@@ -24,6 +19,13 @@ RankAnswered v c index = Exported counted (IsSizedCut c) (RanksIn v c index)
 -- a selection of the bit v by rank
 abbrev pub SelectAnswered : Bool → Cut → ℕ → ℕ → ℕ → ℕ → Type 0
 SelectAnswered v c rank = Exported selected (IsSizedCut c) (SelectsIn v c rank)
+
+-- the next bit v from a position on, and the previous one up to it
+abbrev pub NextAnswered : Bool → Cut → ℕ → ℕ → ℕ → ℕ → Type 0
+NextAnswered v c from = Exported selected (IsSizedCut c) (NextIn v c from)
+
+abbrev pub PreviousAnswered : Bool → Cut → ℕ → ℕ → ℕ → ℕ → Type 0
+PreviousAnswered v c from = Exported selected (IsSizedCut c) (PreviousIn v c from)
 
 -- of the places of the bits v from a place on: the list before and after the call, and how many were written, as many
 -- as there is room for; the rest stays

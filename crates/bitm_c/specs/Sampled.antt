@@ -1,8 +1,13 @@
--- Samples as C lends them.
-use Rattle.std.specs.Prelude.{min}
+-- Samples as C passes them.
+use Rattle.std.specs.Prelude.{Bool, min, if◌then◌else◌}
 use Rattle.bitm_lent.specs.declared.samples.LentSamples.{LentSamples}
 use Rattle.bitm_c.specs.declared.sampled.Samples.{Samples}
+use Rattle.bitm_c.specs.declared.view.Index.{Index}
 
--- the samples as the library is lent them
+-- the samples as the library takes them
 abbrev pub lent_samples : Samples → LentSamples
 lent_samples s = record { samples = s.samples; starts = s.starts; log2 = min s.log2 31 }
+
+-- an index's samples of one kind of bit
+abbrev pub samples_in : Bool → Index → Samples
+samples_in one index = if one then index.ones else index.zeros

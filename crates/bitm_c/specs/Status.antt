@@ -1,11 +1,9 @@
 -- What the exported calls answer: a status, and a number written where the caller says.
-use Rattle.std.specs.Prelude.{◌≡◌, ◌≢◌, ℕ, ◌^◌, ◌<◌, ◌⊎◌, if◌then◌else◌, nat_eq}
-use Rattle.std.specs.Int.{div_ceil}
+use Rattle.std.specs.Prelude.{◌≡◌, ◌≢◌, ℕ, ◌⊎◌, if◌then◌else◌, nat_eq}
 use Rattle.bitm.specs.Tables.{Lists}
 use Rattle.bitm_lent.specs.Sizes.{lists_of}
 use Rattle.bitm.specs.Selected.{Selected}
 use Rattle.bitm.specs.Selected.TheVariants.{Found, Absent, WrongTables}
-use Rattle.bitm_c.specs.declared.header.Header.{Header}
 use Rattle.bitm_c.specs.declared.view.View.{View}
 
 -- A status is 0 where the answer was written, 1 where there is no such place or bit, 2 where a length is not as it has
@@ -32,11 +30,3 @@ pub record Exported {A T : Type 0} (says : ℕ → T → A) (sized : Type 0) (P 
 -- the answer of a selection
 abbrev pub selected : ℕ → ℕ → Selected
 selected status n = if nat_eq status 0 then Found n else if nat_eq status 1 then Absent else WrongTables
-
--- what stands before so many stored words and their tables
-abbrev pub header_of : ℕ → Header
-header_of n = record { mark = 0x0162_6174_6d74_6962; words_len = n; upper_len = div_ceil n (2 ^ 26); lower_len = div_ceil n 32 }
-
--- it is the header of some number of words that have an index
-abbrev pub IsHeader : Header → Type 0
-IsHeader h = (n : ℕ) × (n < 2 ^ 58) × (h ≡ header_of n)

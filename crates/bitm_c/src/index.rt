@@ -5,30 +5,31 @@ ghost use Rattle.bitm.specs.Bits.{bits_of};
 ghost use Rattle.bitm.specs.Count.{ones_of};
 ghost use Rattle.bitm.specs.Tables.{HasSizes, HasTables};
 ghost use Rattle.bitm_lent.specs.Sizes.{lists_of};
-ghost use Rattle.bitm_c.specs.Status.{view_lists};
+ghost use Rattle.bitm_lent.specs.Cut.{IsSizedCut};
+ghost use Rattle.bitm_c.specs.Queries.{cut_of};
 
 use crate::answer::{BAD_SIZE, OK, WRONG};
-use crate::view::View;
+use crate::view::Index;
 
-/// How many numbers the upper table of so many words has: one for each begun 2^26 words.
+/// The length of the upper table of `words_len` words: one number for each 2^26 words, rounded up.
 #[unsafe(no_mangle)]
-pub extern "C" fn bitm_upper_len(words_len: usize) -> usize
+pub extern "C" fn bitm_index_upper_len(words_len: usize) -> usize
     ensures { result ≡ div_ceil words_len (2 ^ 26) }
 {
     bitm_lent::upper_len(words_len)
 }
 
-/// How many numbers the lower table of so many words has: one for each begun 32 words.
+/// The length of the lower table of `words_len` words: one number for each 32 words, rounded up.
 #[unsafe(no_mangle)]
-pub extern "C" fn bitm_lower_len(words_len: usize) -> usize
+pub extern "C" fn bitm_index_lower_len(words_len: usize) -> usize
     ensures { result ≡ div_ceil words_len 32 }
 {
     bitm_lent::lower_len(words_len)
 }
 
-/// Writes both tables of the words, and the number of ones.
+/// Writes both tables of the words, and the number of 1 bits.
 #[unsafe(no_mangle)]
-pub extern "C" fn bitm_build(
+pub extern "C" fn bitm_index_build(
     words: &[u64],
     upper: &mut [usize],
     lower: &mut [u64],
@@ -53,13 +54,13 @@ pub extern "C" fn bitm_build(
 
 /// Whether the tables are those of the words: one pass over the words.
 #[unsafe(no_mangle)]
-pub extern "C" fn bitm_check(view: &View<'_>) -> u32
-    ensures ok { (result ≡ 0) ↔ HasSizes (view_lists view.now) × HasTables (view_lists view.now) }
-    ensures bad { (result ≡ 2) ↔ ¬ (HasSizes (view_lists view.now)) }
+pub extern "C" fn bitm_index_check(index: &Index<'_>) -> u32
+    ensures ok { (result ≡ 0) ↔ IsSizedCut (cut_of index.now) × HasTables (cut_of index.now).lists }
+    ensures bad { (result ≡ 2) ↔ ¬ (IsSizedCut (cut_of index.now)) }
     ensures status { (result ≡ 0) ⊎ (result ≡ 2) ⊎ (result ≡ 3) }
 {
-    match view.lent() {
-        Some(lent) => { if lent.check() { OK } else { WRONG } }
+    match index.view() {
+        Some(view) => { if view.tables().check() { OK } else { WRONG } }
         None => BAD_SIZE,
     }
 }

@@ -7,16 +7,17 @@
 
 mod answer;
 mod bits;
+mod counts;
 mod hash;
-mod header;
 mod index;
 mod layout;
 mod numbers;
 mod places;
 mod queries;
 mod ranges;
-mod sample_checks;
+mod ranks;
 mod sampled;
+mod selections;
 mod sequence;
 mod stored;
 mod version;

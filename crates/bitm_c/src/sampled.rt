@@ -1,25 +1,28 @@
-//! Samples that lie in the caller's memory.
-ghost use Rattle.std.specs.Prelude.{◌≡◌, ◌≢◌, ◌≤◌, ◌↔◌, ℕ, length, min, slice_index, take};
+//! Samples that lie in the caller's memory: made, and compared with those of the words.
+ghost use Rattle.std.specs.Prelude.{◌≡◌, ◌≢◌, ◌≤◌, ◌↔◌, ◌⊎◌, ℕ, length, min, slice_index, take, true, false};
 ghost use Rattle.bitm.specs.Density.{clamped_log};
-ghost use Rattle.bitm.specs.Tables.{HasSizes, HasTables, bits_in};
-ghost use Rattle.bitm_lent.specs.Samples.{AreSamples, HasRoom, enough_samples};
-ghost use Rattle.bitm_c.specs.Sampled.{lent_samples};
-ghost use Rattle.bitm_c.specs.Status.{view_lists};
+ghost use Rattle.bitm.specs.Tables.{HasTables, bits_in};
+ghost use Rattle.bitm_lent.specs.Samples.{AreSamples, AreSamplesOf, HasRoom, enough_samples};
+ghost use Rattle.bitm_lent.specs.Cut.{IsSizedCut};
+ghost use Rattle.bitm_c.specs.Queries.{cut_of};
+ghost use Rattle.bitm_c.specs.Sampled.{lent_samples, samples_in};
 
-use crate::answer::{BAD_SIZE, OK};
-use crate::view::View;
+use crate::answer::{BAD_SIZE, OK, WRONG};
+use crate::view::Index;
 use bitm_lent::LentSamples;
 
-/// Samples of one kind, lent: for C two pairs of a pointer and a length, and a number.
+/// Samples of one kind of bit: for C two pairs of a pointer and a length, and a number.
 #[repr(C)]
 #[derive(Clone, Copy)]
 pub struct Samples<'a> {
-    /// The samples, and nothing behind them.
+    /// The samples, and nothing after them.
     pub samples: &'a [u32],
-    /// How many samples there are before each part.
+    /// The number of samples before each upper block.
     pub starts: &'a [usize],
-    /// The logarithm of how many items one sample stands for.
+    /// The logarithm of the number of bits that one sample stands for.
     pub log2: u32,
+    /// Room for later versions; this one does not read it.
+    pub reserved: u32,
 }
 
 /// A logarithm as the library takes it, where each one above 31 is 31.
@@ -31,7 +34,7 @@ fn narrow_log2(log2: u32) -> u8
 }
 
 impl<'a> Samples<'a> {
-    /// The samples as the library asks them.
+    /// The samples as the library takes them.
     #[inline(always)]
     pub(crate) fn lent(&self) -> LentSamples<'a>
         ensures { result ≡ lent_samples self.now }
@@ -44,42 +47,45 @@ impl<'a> Samples<'a> {
     }
 }
 
-/// How many samples so many words have at most: one for each begun 2^(log2 - 6) words.
+/// The greatest number of samples of one kind that words can have: one for each 2^(log2 - 6) words, rounded up.
 #[unsafe(no_mangle)]
-pub extern "C" fn bitm_samples_len(words_len: usize, log2: u32) -> usize
+pub extern "C" fn bitm_index_samples_len(words_len: usize, log2: u32) -> usize
     ensures { result ≡ enough_samples words_len log2 }
 {
     bitm_lent::samples_len(words_len, narrow_log2(log2))
 }
 
-/// Writes the samples of ones, or zeros, how many there are before each part, and how many there are.
+/// Writes the samples of the 1 bits, or of the 0 bits, the number of samples before each upper block, and how many
+/// samples there are.
 #[unsafe(no_mangle)]
-pub extern "C" fn bitm_build_samples(
-    view: &View<'_>,
+pub extern "C" fn bitm_index_build_samples(
+    index: &Index<'_>,
     one: bool,
     log2: u32,
     samples: &mut [u32],
     starts: &mut [usize],
     used: &mut usize,
 ) -> u32
-    ensures ok { (result ≡ 0) ↔ HasSizes (view_lists view.now)
-        × HasRoom (view_lists view.now) log2 samples.old starts.old }
+    ensures ok { (result ≡ 0) ↔ IsSizedCut (cut_of index.now)
+        × HasRoom (cut_of index.now).lists log2 samples.old starts.old }
     ensures fits { result ≡ 0 → used.new ≤ length samples.old }
-    ensures made { result ≡ 0 → HasTables (view_lists view.now) → AreSamples
-        (bits_in (view_lists view.now)) one (clamped_log log2)
+    ensures made { result ≡ 0 → HasTables (cut_of index.now).lists → AreSamples
+        (bits_in (cut_of index.now).lists) one (clamped_log log2)
         (take used.new samples.new) starts.new }
     ensures behind { result ≡ 0 → (j : ℕ) → used.new ≤ j
         → slice_index samples.new j ≡ slice_index samples.old j }
     ensures kept { result ≢ 0 → (result ≡ 2) × (samples.new ≡ samples.old)
         × (starts.new ≡ starts.old) × (used.new ≡ used.old) }
 {
-    let Some(lent) = view.lent() else {
+    let Some(view) = index.view() else {
         return BAD_SIZE;
     };
     let made = if one {
-        lent.build_samples::<1>(narrow_log2(log2), samples, starts)
+        view.tables()
+            .build_samples::<1>(narrow_log2(log2), samples, starts)
     } else {
-        lent.build_samples::<0>(narrow_log2(log2), samples, starts)
+        view.tables()
+            .build_samples::<0>(narrow_log2(log2), samples, starts)
     };
     match made {
         Some(count) => {
@@ -88,4 +94,25 @@ pub extern "C" fn bitm_build_samples(
         }
         None => BAD_SIZE,
     }
+}
+
+/// Whether the index's samples of the 1 bits, or of the 0 bits, are those that the build writes, where the tables are
+/// those of the words.
+#[unsafe(no_mangle)]
+pub extern "C" fn bitm_index_check_samples(index: &Index<'_>, one: bool) -> u32
+    ensures ok { IsSizedCut (cut_of index.now) → HasTables (cut_of index.now).lists
+        → (result ≡ 0) ↔ AreSamplesOf (bits_in (cut_of index.now).lists) one
+        (lent_samples (samples_in one index.now)) }
+    ensures bad { (result ≡ 2) ↔ ¬ (IsSizedCut (cut_of index.now)) }
+    ensures status { (result ≡ 0) ⊎ (result ≡ 2) ⊎ (result ≡ 3) }
+{
+    let Some(view) = index.view() else {
+        return BAD_SIZE;
+    };
+    let are = if one {
+        view.tables().check_samples::<1>(&index.ones.lent())
+    } else {
+        view.tables().check_samples::<0>(&index.zeros.lent())
+    };
+    if are { OK } else { WRONG }
 }

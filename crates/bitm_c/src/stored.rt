@@ -214,7 +214,7 @@ pub extern "C" fn bitm_stored_sequence(len: u64, lens: &SequenceLens, out: &mut 
 /// The header that a file begins with, of which the whole lies in the file.
 #[tactic(auto, using(crate::proofs::StoredLemmas::lies_within, crate::proofs::StoredLemmas::whole))]
 #[unsafe(no_mangle)]
-pub extern "C" fn bitm_read_stored(file: &[u64], out: &mut Stored) -> u32
+pub extern "C" fn bitm_stored_read(file: &[u64], out: &mut Stored) -> u32
     ensures ok { (result ≡ 0) ↔ IsHeaded file.now }
     ensures header { result ≡ 0 → (out.new ≡ header_in file.now) × IsStored out.new }
     ensures inside { result ≡ 0 → LiesWithin out.new (8 * length file.now) }

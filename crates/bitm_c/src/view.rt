@@ -1,15 +1,64 @@
-//! Words and tables as one struct lends them to C.
-ghost use Rattle.std.specs.Prelude.{◌≡◌, SomeIff};
+//! Words and tables in the caller's memory, and the index over them: what the calls of an index take.
+ghost use Rattle.std.specs.Prelude.{◌≡◌, ◌^◌, ◌<◌, ◌≤◌, SomeIff, length};
 ghost use Rattle.bitm.specs.Tables.{HasSizes};
+ghost use Rattle.bitm_lent.specs.Cut.{IsSizedCut};
+ghost use Rattle.bitm_c.specs.Queries.{cut_of};
 ghost use Rattle.bitm_c.specs.Status.{view_lists};
 
-use bitm_lent::Lent;
+use crate::sampled::Samples;
+use bitm_lent::{IndexView, Lent};
 
-/// Words and two tables, all lent: for C three pairs of a pointer and a length.
+/// An index in the caller's memory: words with their two tables, of which the first `bits_len` bits are the bit vector,
+/// and samples of either kind of bit, which may be none. For C each slice is a pointer and a length.
+#[repr(C)]
+#[derive(Clone, Copy)]
+pub struct Index<'a> {
+    /// The words.
+    pub words: &'a [u64],
+    /// The upper table.
+    pub upper: &'a [usize],
+    /// The lower table.
+    pub lower: &'a [u64],
+    /// The length of the bit vector in bits.
+    pub bits_len: u64,
+    /// Samples of the 1 bits.
+    pub ones: Samples<'a>,
+    /// Samples of the 0 bits.
+    pub zeros: Samples<'a>,
+    /// Room for later versions; this one does not read it.
+    pub reserved: [u64; 2],
+}
+
+impl<'a> Index<'a> {
+    /// The view of the index that the library queries; `None` exactly where a length is not right.
+    #[inline(always)]
+    pub(crate) fn view(&self) -> Option<IndexView<'a>>
+        ensures { SomeIff result (IsSizedCut (cut_of self.now)) (cut_of self.now) }
+    {
+        let tables = Lent::over(self.words, self.upper, self.lower)?;
+        let whole = IndexView::over(tables, self.bits_len as usize)?;
+        let of_ones = whole.with_samples::<1>(self.ones.lent());
+        Some(of_ones.with_samples::<0>(self.zeros.lent()))
+    }
+
+    /// The view without samples, where there are more than 2^18 words and one upper block; else `None`, as where a
+    /// length is not right.
+    #[inline(always)]
+    pub(crate) fn large_view(&self) -> Option<IndexView<'a>>
+        ensures { SomeIff result (IsSizedCut (cut_of self.now)
+            × (2 ^ 18 < length self.now.words.now) × (length self.now.words.now ≤ 2 ^ 26))
+            (cut_of self.now) }
+    {
+        let tables = Lent::over_large_part(self.words, self.upper, self.lower)?;
+        IndexView::over(tables, self.bits_len as usize)
+    }
+}
+
+/// Words and two tables: for C three pairs of a pointer and a length.
 #[repr(C)]
 #[derive(Clone, Copy)]
 pub struct View<'a> {
-    /// The content.
+    /// The words.
     pub words: &'a [u64],
     /// The upper table.
     pub upper: &'a [usize],
@@ -18,7 +67,7 @@ pub struct View<'a> {
 }
 
 impl<'a> View<'a> {
-    /// The three as the library asks them; `None` exactly where a length is not right.
+    /// The three as the library queries them; `None` exactly where a length is not right.
     #[inline(always)]
     pub(crate) fn lent(&self) -> Option<Lent<'a>>
         ensures { SomeIff result (HasSizes (view_lists self.now)) (view_lists self.now) }

@@ -1,15 +1,15 @@
 -- What the numbers of a list say of the answers.
 use Rattle.std.proofs.Common.{◌≡◌, ℕ, ◌-◌, ◌^◌, ◌<◌, ◌≤◌, Bool, length, if◌then◌else◌, nat_eq, ap, inl, inr, ne_eqb, subst, sym, ◌∙◌, arith}
 use Rattle.std.proofs.lemmas.Bool.{cases_eq, cases_lt}
+use Rattle.std.proofs.lemmas.List.{length-take-le}
 use Rattle.bit_lists.proofs.lemmas.BitsLemmas.{length-bits_of}
-use Rattle.bit_lists.specs.Bits.{IsShort}
 use Rattle.bit_lists.specs.Count.{count_of}
-use Rattle.bitm_search.specs.Answers.{SelectTold}
+use Rattle.bitm_search.specs.Answers.{RankTold, SelectTold}
 use Rattle.bitm_search.specs.Tables.{bits_in}
 use Rattle.bitm_search.specs.declared.search.selected.Selected.{Selected}
 use Rattle.bitm_search.specs.declared.search.selected.Selected.TheVariants as Sel
-use Rattle.bitm_lent.proofs.CutLemmas.{cut_found, cut_none, cut_past, cut_wrong}
-use Rattle.bitm_lent.specs.Cut.{Cut, IsWithin}
+use Rattle.bitm_lent.proofs.CutLemmas.{cut_counted, cut_found, cut_none, cut_past, cut_wrong}
+use Rattle.bitm_lent.specs.Cut.{Cut, IsSizedCut}
 use Rattle.bitm_lent.specs.Queries.{ranked_by, selected_by, RanksIn, Selects, SelectsIn}
 use Rattle.bitm_lent.specs.declared.ranked.Ranked.{Ranked}
 use Rattle.bitm_lent.specs.declared.ranked.Ranked.TheVariants as Rank
@@ -27,12 +27,31 @@ selected_place n below =
     (ne_eqb n (2 ^ 64 - 1) (λ e. omega (arith, e, below)))
     ∙ ap (λ (e : Bool). if e then Sel.WrongTables else Sel.Found n) (ne_eqb n (2 ^ 64 - 2) (λ e. omega (arith, e, below)))
 
-module _ (v : Bool) (c : Cut) (within : IsWithin c) (short : IsShort c.lists.words) where
-  -- a count is no code
-  pub count_said : (i n : ℕ) → RanksIn v c i (Rank.Count n) → RanksIn v c i (ranked_by n)
-  count_said i n is =
-      subst (λ (r : Ranked). RanksIn v c i r)
-      (sym (ranked_place n (omega (arith, is.within.0, is.within.1, within, length-bits_of c.lists.words, short)))) is
+module _ (v : Bool) (c : Cut) (sized : IsSizedCut c) where
+  -- no position and no count of the words is a code
+  few : (n : ℕ) → n ≤ length (bits_in c.lists) → n < 2 ^ 64 - 2
+  few n inside = omega (arith, inside, length-bits_of c.lists.words, sized.sizes.short)
+
+  pub rank_past : (i : ℕ) → c.len < i → RanksIn v c i Rank.Absent
+  rank_past i past = record { within = past; counts = λ t. omega (arith, past, length-take-le c.len (bits_in c.lists) sized.within) }
+
+  pub rank_said : (i : ℕ) → i ≤ c.len → (n : ℕ) → RankTold v c.lists i n → n < 2 ^ 64 → RanksIn v c i (ranked_by n)
+  rank_said i inside n told fits =
+      let within : i ≤ length (bits_in c.lists) = omega (arith, inside, sized.within) in
+      elim (cases_lt n (2 ^ 64 - 2)) [
+        | inl below ↦
+            subst (λ (r : Ranked). RanksIn v c i r) (sym (ranked_place n below))
+            (cut_counted v c sized.within i inside (Rank.Count n)
+            (record { within = (within, told.most below); counts = λ t. (within, (told.count t within).1) }))
+        | inr above ↦
+            elim (cases_eq n (2 ^ 64 - 1)) [
+              | inl e ↦ absurd (omega (arith, told.none.0 e, within))
+              | inr not ↦
+                  let e : n ≡ 2 ^ 64 - 2 = omega (arith, fits, above, not) in
+                  subst (λ (m : ℕ). RanksIn v c i (ranked_by m)) (sym e)
+                  (record { within = inside; counts = λ t. omega (arith, (told.count t within).0, e) })
+            ]
+      ]
 
   module _ (r n : ℕ) (told : SelectTold v c.lists r n) where
     -- a place that was found
@@ -48,17 +67,13 @@ module _ (v : Bool) (c : Cut) (within : IsWithin c) (short : IsShort c.lists.wor
       absent = tt;
     }
 
-    -- no place past the words
-    few : n < length (bits_in c.lists) → n < 2 ^ 64 - 2
-    few inside = omega (arith, inside, length-bits_of c.lists.words, short)
-
     pub place_said : n < c.len → SelectsIn v c r (selected_by n)
     place_said inside =
-        let below = few (omega (arith, inside, within)) in
-        subst (λ (s : Selected). SelectsIn v c r s) (sym (selected_place n below)) (cut_found v c within r n inside (place below))
+        let below = few n (omega (arith, inside, sized.within)) in
+        subst (λ (s : Selected). SelectsIn v c r s) (sym (selected_place n below)) (cut_found v c sized.within r n inside (place below))
 
     pub past_said : c.len ≤ n → n < 2 ^ 64 - 2 → SelectsIn v c r Sel.Absent
-    past_said behind below = cut_past v c within r n behind (place below)
+    past_said behind below = cut_past v c sized.within r n behind (place below)
 
     none : n ≡ 2 ^ 64 - 1 → Selects v c.lists r Sel.Absent
     none e = record {
@@ -66,7 +81,7 @@ module _ (v : Bool) (c : Cut) (within : IsWithin c) (short : IsShort c.lists.wor
       counts =
           λ t.
           elim (cases_lt r (count_of (bits_in c.lists) v)) [
-            | inl some ↦ absurd (omega (arith, few (told.some t some).inside, e))
+            | inl some ↦ absurd (omega (arith, few n (omega (arith, (told.some t some).inside)), e))
             | inr past ↦ past
           ];
       absent = told.absent e;
@@ -78,7 +93,7 @@ module _ (v : Bool) (c : Cut) (within : IsWithin c) (short : IsShort c.lists.wor
       counts =
           λ t.
           elim (cases_lt r (count_of (bits_in c.lists) v)) [
-            | inl some ↦ absurd (omega (arith, few (told.some t some).inside, e))
+            | inl some ↦ absurd (omega (arith, few n (omega (arith, (told.some t some).inside)), e))
             | inr past ↦ absurd (omega (arith, told.none t past, e))
           ];
       absent = tt;
@@ -87,8 +102,8 @@ module _ (v : Bool) (c : Cut) (within : IsWithin c) (short : IsShort c.lists.wor
     pub code_said : n < 2 ^ 64 → 2 ^ 64 - 2 ≤ n → SelectsIn v c r (selected_by n)
     code_said fits above =
         elim (cases_eq n (2 ^ 64 - 1)) [
-          | inl e ↦ subst (λ (m : ℕ). SelectsIn v c r (selected_by m)) (sym e) (cut_none v c within r (none e))
+          | inl e ↦ subst (λ (m : ℕ). SelectsIn v c r (selected_by m)) (sym e) (cut_none v c sized.within r (none e))
           | inr not ↦
               let e : n ≡ 2 ^ 64 - 2 = omega (arith, fits, above, not) in
-              subst (λ (m : ℕ). SelectsIn v c r (selected_by m)) (sym e) (cut_wrong v c within r (wrong e))
+              subst (λ (m : ℕ). SelectsIn v c r (selected_by m)) (sym e) (cut_wrong v c sized.within r (wrong e))
         ]

@@ -1,14 +1,14 @@
 -- The first items of a list of bits: their counts are those of all, and a place that all have is one of
 -- them or behind them.
-use Rattle.std.proofs.Common.{◌≡◌, ℕ, ◌<◌, ◌≤◌, Bool, List, length, take, inl, inr, sym, ap, ◌∙◌, arith}
+use Rattle.std.proofs.Common.{◌≡◌, ℕ, ◌+◌, ◌<◌, ◌≤◌, Bool, true, false, List, length, take, inl, inr, sym, ap, ◌∙◌, arith}
 use Rattle.std.proofs.lemmas.List.{get_or-take, length-take-le}
 use Rattle.bit_lists.proofs.lemmas.CutLemmas.{same_count}
-use Rattle.bit_lists.proofs.lemmas.CountLemmas.{count_before-le}
+use Rattle.bit_lists.proofs.lemmas.CountLemmas.{count_before-le, ones_before-add-zeros_before}
 use Rattle.bit_lists.specs.Bits.{item}
 use Rattle.bit_lists.specs.Count.{count_before, count_of, Picks}
 use Rattle.bitm_search.specs.Tables.{bits_in}
 use Rattle.bitm_search.specs.declared.search.selected.Selected.TheVariants as Sel
-use Rattle.bitm_lent.specs.Cut.{Cut, IsWithin}
+use Rattle.bitm_lent.specs.Cut.{Cut, bits_of_cut, IsWithin}
 use Rattle.bitm_lent.specs.Queries.{Ranks, RanksIn, Selects, SelectsIn}
 use Rattle.bitm_lent.specs.Ranks.{IsRanked}
 use Rattle.bitm_lent.specs.declared.ranked.Ranked.{Ranked}
@@ -52,6 +52,11 @@ module _ (b : List Bool) (v : Bool) (len : ℕ) (within : len ≤ length b) wher
   cut_ranked i inside (Count n) answer = (omega (arith, inside, long), answer.1 ∙ sym (cut_count i inside))
   cut_ranked i inside Absent answer = absurd (omega (arith, answer, inside, within))
   cut_ranked i inside WrongTables answer = answer
+
+-- the bits of a bit vector are 1 bits and 0 bits
+pub both : (c : Cut) → IsWithin c → count_of (bits_of_cut c) true + count_of (bits_of_cut c) false ≡ c.len
+both c within =
+    ones_before-add-zeros_before (bits_of_cut c) (length (bits_of_cut c)) (omega arith) ∙ length-take-le c.len (bits_in c.lists) within
 
 module _ (v : Bool) (c : Cut) (within : IsWithin c) where
   -- a count among all is one among them, of no more than they are

@@ -5,6 +5,7 @@ pub mod CutLemmas
 pub mod FilledLemmas
 pub mod GuessLemmas
 pub mod ListLemmas
+pub mod NearLemmas
 pub mod OnesFromLemmas
 pub mod SampleCheckLemmas
 pub mod SamplingLemmas

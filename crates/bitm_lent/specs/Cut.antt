@@ -1,7 +1,7 @@
 -- The bits of words up to a length that is no multiple of 64.
 use Rattle.std.specs.Prelude.{◌≡◌, ℕ, ◌<◌, ◌≤◌, ◌⊎◌, Bool, List, length, take}
 use Rattle.bit_lists.specs.Bits.{item}
-use Rattle.bitm_search.specs.Tables.{Lists, bits_in}
+use Rattle.bitm_search.specs.Tables.{HasSizes, Lists, bits_in}
 use Rattle.bitm_search.specs.Told.{TellsNone}
 
 -- words and their tables, and how many of the bits belong to the content
@@ -20,6 +20,11 @@ bits_of_cut c = take c.len (bits_in c.lists)
 -- there are so many bits
 abbrev pub IsWithin : Cut → Type 0
 IsWithin c = c.len ≤ length (bits_in c.lists)
+
+-- the lengths are right, and there are so many bits
+pub record IsSizedCut (c : Cut) : Type 0 where
+  pub sizes : HasSizes c.lists
+  pub within : IsWithin c
 
 -- the words have a bit v that does not belong to the content
 pub record HasBitBehind (v : Bool) (c : Cut) : Type 0 where

@@ -1,6 +1,8 @@
 -- What a query answers over tables that may hold anything: among all bits of the words, and among the first ones.
-use Rattle.std.specs.Prelude.{ℕ, ◌-◌, ◌^◌, Bool, List, length, if◌then◌else◌, nat_eq}
-use Rattle.bitm_search.specs.Answers.{HasBit, IsSelected}
+use Rattle.std.specs.Prelude.{◌≡◌, ℕ, ◌+◌, ◌-◌, ◌^◌, ◌<◌, ◌≤◌, Bool, not, List, length, min, if◌then◌else◌, nat_eq}
+use Rattle.bit_lists.specs.Bits.{item}
+use Rattle.bit_lists.specs.Count.{IsFirstFrom, IsLastTo}
+use Rattle.bitm_search.specs.Answers.{HasBit, IsFoundFrom, IsSelected}
 use Rattle.bitm_search.specs.Tables.{HasTables, Lists, bits_in}
 use Rattle.bitm_search.specs.Told.{IfAbsent, TellsNone}
 use Rattle.bitm_search.specs.declared.search.selected.Selected.{Selected}
@@ -38,6 +40,31 @@ Ranks v lists index = IsCounting (bits_in lists) (length (bits_in lists)) v (Has
 -- among the first ones
 abbrev pub RanksIn : Bool → Cut → ℕ → Ranked → Type 0
 RanksIn v c index = IsCounting (bits_of_cut c) c.len v (HasTables c.lists) index
+
+-- the least position from s on with bit v, and Absent exactly where there is none
+abbrev pub IsNext : List Bool → Bool → ℕ → Selected → Type 0
+IsNext b v s (Sel.Found p) = IsFirstFrom b v s p
+IsNext b v s Sel.Absent = (p : ℕ) → s ≤ p → p < length b → item b p ≡ not v
+IsNext b v s Sel.WrongTables = ⊥
+
+-- the greatest position up to s, or to the last one, with bit v, and Absent exactly where there is none
+abbrev pub IsPrevious : List Bool → Bool → ℕ → Selected → Type 0
+IsPrevious b v s (Sel.Found p) = IsLastTo b v (min s (length b - 1)) p
+IsPrevious b v s Sel.Absent = (p : ℕ) → p ≤ s → p < length b → item b p ≡ not v
+IsPrevious b v s Sel.WrongTables = ⊥
+
+-- of the next bit v from a position on: whatever the tables hold, a position is from there on and before the end, and has
+-- the bit; where they are right the answer is the least one
+pub record NextIn (v : Bool) (c : Cut) (s : ℕ) (answer : Selected) : Type 0 where
+  pub bit : HasBit (bits_of_cut c) v answer
+  pub from : IsFoundFrom s c.len answer
+  pub counts : HasTables c.lists → IsNext (bits_of_cut c) v s answer
+
+-- of the previous bit v up to a position, likewise
+pub record PreviousIn (v : Bool) (c : Cut) (s : ℕ) (answer : Selected) : Type 0 where
+  pub bit : HasBit (bits_of_cut c) v answer
+  pub to : IsFoundFrom 0 (s + 1) answer
+  pub counts : HasTables c.lists → IsPrevious (bits_of_cut c) v s answer
 
 -- what a number of a list says of the answer: the two greatest ones stand for Absent and WrongTables
 abbrev pub selected_by : ℕ → Selected

@@ -12,9 +12,9 @@ mod by_samples;
 mod checks;
 
 use crate::checking::are_tables;
-use crate::ranked::Ranked;
+use crate::ranked::{Ranked, ranked_on};
 use bitm_search::levels::{U64_PER_L1_ENTRY, U64_PER_L2_ENTRY};
-use bitm_search::search::ranking::total_rank_on;
+use bitm_search::search::ranking::{WORDS_AT_HAND, total_rank_on};
 use bitm_search::search::selected::Selected;
 use bitm_search::search::selecting::total_select_on;
 use bitm_search::source::Probe;
@@ -36,14 +36,23 @@ pub fn lower_len(words: usize) -> usize
     words.div_ceil(U64_PER_L2_ENTRY)
 }
 
+/// Whether `BIT` asks for 1 bits: 0 asks for 0 bits.
+#[inline(always)]
+pub(crate) fn is_one<const BIT: u8>() -> bool
+    ensures { result ≡ as_bit BIT }
+{
+    if BIT == 0 { false } else { true }
+}
+
 /// Whether there are fewer than 2^58 words and the tables have the right lengths.
 #[inline(always)]
 pub(crate) fn has_sizes(words: &[u64], upper: &[usize], lower: &[u64]) -> bool
     ensures { IsTrue result ↔ HasSizes (lists_of words.now upper.now lower.now) }
 {
+    // Sums, and not `upper_len` and `lower_len`: where a caller has bounded the words LLVM then knows the first.
     words.len() < 1 << 58
-        && upper.len() == upper_len(words.len())
-        && lower.len() == lower_len(words.len())
+        && upper.len() == (words.len() + (U64_PER_L1_ENTRY - 1)) / U64_PER_L1_ENTRY
+        && lower.len() == (words.len() + (U64_PER_L2_ENTRY - 1)) / U64_PER_L2_ENTRY
 }
 
 /// Words and two tables, all lent, of which the lengths are right.
@@ -77,6 +86,33 @@ impl<'a> Lent<'a> {
             (lists_of words.now upper.now lower.now) }
     {
         if has_sizes(words, upper, lower) {
+            Some(Lent {
+                words,
+                upper,
+                lower,
+            })
+        } else {
+            None
+        }
+    }
+
+    /// The words and their tables where there are more than `WORDS_AT_HAND` words and one upper block; else `None`, as
+    /// where a length is not right. For a call that has a form of its own for these: fewer tests than `over`.
+    #[inline(always)]
+    pub fn over_large_part(
+        words: &'a [u64],
+        upper: &'a [usize],
+        lower: &'a [u64],
+    ) -> Option<Lent<'a>>
+        ensures { SomeIff result (HasSizes (lists_of words.now upper.now lower.now)
+            × (2 ^ 18 < length words.now) × (length words.now ≤ 2 ^ 26))
+            (lists_of words.now upper.now lower.now) }
+    {
+        if words.len() > WORDS_AT_HAND
+            && words.len() <= U64_PER_L1_ENTRY
+            && upper.len() == 1
+            && lower.len() == (words.len() + (U64_PER_L2_ENTRY - 1)) / U64_PER_L2_ENTRY
+        {
             Some(Lent {
                 words,
                 upper,
@@ -124,13 +160,7 @@ impl<'a> Lent<'a> {
     pub fn rank<const BIT: u8>(&self, index: usize) -> Ranked
         ensures { Ranks (as_bit BIT) self.now index result }
     {
-        let Some(ones) = self.told_ones(index) else {
-            return Ranked::Absent;
-        };
-        match index.checked_sub(ones) {
-            Some(zeros) => Ranked::Count(if BIT == 0 { zeros } else { ones }),
-            None => Ranked::WrongTables,
-        }
+        ranked_on(&mut self.probe(), is_one::<BIT>(), index)
     }
 
     /// How many of the first `index` bits are ones, where the tables are those of the words, else any number; `None`

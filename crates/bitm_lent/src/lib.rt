@@ -33,14 +33,16 @@ mod samples;
 mod sampling;
 mod view;
 
-pub use bitm_search::search::ranking::total_rank_on;
+pub use bitm_search::search::many::ByTables;
+pub use bitm_search::search::ranking::{WORDS_AT_HAND, total_rank_on};
 pub use bitm_search::search::selected::{NO_ANSWER, Selected, WRONG_TABLES};
 pub use bitm_search::search::selecting::total_select_on;
 pub use clearing::{clear, clear_from};
 pub use filling::build;
+pub use guessed::ByGuess;
 pub use lent::{Lent, lower_len, upper_len};
 pub use places::ones_from;
-pub use ranked::Ranked;
+pub use ranked::{Ranked, ranked_on};
 pub use sampled::sampled_select_on;
 pub use sampled_many::sampled_select_many_on;
 pub use samples::{LentSamples, samples_len};

@@ -1,4 +1,11 @@
-//! What a rank answers.
+//! What a rank over tables that may hold anything answers.
+ghost use Rattle.std.specs.Prelude.{length};
+ghost use Rattle.bitm_lent.specs.Queries.{Ranks};
+ghost use Rattle.bitm_search.specs.Reads.{OnlyReads};
+ghost use Rattle.bitm_search.specs.Tables.{HasSizes};
+
+use bitm_search::search::ranking::total_rank_on;
+use bitm_search::source::TableSource;
 
 /// What a rank over tables that may hold anything answers.
 #[derive(Clone, Copy, PartialEq, Eq, Debug)]
@@ -9,4 +16,26 @@ pub enum Ranked {
     Absent,
     /// The tables are not those of the words.
     WrongTables,
+}
+
+/// The number of 1 bits, or 0 bits, among the first `index` bits of a source's words. The kind is chosen once, after the
+/// 1 bits were counted.
+///
+/// # Conditions
+/// There are fewer than 2^58 words, and the tables have the right lengths. They may hold anything.
+/// # Cost
+/// At most one upper entry, one lower entry and eight words are read.
+#[inline(always)]
+pub fn ranked_on<T: TableSource>(source: &mut T, one: bool, index: usize) -> Ranked
+    requires { HasSizes (T.lists source.old) }
+    ensures ranks { Ranks one (T.lists source.old) index result }
+    ensures reads { OnlyReads T.lists T.reads source.old source.new 1 1 8 }
+{
+    let Some(ones) = total_rank_on(source, index) else {
+        return Ranked::Absent;
+    };
+    match index.checked_sub(ones) {
+        Some(zeros) => Ranked::Count(if one { ones } else { zeros }),
+        None => Ranked::WrongTables,
+    }
 }

@@ -1,18 +1,26 @@
 //! The view of an index that is lent: all that is asked of it.
 ghost use Rattle.std.specs.Prelude.{◌≡◌, ◌+◌, ◌-◌, ◌<◌, ◌≤◌, ◌↔◌, ℕ, Bool, IsTrue, MatchOption, length, min, slice_index};
 ghost use Rattle.std.specs.Prelude.{true, false};
+ghost use Rattle.bit_lists.specs.Bits.{digit_count};
 ghost use Rattle.bit_lists.specs.Count.{count_before, count_of, as_bit, Picks};
 ghost use Rattle.bitm_search.specs.Tables.{bits_in};
 ghost use Rattle.bitm_lent.specs.Cut.{bits_of_cut, cut_at, Cut, IsWithin};
 ghost use Rattle.bitm_lent.specs.Queries.{ranked_by, selected_by, RanksIn, Selects, SelectsIn};
-ghost use Rattle.bitm_search.specs.Answers.{SelectTold};
+ghost use Rattle.bitm_search.specs.Answers.{RanksTold, RankTold, SelectTold, ToldEach};
+ghost use Rattle.bitm_search.specs.Reads.{OnlyReads, ReadsAtMost};
 
-use crate::lent::Lent;
+mod near;
+
+use crate::guessed::ByGuess;
+use crate::lent::{Lent, is_one};
 use crate::places::bits_from;
-use crate::ranked::Ranked;
+use crate::ranked::{Ranked, ranked_on};
 use crate::samples::LentSamples;
 use bitm::words;
+use bitm_search::search::many::{ByTables, total_rank_many_on};
 use bitm_search::search::selected::{NO_ANSWER, Selected, WRONG_TABLES};
+use bitm_search::search::selecting::{FindsEntry, search_on};
+use bitm_search::source::{Probe, TableSource};
 use std::marker::Model;
 
 /// A place that was found, where it is before place `len`.
@@ -48,13 +56,13 @@ pub struct IndexView<'a> {
 }
 
 impl<'a> Model for IndexView<'a> {
-    ghost use Rattle.bitm_lent.specs.Cut.{cut_at, Cut, IsWithin};
+    ghost use Rattle.bitm_lent.specs.Cut.{cut_at, Cut, IsSizedCut};
 
     ghost Value = { Cut };
 
     ghost view = { λ i. cut_at i.tables i.len };
 
-    ghost invariant = { λ i. IsWithin (cut_at i.tables i.len) };
+    ghost invariant = { λ i. IsSizedCut (cut_at i.tables i.len) };
 }
 
 /// No samples.
@@ -111,74 +119,130 @@ impl<'a> IndexView<'a> {
         if BIT == 0 { &self.zeros } else { &self.ones }
     }
 
-    /// What stands in all the words, by samples where there are some.
+    /// How many of the first `index` bits are 1 bits, or 0 bits, over a source of the view's words and tables.
+    ///
+    /// # Cost
+    /// At most one upper entry, one lower entry and eight words are read.
     #[inline(always)]
-    fn select_in_words<const BIT: u8>(&self, rank: usize) -> Selected
-        ensures { Selects (as_bit BIT) self.now.lists rank result }
-    {
-        let samples = self.samples::<BIT>();
-        if samples.samples.is_empty() {
-            return self.tables.select::<BIT>(rank);
-        }
-        self.tables.sampled_select::<BIT>(samples, rank)
-    }
-
-    /// How many of the first `index` bits are ones: `Absent` exactly where the content has fewer, whatever the tables
-    /// hold; else as `Lent::rank`. Zeros in place of ones where `BIT` is 0.
-    #[inline(always)]
-    pub fn rank<const BIT: u8>(&self, index: usize) -> Ranked
-        ensures { RanksIn (as_bit BIT) self.now index result }
+    pub fn rank_on<T: TableSource>(&self, source: &mut T, one: bool, index: usize) -> Ranked
+        requires { T.lists source.old ≡ self.now.lists }
+        ensures ranks { RanksIn one self.now index result }
+        ensures reads { OnlyReads T.lists T.reads source.old source.new 1 1 8 }
     {
         if index > self.len {
             return Ranked::Absent;
         }
-        self.tables.rank::<BIT>(index)
+        ranked_on(source, one, index)
     }
 
-    /// The place of the one with exactly `rank` ones before it, as `Lent::select`: places behind the content are none.
-    /// Zeros in place of ones where `BIT` is 0.
+    /// How many of the first `index` bits are 1 bits, or 0 bits: `Absent` exactly where the bit vector has fewer,
+    /// whatever the tables hold; else as `Lent::rank`.
     ///
-    /// Whatever the tables hold, `Absent` is answered only where tables and words tell no more than `rank` such bits,
-    /// or the words have one behind the content.
+    /// # Cost
+    /// That of `rank_on`.
+    #[inline(always)]
+    pub fn rank_of(&self, one: bool, index: usize) -> Ranked
+        ensures { RanksIn one self.now index result }
+    {
+        self.rank_on(&mut self.tables.probe(), one, index)
+    }
+
+    /// How many of the first `index` bits are 1 bits; 0 bits where `BIT` is 0. As `rank_of`.
+    #[inline(always)]
+    pub fn rank<const BIT: u8>(&self, index: usize) -> Ranked
+        ensures { RanksIn (as_bit BIT) self.now index result }
+    {
+        self.rank_of(is_one::<BIT>(), index)
+    }
+
+    /// The position of the 1 bit with rank `rank` over a source of the view's words and tables, of which `finder` finds
+    /// the entry: `ByTables`, or `ByGuess` by samples. Of the 0 bit where `BIT` is 0.
+    ///
+    /// # Cost
+    /// At most as many upper entries as their number has binary digits and one more, the lower entries that the finder
+    /// reads and eight words are read, whatever the tables hold: 23 lower entries by the tables, 51 by samples, and 28 by
+    /// those of the words.
+    #[inline(always)]
+    pub fn select_on<const BIT: u8, T: TableSource, F: FindsEntry<BIT, T>>(
+        &self,
+        source: &mut T,
+        finder: &F,
+        rank: usize,
+    ) -> Selected
+        requires { T.lists source.old ≡ self.now.lists }
+        ensures selects { SelectsIn (as_bit BIT) self.now rank result }
+        ensures reads { OnlyReads T.lists T.reads source.old source.new
+            (digit_count (length self.now.lists.upper) + 1) F.lowers 8 }
+        ensures reads_led { F.leads finder.now self.now.lists
+            → ReadsAtMost (T.reads source.old) (T.reads source.new)
+            (digit_count (length self.now.lists.upper) + 1) F.lowers_led 8 }
+    {
+        let len = self.len;
+        cut(search_on::<BIT, 1, T, F>(source, finder, rank), len)
+    }
+
+    /// The position of the 1 bit with rank `rank`, as `Lent::select`: bits after the bit vector are not found. Of the 0
+    /// bit where `BIT` is 0.
+    ///
+    /// Whatever the tables hold, `Absent` is answered only where tables and words claim no more than `rank` such bits,
+    /// or the words have one after the bit vector.
+    ///
+    /// # Cost
+    /// That of `select_on` by the samples of the kind, and by the tables where there are none.
+    #[inline(always)]
     pub fn select<const BIT: u8>(&self, rank: usize) -> Selected
         ensures { SelectsIn (as_bit BIT) self.now rank result }
     {
-        cut(self.select_in_words::<BIT>(rank), self.len)
+        let source = &mut self.tables.probe();
+        let samples = *self.samples::<BIT>();
+        if samples.samples.is_empty() {
+            return self.select_on::<BIT, Probe<'_>, ByTables>(source, &ByTables, rank);
+        }
+        self.select_on::<BIT, Probe<'_>, ByGuess<'_>>(source, &ByGuess { samples }, rank)
     }
 
-    /// Writes the rank of each place, as `rank` answers it, by the codes of lists. Answers false exactly where there is
-    /// not room for as many answers as places, and nothing is written then.
-    pub fn rank_each<const BIT: u8>(&self, places: &[usize], out: &mut [usize]) -> bool
-        ensures room { IsTrue result ↔ length out.old ≡ length places.now }
-        ensures ranks { IsTrue result → (j : ℕ) → j < length places.now → RanksIn (as_bit BIT)
-            self.now (slice_index places.now j) (ranked_by (slice_index out.new j)) }
+    /// Writes the rank of each position, as `rank` answers it, by the codes of lists: of many side by side where the
+    /// words do not stay in a processor's caches. Answers false exactly where there is not room for as many answers as
+    /// positions, and nothing is written then.
+    pub fn rank_each<const BIT: u8>(&self, positions: &[usize], out: &mut [usize]) -> bool
+        ensures room { IsTrue result ↔ length out.old ≡ length positions.now }
+        ensures ranks { IsTrue result → (j : ℕ) → j < length positions.now → RanksIn (as_bit BIT)
+            self.now (slice_index positions.now j) (ranked_by (slice_index out.new j)) }
         ensures kept { result ≡ false → out.new ≡ out.old }
     {
-        if out.len() != places.len() {
+        if out.len() != positions.len() {
             return false;
         }
-        for at in 0..places.len() {
-            out[at] = self.rank_code::<BIT>(places[at]);
-        }
+        total_rank_many_on::<BIT, Probe<'_>>(&mut self.tables.probe(), positions, &mut *out);
+        self.cut_ranks::<BIT>(positions, out);
         true
     }
 
-    /// The rank of one place, by the codes of lists.
-    #[inline(always)]
-    fn rank_code<const BIT: u8>(&self, place: usize) -> usize
-        ensures { RanksIn (as_bit BIT) self.now place (ranked_by result) }
+    /// Cuts the ranks of some positions that were counted in all the words.
+    fn cut_ranks<const BIT: u8>(&self, positions: &[usize], out: &mut [usize])
+        requires same_length { length out.old ≡ length positions.now }
+        requires told { RanksTold (as_bit BIT) self.now.lists positions.now out.old }
+        ensures ranks { (j : ℕ) → j < length positions.now → RanksIn (as_bit BIT) self.now
+            (slice_index positions.now j) (ranked_by (slice_index out.new j)) }
+        ensures len { length out.new ≡ length positions.now }
     {
-        let _words = self.tables.words(); // its clause makes the limit of the length known to the proof
-        match self.rank::<BIT>(place) {
-            Ranked::Count(count) => count,
-            Ranked::Absent => NO_ANSWER,
-            Ranked::WrongTables => WRONG_TABLES,
+        for at in 0..positions.len() {
+            out[at] = self.cut_rank(positions[at], out[at]);
         }
     }
 
-    /// Writes the place with each rank, as `select` answers it where the tables are those of the words, by the codes of
-    /// lists; in other tables it may be another place with such a bit. Answers false exactly where there is not room
-    /// for as many answers as ranks, and nothing is written then.
+    /// The code of a rank, cut.
+    #[inline(always)]
+    fn cut_rank(&self, position: usize, code: usize) -> usize
+        ensures { (v : Bool) (i : ℕ) → i ≡ position → RankTold v self.now.lists i code
+            → RanksIn v self.now i (ranked_by result) }
+    {
+        if position > self.len { NO_ANSWER } else { code }
+    }
+
+    /// Writes the position with each rank, as `select` answers it where the tables are those of the words, by the codes
+    /// of lists; in other tables it may be another position with such a bit. Answers false exactly where there is not
+    /// room for as many answers as ranks, and nothing is written then.
     pub fn select_each<const BIT: u8>(&self, ranks: &[usize], out: &mut [usize]) -> bool
         ensures room { IsTrue result ↔ length out.old ≡ length ranks.now }
         ensures selects { IsTrue result → (j : ℕ) → j < length ranks.now → SelectsIn (as_bit BIT)
@@ -198,11 +262,10 @@ impl<'a> IndexView<'a> {
         done
     }
 
-    /// Cuts the places with some ranks that were found in all the words.
+    /// Cuts the positions with some ranks that were found in all the words.
     fn cut_each<const BIT: u8>(&self, ranks: &[usize], out: &mut [usize])
         requires same_length { length out.old ≡ length ranks.now }
-        requires told { (j : ℕ) → j < length ranks.now → SelectTold (as_bit BIT) self.now.lists
-            (slice_index ranks.now j) (slice_index out.old j) }
+        requires told { ToldEach (as_bit BIT) self.now.lists ranks.now out.old }
         ensures selects { (j : ℕ) → j < length ranks.now → SelectsIn (as_bit BIT) self.now
             (slice_index ranks.now j) (selected_by (slice_index out.new j)) }
         ensures len { length out.new ≡ length ranks.now }
@@ -212,13 +275,12 @@ impl<'a> IndexView<'a> {
         }
     }
 
-    /// A code of a list, cut.
+    /// The code of a selection, cut.
     #[inline(always)]
     fn cut_code(&self, code: usize) -> usize
         ensures { (v : Bool) (r : ℕ) → SelectTold v self.now.lists r code
             → SelectsIn v self.now r (selected_by result) }
     {
-        let _words = self.tables.words(); // its clause makes the limit of the length known to the proof
         if code < self.len {
             return code;
         }
@@ -228,11 +290,28 @@ impl<'a> IndexView<'a> {
         code
     }
 
-    /// How many bits of the content are ones, counted in the words alone: right whatever the tables hold.
+    /// The words with their tables.
+    #[inline(always)]
+    pub fn tables(&self) -> &Lent<'a>
+        ensures { result.now ≡ self.now.lists }
+    {
+        &self.tables
+    }
+
+    /// How many bits of the bit vector are 1 bits, counted in the words alone: right whatever the tables hold. The 0
+    /// bits where `BIT` is 0.
     ///
     /// # Cost
-    /// Each word of the content is read once.
-    pub fn count(&self) -> usize
+    /// Each word of the bit vector is read once.
+    pub fn count<const BIT: u8>(&self) -> usize
+        ensures { result ≡ count_of (bits_of_cut self.now) (as_bit BIT) }
+    {
+        let ones = self.ones();
+        if BIT == 0 { self.len - ones } else { ones }
+    }
+
+    /// How many bits of the bit vector are 1 bits, counted in the words.
+    fn ones(&self) -> usize
         ensures { result ≡ count_of (bits_of_cut self.now) true }
     {
         words::count_range(self.tables.words(), 0, self.len)

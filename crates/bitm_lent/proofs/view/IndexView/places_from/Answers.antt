@@ -5,4 +5,4 @@ use Rattle.bitm_lent.proofs.view.IndexView.places_from.Goals as goal
 
 pub bits_from-requires-clause-inside : goal.bits_from-requires-clause-inside
 bits_from-requires-clause-inside g c =
-    omega (arith, c.self.invariant, length-bits_of c.self.inside.tables.words, ap length c.words.ensures.words)
+    omega (arith, c.self.invariant.within, length-bits_of c.self.inside.tables.words, ap length c.words.ensures.words)

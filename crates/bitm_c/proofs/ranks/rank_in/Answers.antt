@@ -1,0 +1,10 @@
+-- What is answered is told.
+use Rattle.bitm_lent.specs.Queries.{RanksIn}
+use Rattle.bitm_c.specs.Rank.{counted}
+use Rattle.bitm_c.proofs.ToldLemmas.{told}
+use Rattle.bitm_c.proofs.ranks.rank_in.Goals as goal
+
+pub returns-in-Some : goal.returns-in-Some
+returns-in-Some c =
+    told counted (λ l. RanksIn c.args.one l c.args.position) _ _ c.in-Some.ensures.1 _ c.in-Some.ensures.0 c.tell_count.result c.args.out.now c.tell_count.new.out
+    _ c.tell_count.ensures c.rank_of.ensures

@@ -1,0 +1,90 @@
+//! The selection of an index, and the nearest bits of a position. Each kind of bit has code of its own.
+ghost use Rattle.bitm.specs.Count.{as_bit};
+ghost use Rattle.bitm_c.specs.Queries.{cut_of, NextAnswered, PreviousAnswered, SelectAnswered};
+
+use crate::answer::{BAD_SIZE, tell_place};
+use crate::view::Index;
+
+/// What `bitm_index_select` answers of 1 bits; of 0 bits where `BIT` is 0.
+#[inline(never)]
+fn select_in<const BIT: u8>(index: &Index<'_>, rank: usize, out: &mut usize) -> u32
+    ensures { SelectAnswered (as_bit BIT) (cut_of index.now) rank result out.old out.new }
+{
+    match index.view() {
+        Some(view) => tell_place(view.select::<BIT>(rank), out),
+        None => BAD_SIZE,
+    }
+}
+
+/// The position of the 1 bit, or 0 bit, with a rank.
+#[unsafe(no_mangle)]
+pub extern "C" fn bitm_index_select(
+    index: &Index<'_>,
+    one: bool,
+    rank: usize,
+    out: &mut usize,
+) -> u32
+    ensures { SelectAnswered one (cut_of index.now) rank result out.old out.new }
+{
+    if one {
+        select_in::<1>(index, rank, out)
+    } else {
+        select_in::<0>(index, rank, out)
+    }
+}
+
+/// What `bitm_index_next` answers of 1 bits; of 0 bits where `BIT` is 0.
+#[inline(never)]
+fn next_in<const BIT: u8>(index: &Index<'_>, from: usize, out: &mut usize) -> u32
+    ensures { NextAnswered (as_bit BIT) (cut_of index.now) from result out.old out.new }
+{
+    match index.view() {
+        Some(view) => tell_place(view.next::<BIT>(from), out),
+        None => BAD_SIZE,
+    }
+}
+
+/// The least position from `from` on that has a 1 bit, or 0 bit.
+#[unsafe(no_mangle)]
+pub extern "C" fn bitm_index_next(
+    index: &Index<'_>,
+    one: bool,
+    from: usize,
+    out: &mut usize,
+) -> u32
+    ensures { NextAnswered one (cut_of index.now) from result out.old out.new }
+{
+    if one {
+        next_in::<1>(index, from, out)
+    } else {
+        next_in::<0>(index, from, out)
+    }
+}
+
+/// What `bitm_index_previous` answers of 1 bits; of 0 bits where `BIT` is 0.
+#[inline(never)]
+fn previous_in<const BIT: u8>(index: &Index<'_>, from: usize, out: &mut usize) -> u32
+    ensures { PreviousAnswered (as_bit BIT) (cut_of index.now) from result out.old out.new }
+{
+    match index.view() {
+        Some(view) => tell_place(view.previous::<BIT>(from), out),
+        None => BAD_SIZE,
+    }
+}
+
+/// The greatest position up to `from` that has a 1 bit, or 0 bit; `from` may be past the end.
+#[unsafe(no_mangle)]
+pub extern "C" fn bitm_index_previous(
+    index: &Index<'_>,
+    one: bool,
+    from: usize,
+    out: &mut usize,
+) -> u32
+    ensures { PreviousAnswered one (cut_of index.now) from result out.old out.new }
+{
+    if one {
+        previous_in::<1>(index, from, out)
+    } else {
+        previous_in::<0>(index, from, out)
+    }
+}

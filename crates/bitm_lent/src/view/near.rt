@@ -1,0 +1,98 @@
+//! The nearest bit of a kind on either side of a position: a rank and a selection.
+ghost use Rattle.std.specs.Prelude.{◌≡◌, ◌+◌, ◌≤◌, ℕ, Bool, min};
+ghost use Rattle.bit_lists.specs.Count.{as_bit};
+ghost use Rattle.bitm_lent.specs.Cut.{Cut, IsWithin};
+ghost use Rattle.bitm_lent.specs.Queries.{NextIn, PreviousIn, RanksIn, SelectsIn};
+ghost use Rattle.bitm_lent.specs.declared.ranked.Ranked.TheVariants as Rank;
+
+use crate::ranked::Ranked;
+use crate::view::IndexView;
+use bitm_search::search::selected::Selected;
+
+/// The selected position, where it is not before `from`: else the tables are not those of the words.
+#[inline(always)]
+fn not_before(selected: Selected, from: usize) -> Selected
+    ensures { (v : Bool) (c : Cut) (r : ℕ) → IsWithin c → RanksIn v c from (Rank.Count r)
+        → SelectsIn v c r selected → NextIn v c from result }
+{
+    match selected {
+        Selected::Found(position) => {
+            if position < from {
+                Selected::WrongTables
+            } else {
+                Selected::Found(position)
+            }
+        }
+        Selected::Absent => Selected::Absent,
+        Selected::WrongTables => Selected::WrongTables,
+    }
+}
+
+/// The selected position, where it is before `end`: else, and where none was selected, the tables are not those of the
+/// words.
+#[inline(always)]
+fn before(selected: Selected, end: usize) -> Selected
+    ensures { (v : Bool) (c : Cut) (from r : ℕ) → IsWithin c → end ≡ min (from + 1) c.len
+        → RanksIn v c end (Rank.Count (r + 1)) → SelectsIn v c r selected
+        → PreviousIn v c from result }
+{
+    match selected {
+        Selected::Found(position) => {
+            if position < end {
+                Selected::Found(position)
+            } else {
+                Selected::WrongTables
+            }
+        }
+        Selected::Absent => Selected::WrongTables,
+        Selected::WrongTables => Selected::WrongTables,
+    }
+}
+
+impl<'a> IndexView<'a> {
+    /// The least position from `from` on that has a 1 bit; a 0 bit where `BIT` is 0.
+    ///
+    /// Whatever the tables hold, a position that is found is in the bit vector, not before `from`, and has such a bit.
+    /// Where they are those of the words it is the least one, `Absent` is answered exactly where there is none, and
+    /// `WrongTables` never.
+    ///
+    /// # Cost
+    /// What `rank` and `select` read.
+    pub fn next<const BIT: u8>(&self, from: usize) -> Selected
+        ensures { NextIn (as_bit BIT) self.now from result }
+    {
+        if from >= self.len {
+            return Selected::Absent;
+        }
+        match self.rank::<BIT>(from) {
+            Ranked::Count(rank) => not_before(self.select::<BIT>(rank), from),
+            Ranked::Absent => Selected::Absent,
+            Ranked::WrongTables => Selected::WrongTables,
+        }
+    }
+
+    /// The greatest position up to `from` that has a 1 bit; a 0 bit where `BIT` is 0. `from` may be past the end.
+    ///
+    /// Whatever the tables hold, a position that is found is in the bit vector, not after `from`, and has such a bit.
+    /// Where they are those of the words it is the greatest one, `Absent` is answered exactly where there is none, and
+    /// `WrongTables` never.
+    ///
+    /// # Cost
+    /// What `rank` and `select` read.
+    pub fn previous<const BIT: u8>(&self, from: usize) -> Selected
+        ensures { PreviousIn (as_bit BIT) self.now from result }
+    {
+        let end = if from < self.len { from + 1 } else { self.len };
+        match self.rank::<BIT>(end) {
+            Ranked::Count(ranks) => {
+                if ranks == 0 {
+                    Selected::Absent
+                } else {
+                    before(self.select::<BIT>(ranks - 1), end)
+                }
+            }
+            Ranked::Absent => Selected::WrongTables,
+            Ranked::WrongTables => Selected::WrongTables,
+        }
+    }
+}
