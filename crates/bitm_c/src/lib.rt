@@ -7,7 +7,9 @@
 
 mod answer;
 mod bits;
+mod bytes;
 mod counts;
+mod fragments;
 mod hash;
 mod index;
 mod layout;
@@ -22,3 +24,4 @@ mod stored;
 mod version;
 mod view;
 mod whole;
+mod word;
