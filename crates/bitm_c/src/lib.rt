@@ -8,6 +8,7 @@
 mod answer;
 mod bits;
 mod bytes;
+mod copying;
 mod counts;
 mod fragments;
 mod hash;
