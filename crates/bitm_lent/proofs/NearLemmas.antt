@@ -59,9 +59,6 @@ module _ (v : Bool) (c : Cut) (within : IsWithin c) where
   pub next_past : (from : ℕ) → c.len ≤ from → NextIn v c from Sel.Absent
   next_past from past = record { bit = tt; from = tt; counts = λ t p after inside. absurd (omega (arith, past, after, inside, long)) }
 
-  pub next_uncounted : (from : ℕ) → RanksIn v c from Rank.WrongTables → NextIn v c from Sel.WrongTables
-  next_uncounted from is = record { bit = tt; from = tt; counts = λ t. is.counts t }
-
   module _ (from end : ℕ) (ends : end ≡ min (from + 1) c.len) where
     -- none stand before the end
     pub previous_none : RanksIn v c end (Rank.Count 0) → PreviousIn v c from Sel.Absent
@@ -78,12 +75,6 @@ module _ (v : Bool) (c : Cut) (within : IsWithin c) where
           ))
           (omega arith);
     }
-
-    pub previous_uncounted : RanksIn v c end Rank.WrongTables → PreviousIn v c from Sel.WrongTables
-    previous_uncounted is = record { bit = tt; to = tt; counts = λ t. is.counts t }
-
-    pub previous_outside : RanksIn v c end Rank.Absent → PreviousIn v c from Sel.WrongTables
-    previous_outside is = record { bit = tt; to = tt; counts = λ t. absurd (omega (arith, is.within, ends)) }
 
     module _ (r : ℕ) (ranked : RanksIn v c end (Rank.Count (r + 1))) where
       -- the position with one rank less than the end is the last before the end

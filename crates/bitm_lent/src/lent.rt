@@ -5,7 +5,9 @@ ghost use Rattle.bit_lists.specs.Bits.{bits_of, IsShort};
 ghost use Rattle.bit_lists.specs.Count.{as_bit, IsRank};
 ghost use Rattle.bitm_search.specs.Reads.{none_read};
 ghost use Rattle.bitm_search.specs.Tables.{HasSizes, HasTables, bits_in};
-ghost use Rattle.bitm_lent.specs.Queries.{Ranks, Selects};
+ghost use Rattle.bitm_search.specs.Answers.{HasBit, IsSelected};
+ghost use Rattle.bitm_search.specs.Told.{IfAbsent, TellsNone};
+ghost use Rattle.bitm_lent.specs.Ranks.{IsCountWithin, IsRanked};
 ghost use Rattle.bitm_lent.specs.Sizes.{lists_of};
 
 mod by_samples;
@@ -158,7 +160,8 @@ impl<'a> Lent<'a> {
     /// At most one upper entry, one lower entry and eight words are read.
     #[inline(always)]
     pub fn rank<const BIT: u8>(&self, index: usize) -> Ranked
-        ensures { Ranks (as_bit BIT) self.now index result }
+        ensures within { IsCountWithin (length (bits_in self.now)) index result }
+        ensures counts { HasTables self.now → IsRanked (bits_in self.now) (as_bit BIT) index result }
     {
         ranked_on(&mut self.probe(), is_one::<BIT>(), index)
     }
@@ -185,7 +188,9 @@ impl<'a> Lent<'a> {
     /// are read, whatever the tables hold.
     #[inline(always)]
     pub fn select<const BIT: u8>(&self, rank: usize) -> Selected
-        ensures { Selects (as_bit BIT) self.now rank result }
+        ensures bit { HasBit (bits_in self.now) (as_bit BIT) result }
+        ensures counts { HasTables self.now → IsSelected (bits_in self.now) (as_bit BIT) rank result }
+        ensures absent { IfAbsent result (TellsNone (as_bit BIT) self.now rank) }
     {
         total_select_on::<BIT, Probe<'_>>(&mut self.probe(), rank)
     }

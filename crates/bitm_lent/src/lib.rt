@@ -44,6 +44,5 @@ pub use lent::{Lent, lower_len, upper_len};
 pub use places::ones_from;
 pub use ranked::{Ranked, ranked_on};
 pub use sampled::sampled_select_on;
-pub use sampled_many::sampled_select_many_on;
 pub use samples::{LentSamples, samples_len};
 pub use view::IndexView;

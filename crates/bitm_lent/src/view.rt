@@ -3,16 +3,19 @@ ghost use Rattle.std.specs.Prelude.{◌≡◌, ◌+◌, ◌-◌, ◌<◌, ◌≤
 ghost use Rattle.std.specs.Prelude.{true, false};
 ghost use Rattle.bit_lists.specs.Bits.{digit_count};
 ghost use Rattle.bit_lists.specs.Count.{count_before, count_of, as_bit, Picks};
-ghost use Rattle.bitm_search.specs.Tables.{bits_in};
-ghost use Rattle.bitm_lent.specs.Cut.{bits_of_cut, cut_at, Cut, IsWithin};
+ghost use Rattle.bitm_search.specs.Tables.{HasTables, bits_in};
+ghost use Rattle.bitm_search.specs.Told.{IfAbsent};
+ghost use Rattle.bitm_lent.specs.Cut.{bits_of_cut, cut_at, Cut, IsWithin, TellsNoneOf};
 ghost use Rattle.bitm_lent.specs.Queries.{ranked_by, selected_by, RanksIn, Selects, SelectsIn};
-ghost use Rattle.bitm_search.specs.Answers.{RanksTold, RankTold, SelectTold, ToldEach};
+ghost use Rattle.bitm_lent.specs.Ranks.{IsCountWithin, IsRanked};
+ghost use Rattle.bitm_search.specs.Answers.{HasBit, IsSelected, RanksTold, RankTold, SelectTold, ToldEach};
 ghost use Rattle.bitm_search.specs.Reads.{OnlyReads, ReadsAtMost};
 
 mod near;
 
 use crate::guessed::ByGuess;
 use crate::lent::{Lent, is_one};
+use crate::lists::select_list_on;
 use crate::places::bits_from;
 use crate::ranked::{Ranked, ranked_on};
 use crate::samples::LentSamples;
@@ -142,7 +145,8 @@ impl<'a> IndexView<'a> {
     /// That of `rank_on`.
     #[inline(always)]
     pub fn rank_of(&self, one: bool, index: usize) -> Ranked
-        ensures { RanksIn one self.now index result }
+        ensures within { IsCountWithin self.now.len index result }
+        ensures counts { HasTables self.now.lists → IsRanked (bits_of_cut self.now) one index result }
     {
         self.rank_on(&mut self.tables.probe(), one, index)
     }
@@ -150,7 +154,8 @@ impl<'a> IndexView<'a> {
     /// How many of the first `index` bits are 1 bits; 0 bits where `BIT` is 0. As `rank_of`.
     #[inline(always)]
     pub fn rank<const BIT: u8>(&self, index: usize) -> Ranked
-        ensures { RanksIn (as_bit BIT) self.now index result }
+        ensures within { IsCountWithin self.now.len index result }
+        ensures counts { HasTables self.now.lists → IsRanked (bits_of_cut self.now) (as_bit BIT) index result }
     {
         self.rank_of(is_one::<BIT>(), index)
     }
@@ -191,7 +196,9 @@ impl<'a> IndexView<'a> {
     /// That of `select_on` by the samples of the kind, and by the tables where there are none.
     #[inline(always)]
     pub fn select<const BIT: u8>(&self, rank: usize) -> Selected
-        ensures { SelectsIn (as_bit BIT) self.now rank result }
+        ensures bit { HasBit (bits_of_cut self.now) (as_bit BIT) result }
+        ensures counts { HasTables self.now.lists → IsSelected (bits_of_cut self.now) (as_bit BIT) rank result }
+        ensures absent { IfAbsent result (TellsNoneOf (as_bit BIT) self.now rank) }
     {
         let source = &mut self.tables.probe();
         let samples = *self.samples::<BIT>();
@@ -249,12 +256,12 @@ impl<'a> IndexView<'a> {
             self.now (slice_index ranks.now j) (selected_by (slice_index out.new j)) }
         ensures kept { result ≡ false → out.new ≡ out.old }
     {
-        let samples = self.samples::<BIT>();
+        let source = &mut self.tables.probe();
+        let samples = *self.samples::<BIT>();
         let done = if samples.samples.is_empty() {
-            self.tables.select_list::<BIT>(ranks, &mut *out)
+            select_list_on::<BIT, Probe<'_>, ByTables>(source, &ByTables, ranks, &mut *out)
         } else {
-            self.tables
-                .sampled_select_list::<BIT>(samples, ranks, &mut *out)
+            select_list_on::<BIT, Probe<'_>, LentSamples<'_>>(source, &samples, ranks, &mut *out)
         };
         if done {
             self.cut_each::<BIT>(ranks, out);

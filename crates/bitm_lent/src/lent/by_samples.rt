@@ -3,7 +3,8 @@ ghost use Rattle.std.specs.Prelude.{◌≡◌, ◌<◌, ◌≤◌, ℕ, length, 
 ghost use Rattle.bit_lists.specs.Count.{as_bit};
 ghost use Rattle.bitm.specs.Density.{clamped_log};
 ghost use Rattle.bitm_search.specs.Tables.{HasTables, bits_in};
-ghost use Rattle.bitm_lent.specs.Queries.{Selects};
+ghost use Rattle.bitm_search.specs.Answers.{HasBit, IsSelected};
+ghost use Rattle.bitm_search.specs.Told.{IfAbsent, TellsNone};
 ghost use Rattle.bitm_lent.specs.Samples.{AreSamples, HasRoom};
 
 use crate::lent::Lent;
@@ -69,7 +70,9 @@ impl<'a> Lent<'a> {
     /// from the one to the other: 28 at most.
     #[inline(always)]
     pub fn sampled_select<const BIT: u8>(&self, samples: &LentSamples<'_>, rank: usize) -> Selected
-        ensures { Selects (as_bit BIT) self.now rank result }
+        ensures bit { HasBit (bits_in self.now) (as_bit BIT) result }
+        ensures counts { HasTables self.now → IsSelected (bits_in self.now) (as_bit BIT) rank result }
+        ensures absent { IfAbsent result (TellsNone (as_bit BIT) self.now rank) }
     {
         sampled_select_on::<BIT, Probe<'_>>(&mut self.probe(), samples, rank)
     }

@@ -1,8 +1,10 @@
 //! The nearest bit of a kind on either side of a position: a rank and a selection.
 ghost use Rattle.std.specs.Prelude.{◌≡◌, ◌+◌, ◌≤◌, ℕ, Bool, min};
 ghost use Rattle.bit_lists.specs.Count.{as_bit};
-ghost use Rattle.bitm_lent.specs.Cut.{Cut, IsWithin};
-ghost use Rattle.bitm_lent.specs.Queries.{NextIn, PreviousIn, RanksIn, SelectsIn};
+ghost use Rattle.bitm_search.specs.Answers.{HasBit, IsFoundFrom};
+ghost use Rattle.bitm_search.specs.Tables.{HasTables};
+ghost use Rattle.bitm_lent.specs.Cut.{bits_of_cut, Cut, IsWithin};
+ghost use Rattle.bitm_lent.specs.Queries.{IsNext, IsPrevious, NextIn, PreviousIn, RanksIn, SelectsIn};
 ghost use Rattle.bitm_lent.specs.declared.ranked.Ranked.TheVariants as Rank;
 
 use crate::ranked::Ranked;
@@ -59,7 +61,9 @@ impl<'a> IndexView<'a> {
     /// # Cost
     /// What `rank` and `select` read.
     pub fn next<const BIT: u8>(&self, from: usize) -> Selected
-        ensures { NextIn (as_bit BIT) self.now from result }
+        ensures bit { HasBit (bits_of_cut self.now) (as_bit BIT) result }
+        ensures from { IsFoundFrom from self.now.len result }
+        ensures counts { HasTables self.now.lists → IsNext (bits_of_cut self.now) (as_bit BIT) from result }
     {
         if from >= self.len {
             return Selected::Absent;
@@ -80,7 +84,9 @@ impl<'a> IndexView<'a> {
     /// # Cost
     /// What `rank` and `select` read.
     pub fn previous<const BIT: u8>(&self, from: usize) -> Selected
-        ensures { PreviousIn (as_bit BIT) self.now from result }
+        ensures bit { HasBit (bits_of_cut self.now) (as_bit BIT) result }
+        ensures to { IsFoundFrom 0 (from + 1) result }
+        ensures counts { HasTables self.now.lists → IsPrevious (bits_of_cut self.now) (as_bit BIT) from result }
     {
         let end = if from < self.len { from + 1 } else { self.len };
         match self.rank::<BIT>(end) {

@@ -1,5 +1,5 @@
 -- What is answered is told.
-use Rattle.bit_lists.specs.Count.{as_bit}
+use Rattle.bitm.specs.Count.{as_bit}
 use Rattle.bitm_lent.specs.Queries.{NextIn}
 use Rattle.bitm_c.specs.Status.{selected}
 use Rattle.bitm_c.proofs.ToldLemmas.{told}

@@ -1,26 +1,28 @@
 -- The rank of the position selects the next one.
 use Rattle.std.proofs.Common.{ap, subst, arith}
 use Rattle.bit_lists.specs.Count.{as_bit}
+use Rattle.bitm_search.specs.declared.search.selected.Selected.TheVariants as Sel
 use Rattle.bitm_lent.specs.Cut.{Cut, IsWithin}
-use Rattle.bitm_lent.proofs.NearLemmas.{next_past, next_uncounted}
+use Rattle.bitm_lent.specs.Queries.{NextIn}
+use Rattle.bitm_lent.proofs.NearLemmas.{next_past}
 use Rattle.bitm_lent.proofs.view.IndexView.next.Goals as goal
 
 pub returns-then-from-self : goal.returns-then-from-self
 returns-then-from-self g c =
+    let is : NextIn (as_bit g.row.BIT) c.args.self.now c.args.from Sel.Absent =
     next_past (as_bit g.row.BIT) c.args.self.now (subst (λ (x : Cut). IsWithin x) c.self.view_is c.self.invariant.within)
-    c.args.from (omega (arith, c.if-from-self.true, ap (λ (x : Cut). x.len) c.self.view_is))
+    c.args.from (omega (arith, c.if-from-self.true, ap (λ (x : Cut). x.len) c.self.view_is)) in
+    record { bit = is.bit; from = is.from; counts = is.counts }
 
 pub returns-in-Count : goal.returns-in-Count
 returns-in-Count g c =
+    let is : NextIn (as_bit g.row.BIT) c.args.self.now c.args.from c.not_before.result =
     c.not_before.ensures (as_bit g.row.BIT) c.args.self.now c.in-Count.rank
     (subst (λ (x : Cut). IsWithin x) c.self.view_is c.self.invariant.within)
-    c.in-Count.ensures c.select.ensures
+    (record { within = c.in-Count.ensures.within; counts = c.in-Count.ensures.counts })
+    (record { bit = c.select.ensures.bit; counts = c.select.ensures.counts; absent = c.select.ensures.absent }) in
+    record { bit = is.bit; from = is.from; counts = is.counts }
 
 pub returns-in-Absent : goal.returns-in-Absent
 returns-in-Absent g c =
     absurd (omega (arith, c.if-from-self.false, c.in-Absent.ensures.within, ap (λ (x : Cut). x.len) c.self.view_is))
-
-pub returns-in-WrongTables : goal.returns-in-WrongTables
-returns-in-WrongTables g c =
-    next_uncounted (as_bit g.row.BIT) c.args.self.now (subst (λ (x : Cut). IsWithin x) c.self.view_is c.self.invariant.within)
-    c.args.from c.in-WrongTables.ensures

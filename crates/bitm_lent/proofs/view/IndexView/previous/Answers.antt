@@ -2,9 +2,9 @@
 use Rattle.std.proofs.Common.{◌≡◌, ℕ, ◌+◌, ◌-◌, min, ap, subst, arith}
 use Rattle.bit_lists.specs.Count.{as_bit}
 use Rattle.bitm_lent.specs.Cut.{Cut, IsWithin}
-use Rattle.bitm_lent.specs.Queries.{RanksIn}
+use Rattle.bitm_lent.specs.Queries.{PreviousIn, RanksIn}
 use Rattle.bitm_lent.specs.declared.ranked.Ranked.TheVariants as Rank
-use Rattle.bitm_lent.proofs.NearLemmas.{previous_none, previous_outside, previous_uncounted}
+use Rattle.bitm_lent.proofs.NearLemmas.{previous_none}
 use Rattle.bitm_lent.proofs.view.IndexView.previous.Goals as goal
 use Rattle.bitm_lent.proofs.view.IndexView.previous.Goals.{then-from-self, else-from-self, After-rank}
 
@@ -22,22 +22,22 @@ within g c = subst (λ (x : Cut). IsWithin x) c.self.view_is c.self.invariant.wi
 pub returns-then-ranks-eq0 : goal.returns-then-ranks-eq0
 returns-then-ranks-eq0 g c =
     let d = (goal.at.returns-then-ranks-eq0 g c).After-rank in
-    previous_none (as_bit g.row.BIT) c.args.self.now (within g d) c.args.from c.if-from-self.end (ends g d)
-    (subst (λ (n : ℕ). RanksIn (as_bit g.row.BIT) c.args.self.now c.if-from-self.end (Rank.Count n)) c.if-ranks-eq0.true c.in-Count.ensures)
+    let is = previous_none (as_bit g.row.BIT) c.args.self.now (within g d) c.args.from c.if-from-self.end (ends g d)
+    (subst (λ (n : ℕ). RanksIn (as_bit g.row.BIT) c.args.self.now c.if-from-self.end (Rank.Count n)) c.if-ranks-eq0.true
+    (record { within = c.in-Count.ensures.within; counts = c.in-Count.ensures.counts })) in
+    record { bit = is.bit; to = is.to; counts = is.counts }
 
 pub returns-else-ranks-eq0 : goal.returns-else-ranks-eq0
 returns-else-ranks-eq0 g c =
     let d = (goal.at.returns-else-ranks-eq0 g c).After-rank in
     let back : c.in-Count.ranks ≡ c.in-Count.ranks - 1 + 1 = omega (arith, c.if-ranks-eq0.false) in
+    let is : PreviousIn (as_bit g.row.BIT) c.args.self.now c.args.from c.before-else-ranks-eq0.result =
     c.before-else-ranks-eq0.ensures (as_bit g.row.BIT) c.args.self.now c.args.from (c.in-Count.ranks - 1) (within g d) (ends g d)
-    (subst (λ (n : ℕ). RanksIn (as_bit g.row.BIT) c.args.self.now c.if-from-self.end (Rank.Count n)) back c.in-Count.ensures) c.select.ensures
+    (subst (λ (n : ℕ). RanksIn (as_bit g.row.BIT) c.args.self.now c.if-from-self.end (Rank.Count n)) back
+    (record { within = c.in-Count.ensures.within; counts = c.in-Count.ensures.counts }))
+    (record { bit = c.select.ensures.bit; counts = c.select.ensures.counts; absent = c.select.ensures.absent }) in
+    record { bit = is.bit; to = is.to; counts = is.counts }
 
 pub returns-in-Absent : goal.returns-in-Absent
 returns-in-Absent g c =
-    let d = (goal.at.returns-in-Absent g c).After-rank in
-    previous_outside (as_bit g.row.BIT) c.args.self.now (within g d) c.args.from c.if-from-self.end (ends g d) c.in-Absent.ensures
-
-pub returns-in-WrongTables : goal.returns-in-WrongTables
-returns-in-WrongTables g c =
-    let d = (goal.at.returns-in-WrongTables g c).After-rank in
-    previous_uncounted (as_bit g.row.BIT) c.args.self.now (within g d) c.args.from c.if-from-self.end (ends g d) c.in-WrongTables.ensures
+    absurd (omega (arith, c.in-Absent.ensures.within, ends g (goal.at.returns-in-Absent g c).After-rank))

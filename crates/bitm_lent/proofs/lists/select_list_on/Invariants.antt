@@ -1,7 +1,7 @@
 use Rattle.std.proofs.Common.{ℕ, ◌<◌, slice_index}
 use Rattle.bit_lists.specs.Count.{as_bit}
 use Rattle.bitm_search.specs.Answers.{SelectTold}
-use Rattle.bitm_lent.proofs.lists.select_each.Given as goal
+use Rattle.bitm_lent.proofs.lists.select_list_on.Given as goal
 
 -- the answers so far
 abbrev pub invariant-loop-at : goal.invariant-loop-at
