@@ -1,123 +1,163 @@
-//! Bits, and numbers in bits, of words of the caller's.
-ghost use Rattle.std.specs.Prelude.{◌≡◌, ◌≢◌, ◌*◌, ◌%◌, ◌^◌, ◌<◌, ◌≤◌, ◌↔◌, ℕ, false, length, if◌then◌else◌};
-ghost use Rattle.bitm.specs.Bits.{bits_of, item, IsShort};
-ghost use Rattle.bitm.specs.Count.{ones_of};
-ghost use Rattle.bitm.specs.Number.{number_at, with_number, IsFragmentInRange, IsInRange};
+//! Bits of words of the caller's, and numbers in them, where the content may end inside a word.
+ghost use Rattle.std.specs.Prelude.{◌≡◌, ◌≢◌, ◌+◌, ◌*◌, ◌%◌, ◌^◌, ◌<◌, ◌≤◌, ◌↔◌, IsTrue, length, if◌then◌else◌};
+ghost use Rattle.bitm.specs.Bits.{bits_of, item};
+ghost use Rattle.bitm.specs.Number.{number_at, with_number};
+ghost use Rattle.bit_slices.specs.First.{first_bits};
+ghost use Rattle.bitm_c.specs.Bits.{HasBits, HasCountedBits, IsStatus};
 
 use crate::answer::{BAD_SIZE, NONE, OK, tell};
+use bit_slices::{fragment_in, number_in, set_fragment_in, set_number_in};
 use bitm::words;
-use bitm_lent::clear_from;
 
-/// How many ones the words have.
-#[unsafe(no_mangle)]
-pub extern "C" fn bitm_count(words: &[u64], out: &mut usize) -> u32
-    ensures ok { (result ≡ 0) ↔ IsShort words.now }
-    ensures ones { result ≡ 0 → out.new ≡ ones_of (bits_of words.now) }
-    ensures kept { result ≢ 0 → (result ≡ 2) × (out.new ≡ out.old) }
+/// Whether the words have `bits_len` bits.
+#[inline(always)]
+pub(crate) fn has_bits(words: &[u64], bits_len: usize) -> bool
+    ensures { IsTrue result ↔ HasBits words.now bits_len }
 {
-    if words.len() >= 1 << 58 {
+    bits_len.div_ceil(64) <= words.len()
+}
+
+/// Whether the words have `bits_len` bits, and are fewer than 2^58.
+#[inline(always)]
+pub(crate) fn has_counted_bits(words: &[u64], bits_len: usize) -> bool
+    ensures { IsTrue result ↔ HasCountedBits words.now bits_len }
+{
+    words.len() < 1 << 58 && has_bits(words, bits_len)
+}
+
+/// The bit at `position`, as 0 or 1.
+#[unsafe(no_mangle)]
+pub extern "C" fn bitm_bits_get(
+    words: &[u64],
+    bits_len: usize,
+    position: usize,
+    out: &mut u64,
+) -> u32
+    ensures status { IsStatus (HasBits words.now bits_len) (position < bits_len) result }
+    ensures bit { result ≡ 0
+        → out.new ≡ (if item (bits_of words.now) position then 1 else 0) }
+    ensures unchanged { result ≢ 0 → out.new ≡ out.old }
+{
+    if !has_bits(words, bits_len) {
         return BAD_SIZE;
     }
-    *out = words::count_bit_ones(words);
+    if position >= bits_len {
+        return NONE;
+    }
+    *out = words::get_bit(words, position) as u64;
     OK
 }
 
-/// The bit at place `index`, as 0 or 1.
+/// Makes the bit at `position` equal to `value`.
 #[unsafe(no_mangle)]
-pub extern "C" fn bitm_get_bit(words: &[u64], index: usize, out: &mut u64) -> u32
-    ensures inside { index < 64 * length words.now → (result ≡ 0)
-        × (out.new ≡ (if item (bits_of words.now) index then 1 else 0)) }
-    ensures outside { 64 * length words.now ≤ index → (result ≡ 1) × (out.new ≡ out.old) }
+pub extern "C" fn bitm_bits_set(
+    words: &mut [u64],
+    bits_len: usize,
+    position: usize,
+    value: bool,
+) -> u32
+    ensures status { IsStatus (HasBits words.old bits_len) (position < bits_len) result }
+    ensures bit { result ≡ 0 → bits_of words.new
+        ≡ with_number (bits_of words.old) position 1 (if value then 1 else 0) }
+    ensures unchanged { result ≢ 0 → words.new ≡ words.old }
 {
-    if index / 64 >= words.len() {
+    if !has_bits(&*words, bits_len) {
+        return BAD_SIZE;
+    }
+    if position >= bits_len {
         return NONE;
     }
-    *out = words::get_bit(words, index) as u64;
+    words::set_bit_to(words, position, value);
     OK
 }
 
-/// Makes the bit at place `index` equal to `value`.
+/// The `width` bits from `begin` on as a number, lowest first; 0 to 64 bits.
 #[unsafe(no_mangle)]
-pub extern "C" fn bitm_set_bit(words: &mut [u64], index: usize, value: bool) -> u32
-    ensures inside { index < 64 * length words.old → (result ≡ 0) × (bits_of words.new
-        ≡ with_number (bits_of words.old) index 1 (if value then 1 else 0)) }
-    ensures outside { 64 * length words.old ≤ index → (result ≡ 1) × (words.new ≡ words.old) }
+pub extern "C" fn bitm_bits_get_number(
+    words: &[u64],
+    bits_len: usize,
+    begin: usize,
+    width: u32,
+    out: &mut u64,
+) -> u32
+    ensures status { IsStatus (HasBits words.now bits_len)
+        ((width ≤ 64) × (begin + width ≤ bits_len)) result }
+    ensures number { result ≡ 0
+        → out.new ≡ number_at (first_bits words.now bits_len) begin width }
+    ensures unchanged { result ≢ 0 → out.new ≡ out.old }
 {
-    if index / 64 >= words.len() {
-        return NONE;
+    if !has_bits(words, bits_len) {
+        return BAD_SIZE;
     }
-    words::set_bit_to(words, index, value);
-    OK
+    tell(number_in(words, bits_len, begin, width), out)
 }
 
-/// Makes the bits from place `bit` on zeros; nothing is changed where there are not so many bits.
+/// Replaces the `width` bits from `begin` on by the lowest ones of `value`, lowest first; 0 to 64 bits.
 #[unsafe(no_mangle)]
-pub extern "C" fn bitm_clear_from(words: &mut [u64], bit: usize)
-    ensures before { (i : ℕ) → i < bit
-        → item (bits_of words.new) i ≡ item (bits_of words.old) i }
-    ensures from { (i : ℕ) → bit ≤ i → item (bits_of words.new) i ≡ false }
-{
-    clear_from(words, bit);
-}
-
-/// The number that `len` bits from `begin` on are, lowest first; 0 to 64 bits.
-#[unsafe(no_mangle)]
-pub extern "C" fn bitm_get_bits(words: &[u64], begin: usize, len: u32, out: &mut u64) -> u32
-    ensures ok { (result ≡ 0) ↔ (len ≤ 64) × IsInRange words.now begin len }
-    ensures number { result ≡ 0 → out.new ≡ number_at (bits_of words.now) begin len }
-    ensures kept { result ≢ 0 → (result ≡ 1) × (out.new ≡ out.old) }
-{
-    if len > 64 {
-        return NONE;
-    }
-    tell(words::try_get_bits_0_64(words, begin, len as u8), out)
-}
-
-/// Replaces the `len` bits from `begin` on by the lowest ones of `value`, lowest first; 0 to 64 bits.
-#[unsafe(no_mangle)]
-pub extern "C" fn bitm_set_bits(words: &mut [u64], begin: usize, len: u32, value: u64) -> u32
-    ensures ok { (result ≡ 0) ↔ (len ≤ 64) × IsInRange words.old begin len }
+pub extern "C" fn bitm_bits_set_number(
+    words: &mut [u64],
+    bits_len: usize,
+    begin: usize,
+    width: u32,
+    value: u64,
+) -> u32
+    ensures status { IsStatus (HasBits words.old bits_len)
+        ((width ≤ 64) × (begin + width ≤ bits_len)) result }
     ensures number { result ≡ 0 → bits_of words.new
-        ≡ with_number (bits_of words.old) begin len (value % 2 ^ len) }
-    ensures kept { result ≢ 0 → (result ≡ 1) × (words.new ≡ words.old) }
+        ≡ with_number (bits_of words.old) begin width (value % 2 ^ width) }
+    ensures unchanged { result ≢ 0 → words.new ≡ words.old }
 {
-    if len > 64 {
-        return NONE;
+    if !has_bits(&*words, bits_len) {
+        return BAD_SIZE;
     }
-    done(words::try_set_bits_0_64(words, begin, value, len as u8))
+    done(set_number_in(words, bits_len, begin, width, value))
 }
 
-/// Fragment `index` of the fragments of `width` bits, as a number, lowest bit first; 0 to 64 bits.
+/// Number `index` of an array of numbers of `width` bits, lowest bit first; 0 to 64 bits.
 #[unsafe(no_mangle)]
-pub extern "C" fn bitm_get_fragment(words: &[u64], index: usize, width: u32, out: &mut u64) -> u32
-    ensures ok { (result ≡ 0) ↔ (width ≤ 64) × IsFragmentInRange words.now index width }
-    ensures number { result ≡ 0 → out.new ≡ number_at (bits_of words.now) (index * width) width }
-    ensures kept { result ≢ 0 → (result ≡ 1) × (out.new ≡ out.old) }
+pub extern "C" fn bitm_bits_get_fragment(
+    words: &[u64],
+    bits_len: usize,
+    index: usize,
+    width: u32,
+    out: &mut u64,
+) -> u32
+    ensures status { IsStatus (HasBits words.now bits_len)
+        ((width ≤ 64) × (index * width + width ≤ bits_len)) result }
+    ensures number { result ≡ 0
+        → out.new ≡ number_at (first_bits words.now bits_len) (index * width) width }
+    ensures unchanged { result ≢ 0 → out.new ≡ out.old }
 {
-    if width > 64 {
-        return NONE;
+    if !has_bits(words, bits_len) {
+        return BAD_SIZE;
     }
-    tell(words::try_get_fragment_0_64(words, index, width as u8), out)
+    tell(fragment_in(words, bits_len, index, width), out)
 }
 
-/// Replaces fragment `index` of the fragments of `width` bits by the lowest ones of `value`, lowest first; 0 to 64
-/// bits.
+/// Replaces number `index` of an array of numbers of `width` bits by the lowest bits of `value`; 0 to 64 bits.
 #[unsafe(no_mangle)]
-pub extern "C" fn bitm_set_fragment(words: &mut [u64], index: usize, width: u32, value: u64) -> u32
-    ensures ok { (result ≡ 0) ↔ (width ≤ 64) × IsFragmentInRange words.old index width }
+pub extern "C" fn bitm_bits_set_fragment(
+    words: &mut [u64],
+    bits_len: usize,
+    index: usize,
+    width: u32,
+    value: u64,
+) -> u32
+    ensures status { IsStatus (HasBits words.old bits_len)
+        ((width ≤ 64) × (index * width + width ≤ bits_len)) result }
     ensures number { result ≡ 0 → bits_of words.new
         ≡ with_number (bits_of words.old) (index * width) width (value % 2 ^ width) }
-    ensures kept { result ≢ 0 → (result ≡ 1) × (words.new ≡ words.old) }
+    ensures unchanged { result ≢ 0 → words.new ≡ words.old }
 {
-    if width > 64 {
-        return NONE;
+    if !has_bits(&*words, bits_len) {
+        return BAD_SIZE;
     }
-    done(words::try_set_fragment_0_64(words, index, value, width as u8))
+    done(set_fragment_in(words, bits_len, index, width, value))
 }
 
 /// The status of a write that was made, or of none.
 #[inline(always)]
-fn done(is_done: bool) -> u32
+pub(crate) fn done(is_done: bool) -> u32
     ensures { result ≡ (if is_done then 0 else 1) }
 {
     if is_done { OK } else { NONE }

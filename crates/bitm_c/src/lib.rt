@@ -7,12 +7,14 @@
 
 mod answer;
 mod bits;
+mod bytes;
+mod copying;
 mod counts;
+mod fragments;
 mod hash;
 mod index;
 mod layout;
 mod numbers;
-mod places;
 mod queries;
 mod ranges;
 mod ranks;
@@ -22,3 +24,5 @@ mod sequence;
 mod stored;
 mod version;
 mod view;
+mod whole;
+mod word;

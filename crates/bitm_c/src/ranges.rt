@@ -1,95 +1,153 @@
-//! Ranges of bits of words of the caller's, with no tables: counts, the nearest one or zero, and writes. And bitwise
-//! operations of two contents.
-ghost use Rattle.std.specs.Prelude.{◌≡◌, ◌≢◌, ℕ, ◌-◌, ◌*◌, ◌<◌, ◌≤◌, ◌↔◌, ◌⊎◌, ◌&&◌, ◌||◌, not, if◌then◌else◌};
-ghost use Rattle.std.specs.Prelude.{true, false, length, IsTrue};
-ghost use Rattle.bitm.specs.Bits.{bits_of, item, IsShort};
-ghost use Rattle.bitm.specs.Count.{ones_before};
-ghost use Rattle.bitm_c.specs.Ranges.{NextAnswered, PreviousAnswered};
+//! Counts, the nearest bit of a kind, positions and writes over ranges of the first bits of words of the caller's, with
+//! no tables.
+ghost use Rattle.std.specs.Prelude.{◌≡◌, ◌≢◌, ℕ, ◌+◌, ◌-◌, ◌<◌, ◌≤◌, ◌↔◌, ◌⊎◌, not, false};
+ghost use Rattle.std.specs.Prelude.{length, min, slice_index};
+ghost use Rattle.bitm.specs.Bits.{bits_of, item};
+ghost use Rattle.bitm.specs.Count.{count_before, count_of, Picks};
+ghost use Rattle.bit_slices.specs.First.{first_bits};
+ghost use Rattle.bitm_c.specs.Bits.{HasBits, HasCountedBits, IsStatus, NextAnswered, PreviousAnswered};
 
 use crate::answer::{BAD_SIZE, NONE, OK, tell};
+use crate::bits::{has_bits, has_counted_bits};
+use bit_slices::{count_in, count_range_in, next_in, positions_in, previous_in};
 use bitm::words;
+use bitm_lent::clear_from;
 
-/// How many of the bits from `from` on and before `to` are ones.
+/// How many of the first `bits_len` bits are 1 bits, or 0 bits.
 #[unsafe(no_mangle)]
-pub extern "C" fn bitm_count_range(words: &[u64], from: usize, to: usize, out: &mut usize) -> u32
-    ensures ok { (result ≡ 0)
-        ↔ (IsShort words.now × (from ≤ to) × (to ≤ 64 * length words.now)) }
-    ensures bad { (result ≡ 2) ↔ ¬ (IsShort words.now) }
-    ensures count { result ≡ 0 → out.new
-        ≡ ones_before (bits_of words.now) to - ones_before (bits_of words.now) from }
-    ensures kept { result ≢ 0 → ((result ≡ 1) ⊎ (result ≡ 2)) × (out.new ≡ out.old) }
+pub extern "C" fn bitm_bits_count(words: &[u64], bits_len: usize, one: bool, out: &mut usize) -> u32
+    ensures ok { (result ≡ 0) ↔ HasCountedBits words.now bits_len }
+    ensures count { result ≡ 0 → out.new ≡ count_of (first_bits words.now bits_len) one }
+    ensures unchanged { result ≢ 0 → (result ≡ 2) × (out.new ≡ out.old) }
 {
-    if words.len() >= 1 << 58 {
+    if !has_counted_bits(words, bits_len) {
         return BAD_SIZE;
     }
-    if !is_range(words, from, to) {
-        return NONE;
-    }
-    *out = words::count_range(words, from, to);
+    *out = count_in(words, bits_len, one);
     OK
 }
 
-/// The place of the first one from `from` on.
+/// How many of the bits from `from` on and before `to` are 1 bits, or 0 bits.
 #[unsafe(no_mangle)]
-pub extern "C" fn bitm_next_one(words: &[u64], from: usize, out: &mut usize) -> u32
-    ensures { NextAnswered true words.now from result out.old out.new }
+pub extern "C" fn bitm_bits_count_range(
+    words: &[u64],
+    bits_len: usize,
+    one: bool,
+    from: usize,
+    to: usize,
+    out: &mut usize,
+) -> u32
+    ensures status { IsStatus (HasCountedBits words.now bits_len)
+        ((from ≤ to) × (to ≤ bits_len)) result }
+    ensures count { result ≡ 0 → let b = first_bits words.now bits_len in
+        out.new ≡ count_before b one to - count_before b one from }
+    ensures unchanged { result ≢ 0 → out.new ≡ out.old }
 {
-    if words.len() >= 1 << 58 {
+    if !has_counted_bits(words, bits_len) {
         return BAD_SIZE;
     }
-    tell(words::find_bit_one(words, from), out)
-}
-
-/// The place of the first zero from `from` on.
-#[unsafe(no_mangle)]
-pub extern "C" fn bitm_next_zero(words: &[u64], from: usize, out: &mut usize) -> u32
-    ensures { NextAnswered false words.now from result out.old out.new }
-{
-    if words.len() >= 1 << 58 {
-        return BAD_SIZE;
-    }
-    tell(words::find_bit_zero(words, from), out)
-}
-
-/// The place of the last one up to `from`.
-#[unsafe(no_mangle)]
-pub extern "C" fn bitm_previous_one(words: &[u64], from: usize, out: &mut usize) -> u32
-    ensures { PreviousAnswered true words.now from result out.old out.new }
-{
-    if words.len() >= 1 << 58 {
-        return BAD_SIZE;
-    }
-    if from / 64 >= words.len() {
+    if from > to || to > bits_len {
         return NONE;
     }
-    tell(words::rfind_bit_one(words, from), out)
+    *out = count_range_in(words, bits_len, one, from, to);
+    OK
 }
 
-/// The place of the last zero up to `from`.
+/// The least position from `from` on of a 1 bit, or of a 0 bit.
 #[unsafe(no_mangle)]
-pub extern "C" fn bitm_previous_zero(words: &[u64], from: usize, out: &mut usize) -> u32
-    ensures { PreviousAnswered false words.now from result out.old out.new }
+pub extern "C" fn bitm_bits_next(
+    words: &[u64],
+    bits_len: usize,
+    one: bool,
+    from: usize,
+    out: &mut usize,
+) -> u32
+    ensures { NextAnswered one words.now bits_len from result out.old out.new }
 {
-    if words.len() >= 1 << 58 {
+    if !has_counted_bits(words, bits_len) {
         return BAD_SIZE;
     }
-    if from / 64 >= words.len() {
-        return NONE;
+    tell(next_in(words, bits_len, one, from), out)
+}
+
+/// The greatest position up to `from` of a 1 bit, or of a 0 bit; `from` may be past the end.
+#[unsafe(no_mangle)]
+pub extern "C" fn bitm_bits_previous(
+    words: &[u64],
+    bits_len: usize,
+    one: bool,
+    from: usize,
+    out: &mut usize,
+) -> u32
+    ensures { PreviousAnswered one words.now bits_len from result out.old out.new }
+{
+    if !has_counted_bits(words, bits_len) {
+        return BAD_SIZE;
     }
-    tell(words::rfind_bit_zero(words, from), out)
+    tell(previous_in(words, bits_len, one, from), out)
+}
+
+/// Writes the positions of the 1 bits, or 0 bits, from `from` on, in rising order, until none is left or `out` is full,
+/// and how many were written.
+#[unsafe(no_mangle)]
+pub extern "C" fn bitm_bits_positions(
+    words: &[u64],
+    bits_len: usize,
+    one: bool,
+    from: usize,
+    out: &mut [usize],
+    written: &mut usize,
+) -> u32
+    ensures ok { (result ≡ 0) ↔ HasCountedBits words.now bits_len }
+    ensures number { result ≡ 0 → let b = first_bits words.now bits_len in written.new
+        ≡ min (length out.old) (count_of b one - count_before b one from) }
+    ensures positions { result ≡ 0 → let b = first_bits words.now bits_len in (j : ℕ)
+        → j < written.new
+        → Picks b one (count_before b one from + j) (slice_index out.new j) }
+    ensures rest { result ≡ 0 → (j : ℕ) → written.new ≤ j
+        → slice_index out.new j ≡ slice_index out.old j }
+    ensures unchanged { result ≢ 0 → (result ≡ 2) × (out.new ≡ out.old)
+        × (written.new ≡ written.old) }
+{
+    if !has_counted_bits(words, bits_len) {
+        return BAD_SIZE;
+    }
+    *written = positions_in(words, bits_len, one, from, out);
+    OK
+}
+
+/// Makes every bit from `bits_len` on a 0 bit; nothing is changed where there are not so many bits.
+#[unsafe(no_mangle)]
+pub extern "C" fn bitm_bits_clear_from(words: &mut [u64], bits_len: usize) -> u32
+    ensures ok { result ≡ 0 }
+    ensures before { (i : ℕ) → i < bits_len
+        → item (bits_of words.new) i ≡ item (bits_of words.old) i }
+    ensures from { (i : ℕ) → bits_len ≤ i → item (bits_of words.new) i ≡ false }
+{
+    clear_from(words, bits_len);
+    OK
 }
 
 /// Makes the bits from `from` on and before `to` equal to `value`.
 #[unsafe(no_mangle)]
-pub extern "C" fn bitm_fill_range(words: &mut [u64], from: usize, to: usize, value: bool) -> u32
-    ensures ok { (result ≡ 0) ↔ ((from ≤ to) × (to ≤ 64 * length words.old)) }
+pub extern "C" fn bitm_bits_fill_range(
+    words: &mut [u64],
+    bits_len: usize,
+    from: usize,
+    to: usize,
+    value: bool,
+) -> u32
+    ensures status { IsStatus (HasBits words.old bits_len) ((from ≤ to) × (to ≤ bits_len)) result }
     ensures inside { result ≡ 0 → (i : ℕ) → from ≤ i → i < to
         → item (bits_of words.new) i ≡ value }
     ensures beside { (i : ℕ) → (i < from) ⊎ (to ≤ i)
         → item (bits_of words.new) i ≡ item (bits_of words.old) i }
-    ensures kept { result ≢ 0 → (result ≡ 1) × (words.new ≡ words.old) }
+    ensures unchanged { result ≢ 0 → words.new ≡ words.old }
 {
-    if !is_range(&*words, from, to) {
+    if !has_bits(&*words, bits_len) {
+        return BAD_SIZE;
+    }
+    if from > to || to > bits_len {
         return NONE;
     }
     words::fill_range(words, from, to, value);
@@ -98,86 +156,25 @@ pub extern "C" fn bitm_fill_range(words: &mut [u64], from: usize, to: usize, val
 
 /// Negates the bits from `from` on and before `to`.
 #[unsafe(no_mangle)]
-pub extern "C" fn bitm_flip_range(words: &mut [u64], from: usize, to: usize) -> u32
-    ensures ok { (result ≡ 0) ↔ ((from ≤ to) × (to ≤ 64 * length words.old)) }
+pub extern "C" fn bitm_bits_flip_range(
+    words: &mut [u64],
+    bits_len: usize,
+    from: usize,
+    to: usize,
+) -> u32
+    ensures status { IsStatus (HasBits words.old bits_len) ((from ≤ to) × (to ≤ bits_len)) result }
     ensures inside { result ≡ 0 → (i : ℕ) → from ≤ i → i < to
         → item (bits_of words.new) i ≡ not (item (bits_of words.old) i) }
     ensures beside { (i : ℕ) → (i < from) ⊎ (to ≤ i)
         → item (bits_of words.new) i ≡ item (bits_of words.old) i }
-    ensures kept { result ≢ 0 → (result ≡ 1) × (words.new ≡ words.old) }
+    ensures unchanged { result ≢ 0 → words.new ≡ words.old }
 {
-    if !is_range(&*words, from, to) {
+    if !has_bits(&*words, bits_len) {
+        return BAD_SIZE;
+    }
+    if from > to || to > bits_len {
         return NONE;
     }
     words::flip_range(words, from, to);
     OK
-}
-
-/// Leaves a bit one exactly where the other content has a one too.
-#[unsafe(no_mangle)]
-pub extern "C" fn bitm_and(words: &mut [u64], other: &[u64]) -> u32
-    ensures ok { (result ≡ 0) ↔ (length words.old ≡ length other.now) }
-    ensures bits { result ≡ 0 → (i : ℕ) → i < 64 * length words.old → item (bits_of words.new) i
-        ≡ (item (bits_of words.old) i && item (bits_of other.now) i) }
-    ensures kept { result ≢ 0 → (result ≡ 2) × (words.new ≡ words.old) }
-{
-    if words.len() != other.len() {
-        return BAD_SIZE;
-    }
-    words::and(words, other);
-    OK
-}
-
-/// Makes a bit one where the other content has a one.
-#[unsafe(no_mangle)]
-pub extern "C" fn bitm_or(words: &mut [u64], other: &[u64]) -> u32
-    ensures ok { (result ≡ 0) ↔ (length words.old ≡ length other.now) }
-    ensures bits { result ≡ 0 → (i : ℕ) → i < 64 * length words.old → item (bits_of words.new) i
-        ≡ (item (bits_of words.old) i || item (bits_of other.now) i) }
-    ensures kept { result ≢ 0 → (result ≡ 2) × (words.new ≡ words.old) }
-{
-    if words.len() != other.len() {
-        return BAD_SIZE;
-    }
-    words::or(words, other);
-    OK
-}
-
-/// Negates a bit where the other content has a one.
-#[unsafe(no_mangle)]
-pub extern "C" fn bitm_xor(words: &mut [u64], other: &[u64]) -> u32
-    ensures ok { (result ≡ 0) ↔ (length words.old ≡ length other.now) }
-    ensures bits { result ≡ 0 → (i : ℕ) → i < 64 * length words.old → item (bits_of words.new) i
-        ≡ (if item (bits_of other.now) i then not (item (bits_of words.old) i)
-        else item (bits_of words.old) i) }
-    ensures kept { result ≢ 0 → (result ≡ 2) × (words.new ≡ words.old) }
-{
-    if words.len() != other.len() {
-        return BAD_SIZE;
-    }
-    words::xor(words, other);
-    OK
-}
-
-/// Makes a bit zero where the other content has a one.
-#[unsafe(no_mangle)]
-pub extern "C" fn bitm_and_not(words: &mut [u64], other: &[u64]) -> u32
-    ensures ok { (result ≡ 0) ↔ (length words.old ≡ length other.now) }
-    ensures bits { result ≡ 0 → (i : ℕ) → i < 64 * length words.old → item (bits_of words.new) i
-        ≡ (item (bits_of words.old) i && not (item (bits_of other.now) i)) }
-    ensures kept { result ≢ 0 → (result ≡ 2) × (words.new ≡ words.old) }
-{
-    if words.len() != other.len() {
-        return BAD_SIZE;
-    }
-    words::and_not(words, other);
-    OK
-}
-
-/// Whether the range is not reversed and ends inside or at the end of the words.
-#[inline(always)]
-fn is_range(words: &[u64], from: usize, to: usize) -> bool
-    ensures { IsTrue result ↔ ((from ≤ to) × (to ≤ 64 * length words.now)) }
-{
-    from <= to && to.div_ceil(64) <= words.len()
 }

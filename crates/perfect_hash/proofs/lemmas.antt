@@ -5,6 +5,7 @@ pub mod CountingLemmas
 pub mod DictionaryLemmas
 pub mod GetLemmas
 pub mod GroupedLemmas
+pub mod InPlaceLemmas
 pub mod KeyLemmas
 pub mod LevelLemmas
 pub mod ManyLemmas

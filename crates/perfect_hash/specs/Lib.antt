@@ -2,6 +2,7 @@ pub mod Asking
 pub mod Dictionary
 pub mod Error
 pub mod Hashing
+pub mod InPlace
 pub mod Inside
 pub mod Levels
 pub mod Many

@@ -1,0 +1,67 @@
+//! Bitwise operations of two contents of the caller's, word by word.
+ghost use Rattle.std.specs.Prelude.{◌≡◌, ◌≢◌, ℕ, ◌*◌, ◌<◌, ◌↔◌, ◌&&◌, ◌||◌, not, if◌then◌else◌, length};
+ghost use Rattle.bitm.specs.Bits.{bits_of, item};
+
+use crate::answer::{BAD_SIZE, OK};
+use bitm::words;
+
+/// Keeps a 1 bit exactly where `other` has one too.
+#[unsafe(no_mangle)]
+pub extern "C" fn bitm_bits_and(words: &mut [u64], other: &[u64]) -> u32
+    ensures ok { (result ≡ 0) ↔ (length words.old ≡ length other.now) }
+    ensures bits { result ≡ 0 → (i : ℕ) → i < 64 * length words.old → item (bits_of words.new) i
+        ≡ (item (bits_of words.old) i && item (bits_of other.now) i) }
+    ensures unchanged { result ≢ 0 → (result ≡ 2) × (words.new ≡ words.old) }
+{
+    if words.len() != other.len() {
+        return BAD_SIZE;
+    }
+    words::and(words, other);
+    OK
+}
+
+/// Makes a bit a 1 bit where `other` has one.
+#[unsafe(no_mangle)]
+pub extern "C" fn bitm_bits_or(words: &mut [u64], other: &[u64]) -> u32
+    ensures ok { (result ≡ 0) ↔ (length words.old ≡ length other.now) }
+    ensures bits { result ≡ 0 → (i : ℕ) → i < 64 * length words.old → item (bits_of words.new) i
+        ≡ (item (bits_of words.old) i || item (bits_of other.now) i) }
+    ensures unchanged { result ≢ 0 → (result ≡ 2) × (words.new ≡ words.old) }
+{
+    if words.len() != other.len() {
+        return BAD_SIZE;
+    }
+    words::or(words, other);
+    OK
+}
+
+/// Negates a bit where `other` has a 1 bit.
+#[unsafe(no_mangle)]
+pub extern "C" fn bitm_bits_xor(words: &mut [u64], other: &[u64]) -> u32
+    ensures ok { (result ≡ 0) ↔ (length words.old ≡ length other.now) }
+    ensures bits { result ≡ 0 → (i : ℕ) → i < 64 * length words.old → item (bits_of words.new) i
+        ≡ (if item (bits_of other.now) i then not (item (bits_of words.old) i)
+        else item (bits_of words.old) i) }
+    ensures unchanged { result ≢ 0 → (result ≡ 2) × (words.new ≡ words.old) }
+{
+    if words.len() != other.len() {
+        return BAD_SIZE;
+    }
+    words::xor(words, other);
+    OK
+}
+
+/// Makes a bit a 0 bit where `other` has a 1 bit.
+#[unsafe(no_mangle)]
+pub extern "C" fn bitm_bits_and_not(words: &mut [u64], other: &[u64]) -> u32
+    ensures ok { (result ≡ 0) ↔ (length words.old ≡ length other.now) }
+    ensures bits { result ≡ 0 → (i : ℕ) → i < 64 * length words.old → item (bits_of words.new) i
+        ≡ (item (bits_of words.old) i && not (item (bits_of other.now) i)) }
+    ensures unchanged { result ≢ 0 → (result ≡ 2) × (words.new ≡ words.old) }
+{
+    if words.len() != other.len() {
+        return BAD_SIZE;
+    }
+    words::and_not(words, other);
+    OK
+}

@@ -1,0 +1,40 @@
+//! Selection in a word, and numbers by which structures are laid out.
+ghost use Rattle.std.specs.Prelude.{◌≡◌, ◌≢◌, ◌<◌, ◌↔◌, true};
+ghost use Rattle.bitm.specs.Bits.{digit_count, low_digits};
+ghost use Rattle.bitm.specs.Count.{ones_before, Picks};
+ghost use Rattle.bitm.specs.Density.{clamped_log, optimal_log};
+
+use crate::answer::{NONE, OK};
+
+/// The position of the 1 bit of `word` with rank `rank`.
+#[tactic(auto, using(bitm::proofs::Callers::ones_of_word))]
+#[unsafe(no_mangle)]
+pub extern "C" fn bitm_bits_select_in_word(word: u64, rank: u32, out: &mut u64) -> u32
+    ensures ok { (result ≡ 0) ↔ (rank < ones_before (low_digits 64 word) 64) }
+    ensures position { result ≡ 0 → Picks (low_digits 64 word) true rank out.new }
+    ensures unchanged { result ≢ 0 → (result ≡ 1) × (out.new ≡ out.old) }
+{
+    if rank >= word.count_ones() {
+        return NONE;
+    }
+    *out = bitm::select64(word, rank as u8) as u64;
+    OK
+}
+
+/// How many binary digits `value` has, none for 0: the width that stores it.
+#[unsafe(no_mangle)]
+pub extern "C" fn bitm_bits_to_store(value: u64) -> u32
+    ensures { result ≡ digit_count value }
+{
+    bitm::bits_to_store(value) as u32
+}
+
+/// The logarithm of a density of samples for `items` of `bits_len` bits: 7 up to `most`, which counts as 7 where it is
+/// less, and as 31 where it is more.
+#[unsafe(no_mangle)]
+pub extern "C" fn bitm_optimal_log2(items: usize, bits_len: usize, most: u32) -> u32
+    ensures { result ≡ optimal_log items bits_len (clamped_log most) }
+{
+    let most = most.max(7).min(31) as u8;
+    bitm::optimal_combined_sampling(items, bits_len, most) as u32
+}
