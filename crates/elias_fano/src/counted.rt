@@ -3,7 +3,7 @@ ghost use Rattle.std.specs.Prelude.{◌≡◌, ◌+◌, ◌*◌, ◌<◌, ◌≤
 ghost use Rattle.std.specs.List.{Contains};
 ghost use Rattle.bitm.specs.Bits.{digit_count};
 ghost use Rattle.bitm.specs.Reads.{OnlyReads, ReadsAtMost};
-ghost use Rattle.elias_fano.specs.LentParts.{parts_with, AreParts, Holds};
+ghost use Rattle.elias_fano.specs.LentParts.{parts_of, parts_with, AreParts, Holds};
 ghost use Rattle.elias_fano.specs.Low.{sharing, ReadsFragments};
 ghost use Rattle.elias_fano.specs.Sequence.{IsFirstAtLeast, IsLastAtMost, ReachesTo};
 
@@ -68,7 +68,7 @@ fn only_reaches<T: TableSource>(source: &mut T, low: &mut LowDigits<'_>, v: u64)
 /// `v`, which reads nothing of the source. So at most `2 * (digits + 1)` upper entries, where the number of them has
 /// so many digits, 46 lower entries and 16 words, and at most as many selections as `n` has digits. The search reads at
 /// most one fragment of the low digits for each binary digit of how many items share the upper digits of `v`.
-pub fn first_at_least_counted<T: TableSource>(
+pub fn first_at_least_on<T: TableSource>(
     source: &mut T,
     low: &mut LowDigits<'_>,
     n: usize,
@@ -104,6 +104,36 @@ pub fn first_at_least_counted<T: TableSource>(
     }
 }
 
+/// The least place of a sequence whose number is at least `v`; `None` exactly where there is none. It is
+/// `first_at_least_on` where nobody asks how many fragments of the low digits are read.
+///
+/// The sequence is handed in by its parts: `low` and `width` are what `EliasFano` answers as `low_words` and
+/// `low_width`, `n` is the number of its items, and the source has its `upper_words`.
+///
+/// # Conditions
+/// The parts are those of one sequence of fewer than 2^56 numbers; the source's tables are those of its words.
+/// # Cost
+/// That of `first_at_least_on`: at most two selections in the source.
+pub fn first_at_least_counted<T: TableSource>(
+    source: &mut T,
+    low: &[u64],
+    width: u8,
+    n: usize,
+    v: u64,
+) -> Option<usize>
+    requires parts { AreParts (parts_of n width low.now (T.lists source.old)) }
+    ensures answer { (xs : List ℕ) → Holds xs (parts_of n width low.now (T.lists source.old))
+        → IsFirstAtLeast xs v result }
+    ensures reads { ReadsAtMost (T.reads source.old) (T.reads source.new)
+        (digit_count n * (digit_count (length (T.lists source.old).upper) + 1))
+        (digit_count n * 23) (digit_count n * 8) }
+    ensures two { ReadsAtMost (T.reads source.old) (T.reads source.new)
+        (2 * (digit_count (length (T.lists source.old).upper) + 1)) (2 * 23) (2 * 8) }
+    ensures same { T.lists source.new ≡ T.lists source.old }
+{
+    first_at_least_on(source, &mut LowDigits::new(low, width), n, v)
+}
+
 /// How many numbers of a sequence are at most `v`: those before the first that is at least `v + 1`.
 #[inline(always)]
 fn count_at_most<T: TableSource>(source: &mut T, low: &mut LowDigits<'_>, n: usize, v: u64) -> usize
@@ -118,7 +148,7 @@ fn count_at_most<T: TableSource>(source: &mut T, low: &mut LowDigits<'_>, n: usi
     if v == u64::MAX {
         return n;
     }
-    match first_at_least_counted(source, low, n, v + 1) {
+    match first_at_least_on(source, low, n, v + 1) {
         Some(place) => place,
         None => n,
     }
@@ -127,9 +157,9 @@ fn count_at_most<T: TableSource>(source: &mut T, low: &mut LowDigits<'_>, n: usi
 /// The greatest place of a sequence whose number is at most `v`; `None` exactly where there is none.
 ///
 /// # Conditions
-/// As of `first_at_least_counted`.
+/// As of `first_at_least_on`.
 /// # Cost
-/// That of `first_at_least_counted` of `v + 1`, and nothing where `v` is 2^64 - 1.
+/// That of `first_at_least_on` of `v + 1`, and nothing where `v` is 2^64 - 1.
 pub fn last_at_most_counted<T: TableSource>(
     source: &mut T,
     low: &mut LowDigits<'_>,
@@ -153,9 +183,9 @@ pub fn last_at_most_counted<T: TableSource>(
 /// Whether `v` is one of the numbers of a sequence.
 ///
 /// # Conditions
-/// As of `first_at_least_counted`.
+/// As of `first_at_least_on`.
 /// # Cost
-/// That of `first_at_least_counted`, and where some number is at least `v` one more selection, and one more fragment of
+/// That of `first_at_least_on`, and where some number is at least `v` one more selection, and one more fragment of
 /// the low digits.
 pub fn contains_counted<T: TableSource>(
     source: &mut T,
@@ -171,7 +201,7 @@ pub fn contains_counted<T: TableSource>(
     ensures shared { (xs : List ℕ) → Holds xs (parts_with n low.old (T.lists source.old))
         → ReadsFragments low.old low.new (digit_count (sharing xs low.old.width v) + 1) }
 {
-    match first_at_least_counted(source, low, n, v) {
+    match first_at_least_on(source, low, n, v) {
         Some(place) => item_on(source, low, n, place) == v,
         None => false,
     }

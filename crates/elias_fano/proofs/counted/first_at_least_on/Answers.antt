@@ -5,8 +5,8 @@ use Rattle.std.proofs.lemmas.List.{get_or_default}
 use Rattle.elias_fano.proofs.lemmas.ItemLemmas.{parts-lengths, upper-short}
 use Rattle.elias_fano.proofs.lemmas.SelectionReadLemmas.{digits-allow-one, digits-allow-two}
 use Rattle.elias_fano.specs.LentParts.{parts_with, Holds}
-use Rattle.elias_fano.proofs.counted.first_at_least_counted.Goals as goal
-use Rattle.elias_fano.proofs.counted.first_at_least_counted.Goals.{After-first_on, After-only_reaches}
+use Rattle.elias_fano.proofs.counted.first_at_least_on.Goals as goal
+use Rattle.elias_fano.proofs.counted.first_at_least_on.Goals.{After-first_on, After-only_reaches}
 
 -- ---- one item
 
