@@ -22,3 +22,7 @@ item-added old new i =
 pub front : (n len : ℕ) (new old : List ℕ) → length new ≡ length old → length old ≡ len → n ≤ length old
     → take n (take len (new ++ drop (length new) old)) ≡ take n new
 front n len new old same long few = search (rules, places)
+
+-- and all of them
+pub whole : (len : ℕ) (new old : List ℕ) → length new ≡ length old → length old ≡ len → take len (new ++ drop (length new) old) ≡ new
+whole len new old same long = search (rules, places)
