@@ -19,11 +19,14 @@ upper_read reads = record reads { upper = reads.upper + 1 }
 abbrev pub lower_read : ReadCounts → ReadCounts
 lower_read reads = record reads { lower = reads.lower + 1 }
 
--- at most so many upper entries, lower entries and words were read between early and late
+-- between early and late at most so many upper entries, lower entries and words were read, and no count fell
 pub record ReadsAtMost (early late : ReadCounts) (uppers lowers words_read : ℕ) : Type 0 where
   pub upper : late.upper ≤ early.upper + uppers
   pub lower : late.lower ≤ early.lower + lowers
   pub words : late.words ≤ early.words + words_read
+  pub upper_kept : early.upper ≤ late.upper
+  pub lower_kept : early.lower ≤ late.lower
+  pub words_kept : early.words ≤ late.words
 
 -- a call only read: at most so many upper entries, lower entries and words, and the source has the same lists
 pub record OnlyReads {S : Type 0} (lists_of : S → Lists) (reads_of : S → ReadCounts) (old new : S) (uppers lowers words_read : ℕ)

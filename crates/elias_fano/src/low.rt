@@ -3,7 +3,7 @@ ghost use Rattle.std.specs.Prelude.{◌≡◌, ◌+◌, ◌<◌, ◌≤◌, ◌^
 ghost use Rattle.bitm.specs.Number.{IsFragmentInRange};
 ghost use Rattle.elias_fano.specs.Low.{fragment, unread};
 
-use bitm::{ReadCounts, words};
+use bitm::{Probe, ReadCounts, words};
 use std::marker::Model;
 
 /// Words of low digits, so many of each number, of which each fragment that is read is counted.
@@ -34,7 +34,7 @@ impl<'a> LowDigits<'a> {
         LowDigits {
             words,
             width,
-            reads: ReadCounts::new(),
+            reads: Probe::new(words, [].as_slice(), [].as_slice()).into_reads(),
         }
     }
 

@@ -10,7 +10,7 @@ ghost use Rattle.perfect_hash.specs.Levels.{fall_in, looked, place_from};
 ghost use Rattle.perfect_hash.specs.Parts.{number_by, number_in, AreSizes};
 ghost use Rattle.perfect_hash.specs.Placed.{FitIn, IsPlaced, WhereAbsent, WhereWrong};
 
-use crate::placing::{Placing, Plain};
+use crate::placing::{Placing, Plain, no_reads};
 use bitm::{ReadCounts, Selected, TableSource, bit_on, rank_on, total_rank_on};
 use bitm_lent::Ranked;
 
@@ -81,7 +81,7 @@ pub fn total_number_on<T: TableSource>(
         (number_by sizes.now (bits_in (T.lists source.old)) hash ≡ None) }
     ensures reads { OnlyReads T.lists T.reads source.old source.new 1 1 (length sizes.now + 8) }
 {
-    match place_on(source, &Plain, sizes, hash, &mut ReadCounts::new()) {
+    match place_on(source, &Plain, sizes, hash, &mut no_reads()) {
         Selected::Found(place) => match total_rank_on(source, place) {
             Some(number) if number < count => Ranked::Count(number),
             _ => Ranked::WrongTables,
@@ -104,7 +104,7 @@ pub fn number_on<T: TableSource>(source: &mut T, sizes: &[usize], hash: u64) -> 
     ensures value { result ≡ number_by sizes.now (bits_in (T.lists source.old)) hash }
     ensures reads { OnlyReads T.lists T.reads source.old source.new 1 1 (length sizes.now + 8) }
 {
-    number_by_on(source, &Plain, sizes, hash, &mut ReadCounts::new())
+    number_by_on(source, &Plain, sizes, hash, &mut no_reads())
 }
 
 /// The same where `placing` says where hashes fall, and the seeds that it reads are counted too: at most one a level.

@@ -4,8 +4,8 @@ ghost use Rattle.bitm.specs.Bits.{bits_of, item, IsShort};
 ghost use Rattle.perfect_hash.specs.Levels.{hits, IsLevel, left_of};
 ghost use Rattle.perfect_hash.specs.Places.{place_in};
 
-use crate::placing::{Placing, Plain};
-use bitm::{ReadCounts, words};
+use crate::placing::{Placing, Plain, no_reads};
+use bitm::words;
 use std::alloc::AllocError;
 
 /// Words in which a level is made, used again from level to level.
@@ -48,7 +48,7 @@ fn mark<P: Placing>(
 {
     let words = hit.len();
     for hash in hashes {
-        let place = placing.place(begin, *hash, level, words, &mut ReadCounts::new());
+        let place = placing.place(begin, *hash, level, words, &mut no_reads());
         if words::get_bit(hit, place) {
             words::set_bit(again, place);
         } else {
@@ -139,7 +139,7 @@ pub(crate) fn keep_left<P: Placing>(
     let mut kept = 0;
     for i in 0..hashes.len() {
         let hash = hashes[i];
-        let place = placing.place(begin, hash, level, ones.len(), &mut ReadCounts::new());
+        let place = placing.place(begin, hash, level, ones.len(), &mut no_reads());
         if !words::get_bit(ones, place) {
             hashes[kept] = hash;
             kept += 1;

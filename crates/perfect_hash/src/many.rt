@@ -7,9 +7,9 @@ ghost use Rattle.perfect_hash.specs.Many.{AreNumbersOfKeys, AreRanks, IsLookedUp
 ghost use Rattle.perfect_hash.specs.Parts.{number_at, number_from, AreSizes};
 
 use crate::hashing::KeyHash;
-use crate::placing::Placing;
+use crate::placing::{Placing, no_reads};
 use crate::table::PerfectHash;
-use bitm::{Access, NO_ANSWER, ReadCounts};
+use bitm::{Access, NO_ANSWER};
 
 /// So many look-ups go side by side. Of fewer, the last levels would leave too few to wait together.
 const SIDE_BY_SIDE: usize = 256;
@@ -31,7 +31,7 @@ fn look<I: Access, P: Placing>(
     ensures { IsLookedUp (fall_in (P.fall placing.now) sizes.now hash) (I.bits index.now) sizes.now
         (level + 1) (begin + slice_index sizes.now level) result }
 {
-    let reads = &mut ReadCounts::new();
+    let reads = &mut no_reads();
     let place = 64 * begin + placing.place(begin, hash, level as u32, sizes[level], reads);
     if index.get_bit(place) {
         place

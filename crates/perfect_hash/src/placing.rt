@@ -1,11 +1,11 @@
 //! What places hashes in levels: their digits alone, or with a seed for each word.
 ghost use Rattle.std.specs.Prelude.{◌≡◌, ◌+◌, ◌*◌, ◌^◌, ◌<◌, ◌≤◌, ℕ, List, IfOk, OnOk};
-ghost use Rattle.bitm.specs.Reads.{ReadsAtMost};
+ghost use Rattle.bitm.specs.Reads.{none_read, ReadsAtMost};
 ghost use Rattle.perfect_hash.specs.Places.{place_in};
 ghost use Rattle.perfect_hash.specs.Inside.{falls_inside};
 
 use crate::places::place_of;
-use bitm::{GetSize, ReadCounts};
+use bitm::{GetSize, Probe, ReadCounts};
 use std::alloc::{AllocError, Global};
 
 /// Places hashes: says on which bit of a level each falls.
@@ -75,6 +75,14 @@ pub trait Placing: Drop {
     /// A hash falls inside each level that has a word.
     ghost inside: { (placing : Self) (begin hash level words : ℕ) → 0 < words
         → fall placing begin hash level words < 64 * words };
+}
+
+/// A counter with no reads yet: that of a source over nothing.
+#[inline(always)]
+pub(crate) fn no_reads() -> ReadCounts
+    ensures { result ≡ none_read }
+{
+    Probe::new([].as_slice(), [].as_slice(), [].as_slice()).into_reads()
 }
 
 /// Places a hash by its digits alone, for which nothing is kept.

@@ -8,7 +8,7 @@ ghost use Rattle.perfect_hash.specs.Parts.{levels_looked, number_at, number_from
 
 use crate::asking::number_by_on;
 use crate::hashing::KeyHash;
-use crate::placing::{Placing, Plain};
+use crate::placing::{Placing, Plain, no_reads};
 use bitm::{
     Access, ArrayWithRank101111, CloneWords, GetSize, RankSelect101111, ReadCounts,
     Select0ForRank101111, SelectForRank101111,
@@ -165,7 +165,7 @@ impl<H, I: Access, P: Placing> PerfectHash<H, I, P> {
     {
         let mut begin = 0;
         for (level, size) in self.sizes.as_slice().iter().enumerate() {
-            let reads = &mut ReadCounts::new();
+            let reads = &mut no_reads();
             let place = 64 * begin + self.placing.place(begin, hash, level as u32, *size, reads);
             if self.index.get_bit(place) {
                 return Some(self.index.rank(place));
@@ -190,7 +190,7 @@ impl<H, S: SelectForRank101111, S0: Select0ForRank101111, BV: AsSlice<u64>> Perf
     {
         let mut probe = self.index.probe();
         let hash = self.hash(key);
-        let (sizes, seeds) = (self.sizes.as_slice(), &mut ReadCounts::new());
+        let (sizes, seeds) = (self.sizes.as_slice(), &mut no_reads());
         let number = number_by_on(&mut probe, &self.placing, sizes, hash, seeds);
         (number, probe.into_reads())
     }
@@ -213,7 +213,7 @@ impl<H, S: SelectForRank101111, S0: Select0ForRank101111, BV: AsSlice<u64>, P: P
         ensures counted { result.2.words ≡ P.seeds_each * levels_looked P.fall H.hash self.now key.now }
     {
         let mut probe = self.index.probe();
-        let mut seeds = ReadCounts::new();
+        let mut seeds = no_reads();
         let hash = self.hash(key);
         let sizes = self.sizes.as_slice();
         let number = number_by_on(&mut probe, &self.placing, sizes, hash, &mut seeds);

@@ -140,6 +140,7 @@ fn narrow_by_guess<const BIT: u8, T: TableSource>(
     ensures reads_first { result.low ≡ 0
         → (T.reads source.new).lower + digit_count (result.left - 1)
         ≤ (T.reads source.old).lower + 22 }
+    ensures lower_kept { (T.reads source.old).lower ≤ (T.reads source.new).lower }
     ensures upper { (T.reads source.new).upper ≡ (T.reads source.old).upper }
     ensures words { (T.reads source.new).words ≡ (T.reads source.old).words }
     ensures same { T.lists source.new ≡ T.lists source.old }
@@ -169,6 +170,7 @@ fn search_range<const BIT: u8, T: TableSource>(
     ensures reads_first { result.low ≡ 0
         → (T.reads source.new).lower + digit_count (result.left - 1)
         ≤ (T.reads source.old).lower + 22 }
+    ensures lower_kept { (T.reads source.old).lower ≤ (T.reads source.new).lower }
     ensures upper { (T.reads source.new).upper ≡ (T.reads source.old).upper }
     ensures words { (T.reads source.new).words ≡ (T.reads source.old).words }
     ensures same { T.lists source.new ≡ T.lists source.old }

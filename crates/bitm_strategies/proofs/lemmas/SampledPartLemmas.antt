@@ -89,7 +89,14 @@ module _ (bit : ℕ) (l : Lists) (xs : List ℕ) (d rank : ℕ) (begin : PartBeg
         (first_inside (bits_of l.words) l.upper l.lower tables v rank begin.part p.part d inside) early late
         (record {
           order = subst (λ (x : ℕ). x ≤ e) start_is order;
-          reads = record { upper = reads.upper; lower = omega (arith, reads.lower, start_is); words = reads.words };
+          reads = record {
+            upper = reads.upper;
+            lower = omega (arith, reads.lower, start_is);
+            words = reads.words;
+            upper_kept = reads.upper_kept;
+            lower_kept = reads.lower_kept;
+            words_kept = reads.words_kept;
+          };
         })
 
 -- what is selected in the entry where the walk ends, of the source as it was

@@ -174,7 +174,14 @@ empty_reads b v d rank reads h =
     let none : count_of c v ≡ 0 = ap (count_before c v) short ∙ count_before-none c v in
     record {
       walked = λ l. absurd (omega (arith, none));
-      nothing = λ _. record { upper = omega arith; lower = omega arith; words = omega arith };
+      nothing = λ _. record {
+        upper = omega arith;
+        lower = omega arith;
+        words = omega arith;
+        upper_kept = omega arith;
+        lower_kept = omega arith;
+        words_kept = omega arith;
+      };
     }
 
 -- ---- how many samples there are

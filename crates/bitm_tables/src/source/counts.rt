@@ -27,9 +27,9 @@ impl Model for ReadCounts {
 impl ReadCounts {
     ghost use Rattle.bitm_tables.specs.Reads.{none_read, word_read, upper_read, lower_read};
 
-    /// No reads yet: what a source of one's own begins with.
+    /// No reads yet. A caller gets such a counter from a `Probe` alone.
     #[inline(always)]
-    pub fn new() -> ReadCounts
+    pub(crate) fn new() -> ReadCounts
         ensures { result ≡ none_read }
     {
         ReadCounts {}

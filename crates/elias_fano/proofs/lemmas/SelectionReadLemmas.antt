@@ -18,7 +18,14 @@ pub digits-allow-one : (early late : ReadCounts) (n uppers : ℕ) → 0 < n → 
 digits-allow-one early late n uppers some reads =
     let times : 1 * uppers ≤ digit_count n * uppers = mul-le-mul_right uppers (digits-some n some) in
     let digits = digits-some n some in
-    record { upper = omega (arith, reads.upper); lower = omega (arith, reads.lower); words = omega (arith, reads.words) }
+    record {
+      upper = omega (arith, reads.upper);
+      lower = omega (arith, reads.lower);
+      words = omega (arith, reads.words);
+      upper_kept = reads.upper_kept;
+      lower_kept = reads.lower_kept;
+      words_kept = reads.words_kept;
+    }
 
 -- and one above 1 has two
 pub digits-allow-two : (early late : ReadCounts) (n uppers : ℕ) → 2 ≤ n → ReadsAtMost early late (2 * uppers) (2 * 23) (2 * 8)
@@ -26,4 +33,11 @@ pub digits-allow-two : (early late : ReadCounts) (n uppers : ℕ) → 2 ≤ n �
 digits-allow-two early late n uppers two reads =
     let times : 2 * uppers ≤ digit_count n * uppers = mul-le-mul_right uppers (digits-two n two) in
     let digits = digits-two n two in
-    record { upper = omega (arith, reads.upper); lower = omega (arith, reads.lower); words = omega (arith, reads.words) }
+    record {
+      upper = omega (arith, reads.upper);
+      lower = omega (arith, reads.lower);
+      words = omega (arith, reads.words);
+      upper_kept = reads.upper_kept;
+      lower_kept = reads.lower_kept;
+      words_kept = reads.words_kept;
+    }

@@ -6,17 +6,34 @@ use Rattle.bitm.specs.Tables.{Lists}
 use Rattle.wavelet_matrix.specs.Matrix.{LevelTables, OnlyRanks}
 
 none : (a : ReadCounts) → ReadsAtMost a a 0 0 0
-none a = record { upper = omega arith; lower = omega arith; words = omega arith }
+none a = record {
+  upper = omega arith;
+  lower = omega arith;
+  words = omega arith;
+  upper_kept = omega arith;
+  lower_kept = omega arith;
+  words_kept = omega arith;
+}
 
 fewer : (a b : ReadCounts) (u v w x y z : ℕ) → ReadsAtMost a b u v w → u ≤ x → v ≤ y → w ≤ z → ReadsAtMost a b x y z
 fewer a b u v w x y z h uppers lowers words =
-    record { upper = omega (arith, h.upper, uppers); lower = omega (arith, h.lower, lowers); words = omega (arith, h.words, words) }
+    record {
+      upper = omega (arith, h.upper, uppers);
+      lower = omega (arith, h.lower, lowers);
+      words = omega (arith, h.words, words);
+      upper_kept = h.upper_kept;
+      lower_kept = h.lower_kept;
+      words_kept = h.words_kept;
+    }
 
 more : (a b c : ReadCounts) (u v w x y z : ℕ) → ReadsAtMost a b u v w → ReadsAtMost b c x y z → ReadsAtMost a c (u + x) (v + y) (w + z)
 more a b c u v w x y z first next = record {
   upper = omega (arith, first.upper, next.upper);
   lower = omega (arith, first.lower, next.lower);
   words = omega (arith, first.words, next.words);
+  upper_kept = omega (arith, first.upper_kept, next.upper_kept);
+  lower_kept = omega (arith, first.lower_kept, next.lower_kept);
+  words_kept = omega (arith, first.words_kept, next.words_kept);
 }
 
 module _ {S : Type 0} (l : LevelTables) (lists_of : S → Lists) (reads_of : S → ReadCounts) where

@@ -17,6 +17,9 @@ returns-clause-reads g c =
             upper = omega (arith, few.upper, c.begun_by.ensures.reads.upper, c.is_behind.ensures.reads.upper);
             lower = omega (arith, few.lower, c.begun_by.ensures.reads.lower, c.is_behind.ensures.reads.lower, digits);
             words = omega (arith, few.words, c.begun_by.ensures.reads.words, c.is_behind.ensures.reads.words);
+            upper_kept = omega (arith, few.upper_kept, c.begun_by.ensures.reads.upper_kept, c.is_behind.ensures.reads.upper_kept);
+            lower_kept = omega (arith, few.lower_kept, c.begun_by.ensures.reads.lower_kept, c.is_behind.ensures.reads.lower_kept);
+            words_kept = omega (arith, few.words_kept, c.begun_by.ensures.reads.words_kept, c.is_behind.ensures.reads.words_kept);
           }
       | inr first ↦
           let none = c.begun_by.ensures.reads_first (omega (arith, first)) in
@@ -24,6 +27,9 @@ returns-clause-reads g c =
             upper = omega (arith, r.reads.upper, c.begun_by.ensures.reads.upper, c.is_behind.ensures.reads.upper);
             lower = omega (arith, r.reads.lower, ap (λ (x : ReadCounts). x.lower) none, c.is_behind.ensures.reads.lower, digits);
             words = omega (arith, r.reads.words, c.begun_by.ensures.reads.words, c.is_behind.ensures.reads.words);
+            upper_kept = omega (arith, r.reads.upper_kept, c.begun_by.ensures.reads.upper_kept, c.is_behind.ensures.reads.upper_kept);
+            lower_kept = omega (arith, r.reads.lower_kept, c.begun_by.ensures.reads.lower_kept, c.is_behind.ensures.reads.lower_kept);
+            words_kept = omega (arith, r.reads.words_kept, c.begun_by.ensures.reads.words_kept, c.is_behind.ensures.reads.words_kept);
           }
     ]
 
@@ -39,6 +45,9 @@ returns-clause-reads_near g c = λ narrow.
             upper = omega (arith, few.upper, c.begun_by.ensures.reads.upper, c.is_behind.ensures.reads.upper);
             lower = omega (arith, few.lower, c.begun_by.ensures.reads.lower, c.is_behind.ensures.reads.lower, digits);
             words = omega (arith, few.words, c.begun_by.ensures.reads.words, c.is_behind.ensures.reads.words);
+            upper_kept = omega (arith, few.upper_kept, c.begun_by.ensures.reads.upper_kept, c.is_behind.ensures.reads.upper_kept);
+            lower_kept = omega (arith, few.lower_kept, c.begun_by.ensures.reads.lower_kept, c.is_behind.ensures.reads.lower_kept);
+            words_kept = omega (arith, few.words_kept, c.begun_by.ensures.reads.words_kept, c.is_behind.ensures.reads.words_kept);
           }
       | inr first ↦
           let none = c.begun_by.ensures.reads_first (omega (arith, first)) in
@@ -46,5 +55,8 @@ returns-clause-reads_near g c = λ narrow.
             upper = omega (arith, r.reads.upper, c.begun_by.ensures.reads.upper, c.is_behind.ensures.reads.upper);
             lower = omega (arith, r.reads.lower, ap (λ (x : ReadCounts). x.lower) none, c.is_behind.ensures.reads.lower, digits);
             words = omega (arith, r.reads.words, c.begun_by.ensures.reads.words, c.is_behind.ensures.reads.words);
+            upper_kept = omega (arith, r.reads.upper_kept, c.begun_by.ensures.reads.upper_kept, c.is_behind.ensures.reads.upper_kept);
+            lower_kept = omega (arith, r.reads.lower_kept, c.begun_by.ensures.reads.lower_kept, c.is_behind.ensures.reads.lower_kept);
+            words_kept = omega (arith, r.reads.words_kept, c.begun_by.ensures.reads.words_kept, c.is_behind.ensures.reads.words_kept);
           }
     ]

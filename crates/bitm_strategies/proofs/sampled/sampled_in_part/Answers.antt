@@ -56,6 +56,9 @@ returns-clause-reads g c =
       upper = omega (arith, e.reads, w.reads, reads);
       lower = omega (arith, e.reads, w.reads, reads, w.order);
       words = omega (arith, e.reads, w.reads, reads);
+      upper_kept = omega (arith, e.reads, w.reads, reads);
+      lower_kept = omega (arith, e.reads, w.reads, reads);
+      words_kept = omega (arith, e.reads, w.reads, reads);
     })
     c.found.result selected (rw c.found.ensures (in_entry _ c.in_packed.result e.inside))
 

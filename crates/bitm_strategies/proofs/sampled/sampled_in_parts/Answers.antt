@@ -72,4 +72,7 @@ returns-clause-reads g c =
       upper = omega (arith, ap (λ (r : ReadCounts). r.upper) before.counted, part.reads.upper, ap digit_count t.upper_length, uppers);
       lower = omega (arith, ap (λ (r : ReadCounts). r.lower) before.counted, part.reads.lower);
       words = omega (arith, ap (λ (r : ReadCounts). r.words) before.counted, part.reads.words);
+      upper_kept = omega (arith, ap (λ (r : ReadCounts). r.upper) before.counted, part.reads.upper_kept);
+      lower_kept = omega (arith, ap (λ (r : ReadCounts). r.lower) before.counted, part.reads.lower_kept);
+      words_kept = omega (arith, ap (λ (r : ReadCounts). r.words) before.counted, part.reads.words_kept);
     }))

@@ -38,5 +38,8 @@ loop-preserved g c =
         upper = omega (arith, h.reads.upper, ap (λ r. r.upper) c.word-word.ensures.counted);
         lower = omega (arith, h.reads.lower, ap (λ r. r.lower) c.word-word.ensures.counted);
         words = omega (arith, h.reads.words, ap (λ r. r.words) c.word-word.ensures.counted);
+        upper_kept = omega (arith, h.reads.upper_kept, ap (λ r. r.upper) c.word-word.ensures.counted);
+        lower_kept = omega (arith, h.reads.lower_kept, ap (λ r. r.lower) c.word-word.ensures.counted);
+        words_kept = omega (arith, h.reads.words_kept, ap (λ r. r.words) c.word-word.ensures.counted);
       };
     }

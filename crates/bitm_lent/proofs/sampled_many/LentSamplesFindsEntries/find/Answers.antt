@@ -23,7 +23,10 @@ loop-k-preserved g c =
       enough = omega (arith, i.enough, length-set queries k c.begin.result);
       found = written near queries k c.begin.result inside new i.found;
       upper = omega (arith, i.upper, e.reads.upper, ap (λ (l : Lists). digit_count (length l.upper)) i.same);
+      upper_kept = omega (arith, i.upper_kept, e.reads.upper_kept);
       lower = omega (arith, i.lower, e.reads.lower);
+      lower_kept = omega (arith, i.lower_kept, e.reads.lower_kept);
       words = omega (arith, i.words, e.reads.words);
+      words_kept = omega (arith, i.words_kept, e.reads.words_kept);
       same = e.same ∙ i.same;
     }

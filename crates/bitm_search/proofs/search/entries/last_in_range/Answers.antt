@@ -112,6 +112,7 @@ loop-left-preserved g c =
       among = among g d;
       packed = packed g d;
       lower = omega (arith, i.lower, ap (λ (r : ReadCounts). r.lower) e.counted, halves_left left c.loop-left-test.true);
+      lower_kept = omega (arith, i.lower_kept, ap (λ (r : ReadCounts). r.lower) e.counted);
       upper = ap (λ (r : ReadCounts). r.upper) e.counted ∙ i.upper;
       words = ap (λ (r : ReadCounts). r.words) e.counted ∙ i.words;
       same = e.same ∙ i.same;

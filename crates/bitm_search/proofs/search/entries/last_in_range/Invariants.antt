@@ -20,6 +20,7 @@ invariant-loop-left g l =
       among : HasTables lists → IsAmong m (length lists.lower) l.part l.rank l.low l.left;
       packed : 0 < l.low → l.packed ≡ told_entry (as_bit g.row.BIT) lists (l.part * 2 ^ 21 + l.low);
       lower : (T.reads l.source).lower + digit_count (l.left - 1) ≤ (T.reads l.fn.source).lower + digit_count (l.fn.range.left - 1);
+      lower_kept : (T.reads l.fn.source).lower ≤ (T.reads l.source).lower;
       upper : (T.reads l.source).upper ≡ (T.reads l.fn.source).upper;
       words : (T.reads l.source).words ≡ (T.reads l.fn.source).words;
       same : T.lists l.source ≡ T.lists l.fn.source;

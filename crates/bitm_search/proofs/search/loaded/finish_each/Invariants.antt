@@ -12,7 +12,10 @@ invariant-loop-k g l =
       enough : length l.ranks ≤ length l.places;
       answered : (j d : ℕ) → j < l.k → SelectTold (as_bit g.row.BIT) lists (slice_index l.ranks j) (slice_index_or l.places j d);
       upper : (T.reads l.source).upper ≤ (T.reads l.fn.source).upper;
+      upper_kept : (T.reads l.fn.source).upper ≤ (T.reads l.source).upper;
       lower : (T.reads l.source).lower ≤ (T.reads l.fn.source).lower;
+      lower_kept : (T.reads l.fn.source).lower ≤ (T.reads l.source).lower;
       words : (T.reads l.source).words ≤ (T.reads l.fn.source).words + 7 * l.k;
+      words_kept : (T.reads l.fn.source).words ≤ (T.reads l.source).words;
       same : T.lists l.source ≡ lists;
     }

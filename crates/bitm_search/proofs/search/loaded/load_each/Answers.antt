@@ -33,7 +33,10 @@ loop-k-preserved g c =
       enough = omega (arith, i.enough, length-set records k c.load.result);
       loaded = written (λ j r. IsInRecord g.row.BIT lists (slice_index ranks j) r) records k c.load.result inside new i.loaded;
       upper = omega (arith, i.upper, e.reads.upper);
+      upper_kept = omega (arith, i.upper_kept, e.reads.upper_kept);
       lower = omega (arith, i.lower, e.reads.lower);
+      lower_kept = omega (arith, i.lower_kept, e.reads.lower_kept);
       words = omega (arith, i.words, e.reads.words);
+      words_kept = omega (arith, i.words_kept, e.reads.words_kept);
       same = e.same ∙ i.same;
     }

@@ -14,8 +14,11 @@ invariant-loop-from g l =
       long : length l.ranks ≡ length l.places;
       answered : (j : ℕ) → j < l.from → SelectTold (as_bit g.row.BIT) lists (slice_index l.ranks j) (slice_index l.places j);
       upper : (T.reads l.source).upper ≤ (T.reads l.fn.source).upper + l.from * (digit_count (length lists.upper) + 1);
+      upper_kept : (T.reads l.fn.source).upper ≤ (T.reads l.source).upper;
       lower : (T.reads l.source).lower ≤ (T.reads l.fn.source).lower + (g.F.FindsEntries.lowers + 1) * l.from;
+      lower_kept : (T.reads l.fn.source).lower ≤ (T.reads l.source).lower;
       words : (T.reads l.source).words ≤ (T.reads l.fn.source).words + 8 * l.from;
+      words_kept : (T.reads l.fn.source).words ≤ (T.reads l.source).words;
       same : T.lists l.source ≡ lists;
     }
 

@@ -12,8 +12,11 @@ invariant-loop-size g l =
       size : l.size ≤ 5;
       near : AreInside g.row.BIT lists l.ranks l.queries l.size;
       upper : (T.reads l.source).upper ≤ (T.reads l.fn.source).upper;
+      upper_kept : (T.reads l.fn.source).upper ≤ (T.reads l.source).upper;
       lower : (T.reads l.source).lower + l.size * n ≤ (T.reads l.fn.source).lower + 5 * n;
+      lower_kept : (T.reads l.fn.source).lower ≤ (T.reads l.source).lower;
       words : (T.reads l.source).words ≤ (T.reads l.fn.source).words;
+      words_kept : (T.reads l.fn.source).words ≤ (T.reads l.source).words;
       same : T.lists l.source ≡ lists;
     }
 

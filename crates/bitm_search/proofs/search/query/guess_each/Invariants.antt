@@ -12,7 +12,10 @@ invariant-loop-k g l =
       enough : length l.ranks ≤ length l.queries;
       near : (j : ℕ) (d : Query) → j < l.k → IsInside g.row.BIT lists (slice_index l.ranks j) (slice_index_or l.queries j d) 5;
       upper : (T.reads l.source).upper ≤ (T.reads l.fn.source).upper;
+      upper_kept : (T.reads l.fn.source).upper ≤ (T.reads l.source).upper;
       lower : (T.reads l.source).lower ≤ (T.reads l.fn.source).lower + 2 * l.k + 1;
+      lower_kept : (T.reads l.fn.source).lower ≤ (T.reads l.source).lower;
       words : (T.reads l.source).words ≤ (T.reads l.fn.source).words;
+      words_kept : (T.reads l.fn.source).words ≤ (T.reads l.source).words;
       same : T.lists l.source ≡ lists;
     }

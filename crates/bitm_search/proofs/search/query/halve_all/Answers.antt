@@ -32,11 +32,14 @@ loop-size-init g c =
                 };
           };
       upper = omega arith;
+      upper_kept = omega arith;
       lower = omega (arith, mul-le size n 21 n c.halvings-size.ensures.most (omega arith));
       few =
           λ few.
           let least : size ≤ 18 = c.halvings-size.ensures.least (omega (arith, few, c.lower_len.ensures)) in
           omega (arith, mul-le size n 18 n least (omega arith));
       words = omega arith;
+      lower_kept = omega arith;
+      words_kept = omega arith;
       same = refl;
     }

@@ -12,9 +12,12 @@ invariant-loop-size g l =
       size : l.size ≤ 21;
       searches : AreSearches g.row.BIT lists l.ranks l.queries l.size;
       upper : (T.reads l.source).upper ≤ (T.reads l.fn.source).upper;
+      upper_kept : (T.reads l.fn.source).upper ≤ (T.reads l.source).upper;
       lower : (T.reads l.source).lower + l.size * n ≤ (T.reads l.fn.source).lower + 21 * n;
+      lower_kept : (T.reads l.fn.source).lower ≤ (T.reads l.source).lower;
       few : length lists.lower ≤ 2 ^ 18 → (T.reads l.source).lower + l.size * n ≤ (T.reads l.fn.source).lower + 18 * n;
       words : (T.reads l.source).words ≤ (T.reads l.fn.source).words;
+      words_kept : (T.reads l.fn.source).words ≤ (T.reads l.source).words;
       same : T.lists l.source ≡ lists;
     }
 

@@ -37,7 +37,10 @@ loop-k-preserved g c =
       halved = written (near c.args.size) queries k c.halve.result inside new i.halved;
       left = unwritten (near (c.args.size + 1)) queries k c.halve.result inside (length ranks) i.left;
       upper = omega (arith, i.upper, e.reads.upper);
+      upper_kept = omega (arith, i.upper_kept, e.reads.upper_kept);
       lower = omega (arith, i.lower, e.reads.lower);
+      lower_kept = omega (arith, i.lower_kept, e.reads.lower_kept);
       words = omega (arith, i.words, e.reads.words);
+      words_kept = omega (arith, i.words_kept, e.reads.words_kept);
       same = e.same ∙ i.same;
     }

@@ -15,7 +15,10 @@ invariant-loop-k g l =
       left : (j : ℕ) (d : Query) → l.k ≤ j → j < length l.ranks
           → IsSearch g.row.BIT lists (slice_index l.ranks j) (slice_index_or l.queries j d) (l.size + 1);
       upper : (T.reads l.source).upper ≤ (T.reads l.fn.source).upper;
+      upper_kept : (T.reads l.fn.source).upper ≤ (T.reads l.source).upper;
       lower : (T.reads l.source).lower ≤ (T.reads l.fn.source).lower + l.k;
+      lower_kept : (T.reads l.fn.source).lower ≤ (T.reads l.source).lower;
       words : (T.reads l.source).words ≤ (T.reads l.fn.source).words;
+      words_kept : (T.reads l.fn.source).words ≤ (T.reads l.source).words;
       same : T.lists l.source ≡ lists;
     }

@@ -22,7 +22,10 @@ loop-k-preserved g c =
       enough = omega (arith, i.enough, length-set begun k c.begin.result);
       begun = written is begun k c.begin.result inside new i.begun;
       upper = omega (arith, i.upper, e.reads.upper);
+      upper_kept = omega (arith, i.upper_kept, e.reads.upper_kept);
       lower = omega (arith, i.lower, e.reads.lower);
+      lower_kept = omega (arith, i.lower_kept, e.reads.lower_kept);
       words = omega (arith, i.words, e.reads.words);
+      words_kept = omega (arith, i.words_kept, e.reads.words_kept);
       same = e.same ∙ i.same;
     }

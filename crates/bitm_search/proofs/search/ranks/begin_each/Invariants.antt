@@ -12,7 +12,10 @@ invariant-loop-k g l =
       enough : length l.indices ≤ length l.begun;
       begun : (j : ℕ) (d : Begun) → j < l.k → IsBegun lists (slice_index l.indices j) (slice_index_or l.begun j d);
       upper : (T.reads l.source).upper ≤ (T.reads l.fn.source).upper;
+      upper_kept : (T.reads l.fn.source).upper ≤ (T.reads l.source).upper;
       lower : (T.reads l.source).lower ≤ (T.reads l.fn.source).lower + l.k;
+      lower_kept : (T.reads l.fn.source).lower ≤ (T.reads l.source).lower;
       words : (T.reads l.source).words ≤ (T.reads l.fn.source).words + 2 * l.k;
+      words_kept : (T.reads l.fn.source).words ≤ (T.reads l.source).words;
       same : T.lists l.source ≡ lists;
     }

@@ -30,7 +30,10 @@ loop-k-preserved g c =
       enough = omega (arith, i.enough, length-set ranks k c.tell_begun.result);
       answered = written (λ j n. RankTold (as_bit g.row.BIT) lists (slice_index indices j) n) ranks k c.tell_begun.result inside new i.answered;
       upper = omega (arith, i.upper, e.reads.upper);
+      upper_kept = omega (arith, i.upper_kept, e.reads.upper_kept);
       lower = omega (arith, i.lower, e.reads.lower);
+      lower_kept = omega (arith, i.lower_kept, e.reads.lower_kept);
       words = omega (arith, i.words, e.reads.words);
+      words_kept = omega (arith, i.words_kept, e.reads.words_kept);
       same = e.same ∙ i.same;
     }

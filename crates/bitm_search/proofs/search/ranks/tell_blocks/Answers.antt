@@ -31,7 +31,10 @@ loop-from-preserved g c =
           RankTold (as_bit g.row.BIT) l (slice_index (take (from + n - from) (drop from indices)) j) (slice_index new j))
           i.same (e.told j (omega (arith, h, long))));
       upper = omega (arith, i.upper, e.reads.upper, long);
+      upper_kept = omega (arith, i.upper_kept, e.reads.upper_kept);
       lower = omega (arith, i.lower, e.reads.lower, long);
+      lower_kept = omega (arith, i.lower_kept, e.reads.lower_kept);
       words = omega (arith, i.words, e.reads.words, long);
+      words_kept = omega (arith, i.words_kept, e.reads.words_kept);
       same = e.same ∙ i.same;
     }

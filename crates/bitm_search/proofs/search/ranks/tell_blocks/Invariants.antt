@@ -14,8 +14,11 @@ invariant-loop-from g l =
       room : length l.begun ≡ 32;
       answered : (j : ℕ) → j < l.from → RankTold (as_bit g.row.BIT) lists (slice_index l.indices j) (slice_index l.ranks j);
       upper : (T.reads l.source).upper ≤ (T.reads l.fn.source).upper + l.from;
+      upper_kept : (T.reads l.fn.source).upper ≤ (T.reads l.source).upper;
       lower : (T.reads l.source).lower ≤ (T.reads l.fn.source).lower + l.from;
+      lower_kept : (T.reads l.fn.source).lower ≤ (T.reads l.source).lower;
       words : (T.reads l.source).words ≤ (T.reads l.fn.source).words + 8 * l.from;
+      words_kept : (T.reads l.fn.source).words ≤ (T.reads l.source).words;
       same : T.lists l.source ≡ lists;
     }
 

@@ -22,7 +22,10 @@ loop-k-preserved g c =
       long = omega (arith, i.long, length-set ranks k c.tell_rank.result);
       answered = written (λ j n. RankTold (as_bit g.row.BIT) lists (slice_index indices j) n) ranks k c.tell_rank.result inside new i.answered;
       upper = omega (arith, i.upper, e.reads.at_most.upper);
+      upper_kept = omega (arith, i.upper_kept, e.reads.at_most.upper_kept);
       lower = omega (arith, i.lower, e.reads.at_most.lower);
+      lower_kept = omega (arith, i.lower_kept, e.reads.at_most.lower_kept);
       words = omega (arith, i.words, e.reads.at_most.words);
+      words_kept = omega (arith, i.words_kept, e.reads.at_most.words_kept);
       same = e.reads.same ∙ i.same;
     }

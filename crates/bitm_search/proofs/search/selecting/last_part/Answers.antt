@@ -23,6 +23,7 @@ loop-left-init g c =
       bound = omega (arith, c.upper_len-left.ensures);
       search = λ _. subst (Between count n c.args.rank 0) (sym c.upper_len-left.ensures) begins;
       upper = omega (arith, digit_count-mono (c.upper_len-left.result - 1) n (omega (arith, c.upper_len-left.ensures)));
+      upper_kept = omega arith;
       lower = refl {A = ℕ};
       words = refl {A = ℕ};
       same = refl {A = Lists};
@@ -66,6 +67,7 @@ loop-left-preserved g c =
       bound = bound;
       search = search;
       upper = omega (arith, i.upper, ap (λ (r : ReadCounts). r.upper) e.counted, halves_left left c.loop-left-test.true);
+      upper_kept = omega (arith, i.upper_kept, ap (λ (r : ReadCounts). r.upper) e.counted);
       lower = ap (λ (r : ReadCounts). r.lower) e.counted ∙ i.lower;
       words = ap (λ (r : ReadCounts). r.words) e.counted ∙ i.words;
       same = e.same ∙ i.same;

@@ -17,6 +17,7 @@ invariant-loop-left g l =
       search :
           IsIndexed lists → Between (λ k. ones_before (sought_in g.row.BIT lists.words) (k * 2 ^ 32)) (length lists.upper) l.rank l.low l.left;
       upper : (T.reads l.source).upper + digit_count (l.left - 1) ≤ (T.reads l.fn.source).upper + digits;
+      upper_kept : (T.reads l.fn.source).upper ≤ (T.reads l.source).upper;
       lower : (T.reads l.source).lower ≡ (T.reads l.fn.source).lower;
       words : (T.reads l.source).words ≡ (T.reads l.fn.source).words;
       same : T.lists l.source ≡ T.lists l.fn.source;
