@@ -51,6 +51,11 @@ looked fall b level begin [] = 0
 looked fall b level begin (words ∷ sizes) =
     if item b (begin + fall level words) then 1 else 1 + looked fall b (level + 1) (begin + 64 * words) sizes
 
+-- a count is no less than another, and at most so many more
+pub record IsWithin (more low count : ℕ) : Type 0 where
+  pub least : low ≤ count
+  pub most : count ≤ low + more
+
 -- the fall of hashes at levels of these sizes, where a level falls by the words before it, `by begin hash level words`
 abbrev pub fall_in : (ℕ → ℕ → ℕ → ℕ → ℕ) → List ℕ → ℕ → ℕ → ℕ → ℕ
 fall_in by sizes hash level words = by (sum (take level sizes)) hash level words

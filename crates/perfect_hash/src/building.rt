@@ -1,7 +1,7 @@
 //! Building: level after level, until no key is left.
 ghost use Rattle.std.specs.Prelude.{◌≡◌, ◌↔◌, ℕ, ◌+◌, ◌^◌, ◌<◌, ◌≤◌, [], length, map, IfOk, IfErr, IsErrOf, OnOk};
 ghost use Rattle.bitm.specs.Bits.{bits_of, IsShort};
-ghost use Rattle.perfect_hash.specs.Levels.{fall_in, AddsLevel, AreChosen, AreSized, Leave};
+ghost use Rattle.perfect_hash.specs.Levels.{fall_in, AddsLevel, AreChosen, AreSized, LeadTo, Leave};
 ghost use Rattle.perfect_hash.specs.Parts.{number_at, number_of, AreLevels, CollideBySize, CollideOfSize, IfCollide, IfCollideBy};
 ghost use Rattle.perfect_hash.specs.Perfect.{IsMinimalPerfect};
 ghost use Rattle.perfect_hash.specs.Places.{place_in, words_for};
@@ -242,8 +242,14 @@ pub fn build<K, H: KeyHash<K>>(
     ensures hasher_back { IfErr result (λ refused. refused.hasher ≡ hasher) }
     ensures too_large { IfErr result (λ refused. (refused.error ≡ BuildError.TooLarge)
         ↔ (2 ^ 50 ≤ words_for percent (length keys.now))) }
+    ensures sized { IfOk result (λ made. AreSized (words_for percent) place_in
+        (map (H.hash hasher) keys.now) made.bits 0 0 made.sizes) }
+    ensures levels { IfOk result (λ made. LeadTo place_in
+        (map (H.hash hasher) keys.now) made.bits 0 0 made.sizes []) }
     ensures collide { IfErr result (λ refused.
         IfCollide refused.error (map (H.hash hasher) keys.now)) }
+    ensures collide_sized { IfErr result (λ refused. CollideOfSize (words_for percent)
+        refused.error (map (H.hash hasher) keys.now)) }
 {
     build_by(alloc, Plain, hasher, keys, percent)
 }
@@ -269,6 +275,14 @@ pub fn build_by<K, H: KeyHash<K>, P: Placing>(
     ensures hasher_back { IfErr result (λ refused. refused.hasher ≡ hasher) }
     ensures too_large { IfErr result (λ refused. (refused.error ≡ BuildError.TooLarge)
         ↔ (2 ^ 50 ≤ words_for percent (length keys.now))) }
+    ensures sized { IfOk result (λ made. AreSized (words_for percent)
+        (fall_in (P.fall made.placing) made.sizes)
+        (map (H.hash hasher) keys.now) made.bits 0 0 made.sizes) }
+    ensures levels { IfOk result (λ made. LeadTo (fall_in (P.fall made.placing) made.sizes)
+        (map (H.hash hasher) keys.now) made.bits 0 0 made.sizes []) }
+    ensures chosen { IfOk result (λ made. AreChosen P.chooses
+        (fall_in (P.fall made.placing) made.sizes)
+        (map (H.hash hasher) keys.now) made.bits 0 0 0 made.sizes placing made.placing) }
     ensures collide { IfErr result (λ refused.
         IfCollideBy P.fall refused.error (map (H.hash hasher) keys.now)) }
     ensures collide_sized { IfErr result (λ refused. CollideBySize (words_for percent) P.fall

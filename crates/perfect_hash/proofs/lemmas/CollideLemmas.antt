@@ -129,8 +129,8 @@ error_by_hash P taken (KeysCollide count) hashes (p, sizes, c, same, sized) =
 error_by_hash P taken TooLarge hashes h = tt
 error_by_hash P taken OutOfMemory hashes h = tt
 
-pub collides_by_hash : {A : Type 0} (P : Type 0) (taken : ℕ → ℕ) (result : Result A BuildError) (hashes : List ℕ)
-    → IfErr result (λ error. CollideBySize {P = P} taken (λ _ _. place_in) error hashes)
-    → IfErr result (λ error. CollideOfSize taken error hashes)
-collides_by_hash P taken (Ok made) hashes h = tt
-collides_by_hash P taken (Err error) hashes h = error_by_hash P taken error hashes h
+pub collides_by_hash : {A E : Type 0} (P : Type 0) (error_of : E → BuildError) (taken : ℕ → ℕ) (result : Result A E) (hashes : List ℕ)
+    → IfErr result (λ e. CollideBySize {P = P} taken (λ _ _. place_in) (error_of e) hashes)
+    → IfErr result (λ e. CollideOfSize taken (error_of e) hashes)
+collides_by_hash P error_of taken (Ok made) hashes h = tt
+collides_by_hash P error_of taken (Err e) hashes h = error_by_hash P taken (error_of e) hashes h
