@@ -14,4 +14,5 @@ pub mod NumberLemmas
 pub mod PerfectLemmas
 pub mod PlaceLemmas
 pub mod PlacingLemmas
+pub mod SortLemmas
 pub mod WordLemmas

@@ -37,11 +37,24 @@ AreSized taken fall keys b level begin (words ∷ sizes) =
     (words ≡ taken (length keys))
     × AreSized taken fall (left_of fall keys b level begin words) b (level + 1) (begin + 64 * words) sizes
 
+-- levels of these sizes are chosen one after another, each for the hashes that are left before it, by which p becomes q;
+-- the first begins at word `first`, which is bit `begin`
+abbrev pub AreChosen : {P : Type 0} → (P → P → ℕ → List ℕ → ℕ → ℕ → Type 0) → (ℕ → ℕ → ℕ → ℕ) → List ℕ → List Bool → ℕ → ℕ → ℕ → List ℕ → P → P → Type 0
+AreChosen chooses fall hashes b level first begin [] p q = p ≡ q
+AreChosen {P} chooses fall hashes b level first begin (words ∷ sizes) p q =
+    (r : P) × chooses p r first hashes level words
+    × AreChosen chooses fall (left_of fall hashes b level begin words) b (level + 1) (first + words) (begin + 64 * words) sizes r q
+
 -- at how many levels a key is looked for: up to the first where it falls on a one, or at all
 abbrev pub looked : (ℕ → ℕ → ℕ) → List Bool → ℕ → ℕ → List ℕ → ℕ
 looked fall b level begin [] = 0
 looked fall b level begin (words ∷ sizes) =
     if item b (begin + fall level words) then 1 else 1 + looked fall b (level + 1) (begin + 64 * words) sizes
+
+-- a count is no less than another, and at most so many more
+pub record IsWithin (more low count : ℕ) : Type 0 where
+  pub least : low ≤ count
+  pub most : count ≤ low + more
 
 -- the fall of hashes at levels of these sizes, where a level falls by the words before it, `by begin hash level words`
 abbrev pub fall_in : (ℕ → ℕ → ℕ → ℕ → ℕ) → List ℕ → ℕ → ℕ → ℕ → ℕ

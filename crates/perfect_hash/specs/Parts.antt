@@ -69,6 +69,13 @@ CollideBySize {P} taken by (KeysCollide count) hashes =
 CollideBySize taken by TooLarge hashes = ⊤
 CollideBySize taken by OutOfMemory hashes = ⊤
 
+-- the same where hashes alone say where they fall
+abbrev pub CollideOfSize : (ℕ → ℕ) → BuildError → List ℕ → Type 0
+CollideOfSize taken (KeysCollide count) hashes =
+    (c : Collide place_in hashes count) × AreSized taken place_in hashes (bits_of c.words) 0 0 c.sizes
+CollideOfSize taken TooLarge hashes = ⊤
+CollideOfSize taken OutOfMemory hashes = ⊤
+
 -- levels of these sizes and words number the keys, each by a number of its own below their count
 pub record AreLevels {K : Type 0} (fall : ℕ → ℕ → ℕ → ℕ) (hash : K → ℕ) (keys : List K) (sizes words : List ℕ) : Type 0 where
   pub perfect : IsMinimalPerfect (λ k. number_in fall sizes (bits_of words) (hash k)) keys

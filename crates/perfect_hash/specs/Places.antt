@@ -20,6 +20,10 @@ place_in hash level words = spread hash level % 2 ^ 64 * (64 * words) / 2 ^ 64
 unfoldable pub bit_by : ℕ → ℕ → ℕ
 bit_by seed x = folded 32 0xBF58476D1CE4E5B9 ((x + seed * 0x9E3779B97F4A7C15 % 2 ^ 64) % 2 ^ 64) / 2 ^ 58
 
+-- the word of a level of so many words that a hash falls in
+abbrev pub word_of : ℕ → ℕ → ℕ → ℕ
+word_of level words hash = spread hash level % 2 ^ 64 * words / 2 ^ 64
+
 -- what chooses the bit of a word by its seed, and of how many seeds it tries
 pub record Seeds : Type 0 where
   pub seeds : List ℕ

@@ -1,18 +1,36 @@
 //! The number of a hash over any source of words and tables, and over what may hold anything.
 ghost use Rattle.std.specs.Prelude.{◌≡◌, ◌+◌, ◌*◌, ◌<◌, ◌≤◌, length, true, None, MatchOption};
 ghost use Rattle.bitm.specs.Answers.{HasBit};
-ghost use Rattle.bitm.specs.Bits.{IsShort};
+ghost use Rattle.bitm.specs.Bits.{item, IsShort};
 ghost use Rattle.bitm.specs.Count.{ones_of, IsRank};
-ghost use Rattle.bitm.specs.Reads.{OnlyReads, ReadsAtMost};
+ghost use Rattle.bitm.specs.Reads.{word_read, OnlyReads, ReadsAtMost};
 ghost use Rattle.bitm.specs.Tables.{bits_in, HasSizes, HasTables, IsIndexed};
 ghost use Rattle.perfect_hash.specs.Asking.{IfAbsent, IsBelow, IsNumbered};
-ghost use Rattle.perfect_hash.specs.Levels.{fall_in, looked, place_from};
+ghost use Rattle.perfect_hash.specs.Levels.{fall_in, looked, place_from, IsWithin};
 ghost use Rattle.perfect_hash.specs.Parts.{number_by, number_in, AreSizes};
+ghost use Rattle.perfect_hash.specs.Places.{place_in};
 ghost use Rattle.perfect_hash.specs.Placed.{FitIn, IsPlaced, WhereAbsent, WhereWrong};
 
 use crate::placing::{Placing, Plain, no_reads};
-use bitm::{ReadCounts, Selected, TableSource, bit_on, rank_on, total_rank_on};
+use bitm::{ReadCounts, Selected, TableSource, rank_on, total_rank_on, words};
 use bitm_lent::Ranked;
+
+/// Whether the bit at `place` of the source's words is a one.
+///
+/// # Conditions
+/// There is such a bit.
+/// # Cost
+/// One word is read.
+#[inline(always)]
+#[tactic(auto, using(bitm::proofs::BitLaws::bits_are_counted))]
+fn is_one_on<T: TableSource>(source: &mut T, place: usize) -> bool
+    requires { place < length (bits_in (T.lists source.old)) }
+    ensures bit { result ≡ item (bits_in (T.lists source.old)) place }
+    ensures counted { T.reads source.new ≡ word_read (T.reads source.old) }
+    ensures same { T.lists source.new ≡ T.lists source.old }
+{
+    words::get_bit(&[source.word(place / 64)], place % 64)
+}
 
 /// The place of the one that a hash falls on, in the first of the levels where it falls on one; `WrongTables` where the
 /// sizes turn out not to be those of levels.
@@ -36,6 +54,9 @@ fn place_on<T: TableSource, P: Placing>(
     ensures wrong { WhereWrong result
         (FitIn (length (T.lists source.old).words) sizes.now → ⊥) }
     ensures reads { OnlyReads T.lists T.reads source.old source.new 0 0 (length sizes.now) }
+    ensures looked { let b = bits_in (T.lists source.old) in AreSizes sizes.now b
+        → (T.reads source.new).words ≡ (T.reads source.old).words
+        + looked (fall_in (P.fall placing.now) sizes.now hash) b 0 0 sizes.now }
     ensures seeds { ReadsAtMost reads.old reads.new 0 0 (length sizes.now) }
     ensures counted { let b = bits_in (T.lists source.old) in AreSizes sizes.now b
         → reads.new.words ≡ reads.old.words
@@ -47,7 +68,7 @@ fn place_on<T: TableSource, P: Placing>(
             return Selected::WrongTables;
         }
         let place = 64 * begin + placing.place(begin, hash, level as u32, *size, &mut *reads);
-        if let Some(true) = bit_on(source, place) {
+        if is_one_on(source, place) {
             return Selected::Found(place);
         }
         begin += *size;
@@ -96,13 +117,17 @@ pub fn total_number_on<T: TableSource>(
 /// # Conditions
 /// The source's tables are those of its words, which are those of levels of these sizes.
 /// # Cost
-/// At most one word a level is read, and what `rank_on` reads: one upper entry, one lower entry and eight words.
+/// One word is read of each level up to the one where the hash falls on a one, and what `rank_on` reads: at most one
+/// upper entry, one lower entry and eight words.
 #[inline]
 pub fn number_on<T: TableSource>(source: &mut T, sizes: &[usize], hash: u64) -> Option<usize>
     requires indexed { IsIndexed (T.lists source.old) }
     requires sizes { AreSizes sizes.now (bits_in (T.lists source.old)) }
     ensures value { result ≡ number_by sizes.now (bits_in (T.lists source.old)) hash }
     ensures reads { OnlyReads T.lists T.reads source.old source.new 1 1 (length sizes.now + 8) }
+    ensures looked { let b = bits_in (T.lists source.old) in
+        IsWithin 8 ((T.reads source.old).words + looked (place_in hash) b 0 0 sizes.now)
+        (T.reads source.new).words }
 {
     number_by_on(source, &Plain, sizes, hash, &mut no_reads())
 }
@@ -121,6 +146,10 @@ pub(crate) fn number_by_on<T: TableSource, P: Placing>(
     ensures value { result ≡ number_in (fall_in (P.fall placing.now) sizes.now) sizes.now
         (bits_in (T.lists source.old)) hash }
     ensures reads { OnlyReads T.lists T.reads source.old source.new 1 1 (length sizes.now + 8) }
+    ensures looked { let b = bits_in (T.lists source.old) in
+        IsWithin 8 ((T.reads source.old).words
+        + looked (fall_in (P.fall placing.now) sizes.now hash) b 0 0 sizes.now)
+        (T.reads source.new).words }
     ensures seeds { ReadsAtMost reads.old reads.new 0 0 (length sizes.now) }
     ensures counted { let b = bits_in (T.lists source.old) in
         reads.new.words ≡ reads.old.words

@@ -1,8 +1,8 @@
 //! Building: level after level, until no key is left.
 ghost use Rattle.std.specs.Prelude.{◌≡◌, ◌↔◌, ℕ, ◌+◌, ◌^◌, ◌<◌, ◌≤◌, [], length, map, IfOk, IfErr, IsErrOf, OnOk};
 ghost use Rattle.bitm.specs.Bits.{bits_of, IsShort};
-ghost use Rattle.perfect_hash.specs.Levels.{fall_in, AddsLevel, AreSized, Leave};
-ghost use Rattle.perfect_hash.specs.Parts.{number_at, number_of, AreLevels, CollideBySize, IfCollide, IfCollideBy};
+ghost use Rattle.perfect_hash.specs.Levels.{fall_in, AddsLevel, AreChosen, AreSized, LeadTo, Leave};
+ghost use Rattle.perfect_hash.specs.Parts.{number_at, number_of, AreLevels, CollideBySize, CollideOfSize, IfCollide, IfCollideBy};
 ghost use Rattle.perfect_hash.specs.Perfect.{IsMinimalPerfect};
 ghost use Rattle.perfect_hash.specs.Places.{place_in, words_for};
 
@@ -68,6 +68,8 @@ fn add_level<P: Placing>(
         → begin + words ≤ length levels.old.words.items
         → P.fall levels.new.placing begin hash number words
         ≡ P.fall levels.old.placing begin hash number words) }
+    ensures chosen { OnOk result (P.chooses levels.old.placing levels.new.placing
+        (length levels.old.words.items) hashes.old.items level size) }
 {
     let begin = levels.words.len();
     levels
@@ -107,6 +109,9 @@ fn make_levels<P: Placing>(
     ensures sized { IfOk result (λ levels. AreSized (words_for percent)
         (fall_in (P.fall levels.placing) levels.sizes.items)
         hashes.items (bits_of levels.words.items) 0 0 levels.sizes.items) }
+    ensures chosen { IfOk result (λ levels. AreChosen P.chooses
+        (fall_in (P.fall levels.placing) levels.sizes.items)
+        hashes.items (bits_of levels.words.items) 0 0 0 levels.sizes.items placing levels.placing) }
     ensures collide { IfErr result (λ error. IfCollideBy P.fall error hashes.items) }
     ensures collide_sized { IfErr result (λ error.
         CollideBySize (words_for percent) P.fall error hashes.items) }
@@ -159,6 +164,10 @@ impl Levels {
             IfCollide error (map (H.hash hasher.now) keys.now)) }
         ensures sized { IfOk result (λ levels. AreSized (words_for percent) place_in
             (map (H.hash hasher.now) keys.now) (bits_of levels.words.items) 0 0 levels.sizes.items) }
+        ensures leave { IfOk result (λ levels. Leave place_in
+            (map (H.hash hasher.now) keys.now) levels.sizes.items levels.words.items []) }
+        ensures collide_sized { IfErr result (λ error. CollideOfSize (words_for percent)
+            error (map (H.hash hasher.now) keys.now)) }
     {
         Levels::build_by(alloc, Plain, hasher, keys, percent)
     }
@@ -190,6 +199,13 @@ impl<P: Placing> Levels<P> {
         ensures sized { IfOk result (λ levels. AreSized (words_for percent)
             (fall_in (P.fall levels.placing) levels.sizes.items)
             (map (H.hash hasher.now) keys.now) (bits_of levels.words.items) 0 0 levels.sizes.items) }
+        ensures leave { IfOk result (λ levels. Leave
+            (fall_in (P.fall levels.placing) levels.sizes.items)
+            (map (H.hash hasher.now) keys.now) levels.sizes.items levels.words.items []) }
+        ensures chosen { IfOk result (λ levels. AreChosen P.chooses
+            (fall_in (P.fall levels.placing) levels.sizes.items)
+            (map (H.hash hasher.now) keys.now) (bits_of levels.words.items) 0 0 0
+            levels.sizes.items placing levels.placing) }
         ensures collide_sized { IfErr result (λ error. CollideBySize (words_for percent) P.fall
             error (map (H.hash hasher.now) keys.now)) }
     {
@@ -226,8 +242,14 @@ pub fn build<K, H: KeyHash<K>>(
     ensures hasher_back { IfErr result (λ refused. refused.hasher ≡ hasher) }
     ensures too_large { IfErr result (λ refused. (refused.error ≡ BuildError.TooLarge)
         ↔ (2 ^ 50 ≤ words_for percent (length keys.now))) }
+    ensures sized { IfOk result (λ made. AreSized (words_for percent) place_in
+        (map (H.hash hasher) keys.now) made.bits 0 0 made.sizes) }
+    ensures levels { IfOk result (λ made. LeadTo place_in
+        (map (H.hash hasher) keys.now) made.bits 0 0 made.sizes []) }
     ensures collide { IfErr result (λ refused.
         IfCollide refused.error (map (H.hash hasher) keys.now)) }
+    ensures collide_sized { IfErr result (λ refused. CollideOfSize (words_for percent)
+        refused.error (map (H.hash hasher) keys.now)) }
 {
     build_by(alloc, Plain, hasher, keys, percent)
 }
@@ -253,6 +275,14 @@ pub fn build_by<K, H: KeyHash<K>, P: Placing>(
     ensures hasher_back { IfErr result (λ refused. refused.hasher ≡ hasher) }
     ensures too_large { IfErr result (λ refused. (refused.error ≡ BuildError.TooLarge)
         ↔ (2 ^ 50 ≤ words_for percent (length keys.now))) }
+    ensures sized { IfOk result (λ made. AreSized (words_for percent)
+        (fall_in (P.fall made.placing) made.sizes)
+        (map (H.hash hasher) keys.now) made.bits 0 0 made.sizes) }
+    ensures levels { IfOk result (λ made. LeadTo (fall_in (P.fall made.placing) made.sizes)
+        (map (H.hash hasher) keys.now) made.bits 0 0 made.sizes []) }
+    ensures chosen { IfOk result (λ made. AreChosen P.chooses
+        (fall_in (P.fall made.placing) made.sizes)
+        (map (H.hash hasher) keys.now) made.bits 0 0 0 made.sizes placing made.placing) }
     ensures collide { IfErr result (λ refused.
         IfCollideBy P.fall refused.error (map (H.hash hasher) keys.now)) }
     ensures collide_sized { IfErr result (λ refused. CollideBySize (words_for percent) P.fall

@@ -1,5 +1,5 @@
 //! What places hashes in levels: their digits alone, or with a seed for each word.
-ghost use Rattle.std.specs.Prelude.{◌≡◌, ◌+◌, ◌*◌, ◌^◌, ◌<◌, ◌≤◌, ℕ, IfOk};
+ghost use Rattle.std.specs.Prelude.{◌≡◌, ◌+◌, ◌*◌, ◌^◌, ◌<◌, ◌≤◌, ℕ, List, IfOk, OnOk};
 ghost use Rattle.bitm.specs.Reads.{none_read, ReadsAtMost};
 ghost use Rattle.perfect_hash.specs.Places.{place_in};
 ghost use Rattle.perfect_hash.specs.Inside.{falls_inside};
@@ -18,6 +18,10 @@ pub trait Placing: Drop {
 
     /// How many seeds are read to place a hash in a level.
     ghost seeds_each: { ℕ };
+
+    /// How a level is chosen that is added after so many words, for the hashes that are left: `chooses old new begin
+    /// hashes level words`, of this value as it was and as it is then.
+    ghost chooses: { Self → Self → ℕ → List ℕ → ℕ → ℕ → Type 0 };
 
     /// The bit that a hash falls on, of a level that has `begin` words before it, a number, and so many words.
     ///
@@ -58,7 +62,8 @@ pub trait Placing: Drop {
         requires some { 0 < words }
         requires short { begin + words < 2 ^ 58 }
         ensures kept { (first hash number size : ℕ) → 0 < size → first + size ≤ begin
-            → fall self.new first hash number size ≡ fall self.old first hash number size };
+            → fall self.new first hash number size ≡ fall self.old first hash number size }
+        ensures chosen { OnOk result (chooses self.old self.new begin hashes.now level words) };
 
     /// The same again.
     ///
@@ -88,6 +93,8 @@ impl Placing for Plain {
     ghost fall = { λ _ _. place_in };
 
     ghost seeds_each = { 0 };
+
+    ghost chooses = { λ old new _ _ _ _. new ≡ old };
 
     #[inline(always)]
     fn place(

@@ -4,6 +4,8 @@ ghost use Rattle.bitm.specs.Bits.{bits_of};
 ghost use Rattle.bitm.specs.Count.{ones_of};
 ghost use Rattle.bitm.specs.Size.{saturated_size};
 ghost use Rattle.bitm.specs.Reads.{none_read, ReadsAtMost};
+ghost use Rattle.perfect_hash.specs.Levels.{IsWithin};
+ghost use Rattle.perfect_hash.specs.Places.{place_in};
 ghost use Rattle.perfect_hash.specs.Parts.{levels_looked, number_at, number_from, number_of, AreSizes};
 
 use crate::asking::number_by_on;
@@ -180,13 +182,16 @@ impl<H, S: SelectForRank101111, S0: Select0ForRank101111, BV: AsSlice<u64>> Perf
     H,
     RankSelect101111<S, S0, BV>,
 > {
-    /// What `get` answers, and what was read for it: at most one word a level, and one rank.
+    /// What `get` answers, and what was read for it: one word of each level up to the one where the key falls on a one,
+    /// and one rank.
     #[inline]
     pub fn get_counted<K>(&self, key: &K) -> (Option<usize>, ReadCounts)
     where
         H: KeyHash<K>,
         ensures value { result.0 ≡ number_of H.hash self.now key.now }
         ensures reads { ReadsAtMost none_read result.1 1 1 (length self.now.sizes + 8) }
+        ensures looked { IsWithin 8 (levels_looked (λ _ _. place_in) H.hash self.now key.now)
+            result.1.words }
     {
         let mut probe = self.index.probe();
         let hash = self.hash(key);
@@ -201,14 +206,15 @@ impl<H, S: SelectForRank101111, S0: Select0ForRank101111, BV: AsSlice<u64>, P: P
     RankSelect101111<S, S0, BV>,
     P,
 > {
-    /// What `get` answers, and what was read for it: of the index at most one word a level, and one rank; of what places
-    /// hashes at most one seed a level, counted as words.
+    /// What `get` answers, and what was read for it: of the index one word of each level up to the one where the key
+    /// falls on a one, and one rank; of what places hashes at most one seed for each of these levels, counted as words.
     #[inline]
     pub fn get_counted_by<K>(&self, key: &K) -> (Option<usize>, ReadCounts, ReadCounts)
     where
         H: KeyHash<K>,
         ensures value { result.0 ≡ number_at P.fall H.hash self.now key.now }
         ensures reads { ReadsAtMost none_read result.1 1 1 (length self.now.sizes + 8) }
+        ensures looked { IsWithin 8 (levels_looked P.fall H.hash self.now key.now) result.1.words }
         ensures seeds { ReadsAtMost none_read result.2 0 0 (length self.now.sizes) }
         ensures counted { result.2.words ≡ P.seeds_each * levels_looked P.fall H.hash self.now key.now }
     {

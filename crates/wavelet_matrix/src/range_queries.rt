@@ -28,7 +28,7 @@ impl<S: SelectForRank101111, S0: Select0ForRank101111> WaveletMatrix<S, S0> {
     /// # Conditions
     /// The range does not end before it starts, nor past the numbers.
     /// # Cost
-    /// That of `count_less`, twice.
+    /// That of `Levels::range_count_on`.
     #[inline]
     pub fn range_count(&self, range: Range<usize>, low: u64, high: u64) -> usize
         requires order { range.start ≤ range.end }
@@ -36,11 +36,8 @@ impl<S: SelectForRank101111, S0: Select0ForRank101111> WaveletMatrix<S, S0> {
         ensures { result
             ≡ count_between (slice_range self.now.items range.start range.end) low high }
     {
-        let (start, end) = (range.start, range.end);
-        if high <= low {
-            return 0;
-        }
-        self.count_less(start..end, high) - self.count_less(start..end, low)
+        let (levels, mut probe) = self.parts();
+        levels.range_count_on(&mut probe, range.start, range.end, low, high)
     }
 
     /// The number of a range that would stand at place `k` if the range were sorted.
@@ -65,20 +62,15 @@ impl<S: SelectForRank101111, S0: Select0ForRank101111> WaveletMatrix<S, S0> {
     /// # Conditions
     /// The range does not end before it starts, nor past the numbers.
     /// # Cost
-    /// That of `count_less`, and that of `quantile`.
+    /// That of `Levels::next_value_on`.
     #[inline]
     pub fn next_value(&self, range: Range<usize>, bound: u64) -> Option<u64>
         requires order { range.start ≤ range.end }
         requires inside { range.end ≤ length self.now.items }
         ensures { IsNextItem (slice_range self.now.items range.start range.end) bound result }
     {
-        let (start, end) = (range.start, range.end);
-        let less = self.count_less(start..end, bound);
-        if less < end - start {
-            Some(self.quantile(start..end, less))
-        } else {
-            None
-        }
+        let (levels, mut probe) = self.parts();
+        levels.next_value_on(&mut probe, range.start, range.end, bound)
     }
 
     /// The greatest number of a range that is less than `bound`; `None` exactly where none is.
@@ -86,19 +78,14 @@ impl<S: SelectForRank101111, S0: Select0ForRank101111> WaveletMatrix<S, S0> {
     /// # Conditions
     /// The range does not end before it starts, nor past the numbers.
     /// # Cost
-    /// That of `count_less`, and that of `quantile`.
+    /// That of `Levels::previous_value_on`.
     #[inline]
     pub fn previous_value(&self, range: Range<usize>, bound: u64) -> Option<u64>
         requires order { range.start ≤ range.end }
         requires inside { range.end ≤ length self.now.items }
         ensures { IsPreviousItem (slice_range self.now.items range.start range.end) bound result }
     {
-        let (start, end) = (range.start, range.end);
-        let less = self.count_less(start..end, bound);
-        if less == 0 {
-            None
-        } else {
-            Some(self.quantile(start..end, less - 1))
-        }
+        let (levels, mut probe) = self.parts();
+        levels.previous_value_on(&mut probe, range.start, range.end, bound)
     }
 }

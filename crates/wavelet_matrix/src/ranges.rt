@@ -1,9 +1,9 @@
 //! What is asked of the numbers of a range, over any source: how many are less than a number, and the k-th smallest.
-ghost use Rattle.std.specs.Prelude.{◌≡◌, ◌*◌, ◌-◌, ◌<◌, ◌≤◌, true, false, take, count_by, slice_range};
+ghost use Rattle.std.specs.Prelude.{◌≡◌, ◌*◌, ◌-◌, ◌<◌, ◌≤◌, true, false, is_some, if◌then◌else◌, take, count_by, slice_range};
 ghost use Rattle.wavelet_matrix.specs.Distinct.{count_equal};
 ghost use Rattle.wavelet_matrix.specs.Levels.{has_digit, partition_place};
 ghost use Rattle.wavelet_matrix.specs.Matrix.{IsMatrix, OnlyRanks, digit_place, level_in, numbers_in};
-ghost use Rattle.wavelet_matrix.specs.Numbers.{count_less, IsSmallest};
+ghost use Rattle.wavelet_matrix.specs.Numbers.{count_between, count_less, IsNextItem, IsPreviousItem, IsSmallest};
 
 use crate::digits::{digit_of, fits};
 use crate::walk::Levels;
@@ -148,5 +148,99 @@ impl Levels {
             number = 2 * number + digit as u64;
         }
         (number, last - first)
+    }
+
+    /// How many numbers from place `start` on and before place `end` are at least `low` and less than `high`; none where
+    /// `high` is no more than `low`.
+    ///
+    /// # Conditions
+    /// The levels are those of the source, and the range does not end before it starts, nor past the numbers.
+    /// # Cost
+    /// For each digit what four ranks read; nothing is read where `high` is no more than `low`.
+    #[inline(always)]
+    pub fn range_count_on<T: TableSource>(
+        &self,
+        source: &mut T,
+        start: usize,
+        end: usize,
+        low: u64,
+        high: u64,
+    ) -> usize
+        requires matrix { IsMatrix self.now (T.lists source.old) }
+        requires order { start ≤ end }
+        requires inside { end ≤ self.now.len }
+        ensures count { result ≡ count_between
+            (slice_range (numbers_in self.now (T.lists source.old)) start end) low high }
+        ensures reads { OnlyRanks self.now T.lists T.reads source.old source.new
+            (4 * self.now.width) }
+        ensures nothing { high ≤ low → T.reads source.new ≡ T.reads source.old }
+    {
+        if high <= low {
+            return 0;
+        }
+        let less = self.count_less_on(source, start, end, high);
+        less - self.count_less_on(source, start, end, low)
+    }
+
+    /// The least number from place `start` on and before place `end` that is at least `bound`; `None` exactly where all
+    /// are less.
+    ///
+    /// # Conditions
+    /// The levels are those of the source, and the range does not end before it starts, nor past the numbers.
+    /// # Cost
+    /// For each digit what four ranks read, and what two read where there is none.
+    #[inline(always)]
+    pub fn next_value_on<T: TableSource>(
+        &self,
+        source: &mut T,
+        start: usize,
+        end: usize,
+        bound: u64,
+    ) -> Option<u64>
+        requires matrix { IsMatrix self.now (T.lists source.old) }
+        requires order { start ≤ end }
+        requires inside { end ≤ self.now.len }
+        ensures number { IsNextItem
+            (slice_range (numbers_in self.now (T.lists source.old)) start end) bound result }
+        ensures reads { OnlyRanks self.now T.lists T.reads source.old source.new
+            (if is_some result then 4 * self.now.width else 2 * self.now.width) }
+    {
+        let less = self.count_less_on(source, start, end, bound);
+        if less < end - start {
+            Some(self.quantile_on(source, start, end, less))
+        } else {
+            None
+        }
+    }
+
+    /// The greatest number from place `start` on and before place `end` that is less than `bound`; `None` exactly where
+    /// none is.
+    ///
+    /// # Conditions
+    /// The levels are those of the source, and the range does not end before it starts, nor past the numbers.
+    /// # Cost
+    /// For each digit what four ranks read, and what two read where there is none.
+    #[inline(always)]
+    pub fn previous_value_on<T: TableSource>(
+        &self,
+        source: &mut T,
+        start: usize,
+        end: usize,
+        bound: u64,
+    ) -> Option<u64>
+        requires matrix { IsMatrix self.now (T.lists source.old) }
+        requires order { start ≤ end }
+        requires inside { end ≤ self.now.len }
+        ensures number { IsPreviousItem
+            (slice_range (numbers_in self.now (T.lists source.old)) start end) bound result }
+        ensures reads { OnlyRanks self.now T.lists T.reads source.old source.new
+            (if is_some result then 4 * self.now.width else 2 * self.now.width) }
+    {
+        let less = self.count_less_on(source, start, end, bound);
+        if less == 0 {
+            None
+        } else {
+            Some(self.quantile_on(source, start, end, less - 1))
+        }
     }
 }

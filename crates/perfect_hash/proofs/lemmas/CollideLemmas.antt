@@ -1,9 +1,14 @@
 -- A key that is left after all levels fell together with another one at each.
-use Rattle.std.proofs.Common.{◌≡◌, ℕ, zero, suc, ◌+◌, ◌*◌, ◌<◌, ◌≤◌, Bool, true, false, not, cond, List, [], ◌∷◌, length, Some, refl, sym, ap, ◌∙◌, arith, eqb}
+use Rattle.std.proofs.Common.{◌≡◌, ℕ, zero, suc, ◌+◌, ◌*◌, ◌<◌, ◌≤◌, Bool, true, false, not, cond, List, [], ◌∷◌, length, Some, refl, subst, sym, ap, ◌∙◌, arith, eqb}
 use Rattle.std.proofs.lemmas.Bool.{eq-eqb, not-true, eqb-false}
 use Rattle.std.specs.List.{count_by, filter, slice_get, Contains}
 use Rattle.std.proofs.lemmas.Option.{slice_get_within, get_or_from_slice_get, slice_get-get_or}
 use Rattle.bitm.specs.Bits.{item, bits_of}
+use Rattle.std.specs.Prelude.{Result, Ok, Err, IfErr}
+use Rattle.perfect_hash.specs.Parts.{CollideBySize, CollideOfSize}
+use Rattle.perfect_hash.specs.Places.{place_in}
+use Rattle.perfect_hash.specs.declared.error.BuildError.{BuildError}
+use Rattle.perfect_hash.specs.declared.error.BuildError.TheVariants.{KeysCollide, TooLarge, OutOfMemory}
 use Rattle.perfect_hash.specs.Levels.{hits, AreSized, LeadTo, left_of, Leave, FallsTogether, Collide}
 use Rattle.perfect_hash.proofs.lemmas.CountingLemmas.{count_by-cons, counted}
 use Rattle.perfect_hash.proofs.lemmas.LevelLemmas.{FallsInside}
@@ -114,3 +119,18 @@ pub collide_sized : {K : Type 0} (taken : ℕ → ℕ) (fall : K → ℕ → ℕ
 unfolding collide
 collide_sized taken fall falls keys sizes words left count h levels some_left some sized =
     (collide fall falls keys sizes words left count h levels some_left some, refl, sized)
+
+-- where hashes alone say where they fall, nothing else does
+error_by_hash : (P : Type 0) (taken : ℕ → ℕ) (error : BuildError) (hashes : List ℕ) → CollideBySize {P = P} taken (λ _ _. place_in) error hashes
+    → CollideOfSize taken error hashes
+error_by_hash P taken (KeysCollide count) hashes (p, sizes, c, same, sized) =
+    let S : List ℕ → Type 0 = λ s. AreSized taken place_in hashes (bits_of c.words) 0 0 s in
+    (c, subst S (sym same) sized)
+error_by_hash P taken TooLarge hashes h = tt
+error_by_hash P taken OutOfMemory hashes h = tt
+
+pub collides_by_hash : {A E : Type 0} (P : Type 0) (error_of : E → BuildError) (taken : ℕ → ℕ) (result : Result A E) (hashes : List ℕ)
+    → IfErr result (λ e. CollideBySize {P = P} taken (λ _ _. place_in) (error_of e) hashes)
+    → IfErr result (λ e. CollideOfSize taken (error_of e) hashes)
+collides_by_hash P error_of taken (Ok made) hashes h = tt
+collides_by_hash P error_of taken (Err e) hashes h = error_by_hash P taken (error_of e) hashes h

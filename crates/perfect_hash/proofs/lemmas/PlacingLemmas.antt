@@ -1,12 +1,12 @@
 -- Levels of which each falls by the words before it, and one more of them.
-use Rattle.std.proofs.Common.{◌≡◌, ℕ, suc, ◌+◌, ◌*◌, ◌<◌, ◌≤◌, Bool, not, eqb, List, [], ◌∷◌, ◌++◌, length, take, slice_index, sym, ap, ◌∙◌, subst, arith}
+use Rattle.std.proofs.Common.{◌≡◌, ℕ, suc, ◌+◌, ◌*◌, ◌<◌, ◌≤◌, Bool, not, eqb, List, [], ◌∷◌, ◌++◌, length, take, slice_index, refl, sym, ap, ◌∙◌, subst, arith}
 use Rattle.std.proofs.Math.Seq.{take-append_seam}
 use Rattle.std.proofs.lemmas.List.{take-append-le}
 use Rattle.std.proofs.lemmas.List.Elements.{filter_agree}
 use Rattle.std.proofs.lemmas.List.Sums.{sum_by_more_le}
 use Rattle.std.specs.List.{sum}
 use Rattle.bitm.specs.Bits.{bits_of, item}
-use Rattle.perfect_hash.specs.Levels.{fall_in, AreSized, IsLevel, LeadTo, left_of, AddsLevel, Leave}
+use Rattle.perfect_hash.specs.Levels.{fall_in, AreChosen, AreSized, IsLevel, LeadTo, left_of, AddsLevel, Leave}
 use Rattle.perfect_hash.proofs.lemmas.BuildLemmas.{Leave-more, left_of-same}
 use Rattle.perfect_hash.proofs.lemmas.CountingLemmas.{count_by-agree}
 use Rattle.perfect_hash.proofs.lemmas.LevelLemmas.{FallsInside}
@@ -67,6 +67,46 @@ sized-more {K} taken fall other falls keys left b c level begin (w ∷ sizes) si
           (λ p less. kept p (omega (arith, less, sum-first w sizes))) lead.2 sized.1 is),
     )
 
+-- one more level that is chosen after others
+chosen-more : {P : Type 0} (chooses : P → P → ℕ → List ℕ → ℕ → ℕ → Type 0) (fall other : ℕ → ℕ → ℕ → ℕ) (falls : FallsInside other) (keys left : List ℕ) (b c : List Bool)
+    (level first begin : ℕ) (sizes : List ℕ) (size at next : ℕ) (p q r : P)
+    → ((k : ℕ) (i : ℕ) → i < length sizes → fall k (level + i) (slice_index sizes i) ≡ other k (level + i) (slice_index sizes i))
+    → ((i : ℕ) → i < begin + 64 * sum sizes → item b i ≡ item c i)
+    → LeadTo fall keys b level begin sizes left → AreChosen chooses fall keys b level first begin sizes p q
+    → at ≡ first + sum sizes → next ≡ level + length sizes → chooses q r at left next size
+    → AreChosen chooses other keys c level first begin (sizes ++ size ∷ []) p r
+chosen-more {P} chooses fall other falls keys left b c level first begin [] size at next p q r alike kept lead chosen at_is next_is choice =
+    let at_first : at ≡ first = omega (arith, at_is) in
+    let at_level : next ≡ level = omega (arith, next_is) in
+    let A : P → Type 0 = λ s. chooses s r first keys level size in
+    let B : List ℕ → Type 0 = λ xs. chooses q r first xs level size in
+    let C : ℕ → Type 0 = λ n. chooses q r n left level size in
+    let D : ℕ → Type 0 = λ n. chooses q r at left n size in
+    (r, subst A (sym chosen) (subst B (sym lead) (subst C at_first (subst D at_level choice))), refl)
+chosen-more {P} chooses fall other falls keys left b c level first begin (w ∷ sizes) size at next p q r alike kept lead chosen at_is next_is choice =
+    let here : (k : ℕ) → fall k level w ≡ other k level w =
+    λ k.
+    let Q : ℕ → Type 0 = λ l. fall k l w ≡ other k l w in
+    let e : level + 0 ≡ level = omega arith in
+    subst Q e (alike k 0 (omega arith)) in
+    let moved : left_of fall keys b level begin w ≡ left_of other keys b level begin w =
+    filter_agree (λ k. not (item b (begin + fall k level w))) (λ k. not (item b (begin + other k level w)))
+    (λ k. ap (λ (n : ℕ). not (item b (begin + n))) (here k)) keys in
+    let grown : left_of other keys b level begin w ≡ left_of other keys c level begin w =
+    left_of-same other falls keys b c level begin begin w lead.0 (λ i less. kept (begin + i) (omega (arith, less, sum-first w sizes))) in
+    let S : List ℕ → Type 0 = λ xs. AreChosen chooses other xs c (level + 1) (first + w) (begin + 64 * w) (sizes ++ size ∷ []) chosen.0 r in (
+      chosen.0,
+      chosen.1,
+      subst S (moved ∙ grown)
+          (chosen-more chooses fall other falls (left_of fall keys b level begin w) left b c (level + 1) (first + w) (begin + 64 * w) sizes size at next chosen.0 q r
+          (λ k i less.
+          let Q : ℕ → Type 0 = λ l. fall k l (slice_index sizes i) ≡ other k l (slice_index sizes i) in
+          let e : level + suc i ≡ level + 1 + i = omega arith in
+          subst Q e (alike k (suc i) (omega (arith, less))))
+          (λ i less. kept i (omega (arith, less, sum-first w sizes))) lead.2 chosen.2
+          (omega (arith, at_is, sum-first w sizes)) (omega (arith, next_is)) choice),
+    )
+
 -- one more level, by which hashes fall in those before it as they did
 module _ (by by' : ℕ → ℕ → ℕ → ℕ → ℕ) (falls : (begin hash level words : ℕ) → 0 < words → by' begin hash level words < 64 * words)
     (keys left after sizes words new_sizes new_words : List ℕ)
@@ -124,3 +164,15 @@ module _ (by by' : ℕ → ℕ → ℕ → ℕ → ℕ) (falls : (begin hash lev
       (sized-more taken (fall_in by sizes) (fall_in by' new_sizes) (λ hash level w some. falls (sum (take level new_sizes)) hash level w some)
       keys left (bits_of words) (bits_of new_words) 0 0 sizes adds.size old_alike
       (λ p less. sym (adds.kept p (omega (arith, less, h.all)))) h.lead sized is)
+
+  -- and it is chosen for them
+  pub AreChosen-next : {P : Type 0} (chooses : P → P → ℕ → List ℕ → ℕ → ℕ → Type 0) (p q r : P) (level : ℕ)
+      → AreChosen chooses (fall_in by sizes) keys (bits_of words) 0 0 0 sizes p q → length sizes ≡ level → chooses q r (length words) left level adds.size
+      → AreChosen chooses (fall_in by' new_sizes) keys (bits_of new_words) 0 0 0 new_sizes p r
+  AreChosen-next chooses p q r level chosen count choice =
+      let S : List ℕ → Type 0 = λ s. AreChosen chooses (fall_in by' new_sizes) keys (bits_of new_words) 0 0 0 s p r in
+      subst S (sym adds.sizes_are)
+      (chosen-more chooses (fall_in by sizes) (fall_in by' new_sizes) (λ hash level w some. falls (sum (take level new_sizes)) hash level w some)
+      keys left (bits_of words) (bits_of new_words) 0 0 0 sizes adds.size (length words) level p q r old_alike
+      (λ i less. sym (adds.kept i (omega (arith, less, h.all)))) h.lead chosen
+      (omega (arith, h.all)) (omega (arith, count)) choice)

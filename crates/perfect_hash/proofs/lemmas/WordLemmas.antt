@@ -1,7 +1,8 @@
 -- Bits of words that stand one behind another.
-use Rattle.std.proofs.Common.{◌≡◌, ℕ, ◌+◌, ◌-◌, ◌*◌, ◌<◌, ◌≤◌, Bool, false, List, ◌++◌, length, take, drop, ap, ◌∙◌, rules, arith}
+use Rattle.std.proofs.Common.{◌≡◌, ℕ, ◌+◌, ◌-◌, ◌*◌, ◌/◌, ◌%◌, ◌<◌, ◌≤◌, Bool, false, List, [], ◌∷◌, ◌++◌, length, slice_index, take, drop, sym, ap, ◌∙◌, rules, arith}
 use Rattle.std.proofs.lemmas.List.{get_or_append_left, get_or-append_right, places}
-use Rattle.bitm.specs.Bits.{bits_of, item}
+use Rattle.bitm.specs.Bits.{bits_of, digit, item}
+use Rattle.bitm.proofs.Callers.{item-bits_of}
 use Rattle.bitm.proofs.BitLaws.{bits_are_counted, bits_are_joined}
 
 -- the bits before those that are added
@@ -22,3 +23,19 @@ item-added old new i =
 pub front : (n len : ℕ) (new old : List ℕ) → length new ≡ length old → length old ≡ len → n ≤ length old
     → take n (take len (new ++ drop (length new) old)) ≡ take n new
 front n len new old same long few = search (rules, places)
+
+-- and all of them
+pub whole : (len : ℕ) (new old : List ℕ) → length new ≡ length old → length old ≡ len → take len (new ++ drop (length new) old) ≡ new
+whole len new old same long = search (rules, places)
+
+-- a bit of a word alone is that of the content
+pub bit_alone : (words : List ℕ) (w i : ℕ) → i < 64 * length words → w ≡ slice_index words (i / 64) → item (bits_of (w ∷ [])) (i % 64) ≡ item (bits_of words) i
+bit_alone words w i inside is =
+    let j = i % 64 in
+    let here : j / 64 ≡ 0 = omega arith in
+    let same : j % 64 ≡ j = omega arith in
+    item-bits_of (w ∷ []) j (omega arith)
+    ∙ ap (λ (k : ℕ). digit (slice_index (w ∷ []) k) (j % 64)) here
+    ∙ ap (digit w) same
+    ∙ ap (λ (x : ℕ). digit x j) is
+    ∙ sym (item-bits_of words i inside)

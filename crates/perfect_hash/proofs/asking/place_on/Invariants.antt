@@ -15,6 +15,7 @@ invariant-loop-level g l =
       inside : l.begin ≤ length lists.words;
       same : g.T.TableSource.lists l.source ≡ lists;
       reads : ReadsAtMost (g.T.TableSource.reads l.fn.source) (g.T.TableSource.reads l.source) 0 0 l.level;
+      words : (g.T.TableSource.reads l.source).words ≡ (g.T.TableSource.reads l.fn.source).words + l.level;
       seeds : ReadsAtMost l.fn.reads l.reads 0 0 l.level;
       counted : l.reads.words ≡ l.fn.reads.words + g.P.Placing.seeds_each * l.level;
       rest : looked fall (bits_in lists) 0 0 l.sizes

@@ -1,5 +1,5 @@
 -- Each level that is added leaves fewer hashes; where some are left at the end, they collide.
-use Rattle.std.proofs.Common.{◌≡◌, ℕ, ◌+◌, length, take, sym, ap, arith, ◌∙◌}
+use Rattle.std.proofs.Common.{◌≡◌, ℕ, ◌+◌, length, subst, take, sym, ap, arith, ◌∙◌}
 use Rattle.std.specs.List.{sum}
 use Rattle.std.proofs.lemmas.Bool.{eqb-false}
 use Rattle.std.specs.Vec.{vec_len}
@@ -8,7 +8,7 @@ use Rattle.perfect_hash.specs.Places.{words_for}
 use Rattle.perfect_hash.proofs.lemmas.BuildLemmas.{count_next, no_more}
 use Rattle.perfect_hash.proofs.lemmas.CollideLemmas.{collide, collide_sized}
 use Rattle.perfect_hash.proofs.lemmas.PlaceLemmas.{next_short, positive}
-use Rattle.perfect_hash.proofs.lemmas.PlacingLemmas.{AreSized-next, Leave-next}
+use Rattle.perfect_hash.proofs.lemmas.PlacingLemmas.{AreChosen-next, AreSized-next, Leave-next}
 use Rattle.perfect_hash.proofs.building.make_levels.Goals as goal
 
 -- the level that was added has as many words as was asked
@@ -31,6 +31,12 @@ loop-level-preserved g c =
           c.in_ok-add_level.ensures.kept c.loop-level.invariant.leave adds (words_for c.args.percent) c.loop-level.invariant.sized
           (size_is adds.size c.level_words-size.result _ _ (length hashes) c.len.result c.args.percent adds.len c.in_ok-add_level.ensures.len c.level_words-size.ensures
           (omega (arith, c.len.ensures, c.loop-level.hashes.ok.0)));
+      chosen = AreChosen-next (by old.placing) _ (g.met.P.Placing.inside _) c.args.hashes.items hashes _ old.sizes.items old.words.items _ _
+          c.in_ok-add_level.ensures.kept c.loop-level.invariant.leave adds g.P.Placing.chooses _ old.placing _ c.loop-level.level
+          c.loop-level.invariant.chosen c.loop-level.invariant.count
+          (let asked : c.level_words-size.result ≡ adds.size = omega (arith, adds.len, c.in_ok-add_level.ensures.len) in
+          let C : ℕ → Type 0 = λ n. g.P.Placing.chooses old.placing c.add_level.new.levels.placing (length old.words.items) hashes c.loop-level.level n in
+          subst C asked c.in_ok-add_level.ensures.chosen);
       count = count_next _ hashes _ old.sizes.items old.words.items _ _ c.loop-level.level adds c.loop-level.invariant.count;
       short = next_short c.args.percent (length c.args.hashes.items) (length hashes) c.len.result c.level_words-size.result c.loop-level.level
           (length old.words.items) _ c.requires c.loop-level.invariant.fewer (omega (arith, c.len.ensures, c.loop-level.hashes.ok.0))
