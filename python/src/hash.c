@@ -144,23 +144,20 @@ static uint32_t print_of(const Memory *it, uint64_t number_there, uint64_t sough
     return found == (sought & mask) ? BITM_OK : BITM_NONE;
 }
 
-/* The number of a key: 1, 0 where it has none, -1 and an error. */
+/* The number of a key: 1, 0 where it has none, -1 and an error. Hashing may run code that closes the value. */
 static int found(PyObject *self, PyObject *key, uint64_t *out)
 {
-    Memory *it = memory_kept(self);
     uint64_t both[2];
-    if (it == NULL)
+    Memory *it = memory_of(self);
+    if (it == NULL || key_hash(key, it->mark, it->seed, both) || (it = memory_of(self)) == NULL)
         return -1;
-    uint32_t status = BITM_WRONG;
-    int is_hashed = key_hash(key, it->mark, it->seed, both) == 0; /* may run code that closes it */
-    if (is_hashed)
-        status = bitm_hash_get(&it->hash, both[0], out);
+    uint32_t status = bitm_hash_get(&it->hash, both[0], out);
     if (status == BITM_OK)
         status = print_of(it, *out, both[1]);
-    DROP(it);
-    if (is_hashed && status != BITM_OK && status != BITM_NONE)
-        (void)wrong();
-    return status == BITM_OK ? 1 : is_hashed && status == BITM_NONE ? 0 : -1;
+    if (status == BITM_OK || status == BITM_NONE)
+        return status == BITM_OK;
+    (void)wrong();
+    return -1;
 }
 
 static PyObject *hash_get(PyObject *self, PyObject *const *args, Py_ssize_t count, PyObject *keywords)
@@ -220,9 +217,10 @@ static PyObject *hash_get_list(PyObject *self, PyObject *const *args, Py_ssize_t
     size_t many = 0;
     if (pick("get_list", names, 1, 2, args, count, keywords, given) || answers_begin(&answers, given[0], given[1], SOME))
         return NULL;
-    Memory *it = memory_kept(self);
+    Memory *it = memory_of(self);
     uint64_t *both = it == NULL ? NULL : keys_hash(given[0], it->mark, it->seed, &many);
-    if (both != NULL && answers_room(&answers, many) == 0) {
+    it = both == NULL ? NULL : memory_kept(self); /* hashing may have run code that closed it */
+    if (it != NULL && answers_room(&answers, many) == 0) {
         struct bitm_list_counts counts = {0, 0};
         uint32_t status;
         Py_BEGIN_ALLOW_THREADS

@@ -5,9 +5,10 @@
 enum { TEXT = 1, BYTES = 2, NUMBER = 3, LARGE_NUMBER = 4 };
 
 #define ROTATE(x, b) ((x) << (b) | (x) >> (64 - (b)))
-static void rounds(uint64_t v[4], int count)
+static inline __attribute__((always_inline)) void rounds(uint64_t v[4], int count)
 {
-    while (count--) {
+#pragma GCC unroll 4
+    for (int i = 0; i < count; i++) {
         v[0] += v[1]; v[1] = ROTATE(v[1], 13); v[1] ^= v[0]; v[0] = ROTATE(v[0], 32);
         v[2] += v[3]; v[3] = ROTATE(v[3], 16); v[3] ^= v[2];
         v[0] += v[3]; v[3] = ROTATE(v[3], 21); v[3] ^= v[0];
@@ -20,11 +21,8 @@ static void siphash(const char *at, size_t len, uint64_t seed, uint64_t kind, ui
 {
     uint64_t v[4] = {0x736f6d6570736575u ^ seed, 0x646f72616e646f6du ^ kind ^ 0xee, 0x6c7967656e657261u ^ seed, 0x7465646279746573u ^ kind};
     for (size_t left = len;; left -= 8, at += 8) {
-        uint64_t word = left < 8 ? (uint64_t)len << 56 : 0;
-        if (left >= 8)
-            memcpy(&word, at, 8);
-        for (size_t i = 0; left < 8 && i < left; i++)
-            word |= (uint64_t)(unsigned char)at[i] << 8 * i;
+        uint64_t word = (uint64_t)len << 56;
+        memcpy(&word, at, left < 8 ? left : 8);
         v[3] ^= word;
         rounds(v, 2);
         v[0] ^= word;
@@ -110,16 +108,16 @@ static int int_hash(PyObject *key, uint64_t seed, uint64_t out[2])
 
 int key_hash(PyObject *key, uint64_t mark, uint64_t seed, uint64_t out[2])
 {
-    if (!PyUnicode_Check(key) && !PyBytes_Check(key) && !PyIndex_Check(key)) {
+    if (PyUnicode_Check(key))
+        return mark == MARK_SIP ? text_hash(key, seed, out) : blake_hash(key, seed, out);
+    if (PyBytes_Check(key))
+        return mark == MARK_SIP ? bytes_hash(key, seed, BYTES, out) : blake_hash(key, seed, out);
+    if (!PyIndex_Check(key)) {
         PyErr_Format(PyExc_TypeError, "a key is a str, bytes or an int, not %R", key);
         return -1;
     }
     if (mark == MARK_BLAKE)
         return blake_hash(key, seed, out);
-    if (PyUnicode_Check(key))
-        return text_hash(key, seed, out);
-    if (PyBytes_Check(key))
-        return bytes_hash(key, seed, BYTES, out);
     PyObject *whole = PyNumber_Index(key);
     int status = whole == NULL ? -1 : int_hash(whole, seed, out);
     Py_XDECREF(whole);

@@ -118,7 +118,7 @@ def ask(it):
     if isinstance(it, PerfectHash):
         assert all(at is None or 0 <= at < len(it) for at in map(it.get, range(20)))
     elif isinstance(it, EliasFano):
-        it[5], it.first_at_least(700), list(it), it.to_numpy(), it[3:9], it[::-1], it.contains_list([5])
+        it[5], it.first_at_least(700), list(it), bitm._core.sequence_window(it), it[3:9], it[::-1], it.contains_list([5])
     else:
         it.rank(len(it)), it.select(300), it.select_list(range(500)), it.next_zero(77), list(it.ones()), it.count()
 
