@@ -2,7 +2,7 @@
 use crate::errors::{made, sure, BuildError};
 use crate::rank::{Rank, Select, Select0};
 use crate::select::{over, BinaryRankSearch, Select0ForRank101111, SelectForRank101111, SelectionStrategy};
-use crate::sys::memory::{as_u64_mut, prefetch, zeroed};
+use crate::sys::memory::{as_u64_mut, copied, prefetch, zeroed};
 use crate::sys::tables::{build_tables, table_lens};
 use crate::sys::view::IndexView;
 use alloc::boxed::Box;
@@ -21,7 +21,7 @@ use core::ops::Deref;
 /// Words and tables may be written: then an answer is inside all the same, or there is none, or a panic says that the
 /// tables are not those of the words. The bit vector has to deref to the same words each time, as vectors and slices
 /// do; else the same holds.
-#[derive(Clone, Debug)]
+#[derive(Debug)]
 pub struct RankSelect101111<Select = BinaryRankSearch, Select0 = BinaryRankSearch, BV = Box<[u64]>> {
     /// The words.
     pub content: BV,
@@ -35,6 +35,19 @@ pub struct RankSelect101111<Select = BinaryRankSearch, Select0 = BinaryRankSearc
 
 /// An index over words that it owns, which selects by binary search.
 pub type ArrayWithRank101111 = RankSelect101111<BinaryRankSearch, BinaryRankSearch>;
+
+impl<S: Clone, S0: Clone, BV: Clone> Clone for RankSelect101111<S, S0, BV> {
+    fn clone(&self) -> Self {
+        let (l1ranks, l2ranks) = (made(copied(&self.l1ranks)), made(copied(&self.l2ranks)));
+        RankSelect101111 {
+            content: self.content.clone(),
+            l1ranks: l1ranks.into_boxed_slice(),
+            l2ranks: l2ranks.into_boxed_slice(),
+            select: self.select.clone(),
+            select0: self.select0.clone(),
+        }
+    }
+}
 
 impl<S, S0, BV> RankSelect101111<S, S0, BV> {
     /// What selects 1 bits.

@@ -100,11 +100,12 @@ fn ranges_are_copied_and_compared() {
 }
 
 type Combine = fn(&mut [u64], &[u64]) -> Option<()>;
+type Plain = fn(u64, u64) -> u64;
 
 #[test]
 fn words_are_combined() {
     let mut random = Random(24);
-    let all: [(Combine, fn(u64, u64) -> u64); 4] = [
+    let all: [(Combine, Plain); 4] = [
         (words::and, |a, b| a & b),
         (words::or, |a, b| a | b),
         (words::xor, |a, b| a ^ b),
