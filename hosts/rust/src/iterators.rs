@@ -51,13 +51,26 @@ impl<'a, const B: bool> BitBIterator<'a, B> {
     #[inline]
     #[track_caller]
     pub fn with_range(slice: &'a [u64], range: Range<usize>) -> Self {
-        let bits = 64 * slice.len();
-        if range.end > bits {
-            past_the_end(range, bits)
+        match Self::try_with_range(slice, range.clone()) {
+            Some(made) => made,
+            None => past_the_end(range, 64 * slice.len()),
         }
-        if range.is_empty() {
-            return Self::new(&[]);
+    }
+
+    /// As `with_range`; `None` where the range ends past the end.
+    ///
+    /// ```
+    /// assert!(bitm_proved::BitOnesIterator::try_with_range(&[1], 0..65).is_none());
+    /// ```
+    pub fn try_with_range(slice: &'a [u64], range: Range<usize>) -> Option<Self> {
+        if range.end > 64 * slice.len() {
+            return None;
         }
+        Some(if range.is_empty() { Self::new(&[]) } else { Self::inside(slice, range) })
+    }
+
+    /// Those in a range that is inside and not empty.
+    fn inside(slice: &'a [u64], range: Range<usize>) -> Self {
         let (begin, end) = (range.start / 64, range.end.div_ceil(64));
         let (from, to) = (range.start % 64, (64 - range.end % 64) % 64);
         let first = Self::kind(slice[begin]) >> from << from;
@@ -114,7 +127,7 @@ impl<'a, const B: bool> BitBIterator<'a, B> {
 
 #[cold]
 #[track_caller]
-fn past_the_end(range: Range<usize>, bits: usize) -> ! {
+pub(crate) fn past_the_end(range: Range<usize>, bits: usize) -> ! {
     panic!("the range {range:?} ends past {bits} bits")
 }
 
@@ -218,6 +231,16 @@ impl<'bv> BitIterator<'bv> {
             past_the_end(bit_range, bits)
         }
         BitIterator { bit_vec, bit_range }
+    }
+
+    /// As `with_range`; `None` where the range ends past the end.
+    ///
+    /// ```
+    /// assert!(bitm_proved::BitIterator::try_with_range(&[1], 0..65).is_none());
+    /// ```
+    #[inline]
+    pub fn try_with_range(bit_vec: &'bv [u64], bit_range: Range<usize>) -> Option<Self> {
+        (bit_range.end <= 64 * bit_vec.len()).then_some(BitIterator { bit_vec, bit_range })
     }
 
     /// The range that is still to come.

@@ -52,6 +52,11 @@ macro_rules! answers {
                 Numbers::new(*$view, range)
             }
 
+            /// As `range`; `None` where it ends past the end.
+            pub fn try_range(&$self, range: Range<usize>) -> Option<Numbers<'_>> {
+                (range.end <= $view.len()).then(|| Numbers::new(*$view, range))
+            }
+
             /// The numbers that are at least `value`, from either end.
             #[track_caller]
             pub fn iter_from(&$self, value: u64) -> Numbers<'_> {
@@ -187,6 +192,7 @@ impl Block {
 /// ```
 /// use bitm_proved::{EliasFano, Numbers};
 /// let primes = EliasFano::build(&[2, 3, 5, 7, 11, 13])?;
+/// assert!(primes.try_range(0..7).is_none());
 /// assert!(primes.iter().rev().eq([13, 11, 7, 5, 3, 2]) && primes.range(1..3).eq([3, 5]));
 /// let mut from: Numbers<'_> = primes.iter_from(6);
 /// assert_eq!((from.index(), from.len()), (3, 3));

@@ -1,6 +1,6 @@
 //! The queries of every index beside rank and selection, and the traits of the original for views and owners.
 use crate::errors::{sure, ListError, StoredError, WrongTables};
-use crate::iterators::{BitIterator, BitOnesIterator, BitZerosIterator};
+use crate::iterators::{past_the_end, BitIterator, BitOnesIterator, BitZerosIterator};
 use crate::rank::{Rank, Select, Select0};
 use crate::rank_select::RankSelect101111;
 use crate::select::SelectionStrategy;
@@ -48,6 +48,7 @@ pub const WRONG_TABLES: usize = usize::MAX - 1;
 /// assert_eq!((bits.select0_list(&[0, 1, 2], &mut out), out), (Ok(0), [0, 1, 3]));
 /// assert_eq!(bits.rank_list(&[6], &mut out), Err(ListError::Lengths { queries: 1, room: 3 }));
 /// assert!(bits.ones().eq([2, 4, 5, 7, 64]) && bits.zeros().rev().take(2).eq([127, 126]));
+/// assert!(bits.try_ones_in(0..129).is_none() && bits.try_zeros_in(0..129).is_none());
 /// assert!(bits.ones_in(5..64).eq([5, 7]) && bits.zeros_in(0..4).eq([0, 1, 3]) && bits.bits().len() == 128);
 /// assert_eq!((bits.view().len(), bits.to_stored(128)?.len()), (128, 48));
 /// # Ok::<(), bitm_proved::StoredError>(())
@@ -171,17 +172,25 @@ pub trait Queries {
     /// The positions of the 1 bits in a range. Panics where it ends past the end.
     #[track_caller]
     fn ones_in(&self, range: Range<usize>) -> BitOnesIterator<'_> {
+        self.try_ones_in(range.clone()).unwrap_or_else(|| past_the_end(range, self.view().len()))
+    }
+
+    /// As `ones_in`; `None` where the range ends past the end.
+    fn try_ones_in(&self, range: Range<usize>) -> Option<BitOnesIterator<'_>> {
         let view = self.view();
-        inside(&range, view.len());
-        BitOnesIterator::with_range(view.words(), range)
+        (range.end <= view.len()).then(|| BitOnesIterator::with_range(view.words(), range))
     }
 
     /// The positions of the 0 bits in a range. Panics where it ends past the end.
     #[track_caller]
     fn zeros_in(&self, range: Range<usize>) -> BitZerosIterator<'_> {
+        self.try_zeros_in(range.clone()).unwrap_or_else(|| past_the_end(range, self.view().len()))
+    }
+
+    /// As `zeros_in`; `None` where the range ends past the end.
+    fn try_zeros_in(&self, range: Range<usize>) -> Option<BitZerosIterator<'_>> {
         let view = self.view();
-        inside(&range, view.len());
-        BitZerosIterator::with_range(view.words(), range)
+        (range.end <= view.len()).then(|| BitZerosIterator::with_range(view.words(), range))
     }
 
     /// The bits, from either end.
@@ -199,11 +208,6 @@ pub trait Queries {
         }
         view.cut(bits_len).to_words()
     }
-}
-
-#[track_caller]
-fn inside(range: &Range<usize>, len: usize) {
-    assert!(range.end <= len, "the range {range:?} ends past {len} bits");
 }
 
 impl Queries for IndexView<'_> {

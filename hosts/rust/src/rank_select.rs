@@ -2,10 +2,11 @@
 use crate::errors::{made, sure, BuildError};
 use crate::rank::{Rank, Select, Select0};
 use crate::select::{over, BinaryRankSearch, Select0ForRank101111, SelectForRank101111, SelectionStrategy};
-use crate::sys::memory::{as_u64_mut, prefetch, zeroed};
+use crate::sys::memory::{as_u64_mut, copied, prefetch, zeroed};
 use crate::sys::tables::{build_tables, table_lens};
 use crate::sys::view::IndexView;
 use alloc::boxed::Box;
+use core::fmt;
 use core::ops::Deref;
 
 /// Rank and selection over a bit vector, which derefs to words; the two tables take 3.125 % of extra space.
@@ -21,7 +22,6 @@ use core::ops::Deref;
 /// Words and tables may be written: then an answer is inside all the same, or there is none, or a panic says that the
 /// tables are not those of the words. The bit vector has to deref to the same words each time, as vectors and slices
 /// do; else the same holds.
-#[derive(Clone, Debug)]
 pub struct RankSelect101111<Select = BinaryRankSearch, Select0 = BinaryRankSearch, BV = Box<[u64]>> {
     /// The words.
     pub content: BV,
@@ -35,6 +35,27 @@ pub struct RankSelect101111<Select = BinaryRankSearch, Select0 = BinaryRankSearc
 
 /// An index over words that it owns, which selects by binary search.
 pub type ArrayWithRank101111 = RankSelect101111<BinaryRankSearch, BinaryRankSearch>;
+
+impl<S: Clone, S0: Clone, BV: Clone> Clone for RankSelect101111<S, S0, BV> {
+    fn clone(&self) -> Self {
+        let (l1ranks, l2ranks) = (made(copied(&self.l1ranks)), made(copied(&self.l2ranks)));
+        RankSelect101111 {
+            content: self.content.clone(),
+            l1ranks: l1ranks.into_boxed_slice(),
+            l2ranks: l2ranks.into_boxed_slice(),
+            select: self.select.clone(),
+            select0: self.select0.clone(),
+        }
+    }
+}
+
+impl<S: fmt::Debug, S0: fmt::Debug, BV: Deref<Target = [u64]>> fmt::Debug for RankSelect101111<S, S0, BV> {
+    fn fmt(&self, f: &mut fmt::Formatter<'_>) -> fmt::Result {
+        let mut f = f.debug_struct("RankSelect101111");
+        let f = f.field("words", &self.content.len());
+        f.field("select", &self.select).field("select0", &self.select0).finish()
+    }
+}
 
 impl<S, S0, BV> RankSelect101111<S, S0, BV> {
     /// What selects 1 bits.
@@ -179,11 +200,17 @@ impl<S: SelectForRank101111, S0: Select0ForRank101111, BV: Deref<Target = [u64]>
 /// let owned: ArrayWithRankSimple = vec![7].into_boxed_slice().into();
 /// assert_eq!(owned.rank(63), 3);
 /// ```
-#[derive(Clone, Debug)]
+#[derive(Clone)]
 pub struct RankSimple<BV = Box<[u64]>>(pub(crate) RankSelect101111<BinaryRankSearch, BinaryRankSearch, BV>);
 
 /// Rank alone, over words that it owns.
 pub type ArrayWithRankSimple = RankSimple;
+
+impl<BV: Deref<Target = [u64]>> fmt::Debug for RankSimple<BV> {
+    fn fmt(&self, f: &mut fmt::Formatter<'_>) -> fmt::Result {
+        f.debug_struct("RankSimple").field("words", &self.0.content.len()).finish()
+    }
+}
 
 impl<BV: Deref<Target = [u64]>> RankSimple<BV> {
     /// The structure, and the number of 1 bits. Panics where memory cannot be had, or there are 2^32 1 bits or more.

@@ -2,7 +2,7 @@
 use crate::density::{AdaptiveCombinedSamplingDensity, CombinedSamplingDensity};
 use crate::errors::{made, sure, NoMemory};
 use crate::rank::no_such;
-use crate::sys::memory::{as_u64, as_u64_mut, zeroed};
+use crate::sys::memory::{as_u64, as_u64_mut, copied, zeroed};
 use crate::sys::reads::select_in_word;
 use crate::sys::tables::samples_len;
 use crate::sys::view::{IndexView, Samples};
@@ -175,7 +175,12 @@ pub struct CombinedSampling<D: CombinedSamplingDensity = AdaptiveCombinedSamplin
 
 impl<D: CombinedSamplingDensity> Clone for CombinedSampling<D> {
     fn clone(&self) -> Self {
-        CombinedSampling { select: self.select.clone(), select_begin: self.select_begin.clone(), density: self.density }
+        let (select, select_begin) = (made(copied(&self.select)), made(copied(&self.select_begin)));
+        CombinedSampling {
+            select: select.into_boxed_slice(),
+            select_begin: select_begin.into_boxed_slice(),
+            density: self.density,
+        }
     }
 }
 
@@ -198,8 +203,7 @@ impl<D: CombinedSamplingDensity> CombinedSampling<D> {
         let mut select_begin = zeroed::<usize>(of.upper().len())?;
         let used = of.build_samples(one, log2, &mut room, as_u64_mut(&mut select_begin));
         let used = used.unwrap_or(0);
-        let mut select = zeroed(used)?.into_boxed_slice();
-        select.copy_from_slice(&room[..used]);
+        let select = copied(&room[..used])?.into_boxed_slice();
         Ok(CombinedSampling { select, select_begin: select_begin.into_boxed_slice(), density })
     }
 

@@ -2,7 +2,7 @@
 use crate::errors::{sure, BuildError, ListError, WrongTables};
 use crate::ffi::index::bitm_list_counts;
 use crate::ffi::sequence::*;
-use crate::sys::memory::{as_u64_mut, zeroed};
+use crate::sys::memory::{as_u64_mut, copied, zeroed};
 use crate::sys::tables::Tables;
 use crate::sys::view::{list_answer, IndexView};
 use crate::sys::{answer, OK};
@@ -71,8 +71,7 @@ impl PerfectHash {
             return Err(BuildError::EqualHashes { left });
         }
         drop((hashes, again));
-        let mut words = zeroed(used)?;
-        words.copy_from_slice(&room[..used]);
+        let words = copied(&room[..used])?;
         sizes.truncate(levels);
         let tables = Tables::of(&words)?;
         Ok(PerfectHash { words, tables, sizes, keys })

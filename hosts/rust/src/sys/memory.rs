@@ -46,6 +46,13 @@ pub(crate) fn filled(value: u64, len: usize) -> Result<Box<[u64]>, NoMemory> {
     Ok(words.into_boxed_slice())
 }
 
+/// A copy of numbers.
+pub(crate) fn copied<T: Number>(numbers: &[T]) -> Result<Vec<T>, NoMemory> {
+    let mut copy = zeroed(numbers.len())?;
+    copy.copy_from_slice(numbers);
+    Ok(copy)
+}
+
 /// A vector of one item.
 pub(crate) fn one<T>(item: T) -> Result<Vec<T>, NoMemory> {
     let mut list = Vec::new();

@@ -1,7 +1,7 @@
 //! Proved builds of the tables and the samples of words.
 use crate::errors::{BuildError, NoMemory};
 use crate::ffi::index::*;
-use crate::sys::memory::zeroed;
+use crate::sys::memory::{copied, zeroed};
 use crate::sys::view::IndexView;
 use crate::sys::OK;
 use alloc::vec::Vec;
@@ -94,8 +94,7 @@ impl OwnSamples {
         let mut starts = zeroed(view.upper().len())?;
         let used = view.build_samples(one, log2, &mut room, &mut starts);
         let used = used.unwrap_or(0);
-        let mut samples = zeroed(used)?;
-        samples.copy_from_slice(&room[..used]);
+        let samples = copied(&room[..used])?;
         Ok(OwnSamples { samples, starts, log2 })
     }
 }
