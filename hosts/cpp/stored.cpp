@@ -114,7 +114,8 @@ void combined()
     must(made.none(), "and_not");
     throws<std::invalid_argument>([&] { made &= bitm::bits("00001"); }, "lengths that differ");
     made.set(2);
-    made ^= made;
+    const bitm::bits &same = made;
+    made ^= same;
     must(made.none(), "bits with themselves");
 }
 
