@@ -46,12 +46,7 @@ fn next_in<const BIT: u8>(index: &Index<'_>, from: usize, out: &mut usize) -> u3
 
 /// The least position from `from` on that has a 1 bit, or 0 bit.
 #[unsafe(no_mangle)]
-pub extern "C" fn bitm_index_next(
-    index: &Index<'_>,
-    one: bool,
-    from: usize,
-    out: &mut usize,
-) -> u32
+pub extern "C" fn bitm_index_next(index: &Index<'_>, one: bool, from: usize, out: &mut usize) -> u32
     ensures { NextAnswered one (cut_of index.now) from result out.old out.new }
 {
     if one {

@@ -7,4 +7,4 @@ use Rattle.bitm_c.proofs.ranks.bitm_index_rank.Goals as goal
 pub returns-in-Some : goal.returns-in-Some
 returns-in-Some c =
     told counted (λ l. RanksIn c.args.one l c.args.position) _ _ c.in-Some.ensures.1 _ c.in-Some.ensures.0.0 c.tell_count.result c.args.out.now c.tell_count.new.out
-    _ c.tell_count.ensures c.rank_of.ensures
+    _ c.tell_count.ensures (record { within = c.rank_of.ensures.within; counts = c.rank_of.ensures.counts })

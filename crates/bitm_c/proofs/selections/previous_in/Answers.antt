@@ -8,4 +8,4 @@ use Rattle.bitm_c.proofs.selections.previous_in.Goals as goal
 pub returns-in-Some : goal.returns-in-Some
 returns-in-Some g c =
     told selected (λ l. PreviousIn (as_bit g.row.BIT) l c.args.from) _ _ c.in-Some.ensures.1 _ c.in-Some.ensures.0 c.tell_place.result c.args.out.now c.tell_place.new.out
-    _ c.tell_place.ensures c.previous.ensures
+    _ c.tell_place.ensures (record { bit = c.previous.ensures.bit; to = c.previous.ensures.to; counts = c.previous.ensures.counts })
