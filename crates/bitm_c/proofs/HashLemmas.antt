@@ -1,5 +1,5 @@
 -- The number of a hash that is sought below some limit.
-use Rattle.std.proofs.Common.{◌≡◌, ℕ, ◌-◌, ◌*◌, ◌^◌, ◌<◌, ◌≤◌, List, length, min, subst, arith}
+use Rattle.std.proofs.Common.{◌≡◌, ℕ, ◌-◌, ◌^◌, ◌≤◌, List, min, subst, arith}
 use Rattle.bitm.proofs.Callers.{few_ones, length-bits_of}
 use Rattle.bitm.specs.Count.{ones_of}
 use Rattle.bitm.specs.Tables.{HasTables, Lists, bits_in}

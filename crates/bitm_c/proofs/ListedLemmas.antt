@@ -1,13 +1,11 @@
 -- What the items of a list of answers stand for.
-use Rattle.std.proofs.Common.{◌≡◌, ℕ, ◌-◌, ◌^◌, ◌<◌, ◌≤◌, ◌↔◌, Bool, true, false, IsTrue, List, length, if◌then◌else◌, nat_eq, ne_eqb, refl, sym, ap, subst, ◌∙◌, inl, inr, min, Option, Some, None, arith}
+use Rattle.std.proofs.Common.{◌≡◌, ℕ, ◌-◌, ◌^◌, ◌<◌, ◌↔◌, Bool, true, false, IsTrue, List, if◌then◌else◌, nat_eq, ne_eqb, refl, sym, ap, ◌∙◌, inl, arith}
 use Rattle.std.proofs.lemmas.Bool.{false≢true}
 use Rattle.std.specs.List.{Contains}
 use Rattle.elias_fano.specs.declared.answer.Sought.{Sought}
-use Rattle.elias_fano.specs.declared.answer.Sought.TheVariants as Sought
 use Rattle.elias_fano_lent.specs.LentParts.{Holds, LentParts}
 use Rattle.elias_fano_lent.specs.Told.{TellsLess}
 use Rattle.bitm_lent.specs.Queries.{ranked_by}
-use Rattle.bitm_lent.specs.declared.ranked.Ranked.{Ranked}
 use Rattle.bitm_lent.specs.declared.ranked.Ranked.TheVariants as Rank
 use Rattle.bitm_c.specs.Numbers.{IsContained}
 use Rattle.bitm_c.specs.Sequence.{sought_by}
