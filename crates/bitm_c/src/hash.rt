@@ -54,7 +54,7 @@ impl<'a> HashLevels<'a> {
 pub extern "C" fn bitm_hash_level_len(left: usize, percent: u32) -> usize
     ensures { result ≡ min (words_for percent left) (2 ^ 64 - 1) }
 {
-    level_len(percent, left).min(usize::MAX as u128) as usize
+    level_len(percent, left)
 }
 
 /// Makes a level of the hashes, and moves those that are left to the front.
