@@ -52,6 +52,14 @@ fn before(selected: Selected, end: usize) -> Selected
 }
 
 impl<'a> IndexView<'a> {
+    /// `select` in code of its own, which both neighbours share.
+    #[inline(never)]
+    fn select_apart<const BIT: u8>(&self, rank: usize) -> Selected
+        ensures { SelectsIn (as_bit BIT) self.now rank result }
+    {
+        self.select::<BIT>(rank)
+    }
+
     /// The least position from `from` on that has a 1 bit; a 0 bit where `BIT` is 0.
     ///
     /// Whatever the tables hold, a position that is found is in the bit vector, not before `from`, and has such a bit.
@@ -69,7 +77,7 @@ impl<'a> IndexView<'a> {
             return Selected::Absent;
         }
         match self.rank::<BIT>(from) {
-            Ranked::Count(rank) => not_before(self.select::<BIT>(rank), from),
+            Ranked::Count(rank) => not_before(self.select_apart::<BIT>(rank), from),
             Ranked::Absent => Selected::Absent,
             Ranked::WrongTables => Selected::WrongTables,
         }
@@ -94,7 +102,7 @@ impl<'a> IndexView<'a> {
                 if ranks == 0 {
                     Selected::Absent
                 } else {
-                    before(self.select::<BIT>(ranks - 1), end)
+                    before(self.select_apart::<BIT>(ranks - 1), end)
                 }
             }
             Ranked::Absent => Selected::WrongTables,

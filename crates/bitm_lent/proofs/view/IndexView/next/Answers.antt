@@ -20,7 +20,7 @@ returns-in-Count g c =
     c.not_before.ensures (as_bit g.row.BIT) c.args.self.now c.in-Count.rank
     (subst (λ (x : Cut). IsWithin x) c.self.view_is c.self.invariant.within)
     (record { within = c.in-Count.ensures.within; counts = c.in-Count.ensures.counts })
-    (record { bit = c.select.ensures.bit; counts = c.select.ensures.counts; absent = c.select.ensures.absent }) in
+    c.select_apart.ensures in
     record { bit = is.bit; from = is.from; counts = is.counts }
 
 pub returns-in-Absent : goal.returns-in-Absent

@@ -35,7 +35,7 @@ returns-else-ranks-eq0 g c =
     c.before-else-ranks-eq0.ensures (as_bit g.row.BIT) c.args.self.now c.args.from (c.in-Count.ranks - 1) (within g d) (ends g d)
     (subst (λ (n : ℕ). RanksIn (as_bit g.row.BIT) c.args.self.now c.if-from-self.end (Rank.Count n)) back
     (record { within = c.in-Count.ensures.within; counts = c.in-Count.ensures.counts }))
-    (record { bit = c.select.ensures.bit; counts = c.select.ensures.counts; absent = c.select.ensures.absent }) in
+    c.select_apart.ensures in
     record { bit = is.bit; to = is.to; counts = is.counts }
 
 pub returns-in-Absent : goal.returns-in-Absent
