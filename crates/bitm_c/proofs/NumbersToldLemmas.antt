@@ -5,13 +5,13 @@ use Rattle.std.specs.List.{Contains}
 use Rattle.elias_fano_lent.specs.LentParts.{Holds}
 use Rattle.elias_fano_lent.specs.Told.{TellsLess}
 use Rattle.bitm_c.specs.Numbers.{ContainsAnswered}
-use Rattle.bitm_c.specs.Sequence.{view_parts, IsSized}
-use Rattle.bitm_c.specs.declared.sequence.SequenceView.{SequenceView}
+use Rattle.bitm_c.specs.Sequence.{lent_parts, IsSized}
+use Rattle.bitm_c.specs.declared.sequence.Sequence.{Sequence}
 
 -- whether a value is one of the numbers, as 0 or 1
-pub contained_of : (view : SequenceView) → IsSized view → (v old new : ℕ) (is : Bool) → (is ≡ true → new ≡ 1) → (is ≡ false → new ≡ 0)
-    → (p : ℕ) × TellsLess (view_parts view) v p × (p ≡ view.len → is ≡ false) → ((xs : List ℕ) → Holds xs (view_parts view) → IsTrue is ↔ Contains xs v) → ContainsAnswered view v 0 old new
-contained_of view sized v old new true one zero less answer = record {
+pub contained_of : (sequence : Sequence) → IsSized sequence → (v old new : ℕ) (is : Bool) → (is ≡ true → new ≡ 1) → (is ≡ false → new ≡ 0)
+    → (p : ℕ) × TellsLess (lent_parts sequence) v p × (p ≡ sequence.len → is ≡ false) → ((xs : List ℕ) → Holds xs (lent_parts sequence) → IsTrue is ↔ Contains xs v) → ContainsAnswered sequence v 0 old new
+contained_of sequence sized v old new true one zero less answer = record {
   kept = λ not. absurd (not refl);
   bad = λ no. absurd (no sized);
   good = λ _. inl refl;
@@ -20,7 +20,7 @@ contained_of view sized v old new true one zero less answer = record {
   told = λ _ _ _. refl;
   right = λ xs h _. (λ _. (answer xs h).0 refl, λ _. one refl);
 }
-contained_of view sized v old new false one zero less answer = record {
+contained_of sequence sized v old new false one zero less answer = record {
   kept = λ not. absurd (not refl);
   bad = λ no. absurd (no sized);
   good = λ _. inl refl;

@@ -1,13 +1,13 @@
 -- What the exported calls answer of numbers around a value.
-use Rattle.std.specs.Prelude.{◌≡◌, ◌≢◌, ℕ, ◌≤◌, ◌↔◌, ◌⊎◌, List}
+use Rattle.std.specs.Prelude.{◌≡◌, ◌≢◌, ℕ, ◌-◌, ◌^◌, ◌≤◌, ◌↔◌, ◌⊎◌, List}
 use Rattle.std.specs.List.{Contains}
 use Rattle.elias_fano.specs.declared.answer.Sought.{Sought}
 use Rattle.elias_fano_lent.specs.Answers.{IsLast, IsPlaceOf}
 use Rattle.elias_fano_lent.specs.LentParts.{Holds, LentParts}
 use Rattle.elias_fano_lent.specs.Told.{IfLast, TellsAtMost, TellsLess}
-use Rattle.bitm_c.specs.Sequence.{sought, view_parts, IsSized}
+use Rattle.bitm_c.specs.Sequence.{sought, lent_parts, IsSized}
 use Rattle.bitm_c.specs.Status.{Exported}
-use Rattle.bitm_c.specs.declared.sequence.SequenceView.{SequenceView}
+use Rattle.bitm_c.specs.declared.sequence.Sequence.{Sequence}
 
 -- the place of the last number that is at most value; whatever the parts hold, they tell that all up to the place are at
 -- most value, or none where there is none
@@ -16,16 +16,23 @@ pub record IsPredecessor (value : ℕ) (parts : LentParts) (answer : Sought ℕ)
   pub most : IfLast answer (TellsAtMost parts value)
   pub counts : (xs : List ℕ) → Holds xs parts → IsLast xs value answer
 
-abbrev pub LastAnswered : SequenceView → ℕ → ℕ → ℕ → ℕ → Type 0
-LastAnswered view value = Exported sought (IsSized view) (IsPredecessor value (view_parts view))
+abbrev pub LastAnswered : Sequence → ℕ → ℕ → ℕ → ℕ → Type 0
+LastAnswered sequence value = Exported sought (IsSized sequence) (IsPredecessor value (lent_parts sequence))
 
 -- of whether value is one of the numbers: the status, and the answer before and after the call; whatever the parts
 -- hold, they tell how many numbers are less, and the answer is 0 where these are all
-pub record ContainsAnswered (view : SequenceView) (value status old new : ℕ) : Type 0 where
+pub record ContainsAnswered (sequence : Sequence) (value status old new : ℕ) : Type 0 where
   pub kept : status ≢ 0 → new ≡ old
-  pub bad : ¬ (IsSized view) → status ≡ 2
-  pub good : IsSized view → (status ≡ 0) ⊎ (status ≡ 3)
+  pub bad : ¬ (IsSized sequence) → status ≡ 2
+  pub good : IsSized sequence → (status ≡ 0) ⊎ (status ≡ 3)
   pub truth : status ≡ 0 → new ≤ 1
-  pub less : status ≡ 0 → (p : ℕ) × TellsLess (view_parts view) value p × (p ≡ view.len → new ≡ 0)
-  pub told : IsSized view → (xs : List ℕ) → Holds xs (view_parts view) → status ≡ 0
-  pub right : (xs : List ℕ) → Holds xs (view_parts view) → status ≡ 0 → (new ≡ 1) ↔ Contains xs value
+  pub less : status ≡ 0 → (p : ℕ) × TellsLess (lent_parts sequence) value p × (p ≡ sequence.len → new ≡ 0)
+  pub told : IsSized sequence → (xs : List ℕ) → Holds xs (lent_parts sequence) → status ≡ 0
+  pub right : (xs : List ℕ) → Holds xs (lent_parts sequence) → status ≡ 0 → (new ≡ 1) ↔ Contains xs value
+
+-- whether value is one of the numbers, as an item of a list: 1 or 0, or 2^64 - 2 where the parts are not those of a
+-- sequence; whatever they hold, an answer tells how many numbers are less, and is 0 where these are all
+pub record IsContained (value : ℕ) (parts : LentParts) (n : ℕ) : Type 0 where
+  pub truth : (n ≤ 1) ⊎ (n ≡ 2 ^ 64 - 2)
+  pub less : n ≤ 1 → (p : ℕ) × TellsLess parts value p × (p ≡ parts.len → n ≡ 0)
+  pub right : (xs : List ℕ) → Holds xs parts → (n ≤ 1) × ((n ≡ 1) ↔ Contains xs value)

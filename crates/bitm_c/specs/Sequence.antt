@@ -1,5 +1,5 @@
 -- What the exported calls on sequences answer: a status, and a number written where the caller says.
-use Rattle.std.specs.Prelude.{◌≡◌, ℕ, List, if◌then◌else◌, nat_eq}
+use Rattle.std.specs.Prelude.{◌≡◌, ℕ, ◌-◌, ◌^◌, List, if◌then◌else◌, nat_eq}
 use Rattle.bitm.specs.Tables.{HasSizes}
 use Rattle.bitm_lent.specs.Sizes.{lists_of}
 use Rattle.elias_fano_lent.specs.LentParts.{parts_of, HasLengths, LentParts, Holds}
@@ -13,7 +13,7 @@ use Rattle.elias_fano_lent.specs.declared.lists.ListAnswer.TheVariants.{WrongLen
 use Rattle.elias_fano_lent.specs.declared.sizes.Sizes.{Sizes}
 use Rattle.bitm_c.specs.Status.{Exported}
 use Rattle.bitm_c.specs.declared.sequence.SequenceLens.{SequenceLens}
-use Rattle.bitm_c.specs.declared.sequence.SequenceView.{SequenceView}
+use Rattle.bitm_c.specs.declared.sequence.Sequence.{Sequence}
 
 -- A status is 0 where the answer was written, 1 where there is no such number, 2 where a length is not as it has to be,
 -- 3 where the parts are not those of a sequence, and 4 where a number is less than the one before it.
@@ -22,18 +22,22 @@ use Rattle.bitm_c.specs.declared.sequence.SequenceView.{SequenceView}
 abbrev pub sizes_in_c : Sizes → SequenceLens
 sizes_in_c s = record { width = s.width; low_len = s.low; words_len = s.words; upper_len = s.upper; lower_len = s.lower }
 
--- the parts that a view lends
-abbrev pub view_parts : SequenceView → LentParts
-view_parts view = parts_of view.len view.width view.low.now (lists_of view.words.now view.upper.now view.lower.now)
+-- the parts of a sequence
+abbrev pub lent_parts : Sequence → LentParts
+lent_parts sequence = parts_of sequence.len sequence.width sequence.low.now (lists_of sequence.words.now sequence.upper.now sequence.lower.now)
 
--- the lengths of a view are right
-pub record IsSized (view : SequenceView) : Type 0 where
-  pub tables : HasSizes (view_parts view).upper
-  pub lengths : HasLengths (view_parts view)
+-- the lengths of a sequence are right
+pub record IsSized (sequence : Sequence) : Type 0 where
+  pub tables : HasSizes (lent_parts sequence).upper
+  pub lengths : HasLengths (lent_parts sequence)
 
 -- the answer of what was sought
 abbrev pub sought : {T : Type 0} → ℕ → T → Sought T
 sought status n = if nat_eq status 0 then Found n else if nat_eq status 1 then Absent else WrongParts
+
+-- the answer that an item of a list of answers stands for
+abbrev pub sought_by : ℕ → Sought ℕ
+sought_by n = if nat_eq n (2 ^ 64 - 1) then Absent else if nat_eq n (2 ^ 64 - 2) then WrongParts else Found n
 
 -- how far a list of n places was answered, as a status, and the number before and after
 abbrev pub IsListTold : ListAnswer → ℕ → ℕ → ℕ → ℕ → Type 0
@@ -45,8 +49,8 @@ pub record IsNumber (index : ℕ) (parts : LentParts) (answer : Sought ℕ) : Ty
   pub inside : IsOfPlace parts.len index answer
   pub counts : (xs : List ℕ) → Holds xs parts → IsItem xs index answer
 
-abbrev pub ItemAnswered : SequenceView → ℕ → ℕ → ℕ → ℕ → Type 0
-ItemAnswered view index = Exported sought (IsSized view) (IsNumber index (view_parts view))
+abbrev pub ItemAnswered : Sequence → ℕ → ℕ → ℕ → ℕ → Type 0
+ItemAnswered sequence index = Exported sought (IsSized sequence) (IsNumber index (lent_parts sequence))
 
 -- the place of the first number that is at least value; whatever the parts hold, they tell that all before the place are
 -- less, or all where there is none
@@ -55,5 +59,5 @@ pub record IsSuccessor (value : ℕ) (parts : LentParts) (answer : Sought ℕ) :
   pub less : IfPlace parts.len answer (TellsLess parts value)
   pub counts : (xs : List ℕ) → Holds xs parts → IsFirst xs value answer
 
-abbrev pub PlaceAnswered : SequenceView → ℕ → ℕ → ℕ → ℕ → Type 0
-PlaceAnswered view value = Exported sought (IsSized view) (IsSuccessor value (view_parts view))
+abbrev pub PlaceAnswered : Sequence → ℕ → ℕ → ℕ → ℕ → Type 0
+PlaceAnswered sequence value = Exported sought (IsSized sequence) (IsSuccessor value (lent_parts sequence))

@@ -1,19 +1,61 @@
-//! Minimal perfect hashes in the caller's memory: levels made one after another, and the number of a hash, asked of the
-//! index over the words of all levels. The caller hashes the keys.
-ghost use Rattle.std.specs.Prelude.{◌≡◌, ◌≢◌, ◌<◌, ◌≤◌, ◌^◌, ◌↔◌, length, take};
-ghost use Rattle.bitm.specs.Bits.{bits_of};
-ghost use Rattle.perfect_hash.specs.Levels.{left_of, IsLevel};
-ghost use Rattle.perfect_hash.specs.Places.{place_in};
-ghost use Rattle.bitm_c.specs.Hash.{CanBeLevel, HashAnswered};
-ghost use Rattle.bitm_c.specs.Status.{view_lists};
+//! Minimal perfect hashes in the caller's memory: levels made one after another or all in one call, and the number of a
+//! hash, by the index over the words of all levels. The caller hashes the keys.
+ghost use Rattle.std.specs.Prelude.{◌≡◌, ◌≢◌, ℕ, ◌-◌, ◌<◌, ◌≤◌, ◌^◌, ◌↔◌, length, min, slice_index, take, SomeIff};
+ghost use Rattle.bitm.specs.Bits.{bits_of, IsShort};
+ghost use Rattle.bitm.specs.Count.{ones_of};
+ghost use Rattle.bitm.specs.Tables.{HasSizes};
+ghost use Rattle.bitm_lent.specs.Queries.{ranked_by};
+ghost use Rattle.perfect_hash.specs.InPlace.{IsMade};
+ghost use Rattle.perfect_hash.specs.Levels.{left_of, AreSized, IsLevel, Leave};
+ghost use Rattle.perfect_hash.specs.Parts.{AreLevels};
+ghost use Rattle.perfect_hash.specs.Places.{place_in, words_for};
+ghost use Rattle.bitm_c.specs.Hash.{hash_lists, made_of, CanBeLevel, HashAnswered, IsHashNumber};
+ghost use Rattle.bitm_c.specs.Lists.{AreCounted};
 
 use crate::answer::{BAD_SIZE, OK, tell_count};
-use crate::view::View;
-use bitm_lent::clear;
-use perfect_hash::{split_level, total_number_on};
+use crate::counts::{ListCounts, codes_in};
+use crate::view::Index;
+use bitm_lent::{Lent, NO_ANSWER, Ranked, WRONG_TABLES, clear};
+use perfect_hash::{build_in_place, level_len, split_level, total_number_on};
 
-/// The most levels that are asked.
+/// At most this many levels are queried.
 const LEVELS: usize = 256;
+
+/// A perfect hash in the caller's memory: the words of all levels with their tables, of which length and samples are
+/// not read, the words of each level, and the number of keys.
+#[repr(C)]
+#[derive(Clone, Copy)]
+pub struct HashLevels<'a> {
+    /// The index over the words of all levels.
+    pub index: Index<'a>,
+    /// The number of words of each level.
+    pub sizes: &'a [usize],
+    /// The number of keys.
+    pub keys: usize,
+}
+
+impl<'a> HashLevels<'a> {
+    /// The words and tables as the library queries them; `None` exactly where a length is not right.
+    #[inline(always)]
+    fn lent(&self) -> Option<Lent<'a>>
+        ensures { SomeIff result (HasSizes (hash_lists self.now) × (length self.now.sizes.now ≤ 256))
+            (hash_lists self.now) }
+    {
+        if self.sizes.len() > LEVELS {
+            return None;
+        }
+        Lent::over(self.index.words, self.index.upper, self.index.lower)
+    }
+}
+
+/// How many words the next level for `left` hashes has: `percent` bits for each 100 hashes, no fewer than 50, and at
+/// least one word; at most 2^64 - 1.
+#[unsafe(no_mangle)]
+pub extern "C" fn bitm_hash_level_len(left: usize, percent: u32) -> usize
+    ensures { result ≡ min (words_for percent left) (2 ^ 64 - 1) }
+{
+    level_len(percent, left)
+}
 
 /// Makes a level of the hashes, and moves those that are left to the front.
 #[tactic(auto, using(bitm::proofs::BitLaws::zeros_have_no_ones))]
@@ -31,8 +73,8 @@ pub extern "C" fn bitm_hash_level(
     ensures left { result ≡ 0 → take left.new hashes.new
         ≡ left_of place_in hashes.old (bits_of ones.new) level 0 (length ones.old) }
     ensures few { result ≡ 0 → left.new ≤ length hashes.old }
-    ensures kept { result ≢ 0 → (result ≡ 2) × (hashes.new ≡ hashes.old) × (ones.new ≡ ones.old)
-        × (again.new ≡ again.old) × (left.new ≡ left.old) }
+    ensures unchanged { result ≢ 0 → (result ≡ 2) × (hashes.new ≡ hashes.old)
+        × (ones.new ≡ ones.old) × (again.new ≡ again.old) × (left.new ≡ left.old) }
 {
     if ones.is_empty() || ones.len() >= 1 << 58 || again.len() != ones.len() {
         return BAD_SIZE;
@@ -43,22 +85,109 @@ pub extern "C" fn bitm_hash_level(
     OK
 }
 
-/// The number of a hash, below the number of keys.
+/// Makes all levels of the hashes, one behind another in `words`, until none is left or there is no room for the next;
+/// writes their sizes, their number, the number of words that they take and how many hashes are left, which go to the
+/// front.
 #[unsafe(no_mangle)]
-pub extern "C" fn bitm_hash_get(
-    view: &View<'_>,
-    sizes: &[usize],
-    keys: usize,
-    hash: u64,
-    out: &mut usize,
+pub extern "C" fn bitm_hash_build(
+    hashes: &mut [u64],
+    percent: u32,
+    words: &mut [u64],
+    again: &mut [u64],
+    sizes: &mut [usize],
+    levels: &mut usize,
+    used_words: &mut usize,
+    left: &mut usize,
 ) -> u32
-    ensures { HashAnswered (view_lists view.now) sizes.now keys hash result out.old out.new }
+    ensures ok { (result ≡ 0) ↔ IsShort words.old }
+    ensures leave { result ≡ 0 → Leave place_in hashes.old (take levels.new sizes.new)
+        (take used_words.new words.new) (take left.new hashes.new) }
+    ensures sized { result ≡ 0 → AreSized (words_for percent) place_in hashes.old
+        (bits_of (take used_words.new words.new)) 0 0 (take levels.new sizes.new) }
+    ensures made { result ≡ 0 → IsMade percent (length words.old) (length again.old)
+        (length sizes.old) (length hashes.old) (made_of levels.new used_words.new left.new) }
+    ensures numbers { result ≡ 0 → left.new ≡ 0 → AreLevels place_in (λ (hash : ℕ). hash)
+        hashes.old (take levels.new sizes.new) (take used_words.new words.new) }
+    ensures ones { result ≡ 0 → left.new ≡ 0
+        → ones_of (bits_of (take used_words.new words.new)) ≡ length hashes.old }
+    ensures unchanged { result ≢ 0 → (result ≡ 2) × (hashes.new ≡ hashes.old)
+        × (words.new ≡ words.old) × (again.new ≡ again.old) × (sizes.new ≡ sizes.old)
+        × (levels.new ≡ levels.old) × (used_words.new ≡ used_words.old) × (left.new ≡ left.old) }
 {
-    if sizes.len() > LEVELS {
+    if words.len() >= 1 << 58 {
         return BAD_SIZE;
     }
-    match view.lent() {
-        Some(lent) => tell_count(total_number_on(&mut lent.probe(), sizes, keys, hash), out),
+    let made = build_in_place(hashes, percent, words, again, sizes);
+    *levels = made.levels;
+    *used_words = made.words;
+    *left = made.left;
+    OK
+}
+
+/// The number of a hash, below the number of keys.
+#[unsafe(no_mangle)]
+pub extern "C" fn bitm_hash_get(hash: &HashLevels<'_>, key_hash: u64, out: &mut usize) -> u32
+    ensures { HashAnswered hash.now key_hash result out.old out.new }
+{
+    match hash.lent() {
+        Some(lent) => {
+            let number = total_number_on(&mut lent.probe(), hash.sizes, hash.keys, key_hash);
+            tell_count(number, out)
+        }
         None => BAD_SIZE,
+    }
+}
+
+/// The numbers of a list of hashes, and how many of these are codes.
+#[unsafe(no_mangle)]
+pub extern "C" fn bitm_hash_get_list(
+    hash: &HashLevels<'_>,
+    key_hashes: &[u64],
+    out: &mut [usize],
+    counts: &mut ListCounts,
+) -> u32
+    ensures ok { (result ≡ 0) ↔ HasSizes (hash_lists hash.now)
+        × (length hash.now.sizes.now ≤ 256) × (length out.old ≡ length key_hashes.now) }
+    ensures unchanged { result ≢ 0 → (result ≡ 2) × (out.new ≡ out.old)
+        × (counts.new ≡ counts.old) }
+    ensures numbers { result ≡ 0 → (j : ℕ) → j < length key_hashes.now
+        → IsHashNumber hash.now.sizes.now hash.now.keys (slice_index key_hashes.now j)
+        (hash_lists hash.now) (ranked_by (slice_index out.new j)) }
+    ensures counts { result ≡ 0 → AreCounted out.new counts.new }
+{
+    let Some(lent) = hash.lent() else {
+        return BAD_SIZE;
+    };
+    if out.len() != key_hashes.len() {
+        return BAD_SIZE;
+    }
+    number_each(&lent, hash.sizes, hash.keys, key_hashes, &mut *out);
+    *counts = codes_in(&*out);
+    OK
+}
+
+/// The number of each hash.
+fn number_each(lent: &Lent<'_>, sizes: &[usize], keys: usize, hashes: &[u64], out: &mut [usize])
+    requires few { length sizes.now ≤ 256 }
+    requires same_length { length out.old ≡ length hashes.now }
+    ensures { (j : ℕ) → j < length hashes.now → IsHashNumber sizes.now keys
+        (slice_index hashes.now j) lent.now (ranked_by (slice_index out.new j)) }
+{
+    for at in 0..hashes.len() {
+        out[at] = number_code(lent, sizes, keys, hashes[at]);
+    }
+}
+
+/// The number of a hash, by the codes of lists.
+#[inline(always)]
+fn number_code(lent: &Lent<'_>, sizes: &[usize], keys: usize, hash: u64) -> usize
+    requires { length sizes.now ≤ 256 }
+    ensures { IsHashNumber sizes.now keys hash lent.now (ranked_by result) }
+{
+    // No number of a hash is a code, whatever the number of keys.
+    match total_number_on(&mut lent.probe(), sizes, keys.min(WRONG_TABLES), hash) {
+        Ranked::Count(number) => number,
+        Ranked::Absent => NO_ANSWER,
+        Ranked::WrongTables => WRONG_TABLES,
     }
 }

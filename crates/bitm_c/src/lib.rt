@@ -21,6 +21,7 @@ mod ranks;
 mod sampled;
 mod selections;
 mod sequence;
+mod sequence_lists;
 mod stored;
 mod version;
 mod view;

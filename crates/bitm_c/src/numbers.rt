@@ -4,21 +4,21 @@ ghost use Rattle.std.specs.Prelude.{◌≡◌, ◌≢◌, ◌-◌, ◌≤◌, �
 ghost use Rattle.elias_fano_lent.specs.LentParts.{Holds};
 ghost use Rattle.elias_fano_lent.specs.Lists.{AreItemsFrom, IsKeptFrom};
 ghost use Rattle.bitm_c.specs.Numbers.{ContainsAnswered, LastAnswered};
-ghost use Rattle.bitm_c.specs.Sequence.{view_parts, IsSized};
+ghost use Rattle.bitm_c.specs.Sequence.{lent_parts, IsSized};
 
 use crate::answer::{BAD_SIZE, OK, WRONG};
-use crate::sequence::{SequenceView, tell_sought};
+use crate::sequence::{Sequence, tell_sought};
 
-/// The greatest place whose number is at most `value`.
+/// The predecessor of `value`: the greatest index whose number is at most `value`.
 #[unsafe(no_mangle)]
 pub extern "C" fn bitm_sequence_last_at_most(
-    view: &SequenceView<'_>,
+    sequence: &Sequence<'_>,
     value: u64,
     out: &mut usize,
 ) -> u32
-    ensures { LastAnswered view.now value result out.old out.new }
+    ensures { LastAnswered sequence.now value result out.old out.new }
 {
-    match view.lent() {
+    match sequence.lent() {
         Some(lent) => tell_sought(lent.last_at_most(value), out),
         None => BAD_SIZE,
     }
@@ -26,10 +26,10 @@ pub extern "C" fn bitm_sequence_last_at_most(
 
 /// Whether `value` is one of the numbers, as 0 or 1.
 #[unsafe(no_mangle)]
-pub extern "C" fn bitm_sequence_contains(view: &SequenceView<'_>, value: u64, out: &mut u64) -> u32
-    ensures { ContainsAnswered view.now value result out.old out.new }
+pub extern "C" fn bitm_sequence_contains(sequence: &Sequence<'_>, value: u64, out: &mut u64) -> u32
+    ensures { ContainsAnswered sequence.now value result out.old out.new }
 {
-    let Some(lent) = view.lent() else {
+    let Some(lent) = sequence.lent() else {
         return BAD_SIZE;
     };
     match lent.contains(value) {
@@ -44,22 +44,22 @@ pub extern "C" fn bitm_sequence_contains(view: &SequenceView<'_>, value: u64, ou
 /// Writes the numbers from number `from` on, as many as there are and there is room for, and how many these are.
 #[unsafe(no_mangle)]
 pub extern "C" fn bitm_sequence_items(
-    view: &SequenceView<'_>,
+    sequence: &Sequence<'_>,
     from: usize,
     out: &mut [u64],
     written: &mut usize,
 ) -> u32
-    ensures ok { (result ≡ 0) ↔ IsSized view.now }
-    ensures most { result ≡ 0 → written.new ≤ min (length out.old) (view.now.len - from) }
-    ensures all { result ≡ 0 → (xs : List ℕ) → Holds xs (view_parts view.now)
+    ensures ok { (result ≡ 0) ↔ IsSized sequence.now }
+    ensures most { result ≡ 0 → written.new ≤ min (length out.old) (sequence.now.len - from) }
+    ensures all { result ≡ 0 → (xs : List ℕ) → Holds xs (lent_parts sequence.now)
         → written.new ≡ min (length out.old) (length xs - from) }
-    ensures items { result ≡ 0 → (xs : List ℕ) → Holds xs (view_parts view.now)
+    ensures items { result ≡ 0 → (xs : List ℕ) → Holds xs (lent_parts sequence.now)
         → AreItemsFrom xs from written.new out.new }
     ensures behind { result ≡ 0 → IsKeptFrom written.new out.old out.new }
     ensures kept { result ≢ 0 → (result ≡ 2) × (out.new ≡ out.old)
         × (written.new ≡ written.old) }
 {
-    let Some(lent) = view.lent() else {
+    let Some(lent) = sequence.lent() else {
         return BAD_SIZE;
     };
     *written = lent.items_from(from, out);

@@ -4,9 +4,9 @@ ghost use Rattle.bitm_lent.specs.Sizes.{lists_of};
 ghost use Rattle.elias_fano.specs.Parts.{width_of};
 ghost use Rattle.elias_fano.specs.Sequence.{HasFall};
 ghost use Rattle.elias_fano_lent.specs.LentParts.{parts_of, AreParts, Holds};
-ghost use Rattle.elias_fano_lent.specs.Lists.{AreItems, IsKeptFrom, PlaceTold};
+ghost use Rattle.elias_fano_lent.specs.Lists.{AreItems, IsKeptFrom};
 ghost use Rattle.elias_fano_lent.specs.Sizes.{sizes_of, HasRoom, IsLargest};
-ghost use Rattle.bitm_c.specs.Sequence.{view_parts, sizes_in_c, sought, IsListTold, IsSized};
+ghost use Rattle.bitm_c.specs.Sequence.{lent_parts, sizes_in_c, sought, IsListTold, IsSized};
 ghost use Rattle.bitm_c.specs.Status.{IsSaid};
 ghost use Rattle.bitm_c.specs.Sequence.{ItemAnswered, PlaceAnswered};
 
@@ -14,22 +14,24 @@ use crate::answer::{BAD_SIZE, NONE, OK, UNSORTED, WRONG};
 use bitm_lent::Lent;
 use elias_fano_lent::{BuildError, LentSequence, ListAnswer, Sizes, Sought, build};
 
-/// The parts of a sequence, all lent: for C two numbers and four pairs of a pointer and a length.
+/// A sequence in the caller's memory: for C two numbers, four pairs of a pointer and a length, and room.
 #[repr(C)]
 #[derive(Clone, Copy)]
-pub struct SequenceView<'a> {
-    /// How many numbers there are.
+pub struct Sequence<'a> {
+    /// The number of numbers.
     pub len: usize,
-    /// How many digits of each number are low ones.
+    /// The number of low bits of each number.
     pub width: u64,
-    /// The low digits of each number.
+    /// The low bits of each number.
     pub low: &'a [u64],
-    /// The upper vector.
+    /// The words of the high bits.
     pub words: &'a [u64],
-    /// The upper table of that vector.
+    /// The upper table of these words.
     pub upper: &'a [usize],
-    /// The lower table of that vector.
+    /// The lower table of these words.
     pub lower: &'a [u64],
+    /// Room for later versions; this one does not read it.
+    pub reserved: [u64; 2],
 }
 
 /// How long the parts of a sequence are.
@@ -48,11 +50,11 @@ pub struct SequenceLens {
     pub lower_len: u64,
 }
 
-impl<'a> SequenceView<'a> {
+impl<'a> Sequence<'a> {
     /// The parts as the library asks them; `None` exactly where a length is not right.
     #[inline(always)]
     pub(crate) fn lent(&self) -> Option<LentSequence<'a>>
-        ensures { SomeIff result (IsSized self.now) (view_parts self.now) }
+        ensures { SomeIff result (IsSized self.now) (lent_parts self.now) }
     {
         let upper = Lent::over(self.words, self.upper, self.lower)?;
         if self.width > 63 {
@@ -133,12 +135,12 @@ pub extern "C" fn bitm_sequence_build(
 /// Whether the parts are those of some sequence: one pass over the upper words for their tables, and one more for the
 /// numbers.
 #[unsafe(no_mangle)]
-pub extern "C" fn bitm_sequence_check(view: &SequenceView<'_>) -> u32
-    ensures ok { (result ≡ 0) ↔ (IsSized view.now × AreParts (view_parts view.now)) }
-    ensures bad { (result ≡ 2) ↔ ¬ (IsSized view.now) }
+pub extern "C" fn bitm_sequence_check(sequence: &Sequence<'_>) -> u32
+    ensures ok { (result ≡ 0) ↔ (IsSized sequence.now × AreParts (lent_parts sequence.now)) }
+    ensures bad { (result ≡ 2) ↔ ¬ (IsSized sequence.now) }
     ensures status { (result ≡ 0) ⊎ (result ≡ 2) ⊎ (result ≡ 3) }
 {
-    match view.lent() {
+    match sequence.lent() {
         Some(lent) => { if lent.check() { OK } else { WRONG } }
         None => BAD_SIZE,
     }
@@ -146,77 +148,53 @@ pub extern "C" fn bitm_sequence_check(view: &SequenceView<'_>) -> u32
 
 /// Number `index`.
 #[unsafe(no_mangle)]
-pub extern "C" fn bitm_sequence_get(view: &SequenceView<'_>, index: usize, out: &mut u64) -> u32
-    ensures { ItemAnswered view.now index result out.old out.new }
+pub extern "C" fn bitm_sequence_get(sequence: &Sequence<'_>, index: usize, out: &mut u64) -> u32
+    ensures { ItemAnswered sequence.now index result out.old out.new }
 {
-    match view.lent() {
+    match sequence.lent() {
         Some(lent) => tell_sought(lent.get(index), out),
         None => BAD_SIZE,
     }
 }
 
-/// The least place whose number is at least `value`.
+/// The successor of `value`: the least index whose number is at least `value`.
 #[unsafe(no_mangle)]
 pub extern "C" fn bitm_sequence_first_at_least(
-    view: &SequenceView<'_>,
+    sequence: &Sequence<'_>,
     value: u64,
     out: &mut usize,
 ) -> u32
-    ensures { PlaceAnswered view.now value result out.old out.new }
+    ensures { PlaceAnswered sequence.now value result out.old out.new }
 {
-    match view.lent() {
+    match sequence.lent() {
         Some(lent) => tell_sought(lent.first_at_least(value), out),
         None => BAD_SIZE,
     }
 }
 
-/// The numbers at a list of places, up to the first that is not found, and how many these are.
+/// The numbers at a list of indices, up to the first that is not found, and how many these are.
 #[unsafe(no_mangle)]
 pub extern "C" fn bitm_sequence_get_list(
-    view: &SequenceView<'_>,
-    queries: &[usize],
+    sequence: &Sequence<'_>,
+    indices: &[usize],
     out: &mut [u64],
     written: &mut usize,
 ) -> u32
-    ensures ok { (result ≡ 0) ↔ IsSized view.now × (length out.old ≡ length queries.now) }
+    ensures ok { (result ≡ 0) ↔ IsSized sequence.now × (length out.old ≡ length indices.now) }
     ensures kept { result ≢ 0 → (result ≡ 2) × (out.new ≡ out.old)
         × (written.new ≡ written.old) }
-    ensures most { result ≡ 0 → written.new ≤ length queries.now }
+    ensures most { result ≡ 0 → written.new ≤ length indices.now }
     ensures inside { result ≡ 0 → (j : ℕ) → j < written.new
-        → slice_index queries.now j < view.now.len }
-    ensures items { result ≡ 0 → (xs : List ℕ) → Holds xs (view_parts view.now)
-        → AreItems xs queries.now written.new out.new }
-    ensures whole { result ≡ 0 → (xs : List ℕ) → Holds xs (view_parts view.now)
-        → written.new < length queries.now
-        → length xs ≤ slice_index queries.now written.new }
+        → slice_index indices.now j < sequence.now.len }
+    ensures items { result ≡ 0 → (xs : List ℕ) → Holds xs (lent_parts sequence.now)
+        → AreItems xs indices.now written.new out.new }
+    ensures whole { result ≡ 0 → (xs : List ℕ) → Holds xs (lent_parts sequence.now)
+        → written.new < length indices.now
+        → length xs ≤ slice_index indices.now written.new }
     ensures behind { result ≡ 0 → IsKeptFrom written.new out.old out.new }
 {
-    match view.lent() {
-        Some(lent) => tell_list(lent.get_list(queries, out), queries.len(), written),
-        None => BAD_SIZE,
-    }
-}
-
-/// The least place whose number is at least each value.
-#[unsafe(no_mangle)]
-pub extern "C" fn bitm_sequence_first_at_least_list(
-    view: &SequenceView<'_>,
-    queries: &[u64],
-    out: &mut [usize],
-) -> u32
-    ensures ok { (result ≡ 0) ↔ IsSized view.now × (length out.old ≡ length queries.now) }
-    ensures kept { result ≢ 0 → (result ≡ 2) × (out.new ≡ out.old) }
-    ensures told { result ≡ 0 → (j : ℕ) → j < length queries.now → PlaceTold (view_parts view.now)
-        (slice_index queries.now j) (slice_index out.new j) }
-{
-    match view.lent() {
-        Some(lent) => {
-            if lent.first_at_least_list(queries, out) {
-                OK
-            } else {
-                BAD_SIZE
-            }
-        }
+    match sequence.lent() {
+        Some(lent) => tell_list(lent.get_list(indices, out), indices.len(), written),
         None => BAD_SIZE,
     }
 }

@@ -24,12 +24,15 @@ pub struct Made {
     pub left: usize,
 }
 
-/// How many words a level for so many keys has: `percent` bits for each 100 keys, no fewer than 50, and at least one
-/// word.
-pub fn level_len(percent: u32, keys: usize) -> u128
-    ensures { result ≡ words_for percent keys }
+/// How many words a level for `keys` keys has: `percent` bits for each 100 keys, no fewer than 50, and at least one
+/// word; at most `usize::MAX`.
+pub fn level_len(percent: u32, keys: usize) -> usize
+    ensures { result ≡ min (words_for percent keys) (2 ^ 64 - 1) }
 {
-    keys as u128 * percent.max(50) as u128 / 6400 + 1
+    // By parts, since a product of all may have more than 64 bits, and dividing it would call a function of C.
+    let percent = percent.max(50) as usize;
+    let whole = (keys / 6400).saturating_mul(percent);
+    whole.saturating_add(keys % 6400 * percent / 6400 + 1)
 }
 
 /// Makes a level of the hashes in `ones`, and moves those that are left to the front; all are zeros first.
@@ -111,7 +114,7 @@ pub fn build_in_place(
     for level in 0..most {
         let size = level_len(percent, left);
         let room = again.len().min(words.len() - used);
-        if left == 0 || size > room as u128 {
+        if left == 0 || size > room {
             return Made {
                 levels: level,
                 words: used,
@@ -124,11 +127,11 @@ pub fn build_in_place(
             level as u32,
             &mut *words,
             used,
-            size as usize,
+            size,
             &mut *again,
         );
-        sizes[level] = size as usize;
-        used += size as usize;
+        sizes[level] = size;
+        used += size;
     }
     Made {
         levels: most,

@@ -1,5 +1,5 @@
 -- Levels that are made one after another in the first words of a slice.
-use Rattle.std.proofs.Common.{◌≡◌, ℕ, ◌+◌, ◌*◌, ◌<◌, ◌≤◌, true, List, [], ◌++◌, length, length-drop, take, drop, set, refl, sym, ap, subst, ◌∙◌, arith}
+use Rattle.std.proofs.Common.{◌≡◌, ℕ, ◌+◌, ◌*◌, ◌/◌, ◌%◌, ◌<◌, ◌≤◌, true, List, [], ◌++◌, length, length-drop, max, min, take, drop, set, refl, sym, ap, subst, ◌∙◌, arith}
 use Rattle.std.proofs.Math.Seq.{take-add}
 use Rattle.std.proofs.lemmas.List.{length-take-le, take_all, take_more_set}
 use Rattle.std.specs.List.{sum}
@@ -84,3 +84,18 @@ module _ (percent : ℕ) (keys sizes words hashes : List ℕ) (levels used left 
       let end : 0 + 64 * sum (take levels sizes) ≡ length b = omega (arith, all.all, bits_are_counted (take used words)) in
       let total = (numbered place_in falls_inside keys b 0 0 (take levels sizes) (omega (arith, end)) all.lead).total in
       omega (arith, total, ap (ones_before b) end, none_before_the_first b true)
+
+-- a product divided by parts
+pub by_parts : (n p : ℕ) → n * p / 6400 ≡ n / 6400 * p + n % 6400 * p / 6400
+by_parts n p =
+    let split : 6400 * (n / 6400) + n % 6400 ≡ n = omega arith in
+    let product : n * p ≡ 6400 * (n / 6400 * p) + n % 6400 * p = ap (λ (m : ℕ). m * p) (sym split) ∙ grind arith in
+    omega (arith, product)
+
+-- and so is the size of a level, where each step is cut off at the greatest number
+pub level_by_parts : (percent keys p whole most n : ℕ) → p ≡ max percent 50 → whole ≡ min (keys / 6400 * p) most
+    → n ≡ min (whole + (keys % 6400 * p / 6400 + 1)) most → n ≡ min (words_for percent keys) most
+level_by_parts percent keys p whole most n is first all =
+    let parts : keys * p / 6400 ≡ keys / 6400 * p + keys % 6400 * p / 6400 = by_parts keys p in
+    let size : words_for percent keys ≡ keys * p / 6400 + 1 = ap (λ (m : ℕ). keys * m / 6400 + 1) (sym is) in
+    omega (arith, parts, size, first, all)

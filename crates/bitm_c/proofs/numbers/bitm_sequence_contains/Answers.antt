@@ -8,7 +8,7 @@ use Rattle.bitm_c.proofs.numbers.bitm_sequence_contains.Goals as goal
 
 pub returns-in-Some-contains : goal.returns-in-Some-contains
 returns-in-Some-contains c =
-    contained_of c.args.view.now c.in-Some.ensures.0 c.args.value c.args.out.now _ c.in-Some-contains.is'
+    contained_of c.args.sequence.now c.in-Some.ensures.0 c.args.value c.args.out.now _ c.in-Some-contains.is'
     (λ e. search rules) (λ e. search rules)
     (subst (λ (l : LentParts). (p : ℕ) × TellsLess l c.args.value p × (p ≡ l.len → c.in-Some-contains.is' ≡ false)) c.in-Some.ensures.1
     c.in-Some-contains.ensures.told)

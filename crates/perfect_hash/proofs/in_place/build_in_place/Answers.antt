@@ -1,6 +1,7 @@
 -- Each level that is made leaves the hashes in front; where none is left, they are numbered.
 use Rattle.std.proofs.Common.{◌≡◌, ◌+◌, ◌<◌, ◌≤◌, ℕ, length, min, subst, arith}
 use Rattle.std.proofs.lemmas.List.{length-take-le}
+use Rattle.perfect_hash.specs.Places.{words_for}
 use Rattle.perfect_hash.proofs.lemmas.InPlaceLemmas.{built_levels, built_more, built_ones, IsBuilt}
 use Rattle.perfect_hash.proofs.in_place.build_in_place.Goals as goal
 
@@ -24,12 +25,13 @@ loop-level-preserved c =
     let added = c.add_level-left in
     let some : 0 < size = omega (arith, c.level_len-size.ensures) in
     let inside : l.used + size ≤ length added.new.words = omega (arith, c.if-size-room.false, c.min-room.ensures, added.auto.words, l.invariant.within) in
+    let is : size ≡ words_for c.args.percent l.left = omega (arith, c.level_len-size.ensures, c.if-size-room.false, c.min-room.ensures, c.requires, l.auto.words) in
     record {
       few = omega (arith, added.ensures.few, l.invariant.few, added.auto.hashes);
       within = inside;
       built = built_more c.args.percent c.args.hashes.now l.hashes added.new.hashes l.words added.new.words l.sizes l.level l.used size l.left
           added.result l.invariant.built (omega (arith, c.loop-level-test.true, l.auto.level-end, l.auto.sizes, c.min-most.ensures)) inside
-          added.ensures.before some c.level_len-size.ensures l.invariant.few added.ensures.level added.ensures.left;
+          added.ensures.before some is l.invariant.few added.ensures.level added.ensures.left;
     }
 
 pub returns-clause-numbers : goal.returns-clause-numbers

@@ -1,0 +1,43 @@
+-- What the items of a list of answers stand for.
+use Rattle.std.proofs.Common.{◌≡◌, ℕ, ◌-◌, ◌^◌, ◌<◌, ◌↔◌, Bool, true, false, IsTrue, List, if◌then◌else◌, nat_eq, ne_eqb, refl, sym, ap, ◌∙◌, inl, arith}
+use Rattle.std.proofs.lemmas.Bool.{false≢true}
+use Rattle.std.specs.List.{Contains}
+use Rattle.elias_fano.specs.declared.answer.Sought.{Sought}
+use Rattle.elias_fano_lent.specs.LentParts.{Holds, LentParts}
+use Rattle.elias_fano_lent.specs.Told.{TellsLess}
+use Rattle.bitm_lent.specs.Queries.{ranked_by}
+use Rattle.bitm_lent.specs.declared.ranked.Ranked.TheVariants as Rank
+use Rattle.bitm_c.specs.Numbers.{IsContained}
+use Rattle.bitm_c.specs.Sequence.{sought_by}
+
+-- a number that is no code stands for itself
+pub sought_index : (n : ℕ) → n < 2 ^ 64 - 2 → sought_by n ≡ Sought.Found n
+sought_index n below =
+    ap (λ (e : Bool). if e then Sought.Absent else if nat_eq n (2 ^ 64 - 2) then Sought.WrongParts else Sought.Found n)
+    (ne_eqb n (2 ^ 64 - 1) (λ e. omega (arith, e, below)))
+    ∙ ap (λ (e : Bool). if e then Sought.WrongParts else Sought.Found n) (ne_eqb n (2 ^ 64 - 2) (λ e. omega (arith, e, below)))
+
+pub ranked_number : (n : ℕ) → n < 2 ^ 64 - 2 → ranked_by n ≡ Rank.Count n
+ranked_number n below =
+    ap (λ (e : Bool). if e then Rank.Absent else if nat_eq n (2 ^ 64 - 2) then Rank.WrongTables else Rank.Count n)
+    (ne_eqb n (2 ^ 64 - 1) (λ e. omega (arith, e, below)))
+    ∙ ap (λ (e : Bool). if e then Rank.WrongTables else Rank.Count n) (ne_eqb n (2 ^ 64 - 2) (λ e. omega (arith, e, below)))
+
+-- a truth is 0 or 1
+pub contained_as : (value : ℕ) (parts : LentParts) (n : ℕ) (is : Bool) → (is ≡ true → n ≡ 1) → (is ≡ false → n ≡ 0)
+    → (p : ℕ) × TellsLess parts value p × (p ≡ parts.len → is ≡ false)
+    → ((xs : List ℕ) → Holds xs parts → IsTrue is ↔ Contains xs value) → IsContained value parts n
+contained_as value parts n true one zero less answer =
+    let is : n ≡ 1 = one refl in
+    record {
+      truth = inl (omega arith);
+      less = λ _. (less.0, less.1, λ all. absurd (false≢true (sym (less.2 all))));
+      right = λ xs h. (omega arith, (λ _. (answer xs h).0 refl, λ _. is));
+    }
+contained_as value parts n false one zero less answer =
+    let is : n ≡ 0 = zero refl in
+    record {
+      truth = inl (omega arith);
+      less = λ _. (less.0, less.1, λ _. is);
+      right = λ xs h. (omega arith, (λ e. absurd (omega (arith, e, is)), λ held. absurd (false≢true ((answer xs h).1 held))));
+    }
