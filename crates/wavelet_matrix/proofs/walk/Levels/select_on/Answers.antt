@@ -50,6 +50,9 @@ loop-up-init g c =
           upper = omega (arith, r.at_most.upper);
           lower = omega (arith, r.at_most.lower);
           words = omega (arith, r.at_most.words);
+          upper_kept = r.at_most.upper_kept;
+          lower_kept = r.at_most.lower_kept;
+          words_kept = r.at_most.words_kept;
         };
         same = r.same;
       };
@@ -58,6 +61,9 @@ loop-up-init g c =
           upper = omega (arith, (r.quick e).upper);
           lower = omega (arith, (r.quick e).lower);
           words = omega (arith, (r.quick e).words);
+          upper_kept = (r.quick e).upper_kept;
+          lower_kept = (r.quick e).lower_kept;
+          words_kept = (r.quick e).words_kept;
         };
         same = r.same;
       };
