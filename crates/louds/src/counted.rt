@@ -8,7 +8,7 @@ use bitm::{TableSource, binary_select_on, bit_on};
 
 /// The place of the zero before the ones of a node, or of the last zero.
 #[inline(always)]
-fn zero_on<T: TableSource>(source: &mut T, len: usize, node: usize) -> usize
+pub(crate) fn zero_on<T: TableSource>(source: &mut T, len: usize, node: usize) -> usize
     requires tree { IsLouds len (T.lists source.old) }
     requires node { node ≤ len }
     ensures place { result ≡ zero_place (degrees_in len (T.lists source.old)) node }

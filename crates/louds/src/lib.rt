@@ -24,6 +24,7 @@ pub mod laws;
 mod making;
 mod node;
 mod parents;
+mod run;
 mod tree;
 
 pub use checking::is_tree;

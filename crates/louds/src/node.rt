@@ -1,9 +1,10 @@
-//! Nodes that carry their places, so that a walk selects once where it goes. What the calls cost is read in the code: no
-//! clause counts it, as those of `counted` do for walks by numbers.
+//! Nodes that carry their places, so that a walk selects once where it goes. What is read from a node's place on, the
+//! clauses of `run` count; what a selection by the tree's own strategy reads, no clause here does.
 ghost use Rattle.std.specs.Prelude.{◌≡◌, ◌==◌, ◌<◌, length, slice_index};
 ghost use Rattle.louds.specs.Node.{IsNode, MatchesChildNode, MatchesNextSiblingNode, MatchesParentNode};
 ghost use Rattle.louds.specs.Tree.{AreChildren, IsChild};
 
+use crate::run::{children_from_on, degree_from_on};
 use crate::tree::Louds;
 use bitm::{Select0ForRank101111, SelectForRank101111};
 use std::marker::Model;
@@ -78,14 +79,13 @@ impl<S: SelectForRank101111, S0: Select0ForRank101111> Louds<S, S0> {
     /// # Conditions
     /// It is a node of this tree.
     /// # Cost
-    /// Two words; one selection where it has more than 64 children.
+    /// Two words; a selection by binary search where it has more than 64 children.
     #[inline]
-    #[tactic(auto, using(crate::proofs::lemmas::TreeLemmas::zero_place_more))]
     pub fn degree_of(&self, node: Node) -> usize
         requires { IsNode self.now.degrees node }
         ensures { result ≡ slice_index self.now.degrees node.number }
     {
-        self.end(node.number, node.place) - node.place - 1
+        degree_from_on(&mut self.probe(), self.len(), node.number, node.place)
     }
 
     /// Whether a node has no children: `is_leaf` without its selection.
@@ -107,14 +107,13 @@ impl<S: SelectForRank101111, S0: Select0ForRank101111> Louds<S, S0> {
     /// # Conditions
     /// It is a node of this tree.
     /// # Cost
-    /// Two words; one selection where it has more than 64 children.
+    /// Two words; a selection by binary search where it has more than 64 children.
     #[inline]
     pub fn children_of(&self, node: Node) -> Range<usize>
         requires { IsNode self.now.degrees node }
         ensures { AreChildren self.now.degrees node.number result.start result.end }
     {
-        let end = self.end(node.number, node.place);
-        node.place - node.number..end - node.number - 1
+        children_from_on(&mut self.probe(), self.len(), node.number, node.place)
     }
 
     /// Child `k` of a node that has more than `k` children: `child_of` without its test.

@@ -12,6 +12,7 @@ ghost use Rattle.louds.specs.Tree.{MatchesPreviousSibling};
 use crate::checking::is_tree;
 use crate::error::LoudsError;
 use crate::making::make_bits;
+use crate::run::{child_from_on, children_from_on, degree_from_on, end_on};
 use bitm::{
     Access, AdaptiveCombinedSamplingDensity, BinaryRankSearch, CombinedSampling, GetSize, Probe,
     RankSelect101111, Select, Select0, Select0ForRank101111, SelectForRank101111, words,
@@ -114,8 +115,10 @@ impl<S: SelectForRank101111, S0: Select0ForRank101111> Louds<S, S0> {
         self.index.select0(node)
     }
 
-    /// The place of the zero after the ones of a node, where that before them stands at `start`. It is mostly in one of
-    /// the two words that have the bits behind `start`; else it is selected.
+    /// The place of the zero after the ones of a node, where that before them stands at `start`.
+    ///
+    /// # Cost
+    /// That of `run::end_on`.
     #[inline(always)]
     pub(crate) fn end(&self, node: usize, start: usize) -> usize
         requires node { node < length self.now.degrees }
@@ -123,22 +126,7 @@ impl<S: SelectForRank101111, S0: Select0ForRank101111> Louds<S, S0> {
         ensures place { result ≡ zero_place self.now.degrees (node + 1) }
         ensures small { result < 2 ^ 62 }
     {
-        let words = self.index.content().as_slice();
-        let near = &words[..words.len().min((start + 1) / 64 + 2)];
-        match words::find_bit_zero(near, start + 1) {
-            Some(place) => place,
-            None => self.far_zero(node + 1),
-        }
-    }
-
-    /// What `zero` answers, out of the way of `end`, which seldom asks it.
-    #[inline(never)]
-    fn far_zero(&self, node: usize) -> usize
-        requires { node ≤ length self.now.degrees }
-        ensures place { result ≡ zero_place self.now.degrees node }
-        ensures small { result < 2 ^ 62 }
-    {
-        self.zero(node)
+        end_on(&mut self.probe(), self.len(), node, start)
     }
 
     /// The place of the zero before the ones among which that of a node stands, where its own is at `one`.
@@ -182,16 +170,13 @@ impl<S: SelectForRank101111, S0: Select0ForRank101111> Louds<S, S0> {
     /// # Conditions
     /// There is such a node.
     /// # Cost
-    /// One selection and two words; two selections where it has more than 64 children.
+    /// One selection and two words; where it has more than 64 children a selection by binary search too.
     #[inline]
-    #[tactic(auto, using(crate::proofs::lemmas::TreeLemmas::zero_place_more))]
     pub fn degree(&self, node: usize) -> usize
         requires { node < length self.now.degrees }
         ensures { result ≡ slice_index self.now.degrees node }
     {
-        let start = self.zero(node);
-        let end = self.end(node, start);
-        end - start - 1
+        degree_from_on(&mut self.probe(), self.len(), node, self.zero(node))
     }
 
     /// Whether a node has no children.
@@ -213,22 +198,14 @@ impl<S: SelectForRank101111, S0: Select0ForRank101111> Louds<S, S0> {
     /// # Conditions
     /// There is such a node.
     /// # Cost
-    /// One selection and two words; two selections where it has more than 64 children.
+    /// One selection and two words; where it has more than 64 children a selection by binary search too.
     #[inline]
-    #[tactic(auto, using(crate::proofs::lemmas::TreeLemmas::zero_place_more))]
     pub fn child(&self, node: usize, k: usize) -> Option<usize>
         requires { node < length self.now.degrees }
         ensures child { MatchesChild self.now.degrees node k result }
         ensures inside { IfSome result (λ child. child < length self.now.degrees) }
     {
-        let _nodes = self.len();
-        let start = self.zero(node);
-        let end = self.end(node, start);
-        if k < end - start - 1 {
-            Some(start + k - node)
-        } else {
-            None
-        }
+        child_from_on(&mut self.probe(), self.len(), node, self.zero(node), k)
     }
 
     /// The first child of a node; `None` exactly where it has none.
@@ -236,7 +213,7 @@ impl<S: SelectForRank101111, S0: Select0ForRank101111> Louds<S, S0> {
     /// # Conditions
     /// There is such a node.
     /// # Cost
-    /// One selection and two words; two selections where it has more than 64 children.
+    /// One selection and two words; where it has more than 64 children a selection by binary search too.
     #[inline]
     pub fn first_child(&self, node: usize) -> Option<usize>
         requires { node < length self.now.degrees }
@@ -251,15 +228,13 @@ impl<S: SelectForRank101111, S0: Select0ForRank101111> Louds<S, S0> {
     /// # Conditions
     /// There is such a node.
     /// # Cost
-    /// One selection and two words; two selections where it has more than 64 children.
+    /// One selection and two words; where it has more than 64 children a selection by binary search too.
     #[inline]
     pub fn children(&self, node: usize) -> Range<usize>
         requires { node < length self.now.degrees }
         ensures { AreChildren self.now.degrees node result.start result.end }
     {
-        let start = self.zero(node);
-        let end = self.end(node, start);
-        start - node..end - node - 1
+        children_from_on(&mut self.probe(), self.len(), node, self.zero(node))
     }
 
     /// The last child of a node; `None` exactly where it has none.
@@ -267,7 +242,7 @@ impl<S: SelectForRank101111, S0: Select0ForRank101111> Louds<S, S0> {
     /// # Conditions
     /// There is such a node.
     /// # Cost
-    /// One selection and two words; two selections where it has more than 64 children.
+    /// One selection and two words; where it has more than 64 children a selection by binary search too.
     #[inline]
     pub fn last_child(&self, node: usize) -> Option<usize>
         requires { node < length self.now.degrees }

@@ -1,5 +1,5 @@
 -- The parent of which the node is a child, and where its ones begin.
-use Rattle.std.proofs.Common.{◌≡◌, ◌-◌, ◌<◌, ℕ, sym, ap, arith, subst}
+use Rattle.std.proofs.Common.{◌≡◌, ◌-◌, ◌<◌, ℕ, ap, arith, subst}
 use Rattle.louds.specs.Node.{IsNode}
 use Rattle.louds.specs.Tree.{IsChild}
 use Rattle.louds.proofs.tree.Louds.parent_of.Goals as goal

@@ -1,5 +1,5 @@
 -- The last zero up to the one of a node is that before its parent's ones.
-use Rattle.std.proofs.Common.{◌≡◌, ◌+◌, ◌*◌, ◌<◌, ℕ, false, List, length, sym, ap, ◌∙◌, arith, subst}
+use Rattle.std.proofs.Common.{◌≡◌, ◌+◌, ℕ, false, List, length, ap, ◌∙◌, arith, subst}
 use Rattle.std.specs.Box.{boxed_slice_items}
 use Rattle.bitm.proofs.BitLaws.{bits_are_counted}
 use Rattle.bitm.specs.Bits.{bits_of}

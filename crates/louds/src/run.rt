@@ -1,0 +1,154 @@
+//! The ones of a node, its children, from where they begin, over any source: what they read is counted.
+ghost use Rattle.std.specs.Prelude.{◌≡◌, ◌+◌, ◌^◌, ◌<◌, ◌≤◌, false, slice_index, IfSome};
+ghost use Rattle.bitm.specs.Bits.{IsShort};
+ghost use Rattle.bitm.specs.Count.{IsFirstFrom};
+ghost use Rattle.bitm.specs.Reads.{OnlyReads};
+ghost use Rattle.bitm.specs.Tables.{bits_in};
+ghost use Rattle.louds.specs.Counted.{degrees_in, IsLouds, OnlySelects};
+ghost use Rattle.louds.specs.Held.{zero_place};
+ghost use Rattle.louds.specs.Tree.{AreChildren, MatchesChild};
+
+use crate::counted::zero_on;
+use bitm::{TableSource, words};
+use std::ops::Range;
+
+// In how many words the end of a node's ones is looked for before it is selected.
+const NEAR: usize = 2;
+
+/// The first zero from `from` on, in its word or the one after it; `None` where they have none.
+///
+/// # Conditions
+/// There are fewer than 2^58 words.
+/// # Cost
+/// The words up to that of the zero, two at most.
+#[inline(always)]
+fn near_zero_on<T: TableSource>(source: &mut T, from: usize) -> Option<usize>
+    requires { IsShort (T.lists source.old).words }
+    ensures zero { IfSome result (IsFirstFrom (bits_in (T.lists source.old)) false from) }
+    ensures reads { OnlyReads T.lists T.reads source.old source.new 0 0 2 }
+{
+    let mut start = from;
+    for _ in 0..NEAR {
+        let at = start / 64;
+        if at >= source.words_len() {
+            return None;
+        }
+        let word = source.word(at);
+        if let Some(place) = words::find_bit_zero(&[word], start % 64) {
+            return Some(64 * at + place);
+        }
+        start = 64 * at + 64;
+    }
+    None
+}
+
+/// The place of the zero before the ones of a node, or of the last zero, out of the way of `end_on`, which seldom asks
+/// it.
+#[inline(never)]
+fn far_zero_on<T: TableSource>(source: &mut T, len: usize, node: usize) -> usize
+    requires tree { IsLouds len (T.lists source.old) }
+    requires node { node ≤ len }
+    ensures place { result ≡ zero_place (degrees_in len (T.lists source.old)) node }
+    ensures small { result < 2 ^ 62 }
+    ensures reads { OnlySelects T.lists T.reads source.old source.new 1 0 }
+{
+    zero_on(source, len, node)
+}
+
+/// The place of the zero after the ones of a node, where that before them stands at `start`.
+///
+/// # Conditions
+/// The source holds a tree of `len` nodes, and there is such a node.
+/// # Cost
+/// Two words at most, and what a selection by binary search reads where these have no zero behind `start`.
+#[inline(always)]
+pub(crate) fn end_on<T: TableSource>(source: &mut T, len: usize, node: usize, start: usize) -> usize
+    requires tree { IsLouds len (T.lists source.old) }
+    requires node { node < len }
+    requires start { start ≡ zero_place (degrees_in len (T.lists source.old)) node }
+    ensures place { result ≡ zero_place (degrees_in len (T.lists source.old)) (node + 1) }
+    ensures small { result < 2 ^ 62 }
+    ensures reads { OnlySelects T.lists T.reads source.old source.new 1 2 }
+{
+    match near_zero_on(source, start + 1) {
+        Some(place) => place,
+        None => far_zero_on(source, len, node + 1),
+    }
+}
+
+/// How many children a node has, where the zero before its ones stands at `start`.
+///
+/// # Conditions
+/// Those of `end_on`.
+/// # Cost
+/// That of `end_on`.
+#[inline(always)]
+#[tactic(auto, using(crate::proofs::lemmas::TreeLemmas::zero_place_more))]
+pub(crate) fn degree_from_on<T: TableSource>(
+    source: &mut T,
+    len: usize,
+    node: usize,
+    start: usize,
+) -> usize
+    requires tree { IsLouds len (T.lists source.old) }
+    requires node { node < len }
+    requires start { start ≡ zero_place (degrees_in len (T.lists source.old)) node }
+    ensures degree { result ≡ slice_index (degrees_in len (T.lists source.old)) node }
+    ensures reads { OnlySelects T.lists T.reads source.old source.new 1 2 }
+{
+    end_on(source, len, node, start) - start - 1
+}
+
+/// The children of a node, in their order, where the zero before its ones stands at `start`.
+///
+/// # Conditions
+/// Those of `end_on`.
+/// # Cost
+/// That of `end_on`.
+#[inline(always)]
+pub(crate) fn children_from_on<T: TableSource>(
+    source: &mut T,
+    len: usize,
+    node: usize,
+    start: usize,
+) -> Range<usize>
+    requires tree { IsLouds len (T.lists source.old) }
+    requires node { node < len }
+    requires start { start ≡ zero_place (degrees_in len (T.lists source.old)) node }
+    ensures children { AreChildren (degrees_in len (T.lists source.old)) node result.start result.end }
+    ensures reads { OnlySelects T.lists T.reads source.old source.new 1 2 }
+{
+    let end = end_on(source, len, node, start);
+    start - node..end - node - 1
+}
+
+/// Child `k` of a node, where the zero before its ones stands at `start`; `None` exactly where it has no more than `k`
+/// children.
+///
+/// # Conditions
+/// Those of `end_on`.
+/// # Cost
+/// That of `end_on`.
+#[inline(always)]
+#[tactic(auto, using(crate::proofs::lemmas::TreeLemmas::zero_place_more))]
+pub(crate) fn child_from_on<T: TableSource>(
+    source: &mut T,
+    len: usize,
+    node: usize,
+    start: usize,
+    k: usize,
+) -> Option<usize>
+    requires tree { IsLouds len (T.lists source.old) }
+    requires node { node < len }
+    requires start { start ≡ zero_place (degrees_in len (T.lists source.old)) node }
+    ensures child { MatchesChild (degrees_in len (T.lists source.old)) node k result }
+    ensures inside { IfSome result (λ child. child < len) }
+    ensures reads { OnlySelects T.lists T.reads source.old source.new 1 2 }
+{
+    let end = end_on(source, len, node, start);
+    if k < end - start - 1 {
+        Some(start + k - node)
+    } else {
+        None
+    }
+}
