@@ -60,6 +60,7 @@ const TWO_WORDS: Case<'static> = Case {
         (128, Some(5)),
         (129, None),
         (0x1_0000_0001, None),
+        (usize::MAX, None),
     ],
     ones: &[
         (0, Some(0)),
@@ -70,6 +71,7 @@ const TWO_WORDS: Case<'static> = Case {
         (5, None),
         (0x1_0000_0001, None),
         (0x2_0000_0001, None),
+        (usize::MAX, None),
     ],
     zeros: &[],
 };

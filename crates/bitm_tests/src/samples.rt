@@ -67,6 +67,18 @@ fn one_sample_selects_past_the_distance_that_it_keeps(rt: HostRuntime) -> Result
     Ok(())
 }
 
+#[test]
+fn a_constant_density_keeps_that_one_sample_too(rt: HostRuntime) -> Result<(), Fail> {
+    let words = words_of(rt.alloc(), &[(u64::MAX, 1), (0, 95_999), (u64::MAX, 1)])?;
+    let (index, _) = index_over::<Each<7>, BinaryRankSearch>(rt.alloc(), words.as_slice())?;
+    let ones = index.select_support();
+    assert!(rt; (ones.sample_count(), ones.samples()) == (1, [0xFFE0_0000].as_slice()));
+    for (rank, position) in [(63, Some(63)), (64, Some(6_144_000)), (128, None)] {
+        assert!(rt; one_agrees(&index, rank, position));
+    }
+    Ok(())
+}
+
 /// Stops where the samples of that content are others than by hand.
 fn expect_samples(rt: &impl Abort, ones: &Sampled, zeros: &Sampled) {
     assert!(rt; ones.samples() == [0xFFE0_0000].as_slice());

@@ -1,14 +1,15 @@
 //! Sequences, by rows that are worked out by hand. Of the first one, 2, 3, 5, 7, 11, 13 and 24, each number keeps one
-//! low digit (0, 1, 1, 1, 1, 1, 0), and its upper one stands at the rest of it, halved, and its place more: 1, 1 + 1,
-//! 2 + 2, 3 + 3, 5 + 4, 6 + 5 and 12 + 6.
+//! low bit (0, 1, 1, 1, 1, 1, 0), and its 1 bit in the upper vector stands at its half, rounded down, plus its index: 1,
+//! 1 + 1, 2 + 2, 3 + 3, 5 + 4, 6 + 5 and 12 + 6. The upper vectors of the five rows have 20, 1, 9, 3 and 3 bits, so one
+//! word each.
 use bitm::BitAccess;
 use elias_fano::{EfError, EliasFano};
 use std::alloc::{AllocError, Global};
 use std::process::Abort;
 use std::test::Fail;
 
-/// Numbers, how many low digits each keeps, where their upper ones stand, and values, with the place of the first number
-/// that is at least as great.
+/// Numbers, how many low bits each keeps, the positions of the 1 bits in the upper vector, and values, each with the
+/// index of the first number that is at least as great.
 #[derive(Clone, Copy)]
 struct Case<'a> {
     items: &'a [u64],
@@ -56,7 +57,12 @@ fn agrees(alloc: Global, case: &Case<'_>) -> Result<bool, EfError> {
     let mut agrees = (sequence.len(), sequence.low_width()) == (case.items.len(), case.width);
     for (i, x) in case.items.iter().enumerate() {
         agrees &= sequence.try_get(i) == Some(*x);
+        agrees &= i < sequence.len() && sequence.get(i) == *x;
     }
+    for past in [case.items.len(), usize::MAX] {
+        agrees &= sequence.try_get(past) == None;
+    }
+    agrees &= sequence.upper_words().len() == 1;
     for (i, place) in case.ones.iter().enumerate() {
         agrees &= sequence.upper_words().bit_ones().nth(i) == Some(*place);
     }
@@ -112,7 +118,7 @@ fn expect_nearest(rt: &impl Abort, sequence: &EliasFano) {
     }
 }
 
-/// So many multiples of 256, from 0 on.
+/// The given number of multiples of 256, from 0 on.
 fn multiples(alloc: Global, count: u32) -> Result<Vec<u64>, AllocError> {
     let mut items = Vec::new(alloc);
     for i in 0..count {
@@ -121,7 +127,7 @@ fn multiples(alloc: Global, count: u32) -> Result<Vec<u64>, AllocError> {
     Ok(items)
 }
 
-/// Whether each of the numbers, no two of which are equal, is found at its place.
+/// Whether each of the numbers, no two of which are equal, is found at its index.
 fn each_is_found(sequence: &EliasFano, items: &[u64]) -> bool {
     for (i, x) in items.iter().enumerate() {
         if (sequence.try_get(i), sequence.first_at_least(*x)) != (Some(*x), Some(i)) {
@@ -137,6 +143,42 @@ fn each_of_many_numbers_is_found_at_its_place(rt: HostRuntime) -> Result<(), Fai
     let sequence = EliasFano::build(rt.alloc(), items.as_slice())?;
     assert!(rt; each_is_found(&sequence, items.as_slice()));
     assert!(rt; sequence.try_get(usize::MAX) == None);
+    Ok(())
+}
+
+/// Stops where the searches among `count` numbers 2^40, in many rounds, answer otherwise than the first and the last
+/// index. A search that went over the numbers that share the high bits of a value would not end in time.
+fn expect_among_equals(rt: &impl Abort, sequence: &EliasFano, count: usize) {
+    let value = 1 << 40;
+    for _ in 0..0x8_0000u32 {
+        assert!(rt; sequence.first_at_least(value) == Some(0));
+        assert!(rt; sequence.last_at_most(value) == count.checked_sub(1));
+        assert!(rt; sequence.contains(value));
+    }
+    assert!(rt;
+        (
+            sequence.first_at_least(0),
+            sequence.first_at_least(value + 1)
+        ) == (Some(0), None)
+    );
+    assert!(rt;
+        (
+            sequence.last_at_most(value - 1),
+            sequence.last_at_most(value + 1)
+        ) == (None, count.checked_sub(1))
+    );
+    assert!(rt; !sequence.contains(value - 1) && !sequence.contains(value + 1));
+}
+
+#[test]
+fn equal_numbers_are_searched_without_going_over_them(rt: HostRuntime) -> Result<(), Fail> {
+    let count = 0x40_0000;
+    let mut items = Vec::new(rt.alloc());
+    for _ in 0..count {
+        items.push(1u64 << 40)?;
+    }
+    let sequence = EliasFano::build(rt.alloc(), items.as_slice())?;
+    expect_among_equals(&rt, &sequence, count);
     Ok(())
 }
 

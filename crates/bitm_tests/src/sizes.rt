@@ -1,5 +1,5 @@
 //! Which types keep bytes on the heap, which no clause can say of a constant, and how many, added up by hand.
-use crate::walk::Sampled;
+use crate::walk::{Sampled, owned_by};
 use bitm::{ArrayWithRank101111, ArrayWithRankSimple, BinaryRankSearch, GetSize, RankSelect101111};
 use elias_fano::EliasFano;
 use std::test::Fail;
@@ -23,5 +23,14 @@ fn an_index_takes_the_bytes_of_its_parts(rt: HostRuntime) -> Result<(), Fail> {
     // one upper and two lower entries, one sample and one start of ones, one start of zeros
     let bytes = built.ok().map(|made| made.0.size_bytes_dyn());
     assert!(rt; bytes == Some(8 + 16 + 4 + 8 + 8));
+    Ok(())
+}
+
+#[test]
+fn an_index_that_owns_its_words_takes_their_bytes_too(rt: HostRuntime) -> Result<(), Fail> {
+    let words = [u64::MAX; 35];
+    let (index, _) = owned_by::<Sampled, Sampled>(rt.alloc(), words.as_slice())?;
+    // the words, two lower entries, one upper entry, one sample and one start of 1 bits, one start of 0 bits
+    assert!(rt; index.size_bytes_dyn() == 280 + 16 + 8 + 12 + 8);
     Ok(())
 }

@@ -2,8 +2,9 @@
 //! an index answers agrees with it. The walk stands on a read of one bit and on nothing of the index. Each call says
 //! whether all agrees, and a test asserts it.
 use bitm::{
-    AdaptiveCombinedSamplingDensity, ArrayWithRank101111, BitAccess, CombinedSampling, Rank,
-    RankSelect101111, Select, Select0, Select0ForRank101111, SelectForRank101111,
+    AdaptiveCombinedSamplingDensity, ArrayWithRank101111, BinaryRankSearch, BitAccess,
+    CombinedSampling, Rank, RankSelect101111, Select, Select0, Select0ForRank101111,
+    SelectForRank101111,
 };
 use std::alloc::{AllocError, Global};
 use std::boxed::BoxedSlice;
@@ -68,6 +69,14 @@ pub fn index_over<'a, S: SelectForRank101111, S0: Select0ForRank101111>(
 
 /// An index over words of its own, which are the same, and the number of ones.
 pub fn owned(alloc: Global, words: &[u64]) -> Result<(ArrayWithRank101111, usize), AllocError> {
+    owned_by::<BinaryRankSearch, BinaryRankSearch>(alloc, words)
+}
+
+/// The same with strategies of the caller's choice.
+pub fn owned_by<S: SelectForRank101111, S0: Select0ForRank101111>(
+    alloc: Global,
+    words: &[u64],
+) -> Result<(RankSelect101111<S, S0, BoxedSlice<u64, Global>>, usize), AllocError> {
     let content = BoxedSlice::from_slice(alloc, words)?;
     if content.as_slice().len() >= TOO_MANY_WORDS {
         return Err(AllocError);
