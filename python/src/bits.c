@@ -58,6 +58,11 @@ PyObject *bits_subscript(PyObject *self, PyObject *key)
     return PyBool_FromLong((long)bit);
 }
 
+PyObject *bits_iter(PyObject *self)
+{
+    return PySeqIter_New(self);
+}
+
 int bits_contains(PyObject *self, PyObject *value)
 {
     Bits bits;

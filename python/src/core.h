@@ -239,6 +239,7 @@ PyObject *bits_item(PyObject *self, Py_ssize_t index);
 PyObject *bits_subscript(PyObject *self, PyObject *key);
 PyObject *bits_compare(PyObject *self, PyObject *other, int how);
 int bits_contains(PyObject *self, PyObject *value);
+PyObject *bits_iter(PyObject *self);
 Py_ssize_t bits_len(PyObject *self);
 PyObject *bits_ones(PyObject *self, PyObject *const *args, Py_ssize_t count, PyObject *keywords);
 PyObject *bits_zeros(PyObject *self, PyObject *const *args, Py_ssize_t count, PyObject *keywords);

@@ -277,7 +277,7 @@ static PyGetSetDef attributes[] = {VALUE_CLOSED, {NULL, NULL, NULL, NULL, NULL}}
 
 static PyType_Slot slots[] = {
     {Py_tp_doc, DOC("PerfectHash(keys, *, bits=16, percent=100, seed=0, hash='siphash')\n--\n\nA number of its own, below their count, for "
-                    "each key of a set (str, bytes or int). No key is kept, but a fingerprint of so many bits for each: of others, one "
+                    "each key of a set (str, bytes or int). No key is kept, but a fingerprint of `bits` bits for each: of others, one "
                     "in 2**bits is taken for a key.")},
     {Py_tp_init, hash_init},
     {Py_tp_methods, methods},

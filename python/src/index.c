@@ -242,6 +242,7 @@ static PyType_Slot slots[] = {
     {Py_tp_repr, index_repr},
     {Py_tp_richcompare, bits_compare},
     {Py_tp_hash, PyObject_HashNotImplemented},
+    {Py_tp_iter, bits_iter},
     {Py_sq_length, bits_len},
     {Py_sq_item, bits_item},
     {Py_sq_contains, bits_contains},

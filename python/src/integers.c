@@ -79,7 +79,7 @@ int integers_take(Integers *it, PyObject *from, const char *what)
         integers_drop(it);
         return -1;
     }
-    /* ctypes arrays give no strides though they are asked for. */
+    /* A ctypes array gives no strides, though these are requested. */
     it->len = held->shape != NULL ? (size_t)held->shape[0] : (size_t)(held->len / held->itemsize);
     it->stride = held->strides != NULL ? held->strides[0] : held->itemsize;
     it->size = (int)held->itemsize;

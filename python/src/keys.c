@@ -1,7 +1,7 @@
 /* Hashes of keys: two numbers of 64 bits for each, its hash and what its fingerprint is of. */
 #include "core.h"
 
-/* What tells keys of different kinds with the same bytes apart. */
+/* The kinds of keys: keys of different kinds may have the same bytes. */
 enum { TEXT = 1, BYTES = 2, NUMBER = 3, LARGE_NUMBER = 4 };
 
 #define ROTATE(x, b) ((x) << (b) | (x) >> (64 - (b)))

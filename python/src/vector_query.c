@@ -1,4 +1,4 @@
-/* bitm.BitVector: what is asked of its bits. */
+/* bitm.BitVector: queries, and numbers in bits. */
 #include "vector.h"
 
 /* ---- ranges */

@@ -124,12 +124,12 @@ class Vectors(RuleBasedStateMachine):
         assert list(~self.vector) == [not a for a in self.list]
         assert list(self.vector + with_) == self.list + other
 
-    @rule(lent=st.sampled_from([bitm.Index, memoryview]))
-    def lend(self, lent):
-        held = lent(self.vector)
+    @rule(borrower=st.sampled_from([bitm.Index, memoryview]))
+    def lend(self, borrower):
+        held = borrower(self.vector)
         with pytest.raises(BufferError):
             self.vector.append(1)
-        held.close() if lent is bitm.Index else held.release()
+        held.close() if borrower is bitm.Index else held.release()
 
     @invariant()
     def same(self):
