@@ -58,10 +58,7 @@ PyObject *bits_subscript(PyObject *self, PyObject *key)
     return PyBool_FromLong((long)bit);
 }
 
-PyObject *bits_iter(PyObject *self)
-{
-    return PySeqIter_New(self);
-}
+PyObject *bits_iter(PyObject *self) { return PySeqIter_New(self); }
 
 int bits_contains(PyObject *self, PyObject *value)
 {
@@ -82,7 +79,8 @@ PyObject *bits_compare(PyObject *self, PyObject *other, int how)
         Py_RETURN_NOTIMPLEMENTED;
     if (bits_of(self, &a) || bits_of(other, &b))
         return NULL;
-    if (a.len == b.len && bitm_bits_equal_range(a.words, a.words_len, 0, b.words, b.words_len, 0, a.len, &is_same) != BITM_OK)
+    if (a.len == b.len &&
+        bitm_bits_equal_range(a.words, a.words_len, 0, b.words, b.words_len, 0, a.len, &is_same) != BITM_OK)
         return wrong();
     return PyBool_FromLong((how == Py_EQ) == (int)is_same);
 }
@@ -92,7 +90,7 @@ PyObject *bits_compare(PyObject *self, PyObject *other, int how)
 enum { ROOM = 64 };
 
 typedef struct {
-    Walk walk; /* over a BitVector or an Index */
+    Walk walk;           /* over a BitVector or an Index */
     uint64_t from, stop; /* where the rest lies */
     int bit, is_reversed;
     uint64_t at, count; /* of room */

@@ -70,7 +70,8 @@ static PyObject *header_of(uint32_t status, const struct bitm_stored *header)
             Py_CLEAR(begins);
     if (begins == NULL)
         return NULL;
-    return Py_BuildValue("(y#KN)", (const char *)header, (Py_ssize_t)sizeof *header, (unsigned long long)header->size, begins);
+    return Py_BuildValue("(y#KN)", (const char *)header, (Py_ssize_t)sizeof *header, (unsigned long long)header->size,
+                         begins);
 }
 
 PyObject *stored_index_header(PyObject *module, PyObject *args)
