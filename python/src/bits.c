@@ -1,7 +1,8 @@
 /* What BitVector and Index share: single bits, slices, comparison, and the positions of their 1 bits and 0 bits. */
 #include "vector.h"
 
-int bits_of(PyObject *self, Bits *out)
+/* The bits of a BitVector or of an Index that is open: valid as long as no Python code runs. -1 and an error. */
+static int bits_of(PyObject *self, Bits *out)
 {
     if (PyObject_TypeCheck(self, Vector_Type)) {
         *out = ((Vector *)self)->bits;

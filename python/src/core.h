@@ -117,9 +117,7 @@ int memory_words(Memory *it, PyObject *from, const uint64_t **words, size_t *len
 /* The items of a buffer, of the given size each: in place, or copied where they are not aligned. */
 int memory_items(Memory *it, PyObject *from, size_t size, const void **at, size_t *len);
 
-/* The class of that name in a module that the program has imported, as a new reference; NULL, and no error, if it has
- * not. Nothing is imported here. */
-PyObject *type_in(const char *module, const char *name);
+/* Whether it is of the class of that name, in a module that the program has imported: nothing is imported here. */
 int is_instance(PyObject *it, const char *module, const char *name);
 
 /* ---- value.c: an object that has memory, and what Python code may see of it */
@@ -200,7 +198,7 @@ PyObject *more(const char *name, PyObject *args);
 
 /* ---- lists.c: many queries at once */
 
-/* Asks about count items; out has an answer for each. `one` is for calls that have a kind of bit. Needs no GIL. */
+/* Answers count queries; out has an answer for each. `one` is for calls that have a kind of bit. Needs no GIL. */
 typedef uint32_t (*list_call)(const Memory *memory, bool one, const uint64_t *in, uint64_t *out, size_t count,
                               struct bitm_list_counts *counts);
 
@@ -237,8 +235,6 @@ typedef struct {
 } Bits;
 #define BITS(it) (it).words, (it).words_len, (it).len
 
-/* The bits of a BitVector or of an Index that is open: valid as long as no Python code runs. -1 and an error. */
-int bits_of(PyObject *self, Bits *out);
 PyObject *bits_item(PyObject *self, Py_ssize_t index);
 PyObject *bits_subscript(PyObject *self, PyObject *key);
 PyObject *bits_compare(PyObject *self, PyObject *other, int how);

@@ -124,7 +124,8 @@ int memory_items(Memory *it, PyObject *from, size_t size, const void **at, size_
     return placed(it, held, size, 0, at, len);
 }
 
-PyObject *type_in(const char *module, const char *name)
+/* A class of a module that is imported already, as a new reference; else NULL, and no error. */
+static PyObject *type_in(const char *module, const char *name)
 {
     PyObject *text = PyUnicode_InternFromString(module), *found = text == NULL ? NULL : PyImport_GetModule(text);
     PyObject *type = found == NULL ? NULL : PyObject_GetAttrString(found, name);
