@@ -1,6 +1,7 @@
 #!/usr/bin/env python3
 """calls.py LOG2 ROUNDS: times the calls of the Python package over 2^LOG2 random bits, and beside them bitarray's, NumPy's
-and bisect's, where these are installed. Prints CSV rows: name, by, LOG2, kind of bits, least time of all rounds, unit, sum of the answers.
+and bisect's, where these are installed. Prints CSV rows: name, by, LOG2, kind of bits, least time of all rounds, unit,
+sum of the answers. The time is that of a query, a bit, a position, a number or a key.
 Rows, words, queries and clock are those of the crate `bench`; single calls are timed for the first 2^12 queries alone, with
 the loop around them. With NumPy the lists are arrays. With BITM_LIB (the archive) the rows `C` are the library's calls of
 the same lists."""
@@ -51,7 +52,7 @@ class Rows:
 
     def single(self, name, by, call, asked):
         """A function of one argument, without a Python frame around it."""
-        asked = asked[: SINGLE if by == "Python" or name != "rank" else 64]
+        asked = asked[:SINGLE]
         self.add(name, by, len(asked), lambda: collections.deque(map(call, asked), 0), lambda: map(call, asked))
 
     def item(self, name, by, it, asked):
@@ -105,8 +106,8 @@ def changes(rows, vector, some):
     if bitarray is not None:
         bits = bitarray.bitarray(endian="little")
         bits.frombytes(vector.tobytes())
-        rows.single("rank", "bitarray", lambda at: bits.count(1, 0, at), asked)
-        rows.single("next_one", "bitarray", lambda at: bits.find(1, at), asked)
+        rows.single("count(1, 0, i)", "bitarray", lambda at: bits.count(1, 0, at), asked[:64])
+        rows.single("find(1, i)", "bitarray", lambda at: bits.find(1, at), asked)
         rows.item("vector[i]", "bitarray", bits, asked)
         rows.add("vector[i] = True", "bitarray", SINGLE, set_each(bits.copy()), lambda: asked)
         rows.whole("vector[5:-5]", "bitarray", len(vector), lambda: [bits[5:-5].count()])
@@ -151,7 +152,9 @@ def of_library(rows, index, some):
         struct[2 * at : 2 * at + 2] = part.ctypes.data, len(part)
     struct[6] = len(index)
     counts, out = numpy.zeros(2, dtype=numpy.uint64), numpy.zeros(QUERIES, dtype=numpy.uint64)
-    for name, call, one, limit in (("rank_list", library.bitm_index_rank_list, 1, len(index)), ("select_list", library.bitm_index_select_list, 1, ones), ("select0_list", library.bitm_index_select_list, 0, len(index) - ones)):
+    calls = (("rank_list", library.bitm_index_rank_list, 1, len(index)), ("select_list", library.bitm_index_select_list, 1, ones),
+             ("select0_list", library.bitm_index_select_list, 0, len(index) - ones))
+    for name, call, one, limit in calls:
         queries = numpy.array([at % limit for at in some], dtype=numpy.uint64)
         call.argtypes = [ctypes.c_void_p, ctypes.c_bool, ctypes.c_void_p, ctypes.c_size_t, ctypes.c_void_p, ctypes.c_size_t, ctypes.c_void_p]
         given = (struct.ctypes.data, bool(one), queries.ctypes.data, QUERIES, out.ctypes.data, QUERIES, counts.ctypes.data)

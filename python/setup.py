@@ -7,9 +7,11 @@ BITM_TAG                 a platform, as manylinux_2_17_x86_64 or musllinux_1_1_x
 BITM_CFLAGS              more flags, as -fsanitize=address
 SOURCE_DATE_EPOCH        makes two builds the same bytes
 """
+import gzip
 import os
 import pathlib
 import shutil
+import tarfile
 
 from setuptools import Extension, setup
 from setuptools.command.sdist import sdist
@@ -41,6 +43,20 @@ class WithArchive(sdist):
             path = pathlib.Path(base_dir, target)
             path.parent.mkdir(exist_ok=True)
             shutil.copyfile(source, path)
+
+    def make_archive(self, base_name, format, root_dir=None, base_dir=None, owner=None, group=None):
+        if format != "gztar" or "SOURCE_DATE_EPOCH" not in os.environ:
+            return super().make_archive(base_name, format, root_dir, base_dir, owner, group)
+        time = int(os.environ["SOURCE_DATE_EPOCH"])
+        pathlib.Path(base_name).parent.mkdir(parents=True, exist_ok=True)
+        with open(f"{base_name}.tar.gz", "wb") as file, gzip.GzipFile("", "wb", 9, file, time) as packed:
+            with tarfile.open(fileobj=packed, mode="w", format=tarfile.GNU_FORMAT) as tar:
+                for path in sorted(it for it in pathlib.Path(base_dir).rglob("*") if it.is_file()):
+                    info = tarfile.TarInfo(path.as_posix())
+                    info.size, info.mtime, info.mode = path.stat().st_size, time, 0o755 if os.access(path, os.X_OK) else 0o644
+                    with open(path, "rb") as source:
+                        tar.addfile(info, source)
+        return f"{base_name}.tar.gz"
 
 
 setup(

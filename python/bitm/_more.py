@@ -104,7 +104,30 @@ def parts(self: Any) -> Any:
     return (width, *map(memoryview, windows))
 
 
-# ---- sequences
+# ---- what a sequence of Python's has too
+
+
+def vector_reverse(self: Any) -> None:
+    """Reverses the order of the bits."""
+    self[:] = self[::-1]
+
+
+def vector_remove(self: Any, bit: Any, /) -> None:
+    """Removes the first such bit; ValueError where there is none."""
+    del self[self.index(bit)]
+
+
+def index_index(self: Any, bit: Any, start: int = 0, stop: Optional[int] = None) -> int:
+    """The position of the first such bit in a range; ValueError where there is none."""
+    if bit not in (0, 1):
+        raise ValueError(f"a bit is true or false, not {bit!r}")
+    found: Optional[int] = (self.next_one if bit else self.next_zero)(start)
+    if found is None or (stop is not None and found >= stop):
+        raise ValueError("there is no such bit")
+    return found
+
+
+# ---- sequences of numbers
 
 
 def intersection(self: Any, *others: Any) -> "_core.EliasFano":
@@ -168,8 +191,8 @@ def _pieces(value: Any) -> Tuple[int, List[Piece]]:
         return size, [(0, header), *zip((low, words, upper, lower), windows)]
     if isinstance(value, _core.Index):
         return _index_pieces(numbers, windows)
-    header, size, places = _core.index_header(64 * len(windows[0]), 0, 0, 0, 0)
-    pieces: List[Piece] = [(0, header), *zip(places, windows[:3])]
+    header, size, begins = _core.index_header(64 * len(windows[0]), 0, 0, 0, 0)
+    pieces: List[Piece] = [(0, header), *zip(begins, windows[:3])]
     sizes, prints = windows[3:]
     for piece in (array.array("Q", [*numbers, len(sizes), len(prints)]), sizes, prints):
         pieces.append((size, piece))
@@ -184,8 +207,8 @@ def _index_pieces(numbers: Any, windows: Any) -> Tuple[int, List[Piece]]:
         numbers, windows = _core.parts(_core.Index(words, length, sample_log2=ones_log2 or zeros_log2 or None))
         length, ones_log2, zeros_log2 = numbers
     words, upper, lower, samples, starts, samples0, starts0 = windows
-    header, size, places = _core.index_header(length, ones_log2, len(samples), zeros_log2, len(samples0))
-    return size, [(0, header), *zip(places, (words, upper, lower, b"", starts, starts0, samples, samples0))]
+    header, size, begins = _core.index_header(length, ones_log2, len(samples), zeros_log2, len(samples0))
+    return size, [(0, header), *zip(begins, (words, upper, lower, b"", starts, starts0, samples, samples0))]
 
 
 def _into(write: Callable[[Any], Any], size: int, pieces: List[Piece]) -> None:
@@ -210,7 +233,7 @@ def _into(write: Callable[[Any], Any], size: int, pieces: List[Piece]) -> None:
 def save(self: Any, target: Any, /) -> None:
     """Writes the value into a file, from which `bitm.load` takes it: a path, or a file object with `write`.
 
-    A path is written beside it first, into a new file whose name nobody can foretell, synced, and put in its place: a
+    A path is written beside it first, into a new file of an unforeseeable name, synced, and put in its place: a
     write that fails leaves what stood there. A symbolic link is followed; what is not a regular file is refused; the mode
     of a file that is replaced stays."""
     if hasattr(target, "write"):
@@ -328,6 +351,9 @@ def complete() -> None:
     for each in (_core.BitVector, _core.Index, _core.EliasFano, _core.PerfectHash):
         setattr(each, "__reduce_ex__", reduce)
     setattr(_core.BitVector, "to_numpy", vector_to_numpy)
+    setattr(_core.BitVector, "reverse", vector_reverse)
+    setattr(_core.BitVector, "remove", vector_remove)
+    setattr(_core.Index, "index", index_index)
     for name in ("to_numpy", "__array__"):
         setattr(_core.Index, name, index_to_numpy)
         setattr(_core.EliasFano, name, sequence_to_numpy)

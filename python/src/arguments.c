@@ -46,7 +46,8 @@ int bit_of(PyObject *value)
 }
 
 /* Puts an argument given by name in its place. */
-static int pick_named(const char *call, const char *const *names, int most, PyObject *key, PyObject *value, PyObject **found)
+static int pick_named(const char *call, const char *const *names, int most, PyObject *key, PyObject *value,
+                      PyObject **found)
 {
     for (int i = 0; i < most; i++) {
         const char *name = names[i] + (names[i][0] == '*');

@@ -1,7 +1,8 @@
 /* What BitVector and Index share: single bits, slices, comparison, and the positions of their 1 bits and 0 bits. */
 #include "vector.h"
 
-int bits_of(PyObject *self, Bits *out)
+/* The bits of a BitVector or of an Index that is open: valid as long as no Python code runs. -1 and an error. */
+static int bits_of(PyObject *self, Bits *out)
 {
     if (PyObject_TypeCheck(self, Vector_Type)) {
         *out = ((Vector *)self)->bits;
@@ -58,6 +59,8 @@ PyObject *bits_subscript(PyObject *self, PyObject *key)
     return PyBool_FromLong((long)bit);
 }
 
+PyObject *bits_iter(PyObject *self) { return PySeqIter_New(self); }
+
 int bits_contains(PyObject *self, PyObject *value)
 {
     Bits bits;
@@ -77,7 +80,8 @@ PyObject *bits_compare(PyObject *self, PyObject *other, int how)
         Py_RETURN_NOTIMPLEMENTED;
     if (bits_of(self, &a) || bits_of(other, &b))
         return NULL;
-    if (a.len == b.len && bitm_bits_equal_range(a.words, a.words_len, 0, b.words, b.words_len, 0, a.len, &is_same) != BITM_OK)
+    if (a.len == b.len &&
+        bitm_bits_equal_range(a.words, a.words_len, 0, b.words, b.words_len, 0, a.len, &is_same) != BITM_OK)
         return wrong();
     return PyBool_FromLong((how == Py_EQ) == (int)is_same);
 }
@@ -87,7 +91,7 @@ PyObject *bits_compare(PyObject *self, PyObject *other, int how)
 enum { ROOM = 64 };
 
 typedef struct {
-    Walk walk; /* over a BitVector or an Index */
+    Walk walk;           /* over a BitVector or an Index */
     uint64_t from, stop; /* where the rest lies */
     int bit, is_reversed;
     uint64_t at, count; /* of room */

@@ -20,15 +20,18 @@
 #define KEEP(it) Py_XINCREF(BORROWED(it))
 #define DROP(it) Py_XDECREF(BORROWED(it))
 #define DOC(text) PyDoc_STR(text)
-#define KEYWORDS(name, function, text)                                                                                 \
+/* An entry of a table of methods: the text for help() begins with the arguments. */
+#define METHOD(name, function, flags, arguments, text)                                                                 \
     {                                                                                                                  \
-        name, (PyCFunction)(void (*)(void))(function), METH_FASTCALL | METH_KEYWORDS, DOC(text)                        \
+        name, (PyCFunction)(void (*)(void))(function), flags, DOC(name arguments "\n--\n\n" text)                      \
     }
+#define KEYWORDS(name, function, arguments, text) METHOD(name, function, METH_FASTCALL | METH_KEYWORDS, arguments, text)
 
 extern PyObject *WrongTables;
-extern PyTypeObject *Memory_Type, *Window_Type, *Positions_Type, *Numbers_Type, *Vector_Type, *Index_Type, *Sequence_Type,
-    *Hash_Type;
-extern PyType_Spec memory_spec, window_spec, positions_spec, numbers_spec, vector_spec, index_spec, sequence_spec, hash_spec;
+extern PyTypeObject *Memory_Type, *Window_Type, *Positions_Type, *Numbers_Type, *Vector_Type, *Index_Type,
+    *Sequence_Type, *Hash_Type;
+extern PyType_Spec memory_spec, window_spec, positions_spec, numbers_spec, vector_spec, index_spec, sequence_spec,
+    hash_spec;
 
 /* ---- arguments.c */
 
@@ -58,7 +61,8 @@ PyObject *past_end(uint64_t position, uint64_t len);
 PyObject *wrong(void);
 PyObject *answer_or_none(uint32_t status, const uint64_t *out);
 
-/* ---- integers.c: a flat buffer of whole numbers of any width, sign, byte order and stride, or numbers of an iterable */
+/* ---- integers.c: a flat buffer of whole numbers of any width, sign, byte order and stride, or numbers of an iterable
+ */
 typedef struct {
     Py_buffer held;
     int is_held;
@@ -87,8 +91,7 @@ enum { MOST_BUFFERS = 8 };
 /* Never given to Python code, and never changed once it is made. All of it stays until the last reference is gone: a
  * call that runs without the GIL holds a reference, and close drops one. */
 typedef struct {
-    PyObject_HEAD
-    int held_count, own_count;
+    PyObject_HEAD int held_count, own_count;
     Py_buffer held[MOST_BUFFERS];
     void *own[MOST_BUFFERS];
     size_t own_bytes;
@@ -114,15 +117,12 @@ int memory_words(Memory *it, PyObject *from, const uint64_t **words, size_t *len
 /* The items of a buffer, of the given size each: in place, or copied where they are not aligned. */
 int memory_items(Memory *it, PyObject *from, size_t size, const void **at, size_t *len);
 
-/* The class of that name in a module that the program has imported, as a new reference; NULL, and no error, if it has
- * not. Nothing is imported here. */
-PyObject *type_in(const char *module, const char *name);
+/* Whether it is of the class of that name, in a module that the program has imported: nothing is imported here. */
 int is_instance(PyObject *it, const char *module, const char *name);
 
 /* ---- value.c: an object that has memory, and what Python code may see of it */
 typedef struct {
-    PyObject_HEAD
-    Memory *memory; /* NULL where it is closed, or was never made */
+    PyObject_HEAD Memory *memory; /* NULL where it is closed, or was never made */
     PyObject *weak;
 } Value;
 
@@ -157,8 +157,8 @@ PyObject *value_sizeof(PyObject *self, PyObject *none);
 extern PyMemberDef value_members[];
 
 #define VALUE_METHODS                                                                                                  \
-    {"close", value_close, METH_NOARGS,                                                                                \
-     DOC("close()\n--\n\nGives the memory back, once the calls that run have ended. Later calls raise ValueError.")},  \
+    METHOD("close", value_close, METH_NOARGS, "($self, /)",                                                            \
+           "Gives the memory back, once the calls that run have ended. Later calls raise ValueError."),                \
         {"__enter__", value_enter, METH_NOARGS, NULL}, {"__exit__", value_exit, METH_VARARGS, NULL},                   \
         {"__copy__", value_copy, METH_NOARGS, NULL},                                                                   \
     {                                                                                                                  \
@@ -170,12 +170,14 @@ extern PyMemberDef value_members[];
         Py_tp_members, value_members                                                                                   \
     }
 #define VALUE_FLAGS (Py_TPFLAGS_DEFAULT | Py_TPFLAGS_HAVE_GC | Py_TPFLAGS_BASETYPE)
-#define VALUE_CLOSED {"closed", value_closed, NULL, DOC("Whether it was closed."), NULL}
+#define VALUE_CLOSED                                                                                                   \
+    {                                                                                                                  \
+        "closed", value_closed, NULL, DOC("Whether it was closed."), NULL                                              \
+    }
 
 /* An iterator over another object. */
 typedef struct {
-    PyObject_HEAD
-    PyObject *source; /* NULL at the end */
+    PyObject_HEAD PyObject *source; /* NULL at the end */
 } Walk;
 int walk_traverse(PyObject *self, visitproc visit, void *arg);
 int walk_clear(PyObject *self);
@@ -196,15 +198,15 @@ PyObject *more(const char *name, PyObject *args);
 
 /* ---- lists.c: many queries at once */
 
-/* Asks about count items; out has an answer for each. `one` is for calls that have a kind of bit. Needs no GIL. */
+/* Answers count queries; out has an answer for each. `one` is for calls that have a kind of bit. Needs no GIL. */
 typedef uint32_t (*list_call)(const Memory *memory, bool one, const uint64_t *in, uint64_t *out, size_t count,
                               struct bitm_list_counts *counts);
 
 /* What is made of the answers: plain numbers (each item has one), or numbers of which some may be missing, or bools. */
 enum { EACH, SOME, BOOLS };
 
-/* Answers to queries, in the manner of the queries: an array for an array of NumPy, else a list. The queries are copied,
- * and the GIL is given back while they are answered. */
+/* Answers to queries, in the manner of the queries: an array for an array of NumPy, else a list. The queries are
+ * copied, and the GIL is given back while they are answered. */
 PyObject *ask_list(PyObject *self, list_call call, bool one, int kind, const char *name, const char *what,
                    PyObject *const *args, Py_ssize_t count, PyObject *keywords);
 
@@ -233,12 +235,11 @@ typedef struct {
 } Bits;
 #define BITS(it) (it).words, (it).words_len, (it).len
 
-/* The bits of a BitVector or of an Index that is open: valid as long as no Python code runs. -1 and an error. */
-int bits_of(PyObject *self, Bits *out);
 PyObject *bits_item(PyObject *self, Py_ssize_t index);
 PyObject *bits_subscript(PyObject *self, PyObject *key);
 PyObject *bits_compare(PyObject *self, PyObject *other, int how);
 int bits_contains(PyObject *self, PyObject *value);
+PyObject *bits_iter(PyObject *self);
 Py_ssize_t bits_len(PyObject *self);
 PyObject *bits_ones(PyObject *self, PyObject *const *args, Py_ssize_t count, PyObject *keywords);
 PyObject *bits_zeros(PyObject *self, PyObject *const *args, Py_ssize_t count, PyObject *keywords);

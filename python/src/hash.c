@@ -11,9 +11,11 @@ PyObject *hash_over(PyObject *type, Memory *it)
     int is_marked = it->mark == MARK_SIP || it->mark == MARK_BLAKE;
     it->hash.index.bits_len = 64 * (uint64_t)it->hash.index.words_len;
     /* No more keys than bits: so the bits of the fingerprints are far below 2^64. */
-    if (is_marked && it->print_width <= 64 && it->hash.index.words_len <= (size_t)1 << 50 && it->hash.keys <= it->hash.index.bits_len) {
+    if (is_marked && it->print_width <= 64 && it->hash.index.words_len <= (size_t)1 << 50 &&
+        it->hash.keys <= it->hash.index.bits_len) {
         it->prints_bits = it->hash.keys * it->print_width;
-        if (it->prints_len == bitm_bits_words_len(it->prints_bits) && bitm_hash_get(&it->hash, 0, &out) != BITM_BAD_SIZE)
+        if (it->prints_len == bitm_bits_words_len(it->prints_bits) &&
+            bitm_hash_get(&it->hash, 0, &out) != BITM_BAD_SIZE)
             return value_new(type, it);
     }
     DROP(it);
@@ -38,7 +40,8 @@ static int build_levels(Memory *it, const uint64_t *both, uint32_t percent)
         Py_BEGIN_ALLOW_THREADS
         for (size_t i = 0; i < count; i++)
             hashes[i] = both[2 * i];
-        status = bitm_hash_build(hashes, count, percent, words, most, again, first, sizes, LEVELS, &levels, &used, &left);
+        status =
+            bitm_hash_build(hashes, count, percent, words, most, again, first, sizes, LEVELS, &levels, &used, &left);
         Py_END_ALLOW_THREADS
         if (status != BITM_OK || left > 0)
             PyErr_SetString(PyExc_ValueError, "keys are equal, or their hashes are: try another seed");
@@ -66,7 +69,8 @@ static int build_tables(Memory *it, const uint64_t *both)
     index->lower_len = bitm_index_lower_len(index->words_len);
     it->prints_bits = it->hash.keys * it->print_width;
     it->prints_len = bitm_bits_words_len(it->prints_bits);
-    uint64_t *upper = memory_own(it, index->upper_len, 8), *lower = upper == NULL ? NULL : memory_own(it, index->lower_len, 8);
+    uint64_t *upper = memory_own(it, index->upper_len, 8),
+             *lower = upper == NULL ? NULL : memory_own(it, index->lower_len, 8);
     uint64_t *prints = lower == NULL ? NULL : memory_own(it, it->prints_len, 8);
     uint32_t status, width = (uint32_t)it->print_width;
     if (prints == NULL)
@@ -80,7 +84,8 @@ static int build_tables(Memory *it, const uint64_t *both)
     for (size_t i = 0; i < it->hash.keys && status == BITM_OK && width; i++) {
         status = bitm_hash_get(&it->hash, both[2 * i], &number_there);
         if (status == BITM_OK)
-            status = bitm_bits_set_fragment(prints, it->prints_len, it->prints_bits, number_there, width, both[2 * i + 1]);
+            status =
+                bitm_bits_set_fragment(prints, it->prints_len, it->prints_bits, number_there, width, both[2 * i + 1]);
     }
     Py_END_ALLOW_THREADS
     if (status == BITM_OK)
@@ -107,7 +112,8 @@ static int hash_init(PyObject *self, PyObject *args, PyObject *keywords)
     PyObject *keys, *given[4] = {NULL, NULL, NULL, NULL};
     uint64_t width, percent, seed, mark;
     size_t count = 0;
-    if (!PyArg_ParseTupleAndKeywords(args, keywords, "O|$OOOO:PerfectHash", names, &keys, &given[0], &given[1], &given[2], &given[3]) ||
+    if (!PyArg_ParseTupleAndKeywords(args, keywords, "O|$OOOO:PerfectHash", names, &keys, &given[0], &given[1],
+                                     &given[2], &given[3]) ||
         number_or(given[0], 16, "bits", &width) || number_or(given[1], 100, "percent", &percent) ||
         number_or(given[2], 0, "the seed", &seed) || mark_of(given[3], &mark))
         return -1;
@@ -123,7 +129,8 @@ static int hash_init(PyObject *self, PyObject *args, PyObject *keywords)
         it->print_width = width;
         it->seed = seed;
         it->mark = mark;
-        status = build_levels(it, both, percent > UINT32_MAX ? UINT32_MAX : (uint32_t)percent) ? -1 : build_tables(it, both);
+        status =
+            build_levels(it, both, percent > UINT32_MAX ? UINT32_MAX : (uint32_t)percent) ? -1 : build_tables(it, both);
     }
     free(both);
     if (status)
@@ -139,7 +146,8 @@ static int hash_init(PyObject *self, PyObject *args, PyObject *keywords)
 static uint32_t print_of(const Memory *it, uint64_t number_there, uint64_t sought)
 {
     uint64_t found = 0, mask = it->print_width == 64 ? UINT64_MAX : ((uint64_t)1 << it->print_width) - 1;
-    if (bitm_bits_get_fragment(it->prints, it->prints_len, it->prints_bits, number_there, (uint32_t)it->print_width, &found) != BITM_OK)
+    if (bitm_bits_get_fragment(it->prints, it->prints_len, it->prints_bits, number_there, (uint32_t)it->print_width,
+                               &found) != BITM_OK)
         return BITM_WRONG;
     return found == (sought & mask) ? BITM_OK : BITM_NONE;
 }
@@ -215,7 +223,8 @@ static PyObject *hash_get_list(PyObject *self, PyObject *const *args, Py_ssize_t
     PyObject *given[2], *made = NULL;
     Answers answers;
     size_t many = 0;
-    if (pick("get_list", names, 1, 2, args, count, keywords, given) || answers_begin(&answers, given[0], given[1], SOME))
+    if (pick("get_list", names, 1, 2, args, count, keywords, given) ||
+        answers_begin(&answers, given[0], given[1], SOME))
         return NULL;
     Memory *it = memory_of(self);
     uint64_t *both = it == NULL ? NULL : keys_hash(given[0], it->mark, it->seed, &many);
@@ -264,28 +273,33 @@ static PyObject *hash_repr(PyObject *self)
     Memory *it = ((Value *)self)->memory;
     if (it == NULL)
         return PyUnicode_FromString("<PerfectHash, closed>");
-    return PyUnicode_FromFormat("<PerfectHash of %zu keys, fingerprints of %llu bits>", it->hash.keys, (unsigned long long)it->print_width);
+    return PyUnicode_FromFormat("<PerfectHash of %zu keys, fingerprints of %llu bits>", it->hash.keys,
+                                (unsigned long long)it->print_width);
 }
 
 static PyMethodDef methods[] = {
-    KEYWORDS("get", hash_get, "get(key, default=None)\n--\n\nThe number of a key, or the default where its fingerprint shows that it is not one."),
-    KEYWORDS("get_list", hash_get_list, "get_list(keys, *, missing=None)\n--\n\nThe numbers of many keys; missing as in Index.select_list."),
-    {"check", hash_check, METH_NOARGS, DOC("check()\n--\n\nWhether the tables are those of the words, and there are as many 1 bits as keys.")},
+    KEYWORDS("get", hash_get, "($self, key, default=None)",
+             "The number of a key, or the default where its fingerprint shows that it is not one."),
+    KEYWORDS("get_list", hash_get_list, "($self, keys, *, missing=None)",
+             "The numbers of many keys; missing as in Index.select_list."),
+    METHOD("check", hash_check, METH_NOARGS, "($self, /)",
+           "Whether the tables are those of the words, and there are as many 1 bits as keys."),
     VALUE_METHODS,
     {NULL, NULL, 0, NULL}};
 static PyGetSetDef attributes[] = {VALUE_CLOSED, {NULL, NULL, NULL, NULL, NULL}};
 
-static PyType_Slot slots[] = {
-    {Py_tp_doc, DOC("PerfectHash(keys, *, bits=16, percent=100, seed=0, hash='siphash')\n--\n\nA number of its own, below their count, for "
-                    "each key of a set (str, bytes or int). No key is kept, but a fingerprint of so many bits for each: of others, one "
-                    "in 2**bits is taken for a key.")},
-    {Py_tp_init, hash_init},
-    {Py_tp_methods, methods},
-    {Py_tp_getset, attributes},
-    {Py_tp_repr, hash_repr},
-    {Py_sq_contains, hash_contains},
-    {Py_mp_length, hash_len},
-    {Py_mp_subscript, hash_subscript},
-    VALUE_SLOTS,
-    {0, NULL}};
+static PyType_Slot slots[] = {{Py_tp_doc, DOC("PerfectHash(keys, *, bits=16, percent=100, seed=0, "
+                                              "hash='siphash')\n--\n\nA number of its own, below their count, for "
+                                              "each key of a set (str, bytes or int). No key is kept, but a "
+                                              "fingerprint of `bits` bits for each: of others, one "
+                                              "in 2**bits is taken for a key.")},
+                              {Py_tp_init, hash_init},
+                              {Py_tp_methods, methods},
+                              {Py_tp_getset, attributes},
+                              {Py_tp_repr, hash_repr},
+                              {Py_sq_contains, hash_contains},
+                              {Py_mp_length, hash_len},
+                              {Py_mp_subscript, hash_subscript},
+                              VALUE_SLOTS,
+                              {0, NULL}};
 PyType_Spec hash_spec = {"bitm.PerfectHash", sizeof(Value), 0, VALUE_FLAGS, slots};

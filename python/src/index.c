@@ -37,7 +37,8 @@ static int build(Memory *it)
     uint32_t status;
     index->upper_len = bitm_index_upper_len(index->words_len);
     index->lower_len = bitm_index_lower_len(index->words_len);
-    uint64_t *upper = memory_own(it, index->upper_len, 8), *lower = upper == NULL ? NULL : memory_own(it, index->lower_len, 8);
+    uint64_t *upper = memory_own(it, index->upper_len, 8),
+             *lower = upper == NULL ? NULL : memory_own(it, index->lower_len, 8);
     if (lower == NULL)
         return -1;
     index->upper = upper;
@@ -56,11 +57,13 @@ static int take(Memory *it, PyObject *bits, PyObject *length)
 {
     struct bitm_index *index = &it->index;
     uint64_t most;
-    if (memory_words(it, bits, &index->words, &index->words_len, &most) || number_or(length, most, "the length", &index->bits_len))
+    if (memory_words(it, bits, &index->words, &index->words_len, &most) ||
+        number_or(length, most, "the length", &index->bits_len))
         return -1;
     if (index->bits_len <= most)
         return 0;
-    PyErr_Format(PyExc_ValueError, "there are %llu bits, not %llu", (unsigned long long)most, (unsigned long long)index->bits_len);
+    PyErr_Format(PyExc_ValueError, "there are %llu bits, not %llu", (unsigned long long)most,
+                 (unsigned long long)index->bits_len);
     return -1;
 }
 
@@ -121,20 +124,37 @@ static PyObject *ask(PyObject *self, PyObject *query, query_call call, bool one,
 static PyObject *index_rank(PyObject *self, PyObject *it) { return rank(self, it, true); }
 static PyObject *index_rank0(PyObject *self, PyObject *it) { return rank(self, it, false); }
 static PyObject *index_select(PyObject *self, PyObject *it) { return ask(self, it, bitm_index_select, true, "a rank"); }
-static PyObject *index_select0(PyObject *self, PyObject *it) { return ask(self, it, bitm_index_select, false, "a rank"); }
-static PyObject *index_next_one(PyObject *self, PyObject *it) { return ask(self, it, bitm_index_next, true, "a position"); }
-static PyObject *index_next_zero(PyObject *self, PyObject *it) { return ask(self, it, bitm_index_next, false, "a position"); }
-static PyObject *index_previous_one(PyObject *self, PyObject *it) { return ask(self, it, bitm_index_previous, true, "a position"); }
-static PyObject *index_previous_zero(PyObject *self, PyObject *it) { return ask(self, it, bitm_index_previous, false, "a position"); }
+static PyObject *index_select0(PyObject *self, PyObject *it)
+{
+    return ask(self, it, bitm_index_select, false, "a rank");
+}
+static PyObject *index_next_one(PyObject *self, PyObject *it)
+{
+    return ask(self, it, bitm_index_next, true, "a position");
+}
+static PyObject *index_next_zero(PyObject *self, PyObject *it)
+{
+    return ask(self, it, bitm_index_next, false, "a position");
+}
+static PyObject *index_previous_one(PyObject *self, PyObject *it)
+{
+    return ask(self, it, bitm_index_previous, true, "a position");
+}
+static PyObject *index_previous_zero(PyObject *self, PyObject *it)
+{
+    return ask(self, it, bitm_index_previous, false, "a position");
+}
 
 /* ---- lists */
 
-static uint32_t ranks(const Memory *it, bool one, const uint64_t *in, uint64_t *out, size_t count, struct bitm_list_counts *counts)
+static uint32_t ranks(const Memory *it, bool one, const uint64_t *in, uint64_t *out, size_t count,
+                      struct bitm_list_counts *counts)
 {
     return bitm_index_rank_list(&it->index, one, in, count, out, count, counts);
 }
 
-static uint32_t selections(const Memory *it, bool one, const uint64_t *in, uint64_t *out, size_t count, struct bitm_list_counts *counts)
+static uint32_t selections(const Memory *it, bool one, const uint64_t *in, uint64_t *out, size_t count,
+                           struct bitm_list_counts *counts)
 {
     return bitm_index_select_list(&it->index, one, in, count, out, count, counts);
 }
@@ -162,7 +182,8 @@ static PyObject *index_count(PyObject *self, PyObject *const *args, Py_ssize_t c
     Memory *it = bit < 0 ? NULL : memory_of(self);
     if (it == NULL)
         return NULL;
-    return bitm_index_rank(&it->index, bit, it->index.bits_len, &out) == BITM_OK ? PyLong_FromUnsignedLongLong(out) : wrong();
+    return bitm_index_rank(&it->index, bit, it->index.bits_len, &out) == BITM_OK ? PyLong_FromUnsignedLongLong(out)
+                                                                                 : wrong();
 }
 
 static PyObject *index_check(PyObject *self, PyObject *none)
@@ -205,43 +226,50 @@ static PyObject *index_words(PyObject *self, void *none)
     return view;
 }
 
-#define PLAIN(name, text) {#name, index_##name, METH_O, DOC(text)}
-#define NAMED(name, text) KEYWORDS(#name, index_##name, text)
+#define PLAIN(name, arguments, text) METHOD(#name, index_##name, METH_O, arguments, text)
+#define NAMED(name, arguments, text) KEYWORDS(#name, index_##name, arguments, text)
 static PyMethodDef methods[] = {
-    PLAIN(rank, "rank(position, /)\n--\n\nHow many 1 bits there are before a position, which may be the length. IndexError past it."),
-    PLAIN(rank0, "rank0(position, /)\n--\n\nHow many 0 bits there are before a position."),
-    PLAIN(select, "select(rank, /)\n--\n\nThe position of the 1 bit with that rank, or None."),
-    PLAIN(select0, "select0(rank, /)\n--\n\nThe position of the 0 bit with that rank, or None."),
-    PLAIN(next_one, "next_one(position, /)\n--\n\nThe position of the first 1 bit at or after a position, or None."),
-    PLAIN(next_zero, "next_zero(position, /)\n--\n\nThe position of the first 0 bit at or after a position, or None."),
-    PLAIN(previous_one, "previous_one(position, /)\n--\n\nThe position of the last 1 bit at or before a position, or None."),
-    PLAIN(previous_zero, "previous_zero(position, /)\n--\n\nThe position of the last 0 bit at or before a position, or None."),
-    NAMED(rank_list, "rank_list(queries)\n--\n\nThe ranks of many positions: an array for an array of NumPy, else a list."),
-    NAMED(rank0_list, "rank0_list(queries)\n--\n\nThe ranks of many positions, of 0 bits."),
-    NAMED(select_list, "select_list(queries, *, missing=None)\n--\n\nThe positions of many ranks: a list with None where there is none, "
-                       "or for an array of NumPy a masked array. missing may be 'error', a number that stands there, or 'mask'."),
-    NAMED(select0_list, "select0_list(queries, *, missing=None)\n--\n\nThe positions of many ranks, of 0 bits; as select_list."),
-    NAMED(count, "count(bit=1)\n--\n\nHow many 1 bits there are, or with 0 how many 0 bits."),
-    KEYWORDS("ones", bits_ones, "ones(start=0, stop=None, *, reverse=False)\n--\n\nThe positions of the 1 bits in a range, rising or falling."),
-    KEYWORDS("zeros", bits_zeros, "zeros(start=0, stop=None, *, reverse=False)\n--\n\nThe positions of the 0 bits in a range, rising or falling."),
-    {"check", index_check, METH_NOARGS, DOC("check()\n--\n\nWhether the tables, and the samples, are those of the words. Reads each word once.")},
+    PLAIN(rank, "($self, position, /)",
+          "How many 1 bits there are before a position, which may be the length. IndexError past it."),
+    PLAIN(rank0, "($self, position, /)", "How many 0 bits there are before a position."),
+    PLAIN(select, "($self, rank, /)", "The position of the 1 bit with that rank, or None."),
+    PLAIN(select0, "($self, rank, /)", "The position of the 0 bit with that rank, or None."),
+    PLAIN(next_one, "($self, position, /)", "The position of the first 1 bit at or after a position, or None."),
+    PLAIN(next_zero, "($self, position, /)", "The position of the first 0 bit at or after a position, or None."),
+    PLAIN(previous_one, "($self, position, /)", "The position of the last 1 bit at or before a position, or None."),
+    PLAIN(previous_zero, "($self, position, /)", "The position of the last 0 bit at or before a position, or None."),
+    NAMED(rank_list, "($self, queries)", "The ranks of many positions: an array for an array of NumPy, else a list."),
+    NAMED(rank0_list, "($self, queries)", "The ranks of many positions, of 0 bits."),
+    NAMED(select_list, "($self, queries, *, missing=None)",
+          "The positions of many ranks: a list with None where there is none, "
+          "or for an array of NumPy a masked array. missing may be 'error', a number that stands there, or 'mask'."),
+    NAMED(select0_list, "($self, queries, *, missing=None)", "The positions of many ranks, of 0 bits; as select_list."),
+    NAMED(count, "($self, bit=1)", "How many 1 bits there are, or with 0 how many 0 bits."),
+    KEYWORDS("ones", bits_ones, "($self, start=0, stop=None, *, reverse=False)",
+             "The positions of the 1 bits in a range, rising or falling."),
+    KEYWORDS("zeros", bits_zeros, "($self, start=0, stop=None, *, reverse=False)",
+             "The positions of the 0 bits in a range, rising or falling."),
+    METHOD("check", index_check, METH_NOARGS, "($self, /)",
+           "Whether the tables, and the samples, are those of the words. Reads each word once."),
     VALUE_METHODS,
     {NULL, NULL, 0, NULL}};
 
-static PyGetSetDef attributes[] = {VALUE_CLOSED,
-                                   {"words", index_words, NULL, DOC("The words, to be read."), NULL},
-                                   {NULL, NULL, NULL, NULL, NULL}};
+static PyGetSetDef attributes[] = {
+    VALUE_CLOSED, {"words", index_words, NULL, DOC("The words, to be read."), NULL}, {NULL, NULL, NULL, NULL, NULL}};
 
 static PyType_Slot slots[] = {
-    {Py_tp_doc, DOC("Index(bits, length=None, *, sample_log2=None)\n--\n\nRank and selection over bits, which stay where they are: a "
-                    "BitVector, or a buffer of 64-bit words or of bytes. They must not change while the index is used; check says "
-                    "whether they have. Samples of each 2**sample_log2 bits make selections faster.")},
+    {Py_tp_doc,
+     DOC("Index(bits, length=None, *, sample_log2=None)\n--\n\nRank and selection over bits, which stay where they "
+         "are: a "
+         "BitVector, or a buffer of 64-bit words or of bytes. They must not change while the index is used; check says "
+         "whether they have. Samples of each 2**sample_log2 bits make selections faster.")},
     {Py_tp_init, index_init},
     {Py_tp_methods, methods},
     {Py_tp_getset, attributes},
     {Py_tp_repr, index_repr},
     {Py_tp_richcompare, bits_compare},
     {Py_tp_hash, PyObject_HashNotImplemented},
+    {Py_tp_iter, bits_iter},
     {Py_sq_length, bits_len},
     {Py_sq_item, bits_item},
     {Py_sq_contains, bits_contains},

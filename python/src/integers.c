@@ -74,12 +74,13 @@ int integers_take(Integers *it, PyObject *from, const char *what)
     it->is_held = 1;
     const Py_buffer *held = &it->held;
     if (held->ndim != 1 || format_of(held, &it->is_signed, &it->is_swapped)) {
-        PyErr_Format(PyExc_TypeError, "a flat buffer of whole numbers is needed, not one of %d dimensions with format '%s'",
-                     held->ndim, held->format == NULL ? "B" : held->format);
+        PyErr_Format(PyExc_TypeError,
+                     "a flat buffer of whole numbers is needed, not one of %d dimensions with format '%s'", held->ndim,
+                     held->format == NULL ? "B" : held->format);
         integers_drop(it);
         return -1;
     }
-    /* ctypes arrays give no strides though they are asked for. */
+    /* A ctypes array gives no strides, though these are requested. */
     it->len = held->shape != NULL ? (size_t)held->shape[0] : (size_t)(held->len / held->itemsize);
     it->stride = held->strides != NULL ? held->strides[0] : held->itemsize;
     it->size = (int)held->itemsize;
@@ -118,27 +119,42 @@ void integers_drop(Integers *it)
 
 size_t integers_load(const Integers *it, size_t from, size_t count, uint64_t *out)
 {
-    const char *at = it->is_held ? (const char *)it->held.buf + (Py_ssize_t)from * it->stride : (const char *)(it->own + from);
+    const char *at =
+        it->is_held ? (const char *)it->held.buf + (Py_ssize_t)from * it->stride : (const char *)(it->own + from);
     if (!it->is_signed && it->size == 8 && it->stride == 8 && !it->is_swapped) {
         if (count)
             memcpy(out, at, 8 * count);
         return count;
     }
     switch (it->size * 4 + it->is_signed * 2 + it->is_swapped) {
-    case 4: LOAD(uint8_t, SAME);
-    case 6: LOAD(int8_t, SAME);
-    case 8: LOAD(uint16_t, SAME);
-    case 9: LOAD(uint16_t, SWAP16);
-    case 10: LOAD(int16_t, SAME);
-    case 11: LOAD(int16_t, SWAP16);
-    case 16: LOAD(uint32_t, SAME);
-    case 17: LOAD(uint32_t, SWAP32);
-    case 18: LOAD(int32_t, SAME);
-    case 19: LOAD(int32_t, SWAP32);
-    case 32: LOAD(uint64_t, SAME);
-    case 33: LOAD(uint64_t, SWAP64);
-    case 34: LOAD(int64_t, SAME);
-    default: LOAD(int64_t, SWAP64);
+    case 4:
+        LOAD(uint8_t, SAME);
+    case 6:
+        LOAD(int8_t, SAME);
+    case 8:
+        LOAD(uint16_t, SAME);
+    case 9:
+        LOAD(uint16_t, SWAP16);
+    case 10:
+        LOAD(int16_t, SAME);
+    case 11:
+        LOAD(int16_t, SWAP16);
+    case 16:
+        LOAD(uint32_t, SAME);
+    case 17:
+        LOAD(uint32_t, SWAP32);
+    case 18:
+        LOAD(int32_t, SAME);
+    case 19:
+        LOAD(int32_t, SWAP32);
+    case 32:
+        LOAD(uint64_t, SAME);
+    case 33:
+        LOAD(uint64_t, SWAP64);
+    case 34:
+        LOAD(int64_t, SAME);
+    default:
+        LOAD(int64_t, SWAP64);
     }
 }
 

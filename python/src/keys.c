@@ -1,7 +1,7 @@
 /* Hashes of keys: two numbers of 64 bits for each, its hash and what its fingerprint is of. */
 #include "core.h"
 
-/* What tells keys of different kinds with the same bytes apart. */
+/* The kinds of keys: keys of different kinds may have the same bytes. */
 enum { TEXT = 1, BYTES = 2, NUMBER = 3, LARGE_NUMBER = 4 };
 
 #define ROTATE(x, b) ((x) << (b) | (x) >> (64 - (b)))
@@ -9,17 +9,28 @@ static inline __attribute__((always_inline)) void rounds(uint64_t v[4], int coun
 {
 #pragma GCC unroll 4
     for (int i = 0; i < count; i++) {
-        v[0] += v[1]; v[1] = ROTATE(v[1], 13); v[1] ^= v[0]; v[0] = ROTATE(v[0], 32);
-        v[2] += v[3]; v[3] = ROTATE(v[3], 16); v[3] ^= v[2];
-        v[0] += v[3]; v[3] = ROTATE(v[3], 21); v[3] ^= v[0];
-        v[2] += v[1]; v[1] = ROTATE(v[1], 17); v[1] ^= v[2]; v[2] = ROTATE(v[2], 32);
+        v[0] += v[1];
+        v[1] = ROTATE(v[1], 13);
+        v[1] ^= v[0];
+        v[0] = ROTATE(v[0], 32);
+        v[2] += v[3];
+        v[3] = ROTATE(v[3], 16);
+        v[3] ^= v[2];
+        v[0] += v[3];
+        v[3] = ROTATE(v[3], 21);
+        v[3] ^= v[0];
+        v[2] += v[1];
+        v[1] = ROTATE(v[1], 17);
+        v[1] ^= v[2];
+        v[2] = ROTATE(v[2], 32);
     }
 }
 
 /* SipHash-2-4 with an answer of 128 bits, by the key (seed, kind). */
 static void siphash(const char *at, size_t len, uint64_t seed, uint64_t kind, uint64_t out[2])
 {
-    uint64_t v[4] = {0x736f6d6570736575u ^ seed, 0x646f72616e646f6du ^ kind ^ 0xee, 0x6c7967656e657261u ^ seed, 0x7465646279746573u ^ kind};
+    uint64_t v[4] = {0x736f6d6570736575u ^ seed, 0x646f72616e646f6du ^ kind ^ 0xee, 0x6c7967656e657261u ^ seed,
+                     0x7465646279746573u ^ kind};
     for (size_t left = len;; left -= 8, at += 8) {
         uint64_t word = (uint64_t)len << 56;
         memcpy(&word, at, left < 8 ? left : 8);
@@ -133,8 +144,8 @@ static uint64_t *array_hash(PyObject *keys, uint64_t seed, size_t *count)
     uint64_t *made = from.len > (size_t)PY_SSIZE_T_MAX / 16 ? NULL : room_for(2 * from.len);
     *count = from.len;
     if (made != NULL) {
-        Py_BEGIN_ALLOW_THREADS
-        (void)integers_load(&from, 0, from.len, made + from.len); /* also those below 0 */
+        Py_BEGIN_ALLOW_THREADS(void)
+        integers_load(&from, 0, from.len, made + from.len); /* also those below 0 */
         for (size_t i = 0; i < from.len; i++) {
             uint64_t both[2];
             number_hash(made[from.len + i], from.is_signed, seed, both);
@@ -171,7 +182,8 @@ uint64_t *keys_hash(PyObject *keys, uint64_t mark, uint64_t seed, size_t *count)
     PyObject *iterator = PyObject_GetIter(keys), *key;
     uint64_t *made = iterator == NULL ? NULL : wider(NULL, &room);
     while (made != NULL && (key = PyIter_Next(iterator)) != NULL) {
-        int status = *count < room || (made = wider(made, &room)) != NULL ? key_hash(key, mark, seed, made + 2 * *count) : -1;
+        int status =
+            *count < room || (made = wider(made, &room)) != NULL ? key_hash(key, mark, seed, made + 2 * *count) : -1;
         Py_DECREF(key);
         if (status)
             break;

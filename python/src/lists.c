@@ -17,7 +17,8 @@ static int how_of(PyObject *missing, int kind, int of_numpy, uint64_t *fill)
         return RAISE;
     if (PyUnicode_CompareWithASCIIString(missing, "mask") == 0 && of_numpy)
         return MASK;
-    PyErr_Format(PyExc_ValueError, "missing is 'error', a number%s, not %R", of_numpy ? " or 'mask'" : " or None", missing);
+    PyErr_Format(PyExc_ValueError, "missing is 'error', a number%s, not %R", of_numpy ? " or 'mask'" : " or None",
+                 missing);
     return -1;
 }
 
@@ -51,7 +52,8 @@ PyObject *list_of(const uint64_t *items, size_t count, int is_none)
 {
     PyObject *made = PyList_New((Py_ssize_t)count);
     for (size_t i = 0; made != NULL && i < count; i++) {
-        PyObject *item = is_none && items[i] == BITM_NO_ANSWER ? Py_NewRef(Py_None) : PyLong_FromUnsignedLongLong(items[i]);
+        PyObject *item =
+            is_none && items[i] == BITM_NO_ANSWER ? Py_NewRef(Py_None) : PyLong_FromUnsignedLongLong(items[i]);
         if (item == NULL || PyList_SetItem(made, (Py_ssize_t)i, item))
             Py_CLEAR(made);
     }
@@ -76,7 +78,10 @@ PyObject *answers_end(Answers *it, uint64_t missing)
     if (missing && it->how == RAISE)
         PyErr_Format(PyExc_IndexError, "%llu items of the list have no answer", (unsigned long long)missing);
     else if (it->of_numpy)
-        made = more("array_of", Py_BuildValue("(Os)", it->window, it->how == MASK ? "mask" : it->how == TRUTHS ? "bool" : ""));
+        made = more("array_of", Py_BuildValue("(Os)", it->window,
+                                              it->how == MASK     ? "mask"
+                                              : it->how == TRUTHS ? "bool"
+                                                                  : ""));
     else if (it->how == TRUTHS)
         made = list_of_bools(it->out, it->len);
     else
@@ -92,16 +97,20 @@ typedef struct {
     uint64_t missing;
 } Outcome;
 
-static Outcome run(list_call call, bool one, int kind, const Memory *memory, const Integers *asked, uint64_t *out)
+static Outcome run(list_call call, bool one, int kind, const Memory *memory, const Integers *queries, uint64_t *out)
 {
     uint64_t in[BLOCK];
     Outcome it = {DONE, 0, 0};
-    for (; it.at < asked->len; it.at += BLOCK) {
+    for (; it.at < queries->len; it.at += BLOCK) {
         struct bitm_list_counts counts = {0, 0};
-        size_t count = asked->len - it.at < BLOCK ? asked->len - it.at : BLOCK, found = integers_load(asked, it.at, count, in);
+        size_t count = queries->len - it.at < BLOCK ? queries->len - it.at : BLOCK,
+               found = integers_load(queries, it.at, count, in);
         uint32_t status = call(memory, one, in, out + it.at, found, &counts);
         it.missing += counts.missing;
-        it.why = counts.missing && kind != SOME ? PAST : status != BITM_OK || counts.wrong ? WRONG : found < count ? BELOW : DONE;
+        it.why = counts.missing && kind != SOME      ? PAST
+                 : status != BITM_OK || counts.wrong ? WRONG
+                 : found < count                     ? BELOW
+                                                     : DONE;
         if (it.why == PAST)
             while (out[it.at] != BITM_NO_ANSWER)
                 it.at++;
@@ -113,16 +122,17 @@ static Outcome run(list_call call, bool one, int kind, const Memory *memory, con
     return it;
 }
 
-static void refuse(const Outcome *it, const Integers *asked, const char *what)
+static void refuse(const Outcome *it, const Integers *queries, const char *what)
 {
     uint64_t query = 0;
     if (it->why == WRONG) {
         (void)wrong();
     } else if (it->why == BELOW) {
-        integers_below(asked, it->at, what);
+        integers_below(queries, it->at, what);
     } else {
-        (void)integers_load(asked, it->at, 1, &query);
-        PyErr_Format(PyExc_IndexError, "%s is past the end: %llu, item %zu of the list", what, (unsigned long long)query, it->at);
+        (void)integers_load(queries, it->at, 1, &query);
+        PyErr_Format(PyExc_IndexError, "%s is past the end: %llu, item %zu of the list", what,
+                     (unsigned long long)query, it->at);
     }
 }
 
@@ -132,24 +142,25 @@ PyObject *ask_list(PyObject *self, list_call call, bool one, int kind, const cha
     static const char *const names[] = {"queries", "*missing"};
     PyObject *given[2] = {NULL, NULL}, *made = NULL;
     Answers answers;
-    Integers asked;
+    Integers queries;
     if (pick(name, names, 1, kind == SOME ? 2 : 1, args, count, keywords, given) ||
-        answers_begin(&answers, given[0], given[1], kind) || integers_take(&asked, given[0], what))
+        answers_begin(&answers, given[0], given[1], kind) || integers_take(&queries, given[0], what))
         return NULL;
-    /* The Python code of the arguments has run. From here on the reference keeps the memory, whoever closes the value. */
+    /* The Python code of the arguments has run. From here on the reference keeps the memory, whoever closes the value.
+     */
     Memory *memory = memory_kept(self);
-    if (memory != NULL && answers_room(&answers, asked.len) == 0) {
+    if (memory != NULL && answers_room(&answers, queries.len) == 0) {
         Outcome outcome;
         Py_BEGIN_ALLOW_THREADS
-        outcome = run(call, one, kind, memory, &asked, answers.out);
+        outcome = run(call, one, kind, memory, &queries, answers.out);
         Py_END_ALLOW_THREADS
         if (outcome.why == DONE)
             made = answers_end(&answers, outcome.missing);
         else
-            refuse(&outcome, &asked, what);
+            refuse(&outcome, &queries, what);
     }
     answers_drop(&answers);
     DROP(memory);
-    integers_drop(&asked);
+    integers_drop(&queries);
     return made;
 }

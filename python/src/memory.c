@@ -16,10 +16,12 @@ static void memory_dealloc(PyObject *self)
 
 /* Whether the garbage collector may clear a lender while its buffer is held. Not a memoryview: in 3.11 its tp_clear
  * raises BufferError, and the process ends. Nor a ctypes array, which frees its memory. Such lenders are not shown to
- * the collector: they live until the buffer is given back, and a cycle through their own attributes is not collected. */
+ * the collector: they live until the buffer is given back, and a cycle through their own attributes is not collected.
+ */
 static int is_cleared_safely(PyObject *lender)
 {
-    return lender != NULL && (PyObject_TypeCheck(lender, Vector_Type) || PyByteArray_Check(lender) || PyBytes_Check(lender));
+    return lender != NULL &&
+           (PyObject_TypeCheck(lender, Vector_Type) || PyByteArray_Check(lender) || PyBytes_Check(lender));
 }
 
 /* There is no tp_clear, as a tuple has none: a cycle is cut at the value that owns the memory, after all finalizers. */
@@ -37,10 +39,7 @@ static PyType_Slot memory_slots[] = {{Py_tp_dealloc, memory_dealloc}, {Py_tp_tra
 PyType_Spec memory_spec = {"bitm._core._Memory", sizeof(Memory), 0,
                            Py_TPFLAGS_DEFAULT | Py_TPFLAGS_HAVE_GC | Py_TPFLAGS_DISALLOW_INSTANTIATION, memory_slots};
 
-Memory *memory_new(void)
-{
-    return (Memory *)PyType_GenericAlloc(Memory_Type, 0);
-}
+Memory *memory_new(void) { return (Memory *)PyType_GenericAlloc(Memory_Type, 0); }
 
 void *memory_own(Memory *it, uint64_t count, size_t size)
 {
@@ -109,8 +108,9 @@ static int misfit(const Py_buffer *held, size_t size)
 {
     const char *format = held->format == NULL ? "B" : held->format;
     const char *hint = *format == '?' ? ": see BitVector.from_bits" : "";
-    PyErr_Format(PyExc_TypeError, "a flat buffer of uint%zu or of bytes is needed, not items of %zd bytes with format '%s'%s",
-                 8 * size, held->itemsize, format, hint);
+    PyErr_Format(PyExc_TypeError,
+                 "a flat buffer of uint%zu or of bytes is needed, not items of %zd bytes with format '%s'%s", 8 * size,
+                 held->itemsize, format, hint);
     return -1;
 }
 
@@ -124,7 +124,8 @@ int memory_items(Memory *it, PyObject *from, size_t size, const void **at, size_
     return placed(it, held, size, 0, at, len);
 }
 
-PyObject *type_in(const char *module, const char *name)
+/* A class of a module that is imported already, as a new reference; else NULL, and no error. */
+static PyObject *type_in(const char *module, const char *name)
 {
     PyObject *text = PyUnicode_InternFromString(module), *found = text == NULL ? NULL : PyImport_GetModule(text);
     PyObject *type = found == NULL ? NULL : PyObject_GetAttrString(found, name);
@@ -171,7 +172,8 @@ static int words_of_buffer(Memory *it, PyObject *from, const void **at, size_t *
     if (held == NULL) {
         if (PyErr_ExceptionMatches(PyExc_TypeError) && !PyObject_CheckBuffer(from)) {
             PyErr_Clear();
-            PyErr_Format(PyExc_TypeError, "a BitVector or a buffer is needed, not %R: see BitVector.from_bits", Py_TYPE(from));
+            PyErr_Format(PyExc_TypeError, "a BitVector or a buffer is needed, not %R: see BitVector.from_bits",
+                         Py_TYPE(from));
         }
         return -1;
     }

@@ -2,7 +2,8 @@
 #include "core.h"
 
 PyObject *WrongTables;
-PyTypeObject *Memory_Type, *Window_Type, *Positions_Type, *Numbers_Type, *Vector_Type, *Index_Type, *Sequence_Type, *Hash_Type;
+PyTypeObject *Memory_Type, *Window_Type, *Positions_Type, *Numbers_Type, *Vector_Type, *Index_Type, *Sequence_Type,
+    *Hash_Type;
 
 static PyMethodDef functions[] = {{"stored_load", stored_load, METH_O, NULL},
                                   {"index_header", stored_index_header, METH_VARARGS, NULL},
@@ -20,9 +21,10 @@ static const char *missing_feature(void)
 #define HAS(name)                                                                                                      \
     if (!__builtin_cpu_supports(name))                                                                                 \
         return name;
-    HAS("popcnt") HAS("sse3") HAS("ssse3") HAS("sse4.1") HAS("sse4.2")
+    HAS("popcnt")
+    HAS("sse3") HAS("ssse3") HAS("sse4.1") HAS("sse4.2")
 #endif
-    return NULL;
+        return NULL;
 }
 
 /* Whether this process can use the library: -1 and ImportError where it cannot. */
@@ -35,7 +37,8 @@ static int usable(void)
     if (missing != NULL)
         PyErr_Format(PyExc_ImportError, "bitm needs a processor of x86-64-v2 or later: this one has no %s", missing);
     else if (bitm_version() != BITM_VERSION_NUMBER)
-        PyErr_Format(PyExc_ImportError, "the library has version %u, its header %u", (unsigned)bitm_version(), (unsigned)BITM_VERSION_NUMBER);
+        PyErr_Format(PyExc_ImportError, "the library has version %u, its header %u", (unsigned)bitm_version(),
+                     (unsigned)BITM_VERSION_NUMBER);
     else if (owner != -1 && owner != here)
         PyErr_SetString(PyExc_ImportError, "bitm can be imported by one interpreter of a process");
     else
@@ -49,16 +52,21 @@ static int filled(PyObject *module)
         PyType_Spec *spec;
         PyTypeObject **type;
         const char *name;
-    } types[] = {{&memory_spec, &Memory_Type, NULL},          {&window_spec, &Window_Type, NULL},
-                 {&positions_spec, &Positions_Type, NULL},    {&numbers_spec, &Numbers_Type, NULL},
-                 {&vector_spec, &Vector_Type, "BitVector"},   {&index_spec, &Index_Type, "Index"},
-                 {&sequence_spec, &Sequence_Type, "EliasFano"}, {&hash_spec, &Hash_Type, "PerfectHash"}};
+    } types[] = {{&memory_spec, &Memory_Type, NULL},
+                 {&window_spec, &Window_Type, NULL},
+                 {&positions_spec, &Positions_Type, NULL},
+                 {&numbers_spec, &Numbers_Type, NULL},
+                 {&vector_spec, &Vector_Type, "BitVector"},
+                 {&index_spec, &Index_Type, "Index"},
+                 {&sequence_spec, &Sequence_Type, "EliasFano"},
+                 {&hash_spec, &Hash_Type, "PerfectHash"}};
     if (usable())
         return -1;
     /* Where it is imported again, the types stay the same. */
     if (WrongTables == NULL)
         WrongTables = PyErr_NewExceptionWithDoc(
-            "bitm.WrongTables", "The tables are not those of the words, or the parts are not those of a sequence.", NULL, NULL);
+            "bitm.WrongTables", "The tables are not those of the words, or the parts are not those of a sequence.",
+            NULL, NULL);
     if (WrongTables == NULL || PyModule_AddObjectRef(module, "WrongTables", WrongTables))
         return -1;
     for (size_t i = 0; i < sizeof types / sizeof *types; i++) {
@@ -72,9 +80,7 @@ static int filled(PyObject *module)
 }
 
 static PyModuleDef_Slot slots[] = {{Py_mod_exec, filled}, {0, NULL}};
-static struct PyModuleDef definition = {PyModuleDef_HEAD_INIT, "bitm._core", NULL, 0, functions, slots, NULL, NULL, NULL};
+static struct PyModuleDef definition = {
+    PyModuleDef_HEAD_INIT, "bitm._core", NULL, 0, functions, slots, NULL, NULL, NULL};
 
-PyMODINIT_FUNC PyInit__core(void)
-{
-    return PyModuleDef_Init(&definition);
-}
+PyMODINIT_FUNC PyInit__core(void) { return PyModuleDef_Init(&definition); }

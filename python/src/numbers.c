@@ -4,7 +4,7 @@
 enum { ROOM = 256 };
 
 typedef struct {
-    Walk walk; /* over an EliasFano */
+    Walk walk;           /* over an EliasFano */
     uint64_t from, stop; /* the indexes that are left, without those in room */
     int is_reversed;
     size_t at, count; /* of room, in the order of the sequence */
@@ -90,13 +90,14 @@ static PyObject *numbers_next_geq(PyObject *self, PyObject *value)
 }
 
 static PyMethodDef numbers_methods[] = {
-    {"seek", numbers_seek, METH_O,
-     DOC("seek(value, /)\n--\n\nMoves on to the first number, of those that are left, that is at least value; returns itself.")},
-    {"next_geq", numbers_next_geq, METH_O,
-     DOC("next_geq(value, /)\n--\n\nThe first number, of those that are left, that is at least value, or None. The next one "
-         "follows it.")},
+    METHOD("seek", numbers_seek, METH_O, "($self, value, /)",
+           "Moves on to the first number, of those that are left, that is at least value; returns itself."),
+    METHOD("next_geq", numbers_next_geq, METH_O, "($self, value, /)",
+           "The first number, of those that are left, that is at least value, or None. The next one "
+           "follows it."),
     {NULL, NULL, 0, NULL}};
-static PyType_Slot numbers_slots[] = {{Py_tp_iternext, numbers_next}, {Py_tp_methods, numbers_methods}, WALK_SLOTS, {0, NULL}};
+static PyType_Slot numbers_slots[] = {
+    {Py_tp_iternext, numbers_next}, {Py_tp_methods, numbers_methods}, WALK_SLOTS, {0, NULL}};
 PyType_Spec numbers_spec = {"bitm._core._Numbers", sizeof(Numbers), 0, WALK_FLAGS, numbers_slots};
 
 PyObject *numbers_new(PyObject *sequence, uint64_t from, uint64_t stop, int is_reversed)
@@ -152,7 +153,8 @@ PyObject *sequence_slice(PyObject *self, PyObject *slice)
     size_t count = (size_t)PySlice_AdjustIndices((Py_ssize_t)it->sequence.len, &start, &stop, step);
     uint64_t *room = room_for(count);
     PyObject *made = NULL;
-    if (room != NULL && (step == 1 ? numbers_at(it, (uint64_t)start, room, count) : numbers_apart(it, start, step, room, count)) == 0)
+    if (room != NULL &&
+        (step == 1 ? numbers_at(it, (uint64_t)start, room, count) : numbers_apart(it, start, step, room, count)) == 0)
         made = list_of(room, count, 0);
     free(room);
     return made;
@@ -220,7 +222,8 @@ static size_t keep_contained(const Memory *it, uint64_t *block, size_t count)
     uint64_t is_in[BLOCK];
     struct bitm_list_counts counts;
     size_t kept = 0;
-    if (bitm_sequence_contains_list(&it->sequence, block, count, is_in, count, &counts) != BITM_OK || counts.wrong || counts.missing)
+    if (bitm_sequence_contains_list(&it->sequence, block, count, is_in, count, &counts) != BITM_OK || counts.wrong ||
+        counts.missing)
         return SIZE_MAX;
     for (size_t i = 0; i < count; i++)
         if (is_in[i])

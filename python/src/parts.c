@@ -15,7 +15,10 @@ typedef struct {
     Part parts[MOST_BUFFERS];
 } Layout;
 
-#define PART(pointer, length, size) {(const void **)&(pointer), &(length), size}
+#define PART(pointer, length, size)                                                                                    \
+    {                                                                                                                  \
+        (const void **)&(pointer), &(length), size                                                                     \
+    }
 
 /* Whether it is a class of Index, EliasFano or PerfectHash; TypeError else. */
 static int is_value(PyObject *type)
@@ -31,20 +34,30 @@ static void layout_of(PyObject *type, Memory *it, Layout *out)
 {
     struct bitm_index *index = &it->index, *words = &it->hash.index;
     struct bitm_sequence *sequence = &it->sequence;
-    Layout of_index = {3, 7, {&index->bits_len, &it->log2s[0], &it->log2s[1]},
+    Layout of_index = {3,
+                       7,
+                       {&index->bits_len, &it->log2s[0], &it->log2s[1]},
                        {PART(index->words, index->words_len, 8), PART(index->upper, index->upper_len, 8),
                         PART(index->lower, index->lower_len, 8), PART(index->ones.samples, index->ones.samples_len, 4),
-                        PART(index->ones.starts, index->ones.starts_len, 8), PART(index->zeros.samples, index->zeros.samples_len, 4),
+                        PART(index->ones.starts, index->ones.starts_len, 8),
+                        PART(index->zeros.samples, index->zeros.samples_len, 4),
                         PART(index->zeros.starts, index->zeros.starts_len, 8)}};
-    Layout of_sequence = {2, 4, {&it->sequence.len, &sequence->width},
+    Layout of_sequence = {2,
+                          4,
+                          {&it->sequence.len, &sequence->width},
                           {PART(sequence->low, sequence->low_len, 8), PART(sequence->words, sequence->words_len, 8),
-                           PART(sequence->upper, sequence->upper_len, 8), PART(sequence->lower, sequence->lower_len, 8)}};
-    Layout of_hash = {4, 5, {&it->mark, &it->hash.keys, &it->print_width, &it->seed},
+                           PART(sequence->upper, sequence->upper_len, 8),
+                           PART(sequence->lower, sequence->lower_len, 8)}};
+    Layout of_hash = {4,
+                      5,
+                      {&it->mark, &it->hash.keys, &it->print_width, &it->seed},
                       {PART(words->words, words->words_len, 8), PART(words->upper, words->upper_len, 8),
                        PART(words->lower, words->lower_len, 8), PART(it->hash.sizes, it->hash.sizes_len, 8),
                        PART(it->prints, it->prints_len, 8)}};
     PyTypeObject *kind = (PyTypeObject *)type;
-    *out = PyType_IsSubtype(kind, Index_Type) ? of_index : PyType_IsSubtype(kind, Sequence_Type) ? of_sequence : of_hash;
+    *out = PyType_IsSubtype(kind, Index_Type)      ? of_index
+           : PyType_IsSubtype(kind, Sequence_Type) ? of_sequence
+                                                   : of_hash;
 }
 
 /* parts(value): its numbers and windows of its memory, as two tuples, which are what over takes. */
@@ -59,7 +72,8 @@ PyObject *parts_of(PyObject *module, PyObject *self)
     if (it == NULL)
         return NULL;
     layout_of(type, it, &layout);
-    PyObject *numbers = PyTuple_New(layout.numbers_count), *windows = numbers == NULL ? NULL : PyTuple_New(layout.parts_count);
+    PyObject *numbers = PyTuple_New(layout.numbers_count),
+             *windows = numbers == NULL ? NULL : PyTuple_New(layout.parts_count);
     for (int i = 0; windows != NULL && i < layout.numbers_count; i++)
         if (PyTuple_SetItem(numbers, i, PyLong_FromUnsignedLongLong(*layout.numbers[i])))
             Py_CLEAR(windows);
@@ -80,14 +94,16 @@ PyObject *parts_of(PyObject *module, PyObject *self)
 static int fill(Memory *it, const Layout *layout, PyObject *numbers, PyObject *buffers)
 {
     if (PyTuple_Size(numbers) != layout->numbers_count || PyTuple_Size(buffers) != layout->parts_count) {
-        PyErr_Format(PyExc_TypeError, "%d numbers and %d buffers are needed", layout->numbers_count, layout->parts_count);
+        PyErr_Format(PyExc_TypeError, "%d numbers and %d buffers are needed", layout->numbers_count,
+                     layout->parts_count);
         return -1;
     }
     for (int i = 0; i < layout->numbers_count; i++)
         if (number(PyTuple_GetItem(numbers, i), "a number of a value", layout->numbers[i]))
             return -1;
     for (int i = 0; i < layout->parts_count; i++)
-        if (memory_items(it, PyTuple_GetItem(buffers, i), layout->parts[i].size, layout->parts[i].at, layout->parts[i].len))
+        if (memory_items(it, PyTuple_GetItem(buffers, i), layout->parts[i].size, layout->parts[i].at,
+                         layout->parts[i].len))
             return -1;
     return 0;
 }

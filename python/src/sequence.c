@@ -33,7 +33,8 @@ static int build(Memory *it, const uint64_t *items, size_t count)
     status = bitm_sequence_build(items, count, low, lens.low_len, words, lens.words_len, upper, lens.upper_len, lower,
                                  lens.lower_len, &width);
     Py_END_ALLOW_THREADS
-    struct bitm_sequence made = {count, width, low, lens.low_len, words, lens.words_len, upper, lens.upper_len, lower, lens.lower_len, {0, 0}};
+    struct bitm_sequence made = {count, width,          low,   lens.low_len,   words, lens.words_len,
+                                 upper, lens.upper_len, lower, lens.lower_len, {0, 0}};
     it->sequence = made;
     if (status == BITM_OK)
         return 0;
@@ -63,7 +64,8 @@ static int sequence_init(PyObject *self, PyObject *args, PyObject *keywords)
     static char *names[] = {"numbers", NULL};
     PyObject *numbers;
     Integers from;
-    if (!PyArg_ParseTupleAndKeywords(args, keywords, "O:EliasFano", names, &numbers) || integers_take(&from, numbers, "the number"))
+    if (!PyArg_ParseTupleAndKeywords(args, keywords, "O:EliasFano", names, &numbers) ||
+        integers_take(&from, numbers, "the number"))
         return -1;
     uint64_t *items = copied(&from);
     Memory *it = items == NULL ? NULL : memory_new();
@@ -93,7 +95,10 @@ static PyObject *ask(PyObject *self, PyObject *query, query_call call)
     return answer_or_none(status, &out);
 }
 
-static PyObject *first_at_least(PyObject *self, PyObject *value) { return ask(self, value, bitm_sequence_first_at_least); }
+static PyObject *first_at_least(PyObject *self, PyObject *value)
+{
+    return ask(self, value, bitm_sequence_first_at_least);
+}
 static PyObject *last_at_most(PyObject *self, PyObject *value) { return ask(self, value, bitm_sequence_last_at_most); }
 
 static PyObject *sequence_rank(PyObject *self, PyObject *query)
@@ -142,7 +147,8 @@ static int equal_number(PyObject *value, uint64_t *out)
     }
     Py_XDECREF(whole);
     if (is_equal < 0 && PyErr_Occurred()) {
-        if (!PyErr_ExceptionMatches(PyExc_TypeError) && !PyErr_ExceptionMatches(PyExc_ValueError) && !PyErr_ExceptionMatches(PyExc_OverflowError))
+        if (!PyErr_ExceptionMatches(PyExc_TypeError) && !PyErr_ExceptionMatches(PyExc_ValueError) &&
+            !PyErr_ExceptionMatches(PyExc_OverflowError))
             return -1;
         PyErr_Clear();
     }
@@ -200,7 +206,8 @@ static PyObject *sequence_count(PyObject *self, PyObject *value)
 /* ---- lists */
 
 /* The library stops at the first index that has no number; what was found before is not wanted then. */
-static uint32_t get(const Memory *it, bool one, const uint64_t *in, uint64_t *out, size_t count, struct bitm_list_counts *counts)
+static uint32_t get(const Memory *it, bool one, const uint64_t *in, uint64_t *out, size_t count,
+                    struct bitm_list_counts *counts)
 {
     uint64_t written = 0, number_there;
     (void)one;
@@ -294,41 +301,47 @@ static PyObject *sequence_repr(PyObject *self)
     return PyUnicode_FromFormat("<EliasFano of %zu numbers: %s, ..>", len, shown);
 }
 
-#define PLAIN(name, function, text) {name, function, METH_O, DOC(text)}
-#define NAMED(name, text) KEYWORDS(#name, sequence_##name, text)
+#define PLAIN(name, function, arguments, text) METHOD(name, function, METH_O, arguments, text)
+#define NAMED(name, arguments, text) KEYWORDS(#name, sequence_##name, arguments, text)
 static PyMethodDef methods[] = {
-    PLAIN("first_at_least", first_at_least, "first_at_least(value, /)\n--\n\nSuccessor: the least index whose number is at least value, or None."),
-    PLAIN("last_at_most", last_at_most, "last_at_most(value, /)\n--\n\nPredecessor: the greatest index whose number is at most value, or None."),
-    PLAIN("rank", sequence_rank, "rank(value, /)\n--\n\nHow many numbers are less than value."),
-    NAMED(get_list, "get_list(queries)\n--\n\nThe numbers at many indexes: an array for an array of NumPy, else a list."),
-    NAMED(first_at_least_list, "first_at_least_list(queries, *, missing=None)\n--\n\nSuccessors of many values; missing as in Index.select_list."),
-    NAMED(last_at_most_list, "last_at_most_list(queries, *, missing=None)\n--\n\nPredecessors of many values; missing as in Index.select_list."),
-    NAMED(contains_list, "contains_list(queries)\n--\n\nWhether each of many values is in the sequence: bools."),
-    NAMED(items, "items(start=0, stop=None, *, reverse=False)\n--\n\nThe numbers in a range of indexes, rising or falling."),
-    PLAIN("from_value", numbers_from, "from_value(value, /)\n--\n\nThe numbers from the first that is at least value on."),
-    PLAIN("index", sequence_index, "index(value, /)\n--\n\nThe first index of a number; ValueError where it is not in the sequence."),
-    PLAIN("count", sequence_count, "count(value, /)\n--\n\nHow often a number is in the sequence."),
-    {"check", sequence_check, METH_NOARGS, DOC("check()\n--\n\nWhether the parts are those of some sequence. Goes over all of them.")},
+    PLAIN("first_at_least", first_at_least, "($self, value, /)",
+          "Successor: the least index whose number is at least value, or None."),
+    PLAIN("last_at_most", last_at_most, "($self, value, /)",
+          "Predecessor: the greatest index whose number is at most value, or None."),
+    PLAIN("rank", sequence_rank, "($self, value, /)", "How many numbers are less than value."),
+    NAMED(get_list, "($self, queries)", "The numbers at many indexes: an array for an array of NumPy, else a list."),
+    NAMED(first_at_least_list, "($self, queries, *, missing=None)",
+          "Successors of many values; missing as in Index.select_list."),
+    NAMED(last_at_most_list, "($self, queries, *, missing=None)",
+          "Predecessors of many values; missing as in Index.select_list."),
+    NAMED(contains_list, "($self, queries)", "Whether each of many values is in the sequence: bools."),
+    NAMED(items, "($self, start=0, stop=None, *, reverse=False)", "The numbers in a range of indexes, rising or falling."),
+    PLAIN("from_value", numbers_from, "($self, value, /)", "The numbers from the first that is at least value on."),
+    PLAIN("index", sequence_index, "($self, value, /)",
+          "The first index of a number; ValueError where it is not in the sequence."),
+    PLAIN("count", sequence_count, "($self, value, /)", "How often a number is in the sequence."),
+    METHOD("check", sequence_check, METH_NOARGS, "($self, /)",
+           "Whether the parts are those of some sequence. Goes over all of them."),
     {"__reversed__", sequence_reversed, METH_NOARGS, NULL},
     VALUE_METHODS,
     {NULL, NULL, 0, NULL}};
 
 static PyGetSetDef attributes[] = {VALUE_CLOSED, {NULL, NULL, NULL, NULL, NULL}};
 
-static PyType_Slot slots[] = {
-    {Py_tp_doc, DOC("EliasFano(numbers)\n--\n\nA monotone sequence of numbers below 2**64 (equal ones may follow each other), by Elias-Fano.")},
-    {Py_tp_init, sequence_init},
-    {Py_tp_methods, methods},
-    {Py_tp_getset, attributes},
-    {Py_tp_repr, sequence_repr},
-    {Py_tp_iter, sequence_iter},
-    {Py_tp_richcompare, numbers_compare},
-    {Py_tp_hash, PyObject_HashNotImplemented},
-    {Py_sq_length, sequence_len},
-    {Py_sq_item, sequence_item},
-    {Py_sq_contains, sequence_contains},
-    {Py_mp_length, sequence_len},
-    {Py_mp_subscript, sequence_subscript},
-    VALUE_SLOTS,
-    {0, NULL}};
+static PyType_Slot slots[] = {{Py_tp_doc, DOC("EliasFano(numbers)\n--\n\nA monotone sequence of numbers below 2**64 "
+                                              "(equal ones may follow each other), by Elias-Fano.")},
+                              {Py_tp_init, sequence_init},
+                              {Py_tp_methods, methods},
+                              {Py_tp_getset, attributes},
+                              {Py_tp_repr, sequence_repr},
+                              {Py_tp_iter, sequence_iter},
+                              {Py_tp_richcompare, numbers_compare},
+                              {Py_tp_hash, PyObject_HashNotImplemented},
+                              {Py_sq_length, sequence_len},
+                              {Py_sq_item, sequence_item},
+                              {Py_sq_contains, sequence_contains},
+                              {Py_mp_length, sequence_len},
+                              {Py_mp_subscript, sequence_subscript},
+                              VALUE_SLOTS,
+                              {0, NULL}};
 PyType_Spec sequence_spec = {"bitm.EliasFano", sizeof(Value), 0, VALUE_FLAGS, slots};

@@ -64,13 +64,14 @@ static PyObject *header_of(uint32_t status, const struct bitm_stored *header)
     }
     const struct bitm_span *all[] = {&header->words,  &header->upper,   &header->lower,   &header->low,
                                      &header->starts, &header->starts0, &header->samples, &header->samples0};
-    PyObject *places = PyTuple_New(8);
-    for (int i = 0; places != NULL && i < 8; i++)
-        if (PyTuple_SetItem(places, i, PyLong_FromUnsignedLongLong(all[i]->at)))
-            Py_CLEAR(places);
-    if (places == NULL)
+    PyObject *begins = PyTuple_New(8);
+    for (int i = 0; begins != NULL && i < 8; i++)
+        if (PyTuple_SetItem(begins, i, PyLong_FromUnsignedLongLong(all[i]->at)))
+            Py_CLEAR(begins);
+    if (begins == NULL)
         return NULL;
-    return Py_BuildValue("(y#KN)", (const char *)header, (Py_ssize_t)sizeof *header, (unsigned long long)header->size, places);
+    return Py_BuildValue("(y#KN)", (const char *)header, (Py_ssize_t)sizeof *header, (unsigned long long)header->size,
+                         begins);
 }
 
 PyObject *stored_index_header(PyObject *module, PyObject *args)

@@ -1,7 +1,9 @@
-/* Index, EliasFano and PerfectHash as Python objects: closing, copying, and what Python code may see of their memory. */
+/* Index, EliasFano and PerfectHash as Python objects: closing, copying, and what Python code may see of their memory.
+ */
 #include "core.h"
 
-PyMemberDef value_members[] = {{"__weaklistoffset__", T_PYSSIZET, offsetof(Value, weak), READONLY, NULL}, {NULL, 0, 0, 0, NULL}};
+PyMemberDef value_members[] = {{"__weaklistoffset__", T_PYSSIZET, offsetof(Value, weak), READONLY, NULL},
+                               {NULL, 0, 0, 0, NULL}};
 
 Memory *memory_kept(PyObject *self)
 {
@@ -65,10 +67,7 @@ PyObject *value_enter(PyObject *self, PyObject *none)
     return memory_of(self) == NULL ? NULL : Py_NewRef(self);
 }
 
-PyObject *value_exit(PyObject *self, PyObject *args)
-{
-    return value_close(self, args);
-}
+PyObject *value_exit(PyObject *self, PyObject *args) { return value_close(self, args); }
 
 PyObject *value_closed(PyObject *self, void *none)
 {
@@ -166,10 +165,7 @@ static int window_buffer(PyObject *self, Py_buffer *out, int flags)
     return 0;
 }
 
-static Py_ssize_t window_len(PyObject *self)
-{
-    return ((Window *)self)->len;
-}
+static Py_ssize_t window_len(PyObject *self) { return ((Window *)self)->len; }
 
 static PyType_Slot window_slots[] = {{Py_tp_dealloc, window_dealloc},
                                      {Py_tp_traverse, walk_traverse},

@@ -97,7 +97,8 @@ static void vector_dealloc(PyObject *self)
 
 void vector_copy_range(Vector *to, uint64_t to_begin, const Bits *from, uint64_t from_begin, uint64_t count)
 {
-    if (bitm_bits_copy_range(to->words, to->bits.words_len, to_begin, from->words, from->words_len, from_begin, count) != BITM_OK)
+    if (bitm_bits_copy_range(to->words, to->bits.words_len, to_begin, from->words, from->words_len, from_begin,
+                             count) != BITM_OK)
         return; /* not reached: each caller names ranges that are inside */
 }
 
@@ -129,7 +130,6 @@ static PyObject *vector_repr(PyObject *self)
         return PyUnicode_FromFormat("BitVector('%s')", shown);
     return PyUnicode_FromFormat("BitVector('%s..', %llu bits)", shown, (unsigned long long)bits->len);
 }
-
 
 /* ---- memory */
 
@@ -185,51 +185,58 @@ static PyObject *vector_sizeof(PyObject *self, PyObject *none)
 
 /* ---- the type */
 
-#define PLAIN(name, text) {#name, vector_##name, METH_O, DOC(text)}
-#define NO_ARGUMENT(name, text) {#name, vector_##name, METH_NOARGS, DOC(text)}
-#define NAMED(name, text) KEYWORDS(#name, vector_##name, text)
+#define PLAIN(name, arguments, text) METHOD(#name, vector_##name, METH_O, arguments, text)
+#define NO_ARGUMENT(name, arguments, text) METHOD(#name, vector_##name, METH_NOARGS, arguments, text)
+#define NAMED(name, arguments, text) KEYWORDS(#name, vector_##name, arguments, text)
 static PyMethodDef methods[] = {
-    {"from_bits", vector_from_bits, METH_O | METH_CLASS,
-     DOC("from_bits(bits, /)\n--\n\nThe bits of an iterable, each true or false; of a string of 0 and 1, a bitarray or an array.")},
-    {"from_indices", (PyCFunction)(void (*)(void))vector_from_indices, METH_FASTCALL | METH_KEYWORDS | METH_CLASS,
-     DOC("from_indices(indices, length=None)\n--\n\n1 bits at the positions, 0 bits elsewhere; as long as the greatest position "
-         "needs where no length is given.")},
-    {"from_words", (PyCFunction)(void (*)(void))vector_from_words, METH_FASTCALL | METH_KEYWORDS | METH_CLASS,
-     DOC("from_words(words, length=None)\n--\n\nA copy of the bits of a buffer of 64-bit words or of bytes, lowest bit first: of "
-         "all, or of the first.")},
-    NAMED(count, "count(bit=1, start=0, stop=None)\n--\n\nHow many 1 bits there are, or with 0 how many 0 bits: of all, or in a range."),
-    NAMED(fill, "fill(bit=1, start=0, stop=None)\n--\n\nMakes all bits 1, or with 0 makes them 0: all, or those in a range."),
-    NAMED(flip, "flip(start=0, stop=None)\n--\n\nFlips all bits, or those in a range."),
-    PLAIN(next_one, "next_one(position, /)\n--\n\nThe position of the first 1 bit at or after a position, or None."),
-    PLAIN(next_zero, "next_zero(position, /)\n--\n\nThe position of the first 0 bit at or after a position, or None."),
-    PLAIN(previous_one, "previous_one(position, /)\n--\n\nThe position of the last 1 bit at or before a position, or None."),
-    PLAIN(previous_zero, "previous_zero(position, /)\n--\n\nThe position of the last 0 bit at or before a position, or None."),
-    KEYWORDS("ones", bits_ones, "ones(start=0, stop=None, *, reverse=False)\n--\n\nThe positions of the 1 bits in a range, rising, or "
-                                "falling. They are looked up some at a time: a change of the vector is seen a little later."),
-    KEYWORDS("zeros", bits_zeros, "zeros(start=0, stop=None, *, reverse=False)\n--\n\nThe positions of the 0 bits in a range, as ones."),
-    NO_ARGUMENT(any, "any()\n--\n\nWhether there is a 1 bit."),
-    NO_ARGUMENT(all, "all()\n--\n\nWhether there is no 0 bit."),
-    PLAIN(and_not, "and_not(other, /)\n--\n\nThe 1 bits that are 0 bits of the other vector."),
-    PLAIN(append, "append(bit, /)\n--\n\nAdds a bit at the end."),
-    PLAIN(extend, "extend(bits, /)\n--\n\nAdds bits at the end: whatever from_bits takes."),
-    NAMED(insert, "insert(index, bit)\n--\n\nAs list.insert."),
-    NAMED(pop, "pop(index=-1)\n--\n\nAs list.pop."),
-    NO_ARGUMENT(clear, "clear()\n--\n\nRemoves all bits."),
-    NO_ARGUMENT(copy, "copy()\n--\n\nAnother BitVector with the same bits."),
-    NAMED(find, "find(bit, start=0, stop=None)\n--\n\nThe position of the first such bit in a range, or -1."),
-    NAMED(index, "index(bit, start=0, stop=None)\n--\n\nAs find, but ValueError where there is none."),
-    NAMED(get_bits, "get_bits(begin, length)\n--\n\nThe number in 0 to 64 bits from a position on, lowest bit first."),
-    NAMED(set_bits, "set_bits(begin, length, value)\n--\n\nReplaces the number in these bits; OverflowError where it does not fit."),
-    NAMED(get_fragment, "get_fragment(index, width)\n--\n\nThe number at an index, where the bits are an array of numbers of width bits."),
-    NAMED(set_fragment, "set_fragment(index, width, value)\n--\n\nReplaces the number at an index of such an array."),
-    NO_ARGUMENT(tobytes, "tobytes()\n--\n\nThe bits, eight in a byte, lowest bit first."),
+    METHOD("from_bits", vector_from_bits, METH_O | METH_CLASS, "($type, bits, /)",
+           "The bits of an iterable, each true or false; of a string of 0 and 1, a bitarray or an array."),
+    METHOD("from_indices", vector_from_indices, METH_FASTCALL | METH_KEYWORDS | METH_CLASS, "($type, indices, length=None)",
+           "1 bits at the positions, 0 bits elsewhere; as long as the greatest position "
+           "needs where no length is given."),
+    METHOD("from_words", vector_from_words, METH_FASTCALL | METH_KEYWORDS | METH_CLASS, "($type, words, length=None)",
+           "A copy of the bits of a buffer of 64-bit words or of bytes, lowest bit first: of "
+           "all, or of the first."),
+    NAMED(count, "($self, bit=1, start=0, stop=None)",
+          "How many 1 bits there are, or with 0 how many 0 bits: of all, or in a range."),
+    NAMED(fill, "($self, bit=1, start=0, stop=None)", "Makes all bits 1, or with 0 makes them 0: all, or those in a range."),
+    NAMED(flip, "($self, start=0, stop=None)", "Flips all bits, or those in a range."),
+    PLAIN(next_one, "($self, position, /)", "The position of the first 1 bit at or after a position, or None."),
+    PLAIN(next_zero, "($self, position, /)", "The position of the first 0 bit at or after a position, or None."),
+    PLAIN(previous_one, "($self, position, /)", "The position of the last 1 bit at or before a position, or None."),
+    PLAIN(previous_zero, "($self, position, /)", "The position of the last 0 bit at or before a position, or None."),
+    KEYWORDS("ones", bits_ones, "($self, start=0, stop=None, *, reverse=False)",
+             "The positions of the 1 bits in a range, rising, or "
+             "falling. They are looked up some at a time: a change of the vector is seen a little later."),
+    KEYWORDS("zeros", bits_zeros, "($self, start=0, stop=None, *, reverse=False)",
+             "The positions of the 0 bits in a range, as ones."),
+    NO_ARGUMENT(any, "($self, /)", "Whether there is a 1 bit."),
+    NO_ARGUMENT(all, "($self, /)", "Whether there is no 0 bit."),
+    PLAIN(and_not, "($self, other, /)", "The 1 bits that are 0 bits of the other vector."),
+    PLAIN(append, "($self, bit, /)", "Adds a bit at the end."),
+    PLAIN(extend, "($self, bits, /)", "Adds bits at the end: whatever from_bits takes."),
+    NAMED(insert, "($self, index, bit)", "As list.insert."),
+    NAMED(pop, "($self, index=-1)", "As list.pop."),
+    NO_ARGUMENT(clear, "($self, /)", "Removes all bits."),
+    NO_ARGUMENT(copy, "($self, /)", "Another BitVector with the same bits."),
+    NAMED(find, "($self, bit, start=0, stop=None)", "The position of the first such bit in a range, or -1."),
+    NAMED(index, "($self, bit, start=0, stop=None)", "As find, but ValueError where there is none."),
+    NAMED(get_bits, "($self, begin, length)", "The number in 0 to 64 bits from a position on, lowest bit first."),
+    NAMED(set_bits, "($self, begin, length, value)",
+          "Replaces the number in these bits; OverflowError where it does not fit."),
+    NAMED(get_fragment, "($self, index, width)",
+          "The number at an index, where the bits are an array of numbers of width bits."),
+    NAMED(set_fragment, "($self, index, width, value)", "Replaces the number at an index of such an array."),
+    NO_ARGUMENT(tobytes, "($self, /)", "The bits, eight in a byte, lowest bit first."),
     {"__sizeof__", vector_sizeof, METH_NOARGS, NULL},
     {NULL, NULL, 0, NULL}};
 
-static PyGetSetDef attributes[] = {
-    {"words", vector_words, NULL, DOC("The words, to be read: bit i is bit i % 64, lowest first, of word i // 64."), NULL},
-    {NULL, NULL, NULL, NULL, NULL}};
-static PyMemberDef members[] = {{"__weaklistoffset__", T_PYSSIZET, offsetof(Vector, weak), READONLY, NULL}, {NULL, 0, 0, 0, NULL}};
+static PyGetSetDef attributes[] = {{"words", vector_words, NULL,
+                                    DOC("The words, to be read: bit i is bit i % 64, lowest first, of word i // 64."),
+                                    NULL},
+                                   {NULL, NULL, NULL, NULL, NULL}};
+static PyMemberDef members[] = {{"__weaklistoffset__", T_PYSSIZET, offsetof(Vector, weak), READONLY, NULL},
+                                {NULL, 0, 0, 0, NULL}};
 
 static PyType_Slot slots[] = {
     {Py_tp_doc, DOC("BitVector(length=0)\n--\n\nBits that can be read, counted and changed; 0 bits at first.")},
@@ -242,6 +249,7 @@ static PyType_Slot slots[] = {
     {Py_tp_repr, vector_repr},
     {Py_tp_richcompare, bits_compare},
     {Py_tp_hash, PyObject_HashNotImplemented},
+    {Py_tp_iter, bits_iter},
     {Py_sq_length, bits_len},
     {Py_sq_item, bits_item},
     {Py_sq_contains, bits_contains},

@@ -5,8 +5,7 @@
 #include "core.h"
 
 typedef struct {
-    PyObject_HEAD
-    Bits bits; /* those past the length are 0 */
+    PyObject_HEAD Bits bits; /* those past the length are 0 */
     uint64_t *words;
     size_t room; /* words that there are */
     Py_ssize_t exports, shape, stride;

@@ -63,7 +63,8 @@ static int assign_slice(Vector *it, PyObject *key, PyObject *value)
     int bit = 0, is_bit = value != NULL && (PyBool_Check(value) || PyLong_Check(value));
     if (PySlice_Unpack(key, &start, &stop, &step) || (is_bit && (bit = bit_of(value)) < 0))
         return -1;
-    if (value != NULL && !is_bit && (other = (Vector *)vector_of(Vector_Type, value)) == NULL) /* a copy, also of itself */
+    if (value != NULL && !is_bit &&
+        (other = (Vector *)vector_of(Vector_Type, value)) == NULL) /* a copy, also of itself */
         return -1;
     Py_ssize_t count = PySlice_AdjustIndices((Py_ssize_t)it->bits.len, &start, &stop, step);
     const Bits *bits = other == NULL ? &nothing : &other->bits;

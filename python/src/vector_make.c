@@ -10,7 +10,8 @@ static PyObject *of_words(PyTypeObject *type, PyObject *from, int is_given, uint
     if (it != NULL && memory_words(it, from, &bits.words, &bits.words_len, &bits.len) == 0) {
         uint64_t len = is_given ? length : bits.len;
         if (len > bits.len)
-            PyErr_Format(PyExc_ValueError, "the buffer has %llu bits, not %llu", (unsigned long long)bits.len, (unsigned long long)len);
+            PyErr_Format(PyExc_ValueError, "the buffer has %llu bits, not %llu", (unsigned long long)bits.len,
+                         (unsigned long long)len);
         else if ((made = vector_new(type, len)) != NULL)
             vector_copy_range(made, 0, &bits, 0, len);
     }
@@ -98,8 +99,8 @@ PyObject *vector_from_indices(PyObject *type, ARGUMENTS)
     PyObject *given[2];
     uint64_t length;
     Integers positions;
-    if (pick("from_indices", names, 1, 2, args, count, keywords, given) || number_or(given[1], 0, "the length", &length) ||
-        integers_take(&positions, given[0], "a position"))
+    if (pick("from_indices", names, 1, 2, args, count, keywords, given) ||
+        number_or(given[1], 0, "the length", &length) || integers_take(&positions, given[0], "a position"))
         return NULL;
     Vector *made = of_positions((PyTypeObject *)type, &positions, given[1] != NULL && given[1] != Py_None, length);
     integers_drop(&positions);
@@ -171,7 +172,4 @@ PyObject *vector_of(PyTypeObject *type, PyObject *from)
     return of_iterable(type, from);
 }
 
-PyObject *vector_from_bits(PyObject *type, PyObject *from)
-{
-    return vector_of((PyTypeObject *)type, from);
-}
+PyObject *vector_from_bits(PyObject *type, PyObject *from) { return vector_of((PyTypeObject *)type, from); }

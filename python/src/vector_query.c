@@ -1,11 +1,10 @@
-/* bitm.BitVector: what is asked of its bits. */
+/* bitm.BitVector: queries, and numbers in bits. */
 #include "vector.h"
 
 /* ---- ranges */
 
 /* Bit, start and stop of count, fill and flip (which has no bit). */
-int range_of(Vector *it, const char *name, int skip, ARGUMENTS, int *bit,
-                    uint64_t range[2])
+int range_of(Vector *it, const char *name, int skip, ARGUMENTS, int *bit, uint64_t range[2])
 {
     static const char *const names[] = {"bit", "start", "stop"};
     PyObject *given[3] = {NULL, NULL, NULL};
@@ -98,7 +97,6 @@ PyObject *vector_all(PyObject *self, PyObject *none)
     return PyBool_FromLong(!bits_contains(self, Py_False));
 }
 
-
 /* ---- numbers in bits */
 
 /* Begin or index, width and value of a number: width and value are such as fit a number of 64 bits. */
@@ -115,7 +113,8 @@ static int numbers_of(const char *call, const char *const *names, int most, ARGU
         return -1;
     }
     if (most == 3 && out[1] < 64 && out[2] >> out[1]) {
-        PyErr_Format(PyExc_OverflowError, "%llu does not fit in %llu bits", (unsigned long long)out[2], (unsigned long long)out[1]);
+        PyErr_Format(PyExc_OverflowError, "%llu does not fit in %llu bits", (unsigned long long)out[2],
+                     (unsigned long long)out[1]);
         return -1;
     }
     return 0;

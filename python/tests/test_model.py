@@ -8,6 +8,8 @@ import os
 import pickle
 import tempfile
 
+os.environ.setdefault("HYPOTHESIS_STORAGE_DIRECTORY", os.path.join(tempfile.gettempdir(), "bitm-hypothesis"))  # not here
+
 import pytest
 from hypothesis import HealthCheck, given, settings, strategies as st
 from hypothesis.stateful import RuleBasedStateMachine, initialize, invariant, rule
@@ -15,7 +17,8 @@ from hypothesis.stateful import RuleBasedStateMachine, initialize, invariant, ru
 import bitm
 
 numpy = pytest.importorskip("numpy")
-settings.register_profile("all", deadline=None, suppress_health_check=list(HealthCheck), max_examples=int(os.environ.get("BITM_EXAMPLES", "60")))
+EXAMPLES = int(os.environ.get("BITM_EXAMPLES", "60"))
+settings.register_profile("all", database=None, deadline=None, suppress_health_check=list(HealthCheck), max_examples=EXAMPLES)
 settings.load_profile("all")
 
 BITS = st.one_of(
@@ -124,12 +127,12 @@ class Vectors(RuleBasedStateMachine):
         assert list(~self.vector) == [not a for a in self.list]
         assert list(self.vector + with_) == self.list + other
 
-    @rule(lent=st.sampled_from([bitm.Index, memoryview]))
-    def lend(self, lent):
-        held = lent(self.vector)
+    @rule(borrower=st.sampled_from([bitm.Index, memoryview]))
+    def lend(self, borrower):
+        held = borrower(self.vector)
         with pytest.raises(BufferError):
             self.vector.append(1)
-        held.close() if lent is bitm.Index else held.release()
+        held.close() if borrower is bitm.Index else held.release()
 
     @invariant()
     def same(self):

@@ -178,3 +178,28 @@ def test_an_index_from_a_position_backwards_and_in_a_range():
     assert not vector.any()
     walk = BitVector(5000).zeros()
     assert sum(1 for _ in itertools.islice(walk, 100)) == 100 and len(list(walk)) == 4900
+
+
+def test_a_vector_is_a_mutable_sequence_and_an_index_a_sequence():
+    bits = [1, 0, 0, 1, 1]
+    vector = BitVector.from_bits(bits)
+    index = Index(vector.copy())
+    for bit in (0, 1):
+        for start, stop in ((0, 5), (1, 5), (2, 5), (1, 2)):
+            for it in (vector, index):
+                try:
+                    assert it.index(bit, start, stop) == bits.index(bit, start, stop)
+                except ValueError:
+                    assert bit not in bits[start:stop]
+    for call in (vector.index, index.index, vector.remove, vector.count, index.count):
+        with pytest.raises(ValueError):
+            call(2)
+    for change in (lambda it: it.remove(0), lambda it: it.reverse(), lambda it: it.remove(1), lambda it: it.extend([1, 1]), lambda it: it.clear()):
+        change(bits)
+        change(vector)
+        assert list(vector) == bits
+    with pytest.raises(ValueError):
+        vector.remove(1)
+    for name in MutableSequence.__abstractmethods__ | {"append", "clear", "extend", "remove", "reverse", "pop", "__iadd__", "__iter__", "index", "count"}:
+        assert hasattr(vector, name), name
+    assert list(reversed(index)) == list(index)[::-1]

@@ -34,6 +34,12 @@ def test_the_package_is_strict():
     assert mypy("-p", "bitm") == ""
 
 
+def test_the_stubs_are_those_of_the_types():
+    pytest.importorskip("mypy.stubtest")
+    done = subprocess.run([sys.executable, "-m", "mypy.stubtest", "bitm._core", "--concise"], capture_output=True, text=True)
+    assert done.returncode == 0 or "is not present at runtime" not in done.stdout and "inconsistent" not in done.stdout, done.stdout
+
+
 def test_no_type_of_a_user_is_unknown(tmp_path):
     pytest.importorskip("numpy")
     path = tmp_path / "lines.py"
