@@ -228,3 +228,10 @@ mod mapped {
         fs::remove_dir_all(&folder).expect("removed");
     }
 }
+
+#[test]
+fn the_archive_is_of_this_version() {
+    let numbers = env!("CARGO_PKG_VERSION").split('.').map(|it| it.parse().unwrap_or(0));
+    let version: u32 = numbers.fold(0, |all, it: u32| 100 * all + it);
+    assert_eq!(bitm_proved::library_version() / 100, version / 100);
+}
