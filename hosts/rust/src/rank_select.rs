@@ -19,6 +19,10 @@ use core::ops::Deref;
 /// assert_eq!(bits.as_ref(), [0b1011, 7]);
 /// ```
 ///
+/// A query builds a view of words and tables, some 20 instructions; for many queries take [`view`] once.
+///
+/// [`view`]: crate::Queries::view
+///
 /// Words and tables may be written: then an answer is inside all the same, or there is none, or a panic says that the
 /// tables are not those of the words. The bit vector has to deref to the same words each time, as vectors and slices
 /// do; else the same holds.
