@@ -5,7 +5,7 @@ use crate::ffi::sequence::*;
 use crate::sys::memory::{as_u64_mut, copied, zeroed};
 use crate::sys::tables::Tables;
 use crate::sys::view::{list_answer, IndexView};
-use crate::sys::{answer, OK};
+use crate::sys::{query, OK};
 use alloc::vec::Vec;
 use core::fmt;
 
@@ -147,10 +147,9 @@ impl PerfectHash {
 
     /// As `get`, with an error where the tables turn out to be wrong.
     pub fn checked_get(&self, hash: u64) -> Result<Option<usize>, WrongTables> {
-        let mut out = 0;
-        // SAFETY: borrowed slices, and room for one number.
-        let status = unsafe { bitm_hash_get(&self.raw, hash, &mut out) };
-        answer(status, out)
+        // SAFETY: borrowed slices, and room for the number that the call writes where it returns OK.
+        let found = unsafe { query(|out| bitm_hash_get(&self.raw, hash, out)) };
+        Ok(found?.map(|it| it as usize))
     }
 
     /// The numbers of a list of hashes; how many have none, which `NO_ANSWER` stands for.
