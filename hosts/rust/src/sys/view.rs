@@ -3,6 +3,7 @@ use crate::errors::{ListError, WrongTables};
 use crate::ffi::index::*;
 use crate::sys::{found, memory, query, OK};
 use core::marker::PhantomData;
+use core::mem::MaybeUninit;
 use core::{fmt, ptr, slice};
 
 /// Borrowed samples of one kind of bits. They may hold anything: no answer depends on them.
@@ -238,6 +239,32 @@ impl<'a> IndexView<'a> {
         // SAFETY: a view, which borrows its slices.
         self.samples(one).is_none() || unsafe { bitm_index_check_samples(&self.raw, one) } == OK
     }
+}
+
+/// A rank of all bits of words with tables, whose lengths may be any. The call reads no samples, so none are written.
+#[inline(always)]
+pub(crate) fn rank_of(
+    words: &[u64],
+    (upper, lower): (&[u64], &[u64]),
+    one: bool,
+    position: usize,
+) -> Result<Option<usize>, WrongTables> {
+    let mut view = MaybeUninit::<bitm_index>::uninit();
+    let at = view.as_mut_ptr();
+    // SAFETY: fields of memory of its own.
+    unsafe {
+        (&raw mut (*at).words).write(words.as_ptr());
+        (&raw mut (*at).words_len).write(words.len());
+        (&raw mut (*at).upper).write(upper.as_ptr());
+        (&raw mut (*at).upper_len).write(upper.len());
+        (&raw mut (*at).lower).write(lower.as_ptr());
+        (&raw mut (*at).lower_len).write(lower.len());
+        (&raw mut (*at).bits_len).write((words.len() as u64).wrapping_mul(64));
+        (&raw mut (*at).reserved).write([0; 2]);
+    }
+    // SAFETY: borrowed slices, and room for the number that the call writes where it returns OK.
+    let found = unsafe { query(|out| bitm_index_rank(at, one, position as u64, out)) };
+    Ok(found?.map(|it| it as usize))
 }
 
 /// The answer of a list of queries.
