@@ -1,7 +1,7 @@
 //! Writes an index and a sequence into the first folder, and reads those of all: what other languages wrote too.
 use bitm_proved::{
-    bytes_of, CombinedSampling, ConstCombinedSamplingDensity, EliasFano, Index, Queries, Rank, RankSelect101111,
-    Select, Select0, Sequence,
+    bytes_of, words_from_bytes, CombinedSampling, ConstCombinedSamplingDensity, EliasFano, Index, Queries, Rank,
+    RankSelect101111, Select, Select0, Sequence,
 };
 use std::{env, error::Error, fs, path::Path};
 
@@ -28,9 +28,7 @@ fn write(folder: &Path) -> Result<(), Box<dyn Error>> {
 
 /// The whole words of a file.
 fn words_of(path: &Path) -> Result<Vec<u64>, Box<dyn Error>> {
-    let bytes = fs::read(path)?;
-    let word = |it: &[u8]| Ok(u64::from_ne_bytes(it.try_into()?));
-    bytes.chunks_exact(8).map(word).collect()
+    Ok(words_from_bytes(&fs::read(path)?)?)
 }
 
 fn read(folder: &Path) -> Result<(), Box<dyn Error>> {

@@ -34,10 +34,11 @@ pub(crate) fn read_unmasked(words: &[u64], begin: usize, width: u8) -> Option<u6
     let Some(first) = words.get(at) else {
         return is_nothing(words, begin, width).then_some(0);
     };
-    if shift + width as usize <= 64 {
-        return Some(first >> shift);
+    let mut bits = first >> shift;
+    if shift + width as usize > 64 {
+        bits |= words.get(at + 1)? << (64 - shift);
     }
-    Some(first >> shift | words.get(at + 1)? << (64 - shift))
+    Some(bits)
 }
 
 /// The number that `width` bits from `begin` on are, lowest first; `None` exactly where they are not all inside.

@@ -125,6 +125,11 @@ impl<'a, const B: bool> BitBIterator<'a, B> {
     }
 }
 
+/// A word without its `n` lowest 1 bits.
+fn without_lowest(word: u64, n: usize) -> u64 {
+    (0..n.min(64)).fold(word, |rest, _| rest & rest.wrapping_sub(1))
+}
+
 #[cold]
 #[track_caller]
 pub(crate) fn past_the_end(range: Range<usize>, bits: usize) -> ! {
@@ -146,6 +151,22 @@ impl<const B: bool> Iterator for BitBIterator<'_, B> {
         let bit = self.first.trailing_zeros() as usize;
         self.first &= self.first - 1;
         Some(self.first_at + bit)
+    }
+
+    /// Passes over whole words by their number of bits.
+    fn nth(&mut self, mut n: usize) -> Option<usize> {
+        while n >= self.first.count_ones() as usize {
+            n -= self.first.count_ones() as usize;
+            self.first = 0;
+            let Some(word) = self.words.next() else {
+                self.last = without_lowest(self.last, n);
+                return self.next_of_last();
+            };
+            self.first = Self::kind(*word);
+            self.first_at = self.first_at.wrapping_add(64);
+        }
+        self.first = without_lowest(self.first, n);
+        self.next()
     }
 
     #[inline]

@@ -172,7 +172,10 @@ pub trait Queries {
     /// The positions of the 1 bits in a range. Panics where it ends past the end.
     #[track_caller]
     fn ones_in(&self, range: Range<usize>) -> BitOnesIterator<'_> {
-        self.try_ones_in(range.clone()).unwrap_or_else(|| past_the_end(range, self.view().len()))
+        match self.try_ones_in(range.clone()) {
+            Some(ones) => ones,
+            None => past_the_end(range, self.view().len()),
+        }
     }
 
     /// As `ones_in`; `None` where the range ends past the end.
@@ -184,7 +187,10 @@ pub trait Queries {
     /// The positions of the 0 bits in a range. Panics where it ends past the end.
     #[track_caller]
     fn zeros_in(&self, range: Range<usize>) -> BitZerosIterator<'_> {
-        self.try_zeros_in(range.clone()).unwrap_or_else(|| past_the_end(range, self.view().len()))
+        match self.try_zeros_in(range.clone()) {
+            Some(zeros) => zeros,
+            None => past_the_end(range, self.view().len()),
+        }
     }
 
     /// As `zeros_in`; `None` where the range ends past the end.

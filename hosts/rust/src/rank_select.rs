@@ -2,9 +2,9 @@
 use crate::errors::{made, sure, BuildError};
 use crate::rank::{Rank, Select, Select0};
 use crate::select::{over, BinaryRankSearch, Select0ForRank101111, SelectForRank101111, SelectionStrategy};
-use crate::sys::memory::{as_u64_mut, copied, prefetch, zeroed};
+use crate::sys::memory::{as_u64, as_u64_mut, copied, prefetch, zeroed};
 use crate::sys::tables::{build_tables, table_lens};
-use crate::sys::view::IndexView;
+use crate::sys::view::{rank_of, IndexView};
 use alloc::boxed::Box;
 use core::fmt;
 use core::ops::Deref;
@@ -18,6 +18,10 @@ use core::ops::Deref;
 /// assert_eq!((&bits.content[..], &bits.l1ranks[..], bits.l2ranks.len()), (&[0b1011, 7][..], &[0][..], 1));
 /// assert_eq!(bits.as_ref(), [0b1011, 7]);
 /// ```
+///
+/// A query builds a view of words and tables, some 20 instructions; for many queries take [`view`] once.
+///
+/// [`view`]: crate::Queries::view
 ///
 /// Words and tables may be written: then an answer is inside all the same, or there is none, or a panic says that the
 /// tables are not those of the words. The bit vector has to deref to the same words each time, as vectors and slices
@@ -107,6 +111,11 @@ impl<S: SelectForRank101111, S0: Select0ForRank101111, BV: Deref<Target = [u64]>
 
 impl<S, S0, BV: Deref<Target = [u64]>> RankSelect101111<S, S0, BV> {
     #[inline(always)]
+    fn tables(&self) -> (&[u64], &[u64]) {
+        (as_u64(&self.l1ranks), &self.l2ranks)
+    }
+
+    #[inline(always)]
     pub(crate) fn without_samples(&self) -> IndexView<'_> {
         over(&self.content, &self.l1ranks, &self.l2ranks)
     }
@@ -139,7 +148,7 @@ impl<S: SelectForRank101111, S0: Select0ForRank101111, BV: Deref<Target = [u64]>
         if is_past(index, &self.content) {
             return None;
         }
-        sure(self.without_samples().rank_of(true, index))
+        sure(rank_of(&self.content, self.tables(), true, index))
     }
     #[inline]
     #[track_caller]
@@ -147,7 +156,7 @@ impl<S: SelectForRank101111, S0: Select0ForRank101111, BV: Deref<Target = [u64]>
         if is_past(index, &self.content) {
             return None;
         }
-        sure(self.without_samples().rank_of(false, index))
+        sure(rank_of(&self.content, self.tables(), false, index))
     }
     #[inline]
     fn prefetch(&self, index: usize) {

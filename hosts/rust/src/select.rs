@@ -36,8 +36,10 @@ pub trait SelectForRank101111 {
     /// There is one. (This is tested all the same.)
     #[track_caller]
     unsafe fn select_unchecked(&self, content: &[u64], l1ranks: &[usize], l2ranks: &[u64], rank: usize) -> usize {
-        let found = self.select(content, l1ranks, l2ranks, rank);
-        found.unwrap_or_else(|| no_such("1", rank))
+        match self.select(content, l1ranks, l2ranks, rank) {
+            Some(position) => position,
+            None => no_such("1", rank),
+        }
     }
     /// As `new`; types of this crate return an error where memory cannot be had.
     fn try_new(words: &[u64], l1: &[usize], l2: &[u64], total: usize) -> Result<Self, NoMemory>
@@ -66,8 +68,10 @@ pub trait Select0ForRank101111 {
     /// There is one. (This is tested all the same.)
     #[track_caller]
     unsafe fn select0_unchecked(&self, content: &[u64], l1ranks: &[usize], l2ranks: &[u64], rank: usize) -> usize {
-        let found = self.select0(content, l1ranks, l2ranks, rank);
-        found.unwrap_or_else(|| no_such("0", rank))
+        match self.select0(content, l1ranks, l2ranks, rank) {
+            Some(position) => position,
+            None => no_such("0", rank),
+        }
     }
     /// As `new0`; types of this crate return an error where memory cannot be had.
     fn try_new0(words: &[u64], l1: &[usize], l2: &[u64], total: usize) -> Result<Self, NoMemory>

@@ -16,6 +16,7 @@ pub(crate) mod writes;
 
 use crate::errors::WrongTables;
 pub(crate) use crate::ffi::bits::{BITM_NONE as NONE, BITM_OK as OK, BITM_UNSORTED as UNSORTED};
+use core::mem::MaybeUninit;
 
 /// The number of the archive's version: 10000 times the major, 100 times the minor one, and the patch.
 ///
@@ -27,11 +28,16 @@ pub fn library_version() -> u32 {
     unsafe { crate::ffi::bits::bitm_version() }
 }
 
-/// The answer of a query of words with tables, or of a sequence.
+/// Makes a query of words with tables, or of a sequence.
+///
+/// # Safety
+/// Where the call returns OK, it has written the number.
 #[inline(always)]
-pub(crate) fn answer(status: u32, out: u64) -> Result<Option<usize>, WrongTables> {
-    match status {
-        OK => Ok(Some(out as usize)),
+pub(crate) unsafe fn query(call: impl FnOnce(*mut u64) -> u32) -> Result<Option<u64>, WrongTables> {
+    let mut out = MaybeUninit::uninit();
+    match call(out.as_mut_ptr()) {
+        // SAFETY: the caller's duty.
+        OK => Ok(Some(unsafe { out.assume_init() })),
         NONE => Ok(None),
         _ => Err(WrongTables),
     }

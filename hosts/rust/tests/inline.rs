@@ -174,10 +174,14 @@ fn from_both_ends<const B: bool>(content: &[u64], range: std::ops::Range<usize>,
         if random.below(8) == 0 {
             assert_eq!((walk.len(), walk.size_hint()), (rest.len(), (rest.len(), Some(rest.len()))));
         }
-        let front = random.below(2) == 0;
-        let (mine, plain) = match front {
-            true => (walk.next(), rest.pop_front()),
-            false => (walk.next_back(), rest.pop_back()),
+        let skip = if random.below(5) == 0 { random.below(90) } else { 0 };
+        let (mine, plain) = match random.below(3) {
+            0 => (walk.next(), rest.pop_front()),
+            1 => (walk.next_back(), rest.pop_back()),
+            _ => {
+                rest.drain(..skip.min(rest.len()));
+                (walk.nth(skip), rest.pop_front())
+            }
         };
         assert_eq!(mine, plain);
         steps += usize::from(plain.is_none());

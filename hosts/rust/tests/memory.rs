@@ -27,8 +27,8 @@ fn fill(some: &mut Vec<Box<[u64]>>) {
     }
 }
 
-fn refused<T>(result: Result<T, BuildError>) {
-    assert!(matches!(result, Err(BuildError::NoMemory(_))));
+fn refused<T>(what: &str, result: Result<T, BuildError>) {
+    assert!(matches!(result, Err(BuildError::NoMemory(_))), "{what}");
 }
 
 #[test]
@@ -39,17 +39,17 @@ fn under_a_limit() {
     assert_eq!(Box::<[u64]>::try_with_filled_bits(bits).err(), Some(NoMemory { bytes: bits / 8 }));
     assert_eq!(Box::<[u64]>::try_with_bitwords(1, 16, bits / 16).err(), Some(NoMemory { bytes: bits / 8 }));
     let words = Box::<[u64]>::try_with_64bit_segments(3, 1 << 24).expect("128 MiB");
-    let hashes = || (0..200_000).map(|i: u64| i.wrapping_mul(0x9E37_79B9_7F4A_7C15)).collect::<Vec<_>>();
+    let hashes = || (0..1_000_000).map(|i: u64| i.wrapping_mul(0x9E37_79B9_7F4A_7C15)).collect::<Vec<_>>();
     let (kept, index) = (hashes(), Index::build(&words[..1 << 20]));
     let mut rest = Vec::with_capacity(1 << 12);
     fill(&mut rest);
-    refused(Index::try_build(&words, 64 * words.len(), Sampling::default()));
-    refused(RankSelect101111::<CombinedSampling, CombinedSampling, _>::try_build(&words[..]));
-    refused(RankSimple::try_build(&words[..]));
-    refused(EliasFano::build(&words));
-    refused(PerfectHash::build(kept));
+    refused("Index", Index::try_build(&words, 64 * words.len(), Sampling::default()));
+    refused("RankSelect101111", RankSelect101111::<CombinedSampling, CombinedSampling, _>::try_build(&words[..]));
+    refused("RankSimple", RankSimple::try_build(&words[..]));
+    refused("EliasFano", EliasFano::build(&words));
+    refused("PerfectHash", PerfectHash::build(kept));
     assert!(matches!(index.to_stored(64 << 20), Err(StoredError::NoMemory(_))));
     rest.clear();
-    assert_eq!(PerfectHash::build(hashes()).map(|it| it.len()).ok(), Some(200_000));
+    assert_eq!(PerfectHash::build(hashes()).map(|it| it.len()).ok(), Some(1_000_000));
     assert!(EliasFano::build(&words).is_ok_and(|it| it.len() == 1 << 24));
 }

@@ -180,6 +180,10 @@ fn a_users_own_bits_and_vectors() {
     assert_eq!((own.get_bits(0, 5), own.count_bit_ones()), (21, 4));
     assert_eq!(Own::with_filled_bits(65).0, [u64::MAX; 2]);
     assert_eq!(Own::with_bitwords(3, 2, 2).0, [0b1111]);
+    // As in the original, one impl for boxes is enough to know the type.
+    let words = Box::with_zeroed_bits(65);
+    assert_eq!(bitm::ArrayWithRank101111::build(words).1, 0);
+    assert!(bitm::RankSelect101111::<bitm::BinaryRankSearch>::build(BitVec::with_filled_bits(1)).1 == 64);
     type B = Box<[u64]>;
     let _: fn(u64, usize) -> B = B::with_64bit_segments;
     let _: fn(u64, u8, usize) -> B = B::with_bitwords;

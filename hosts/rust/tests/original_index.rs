@@ -89,18 +89,19 @@ impl Select0 for Own {
     }
 }
 
-struct Slow;
+/// Keeps how many words, upper and lower entries and 1 bits it was made for.
+struct Slow([usize; 4]);
 impl SelectForRank101111 for Slow {
-    fn new(_: &[u64], _: &[usize], _: &[u64], _: usize) -> Self {
-        Slow
+    fn new(content: &[u64], l1ranks: &[usize], l2ranks: &[u64], total_rank: usize) -> Self {
+        Slow([content.len(), l1ranks.len(), l2ranks.len(), total_rank])
     }
     fn select(&self, content: &[u64], _: &[usize], _: &[u64], rank: usize) -> Option<usize> {
         bitm_proved::BitAccess::bit_ones(content).nth(rank)
     }
 }
 impl Select0ForRank101111 for Slow {
-    fn new0(_: &[u64], _: &[usize], _: &[u64], _: usize) -> Self {
-        Slow
+    fn new0(content: &[u64], l1ranks: &[usize], l2ranks: &[u64], total_rank: usize) -> Self {
+        Slow([content.len(), l1ranks.len(), l2ranks.len(), total_rank])
     }
     fn select0(&self, content: &[u64], _: &[usize], _: &[u64], rank: usize) -> Option<usize> {
         bitm_proved::BitAccess::bit_zeros(content).nth(rank)
@@ -128,9 +129,10 @@ fn users_own_types() {
     assert_eq!(same, (2, 2, 1));
     let (slow, _) = RankSelect101111::<Slow, Slow>::build(Box::new([0b1011]));
     assert_eq!((slow.select(2), slow.try_select(3), slow.select0(0)), (3, None, 2));
+    assert_eq!((slow.select_support().0, slow.select0_support().0), ([1, 1, 1, 3], [1, 1, 1, 3]));
     // SAFETY: both are there.
     let same = unsafe {
-        let finds = (Slow, [0b1011u64]);
+        let finds = (Slow([0; 4]), [0b1011u64]);
         let ones = finds.0.select_unchecked(&finds.1, &[], &[], 1);
         (ones, finds.0.select0_unchecked(&finds.1, &[], &[], 1))
     };

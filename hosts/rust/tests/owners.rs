@@ -168,7 +168,11 @@ fn panics_name_the_callers_line() {
         let file = why.location().map_or("", |it| it.file()).to_string();
         WHERE.with_borrow_mut(|it| *it = file);
     }));
-    let calls: [fn(); 5] = [
+    let calls: [fn(); 9] = [
+        || assert_eq!(Index::build([7u64]).ones_in(0..65).next(), None),
+        || assert_eq!(Index::build([7u64]).zeros_in(0..65).next(), None),
+        || assert!([0u64].bit_in_range_iter(0..65).next().is_none()),
+        || assert!(Box::<[u64]>::with_zeroed_bits(1 << 62).is_empty()),
         || [0u64].set_bit(64),
         || assert!([0u64].get_bits(1, 64) == 0),
         || assert_eq!(Index::build([7u64]).select(3), 0),
@@ -227,4 +231,11 @@ mod mapped {
         assert!(matches!(IndexFile::open(&other), Err(OpenError::Stored(StoredError::NotWhole))));
         fs::remove_dir_all(&folder).expect("removed");
     }
+}
+
+#[test]
+fn the_archive_is_of_this_version() {
+    let numbers = env!("CARGO_PKG_VERSION").split('.').map(|it| it.parse().unwrap_or(0));
+    let version: u32 = numbers.fold(0, |all, it: u32| 100 * all + it);
+    assert_eq!(bitm_proved::library_version() / 100, version / 100);
 }

@@ -71,8 +71,8 @@ extern "C" {
 extern "C" {
     pub fn bitm_sequence_get_list(
         sequence: *const bitm_sequence,
-        indexes: *const u64,
-        indexes_len: usize,
+        indices: *const u64,
+        indices_len: usize,
         out: *mut u64,
         out_len: usize,
         written: *mut u64,
@@ -123,8 +123,8 @@ extern "C" {
         hashes: *mut u64,
         hashes_len: usize,
         level: u32,
-        words: *mut u64,
-        words_len: usize,
+        ones: *mut u64,
+        ones_len: usize,
         again: *mut u64,
         again_len: usize,
         left: *mut u64,

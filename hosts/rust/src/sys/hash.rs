@@ -5,7 +5,7 @@ use crate::ffi::sequence::*;
 use crate::sys::memory::{as_u64_mut, copied, zeroed};
 use crate::sys::tables::Tables;
 use crate::sys::view::{list_answer, IndexView};
-use crate::sys::{answer, OK};
+use crate::sys::{query, OK};
 use alloc::vec::Vec;
 use core::fmt;
 
@@ -30,11 +30,16 @@ use core::fmt;
 /// # Ok::<(), bitm_proved::BuildError>(())
 /// ```
 pub struct PerfectHash {
+    raw: bitm_hash,
     words: Vec<u64>,
     tables: Tables,
     sizes: Vec<u64>,
-    keys: usize,
 }
+
+// SAFETY: the pointers are those of vectors that it owns and never mutates, and no call has state.
+unsafe impl Send for PerfectHash {}
+// SAFETY: as of `Send`.
+unsafe impl Sync for PerfectHash {}
 
 /// Room for the words of all levels: those of n hashes have about n * g * e^(1/g) bits, with g = `percent` / 100, and
 /// at least one word each.
@@ -46,6 +51,12 @@ fn room_of(keys: usize, percent: u32) -> usize {
 
 /// No hash has more levels.
 const LEVELS: usize = 256;
+
+/// The struct that each query takes: of memory that stays where it is.
+fn raw(words: &[u64], tables: &Tables, sizes: &[u64], keys: usize) -> bitm_hash {
+    let view = IndexView::over(words, 64 * words.len(), &tables.upper, &tables.lower);
+    bitm_hash { index: *view.raw(), sizes: sizes.as_ptr(), sizes_len: sizes.len(), keys }
+}
 
 impl PerfectHash {
     /// Of the hashes of keys, in the space that takes least memory.
@@ -74,7 +85,8 @@ impl PerfectHash {
         let words = copied(&room[..used])?;
         sizes.truncate(levels);
         let tables = Tables::of(&words)?;
-        Ok(PerfectHash { words, tables, sizes, keys })
+        let raw = raw(&words, &tables, &sizes, keys);
+        Ok(PerfectHash { raw, words, tables, sizes })
     }
 
     /// How many levels and words there are, and hashes that are left; `None` where there are too many words.
@@ -106,25 +118,14 @@ impl PerfectHash {
         (status == OK).then_some((levels as usize, used as usize, left as usize))
     }
 
-    #[inline(always)]
-    fn raw(&self) -> bitm_hash {
-        let (upper, lower) = (&self.tables.upper, &self.tables.lower);
-        bitm_hash {
-            index: *IndexView::over(&self.words, 64 * self.words.len(), upper, lower).raw(),
-            sizes: self.sizes.as_ptr(),
-            sizes_len: self.sizes.len(),
-            keys: self.keys,
-        }
-    }
-
     /// How many keys there are.
     pub fn len(&self) -> usize {
-        self.keys
+        self.raw.keys
     }
 
     /// Whether there are none.
     pub fn is_empty(&self) -> bool {
-        self.keys == 0
+        self.len() == 0
     }
 
     /// The number of bytes that it owns.
@@ -146,25 +147,24 @@ impl PerfectHash {
 
     /// As `get`, with an error where the tables turn out to be wrong.
     pub fn checked_get(&self, hash: u64) -> Result<Option<usize>, WrongTables> {
-        let (raw, mut out) = (self.raw(), 0);
-        // SAFETY: borrowed slices, and room for one number.
-        let status = unsafe { bitm_hash_get(&raw, hash, &mut out) };
-        answer(status, out)
+        // SAFETY: borrowed slices, and room for the number that the call writes where it returns OK.
+        let found = unsafe { query(|out| bitm_hash_get(&self.raw, hash, out)) };
+        Ok(found?.map(|it| it as usize))
     }
 
     /// The numbers of a list of hashes; how many have none, which `NO_ANSWER` stands for.
     pub fn get_list(&self, hashes: &[u64], out: &mut [usize]) -> Result<usize, ListError> {
-        let (raw, len, room) = (self.raw(), hashes.len(), out.len());
+        let (len, room) = (hashes.len(), out.len());
         let (from, to) = (hashes.as_ptr(), as_u64_mut(out).as_mut_ptr());
         let mut counts = bitm_list_counts { missing: 0, wrong: 0 };
         // SAFETY: borrowed slices that do not overlap, and room for the counts.
-        let status = unsafe { bitm_hash_get_list(&raw, from, len, to, room, &mut counts) };
+        let status = unsafe { bitm_hash_get_list(&self.raw, from, len, to, room, &mut counts) };
         list_answer(status, counts, len, room)
     }
 }
 
 impl fmt::Debug for PerfectHash {
     fn fmt(&self, f: &mut fmt::Formatter<'_>) -> fmt::Result {
-        write!(f, "PerfectHash of {} keys", self.keys)
+        write!(f, "PerfectHash of {} keys", self.len())
     }
 }

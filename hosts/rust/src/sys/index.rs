@@ -97,12 +97,12 @@ impl<O: AsRef<[u8]>> Index<O> {
     /// The index in a file, whose bytes the owner has; they begin at a multiple of 8.
     ///
     /// ```
-    /// use bitm_proved::{bytes_of, Index, Queries, Rank, StoredError};
+    /// use bitm_proved::{bytes_of, words_from_bytes, Index, Queries, Rank, StoredError};
     /// let file = Index::build(vec![0b1011u64]).to_stored(64)?;
-    /// match Index::from_bytes(bytes_of(&file).to_vec()) {
-    ///     Ok(read) => assert_eq!(read.rank(64), 3),
-    ///     Err(why) => assert_eq!(why, StoredError::Misaligned), // bytes of a vector begin anywhere
-    /// }
+    /// let bytes = bytes_of(&file);
+    /// assert_eq!(Index::from_bytes(bytes)?.rank(64), 3);
+    /// // Bytes of a vector may begin anywhere: copy them then.
+    /// assert_eq!(Index::from_words(words_from_bytes(bytes)?)?.rank(64), 3);
     /// # Ok::<(), StoredError>(())
     /// ```
     pub fn from_bytes(owner: O) -> Result<Self, StoredError> {

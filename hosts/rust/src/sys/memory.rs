@@ -97,6 +97,23 @@ pub fn bytes_of(words: &[u64]) -> &[u8] {
     unsafe { slice::from_raw_parts(words.as_ptr().cast(), size_of_val(words)) }
 }
 
+/// The whole words of bytes, as a file has them, copied: the bytes may begin anywhere.
+///
+/// ```
+/// use bitm_proved::{bytes_of, words_from_bytes};
+/// assert_eq!(words_from_bytes(&bytes_of(&[7, 9])[..15])?, [7]);
+/// # Ok::<(), bitm_proved::NoMemory>(())
+/// ```
+pub fn words_from_bytes(bytes: &[u8]) -> Result<Vec<u64>, NoMemory> {
+    let mut words = zeroed(bytes.len() / 8)?;
+    for (word, bytes) in words.iter_mut().zip(bytes.chunks_exact(8)) {
+        let mut all = [0; 8];
+        all.copy_from_slice(bytes);
+        *word = u64::from_ne_bytes(all);
+    }
+    Ok(words)
+}
+
 /// The whole words of bytes that begin at a multiple of 8.
 pub(crate) fn words_of(bytes: &[u8]) -> Option<&[u64]> {
     if bytes.len() < 8 {

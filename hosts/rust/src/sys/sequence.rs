@@ -4,7 +4,7 @@ use crate::ffi::index::bitm_list_counts;
 use crate::ffi::sequence::*;
 use crate::sys::memory::{as_u64, as_u64_mut, zeroed};
 use crate::sys::view::list_answer;
-use crate::sys::{answer, NONE, OK, UNSORTED};
+use crate::sys::{query, OK, UNSORTED};
 use alloc::vec::Vec;
 use core::marker::PhantomData;
 use core::{fmt, slice};
@@ -55,17 +55,15 @@ impl<'a> SequenceView<'a> {
             reserved: [0; 2],
         };
         let view = SequenceView { raw, borrows: PhantomData };
-        // There is no number at index `len`, so the status speaks of the lengths alone.
-        let (status, _) = view.call(bitm_sequence_get, len as u64);
-        (status == NONE).then_some(view).ok_or(WrongTables)
+        // There is no number at index `len`, so an error is one of the lengths.
+        view.call(bitm_sequence_get, len as u64)?;
+        Ok(view)
     }
 
     #[inline(always)]
-    fn call(&self, call: One, query: u64) -> (u32, u64) {
-        let mut out = 0;
-        // SAFETY: a view, which borrows its slices, and room for one number.
-        let status = unsafe { call(&self.raw, query, &mut out) };
-        (status, out)
+    fn call(&self, call: One, number: u64) -> Result<Option<u64>, WrongTables> {
+        // SAFETY: a view, which borrows its slices, and room for the number that a call writes where it returns OK.
+        unsafe { query(|out| call(&self.raw, number, out)) }
     }
 
     /// How many numbers there are.
@@ -102,29 +100,25 @@ impl<'a> SequenceView<'a> {
     /// The number at an index; `None` exactly where there is none.
     #[inline]
     pub fn checked_get(&self, index: usize) -> Result<Option<u64>, WrongTables> {
-        let (status, out) = self.call(bitm_sequence_get, index as u64);
-        Ok(answer(status, out)?.map(|it| it as u64))
+        self.call(bitm_sequence_get, index as u64)
     }
 
     /// The successor: the least index whose number is at least `value`; `None` exactly where each number is less.
     #[inline]
     pub fn checked_first_at_least(&self, value: u64) -> Result<Option<usize>, WrongTables> {
-        let (status, out) = self.call(bitm_sequence_first_at_least, value);
-        answer(status, out)
+        Ok(self.call(bitm_sequence_first_at_least, value)?.map(|it| it as usize))
     }
 
     /// The predecessor: the greatest index whose number is at most `value`; `None` exactly where each is greater.
     #[inline]
     pub fn checked_last_at_most(&self, value: u64) -> Result<Option<usize>, WrongTables> {
-        let (status, out) = self.call(bitm_sequence_last_at_most, value);
-        answer(status, out)
+        Ok(self.call(bitm_sequence_last_at_most, value)?.map(|it| it as usize))
     }
 
     /// Whether a number is there.
     #[inline]
     pub fn checked_contains(&self, value: u64) -> Result<bool, WrongTables> {
-        let (status, out) = self.call(bitm_sequence_contains, value);
-        Ok(answer(status, out)? == Some(1))
+        Ok(self.call(bitm_sequence_contains, value)? == Some(1))
     }
 
     /// The numbers from an index on, until there is no more room; fewer only where the parts are wrong.

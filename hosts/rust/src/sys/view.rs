@@ -1,8 +1,9 @@
 //! Borrowed words with their tables: the struct that each query of the archive takes.
 use crate::errors::{ListError, WrongTables};
 use crate::ffi::index::*;
-use crate::sys::{answer, found, memory, NONE, OK};
+use crate::sys::{found, memory, query, OK};
 use core::marker::PhantomData;
+use core::mem::MaybeUninit;
 use core::{fmt, ptr, slice};
 
 /// Borrowed samples of one kind of bits. They may hold anything: no answer depends on them.
@@ -58,13 +59,9 @@ impl<'a> IndexView<'a> {
     /// long as that of the words.
     pub fn new(words: &'a [u64], bits_len: usize, upper: &'a [u64], lower: &'a [u64]) -> Result<Self, WrongTables> {
         let view = Self::over(words, bits_len, upper, lower);
-        // No position is that large, so the status speaks of the lengths alone.
-        let (status, _) = view.call(bitm_index_rank, true, usize::MAX);
-        if status == NONE {
-            Ok(view)
-        } else {
-            Err(WrongTables)
-        }
+        // No position is that large, so an error is one of the lengths.
+        view.call(bitm_index_rank, true, usize::MAX)?;
+        Ok(view)
     }
 
     /// As `new`, where the lengths may be any: each call tests them.
@@ -128,36 +125,31 @@ impl<'a> IndexView<'a> {
         &self,
         call: unsafe extern "C" fn(*const bitm_index, bool, u64, *mut u64) -> u32,
         one: bool,
-        query: usize,
-    ) -> (u32, u64) {
-        let mut out = 0;
-        // SAFETY: a view, which borrows its slices, and room for one number.
-        let status = unsafe { call(&self.raw, one, query as u64, &mut out) };
-        (status, out)
+        number: usize,
+    ) -> Result<Option<usize>, WrongTables> {
+        // SAFETY: a view, which borrows its slices, and room for the number that a call writes where it returns OK.
+        let found = unsafe { query(|out| call(&self.raw, one, number as u64, out)) };
+        Ok(found?.map(|it| it as usize))
     }
 
     #[inline(always)]
     pub(crate) fn rank_of(&self, one: bool, position: usize) -> Result<Option<usize>, WrongTables> {
-        let (status, out) = self.call(bitm_index_rank, one, position);
-        answer(status, out)
+        self.call(bitm_index_rank, one, position)
     }
 
     #[inline(always)]
     pub(crate) fn select_of(&self, one: bool, rank: usize) -> Result<Option<usize>, WrongTables> {
-        let (status, out) = self.call(bitm_index_select, one, rank);
-        answer(status, out)
+        self.call(bitm_index_select, one, rank)
     }
 
     #[inline(always)]
     pub(crate) fn next_of(&self, one: bool, from: usize) -> Result<Option<usize>, WrongTables> {
-        let (status, out) = self.call(bitm_index_next, one, from);
-        answer(status, out)
+        self.call(bitm_index_next, one, from)
     }
 
     #[inline(always)]
     pub(crate) fn previous_of(&self, one: bool, from: usize) -> Result<Option<usize>, WrongTables> {
-        let (status, out) = self.call(bitm_index_previous, one, from);
-        answer(status, out)
+        self.call(bitm_index_previous, one, from)
     }
 
     pub(crate) fn count_of(&self, one: bool) -> usize {
@@ -247,6 +239,32 @@ impl<'a> IndexView<'a> {
         // SAFETY: a view, which borrows its slices.
         self.samples(one).is_none() || unsafe { bitm_index_check_samples(&self.raw, one) } == OK
     }
+}
+
+/// A rank of all bits of words with tables, whose lengths may be any. The call reads no samples, so none are written.
+#[inline(always)]
+pub(crate) fn rank_of(
+    words: &[u64],
+    (upper, lower): (&[u64], &[u64]),
+    one: bool,
+    position: usize,
+) -> Result<Option<usize>, WrongTables> {
+    let mut view = MaybeUninit::<bitm_index>::uninit();
+    let at = view.as_mut_ptr();
+    // SAFETY: fields of memory of its own.
+    unsafe {
+        (&raw mut (*at).words).write(words.as_ptr());
+        (&raw mut (*at).words_len).write(words.len());
+        (&raw mut (*at).upper).write(upper.as_ptr());
+        (&raw mut (*at).upper_len).write(upper.len());
+        (&raw mut (*at).lower).write(lower.as_ptr());
+        (&raw mut (*at).lower_len).write(lower.len());
+        (&raw mut (*at).bits_len).write((words.len() as u64).wrapping_mul(64));
+        (&raw mut (*at).reserved).write([0; 2]);
+    }
+    // SAFETY: borrowed slices, and room for the number that the call writes where it returns OK.
+    let found = unsafe { query(|out| bitm_index_rank(at, one, position as u64, out)) };
+    Ok(found?.map(|it| it as usize))
 }
 
 /// The answer of a list of queries.
