@@ -34,7 +34,7 @@ install:
 	install -m 644 $(HEADERS) $(DESTDIR)$(INCLUDEDIR)
 	install -m 644 $(HEADERS_CPP) $(DESTDIR)$(INCLUDEDIR)/bitm
 	install -m 644 $(ARCHIVE) $(DESTDIR)$(LIBDIR)/libbitm_c.a
-	$(CC) -shared -nostdlib -o $(DESTDIR)$(LIBDIR)/$(SHARED) -Wl,-soname,$(SONAME) -Wl,--whole-archive $(ARCHIVE) -Wl,--no-whole-archive
+	$(CC) -shared -nostdlib -o $(DESTDIR)$(LIBDIR)/$(SHARED) -Wl,-soname,$(SONAME) -Wl,--whole-archive $(ARCHIVE) -Wl,--no-whole-archive -lgcc
 	ln -sf $(SHARED) $(DESTDIR)$(LIBDIR)/$(SONAME)
 	ln -sf $(SONAME) $(DESTDIR)$(LIBDIR)/libbitm_c.so
 	$(FILL) install/bitm.pc.in > $(DESTDIR)$(LIBDIR)/pkgconfig/bitm.pc

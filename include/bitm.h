@@ -425,12 +425,12 @@ BITM_MUST_USE uint32_t bitm_sequence_contains(const struct bitm_sequence *sequen
 BITM_MUST_USE uint32_t bitm_sequence_items(const struct bitm_sequence *sequence, uint64_t from, uint64_t *out,
                                            size_t out_len, uint64_t *written);
 
-/* The numbers at a list of indexes, as bitm_sequence_get answers them, up to the first for which it does not return
+/* The numbers at a list of indices, as bitm_sequence_get answers them, up to the first for which it does not return
  * BITM_OK; written is how many these are, and the rest of out stays as it was. BITM_BAD_SIZE also if out_len is not
- * indexes_len. 1 bits are selected side by side, so if the parts are not those of a sequence, a number may differ from
- * that of bitm_sequence_get. out and written may not overlap each other, the indexes or the parts. */
-BITM_MUST_USE uint32_t bitm_sequence_get_list(const struct bitm_sequence *sequence, const uint64_t *indexes,
-                                              size_t indexes_len, uint64_t *out, size_t out_len, uint64_t *written);
+ * indices_len. 1 bits are selected side by side, so if the parts are not those of a sequence, a number may differ from
+ * that of bitm_sequence_get. out and written may not overlap each other, the indices or the parts. */
+BITM_MUST_USE uint32_t bitm_sequence_get_list(const struct bitm_sequence *sequence, const uint64_t *indices,
+                                              size_t indices_len, uint64_t *out, size_t out_len, uint64_t *written);
 
 /* out[i] answers values[i] as the call of one value does, or is BITM_NO_ANSWER for BITM_NONE and BITM_WRONG_TABLES for
  * BITM_WRONG; counts says how many of each there are. Over parts that are not those of a sequence it may be another
@@ -459,7 +459,7 @@ BITM_MUST_USE uint32_t bitm_sequence_contains_list(const struct bitm_sequence *s
  *     struct bitm_hash hash = {.index = {..}, .sizes = sizes, .sizes_len = levels, .keys = n};
  *     if (bitm_hash_get(&hash, key_hash, &number) == BITM_OK) .. */
 struct bitm_hash {
-    struct bitm_index index; /* of the words of all levels; bits_len is 64 * words_len */
+    struct bitm_index index; /* of the words of all levels; bits_len and samples are not read */
     const uint64_t *sizes;   /* the words of each level */
     size_t sizes_len;
     size_t keys;
@@ -471,10 +471,10 @@ size_t bitm_hash_level_len(size_t left, uint32_t percent);
 
 /* Writes the words of a level: its 1 bits are the bits that exactly one of the hashes falls on. The hashes that fall on
  * no 1 bit go to the front, in their order, and left is how many they are; what lies after them and in again means
- * nothing then. BITM_BAD_SIZE if words_len is 0 or 2^58 or more, or again_len is not words_len. Two passes over the
+ * nothing then. BITM_BAD_SIZE if ones_len is 0 or 2^58 or more, or again_len is not ones_len. Two passes over the
  * hashes. */
-BITM_MUST_USE uint32_t bitm_hash_level(uint64_t *hashes, size_t hashes_len, uint32_t level, uint64_t *words,
-                                       size_t words_len, uint64_t *again, size_t again_len, uint64_t *left);
+BITM_MUST_USE uint32_t bitm_hash_level(uint64_t *hashes, size_t hashes_len, uint32_t level, uint64_t *ones,
+                                       size_t ones_len, uint64_t *again, size_t again_len, uint64_t *left);
 
 /* Writes the words of all levels one after another, of bitm_hash_level_len words each, to sizes how many words each
  * has, to levels how many levels there are and to used_words how many words. It ends where no hash is left, or where
@@ -487,9 +487,10 @@ BITM_MUST_USE uint32_t bitm_hash_build(uint64_t *hashes, size_t hashes_len, uint
 
 /* The number of a hash: BITM_OK with a number below keys, WHATEVER tables and sizes hold; BITM_NONE where it falls on
  * no 1 bit of a level; BITM_WRONG where tables or sizes are not those of the words, or there are more numbers than
- * keys; BITM_BAD_SIZE as for an index, or if sizes_len is above 256. Over right tables, and levels of these sizes with
- * no more 1 bits than keys, it is the number of the hash, and BITM_WRONG is not returned. A hash of no key may get any
- * number below keys. Reads at most one word a level, and what a rank reads. */
+ * keys; BITM_BAD_SIZE if words_len is 2^58 or more, a table is not as long as for an index, or sizes_len is above 256.
+ * Over right tables, and levels of these sizes with no more 1 bits than keys, it is the number of the hash, and
+ * BITM_WRONG is not returned. A hash of no key may get any number below keys. Reads at most one word a level, and what
+ * a rank reads. */
 BITM_MUST_USE uint32_t bitm_hash_get(const struct bitm_hash *hash, uint64_t key_hash, uint64_t *out);
 
 /* out[i] is the number of key_hashes[i], or BITM_NO_ANSWER for BITM_NONE and BITM_WRONG_TABLES for BITM_WRONG; counts

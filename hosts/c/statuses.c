@@ -31,6 +31,7 @@ static void refused_by_all(const struct bitm_index *view)
         LEAVES(BITM_BAD_SIZE, sampled_select(view, one, &by, 0, &written.one));
         LEAVES(BITM_BAD_SIZE, sampled_select_list(view, one, &by, queries, LIST, written.list, LIST));
     }
+    if (view->bits_len > 64 * (uint64_t)view->words_len) return; /* a hash does not read bits_len */
     LEAVES(BITM_BAD_SIZE, bitm_hash_get(&hash, 7, &written.one));
     LEAVES(BITM_BAD_SIZE, bitm_hash_get_list(&hash, queries, LIST, written.list, LIST, &written.counts));
 }
