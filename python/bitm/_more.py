@@ -31,15 +31,15 @@ def tables_of(words: Any) -> Tuple["array.array[int]", "array.array[int]", int]:
 # ---- NumPy
 
 
-def array_of(window: Any, kind: str) -> Any:
+def array_of(window: Any, is_masked: bool = False, is_bool: bool = False) -> Any:
     """Answers as an array: plain, or masked where there is none, or bools."""
     import numpy
 
     answers = numpy.asarray(window)
-    if kind == "bool":
+    if is_bool:
         return answers.astype(bool)
     masked: Any = numpy.ma.masked_array
-    return masked(answers, answers == numpy.uint64(2**64 - 1)) if kind == "mask" else answers
+    return masked(answers, answers == numpy.uint64(2**64 - 1)) if is_masked else answers
 
 
 def is_whole(keys: Any) -> bool:
@@ -80,7 +80,7 @@ def index_to_numpy(self: Any, dtype: Any = None, copy: Optional[bool] = None) ->
 
 def sequence_to_numpy(self: Any, dtype: Any = None, copy: Optional[bool] = None) -> Any:
     """All numbers as an array of uint64."""
-    return _as(array_of(_core.sequence_window(self), ""), dtype, copy)
+    return _as(array_of(_core.sequence_window(self)), dtype, copy)
 
 
 # ---- values over memory that exists already

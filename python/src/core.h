@@ -61,8 +61,7 @@ PyObject *past_end(uint64_t position, uint64_t len);
 PyObject *wrong(void);
 PyObject *answer_or_none(uint32_t status, const uint64_t *out);
 
-/* ---- integers.c: a flat buffer of whole numbers of any width, sign, byte order and stride, or numbers of an iterable
- */
+/* ---- integers.c: a flat buffer of whole numbers of any width, sign, byte order and stride, or numbers of an iterable */
 typedef struct {
     Py_buffer held;
     int is_held;

@@ -78,10 +78,7 @@ PyObject *answers_end(Answers *it, uint64_t missing)
     if (missing && it->how == RAISE)
         PyErr_Format(PyExc_IndexError, "%llu items of the list have no answer", (unsigned long long)missing);
     else if (it->of_numpy)
-        made = more("array_of", Py_BuildValue("(Os)", it->window,
-                                              it->how == MASK     ? "mask"
-                                              : it->how == TRUTHS ? "bool"
-                                                                  : ""));
+        made = more("array_of", Py_BuildValue("(Oii)", it->window, it->how == MASK, it->how == TRUTHS));
     else if (it->how == TRUTHS)
         made = list_of_bools(it->out, it->len);
     else
@@ -146,8 +143,7 @@ PyObject *ask_list(PyObject *self, list_call call, bool one, int kind, const cha
     if (pick(name, names, 1, kind == SOME ? 2 : 1, args, count, keywords, given) ||
         answers_begin(&answers, given[0], given[1], kind) || integers_take(&queries, given[0], what))
         return NULL;
-    /* The Python code of the arguments has run. From here on the reference keeps the memory, whoever closes the value.
-     */
+    /* The Python code of the arguments has run; now the reference keeps the memory, whoever closes the value. */
     Memory *memory = memory_kept(self);
     if (memory != NULL && answers_room(&answers, queries.len) == 0) {
         Outcome outcome;

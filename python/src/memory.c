@@ -16,8 +16,7 @@ static void memory_dealloc(PyObject *self)
 
 /* Whether the garbage collector may clear a lender while its buffer is held. Not a memoryview: in 3.11 its tp_clear
  * raises BufferError, and the process ends. Nor a ctypes array, which frees its memory. Such lenders are not shown to
- * the collector: they live until the buffer is given back, and a cycle through their own attributes is not collected.
- */
+ * the collector: they live until the buffer is given back, and a cycle through their own attributes is not collected. */
 static int is_cleared_safely(PyObject *lender)
 {
     return lender != NULL &&

@@ -74,9 +74,11 @@ PyObject *parts_of(PyObject *module, PyObject *self)
     layout_of(type, it, &layout);
     PyObject *numbers = PyTuple_New(layout.numbers_count),
              *windows = numbers == NULL ? NULL : PyTuple_New(layout.parts_count);
-    for (int i = 0; windows != NULL && i < layout.numbers_count; i++)
-        if (PyTuple_SetItem(numbers, i, PyLong_FromUnsignedLongLong(*layout.numbers[i])))
+    for (int i = 0; windows != NULL && i < layout.numbers_count; i++) {
+        PyObject *item = PyLong_FromUnsignedLongLong(*layout.numbers[i]);
+        if (item == NULL || PyTuple_SetItem(numbers, i, item))
             Py_CLEAR(windows);
+    }
     for (int i = 0; windows != NULL && i < layout.parts_count; i++) {
         const Part *part = &layout.parts[i];
         PyObject *window = window_of(it, *part->at, *part->len, part->size);

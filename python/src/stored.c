@@ -65,9 +65,11 @@ static PyObject *header_of(uint32_t status, const struct bitm_stored *header)
     const struct bitm_span *all[] = {&header->words,  &header->upper,   &header->lower,   &header->low,
                                      &header->starts, &header->starts0, &header->samples, &header->samples0};
     PyObject *begins = PyTuple_New(8);
-    for (int i = 0; begins != NULL && i < 8; i++)
-        if (PyTuple_SetItem(begins, i, PyLong_FromUnsignedLongLong(all[i]->at)))
+    for (int i = 0; begins != NULL && i < 8; i++) {
+        PyObject *item = PyLong_FromUnsignedLongLong(all[i]->at);
+        if (item == NULL || PyTuple_SetItem(begins, i, item))
             Py_CLEAR(begins);
+    }
     if (begins == NULL)
         return NULL;
     return Py_BuildValue("(y#KN)", (const char *)header, (Py_ssize_t)sizeof *header, (unsigned long long)header->size,

@@ -1,6 +1,7 @@
 """Files: what save writes and load takes; what is refused, and what stays as it was."""
 import array
 import errno
+import hashlib
 import io
 import mmap
 import os
@@ -10,6 +11,7 @@ import signal
 import stat
 
 import pytest
+import stored_format
 
 import bitm
 from bitm import BitVector, EliasFano, Index, PerfectHash
@@ -29,6 +31,17 @@ def bytes_of(value):
     file = io.BytesIO()
     value.save(file)
     return file.getvalue()
+
+
+def test_the_bytes_of_files_are_those_of_version_0_2_0(tmp_path):
+    stored_format.write(tmp_path)
+    keys = [*(f"key {it}" for it in range(300)), 1, -5, b"x", 2**70]
+    PerfectHash(keys, bits=9, seed=5, hash="blake2b").save(tmp_path / "hash")
+    assert {it.name: hashlib.sha256(it.read_bytes()).hexdigest() for it in tmp_path.iterdir()} == {
+        "index": "e7922d42882692850f1eb3c57e32740e1b4ccb727829addf0d1fc1f59f7db960",
+        "sequence": "a0850c36423ab9016a3c43a73d64d1d68a946ec7859ae479d72620d3e55269fe",
+        "hash": "3e637a88fd560a3d28bfac1e79bbb176e93bca94815749243ab048885ea30735",
+    }
 
 
 @pytest.mark.parametrize("value", values(), ids=repr)
