@@ -21,7 +21,7 @@ pub use Rattle.bitm_search.specs.Reads
 pub use Rattle.bitm_search.specs.Search
 pub use Rattle.bitm_search.specs.Tables
 pub use Rattle.bitm_search.specs.Told
-pub use Rattle.bitm_search.specs.declared.search.selected.Selected
+pub use Rattle.bitm_tables.specs.declared.answer.Answer
 pub use Rattle.bitm_search.specs.ReadCounts
 pub use Rattle.bitm_strategies.specs.Density
 pub use Rattle.bitm_strategies.specs.Samples

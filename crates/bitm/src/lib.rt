@@ -35,7 +35,8 @@ pub use bitm_search::levels::{
 pub use bitm_search::quarters::{bit_and_rank_by_quarters_on, make_quarters, rank_by_quarters_on};
 pub use bitm_search::search::many::{rank_many_on, select_many_on, total_select_many_on};
 pub use bitm_search::search::ranking::{bit_and_rank_on, bit_on, rank_on, total_rank_on};
-pub use bitm_search::search::selected::{NO_ANSWER, Selected, WRONG_TABLES};
+pub use bitm_search::answer::Answer;
+pub use bitm_search::search::selected::{NO_ANSWER, WRONG_TABLES};
 pub use bitm_search::search::selecting::{binary_select_on, total_select_on};
 pub use bitm_search::source::counts::ReadCounts;
 pub use bitm_search::source::{Probe, TableSource};

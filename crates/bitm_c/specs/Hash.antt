@@ -3,11 +3,10 @@ use Rattle.std.specs.Prelude.{◌≡◌, ℕ, ◌^◌, ◌<◌, ◌≤◌, List,
 use Rattle.bitm.specs.Count.{ones_of}
 use Rattle.bitm.specs.Tables.{HasSizes, HasTables, Lists, bits_in}
 use Rattle.bitm_lent.specs.Sizes.{lists_of}
-use Rattle.bitm_lent.specs.declared.ranked.Ranked.{Ranked}
+use Rattle.bitm.specs.Answer.{Answer}
 use Rattle.perfect_hash.specs.Asking.{IsBelow, IsNumbered}
 use Rattle.perfect_hash.specs.Parts.{number_by, AreSizes}
 use Rattle.perfect_hash.specs.declared.in_place.Made.{Made}
-use Rattle.bitm_c.specs.Rank.{counted}
 use Rattle.bitm_c.specs.Status.{Exported}
 use Rattle.bitm_c.specs.declared.hash.HashLevels.{HashLevels}
 
@@ -24,7 +23,7 @@ abbrev pub made_of : ℕ → ℕ → ℕ → Made
 made_of levels words left = record { levels = levels; words = words; left = left }
 
 -- the number of a hash, below the count of keys; where the sizes are those of levels with no more ones, it is the right one
-pub record IsHashNumber (sizes : List ℕ) (keys hash : ℕ) (lists : Lists) (answer : Ranked) : Type 0 where
+pub record IsHashNumber (sizes : List ℕ) (keys hash : ℕ) (lists : Lists) (answer : Answer ℕ) : Type 0 where
   pub below : IsBelow keys answer
   pub counts : HasTables lists → AreSizes sizes (bits_in lists) → ones_of (bits_in lists) ≤ keys
       → IsNumbered (number_by sizes (bits_in lists) hash) answer
@@ -32,4 +31,4 @@ pub record IsHashNumber (sizes : List ℕ) (keys hash : ℕ) (lists : Lists) (an
 -- the number of a hash: the status, and the number before and after the call
 abbrev pub HashAnswered : HashLevels → ℕ → ℕ → ℕ → ℕ → Type 0
 HashAnswered h hash =
-    Exported counted (HasSizes (hash_lists h) × (length h.sizes.now ≤ 256)) (IsHashNumber h.sizes.now h.keys hash (hash_lists h))
+    Exported (HasSizes (hash_lists h) × (length h.sizes.now ≤ 256)) (IsHashNumber h.sizes.now h.keys hash (hash_lists h))

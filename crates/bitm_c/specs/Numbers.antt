@@ -1,23 +1,23 @@
 -- What the exported calls answer of numbers around a value.
 use Rattle.std.specs.Prelude.{◌≡◌, ◌≢◌, ℕ, ◌-◌, ◌^◌, ◌≤◌, ◌↔◌, ◌⊎◌, List}
 use Rattle.std.specs.List.{Contains}
-use Rattle.elias_fano.specs.declared.answer.Sought.{Sought}
+use Rattle.bitm.specs.Answer.{Answer}
 use Rattle.elias_fano_lent.specs.Answers.{IsLast, IsPlaceOf}
 use Rattle.elias_fano_lent.specs.LentParts.{Holds, LentParts}
 use Rattle.elias_fano_lent.specs.Told.{IfLast, TellsAtMost, TellsLess}
-use Rattle.bitm_c.specs.Sequence.{sought, lent_parts, IsSized}
+use Rattle.bitm_c.specs.Sequence.{lent_parts, IsSized}
 use Rattle.bitm_c.specs.Status.{Exported}
 use Rattle.bitm_c.specs.declared.sequence.Sequence.{Sequence}
 
 -- the place of the last number that is at most value; whatever the parts hold, they tell that all up to the place are at
 -- most value, or none where there is none
-pub record IsPredecessor (value : ℕ) (parts : LentParts) (answer : Sought ℕ) : Type 0 where
+pub record IsPredecessor (value : ℕ) (parts : LentParts) (answer : Answer ℕ) : Type 0 where
   pub inside : IsPlaceOf parts.len answer
   pub most : IfLast answer (TellsAtMost parts value)
   pub counts : (xs : List ℕ) → Holds xs parts → IsLast xs value answer
 
 abbrev pub LastAnswered : Sequence → ℕ → ℕ → ℕ → ℕ → Type 0
-LastAnswered sequence value = Exported sought (IsSized sequence) (IsPredecessor value (lent_parts sequence))
+LastAnswered sequence value = Exported (IsSized sequence) (IsPredecessor value (lent_parts sequence))
 
 -- of whether value is one of the numbers: the status, and the answer before and after the call; whatever the parts
 -- hold, they tell how many numbers are less, and the answer is 0 where these are all

@@ -3,9 +3,8 @@ use Rattle.std.specs.Prelude.{◌≡◌, ℕ, ◌+◌, ◌-◌, ◌<◌, ◌≤�
 use Rattle.bitm.specs.Count.{count_before, count_of, Picks}
 use Rattle.bitm_lent.specs.Cut.{Cut, cut_at, IsSizedCut}
 use Rattle.bitm_lent.specs.Queries.{NextIn, PreviousIn, RanksIn, SelectsIn}
-use Rattle.bitm_c.specs.Rank.{counted}
 use Rattle.bitm_lent.specs.Sizes.{lists_of}
-use Rattle.bitm_c.specs.Status.{selected, Exported}
+use Rattle.bitm_c.specs.Status.{Exported}
 use Rattle.bitm_c.specs.declared.view.Index.{Index}
 
 -- the words and tables of an index, and the length of the bit vector
@@ -14,18 +13,18 @@ cut_of index = cut_at (lists_of index.words.now index.upper.now index.lower.now)
 
 -- a rank of the first index bits, of kind v
 abbrev pub RankAnswered : Bool → Cut → ℕ → ℕ → ℕ → ℕ → Type 0
-RankAnswered v c index = Exported counted (IsSizedCut c) (RanksIn v c index)
+RankAnswered v c index = Exported (IsSizedCut c) (RanksIn v c index)
 
 -- a selection of the bit v by rank
 abbrev pub SelectAnswered : Bool → Cut → ℕ → ℕ → ℕ → ℕ → Type 0
-SelectAnswered v c rank = Exported selected (IsSizedCut c) (SelectsIn v c rank)
+SelectAnswered v c rank = Exported (IsSizedCut c) (SelectsIn v c rank)
 
 -- the next bit v from a position on, and the previous one up to it
 abbrev pub NextAnswered : Bool → Cut → ℕ → ℕ → ℕ → ℕ → Type 0
-NextAnswered v c from = Exported selected (IsSizedCut c) (NextIn v c from)
+NextAnswered v c from = Exported (IsSizedCut c) (NextIn v c from)
 
 abbrev pub PreviousAnswered : Bool → Cut → ℕ → ℕ → ℕ → ℕ → Type 0
-PreviousAnswered v c from = Exported selected (IsSizedCut c) (PreviousIn v c from)
+PreviousAnswered v c from = Exported (IsSizedCut c) (PreviousIn v c from)
 
 -- of the places of the bits v from a place on: the list before and after the call, and how many were written, as many
 -- as there is room for; the rest stays

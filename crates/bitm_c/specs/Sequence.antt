@@ -6,8 +6,8 @@ use Rattle.elias_fano_lent.specs.LentParts.{parts_of, HasLengths, LentParts, Hol
 use Rattle.elias_fano_lent.specs.Lists.{written_count}
 use Rattle.elias_fano_lent.specs.Answers.{IsFirst, IsItem, IsOfPlace, IsPlaceOf}
 use Rattle.elias_fano_lent.specs.Told.{IfPlace, TellsLess}
-use Rattle.elias_fano.specs.declared.answer.Sought.{Sought}
-use Rattle.elias_fano.specs.declared.answer.Sought.TheVariants.{Found, Absent, WrongParts}
+use Rattle.bitm.specs.Answer.{Answer}
+use Rattle.bitm.specs.Answer.TheVariants.{Found, Absent, Wrong}
 use Rattle.elias_fano_lent.specs.declared.lists.ListAnswer.{ListAnswer}
 use Rattle.elias_fano_lent.specs.declared.lists.ListAnswer.TheVariants.{WrongLength}
 use Rattle.elias_fano_lent.specs.declared.sizes.Sizes.{Sizes}
@@ -31,13 +31,9 @@ pub record IsSized (sequence : Sequence) : Type 0 where
   pub tables : HasSizes (lent_parts sequence).upper
   pub lengths : HasLengths (lent_parts sequence)
 
--- the answer of what was sought
-abbrev pub sought : {T : Type 0} → ℕ → T → Sought T
-sought status n = if nat_eq status 0 then Found n else if nat_eq status 1 then Absent else WrongParts
-
 -- the answer that an item of a list of answers stands for
-abbrev pub sought_by : ℕ → Sought ℕ
-sought_by n = if nat_eq n (2 ^ 64 - 1) then Absent else if nat_eq n (2 ^ 64 - 2) then WrongParts else Found n
+abbrev pub sought_by : ℕ → Answer ℕ
+sought_by n = if nat_eq n (2 ^ 64 - 1) then Absent else if nat_eq n (2 ^ 64 - 2) then Wrong else Found n
 
 -- how far a list of n places was answered, as a status, and the number before and after
 abbrev pub IsListTold : ListAnswer → ℕ → ℕ → ℕ → ℕ → Type 0
@@ -45,19 +41,19 @@ IsListTold WrongLength n status old new = (status ≡ 2) × (new ≡ old)
 IsListTold l n status old new = (status ≡ 0) × (new ≡ written_count n l)
 
 -- number index of the parts
-pub record IsNumber (index : ℕ) (parts : LentParts) (answer : Sought ℕ) : Type 0 where
+pub record IsNumber (index : ℕ) (parts : LentParts) (answer : Answer ℕ) : Type 0 where
   pub inside : IsOfPlace parts.len index answer
   pub counts : (xs : List ℕ) → Holds xs parts → IsItem xs index answer
 
 abbrev pub ItemAnswered : Sequence → ℕ → ℕ → ℕ → ℕ → Type 0
-ItemAnswered sequence index = Exported sought (IsSized sequence) (IsNumber index (lent_parts sequence))
+ItemAnswered sequence index = Exported (IsSized sequence) (IsNumber index (lent_parts sequence))
 
 -- the place of the first number that is at least value; whatever the parts hold, they tell that all before the place are
 -- less, or all where there is none
-pub record IsSuccessor (value : ℕ) (parts : LentParts) (answer : Sought ℕ) : Type 0 where
+pub record IsSuccessor (value : ℕ) (parts : LentParts) (answer : Answer ℕ) : Type 0 where
   pub inside : IsPlaceOf parts.len answer
   pub less : IfPlace parts.len answer (TellsLess parts value)
   pub counts : (xs : List ℕ) → Holds xs parts → IsFirst xs value answer
 
 abbrev pub PlaceAnswered : Sequence → ℕ → ℕ → ℕ → ℕ → Type 0
-PlaceAnswered sequence value = Exported sought (IsSized sequence) (IsSuccessor value (lent_parts sequence))
+PlaceAnswered sequence value = Exported (IsSized sequence) (IsSuccessor value (lent_parts sequence))

@@ -2,8 +2,8 @@
 use Rattle.std.specs.Prelude.{◌≡◌, ◌≢◌, ℕ, ◌⊎◌, if◌then◌else◌, nat_eq}
 use Rattle.bitm.specs.Tables.{Lists}
 use Rattle.bitm_lent.specs.Sizes.{lists_of}
-use Rattle.bitm.specs.Selected.{Selected}
-use Rattle.bitm.specs.Selected.TheVariants.{Found, Absent, WrongTables}
+use Rattle.bitm.specs.Answer.{Answer}
+use Rattle.bitm.specs.Answer.TheVariants.{Found, Absent, Wrong}
 use Rattle.bitm_c.specs.declared.view.View.{View}
 
 -- A status is 0 where the answer was written, 1 where there is no such place or bit, 2 where a length is not as it has
@@ -13,20 +13,20 @@ use Rattle.bitm_c.specs.declared.view.View.{View}
 abbrev pub view_lists : View → Lists
 view_lists view = lists_of view.words.now view.upper.now view.lower.now
 
--- how a status and the number that was written say an answer: `says` reads it back from these
-pub record IsSaid {A T : Type 0} (says : ℕ → T → A) (answer : A) (status : ℕ) (old new : T) : Type 0 where
+-- the answer that a status and the number that was written report
+abbrev pub answer_of : {T : Type 0} → ℕ → T → Answer T
+answer_of status n = if nat_eq status 0 then Found n else if nat_eq status 1 then Absent else Wrong
+
+-- a status, and the number before and after the call, report the answer
+pub record IsReported {T : Type 0} (answer : Answer T) (status : ℕ) (old new : T) : Type 0 where
   pub good : (status ≡ 0) ⊎ (status ≡ 1) ⊎ (status ≡ 3)
   pub kept : status ≢ 0 → new ≡ old
-  pub is : says status new ≡ answer
+  pub is : answer_of status new ≡ answer
 
 -- what an export answers of which P holds where its lengths are right: the status, and the number before and after
-pub record Exported {A T : Type 0} (says : ℕ → T → A) (sized : Type 0) (P : A → Type 0) (status : ℕ) (old new : T) : Type 0 where
+pub record Exported {T : Type 0} (sized : Type 0) (P : Answer T → Type 0) (status : ℕ) (old new : T) : Type 0 where
   pub bad : ¬ sized → status ≡ 2
   pub fits : status ≢ 2 → sized
   pub good : sized → (status ≡ 0) ⊎ (status ≡ 1) ⊎ (status ≡ 3)
   pub kept : status ≢ 0 → new ≡ old
-  pub answer : sized → P (says status new)
-
--- the answer of a selection
-abbrev pub selected : ℕ → ℕ → Selected
-selected status n = if nat_eq status 0 then Found n else if nat_eq status 1 then Absent else WrongTables
+  pub answer : sized → P (answer_of status new)

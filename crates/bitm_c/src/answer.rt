@@ -1,9 +1,8 @@
-//! How an answer is told: by a status, and a number that is written only where the status is `OK`.
+//! How an answer is reported: by a status, and a number that is written only where the status is `OK`.
 ghost use Rattle.std.specs.Prelude.{◌≡◌, MatchOption};
-ghost use Rattle.bitm_c.specs.Rank.{counted};
-ghost use Rattle.bitm_c.specs.Status.{selected, IsSaid};
+ghost use Rattle.bitm_c.specs.Status.{IsReported};
 
-use bitm_lent::{Ranked, Selected};
+use bitm_lent::Answer;
 
 /// The answer was written.
 pub(crate) const OK: u32 = 0;
@@ -35,32 +34,17 @@ pub(crate) fn tell<T: Copy>(found: Option<T>, out: &mut T) -> u32
     }
 }
 
-/// Writes the number that was counted.
+/// Reports an answer: by a status, and by the number where it was found.
 #[inline(always)]
-pub(crate) fn tell_count(ranked: Ranked, out: &mut usize) -> u32
-    ensures { IsSaid counted ranked result out.old out.new }
-{
-    match ranked {
-        Ranked::Count(count) => {
-            *out = count;
-            OK
-        }
-        Ranked::Absent => NONE,
-        Ranked::WrongTables => WRONG,
-    }
-}
-
-/// Writes the place that was found.
-#[inline(always)]
-pub(crate) fn tell_place(answer: Selected, out: &mut usize) -> u32
-    ensures { IsSaid selected answer result out.old out.new }
+pub(crate) fn report<T: Copy>(answer: Answer<T>, out: &mut T) -> u32
+    ensures { IsReported answer result out.old out.new }
 {
     match answer {
-        Selected::Found(place) => {
-            *out = place;
+        Answer::Found(found) => {
+            *out = found;
             OK
         }
-        Selected::Absent => NONE,
-        Selected::WrongTables => WRONG,
+        Answer::Absent => NONE,
+        Answer::Wrong => WRONG,
     }
 }

@@ -12,10 +12,10 @@ ghost use Rattle.perfect_hash.specs.Places.{place_in, words_for};
 ghost use Rattle.bitm_c.specs.Hash.{hash_lists, made_of, CanBeLevel, HashAnswered, IsHashNumber};
 ghost use Rattle.bitm_c.specs.Lists.{AreCounted};
 
-use crate::answer::{BAD_SIZE, OK, tell_count};
+use crate::answer::{BAD_SIZE, OK, report};
 use crate::counts::{ListCounts, codes_in};
 use crate::view::Index;
-use bitm_lent::{Lent, NO_ANSWER, Ranked, WRONG_TABLES, clear};
+use bitm_lent::{Answer, Lent, NO_ANSWER, WRONG_TABLES, clear};
 use perfect_hash::{build_in_place, level_len, split_level, total_number_on};
 
 /// At most this many levels are queried.
@@ -132,7 +132,7 @@ pub extern "C" fn bitm_hash_get(hash: &HashLevels<'_>, key_hash: u64, out: &mut 
     match hash.lent() {
         Some(lent) => {
             let number = total_number_on(&mut lent.probe(), hash.sizes, hash.keys, key_hash);
-            tell_count(number, out)
+            report(number, out)
         }
         None => BAD_SIZE,
     }
@@ -186,8 +186,8 @@ fn number_code(lent: &Lent<'_>, sizes: &[usize], keys: usize, hash: u64) -> usiz
 {
     // No number of a hash is a code, whatever the number of keys.
     match total_number_on(&mut lent.probe(), sizes, keys.min(WRONG_TABLES), hash) {
-        Ranked::Count(number) => number,
-        Ranked::Absent => NO_ANSWER,
-        Ranked::WrongTables => WRONG_TABLES,
+        Answer::Found(number) => number,
+        Answer::Absent => NO_ANSWER,
+        Answer::Wrong => WRONG_TABLES,
     }
 }

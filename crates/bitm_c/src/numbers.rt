@@ -6,8 +6,8 @@ ghost use Rattle.elias_fano_lent.specs.Lists.{AreItemsFrom, IsKeptFrom};
 ghost use Rattle.bitm_c.specs.Numbers.{ContainsAnswered, LastAnswered};
 ghost use Rattle.bitm_c.specs.Sequence.{lent_parts, IsSized};
 
-use crate::answer::{BAD_SIZE, OK, WRONG};
-use crate::sequence::{Sequence, tell_sought};
+use crate::answer::{BAD_SIZE, OK, WRONG, report};
+use crate::sequence::{Sequence};
 
 /// The predecessor of `value`: the greatest index whose number is at most `value`.
 #[unsafe(no_mangle)]
@@ -19,7 +19,7 @@ pub extern "C" fn bitm_sequence_last_at_most(
     ensures { LastAnswered sequence.now value result out.old out.new }
 {
     match sequence.lent() {
-        Some(lent) => tell_sought(lent.last_at_most(value), out),
+        Some(lent) => report(lent.last_at_most(value), out),
         None => BAD_SIZE,
     }
 }

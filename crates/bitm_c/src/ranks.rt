@@ -2,7 +2,7 @@
 //! the tests of another size is left. More ranks wait for their words side by side if each takes fewer instructions.
 ghost use Rattle.bitm_c.specs.Queries.{cut_of, RankAnswered};
 
-use crate::answer::{BAD_SIZE, tell_count};
+use crate::answer::{BAD_SIZE, report};
 use crate::view::Index;
 use bitm::U64_PER_L1_ENTRY;
 use bitm_lent::WORDS_AT_HAND;
@@ -13,7 +13,7 @@ fn rank_in(index: &Index<'_>, one: bool, position: usize, out: &mut usize) -> u3
     ensures { RankAnswered one (cut_of index.now) position result out.old out.new }
 {
     match index.view() {
-        Some(view) => tell_count(view.rank_of(one, position), out),
+        Some(view) => report(view.rank_of(one, position), out),
         None => BAD_SIZE,
     }
 }
@@ -59,7 +59,7 @@ pub extern "C" fn bitm_index_rank(
     ensures { RankAnswered one (cut_of index.now) position result out.old out.new }
 {
     match index.large_view() {
-        Some(view) => tell_count(view.rank_of(one, position), out),
+        Some(view) => report(view.rank_of(one, position), out),
         None => rank_in_few(index, one, position, out),
     }
 }

@@ -2,7 +2,7 @@
 ghost use Rattle.bitm.specs.Count.{as_bit};
 ghost use Rattle.bitm_c.specs.Queries.{cut_of, NextAnswered, PreviousAnswered, SelectAnswered};
 
-use crate::answer::{BAD_SIZE, tell_place};
+use crate::answer::{BAD_SIZE, report};
 use crate::view::Index;
 
 /// What `bitm_index_select` answers of 1 bits; of 0 bits where `BIT` is 0.
@@ -11,7 +11,7 @@ fn select_in<const BIT: u8>(index: &Index<'_>, rank: usize, out: &mut usize) -> 
     ensures { SelectAnswered (as_bit BIT) (cut_of index.now) rank result out.old out.new }
 {
     match index.view() {
-        Some(view) => tell_place(view.select::<BIT>(rank), out),
+        Some(view) => report(view.select::<BIT>(rank), out),
         None => BAD_SIZE,
     }
 }
@@ -39,7 +39,7 @@ fn next_in<const BIT: u8>(index: &Index<'_>, from: usize, out: &mut usize) -> u3
     ensures { NextAnswered (as_bit BIT) (cut_of index.now) from result out.old out.new }
 {
     match index.view() {
-        Some(view) => tell_place(view.next::<BIT>(from), out),
+        Some(view) => report(view.next::<BIT>(from), out),
         None => BAD_SIZE,
     }
 }
@@ -62,7 +62,7 @@ fn previous_in<const BIT: u8>(index: &Index<'_>, from: usize, out: &mut usize) -
     ensures { PreviousAnswered (as_bit BIT) (cut_of index.now) from result out.old out.new }
 {
     match index.view() {
-        Some(view) => tell_place(view.previous::<BIT>(from), out),
+        Some(view) => report(view.previous::<BIT>(from), out),
         None => BAD_SIZE,
     }
 }

@@ -6,13 +6,13 @@ ghost use Rattle.elias_fano.specs.Sequence.{HasFall};
 ghost use Rattle.elias_fano_lent.specs.LentParts.{parts_of, AreParts, Holds};
 ghost use Rattle.elias_fano_lent.specs.Lists.{AreItems, IsKeptFrom};
 ghost use Rattle.elias_fano_lent.specs.Sizes.{sizes_of, HasRoom, IsLargest};
-ghost use Rattle.bitm_c.specs.Sequence.{lent_parts, sizes_in_c, sought, IsListTold, IsSized};
-ghost use Rattle.bitm_c.specs.Status.{IsSaid};
+ghost use Rattle.bitm_c.specs.Sequence.{lent_parts, sizes_in_c, IsListTold, IsSized};
+ghost use Rattle.bitm_c.specs.Status.{IsReported};
 ghost use Rattle.bitm_c.specs.Sequence.{ItemAnswered, PlaceAnswered};
 
-use crate::answer::{BAD_SIZE, NONE, OK, UNSORTED, WRONG};
+use crate::answer::{BAD_SIZE, OK, UNSORTED, WRONG, report};
 use bitm_lent::Lent;
-use elias_fano_lent::{BuildError, LentSequence, ListAnswer, Sizes, Sought, build};
+use elias_fano_lent::{Answer, BuildError, LentSequence, ListAnswer, Sizes, build};
 
 /// A sequence in the caller's memory: for C two numbers, four pairs of a pointer and a length, and room.
 #[repr(C)]
@@ -61,21 +61,6 @@ impl<'a> Sequence<'a> {
             return None;
         }
         LentSequence::over(self.len, self.width as u8, self.low, upper)
-    }
-}
-
-/// Writes what was found.
-#[inline(always)]
-pub(crate) fn tell_sought<T: Copy>(answer: Sought<T>, out: &mut T) -> u32
-    ensures { IsSaid sought answer result out.old out.new }
-{
-    match answer {
-        Sought::Found(found) => {
-            *out = found;
-            OK
-        }
-        Sought::Absent => NONE,
-        Sought::WrongParts => WRONG,
     }
 }
 
@@ -152,7 +137,7 @@ pub extern "C" fn bitm_sequence_get(sequence: &Sequence<'_>, index: usize, out: 
     ensures { ItemAnswered sequence.now index result out.old out.new }
 {
     match sequence.lent() {
-        Some(lent) => tell_sought(lent.get(index), out),
+        Some(lent) => report(lent.get(index), out),
         None => BAD_SIZE,
     }
 }
@@ -167,7 +152,7 @@ pub extern "C" fn bitm_sequence_first_at_least(
     ensures { PlaceAnswered sequence.now value result out.old out.new }
 {
     match sequence.lent() {
-        Some(lent) => tell_sought(lent.first_at_least(value), out),
+        Some(lent) => report(lent.first_at_least(value), out),
         None => BAD_SIZE,
     }
 }

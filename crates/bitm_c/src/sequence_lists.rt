@@ -10,7 +10,7 @@ use crate::answer::{BAD_SIZE, OK};
 use crate::counts::{ListCounts, codes_in};
 use crate::sequence::Sequence;
 use bitm_lent::{NO_ANSWER, WRONG_TABLES};
-use elias_fano_lent::{LentSequence, Sought};
+use elias_fano_lent::{Answer, LentSequence};
 
 /// The successor of each value: the least index whose number is at least the value; and how many of these are codes.
 #[unsafe(no_mangle)]
@@ -109,9 +109,9 @@ fn last_code(parts: &LentSequence<'_>, value: u64) -> usize
 {
     let _ = parts.len(); // its clause makes the limit of the length known to the proof
     match parts.last_at_most(value) {
-        Sought::Found(index) => index,
-        Sought::Absent => NO_ANSWER,
-        Sought::WrongParts => WRONG_TABLES,
+        Answer::Found(index) => index,
+        Answer::Absent => NO_ANSWER,
+        Answer::Wrong => WRONG_TABLES,
     }
 }
 

@@ -6,33 +6,31 @@ use Rattle.bit_lists.proofs.lemmas.BitsLemmas.{length-bits_of}
 use Rattle.bit_lists.specs.Count.{count_of}
 use Rattle.bitm_search.specs.Answers.{RankTold, SelectTold}
 use Rattle.bitm_search.specs.Tables.{bits_in}
-use Rattle.bitm_search.specs.declared.search.selected.Selected.{Selected}
-use Rattle.bitm_search.specs.declared.search.selected.Selected.TheVariants as Sel
+use Rattle.bitm.specs.Answer.{Answer}
+use Rattle.bitm.specs.Answer.TheVariants.{Found, Absent, Wrong}
 use Rattle.bitm_lent.proofs.CutLemmas.{cut_counted, cut_found, cut_none, cut_past, cut_wrong}
 use Rattle.bitm_lent.specs.Cut.{Cut, IsSizedCut}
 use Rattle.bitm_lent.specs.Queries.{ranked_by, selected_by, RanksIn, Selects, SelectsIn}
-use Rattle.bitm_lent.specs.declared.ranked.Ranked.{Ranked}
-use Rattle.bitm_lent.specs.declared.ranked.Ranked.TheVariants as Rank
 
 -- a number that is no code stands for itself
-ranked_place : (n : ℕ) → n < 2 ^ 64 - 2 → ranked_by n ≡ Rank.Count n
+ranked_place : (n : ℕ) → n < 2 ^ 64 - 2 → ranked_by n ≡ Found n
 ranked_place n below =
-    ap (λ (e : Bool). if e then Rank.Absent else if nat_eq n (2 ^ 64 - 2) then Rank.WrongTables else Rank.Count n)
+    ap (λ (e : Bool). if e then Absent else if nat_eq n (2 ^ 64 - 2) then Wrong else Found n)
     (ne_eqb n (2 ^ 64 - 1) (λ e. omega (arith, e, below)))
-    ∙ ap (λ (e : Bool). if e then Rank.WrongTables else Rank.Count n) (ne_eqb n (2 ^ 64 - 2) (λ e. omega (arith, e, below)))
+    ∙ ap (λ (e : Bool). if e then Wrong else Found n) (ne_eqb n (2 ^ 64 - 2) (λ e. omega (arith, e, below)))
 
-selected_place : (n : ℕ) → n < 2 ^ 64 - 2 → selected_by n ≡ Sel.Found n
+selected_place : (n : ℕ) → n < 2 ^ 64 - 2 → selected_by n ≡ Found n
 selected_place n below =
-    ap (λ (e : Bool). if e then Sel.Absent else if nat_eq n (2 ^ 64 - 2) then Sel.WrongTables else Sel.Found n)
+    ap (λ (e : Bool). if e then Absent else if nat_eq n (2 ^ 64 - 2) then Wrong else Found n)
     (ne_eqb n (2 ^ 64 - 1) (λ e. omega (arith, e, below)))
-    ∙ ap (λ (e : Bool). if e then Sel.WrongTables else Sel.Found n) (ne_eqb n (2 ^ 64 - 2) (λ e. omega (arith, e, below)))
+    ∙ ap (λ (e : Bool). if e then Wrong else Found n) (ne_eqb n (2 ^ 64 - 2) (λ e. omega (arith, e, below)))
 
 module _ (v : Bool) (c : Cut) (sized : IsSizedCut c) where
   -- no position and no count of the words is a code
   few : (n : ℕ) → n ≤ length (bits_in c.lists) → n < 2 ^ 64 - 2
   few n inside = omega (arith, inside, length-bits_of c.lists.words, sized.sizes.short)
 
-  pub rank_past : (i : ℕ) → c.len < i → RanksIn v c i Rank.Absent
+  pub rank_past : (i : ℕ) → c.len < i → RanksIn v c i Absent
   rank_past i past = record { within = past; counts = λ t. omega (arith, past, length-take-le c.len (bits_in c.lists) sized.within) }
 
   pub rank_said : (i : ℕ) → i ≤ c.len → (n : ℕ) → RankTold v c.lists i n → n < 2 ^ 64 → RanksIn v c i (ranked_by n)
@@ -40,8 +38,8 @@ module _ (v : Bool) (c : Cut) (sized : IsSizedCut c) where
       let within : i ≤ length (bits_in c.lists) = omega (arith, inside, sized.within) in
       elim (cases_lt n (2 ^ 64 - 2)) [
         | inl below ↦
-            subst (λ (r : Ranked). RanksIn v c i r) (sym (ranked_place n below))
-            (cut_counted v c sized.within i inside (Rank.Count n)
+            subst (λ (r : Answer ℕ). RanksIn v c i r) (sym (ranked_place n below))
+            (cut_counted v c sized.within i inside (Found n)
             (record { within = (within, told.most below); counts = λ t. (within, (told.count t within).1) }))
         | inr above ↦
             elim (cases_eq n (2 ^ 64 - 1)) [
@@ -55,7 +53,7 @@ module _ (v : Bool) (c : Cut) (sized : IsSizedCut c) where
 
   module _ (r n : ℕ) (told : SelectTold v c.lists r n) where
     -- a place that was found
-    place : n < 2 ^ 64 - 2 → Selects v c.lists r (Sel.Found n)
+    place : n < 2 ^ 64 - 2 → Selects v c.lists r (Found n)
     place below = record {
       bit = told.bit below;
       counts =
@@ -70,12 +68,12 @@ module _ (v : Bool) (c : Cut) (sized : IsSizedCut c) where
     pub place_said : n < c.len → SelectsIn v c r (selected_by n)
     place_said inside =
         let below = few n (omega (arith, inside, sized.within)) in
-        subst (λ (s : Selected). SelectsIn v c r s) (sym (selected_place n below)) (cut_found v c sized.within r n inside (place below))
+        subst (λ (s : Answer ℕ). SelectsIn v c r s) (sym (selected_place n below)) (cut_found v c sized.within r n inside (place below))
 
-    pub past_said : c.len ≤ n → n < 2 ^ 64 - 2 → SelectsIn v c r Sel.Absent
+    pub past_said : c.len ≤ n → n < 2 ^ 64 - 2 → SelectsIn v c r Absent
     past_said behind below = cut_past v c sized.within r n behind (place below)
 
-    none : n ≡ 2 ^ 64 - 1 → Selects v c.lists r Sel.Absent
+    none : n ≡ 2 ^ 64 - 1 → Selects v c.lists r Absent
     none e = record {
       bit = tt;
       counts =
@@ -87,7 +85,7 @@ module _ (v : Bool) (c : Cut) (sized : IsSizedCut c) where
       absent = told.absent e;
     }
 
-    wrong : n ≡ 2 ^ 64 - 2 → Selects v c.lists r Sel.WrongTables
+    wrong : n ≡ 2 ^ 64 - 2 → Selects v c.lists r Wrong
     wrong e = record {
       bit = tt;
       counts =

@@ -7,12 +7,12 @@ use Rattle.bit_lists.proofs.lemmas.CountLemmas.{count_before-le, ones_before-add
 use Rattle.bit_lists.specs.Bits.{item}
 use Rattle.bit_lists.specs.Count.{count_before, count_of, Picks}
 use Rattle.bitm_search.specs.Tables.{bits_in}
-use Rattle.bitm_search.specs.declared.search.selected.Selected.TheVariants as Sel
+use Rattle.bitm.specs.Answer.TheVariants.{Found, Absent, Wrong}
 use Rattle.bitm_lent.specs.Cut.{Cut, bits_of_cut, IsWithin}
 use Rattle.bitm_lent.specs.Queries.{Ranks, RanksIn, Selects, SelectsIn}
 use Rattle.bitm_lent.specs.Ranks.{IsRanked}
-use Rattle.bitm_lent.specs.declared.ranked.Ranked.{Ranked}
-use Rattle.bitm_lent.specs.declared.ranked.Ranked.TheVariants.{Count, Absent, WrongTables}
+use Rattle.bitm.specs.Answer.{Answer}
+use Rattle.bitm.specs.Answer.TheVariants.{Found, Absent, Wrong}
 
 module _ (b : List Bool) (v : Bool) (len : ℕ) (within : len ≤ length b) where
   long : length (take len b) ≡ len
@@ -48,10 +48,10 @@ module _ (b : List Bool) (v : Bool) (len : ℕ) (within : len ≤ length b) wher
   cut_absent r few = omega (arith, cut_total, count_before-le b v len (length b) within, few)
 
   -- what is counted among all is counted among them
-  cut_ranked : (i : ℕ) → i ≤ len → (r : Ranked) → IsRanked b v i r → IsRanked (take len b) v i r
-  cut_ranked i inside (Count n) answer = (omega (arith, inside, long), answer.1 ∙ sym (cut_count i inside))
+  cut_ranked : (i : ℕ) → i ≤ len → (r : Answer ℕ) → IsRanked b v i r → IsRanked (take len b) v i r
+  cut_ranked i inside (Found n) answer = (omega (arith, inside, long), answer.1 ∙ sym (cut_count i inside))
   cut_ranked i inside Absent answer = absurd (omega (arith, answer, inside, within))
-  cut_ranked i inside WrongTables answer = answer
+  cut_ranked i inside Wrong answer = answer
 
 -- the bits of a bit vector are 1 bits and 0 bits
 pub both : (c : Cut) → IsWithin c → count_of (bits_of_cut c) true + count_of (bits_of_cut c) false ≡ c.len
@@ -60,17 +60,17 @@ both c within =
 
 module _ (v : Bool) (c : Cut) (within : IsWithin c) where
   -- a count among all is one among them, of no more than they are
-  pub cut_counted : (i : ℕ) → i ≤ c.len → (r : Ranked) → Ranks v c.lists i r → RanksIn v c i r
-  cut_counted i inside (Count n) is = record {
+  pub cut_counted : (i : ℕ) → i ≤ c.len → (r : Answer ℕ) → Ranks v c.lists i r → RanksIn v c i r
+  cut_counted i inside (Found n) is = record {
     within = (inside, is.within.1);
-    counts = λ t. cut_ranked (bits_in c.lists) v c.len within i inside (Count n) (is.counts t);
+    counts = λ t. cut_ranked (bits_in c.lists) v c.len within i inside (Found n) (is.counts t);
   }
   cut_counted i inside Absent is = absurd (omega (arith, is.within, inside, within))
-  cut_counted i inside WrongTables is = record { within = inside; counts = λ t. is.counts t }
+  cut_counted i inside Wrong is = record { within = inside; counts = λ t. is.counts t }
 
   module _ (r : ℕ) where
     -- a place before their end is one of theirs
-    pub cut_found : (p : ℕ) → p < c.len → Selects v c.lists r (Sel.Found p) → SelectsIn v c r (Sel.Found p)
+    pub cut_found : (p : ℕ) → p < c.len → Selects v c.lists r (Found p) → SelectsIn v c r (Found p)
     cut_found p inside is = record {
       bit = cut_bit (bits_in c.lists) v c.len within p inside is.bit.1;
       counts = λ t. cut_pick (bits_in c.lists) v c.len within r p inside (is.counts t);
@@ -78,7 +78,7 @@ module _ (v : Bool) (c : Cut) (within : IsWithin c) where
     }
 
     -- one behind it says that they have no more
-    pub cut_past : (p : ℕ) → c.len ≤ p → Selects v c.lists r (Sel.Found p) → SelectsIn v c r Sel.Absent
+    pub cut_past : (p : ℕ) → c.len ≤ p → Selects v c.lists r (Found p) → SelectsIn v c r Absent
     cut_past p behind is = record {
       bit = tt;
       counts = λ t. cut_behind (bits_in c.lists) v c.len within r p behind (is.counts t);
@@ -86,12 +86,12 @@ module _ (v : Bool) (c : Cut) (within : IsWithin c) where
     }
 
     -- and so does none among all
-    pub cut_none : Selects v c.lists r Sel.Absent → SelectsIn v c r Sel.Absent
+    pub cut_none : Selects v c.lists r Absent → SelectsIn v c r Absent
     cut_none is = record {
       bit = tt;
       counts = λ t. cut_absent (bits_in c.lists) v c.len within r (is.counts t);
       absent = inl is.absent;
     }
 
-    pub cut_wrong : Selects v c.lists r Sel.WrongTables → SelectsIn v c r Sel.WrongTables
+    pub cut_wrong : Selects v c.lists r Wrong → SelectsIn v c r Wrong
     cut_wrong is = record { bit = tt; counts = λ t. is.counts t; absent = tt }

@@ -9,7 +9,7 @@ use Rattle.bitm_search.proofs.lemmas.SelectedLemmas.{told_is}
 use Rattle.bitm_search.proofs.lemmas.ToldLemmas.{nothing_tells}
 use Rattle.bitm_search.specs.Answers.{SelectTold}
 use Rattle.bitm_search.specs.Tables.{HasSizes, Lists, bits_in}
-use Rattle.bitm_search.specs.declared.search.selected.Selected.TheVariants.{Absent}
+use Rattle.bitm.specs.Answer.TheVariants.{Absent}
 
 pub nothing_told : (v : Bool) (lists : Lists) (r : ℕ) → HasSizes lists → length lists.upper ≡ 0
     → SelectTold v lists r 18446744073709551615

@@ -1,18 +1,18 @@
 -- What rank answers, over tables that may hold anything and over those of the words.
 use Rattle.std.specs.Prelude.{◌≡◌, ℕ, ◌<◌, ◌≤◌, Bool, List, length}
 use Rattle.bit_lists.specs.Count.{count_before}
-use Rattle.bitm_lent.specs.declared.ranked.Ranked.{Ranked}
-use Rattle.bitm_lent.specs.declared.ranked.Ranked.TheVariants.{Count, Absent, WrongTables}
+use Rattle.bitm.specs.Answer.{Answer}
+use Rattle.bitm.specs.Answer.TheVariants.{Found, Absent, Wrong}
 
 -- of the first i of so many bits: no more than i are counted, and Absent is answered exactly where there
 -- are not so many
-abbrev pub IsCountWithin : ℕ → ℕ → Ranked → Type 0
-IsCountWithin len i (Count n) = (i ≤ len) × (n ≤ i)
+abbrev pub IsCountWithin : ℕ → ℕ → Answer ℕ → Type 0
+IsCountWithin len i (Found n) = (i ≤ len) × (n ≤ i)
 IsCountWithin len i Absent = len < i
-IsCountWithin len i WrongTables = i ≤ len
+IsCountWithin len i Wrong = i ≤ len
 
 -- how many of the first i bits are v, and Absent exactly where there are not so many bits
-abbrev pub IsRanked : List Bool → Bool → ℕ → Ranked → Type 0
-IsRanked b v i (Count n) = (i ≤ length b) × (n ≡ count_before b v i)
+abbrev pub IsRanked : List Bool → Bool → ℕ → Answer ℕ → Type 0
+IsRanked b v i (Found n) = (i ≤ length b) × (n ≡ count_before b v i)
 IsRanked b v i Absent = length b < i
-IsRanked b v i WrongTables = ⊥
+IsRanked b v i Wrong = ⊥

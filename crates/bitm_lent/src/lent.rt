@@ -14,10 +14,10 @@ mod by_samples;
 mod checks;
 
 use crate::checking::are_tables;
-use crate::ranked::{Ranked, ranked_on};
+use bitm_search::answer::Answer;
+use crate::ranked::ranked_on;
 use bitm_search::levels::{U64_PER_L1_ENTRY, U64_PER_L2_ENTRY};
 use bitm_search::search::ranking::{WORDS_AT_HAND, total_rank_on};
-use bitm_search::search::selected::Selected;
 use bitm_search::search::selecting::total_select_on;
 use bitm_search::source::Probe;
 use std::marker::Model;
@@ -154,12 +154,12 @@ impl<'a> Lent<'a> {
     /// How many of the first `index` bits are ones; zeros in place of ones where `BIT` is 0.
     ///
     /// Whatever the tables hold, `Absent` is answered exactly where there are fewer bits, and a count is at most
-    /// `index`. Where they are those of the words it is the right one, and `WrongTables` is never answered.
+    /// `index`. Where they are those of the words it is the right one, and `Wrong` is never answered.
     ///
     /// # Cost
     /// At most one upper entry, one lower entry and eight words are read.
     #[inline(always)]
-    pub fn rank<const BIT: u8>(&self, index: usize) -> Ranked
+    pub fn rank<const BIT: u8>(&self, index: usize) -> Answer<usize>
         ensures within { IsCountWithin (length (bits_in self.now)) index result }
         ensures counts { HasTables self.now → IsRanked (bits_in self.now) (as_bit BIT) index result }
     {
@@ -181,13 +181,13 @@ impl<'a> Lent<'a> {
     /// The place of the one with exactly `rank` ones before it; zeros in place of ones where `BIT` is 0.
     ///
     /// Whatever the tables hold, a place that is found is inside and has such a bit. Where they are those of the words
-    /// it is the right one, `Absent` is answered exactly where there is none, and `WrongTables` never.
+    /// it is the right one, `Absent` is answered exactly where there is none, and `Wrong` never.
     ///
     /// # Cost
     /// At most as many upper entries as their number has binary digits and one more, 23 lower entries and eight words
     /// are read, whatever the tables hold.
     #[inline(always)]
-    pub fn select<const BIT: u8>(&self, rank: usize) -> Selected
+    pub fn select<const BIT: u8>(&self, rank: usize) -> Answer<usize>
         ensures bit { HasBit (bits_in self.now) (as_bit BIT) result }
         ensures counts { HasTables self.now → IsSelected (bits_in self.now) (as_bit BIT) rank result }
         ensures absent { IfAbsent result (TellsNone (as_bit BIT) self.now rank) }

@@ -9,7 +9,7 @@
 //! let (mut upper, mut lower) = ([0], [0; 2]);         // upper_len(40) and lower_len(40) entries
 //! let ones = build(&words, &mut upper, &mut lower);   // Some(..) of 40 words
 //! let Some(lent) = Lent::over(&words, &upper, &lower) else { return };
-//! lent.select::<1>(17);                               // Found(place), Absent or WrongTables
+//! lent.select::<1>(17);                               // Found(place), Absent or Wrong
 //!
 //! let (mut numbers, mut starts) = ([0; 20], [0]);     // samples_len(40, 7) and upper_len(40) numbers
 //! let Some(used) = lent.build_samples::<1>(7, &mut numbers, &mut starts) else { return };
@@ -35,14 +35,15 @@ mod view;
 
 pub use bitm_search::search::many::ByTables;
 pub use bitm_search::search::ranking::{WORDS_AT_HAND, total_rank_on};
-pub use bitm_search::search::selected::{NO_ANSWER, Selected, WRONG_TABLES};
+pub use bitm_search::answer::Answer;
+pub use bitm_search::search::selected::{NO_ANSWER, WRONG_TABLES};
 pub use bitm_search::search::selecting::total_select_on;
 pub use clearing::{clear, clear_from};
 pub use filling::build;
 pub use guessed::ByGuess;
 pub use lent::{Lent, lower_len, upper_len};
 pub use places::ones_from;
-pub use ranked::{Ranked, ranked_on};
+pub use ranked::ranked_on;
 pub use sampled::sampled_select_on;
 pub use samples::{LentSamples, samples_len};
 pub use view::IndexView;

@@ -10,7 +10,7 @@ use bitm_search::search::selected::NO_ANSWER;
 use bitm_search::source::{Probe, TableSource};
 
 /// Writes the position with each rank, by searches side by side where there is a word, of which `finder` finds the
-/// entries: `NO_ANSWER` for `Absent` and `WRONG_TABLES` for `WrongTables`. Answers false exactly where there is not room
+/// entries: `NO_ANSWER` for `Absent` and `WRONG_TABLES` for `Wrong`. Answers false exactly where there is not room
 /// for as many answers as ranks, and nothing is written then.
 pub(crate) fn select_list_on<const BIT: u8, T: TableSource, F: FindsEntries<BIT, T>>(
     source: &mut T,
@@ -39,7 +39,7 @@ pub(crate) fn select_list_on<const BIT: u8, T: TableSource, F: FindsEntries<BIT,
 impl<'a> Lent<'a> {
     /// Writes the position with each rank, as `select` answers it where the tables are those of the words; in others it
     /// may be another position with such a bit. `NO_ANSWER` is written for `Absent` and `WRONG_TABLES` for
-    /// `WrongTables`; answers false exactly where there is not room for as many answers as ranks, and nothing is written
+    /// `Wrong`; answers false exactly where there is not room for as many answers as ranks, and nothing is written
     /// then.
     pub fn select_list<const BIT: u8>(&self, ranks: &[usize], out: &mut [usize]) -> bool
         ensures room { IsTrue result ↔ length out.old ≡ length ranks.now }

@@ -1,22 +1,12 @@
-//! What a rank over tables that may hold anything answers.
+//! A rank over tables that may hold anything.
 ghost use Rattle.std.specs.Prelude.{length};
 ghost use Rattle.bitm_lent.specs.Queries.{Ranks};
 ghost use Rattle.bitm_search.specs.Reads.{OnlyReads};
 ghost use Rattle.bitm_search.specs.Tables.{HasSizes};
 
+use bitm_search::answer::Answer;
 use bitm_search::search::ranking::total_rank_on;
 use bitm_search::source::TableSource;
-
-/// What a rank over tables that may hold anything answers.
-#[derive(Clone, Copy, PartialEq, Eq, Debug)]
-pub enum Ranked {
-    /// How many there are: no more than the bits among which they were counted.
-    Count(usize),
-    /// There are not so many bits.
-    Absent,
-    /// The tables are not those of the words.
-    WrongTables,
-}
 
 /// The number of 1 bits, or 0 bits, among the first `index` bits of a source's words. The kind is chosen once, after the
 /// 1 bits were counted.
@@ -26,16 +16,16 @@ pub enum Ranked {
 /// # Cost
 /// At most one upper entry, one lower entry and eight words are read.
 #[inline(always)]
-pub fn ranked_on<T: TableSource>(source: &mut T, one: bool, index: usize) -> Ranked
+pub fn ranked_on<T: TableSource>(source: &mut T, one: bool, index: usize) -> Answer<usize>
     requires { HasSizes (T.lists source.old) }
     ensures ranks { Ranks one (T.lists source.old) index result }
     ensures reads { OnlyReads T.lists T.reads source.old source.new 1 1 8 }
 {
     let Some(ones) = total_rank_on(source, index) else {
-        return Ranked::Absent;
+        return Answer::Absent;
     };
     match index.checked_sub(ones) {
-        Some(zeros) => Ranked::Count(if one { ones } else { zeros }),
-        None => Ranked::WrongTables,
+        Some(zeros) => Answer::Found(if one { ones } else { zeros }),
+        None => Answer::Wrong,
     }
 }

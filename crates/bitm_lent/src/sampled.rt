@@ -21,7 +21,7 @@ use bitm::samples::first_entry;
 use bitm_search::entry::{entries_of_part, ones_to_entry};
 use bitm_search::levels::L2_ENTRIES_PER_L1_ENTRY;
 use bitm_search::search::entries::{EntryRange, last_entry, last_in_range, sought_entry};
-use bitm_search::search::selected::Selected;
+use bitm_search::answer::Answer;
 use bitm_search::search::selecting::search_on;
 use bitm_search::source::TableSource;
 
@@ -279,7 +279,7 @@ pub fn sampled_select_on<const BIT: u8, T: TableSource>(
     source: &mut T,
     lent: &LentSamples<'_>,
     rank: usize,
-) -> Selected
+) -> Answer<usize>
     requires { HasSizes (T.lists source.old) }
     ensures bit { HasBit (bits_in (T.lists source.old)) (as_bit BIT) result }
     ensures answer { HasTables (T.lists source.old)

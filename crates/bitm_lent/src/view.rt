@@ -17,31 +17,32 @@ use crate::guessed::ByGuess;
 use crate::lent::{Lent, is_one};
 use crate::lists::select_list_on;
 use crate::places::bits_from;
-use crate::ranked::{Ranked, ranked_on};
+use bitm_search::answer::Answer;
+use crate::ranked::ranked_on;
 use crate::samples::LentSamples;
 use bitm::words;
 use bitm_search::search::many::{ByTables, total_rank_many_on};
-use bitm_search::search::selected::{NO_ANSWER, Selected, WRONG_TABLES};
+use bitm_search::search::selected::{NO_ANSWER, WRONG_TABLES};
 use bitm_search::search::selecting::{FindsEntry, search_on};
 use bitm_search::source::{Probe, TableSource};
 use std::marker::Model;
 
 /// A place that was found, where it is before place `len`.
 #[inline(always)]
-fn cut(selected: Selected, len: usize) -> Selected
+fn cut(selected: Answer<usize>, len: usize) -> Answer<usize>
     ensures { (v : Bool) (c : Cut) (r : ℕ) → c.len ≡ len → IsWithin c
         → Selects v c.lists r selected → SelectsIn v c r result }
 {
     match selected {
-        Selected::Found(place) => {
+        Answer::Found(place) => {
             if place < len {
-                Selected::Found(place)
+                Answer::Found(place)
             } else {
-                Selected::Absent
+                Answer::Absent
             }
         }
-        Selected::Absent => Selected::Absent,
-        Selected::WrongTables => Selected::WrongTables,
+        Answer::Absent => Answer::Absent,
+        Answer::Wrong => Answer::Wrong,
     }
 }
 
@@ -127,13 +128,13 @@ impl<'a> IndexView<'a> {
     /// # Cost
     /// At most one upper entry, one lower entry and eight words are read.
     #[inline(always)]
-    pub fn rank_on<T: TableSource>(&self, source: &mut T, one: bool, index: usize) -> Ranked
+    pub fn rank_on<T: TableSource>(&self, source: &mut T, one: bool, index: usize) -> Answer<usize>
         requires { T.lists source.old ≡ self.now.lists }
         ensures ranks { RanksIn one self.now index result }
         ensures reads { OnlyReads T.lists T.reads source.old source.new 1 1 8 }
     {
         if index > self.len {
-            return Ranked::Absent;
+            return Answer::Absent;
         }
         ranked_on(source, one, index)
     }
@@ -144,7 +145,7 @@ impl<'a> IndexView<'a> {
     /// # Cost
     /// That of `rank_on`.
     #[inline(always)]
-    pub fn rank_of(&self, one: bool, index: usize) -> Ranked
+    pub fn rank_of(&self, one: bool, index: usize) -> Answer<usize>
         ensures within { IsCountWithin self.now.len index result }
         ensures counts { HasTables self.now.lists → IsRanked (bits_of_cut self.now) one index result }
     {
@@ -153,7 +154,7 @@ impl<'a> IndexView<'a> {
 
     /// How many of the first `index` bits are 1 bits; 0 bits where `BIT` is 0. As `rank_of`.
     #[inline(always)]
-    pub fn rank<const BIT: u8>(&self, index: usize) -> Ranked
+    pub fn rank<const BIT: u8>(&self, index: usize) -> Answer<usize>
         ensures within { IsCountWithin self.now.len index result }
         ensures counts { HasTables self.now.lists → IsRanked (bits_of_cut self.now) (as_bit BIT) index result }
     {
@@ -173,7 +174,7 @@ impl<'a> IndexView<'a> {
         source: &mut T,
         finder: &F,
         rank: usize,
-    ) -> Selected
+    ) -> Answer<usize>
         requires { T.lists source.old ≡ self.now.lists }
         ensures selects { SelectsIn (as_bit BIT) self.now rank result }
         ensures reads { OnlyReads T.lists T.reads source.old source.new
@@ -195,7 +196,7 @@ impl<'a> IndexView<'a> {
     /// # Cost
     /// That of `select_on` by the samples of the kind, and by the tables where there are none.
     #[inline(always)]
-    pub fn select<const BIT: u8>(&self, rank: usize) -> Selected
+    pub fn select<const BIT: u8>(&self, rank: usize) -> Answer<usize>
         ensures bit { HasBit (bits_of_cut self.now) (as_bit BIT) result }
         ensures counts { HasTables self.now.lists → IsSelected (bits_of_cut self.now) (as_bit BIT) rank result }
         ensures absent { IfAbsent result (TellsNoneOf (as_bit BIT) self.now rank) }

@@ -5,45 +5,45 @@ use Rattle.bit_lists.specs.Count.{ones_before, count_before, count_of, Picks}
 use Rattle.bitm_search.specs.Search.{sought_bits}
 use Rattle.bitm_tables.specs.Tables.{HasTables, Lists, bits_in}
 use Rattle.bitm_search.specs.Told.{TellsNone}
-use Rattle.bitm_search.specs.declared.search.selected.Selected.{Selected}
-use Rattle.bitm_search.specs.declared.search.selected.Selected.TheVariants.{Found, Absent, WrongTables}
+use Rattle.bitm_tables.specs.declared.answer.Answer.{Answer}
+use Rattle.bitm_tables.specs.declared.answer.Answer.TheVariants.{Found, Absent, Wrong}
 
 -- a place that is found is inside, and bit v stands there
-abbrev pub HasBit : List Bool → Bool → Selected → Type 0
+abbrev pub HasBit : List Bool → Bool → Answer ℕ → Type 0
 HasBit b v (Found p) = (p < length b) × (item b p ≡ v)
 HasBit b v Absent = ⊤
-HasBit b v WrongTables = ⊤
+HasBit b v Wrong = ⊤
 
 -- a place that is found is from place i on and before place j
-abbrev pub IsFoundFrom : ℕ → ℕ → Selected → Type 0
+abbrev pub IsFoundFrom : ℕ → ℕ → Answer ℕ → Type 0
 IsFoundFrom i j (Found p) = (i ≤ p) × (p < j)
 IsFoundFrom i j Absent = ⊤
-IsFoundFrom i j WrongTables = ⊤
+IsFoundFrom i j Wrong = ⊤
 
 -- the place that is found, if one is
-abbrev pub place_in : Selected → Option ℕ
+abbrev pub place_in : Answer ℕ → Option ℕ
 place_in (Found p) = Some p
 place_in Absent = None
-place_in WrongTables = None
+place_in Wrong = None
 
 -- what a list of answers says of it
-abbrev pub told_in : Selected → ℕ
+abbrev pub told_in : Answer ℕ → ℕ
 told_in (Found p) = p
 told_in Absent = 2 ^ 64 - 1
-told_in WrongTables = 2 ^ 64 - 2
+told_in Wrong = 2 ^ 64 - 2
 
 -- the place with bit v and r such bits before it, and Absent exactly where there are no more than r of them
-abbrev pub IsSelected : List Bool → Bool → ℕ → Selected → Type 0
+abbrev pub IsSelected : List Bool → Bool → ℕ → Answer ℕ → Type 0
 IsSelected b v r (Found p) = Picks b v r p
 IsSelected b v r Absent = count_of b v ≤ r
-IsSelected b v r WrongTables = ⊥
+IsSelected b v r Wrong = ⊥
 
--- the same by rank r among the eight words from word k on, of which some may miss: WrongTables where more words follow
+-- the same by rank r among the eight words from word k on, of which some may miss: Wrong where more words follow
 -- and no more than r bits v stand before them
-abbrev pub IsSelectedFrom : List ℕ → Bool → ℕ → ℕ → Selected → Type 0
+abbrev pub IsSelectedFrom : List ℕ → Bool → ℕ → ℕ → Answer ℕ → Type 0
 IsSelectedFrom words v k r (Found p) = Picks (bits_of words) v r p
 IsSelectedFrom words v k r Absent = count_of (bits_of words) v ≤ r
-IsSelectedFrom words v k r WrongTables = (k + 8 < length words) × (ones_before (sought_bits v (bits_of words)) (64 * (k + 8)) ≤ r)
+IsSelectedFrom words v k r Wrong = (k + 8 < length words) × (ones_before (sought_bits v (bits_of words)) (64 * (k + 8)) ≤ r)
 
 -- n tells the place with bit v and r such bits before it. Whatever the tables hold, below 2^64 - 2 it is a place with
 -- bit v, and it is 2^64 - 1 only where tables and words tell no more than r of them; where they are right it is

@@ -4,8 +4,8 @@ use Rattle.bit_lists.specs.Count.{count_before, count_of}
 use Rattle.bitm_tables.specs.Entry.{field_0, greatest_entry, record_field}
 pub use Rattle.bitm_tables.specs.Entry.{less}
 use Rattle.bitm_tables.specs.Tables.{Lists, bits_in}
-use Rattle.bitm_search.specs.declared.search.selected.Selected.{Selected}
-use Rattle.bitm_search.specs.declared.search.selected.Selected.TheVariants.{Found, Absent, WrongTables}
+use Rattle.bitm_tables.specs.declared.answer.Answer.{Answer}
+use Rattle.bitm_tables.specs.declared.answer.Answer.TheVariants.{Found, Absent, Wrong}
 
 -- how many bits v the upper table tells before a part
 abbrev pub told_part : Bool → Lists → ℕ → ℕ
@@ -49,13 +49,13 @@ pub record TellsNone (v : Bool) (lists : Lists) (r : ℕ) : Type 0 where
       + count_from_word lists v (32 * (length lists.lower - 1) + 8 * k) ≤ r
 
 -- where Absent is answered, P
-abbrev pub IfAbsent : Selected → Type 0 → Type 0
+abbrev pub IfAbsent : Answer ℕ → Type 0 → Type 0
 IfAbsent (Found p) P = ⊤
 IfAbsent Absent P = P
-IfAbsent WrongTables P = ⊤
+IfAbsent Wrong P = ⊤
 
--- the same, but WrongTables for Absent
-abbrev pub wrong_for_absent : Selected → Selected
+-- this answer, with Wrong in place of Absent
+abbrev pub wrong_for_absent : Answer ℕ → Answer ℕ
 wrong_for_absent (Found p) = Found p
-wrong_for_absent Absent = WrongTables
-wrong_for_absent WrongTables = WrongTables
+wrong_for_absent Absent = Wrong
+wrong_for_absent Wrong = Wrong

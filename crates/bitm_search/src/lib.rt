@@ -5,4 +5,4 @@
 
 pub mod search;
 
-pub use bitm_tables::{entry, levels, quarters, source, tables};
+pub use bitm_tables::{answer, entry, levels, quarters, source, tables};

@@ -4,6 +4,7 @@
 //! those of the words.
 #![tactic(auto)]
 
+pub mod answer;
 pub mod entry;
 pub mod levels;
 pub mod quarters;

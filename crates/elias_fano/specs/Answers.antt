@@ -2,35 +2,35 @@
 use Rattle.std.specs.Prelude.{◌≡◌, ⊤, ℕ, ◌<◌, ◌≤◌, List, length, slice_index}
 use Rattle.std.specs.List.{All}
 use Rattle.elias_fano.specs.Sequence.{Reaches, StaysWithin}
-use Rattle.elias_fano.specs.declared.answer.Sought.{Sought}
-use Rattle.elias_fano.specs.declared.answer.Sought.TheVariants.{Found, Absent, WrongParts}
+use Rattle.bitm.specs.Answer.{Answer}
+use Rattle.bitm.specs.Answer.TheVariants.{Found, Absent, Wrong}
 
 -- Absent exactly where item i of n is none
-abbrev pub IsOfPlace : ℕ → ℕ → Sought ℕ → Type 0
+abbrev pub IsOfPlace : ℕ → ℕ → Answer ℕ → Type 0
 IsOfPlace n i (Found x) = i < n
 IsOfPlace n i Absent = n ≤ i
-IsOfPlace n i WrongParts = i < n
+IsOfPlace n i Wrong = i < n
 
 -- item i, and Absent exactly where there is none
-abbrev pub IsItem : List ℕ → ℕ → Sought ℕ → Type 0
+abbrev pub IsItem : List ℕ → ℕ → Answer ℕ → Type 0
 IsItem xs i (Found x) = (i < length xs) × (x ≡ slice_index xs i)
 IsItem xs i Absent = length xs ≤ i
-IsItem xs i WrongParts = ⊥
+IsItem xs i Wrong = ⊥
 
 -- a place that is found is one of n
-abbrev pub IsPlaceOf : ℕ → Sought ℕ → Type 0
+abbrev pub IsPlaceOf : ℕ → Answer ℕ → Type 0
 IsPlaceOf n (Found p) = p < n
 IsPlaceOf n Absent = ⊤
-IsPlaceOf n WrongParts = ⊤
+IsPlaceOf n Wrong = ⊤
 
 -- the least place whose item is at least v, and Absent exactly where each item is less
-abbrev pub IsFirst : List ℕ → ℕ → Sought ℕ → Type 0
+abbrev pub IsFirst : List ℕ → ℕ → Answer ℕ → Type 0
 IsFirst xs v (Found p) = Reaches xs v p
 IsFirst xs v Absent = All (λ x. x < v) xs
-IsFirst xs v WrongParts = ⊥
+IsFirst xs v Wrong = ⊥
 
 -- the greatest place whose item is at most v, and Absent exactly where each item is more
-abbrev pub IsLast : List ℕ → ℕ → Sought ℕ → Type 0
+abbrev pub IsLast : List ℕ → ℕ → Answer ℕ → Type 0
 IsLast xs v (Found p) = StaysWithin xs v p
 IsLast xs v Absent = All (λ x. v < x) xs
-IsLast xs v WrongParts = ⊥
+IsLast xs v Wrong = ⊥

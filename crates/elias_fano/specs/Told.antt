@@ -5,8 +5,8 @@ use Rattle.bitm.specs.Tables.{Lists, bits_in}
 use Rattle.bitm_search.specs.Told.{less, TellsNone}
 use Rattle.elias_fano.specs.LentParts.{LentParts}
 use Rattle.elias_fano.specs.Low.{fragment, unread}
-use Rattle.elias_fano.specs.declared.answer.Sought.{Sought}
-use Rattle.elias_fano.specs.declared.answer.Sought.TheVariants.{Found, Absent, WrongParts}
+use Rattle.bitm.specs.Answer.{Answer}
+use Rattle.bitm.specs.Answer.TheVariants.{Found, Absent, Wrong}
 
 -- a zero of the words stands c places after z, as numbers of 64 bits
 pub record HasZeroAfter (lists : Lists) (z c : ℕ) : Type 0 where
@@ -50,13 +50,13 @@ pub record TellsAtMost (parts : LentParts) (v p : ℕ) : Type 0 where
   pub greatest : 2 ^ 64 ≤ v + 1 → p ≡ parts.len
 
 -- what is told of the place that is found, and of place n where Absent is answered
-abbrev pub IfPlace : ℕ → Sought ℕ → (ℕ → Type 0) → Type 0
+abbrev pub IfPlace : ℕ → Answer ℕ → (ℕ → Type 0) → Type 0
 IfPlace n (Found p) P = P p
 IfPlace n Absent P = P n
-IfPlace n WrongParts P = ⊤
+IfPlace n Wrong P = ⊤
 
 -- what is told of how many there are up to the place that is found, and of 0 where Absent is answered
-abbrev pub IfLast : Sought ℕ → (ℕ → Type 0) → Type 0
+abbrev pub IfLast : Answer ℕ → (ℕ → Type 0) → Type 0
 IfLast (Found p) P = P (p + 1)
 IfLast Absent P = P 0
-IfLast WrongParts P = ⊤
+IfLast Wrong P = ⊤

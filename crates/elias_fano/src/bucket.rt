@@ -11,7 +11,7 @@ ghost use Rattle.elias_fano.specs.Low.{sharing, ReadsFragments};
 ghost use Rattle.elias_fano.specs.Parts.{IsUpper};
 ghost use Rattle.elias_fano.specs.Sequence.{IsFirstAtLeast};
 
-use crate::answer::Sought;
+use bitm::Answer;
 use crate::low::LowDigits;
 use crate::searching::{count_at_zero, count_to, place_in_bucket};
 use bitm::{TableSource, index_laws, words};
@@ -139,8 +139,8 @@ pub(crate) fn first_from_on<T: TableSource>(
         return None;
     };
     match place_in_bucket(low, n, first, end, v) {
-        Sought::Found(place) => Some(place),
-        Sought::Absent => None,
-        Sought::WrongParts => None,
+        Answer::Found(place) => Some(place),
+        Answer::Absent => None,
+        Answer::Wrong => None,
     }
 }

@@ -7,10 +7,9 @@ ghost use Rattle.elias_fano.specs.LentParts.{parts_of, parts_with, AreParts, Hol
 ghost use Rattle.elias_fano.specs.Low.{sharing, ReadsFragments};
 ghost use Rattle.elias_fano.specs.Sequence.{IsFirstAtLeast, IsLastAtMost, ReachesTo};
 
-use crate::answer::Sought;
 use crate::low::LowDigits;
 use crate::searching::{first_on, item_at_one, total_item_on};
-use bitm::{Selected, TableSource, index_laws, total_select_on};
+use bitm::{Answer, TableSource, index_laws, total_select_on};
 
 /// Number `at` of a sequence.
 #[inline(always)]
@@ -25,8 +24,8 @@ fn item_on<T: TableSource>(source: &mut T, low: &mut LowDigits<'_>, n: usize, at
 {
     index_laws::tables_have_sizes();
     match total_item_on(source, low, n, at) {
-        Sought::Found(item) => item,
-        Sought::Absent | Sought::WrongParts => unreachable!(),
+        Answer::Found(item) => item,
+        Answer::Absent | Answer::Wrong => unreachable!(),
     }
 }
 
@@ -44,14 +43,14 @@ fn only_reaches<T: TableSource>(source: &mut T, low: &mut LowDigits<'_>, v: u64)
     index_laws::tables_have_sizes();
     let above = (v >> low.width()) as usize;
     match total_select_on::<1, T>(source, 0) {
-        Selected::Found(place) => {
+        Answer::Found(place) => {
             if place == above {
                 item_at_one(place, low, 0) >= v
             } else {
                 place > above
             }
         }
-        Selected::Absent | Selected::WrongTables => unreachable!(),
+        Answer::Absent | Answer::Wrong => unreachable!(),
     }
 }
 
@@ -98,9 +97,9 @@ pub fn first_at_least_on<T: TableSource>(
         };
     }
     match first_on::<0, T>(source, low, n, v) {
-        Sought::Found(place) => Some(place),
-        Sought::Absent => None,
-        Sought::WrongParts => None,
+        Answer::Found(place) => Some(place),
+        Answer::Absent => None,
+        Answer::Wrong => None,
     }
 }
 

@@ -10,7 +10,7 @@ ghost use Rattle.elias_fano.specs.Low.{sharing, ReadsFragments};
 ghost use Rattle.elias_fano.specs.Sequence.{ReachesTo};
 ghost use Rattle.elias_fano.specs.Told.{IfLast, TellsAtMost, TellsLess};
 
-use crate::answer::Sought;
+use bitm::Answer;
 use crate::low::LowDigits;
 use crate::searching::{total_first_at_least_on, total_item_on};
 use bitm::TableSource;
@@ -41,9 +41,9 @@ fn count_at_most<T: TableSource>(
         return Some(n);
     }
     match total_first_at_least_on(source, low, n, v + 1) {
-        Sought::Found(place) => Some(place),
-        Sought::Absent => Some(n),
-        Sought::WrongParts => None,
+        Answer::Found(place) => Some(place),
+        Answer::Absent => Some(n),
+        Answer::Wrong => None,
     }
 }
 
@@ -52,7 +52,7 @@ fn count_at_most<T: TableSource>(
 ///
 /// Whatever the parts hold, a place that is found is below `n`, and the parts tell (`TellsAtMost`) that the numbers up
 /// to `v` end behind it, or at place 0 for `Absent`. Where they are those of a sequence, with the tables of its upper
-/// words, it is the right one, `Absent` is answered exactly where each number is more, and `WrongParts` never.
+/// words, it is the right one, `Absent` is answered exactly where each number is more, and `Wrong` never.
 ///
 /// # Conditions
 /// As of `total_item_on`.
@@ -63,7 +63,7 @@ pub fn total_last_at_most_on<T: TableSource>(
     low: &mut LowDigits<'_>,
     n: usize,
     v: u64,
-) -> Sought<usize>
+) -> Answer<usize>
     requires lengths { HasLengths (parts_with n low.old (T.lists source.old)) }
     requires sized { HasSizes (T.lists source.old) }
     ensures inside { IsPlaceOf n result }
@@ -77,9 +77,9 @@ pub fn total_last_at_most_on<T: TableSource>(
         → ReadsFragments low.old low.new (digit_count (sharing xs low.old.width (v + 1))) }
 {
     match count_at_most(source, low, n, v) {
-        Some(0) => Sought::Absent,
-        Some(count) => Sought::Found(count - 1),
-        None => Sought::WrongParts,
+        Some(0) => Answer::Absent,
+        Some(count) => Answer::Found(count - 1),
+        None => Answer::Wrong,
     }
 }
 
@@ -111,12 +111,12 @@ pub fn total_contains_on<T: TableSource>(
         → ReadsFragments low.old low.new (digit_count (sharing xs low.old.width v) + 1) }
 {
     match total_first_at_least_on(source, low, n, v) {
-        Sought::Found(place) => match total_item_on(source, low, n, place) {
-            Sought::Found(item) => Some(item == v),
-            Sought::Absent => None,
-            Sought::WrongParts => None,
+        Answer::Found(place) => match total_item_on(source, low, n, place) {
+            Answer::Found(item) => Some(item == v),
+            Answer::Absent => None,
+            Answer::Wrong => None,
         },
-        Sought::Absent => Some(false),
-        Sought::WrongParts => None,
+        Answer::Absent => Some(false),
+        Answer::Wrong => None,
     }
 }

@@ -14,9 +14,8 @@ ghost use Rattle.elias_fano.specs.Low.{fragment, joined_item, sharing, HasFragme
 ghost use Rattle.elias_fano.specs.Parts.{ArePartsOf, HasFragment, HasOneAt, IsUpper};
 ghost use Rattle.elias_fano.specs.Told.{IfPlace, PartsAt, TellsBelow, TellsLess, TellsTo};
 
-use crate::answer::Sought;
 use crate::low::LowDigits;
-use bitm::{Selected, TableSource, n_lowest_bits, total_select_on};
+use bitm::{Answer, TableSource, n_lowest_bits, total_select_on};
 use bitm_search::search::many::ByTables;
 use bitm_search::search::selecting::search_on;
 
@@ -60,7 +59,7 @@ pub fn item_at_one(place: usize, low: &mut LowDigits<'_>, at: usize) -> u64
 /// Number `at` of the `n` numbers whose parts are the low digits and the source's words.
 ///
 /// Whatever the parts hold, `Absent` is answered exactly where there is no such number. Where they are those of a
-/// sequence, with the tables of its upper words, the number is the right one, and `WrongParts` is never answered.
+/// sequence, with the tables of its upper words, the number is the right one, and `Wrong` is never answered.
 ///
 /// # Conditions
 /// There are fewer than 2^56 numbers and at most 63 low digits, and as many low words as these take; there are fewer
@@ -74,7 +73,7 @@ pub fn total_item_on<T: TableSource>(
     low: &mut LowDigits<'_>,
     n: usize,
     at: usize,
-) -> Sought<u64>
+) -> Answer<u64>
     requires lengths { HasLengths (parts_with n low.old (T.lists source.old)) }
     requires sized { HasSizes (T.lists source.old) }
     ensures inside { IsOfPlace n at result }
@@ -85,12 +84,12 @@ pub fn total_item_on<T: TableSource>(
     ensures fragments { ReadsFragments low.old low.new 1 }
 {
     if at >= n {
-        return Sought::Absent;
+        return Answer::Absent;
     }
     match total_select_on::<1, T>(source, at) {
-        Selected::Found(place) => Sought::Found(item_at_one(place, low, at)),
-        Selected::Absent => Sought::WrongParts,
-        Selected::WrongTables => Sought::WrongParts,
+        Answer::Found(place) => Answer::Found(item_at_one(place, low, at)),
+        Answer::Absent => Answer::Wrong,
+        Answer::Wrong => Answer::Wrong,
     }
 }
 
@@ -125,9 +124,9 @@ pub(crate) fn count_to<const TESTS: u8, T: TableSource>(
         (digit_count (length (T.lists source.old).upper) + 1) 23 8 }
 {
     match search_on::<0, TESTS, T, ByTables>(source, &ByTables, above) {
-        Selected::Found(place) => count_at_zero(place, above, n),
-        Selected::Absent => Some(n),
-        Selected::WrongTables => None,
+        Answer::Found(place) => count_at_zero(place, above, n),
+        Answer::Absent => Some(n),
+        Answer::Wrong => None,
     }
 }
 
@@ -207,7 +206,7 @@ pub fn place_in_bucket(
     first: usize,
     end: usize,
     v: u64,
-) -> Sought<usize>
+) -> Answer<usize>
     requires some { HasFragments low.old n }
     requires end { end ≤ n }
     ensures inside { IsPlaceOf n result }
@@ -221,14 +220,14 @@ pub fn place_in_bucket(
         → ReadsFragments low.old low.new (digit_count (sharing xs low.old.width v)) }
 {
     if end < first {
-        return Sought::WrongParts;
+        return Answer::Wrong;
     }
     let rest = v & n_lowest_bits(low.width());
     let place = split_low(low, first, end, rest);
     if place < n {
-        Sought::Found(place)
+        Answer::Found(place)
     } else {
-        Sought::Absent
+        Answer::Absent
     }
 }
 
@@ -240,7 +239,7 @@ pub(crate) fn first_on<const TESTS: u8, T: TableSource>(
     low: &mut LowDigits<'_>,
     n: usize,
     v: u64,
-) -> Sought<usize>
+) -> Answer<usize>
     requires lengths { HasLengths (parts_with n low.old (T.lists source.old)) }
     requires sized { HasSizes (T.lists source.old) }
     ensures inside { IsPlaceOf n result }
@@ -257,13 +256,13 @@ pub(crate) fn first_on<const TESTS: u8, T: TableSource>(
     let width = low.width();
     let above = (v >> width) as usize;
     let Some(first) = count_below::<TESTS, T>(source, above, n) else {
-        return Sought::WrongParts;
+        return Answer::Wrong;
     };
     if width == 0 {
         return place_in_bucket(low, n, first, n, v);
     }
     let Some(end) = count_to::<TESTS, T>(source, above, n) else {
-        return Sought::WrongParts;
+        return Answer::Wrong;
     };
     place_in_bucket(low, n, first, end, v)
 }
@@ -273,7 +272,7 @@ pub(crate) fn first_on<const TESTS: u8, T: TableSource>(
 ///
 /// Whatever the parts hold, a place that is found is below `n`, and the parts tell (`TellsLess`) that the numbers less
 /// than `v` end there, or at `n` for `Absent`. Where they are those of a sequence, with the tables of its upper words,
-/// it is the right one, `Absent` is answered exactly where each number is less, and `WrongParts` never.
+/// it is the right one, `Absent` is answered exactly where each number is less, and `Wrong` never.
 ///
 /// # Conditions
 /// As of `total_item_on`.
@@ -287,7 +286,7 @@ pub fn total_first_at_least_on<T: TableSource>(
     low: &mut LowDigits<'_>,
     n: usize,
     v: u64,
-) -> Sought<usize>
+) -> Answer<usize>
     requires lengths { HasLengths (parts_with n low.old (T.lists source.old)) }
     requires sized { HasSizes (T.lists source.old) }
     ensures inside { IsPlaceOf n result }

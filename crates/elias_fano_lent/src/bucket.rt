@@ -15,7 +15,7 @@ ghost use Rattle.elias_fano_lent.specs.Told.{IfPlace, TellsBelow, TellsLess, Tel
 
 use bitm_lent::{NO_ANSWER, WRONG_TABLES};
 use elias_fano::building::{count_at_zero, place_in_bucket};
-use elias_fano::{LowDigits, Sought};
+use elias_fano::{Answer, LowDigits};
 
 /// Writes what each value says above its low digits, `less` below that, and 0 where that is less.
 #[inline(always)]
@@ -77,7 +77,7 @@ pub(crate) fn place_of(
     v: u64,
     begin: usize,
     end: usize,
-) -> Sought<usize>
+) -> Answer<usize>
     requires { HasFragments low.old n }
     ensures inside { IsPlaceOf n result }
     ensures told { (upper : Lists) → EndsTold (parts_with n low.old upper) v begin end
@@ -92,13 +92,13 @@ pub(crate) fn place_of(
     let width = low.width();
     let above = (v >> width) as usize;
     let Some(first) = count_below(begin, above, n) else {
-        return Sought::WrongParts;
+        return Answer::Wrong;
     };
     if width == 0 {
         return place_in_bucket(low, n, first, n, v);
     }
     let Some(last) = count_to(end, above, n) else {
-        return Sought::WrongParts;
+        return Answer::Wrong;
     };
     place_in_bucket(low, n, first, last, v)
 }

@@ -26,7 +26,7 @@ mod lists;
 mod sequence;
 mod sizes;
 
-pub use elias_fano::{Sought, total_first_at_least_on, total_item_on};
+pub use elias_fano::{Answer, total_first_at_least_on, total_item_on};
 pub use error::BuildError;
 pub use filling::build;
 pub use lists::ListAnswer;

@@ -7,7 +7,7 @@ ghost use Rattle.elias_fano_lent.specs.Lists.{PlaceTold};
 use crate::sequence::LentSequence;
 use bitm_lent::{NO_ANSWER, WRONG_TABLES};
 use bitm_search::search::many::SIDE_BY_SIDE;
-use elias_fano::Sought;
+use elias_fano::Answer;
 
 /// How far a list of places was answered.
 #[derive(Clone, Copy, PartialEq, Eq, Debug)]
@@ -40,16 +40,16 @@ impl<'a> LentSequence<'a> {
         for at in 0..places.len() {
             self.select_ahead(places, at, &mut ones);
             match self.item_told(places[at], ones[at % SIDE_BY_SIDE]) {
-                Sought::Found(number) => out[at] = number,
-                Sought::Absent => return ListAnswer::AbsentAt(at),
-                Sought::WrongParts => return ListAnswer::WrongAt(at),
+                Answer::Found(number) => out[at] = number,
+                Answer::Absent => return ListAnswer::AbsentAt(at),
+                Answer::Wrong => return ListAnswer::WrongAt(at),
             }
         }
         ListAnswer::All
     }
 
     /// Writes the place of the first number that is at least each value, as `first_at_least` answers it where the parts
-    /// are those of a sequence, `NO_ANSWER` for `Absent` and `WRONG_TABLES` for `WrongParts`. In other parts it may be
+    /// are those of a sequence, `NO_ANSWER` for `Absent` and `WRONG_TABLES` for `Wrong`. In other parts it may be
     /// another place than `first_at_least` finds. Answers false exactly where there is not room for as many places as
     /// values, and nothing is written then.
     pub fn first_at_least_list(&self, values: &[u64], out: &mut [usize]) -> bool
@@ -81,9 +81,9 @@ impl<'a> LentSequence<'a> {
     {
         let _ = self.len(); // its clause makes the limit of the length known to the proof
         match self.place_told(v, begin, end) {
-            Sought::Found(place) => place,
-            Sought::Absent => NO_ANSWER,
-            Sought::WrongParts => WRONG_TABLES,
+            Answer::Found(place) => place,
+            Answer::Absent => NO_ANSWER,
+            Answer::Wrong => WRONG_TABLES,
         }
     }
 }

@@ -18,12 +18,12 @@ use crate::checking::are_parts;
 use bitm_lent::{Lent, WRONG_TABLES};
 use bitm_search::search::many::SIDE_BY_SIDE;
 use elias_fano::building::item_at_one;
-use elias_fano::{LowDigits, Sought, total_first_at_least_on, total_item_on};
+use elias_fano::{Answer, LowDigits, total_first_at_least_on, total_item_on};
 use std::marker::Model;
 
 /// Number `place` of `n`, of which a list of selections tells the one: at most one fragment of the low digits.
 #[inline(always)]
-fn item_of(low: &mut LowDigits<'_>, n: usize, place: usize, one: usize) -> Sought<u64>
+fn item_of(low: &mut LowDigits<'_>, n: usize, place: usize, one: usize) -> Answer<u64>
     requires { place < n → HasFragment low.old.words place low.old.width }
     ensures inside { IsOfPlace n place result }
     ensures answer { (xs : List ℕ) (upper : Lists) → Holds xs (parts_with n low.old upper)
@@ -31,12 +31,12 @@ fn item_of(low: &mut LowDigits<'_>, n: usize, place: usize, one: usize) -> Sough
     ensures fragments { ReadsFragments low.old low.new 1 }
 {
     if place >= n {
-        return Sought::Absent;
+        return Answer::Absent;
     }
     if one >= WRONG_TABLES {
-        return Sought::WrongParts;
+        return Answer::Wrong;
     }
-    Sought::Found(item_at_one(one, low, place))
+    Answer::Found(item_at_one(one, low, place))
 }
 
 /// The parts of a sequence, all lent, of which the lengths are right.
@@ -174,7 +174,7 @@ impl<'a> LentSequence<'a> {
 
     /// Number `place`, of which a list of selections tells the one.
     #[inline(always)]
-    pub(crate) fn item_told(&self, place: usize, one: usize) -> Sought<u64>
+    pub(crate) fn item_told(&self, place: usize, one: usize) -> Answer<u64>
         requires { SelectTold true self.now.upper place one }
         ensures inside { IsOfPlace self.now.len place result }
         ensures answer { (xs : List ℕ) → Holds xs self.now → IsItem xs place result }
@@ -184,7 +184,7 @@ impl<'a> LentSequence<'a> {
 
     /// The least place whose number is at least `v`, of which lists of selections tell the ends of the bucket.
     #[inline(always)]
-    pub(crate) fn place_told(&self, v: u64, begin: usize, end: usize) -> Sought<usize>
+    pub(crate) fn place_told(&self, v: u64, begin: usize, end: usize) -> Answer<usize>
         requires { EndsTold self.now v begin end }
         ensures inside { IsPlaceOf self.now.len result }
         ensures told { IfPlace self.now.len result (TellsLess self.now v) }
@@ -198,7 +198,7 @@ impl<'a> LentSequence<'a> {
     /// # Cost
     /// That of `total_item_on`: one selection, and at most one fragment of the low digits.
     #[inline(always)]
-    pub fn get(&self, i: usize) -> Sought<u64>
+    pub fn get(&self, i: usize) -> Answer<u64>
         ensures inside { IsOfPlace self.now.len i result }
         ensures answer { (xs : List ℕ) → Holds xs self.now → IsItem xs i result }
     {
@@ -206,13 +206,13 @@ impl<'a> LentSequence<'a> {
     }
 
     /// The least place whose number is at least `v`, where the parts are those of a sequence, and `Absent` exactly
-    /// where each number is less. Whatever they hold, `WrongParts` is answered, or the parts tell that so many numbers
+    /// where each number is less. Whatever they hold, `Wrong` is answered, or the parts tell that so many numbers
     /// are less than `v`: those before the place, or all for `Absent`.
     ///
     /// # Cost
     /// That of `total_first_at_least_on`.
     #[inline]
-    pub fn first_at_least(&self, v: u64) -> Sought<usize>
+    pub fn first_at_least(&self, v: u64) -> Answer<usize>
         ensures inside { IsPlaceOf self.now.len result }
         ensures told { IfPlace self.now.len result (TellsLess self.now v) }
         ensures answer { (xs : List ℕ) → Holds xs self.now → IsFirst xs v result }

@@ -1,25 +1,25 @@
 -- What a search for the one of a hash answers.
 use Rattle.std.specs.Prelude.{◌≡◌, ⊤, ℕ, ◌<◌, ◌≤◌, List, All, sum, Option, Some, None}
-use Rattle.bitm.specs.Selected.{Selected}
-use Rattle.bitm.specs.Selected.TheVariants.{Found, Absent, WrongTables}
+use Rattle.bitm.specs.Answer.{Answer}
+use Rattle.bitm.specs.Answer.TheVariants.{Found, Absent, Wrong}
 
 -- the place, and Absent exactly where there is none
-abbrev pub IsPlaced : Option ℕ → Selected → Type 0
+abbrev pub IsPlaced : Option ℕ → Answer ℕ → Type 0
 IsPlaced place (Found p) = place ≡ Some p
 IsPlaced place Absent = place ≡ None
-IsPlaced place WrongTables = ⊥
+IsPlaced place Wrong = ⊥
 
 -- what is known where Absent is answered
-abbrev pub WhereAbsent : Selected → Type 0 → Type 0
+abbrev pub WhereAbsent : Answer ℕ → Type 0 → Type 0
 WhereAbsent (Found p) known = ⊤
 WhereAbsent Absent known = known
-WhereAbsent WrongTables known = ⊤
+WhereAbsent Wrong known = ⊤
 
--- what is known where WrongTables is answered
-abbrev pub WhereWrong : Selected → Type 0 → Type 0
+-- what is known where Wrong is answered
+abbrev pub WhereWrong : Answer ℕ → Type 0 → Type 0
 WhereWrong (Found p) known = ⊤
 WhereWrong Absent known = ⊤
-WhereWrong WrongTables known = known
+WhereWrong Wrong known = known
 
 -- levels of these sizes, each of which has a word, stand in so many words
 pub record FitIn (words : ℕ) (sizes : List ℕ) : Type 0 where

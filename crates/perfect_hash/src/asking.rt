@@ -12,8 +12,8 @@ ghost use Rattle.perfect_hash.specs.Places.{place_in};
 ghost use Rattle.perfect_hash.specs.Placed.{FitIn, IsPlaced, WhereAbsent, WhereWrong};
 
 use crate::placing::{Placing, Plain, no_reads};
-use bitm::{ReadCounts, Selected, TableSource, rank_on, total_rank_on, words};
-use bitm_lent::Ranked;
+use bitm::{Answer, ReadCounts, TableSource, rank_on, total_rank_on, words};
+use bitm_lent::Answer;
 
 /// Whether the bit at `place` of the source's words is a one.
 ///
@@ -32,7 +32,7 @@ fn is_one_on<T: TableSource>(source: &mut T, place: usize) -> bool
     words::get_bit(&[source.word(place / 64)], place % 64)
 }
 
-/// The place of the one that a hash falls on, in the first of the levels where it falls on one; `WrongTables` where the
+/// The place of the one that a hash falls on, in the first of the levels where it falls on one; `Wrong` where the
 /// sizes turn out not to be those of levels.
 #[inline(always)]
 fn place_on<T: TableSource, P: Placing>(
@@ -41,7 +41,7 @@ fn place_on<T: TableSource, P: Placing>(
     sizes: &[usize],
     hash: u64,
     reads: &mut ReadCounts,
-) -> Selected
+) -> Answer<usize>
     requires short { IsShort (T.lists source.old).words }
     requires few { length sizes.now ≤ 256 }
     ensures one { HasBit (bits_in (T.lists source.old)) true result }
@@ -65,20 +65,20 @@ fn place_on<T: TableSource, P: Placing>(
     let mut begin = 0;
     for (level, size) in sizes.iter().enumerate() {
         if *size == 0 || *size > source.words_len() - begin {
-            return Selected::WrongTables;
+            return Answer::Wrong;
         }
         let place = 64 * begin + placing.place(begin, hash, level as u32, *size, &mut *reads);
         if is_one_on(source, place) {
-            return Selected::Found(place);
+            return Answer::Found(place);
         }
         begin += *size;
     }
-    Selected::Absent
+    Answer::Absent
 }
 
 /// The number of a hash over any source, whatever words, tables and sizes hold: `Count` of a number below `count`,
-/// `Absent` only where the sizes are those of levels in these words and the hash falls on no one, or `WrongTables`. Where the tables are those of the words, and these those
-/// of levels of these sizes with no more ones than `count`, the number is right, and `WrongTables` is never answered.
+/// `Absent` only where the sizes are those of levels in these words and the hash falls on no one, or `Wrong`. Where the tables are those of the words, and these those
+/// of levels of these sizes with no more ones than `count`, the number is right, and `Wrong` is never answered.
 ///
 /// # Conditions
 /// There are fewer than 2^58 words, the tables have the right lengths, and there are no more than 256 sizes.
@@ -90,7 +90,7 @@ pub fn total_number_on<T: TableSource>(
     sizes: &[usize],
     count: usize,
     hash: u64,
-) -> Ranked
+) -> Answer<usize>
     requires sized { HasSizes (T.lists source.old) }
     requires few { length sizes.now ≤ 256 }
     ensures below { IsBelow count result }
@@ -103,12 +103,12 @@ pub fn total_number_on<T: TableSource>(
     ensures reads { OnlyReads T.lists T.reads source.old source.new 1 1 (length sizes.now + 8) }
 {
     match place_on(source, &Plain, sizes, hash, &mut no_reads()) {
-        Selected::Found(place) => match total_rank_on(source, place) {
-            Some(number) if number < count => Ranked::Count(number),
-            _ => Ranked::WrongTables,
+        Answer::Found(place) => match total_rank_on(source, place) {
+            Some(number) if number < count => Answer::Found(number),
+            _ => Answer::Wrong,
         },
-        Selected::Absent => Ranked::Absent,
-        Selected::WrongTables => Ranked::WrongTables,
+        Answer::Absent => Answer::Absent,
+        Answer::Wrong => Answer::Wrong,
     }
 }
 
@@ -156,8 +156,8 @@ pub(crate) fn number_by_on<T: TableSource, P: Placing>(
         + P.seeds_each * looked (fall_in (P.fall placing.now) sizes.now hash) b 0 0 sizes.now }
 {
     match place_on(source, placing, sizes, hash, reads) {
-        Selected::Found(place) => rank_on(source, place),
-        Selected::Absent => None,
-        Selected::WrongTables => unreachable!(),
+        Answer::Found(place) => rank_on(source, place),
+        Answer::Absent => None,
+        Answer::Wrong => unreachable!(),
     }
 }

@@ -5,7 +5,7 @@ ghost use Rattle.bitm.specs.Count.{IsSelect};
 ghost use Rattle.bitm.specs.Tables.{HasSizes, HasTables};
 ghost use Rattle.bitm_lent.specs.Sizes.{lists_of};
 
-use bitm_lent::{Lent, Selected, build};
+use bitm_lent::{Answer, Lent, build};
 
 /// Makes the tables those of the words, unless they are; false exactly where their lengths are not right.
 pub fn repair(words: &[u64], upper: &mut [usize], lower: &mut [u64]) -> bool
@@ -36,9 +36,9 @@ pub fn select(words: &[u64], upper: &mut [usize], lower: &mut [u64], rank: usize
         unreachable!()
     };
     match lent.select::<1>(rank) {
-        Selected::Found(place) => Some(place),
-        Selected::Absent => None,
+        Answer::Found(place) => Some(place),
+        Answer::Absent => None,
         // No right tables are called wrong.
-        Selected::WrongTables => unreachable!(),
+        Answer::Wrong => unreachable!(),
     }
 }

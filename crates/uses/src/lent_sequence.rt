@@ -3,7 +3,7 @@ ghost use Rattle.std.specs.Prelude.{◌≡◌, ◌<◌, ◌≤◌, ◌↔◌, �
 ghost use Rattle.std.specs.List.{All, Contains};
 ghost use Rattle.elias_fano_lent.specs.LentParts.{AreParts, Holds};
 
-use elias_fano_lent::{LentSequence, Sought};
+use elias_fano_lent::{Answer, LentSequence};
 
 /// The parts are those of no sequence.
 #[derive(Clone, Copy, Debug, PartialEq, Eq)]
@@ -23,14 +23,14 @@ pub fn least_from(sequence: &LentSequence<'_>, v: u64) -> Result<Option<u64>, No
         return Err(NoSequence);
     }
     let place = match sequence.first_at_least(v) {
-        Sought::Found(place) => place,
-        Sought::Absent => return Ok(None),
+        Answer::Found(place) => place,
+        Answer::Absent => return Ok(None),
         // No parts that were tried are called wrong.
-        Sought::WrongParts => unreachable!(),
+        Answer::Wrong => unreachable!(),
     };
     match sequence.get(place) {
-        Sought::Found(number) => Ok(Some(number)),
-        Sought::Absent => unreachable!(),
-        Sought::WrongParts => unreachable!(),
+        Answer::Found(number) => Ok(Some(number)),
+        Answer::Absent => unreachable!(),
+        Answer::Wrong => unreachable!(),
     }
 }

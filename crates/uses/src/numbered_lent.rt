@@ -5,7 +5,7 @@ ghost use Rattle.bitm.specs.Count.{ones_of};
 ghost use Rattle.bitm.specs.Tables.{bits_in, HasTables};
 ghost use Rattle.perfect_hash.specs.Parts.{number_by, AreSizes};
 
-use bitm_lent::{Lent, Ranked};
+use bitm_lent::{Answer, Lent};
 use perfect_hash::total_number_on;
 
 /// The value at the number of a hash. Whatever words, tables and sizes hold, that number is one of a value.
@@ -18,7 +18,7 @@ pub fn value_of_hash(lent: &Lent<'_>, sizes: &[usize], values: &[u64], hash: u64
         return None;
     }
     match total_number_on(&mut lent.probe(), sizes, values.len(), hash) {
-        Ranked::Count(number) => Some(values[number]),
-        Ranked::Absent | Ranked::WrongTables => None,
+        Answer::Found(number) => Some(values[number]),
+        Answer::Absent | Answer::Wrong => None,
     }
 }

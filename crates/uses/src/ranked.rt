@@ -3,7 +3,7 @@ ghost use Rattle.std.specs.Prelude.{◌≡◌, ◌<◌, ◌≤◌, Some, None, l
 ghost use Rattle.bitm.specs.Count.{ones_before};
 ghost use Rattle.bitm.specs.Tables.{HasTables, bits_in};
 
-use bitm_lent::{Lent, Ranked};
+use bitm_lent::{Answer, Lent};
 
 /// The item of an array of one's own at the rank of a place, by tables that may be wrong; the array has an item for
 /// each bit and one more. `None` where there are fewer bits, or the tables are wrong.
@@ -15,7 +15,7 @@ pub fn item_at_rank(lent: &Lent<'_>, place: usize, items: &[u64]) -> Option<u64>
 {
     match lent.rank::<1>(place) {
         // No count is above its place, whatever the tables hold.
-        Ranked::Count(count) => Some(items[count]),
-        Ranked::Absent | Ranked::WrongTables => None,
+        Answer::Found(count) => Some(items[count]),
+        Answer::Absent | Answer::Wrong => None,
     }
 }

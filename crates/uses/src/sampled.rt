@@ -5,7 +5,7 @@ ghost use Rattle.bitm.specs.Tables.{HasTables, bits_in};
 ghost use Rattle.bitm_lent.specs.Answers.{IsSelected};
 ghost use Rattle.bitm_lent.specs.Samples.{HasRoom};
 
-use bitm_lent::{Lent, LentSamples, Selected};
+use bitm_lent::{Answer, Lent, LentSamples};
 
 /// The place of the one with `rank` ones before it, by samples of whatever words: they make it no other place.
 pub fn select(lent: &Lent<'_>, samples: &LentSamples<'_>, rank: usize) -> Option<usize>
@@ -13,14 +13,14 @@ pub fn select(lent: &Lent<'_>, samples: &LentSamples<'_>, rank: usize) -> Option
     ensures { IsSelect (bits_in lent.now) true rank result }
 {
     match lent.sampled_select::<1>(samples, rank) {
-        Selected::Found(place) => Some(place),
-        Selected::Absent => None,
+        Answer::Found(place) => Some(place),
+        Answer::Absent => None,
         // No right tables are called wrong.
-        Selected::WrongTables => unreachable!(),
+        Answer::Wrong => unreachable!(),
     }
 }
 
-/// Makes samples of ones, one for each 2^`log2`, and answers one selection by them: `WrongTables` only where there is
+/// Makes samples of ones, one for each 2^`log2`, and answers one selection by them: `Wrong` only where there is
 /// no room for them.
 pub fn sample_and_select(
     lent: &Lent<'_>,
@@ -28,13 +28,13 @@ pub fn sample_and_select(
     numbers: &mut [u32],
     starts: &mut [usize],
     rank: usize,
-) -> Selected
+) -> Answer<usize>
     requires { HasTables lent.now }
     ensures { HasRoom lent.now log2 numbers.old starts.old
         → IsSelected (bits_in lent.now) true rank result }
 {
     let Some(used) = lent.build_samples::<1>(log2, &mut *numbers, &mut *starts) else {
-        return Selected::WrongTables;
+        return Answer::Wrong;
     };
     let samples = LentSamples {
         samples: &numbers[..used],

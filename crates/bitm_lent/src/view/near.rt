@@ -5,56 +5,55 @@ ghost use Rattle.bitm_search.specs.Answers.{HasBit, IsFoundFrom};
 ghost use Rattle.bitm_search.specs.Tables.{HasTables};
 ghost use Rattle.bitm_lent.specs.Cut.{bits_of_cut, Cut, IsWithin};
 ghost use Rattle.bitm_lent.specs.Queries.{IsNext, IsPrevious, NextIn, PreviousIn, RanksIn, SelectsIn};
-ghost use Rattle.bitm_lent.specs.declared.ranked.Ranked.TheVariants as Rank;
+ghost use Rattle.bitm.specs.Answer.TheVariants.{Found, Absent, Wrong};
 
-use crate::ranked::Ranked;
+use bitm_search::answer::Answer;
 use crate::view::IndexView;
-use bitm_search::search::selected::Selected;
 
 /// The selected position, where it is not before `from`: else the tables are not those of the words.
 #[inline(always)]
-fn not_before(selected: Selected, from: usize) -> Selected
-    ensures { (v : Bool) (c : Cut) (r : ℕ) → IsWithin c → RanksIn v c from (Rank.Count r)
+fn not_before(selected: Answer<usize>, from: usize) -> Answer<usize>
+    ensures { (v : Bool) (c : Cut) (r : ℕ) → IsWithin c → RanksIn v c from (Found r)
         → SelectsIn v c r selected → NextIn v c from result }
 {
     match selected {
-        Selected::Found(position) => {
+        Answer::Found(position) => {
             if position < from {
-                Selected::WrongTables
+                Answer::Wrong
             } else {
-                Selected::Found(position)
+                Answer::Found(position)
             }
         }
-        Selected::Absent => Selected::Absent,
-        Selected::WrongTables => Selected::WrongTables,
+        Answer::Absent => Answer::Absent,
+        Answer::Wrong => Answer::Wrong,
     }
 }
 
 /// The selected position, where it is before `end`: else, and where none was selected, the tables are not those of the
 /// words.
 #[inline(always)]
-fn before(selected: Selected, end: usize) -> Selected
+fn before(selected: Answer<usize>, end: usize) -> Answer<usize>
     ensures { (v : Bool) (c : Cut) (from r : ℕ) → IsWithin c → end ≡ min (from + 1) c.len
-        → RanksIn v c end (Rank.Count (r + 1)) → SelectsIn v c r selected
+        → RanksIn v c end (Found (r + 1)) → SelectsIn v c r selected
         → PreviousIn v c from result }
 {
     match selected {
-        Selected::Found(position) => {
+        Answer::Found(position) => {
             if position < end {
-                Selected::Found(position)
+                Answer::Found(position)
             } else {
-                Selected::WrongTables
+                Answer::Wrong
             }
         }
-        Selected::Absent => Selected::WrongTables,
-        Selected::WrongTables => Selected::WrongTables,
+        Answer::Absent => Answer::Wrong,
+        Answer::Wrong => Answer::Wrong,
     }
 }
 
 impl<'a> IndexView<'a> {
     /// `select` in code of its own, which both neighbours share.
     #[inline(never)]
-    fn select_apart<const BIT: u8>(&self, rank: usize) -> Selected
+    fn select_apart<const BIT: u8>(&self, rank: usize) -> Answer<usize>
         ensures { SelectsIn (as_bit BIT) self.now rank result }
     {
         self.select::<BIT>(rank)
@@ -64,22 +63,22 @@ impl<'a> IndexView<'a> {
     ///
     /// Whatever the tables hold, a position that is found is in the bit vector, not before `from`, and has such a bit.
     /// Where they are those of the words it is the least one, `Absent` is answered exactly where there is none, and
-    /// `WrongTables` never.
+    /// `Wrong` never.
     ///
     /// # Cost
     /// What `rank` and `select` read.
-    pub fn next<const BIT: u8>(&self, from: usize) -> Selected
+    pub fn next<const BIT: u8>(&self, from: usize) -> Answer<usize>
         ensures bit { HasBit (bits_of_cut self.now) (as_bit BIT) result }
         ensures from { IsFoundFrom from self.now.len result }
         ensures counts { HasTables self.now.lists → IsNext (bits_of_cut self.now) (as_bit BIT) from result }
     {
         if from >= self.len {
-            return Selected::Absent;
+            return Answer::Absent;
         }
         match self.rank::<BIT>(from) {
-            Ranked::Count(rank) => not_before(self.select_apart::<BIT>(rank), from),
-            Ranked::Absent => Selected::Absent,
-            Ranked::WrongTables => Selected::WrongTables,
+            Answer::Found(rank) => not_before(self.select_apart::<BIT>(rank), from),
+            Answer::Absent => Answer::Absent,
+            Answer::Wrong => Answer::Wrong,
         }
     }
 
@@ -87,26 +86,26 @@ impl<'a> IndexView<'a> {
     ///
     /// Whatever the tables hold, a position that is found is in the bit vector, not after `from`, and has such a bit.
     /// Where they are those of the words it is the greatest one, `Absent` is answered exactly where there is none, and
-    /// `WrongTables` never.
+    /// `Wrong` never.
     ///
     /// # Cost
     /// What `rank` and `select` read.
-    pub fn previous<const BIT: u8>(&self, from: usize) -> Selected
+    pub fn previous<const BIT: u8>(&self, from: usize) -> Answer<usize>
         ensures bit { HasBit (bits_of_cut self.now) (as_bit BIT) result }
         ensures to { IsFoundFrom 0 (from + 1) result }
         ensures counts { HasTables self.now.lists → IsPrevious (bits_of_cut self.now) (as_bit BIT) from result }
     {
         let end = if from < self.len { from + 1 } else { self.len };
         match self.rank::<BIT>(end) {
-            Ranked::Count(ranks) => {
+            Answer::Found(ranks) => {
                 if ranks == 0 {
-                    Selected::Absent
+                    Answer::Absent
                 } else {
                     before(self.select_apart::<BIT>(ranks - 1), end)
                 }
             }
-            Ranked::Absent => Selected::WrongTables,
-            Ranked::WrongTables => Selected::WrongTables,
+            Answer::Absent => Answer::Wrong,
+            Answer::Wrong => Answer::Wrong,
         }
     }
 }

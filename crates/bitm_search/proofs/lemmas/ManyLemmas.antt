@@ -13,7 +13,7 @@ use Rattle.bitm_search.specs.Search.{sought_in, IsLastPart, IsLastEntry, IsPartO
 use Rattle.bitm_tables.specs.Tables.{Lists, HasSizes, HasTables, bits_in}
 use Rattle.bitm_search.specs.Told.{wrong_for_absent, IfAbsent, TellsNone}
 use Rattle.bitm_search.specs.declared.search.loaded.InRecord.{InRecord}
-use Rattle.bitm_search.specs.declared.search.selected.Selected.{Selected}
+use Rattle.bitm_tables.specs.declared.answer.Answer.{Answer}
 use Rattle.bitm_search.proofs.lemmas.MarkLemmas.{none_in_nothing}
 use Rattle.bitm_tables.proofs.lemmas.LengthLemmas.{few_entries, first_of_part, sizes_of}
 use Rattle.bitm_search.proofs.lemmas.SelectedLemmas.{bit_kept, has_bit, never_absent, selected, told_is}
@@ -220,13 +220,13 @@ module _ (bit : ℕ) (lists : Lists) (rank rest at packed count place before : �
 
 -- what is told of a selection in the record, where what is left of the rank did not wrap, and where it did
 module _ (bit : ℕ) (lists : Lists) (rank : ℕ) (at : InRecord) (sized : HasSizes lists) (there : IsInRecord bit lists rank at) where
-  right : (s : Selected) → IsSelectedFrom lists.words (as_bit bit) at.first (ones_before (sought_in bit lists.words) (64 * at.first) + at.rest) s
+  right : (s : Answer ℕ) → IsSelectedFrom lists.words (as_bit bit) at.first (ones_before (sought_in bit lists.words) (64 * at.first) + at.rest) s
       → HasTables lists → IsSelected (bits_in lists) (as_bit bit) rank s
   right s is t =
       selected lists.words (as_bit bit) at.first rank s (there.next t)
       (subst (λ (n : ℕ). IsSelectedFrom lists.words (as_bit bit) at.first n s) (sym (there.total t)) is)
 
-  pub told_record : (s s' : Selected) → rank < 2 ^ 64 → (at.rest ≤ rank → s' ≡ s) → (rank < at.rest → s' ≡ wrong_for_absent s)
+  pub told_record : (s s' : Answer ℕ) → rank < 2 ^ 64 → (at.rest ≤ rank → s' ≡ s) → (rank < at.rest → s' ≡ wrong_for_absent s)
       → IfAbsent s (length lists.words ≤ at.first + 8)
       → IsSelectedFrom lists.words (as_bit bit) at.first (ones_before (sought_in bit lists.words) (64 * at.first) + at.rest) s
       → SelectTold (as_bit bit) lists rank (told_in s')
@@ -234,12 +234,12 @@ module _ (bit : ℕ) (lists : Lists) (rank : ℕ) (at : InRecord) (sized : HasSi
       let R = ones_before (sought_in bit lists.words) (64 * at.first) + at.rest in
       elim (cases_lt rank at.rest) [
         | inl over ↦
-            subst (λ (x : Selected). SelectTold (as_bit bit) lists rank (told_in x)) (sym (wrapped over))
+            subst (λ (x : Answer ℕ). SelectTold (as_bit bit) lists rank (told_in x)) (sym (wrapped over))
             (told_is (as_bit bit) lists rank sized.short (wrong_for_absent s)
             (bit_kept (bits_in lists) (as_bit bit) s (has_bit lists.words (as_bit bit) at.first R s is)) (never_absent (TellsNone (as_bit bit) lists rank) s)
             (λ t. absurd (omega (arith, over, there.total t))))
         | inr within ↦
-            subst (λ (x : Selected). SelectTold (as_bit bit) lists rank (told_in x)) (sym (kept within))
+            subst (λ (x : Answer ℕ). SelectTold (as_bit bit) lists rank (told_in x)) (sym (kept within))
             (told_is (as_bit bit) lists rank sized.short s (has_bit lists.words (as_bit bit) at.first R s is)
             (record_none lists (as_bit bit) rank at sized there.told fits within s last is)
             (right s is))

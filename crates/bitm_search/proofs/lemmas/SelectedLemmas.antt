@@ -8,23 +8,23 @@ use Rattle.bitm_search.specs.Answers.{place_in, told_in, HasBit, IsFoundFrom, Is
 use Rattle.bitm_search.specs.Search.{sought_bits}
 use Rattle.bitm_tables.specs.Tables.{HasTables, Lists, bits_in}
 use Rattle.bitm_search.specs.Told.{wrong_for_absent, IfAbsent, TellsNone}
-use Rattle.bitm_search.specs.declared.search.selected.Selected.{Selected}
-use Rattle.bitm_search.specs.declared.search.selected.Selected.TheVariants.{Found, Absent, WrongTables}
+use Rattle.bitm_tables.specs.declared.answer.Answer.{Answer}
+use Rattle.bitm_tables.specs.declared.answer.Answer.TheVariants.{Found, Absent, Wrong}
 use Rattle.bitm_search.proofs.lemmas.MarkLemmas.{none_counted}
 
 module _ (words : List ℕ) (v : Bool) (k r : ℕ) where
   -- a place that is picked has the bit
-  pub has_bit : (s : Selected) → IsSelectedFrom words v k r s → HasBit (bits_of words) v s
+  pub has_bit : (s : Answer ℕ) → IsSelectedFrom words v k r s → HasBit (bits_of words) v s
   has_bit (Found p) is = (is.inside, is.item)
   has_bit Absent is = tt
-  has_bit WrongTables is = tt
+  has_bit Wrong is = tt
 
   -- where the rank stands before the words that follow, the tables are not called wrong
-  pub selected : (s : Selected) → (k + 8 < length words → r < ones_before (sought_bits v (bits_of words)) (64 * (k + 8)))
+  pub selected : (s : Answer ℕ) → (k + 8 < length words → r < ones_before (sought_bits v (bits_of words)) (64 * (k + 8)))
       → IsSelectedFrom words v k r s → IsSelected (bits_of words) v r s
   selected (Found p) next is = is
   selected Absent next is = is
-  selected WrongTables next is = absurd (omega (arith, next is.0, is.1))
+  selected Wrong next is = absurd (omega (arith, next is.0, is.1))
 
   -- nothing is left where the words end
   pub absent : (count : ℕ) → length words ≤ k + 8 → count ≡ length words - k
@@ -34,36 +34,36 @@ module _ (words : List ℕ) (v : Bool) (k r : ℕ) where
 
 module _ (b : List Bool) (v : Bool) (r : ℕ) where
   -- where the tables are right the place that is found is the one that is sought
-  pub is_select : (s : Selected) → IsSelected b v r s → IsSelect b v r (place_in s)
+  pub is_select : (s : Answer ℕ) → IsSelected b v r s → IsSelect b v r (place_in s)
   is_select (Found p) is = is
   is_select Absent is = is
-  is_select WrongTables is = absurd is
+  is_select Wrong is = absurd is
 
 -- a place that is found between two others is between those around them
-pub found_within : (i j i' j' : ℕ) → i' ≤ i → j ≤ j' → (s : Selected) → IsFoundFrom i j s → IsFoundFrom i' j' s
+pub found_within : (i j i' j' : ℕ) → i' ≤ i → j ≤ j' → (s : Answer ℕ) → IsFoundFrom i j s → IsFoundFrom i' j' s
 found_within i j i' j' low high (Found p) is = (omega (arith, is.0, low), omega (arith, is.1, high))
 found_within i j i' j' low high Absent is = tt
-found_within i j i' j' low high WrongTables is = tt
+found_within i j i' j' low high Wrong is = tt
 
 -- a place from the entry's first bit on and before the next entry is in the entry
-pub in_entry : (k : ℕ) (s : Selected) → IsFoundFrom (2048 * k) (2048 * (k + 1)) s → IfSome (place_in s) (λ p. p / 2048 ≡ k)
+pub in_entry : (k : ℕ) (s : Answer ℕ) → IsFoundFrom (2048 * k) (2048 * (k + 1)) s → IfSome (place_in s) (λ p. p / 2048 ≡ k)
 in_entry k (Found p) is = omega (arith, is.0, is.1)
 in_entry k Absent is = tt
-in_entry k WrongTables is = tt
+in_entry k Wrong is = tt
 
--- where WrongTables stands for Absent, a place that was found is found, and nothing is absent
-pub bit_kept : (b : List Bool) (v : Bool) (s : Selected) → HasBit b v s → HasBit b v (wrong_for_absent s)
+-- where Wrong stands for Absent, a place that was found is found, and nothing is absent
+pub bit_kept : (b : List Bool) (v : Bool) (s : Answer ℕ) → HasBit b v s → HasBit b v (wrong_for_absent s)
 bit_kept b v (Found p) is = is
 bit_kept b v Absent is = tt
-bit_kept b v WrongTables is = tt
+bit_kept b v Wrong is = tt
 
-pub never_absent : (P : Type 0) (s : Selected) → IfAbsent (wrong_for_absent s) P
+pub never_absent : (P : Type 0) (s : Answer ℕ) → IfAbsent (wrong_for_absent s) P
 never_absent P (Found p) = tt
 never_absent P Absent = tt
-never_absent P WrongTables = tt
+never_absent P Wrong = tt
 
 -- what a list of answers says of a selection
-pub told_is : (v : Bool) (lists : Lists) (r : ℕ) → IsShort lists.words → (s : Selected) → HasBit (bits_in lists) v s
+pub told_is : (v : Bool) (lists : Lists) (r : ℕ) → IsShort lists.words → (s : Answer ℕ) → HasBit (bits_in lists) v s
     → IfAbsent s (TellsNone v lists r) → (HasTables lists → IsSelected (bits_in lists) v r s) → SelectTold v lists r (told_in s)
 told_is v lists r short (Found p) bit none answer = record {
   bit = λ _. bit;
@@ -77,7 +77,7 @@ told_is v lists r short Absent bit none answer = record {
   some = λ t some. absurd (omega (arith, some, answer t));
   none = λ _ _. refl {A = ℕ};
 }
-told_is v lists r short WrongTables bit none answer = record {
+told_is v lists r short Wrong bit none answer = record {
   bit = λ h. absurd (omega (arith, h));
   absent = λ e. absurd (omega (arith, e));
   some = λ t. absurd (answer t);

@@ -13,8 +13,8 @@ use Rattle.bitm_search.specs.Search.{entry_in, sought_bits, sought_in}
 use Rattle.bitm_tables.specs.Tables.{HasSizes, HasTables, Lists}
 use Rattle.bitm_search.specs.Told.{count_from_word, told_entry, told_part, told_to, EntryTellsNone, IfAbsent, TellsNone}
 use Rattle.bitm_search.specs.declared.search.loaded.InRecord.{InRecord}
-use Rattle.bitm_search.specs.declared.search.selected.Selected.{Selected}
-use Rattle.bitm_search.specs.declared.search.selected.Selected.TheVariants.{Found, Absent, WrongTables}
+use Rattle.bitm_tables.specs.declared.answer.Answer.{Answer}
+use Rattle.bitm_tables.specs.declared.answer.Answer.TheVariants.{Found, Absent, Wrong}
 use Rattle.bitm_tables.proofs.lemmas.EntryLemmas.{entry-fits, entry-complement}
 use Rattle.bitm_search.proofs.lemmas.MarkLemmas.{as_bit_other, none_in_nothing, ones_before-sought_bits, zeros_before-sought_bits}
 use Rattle.bitm_search.proofs.lemmas.SoughtLemmas.{entry_ones, entry_zeros}
@@ -64,12 +64,12 @@ from_word words false k r le =
     ]
 
 -- an entry tells none where its last record, by what the fields leave of the rank, has none
-pub entry_none : (lists : Lists) (v : Bool) (at e r k left : ℕ) → k < 4 → told_to e k + left ≤ r → (s : Selected)
+pub entry_none : (lists : Lists) (v : Bool) (at e r k left : ℕ) → k < 4 → told_to e k + left ≤ r → (s : Answer ℕ)
     → IfAbsent s (length lists.words ≤ at * 32 + k * 8 + 8)
     → IfAbsent s (count_of (bits_of lists.words) v ≤ ones_before (sought_bits v (bits_of lists.words)) (64 * (at * 32 + k * 8)) + left)
     → IfAbsent s (EntryTellsNone v lists at e r)
 entry_none lists v at e r k left inside le (Found p) last is = tt
-entry_none lists v at e r k left inside le WrongTables last is = tt
+entry_none lists v at e r k left inside le Wrong last is = tt
 entry_none lists v at e r k left inside le Absent last is =
     let here : at * 32 + k * 8 ≡ 32 * at + 8 * k = omega arith in
     let none = subst (λ (n : ℕ). count_from_word lists v n ≤ left) here (from_word lists.words v (at * 32 + k * 8) left is) in
@@ -79,9 +79,9 @@ entry_none lists v at e r k left inside le Absent last is =
 pub all_none : (lists : Lists) (v : Bool) → HasSizes lists → (part entry packed in_part rank : ℕ) → part < length lists.upper
     → entry < entries_from (length lists.lower) part → packed ≡ told_entry v lists (entry_in part entry)
     → in_part ≡ less rank (told_part v lists part) → told_part v lists part < 2 ^ 64 → rank < 2 ^ 64 → in_part ≤ rank
-    → (s : Selected) → IfAbsent s (EntryTellsNone v lists (entry_in part entry) packed in_part) → IfAbsent s (TellsNone v lists rank)
+    → (s : Answer ℕ) → IfAbsent s (EntryTellsNone v lists (entry_in part entry) packed in_part) → IfAbsent s (TellsNone v lists rank)
 all_none lists v sized part entry packed in_part rank below inside is rest fits small le (Found p) none = tt
-all_none lists v sized part entry packed in_part rank below inside is rest fits small le WrongTables none = tt
+all_none lists v sized part entry packed in_part rank below inside is rest fits small le Wrong none = tt
 all_none lists v sized part entry packed in_part rank below inside is rest fits small le Absent none =
     let at = entry_in part entry in
     let last : length lists.lower - 1 ≡ at = omega (arith, sized.lower_len, inside, none.last, none.inside) in
@@ -137,11 +137,11 @@ nothing_tells lists v r sized none =
 -- a record behind which no word stands tells none where what is left of the rank did not wrap and the
 -- words have no more
 pub record_none : (lists : Lists) (v : Bool) (rank : ℕ) (at : InRecord) → HasSizes lists → IsToldRecord v lists rank at → rank < 2 ^ 64
-    → at.rest ≤ rank → (s : Selected) → IfAbsent s (length lists.words ≤ at.first + 8)
+    → at.rest ≤ rank → (s : Answer ℕ) → IfAbsent s (length lists.words ≤ at.first + 8)
     → IsSelectedFrom lists.words v at.first (ones_before (sought_bits v (bits_of lists.words)) (64 * at.first) + at.rest) s
     → IfAbsent s (TellsNone v lists rank)
 record_none lists v rank at sized told fits within (Found p) last is = tt
-record_none lists v rank at sized told fits within WrongTables last is = tt
+record_none lists v rank at sized told fits within Wrong last is = tt
 record_none lists v rank at sized told fits within Absent last is =
     let e = told.entry in
     let k = told.k in

@@ -12,7 +12,8 @@ ghost use Rattle.bitm_search.specs.Told.{wrong_for_absent, IfAbsent};
 use crate::search::entries::sought_entry;
 use crate::search::query::{Query, SIDE_BY_SIDE};
 use crate::search::record::{among, is_at_most, record_of, select_in_word, sought_word};
-use crate::search::selected::{Selected, told};
+use bitm_tables::answer::Answer;
+use crate::search::selected::told;
 use bitm_tables::entry::ones_to_entry;
 use bitm_tables::levels::{U64_PER_L2_ENTRY, U64_PER_L2_RECORDS};
 use bitm_tables::source::TableSource;
@@ -132,7 +133,7 @@ fn in_last<const BIT: u8, T: TableSource>(
     rest: usize,
     first: usize,
     word: u64,
-) -> Selected
+) -> Answer<usize>
     requires short { IsShort (T.lists source.old).words }
     requires first { first < 2 ^ 60 }
     requires last { length (T.lists source.old).words ≤ first + 8 }
@@ -145,15 +146,15 @@ fn in_last<const BIT: u8, T: TableSource>(
 {
     let len = source.words_len();
     if first >= len {
-        return Selected::Absent;
+        return Answer::Absent;
     }
     let count = word.count_ones() as usize;
     if rest < count {
-        return Selected::Found(first * 64 + select_in_word(word, rest));
+        return Answer::Found(first * 64 + select_in_word(word, rest));
     }
     match among::<BIT, T>(source, first + 1, len - (first + 1), rest - count) {
-        Some(place) => Selected::Found(place),
-        None => Selected::Absent,
+        Some(place) => Answer::Found(place),
+        None => Answer::Absent,
     }
 }
 
@@ -164,7 +165,7 @@ fn finish<const BIT: u8, T: TableSource>(
     rest: usize,
     first: usize,
     word: u64,
-) -> Selected
+) -> Answer<usize>
     requires short { IsShort (T.lists source.old).words }
     requires first { first < 2 ^ 60 }
     requires word { first < length (T.lists source.old).words
@@ -179,8 +180,8 @@ fn finish<const BIT: u8, T: TableSource>(
         return in_last::<BIT, T>(source, rest, first, word);
     }
     match in_whole::<BIT, T>(source, rest, first, word) {
-        Some(place) => Selected::Found(place),
-        None => Selected::WrongTables,
+        Some(place) => Answer::Found(place),
+        None => Answer::Wrong,
     }
 }
 
@@ -206,15 +207,15 @@ fn load_each<const BIT: u8, T: TableSource>(
     }
 }
 
-/// `selected`, but `WrongTables` in place of `Absent` where what is left of the rank wrapped: by the tables more stand
+/// `selected`, but `Wrong` in place of `Absent` where what is left of the rank wrapped: by the tables more stand
 /// before the record.
 #[inline(always)]
-fn unless_wrapped(selected: Selected, rest: usize, rank: usize) -> Selected
+fn unless_wrapped(selected: Answer<usize>, rest: usize, rank: usize) -> Answer<usize>
     ensures kept { rest ≤ rank → result ≡ selected }
     ensures wrapped { rank < rest → result ≡ wrong_for_absent selected }
 {
     match selected {
-        Selected::Absent if rest > rank => Selected::WrongTables,
+        Answer::Absent if rest > rank => Answer::Wrong,
         other => other,
     }
 }

@@ -13,7 +13,7 @@ ghost use Rattle.bitm_search.specs.Search.{AreOnesToWords, Rise};
 ghost use Rattle.bitm_tables.specs.Tables.{HasSizes, HasTables, bits_in};
 ghost use Rattle.bitm_search.specs.Told.{EntryTellsNone, IfAbsent};
 
-use crate::search::selected::Selected;
+use bitm_tables::answer::Answer;
 use bitm_tables::entry::{ones_to_entry, ones_to_record};
 use bitm_tables::levels::{L2_ENTRIES_PER_L1_ENTRY, U64_PER_L2_ENTRY, U64_PER_L2_RECORDS};
 use bitm_tables::ranking::WORDS_IN_CACHE;
@@ -207,7 +207,7 @@ fn among_eight<const BIT: u8, T: TableSource>(
 
 /// Selection among the eight words from `first` on, of which some may miss; the rank counts from there.
 #[inline(always)]
-fn in_record<const BIT: u8, T: TableSource>(source: &mut T, first: usize, rank: usize) -> Selected
+fn in_record<const BIT: u8, T: TableSource>(source: &mut T, first: usize, rank: usize) -> Answer<usize>
     requires short { IsShort (T.lists source.old).words }
     requires first { first < 2 ^ 60 }
     ensures answer { IsSelectedFrom (T.lists source.old).words (as_bit BIT) first
@@ -220,13 +220,13 @@ fn in_record<const BIT: u8, T: TableSource>(source: &mut T, first: usize, rank: 
     let len = source.words_len();
     if first + U64_PER_L2_RECORDS < len {
         return match among_eight::<BIT, T>(source, first, rank) {
-            Some(place) => Selected::Found(place),
-            None => Selected::WrongTables,
+            Some(place) => Answer::Found(place),
+            None => Answer::Wrong,
         };
     }
     match among::<BIT, T>(source, first, len.saturating_sub(first), rank) {
-        Some(place) => Selected::Found(place),
-        None => Selected::Absent,
+        Some(place) => Answer::Found(place),
+        None => Answer::Absent,
     }
 }
 
@@ -272,7 +272,7 @@ fn from_nearer_end<const BIT: u8, T: TableSource>(
     first: usize,
     rank: usize,
     total: usize,
-) -> Selected
+) -> Answer<usize>
     requires short { IsShort (T.lists source.old).words }
     requires first { first < 2 ^ 60 }
     ensures bit { HasBit (bits_in (T.lists source.old)) (as_bit BIT) result }
@@ -295,9 +295,9 @@ fn from_nearer_end<const BIT: u8, T: TableSource>(
         && rest.wrapping_sub(1) < total / 2
     {
         let Some(place) = among_last::<BIT, T>(source, first, rest) else {
-            return Selected::WrongTables;
+            return Answer::Wrong;
         };
-        return Selected::Found(place);
+        return Answer::Found(place);
     }
     in_record::<BIT, T>(source, first, rank)
 }
@@ -326,7 +326,7 @@ pub fn in_packed<const BIT: u8, const TESTS: u8, T: TableSource>(
     packed: u64,
     above: usize,
     rank: usize,
-) -> Selected
+) -> Answer<usize>
     requires sized { HasSizes (T.lists source.old) }
     requires inside { entry < entries_from (length (T.lists source.old).lower) part }
     requires part { HasTables (T.lists source.old) →
@@ -358,7 +358,7 @@ pub fn in_packed<const BIT: u8, const TESTS: u8, T: TableSource>(
     let first = at * U64_PER_L2_ENTRY + place * U64_PER_L2_RECORDS;
     let left = in_entry.wrapping_sub(before);
     if TESTS != 0 && left > rank {
-        return Selected::WrongTables;
+        return Answer::Wrong;
     }
     let total = ones_to_end(packed, place, above).wrapping_sub(before);
     from_nearer_end::<BIT, T>(source, first, left, total)

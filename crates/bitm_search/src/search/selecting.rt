@@ -15,7 +15,8 @@ ghost use Rattle.bitm_search.specs.Told.{told_entry, told_part, IfAbsent, TellsN
 use crate::search::entries::last_entry;
 use crate::search::many::ByTables;
 use crate::search::record::{NOT_READ, in_packed};
-use crate::search::selected::{Selected, found};
+use bitm_tables::answer::Answer;
+use crate::search::selected::found;
 use bitm_tables::source::TableSource;
 
 /// How the entry of a rank is found in a part: by halves, or by samples.
@@ -68,14 +69,14 @@ impl<const BIT: u8, T: TableSource> FindsEntry<BIT, T> for ByTables {
 /// is 0.
 ///
 /// Whatever the tables hold, a place that is found is inside and has such a bit. Where they are those of the words it
-/// is the right one, `Absent` is answered exactly where there is none, and `WrongTables` never.
+/// is the right one, `Absent` is answered exactly where there is none, and `Wrong` never.
 ///
 /// # Conditions
 /// There are fewer than 2^58 words, and the tables have the right lengths. They may hold anything.
 /// # Cost
 /// At most as many upper entries as their number has binary digits and one more, 23 lower entries and eight words are
 /// read, whatever the tables hold.
-pub fn total_select_on<const BIT: u8, T: TableSource>(source: &mut T, rank: usize) -> Selected
+pub fn total_select_on<const BIT: u8, T: TableSource>(source: &mut T, rank: usize) -> Answer<usize>
     requires { HasSizes (T.lists source.old) }
     ensures bit { HasBit (bits_in (T.lists source.old)) (as_bit BIT) result }
     ensures answer { HasTables (T.lists source.old)
@@ -108,7 +109,7 @@ pub fn binary_select_on<const BIT: u8, T: TableSource>(source: &mut T, rank: usi
 }
 
 /// What `total_select_on` answers. Where `TESTS` is 0 no test looks for a difference that wrapped: a rank that did is
-/// in no record, so the words decide, and `Absent` may be answered in place of `WrongTables`.
+/// in no record, so the words decide, and `Absent` may be answered in place of `Wrong`.
 ///
 /// # Conditions
 /// Those of `total_select_on`.
@@ -119,7 +120,7 @@ pub fn search_on<const BIT: u8, const TESTS: u8, T: TableSource, F: FindsEntry<B
     source: &mut T,
     finder: &F,
     rank: usize,
-) -> Selected
+) -> Answer<usize>
     requires { HasSizes (T.lists source.old) }
     ensures bit { HasBit (bits_in (T.lists source.old)) (as_bit BIT) result }
     ensures answer { HasTables (T.lists source.old)
@@ -133,11 +134,11 @@ pub fn search_on<const BIT: u8, const TESTS: u8, T: TableSource, F: FindsEntry<B
         (digit_count (length (T.lists source.old).upper) + 1) F.lowers_led 8 }
 {
     if source.upper_len() == 0 {
-        return Selected::Absent;
+        return Answer::Absent;
     }
     let (part, in_part) = part_of_rank::<BIT, T>(source, rank);
     if TESTS != 0 && in_part > rank {
-        return Selected::WrongTables;
+        return Answer::Wrong;
     }
     let (entry, packed) = finder.entry(source, part, in_part);
     in_packed::<BIT, TESTS, T>(source, part, entry, packed, NOT_READ, in_part)

@@ -4,19 +4,19 @@ use Rattle.bitm.specs.Tables.{Lists}
 use Rattle.elias_fano.specs.LentParts.{parts_with, LentParts}
 use Rattle.elias_fano.specs.Low.{fragment, Lows}
 use Rattle.elias_fano.specs.Told.{IfPlace, PartsAt, TellsAtMost, TellsBelow, TellsLess, TellsTo}
-use Rattle.elias_fano.specs.declared.answer.Sought.{Sought}
-use Rattle.elias_fano.specs.declared.answer.Sought.TheVariants.{Found, Absent, WrongParts}
+use Rattle.bitm.specs.Answer.{Answer}
+use Rattle.bitm.specs.Answer.TheVariants.{Found, Absent, Wrong}
 
 module _ (n : ℕ) (low : Lows) (lists : Lists) (v first end : ℕ) (begins : TellsBelow lists n (v / 2 ^ low.width) first)
     (ends : 0 < low.width → TellsTo lists n (v / 2 ^ low.width) end) (within : end ≤ n) where
   at_place : (p : ℕ) → PartsAt (fragment low) low.width first end (v % 2 ^ low.width) p → TellsLess (parts_with n low lists) v p
   at_place p parting = record { first = first; end = end; begins = begins; ends = ends; within = within; parting = parting }
 
-  pub told_less : (s : Sought ℕ) → IfPlace n s (PartsAt (fragment low) low.width first end (v % 2 ^ low.width))
+  pub told_less : (s : Answer ℕ) → IfPlace n s (PartsAt (fragment low) low.width first end (v % 2 ^ low.width))
       → IfPlace n s (TellsLess (parts_with n low lists) v)
   told_less (Found p) parting = at_place p parting
   told_less Absent parting = at_place n parting
-  told_less WrongParts parting = parting
+  told_less Wrong parting = parting
 
 -- all are at most the greatest number
 pub told_all : (parts : LentParts) (v : ℕ) → v ≡ 2 ^ 64 - 1 → TellsAtMost parts v parts.len

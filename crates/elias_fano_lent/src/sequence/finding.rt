@@ -6,17 +6,17 @@ ghost use Rattle.elias_fano_lent.specs.LentParts.{Holds};
 ghost use Rattle.elias_fano_lent.specs.Told.{IfLast, TellsAtMost, TellsLess};
 
 use crate::sequence::LentSequence;
-use elias_fano::{Sought, total_contains_on, total_last_at_most_on};
+use elias_fano::{Answer, total_contains_on, total_last_at_most_on};
 
 impl<'a> LentSequence<'a> {
     /// The greatest place whose number is at most `v`, where the parts are those of a sequence, and `Absent` exactly
-    /// where each number is more. Whatever they hold, `WrongParts` is answered, or the parts tell that so many numbers
+    /// where each number is more. Whatever they hold, `Wrong` is answered, or the parts tell that so many numbers
     /// are at most `v`: those up to the place, or none for `Absent`.
     ///
     /// # Cost
     /// That of `total_last_at_most_on`: as `first_at_least` of `v + 1`.
     #[inline]
-    pub fn last_at_most(&self, v: u64) -> Sought<usize>
+    pub fn last_at_most(&self, v: u64) -> Answer<usize>
         ensures inside { IsPlaceOf self.now.len result }
         ensures told { IfLast result (TellsAtMost self.now v) }
         ensures answer { (xs : List ℕ) → Holds xs self.now → IsLast xs v result }

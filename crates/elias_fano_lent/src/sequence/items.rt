@@ -11,7 +11,7 @@ ghost use Rattle.elias_fano_lent.specs.Low.{ReadsFragments};
 
 use crate::sequence::LentSequence;
 use bitm::{TableSource, words};
-use bitm_lent::Selected;
+use bitm_lent::Answer;
 use elias_fano::LowDigits;
 use elias_fano::building::item_at_one;
 
@@ -124,9 +124,9 @@ impl<'a> LentSequence<'a> {
             return 0;
         }
         let first = match self.upper.select::<1>(from) {
-            Selected::Found(first) => first,
-            Selected::Absent => return 0,
-            Selected::WrongTables => return 0,
+            Answer::Found(first) => first,
+            Answer::Absent => return 0,
+            Answer::Wrong => return 0,
         };
         let low = &mut self.low_digits();
         write_items_on(&mut self.upper.probe(), low, from, first, most, out)

@@ -1,11 +1,10 @@
 -- What is answered is told.
 use Rattle.std.proofs.Common.{◌∙◌}
 use Rattle.bitm_c.specs.Hash.{IsHashNumber}
-use Rattle.bitm_c.specs.Rank.{counted}
 use Rattle.bitm_c.proofs.ToldLemmas.{told}
 use Rattle.bitm_c.proofs.hash.bitm_hash_get.Goals as goal
 
 pub returns-in-Some : goal.returns-in-Some
 returns-in-Some c =
-    told counted (IsHashNumber c.args.hash.now.sizes.now c.args.hash.now.keys c.args.key_hash) _ _ (c.probe.ensures.lists ∙ c.in-Some.ensures.1) _ c.in-Some.ensures.0 c.tell_count.result c.args.out.now c.tell_count.new.out _ c.tell_count.ensures
+    told (IsHashNumber c.args.hash.now.sizes.now c.args.hash.now.keys c.args.key_hash) _ _ (c.probe.ensures.lists ∙ c.in-Some.ensures.1) _ c.in-Some.ensures.0 c.report.result c.args.out.now c.report.new.out _ c.report.ensures
     (record { below = c.total_number_on-number.ensures.below; counts = c.total_number_on-number.ensures.number })

@@ -1,10 +1,9 @@
 -- What is answered is told.
 use Rattle.bitm_lent.specs.Queries.{RanksIn}
-use Rattle.bitm_c.specs.Rank.{counted}
 use Rattle.bitm_c.proofs.ToldLemmas.{told}
 use Rattle.bitm_c.proofs.ranks.rank_in.Goals as goal
 
 pub returns-in-Some : goal.returns-in-Some
 returns-in-Some c =
-    told counted (λ l. RanksIn c.args.one l c.args.position) _ _ c.in-Some.ensures.1 _ c.in-Some.ensures.0 c.tell_count.result c.args.out.now c.tell_count.new.out
-    _ c.tell_count.ensures (record { within = c.rank_of.ensures.within; counts = c.rank_of.ensures.counts })
+    told (λ l. RanksIn c.args.one l c.args.position) _ _ c.in-Some.ensures.1 _ c.in-Some.ensures.0 c.report.result c.args.out.now c.report.new.out
+    _ c.report.ensures (record { within = c.rank_of.ensures.within; counts = c.rank_of.ensures.counts })

@@ -1,11 +1,10 @@
 -- What is answered is told.
 use Rattle.bitm.specs.Count.{as_bit}
 use Rattle.bitm_lent.specs.Queries.{NextIn}
-use Rattle.bitm_c.specs.Status.{selected}
 use Rattle.bitm_c.proofs.ToldLemmas.{told}
 use Rattle.bitm_c.proofs.selections.next_in.Goals as goal
 
 pub returns-in-Some : goal.returns-in-Some
 returns-in-Some g c =
-    told selected (λ l. NextIn (as_bit g.row.BIT) l c.args.from) _ _ c.in-Some.ensures.1 _ c.in-Some.ensures.0 c.tell_place.result c.args.out.now c.tell_place.new.out
-    _ c.tell_place.ensures (record { bit = c.next.ensures.bit; from = c.next.ensures.from; counts = c.next.ensures.counts })
+    told (λ l. NextIn (as_bit g.row.BIT) l c.args.from) _ _ c.in-Some.ensures.1 _ c.in-Some.ensures.0 c.report.result c.args.out.now c.report.new.out
+    _ c.report.ensures (record { bit = c.next.ensures.bit; from = c.next.ensures.from; counts = c.next.ensures.counts })

@@ -61,6 +61,6 @@ pub returns-in-Absent-clause-answer : goal.returns-in-Absent-clause-answer
 returns-in-Absent-clause-answer g c = λ xs h.
     c.in-Absent.ensures.answer xs _ h.are (ends g (goal.at.returns-in-Absent-clause-answer g c).In-Some-ends_on xs h)
 
-pub returns-in-WrongParts-clause-answer : goal.returns-in-WrongParts-clause-answer
-returns-in-WrongParts-clause-answer g c = λ xs h.
-    absurd (c.in-WrongParts.ensures.answer xs _ h.are (ends g (goal.at.returns-in-WrongParts-clause-answer g c).In-Some-ends_on xs h))
+pub returns-in-Wrong-clause-answer : goal.returns-in-Wrong-clause-answer
+returns-in-Wrong-clause-answer g c = λ xs h.
+    absurd (c.in-Wrong.ensures.answer xs _ h.are (ends g (goal.at.returns-in-Wrong-clause-answer g c).In-Some-ends_on xs h))

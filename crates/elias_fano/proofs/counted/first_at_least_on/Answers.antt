@@ -65,10 +65,10 @@ returns-in-Absent-clause-reads g c =
     digits-allow-two _ _ c.args.n _
     (several g (goal.at.returns-in-Absent-clause-reads g c).After-first_on) c.in-Absent.ensures.reads.at_most
 
-pub returns-in-WrongParts-clause-answer : goal.returns-in-WrongParts-clause-answer
-returns-in-WrongParts-clause-answer g c = λ xs h. absurd (c.in-WrongParts.ensures.answer xs h)
+pub returns-in-Wrong-clause-answer : goal.returns-in-Wrong-clause-answer
+returns-in-Wrong-clause-answer g c = λ xs h. absurd (c.in-Wrong.ensures.answer xs h)
 
-pub returns-in-WrongParts-clause-reads : goal.returns-in-WrongParts-clause-reads
-returns-in-WrongParts-clause-reads g c =
+pub returns-in-Wrong-clause-reads : goal.returns-in-Wrong-clause-reads
+returns-in-Wrong-clause-reads g c =
     digits-allow-two _ _ c.args.n _
-    (several g (goal.at.returns-in-WrongParts-clause-reads g c).After-first_on) c.in-WrongParts.ensures.reads.at_most
+    (several g (goal.at.returns-in-Wrong-clause-reads g c).After-first_on) c.in-Wrong.ensures.reads.at_most

@@ -1,7 +1,7 @@
 -- The rank of the position selects the next one.
 use Rattle.std.proofs.Common.{ap, subst, arith}
 use Rattle.bit_lists.specs.Count.{as_bit}
-use Rattle.bitm_search.specs.declared.search.selected.Selected.TheVariants as Sel
+use Rattle.bitm.specs.Answer.TheVariants.{Found, Absent, Wrong}
 use Rattle.bitm_lent.specs.Cut.{Cut, IsWithin}
 use Rattle.bitm_lent.specs.Queries.{NextIn}
 use Rattle.bitm_lent.proofs.NearLemmas.{next_past}
@@ -9,17 +9,17 @@ use Rattle.bitm_lent.proofs.view.IndexView.next.Goals as goal
 
 pub returns-then-from-self : goal.returns-then-from-self
 returns-then-from-self g c =
-    let is : NextIn (as_bit g.row.BIT) c.args.self.now c.args.from Sel.Absent =
+    let is : NextIn (as_bit g.row.BIT) c.args.self.now c.args.from Absent =
     next_past (as_bit g.row.BIT) c.args.self.now (subst (λ (x : Cut). IsWithin x) c.self.view_is c.self.invariant.within)
     c.args.from (omega (arith, c.if-from-self.true, ap (λ (x : Cut). x.len) c.self.view_is)) in
     record { bit = is.bit; from = is.from; counts = is.counts }
 
-pub returns-in-Count : goal.returns-in-Count
-returns-in-Count g c =
+pub returns-in-Found : goal.returns-in-Found
+returns-in-Found g c =
     let is : NextIn (as_bit g.row.BIT) c.args.self.now c.args.from c.not_before.result =
-    c.not_before.ensures (as_bit g.row.BIT) c.args.self.now c.in-Count.rank
+    c.not_before.ensures (as_bit g.row.BIT) c.args.self.now c.in-Found.rank
     (subst (λ (x : Cut). IsWithin x) c.self.view_is c.self.invariant.within)
-    (record { within = c.in-Count.ensures.within; counts = c.in-Count.ensures.counts })
+    (record { within = c.in-Found.ensures.within; counts = c.in-Found.ensures.counts })
     c.select_apart.ensures in
     record { bit = is.bit; from = is.from; counts = is.counts }
 

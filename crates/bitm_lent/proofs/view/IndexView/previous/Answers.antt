@@ -3,7 +3,7 @@ use Rattle.std.proofs.Common.{◌≡◌, ℕ, ◌+◌, ◌-◌, min, ap, subst, 
 use Rattle.bit_lists.specs.Count.{as_bit}
 use Rattle.bitm_lent.specs.Cut.{Cut, IsWithin}
 use Rattle.bitm_lent.specs.Queries.{PreviousIn, RanksIn}
-use Rattle.bitm_lent.specs.declared.ranked.Ranked.TheVariants as Rank
+use Rattle.bitm.specs.Answer.TheVariants.{Found, Absent, Wrong}
 use Rattle.bitm_lent.proofs.NearLemmas.{previous_none}
 use Rattle.bitm_lent.proofs.view.IndexView.previous.Goals as goal
 use Rattle.bitm_lent.proofs.view.IndexView.previous.Goals.{then-from-self, else-from-self, After-rank}
@@ -23,18 +23,18 @@ pub returns-then-ranks-eq0 : goal.returns-then-ranks-eq0
 returns-then-ranks-eq0 g c =
     let d = (goal.at.returns-then-ranks-eq0 g c).After-rank in
     let is = previous_none (as_bit g.row.BIT) c.args.self.now (within g d) c.args.from c.if-from-self.end (ends g d)
-    (subst (λ (n : ℕ). RanksIn (as_bit g.row.BIT) c.args.self.now c.if-from-self.end (Rank.Count n)) c.if-ranks-eq0.true
-    (record { within = c.in-Count.ensures.within; counts = c.in-Count.ensures.counts })) in
+    (subst (λ (n : ℕ). RanksIn (as_bit g.row.BIT) c.args.self.now c.if-from-self.end (Found n)) c.if-ranks-eq0.true
+    (record { within = c.in-Found.ensures.within; counts = c.in-Found.ensures.counts })) in
     record { bit = is.bit; to = is.to; counts = is.counts }
 
 pub returns-else-ranks-eq0 : goal.returns-else-ranks-eq0
 returns-else-ranks-eq0 g c =
     let d = (goal.at.returns-else-ranks-eq0 g c).After-rank in
-    let back : c.in-Count.ranks ≡ c.in-Count.ranks - 1 + 1 = omega (arith, c.if-ranks-eq0.false) in
+    let back : c.in-Found.ranks ≡ c.in-Found.ranks - 1 + 1 = omega (arith, c.if-ranks-eq0.false) in
     let is : PreviousIn (as_bit g.row.BIT) c.args.self.now c.args.from c.before-else-ranks-eq0.result =
-    c.before-else-ranks-eq0.ensures (as_bit g.row.BIT) c.args.self.now c.args.from (c.in-Count.ranks - 1) (within g d) (ends g d)
-    (subst (λ (n : ℕ). RanksIn (as_bit g.row.BIT) c.args.self.now c.if-from-self.end (Rank.Count n)) back
-    (record { within = c.in-Count.ensures.within; counts = c.in-Count.ensures.counts }))
+    c.before-else-ranks-eq0.ensures (as_bit g.row.BIT) c.args.self.now c.args.from (c.in-Found.ranks - 1) (within g d) (ends g d)
+    (subst (λ (n : ℕ). RanksIn (as_bit g.row.BIT) c.args.self.now c.if-from-self.end (Found n)) back
+    (record { within = c.in-Found.ensures.within; counts = c.in-Found.ensures.counts }))
     c.select_apart.ensures in
     record { bit = is.bit; to = is.to; counts = is.counts }
 
