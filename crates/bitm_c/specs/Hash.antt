@@ -8,10 +8,10 @@ use Rattle.perfect_hash.specs.Asking.{IsBelow, IsNumbered}
 use Rattle.perfect_hash.specs.Parts.{number_by, AreSizes}
 use Rattle.perfect_hash.specs.declared.in_place.Made.{Made}
 use Rattle.bitm_c.specs.Status.{Exported}
-use Rattle.bitm_c.specs.declared.hash.HashLevels.{HashLevels}
+use Rattle.bitm_c.specs.declared.hash.Hash.{Hash}
 
 -- the words of all levels and their tables
-abbrev pub hash_lists : HashLevels → Lists
+abbrev pub hash_lists : Hash → Lists
 hash_lists h = lists_of h.index.words.now h.index.upper.now h.index.lower.now
 
 -- there are words for a level, fewer than 2^58, and as many beside them
@@ -29,6 +29,6 @@ pub record IsHashNumber (sizes : List ℕ) (keys hash : ℕ) (lists : Lists) (an
       → IsNumbered (number_by sizes (bits_in lists) hash) answer
 
 -- the number of a hash: the status, and the number before and after the call
-abbrev pub HashAnswered : HashLevels → ℕ → ℕ → ℕ → ℕ → Type 0
+abbrev pub HashAnswered : Hash → ℕ → ℕ → ℕ → ℕ → Type 0
 HashAnswered h hash =
     Exported (HasSizes (hash_lists h) × (length h.sizes.now ≤ 256)) (IsHashNumber h.sizes.now h.keys hash (hash_lists h))

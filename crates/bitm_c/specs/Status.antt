@@ -1,17 +1,10 @@
 -- What the exported calls answer: a status, and a number written where the caller says.
 use Rattle.std.specs.Prelude.{◌≡◌, ◌≢◌, ℕ, ◌⊎◌, if◌then◌else◌, nat_eq}
-use Rattle.bitm.specs.Tables.{Lists}
-use Rattle.bitm_lent.specs.Sizes.{lists_of}
 use Rattle.bitm.specs.Answer.{Answer}
 use Rattle.bitm.specs.Answer.TheVariants.{Found, Absent, Wrong}
-use Rattle.bitm_c.specs.declared.view.View.{View}
 
--- A status is 0 where the answer was written, 1 where there is no such place or bit, 2 where a length is not as it has
--- to be, and 3 where the tables are not those of the words.
-
--- the words and both tables that a view lends
-abbrev pub view_lists : View → Lists
-view_lists view = lists_of view.words.now view.upper.now view.lower.now
+-- A status is 0 where the answer was written, 1 where there is no such position, bit or number, 2 where a length is wrong,
+-- and 3 where the tables are not those of the words, or the parts not those of a sequence.
 
 -- the answer that a status and the number that was written report
 abbrev pub answer_of : {T : Type 0} → ℕ → T → Answer T

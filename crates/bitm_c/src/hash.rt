@@ -25,7 +25,7 @@ const LEVELS: usize = 256;
 /// not read, the words of each level, and the number of keys.
 #[repr(C)]
 #[derive(Clone, Copy)]
-pub struct HashLevels<'a> {
+pub struct Hash<'a> {
     /// The index over the words of all levels.
     pub index: Index<'a>,
     /// The number of words of each level.
@@ -34,7 +34,7 @@ pub struct HashLevels<'a> {
     pub keys: usize,
 }
 
-impl<'a> HashLevels<'a> {
+impl<'a> Hash<'a> {
     /// The words and tables as the library queries them; `None` exactly where a length is not right.
     #[inline(always)]
     fn lent(&self) -> Option<Lent<'a>>
@@ -126,7 +126,7 @@ pub extern "C" fn bitm_hash_build(
 
 /// The number of a hash, below the number of keys.
 #[unsafe(no_mangle)]
-pub extern "C" fn bitm_hash_get(hash: &HashLevels<'_>, key_hash: u64, out: &mut usize) -> u32
+pub extern "C" fn bitm_hash_get(hash: &Hash<'_>, key_hash: u64, out: &mut usize) -> u32
     ensures { HashAnswered hash.now key_hash result out.old out.new }
 {
     match hash.lent() {
@@ -141,7 +141,7 @@ pub extern "C" fn bitm_hash_get(hash: &HashLevels<'_>, key_hash: u64, out: &mut 
 /// The numbers of a list of hashes, and how many of these are codes.
 #[unsafe(no_mangle)]
 pub extern "C" fn bitm_hash_get_list(
-    hash: &HashLevels<'_>,
+    hash: &Hash<'_>,
     key_hashes: &[u64],
     out: &mut [usize],
     counts: &mut ListCounts,

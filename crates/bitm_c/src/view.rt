@@ -1,9 +1,7 @@
 //! Words and tables in the caller's memory, and the index over them: what the calls of an index take.
 ghost use Rattle.std.specs.Prelude.{◌≡◌, ◌^◌, ◌<◌, ◌≤◌, SomeIff, length};
-ghost use Rattle.bitm.specs.Tables.{HasSizes};
 ghost use Rattle.bitm_lent.specs.Cut.{IsSizedCut};
 ghost use Rattle.bitm_c.specs.Queries.{cut_of};
-ghost use Rattle.bitm_c.specs.Status.{view_lists};
 
 use crate::sampled::Samples;
 use bitm_lent::{IndexView, Lent};
@@ -51,27 +49,5 @@ impl<'a> Index<'a> {
     {
         let tables = Lent::over_large_part(self.words, self.upper, self.lower)?;
         IndexView::over(tables, self.bits_len as usize)
-    }
-}
-
-/// Words and two tables: for C three pairs of a pointer and a length.
-#[repr(C)]
-#[derive(Clone, Copy)]
-pub struct View<'a> {
-    /// The words.
-    pub words: &'a [u64],
-    /// The upper table.
-    pub upper: &'a [usize],
-    /// The lower table.
-    pub lower: &'a [u64],
-}
-
-impl<'a> View<'a> {
-    /// The three as the library queries them; `None` exactly where a length is not right.
-    #[inline(always)]
-    pub(crate) fn lent(&self) -> Option<Lent<'a>>
-        ensures { SomeIff result (HasSizes (view_lists self.now)) (view_lists self.now) }
-    {
-        Lent::over(self.words, self.upper, self.lower)
     }
 }
