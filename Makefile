@@ -45,5 +45,5 @@ uninstall:
 	-rmdir $(DESTDIR)$(INCLUDEDIR)/bitm $(DESTDIR)$(LIBDIR)/cmake/bitm $(DESTDIR)$(LIBDIR)/cmake $(DESTDIR)$(LIBDIR)/pkgconfig 2> /dev/null
 # The Python package. Run `make archive` first.
 install-python:
-	python3 -m pip install ./python
+	python3 -m pip install ./bindings/python
 .PHONY: check test ci archive install uninstall install-python

@@ -1,5 +1,5 @@
 //! Times rank and selection of the original crate: `bench-original LOG2 ROUNDS`. Words, queries, clock and rows are those of
-//! `crates/bench`, so the last column (the sum of the answers) is the same too.
+//! `crates/tool_bench`, so the last column (the sum of the answers) is the same too.
 use bitm::{
     ArrayWithRankSimple, BinaryRankSearch, CombinedSampling, Rank, RankSelect101111, Select,
     Select0, Select0ForRank101111, SelectForRank101111,

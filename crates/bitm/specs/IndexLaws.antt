@@ -2,8 +2,8 @@
 use Rattle.std.specs.Prelude.{◌≡◌, ℕ, ◌^◌, ◌<◌, Bool, List, count_ones}
 use Rattle.bit_lists.specs.Bits.{low_digits, IsShort}
 use Rattle.bit_lists.specs.Count.{ones_before}
-use Rattle.bitm_search.specs.Entry.{FieldsFit, lower_entry}
-use Rattle.bitm_search.specs.Tables.{HasSizes, HasTables, Lists}
+use Rattle.bitm_select.specs.Entry.{FieldsFit, lower_entry}
+use Rattle.bitm_select.specs.Tables.{HasSizes, HasTables, Lists}
 
 -- an entry of a lower table fits the fields' greatest numbers
 abbrev pub EntriesFit : Type 0

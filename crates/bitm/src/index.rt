@@ -5,16 +5,16 @@ ghost use Rattle.std.specs.Int.{div_ceil};
 ghost use Rattle.bit_lists.specs.Bits.{bits_of, IsShort};
 ghost use Rattle.bit_lists.specs.Count.{ones_of};
 ghost use Rattle.bitm_bits.specs.Size.{saturated_size};
-ghost use Rattle.bitm_search.specs.Reads.{none_read};
-ghost use Rattle.bitm_search.specs.Tables.{AreTablesOf, IsIndexed, upper_of, lower_of};
+ghost use Rattle.bitm_select.specs.Reads.{none_read};
+ghost use Rattle.bitm_select.specs.Tables.{AreTablesOf, IsIndexed, upper_of, lower_of};
 
 mod many;
 
 use crate::queries::{Access, HasBits, Rank, Select, Select0};
 use bitm_bits::{CloneWords, GetSize};
-use bitm_search::search::ranking::{bit_and_rank_on, bit_on, rank_on};
-use bitm_search::source::Probe;
-use bitm_search::tables::{self, Tables};
+use bitm_select::search::ranking::{bit_and_rank_on, bit_on, rank_on};
+use bitm_select::source::Probe;
+use bitm_select::tables::{self, Tables};
 use bitm_strategies::{BinaryRankSearch, Select0ForRank101111, SelectForRank101111};
 use std::alloc::{AllocError, Global};
 use std::boxed::BoxedSlice;
@@ -64,7 +64,7 @@ impl<S: SelectForRank101111, S0: Select0ForRank101111, BV: AsSlice<u64>> Model
     ghost use Rattle.std.specs.Box.{boxed_slice_items};
     ghost use Rattle.bit_lists.specs.Bits.{bits_of, IsShort};
     ghost use Rattle.bitm.specs.IndexValue.{IndexValue};
-    ghost use Rattle.bitm_search.specs.Tables.{AreTablesOf};
+    ghost use Rattle.bitm_select.specs.Tables.{AreTablesOf};
 
     ghost Value = { IndexValue BV S S0 };
 

@@ -10,7 +10,7 @@ pub fn entries_fit()
 {}
 
 /// The tables of words, of which there are few enough for an index, are as long as calls on any tables want.
-#[tactic(auto, using(bitm_search::proofs::Callers::sizes_of))]
+#[tactic(auto, using(bitm_select::proofs::Callers::sizes_of))]
 pub fn tables_have_sizes()
     ensures { TablesHaveSizes }
 {}

@@ -9,8 +9,8 @@ ghost use Rattle.bitm.specs.Simple.{HasFewOnes, simple_table_of};
 
 use crate::queries::{Access, HasBits, Rank};
 use bitm_bits::{CloneWords, GetSize, words};
-use bitm_search::search::ranking::ones_of_words;
-use bitm_search::tables::ones_of_record;
+use bitm_select::search::ranking::ones_of_words;
+use bitm_select::tables::ones_of_record;
 use broadword::ones_through;
 use std::alloc::{AllocError, Global};
 use std::boxed::BoxedSlice;

@@ -3,9 +3,9 @@ use Rattle.std.proofs.Common.{◌≡◌, ℕ, ◌-◌, ◌^◌, ◌<◌, ◌↔�
 use Rattle.std.proofs.lemmas.Bool.{false≢true}
 use Rattle.std.specs.List.{Contains}
 use Rattle.bitm.specs.Answer.{Answer}
-use Rattle.elias_fano_lent.specs.LentParts.{Holds, LentParts}
-use Rattle.elias_fano_lent.specs.Told.{TellsLess}
-use Rattle.bitm_lent.specs.Queries.{ranked_by}
+use Rattle.elias_fano_view.specs.LentParts.{Holds, LentParts}
+use Rattle.elias_fano_view.specs.Told.{TellsLess}
+use Rattle.bitm_view.specs.Queries.{ranked_by}
 use Rattle.bitm.specs.Answer.TheVariants.{Found, Absent, Wrong}
 use Rattle.bitm_c.specs.Numbers.{IsContained}
 use Rattle.bitm_c.specs.Sequence.{sought_by}

@@ -2,7 +2,7 @@
 use Rattle.std.specs.Prelude.{◌≡◌, ℕ, ◌^◌, ◌<◌, ◌≤◌, List, length}
 use Rattle.bitm.specs.Count.{ones_of}
 use Rattle.bitm.specs.Tables.{HasSizes, HasTables, Lists, bits_in}
-use Rattle.bitm_lent.specs.Sizes.{lists_of}
+use Rattle.bitm_view.specs.Sizes.{lists_of}
 use Rattle.bitm.specs.Answer.{Answer}
 use Rattle.perfect_hash.specs.Asking.{IsBelow, IsNumbered}
 use Rattle.perfect_hash.specs.Parts.{number_by, AreSizes}

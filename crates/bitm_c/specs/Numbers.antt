@@ -2,9 +2,9 @@
 use Rattle.std.specs.Prelude.{◌≡◌, ◌≢◌, ℕ, ◌-◌, ◌^◌, ◌≤◌, ◌↔◌, ◌⊎◌, List}
 use Rattle.std.specs.List.{Contains}
 use Rattle.bitm.specs.Answer.{Answer}
-use Rattle.elias_fano_lent.specs.Answers.{IsLast, IsPlaceOf}
-use Rattle.elias_fano_lent.specs.LentParts.{Holds, LentParts}
-use Rattle.elias_fano_lent.specs.Told.{IfLast, TellsAtMost, TellsLess}
+use Rattle.elias_fano_view.specs.Answers.{IsLast, IsPlaceOf}
+use Rattle.elias_fano_view.specs.LentParts.{Holds, LentParts}
+use Rattle.elias_fano_view.specs.Told.{IfLast, TellsAtMost, TellsLess}
 use Rattle.bitm_c.specs.Sequence.{lent_parts, IsSized}
 use Rattle.bitm_c.specs.Status.{Exported}
 use Rattle.bitm_c.specs.declared.sequence.Sequence.{Sequence}

@@ -1,9 +1,9 @@
 -- What the exported calls answer of the first bits of words: a status, and a number written where the caller says.
 use Rattle.std.specs.Prelude.{◌≡◌, ℕ, ◌+◌, ◌-◌, ◌<◌, ◌≤◌, Bool, List, length, min, slice_index}
 use Rattle.bitm.specs.Count.{count_before, count_of, Picks}
-use Rattle.bitm_lent.specs.Cut.{Cut, cut_at, IsSizedCut}
-use Rattle.bitm_lent.specs.Queries.{NextIn, PreviousIn, RanksIn, SelectsIn}
-use Rattle.bitm_lent.specs.Sizes.{lists_of}
+use Rattle.bitm_view.specs.Cut.{Cut, cut_at, IsSizedCut}
+use Rattle.bitm_view.specs.Queries.{NextIn, PreviousIn, RanksIn, SelectsIn}
+use Rattle.bitm_view.specs.Sizes.{lists_of}
 use Rattle.bitm_c.specs.Status.{Exported}
 use Rattle.bitm_c.specs.declared.view.Index.{Index}
 

@@ -1,6 +1,6 @@
 -- Samples as C passes them.
 use Rattle.std.specs.Prelude.{Bool, min, if◌then◌else◌}
-use Rattle.bitm_lent.specs.declared.samples.LentSamples.{LentSamples}
+use Rattle.bitm_view.specs.declared.samples.LentSamples.{LentSamples}
 use Rattle.bitm_c.specs.declared.sampled.Samples.{Samples}
 use Rattle.bitm_c.specs.declared.view.Index.{Index}
 

@@ -1,16 +1,16 @@
 -- What the exported calls on sequences answer: a status, and a number written where the caller says.
 use Rattle.std.specs.Prelude.{◌≡◌, ℕ, ◌-◌, ◌^◌, List, if◌then◌else◌, nat_eq}
 use Rattle.bitm.specs.Tables.{HasSizes}
-use Rattle.bitm_lent.specs.Sizes.{lists_of}
-use Rattle.elias_fano_lent.specs.LentParts.{parts_of, HasLengths, LentParts, Holds}
-use Rattle.elias_fano_lent.specs.Lists.{written_count}
-use Rattle.elias_fano_lent.specs.Answers.{IsFirst, IsItem, IsOfPlace, IsPlaceOf}
-use Rattle.elias_fano_lent.specs.Told.{IfPlace, TellsLess}
+use Rattle.bitm_view.specs.Sizes.{lists_of}
+use Rattle.elias_fano_view.specs.LentParts.{parts_of, HasLengths, LentParts, Holds}
+use Rattle.elias_fano_view.specs.Lists.{written_count}
+use Rattle.elias_fano_view.specs.Answers.{IsFirst, IsItem, IsOfPlace, IsPlaceOf}
+use Rattle.elias_fano_view.specs.Told.{IfPlace, TellsLess}
 use Rattle.bitm.specs.Answer.{Answer}
 use Rattle.bitm.specs.Answer.TheVariants.{Found, Absent, Wrong}
-use Rattle.elias_fano_lent.specs.declared.lists.ListAnswer.{ListAnswer}
-use Rattle.elias_fano_lent.specs.declared.lists.ListAnswer.TheVariants.{WrongLength}
-use Rattle.elias_fano_lent.specs.declared.sizes.Sizes.{Sizes}
+use Rattle.elias_fano_view.specs.declared.lists.ListAnswer.{ListAnswer}
+use Rattle.elias_fano_view.specs.declared.lists.ListAnswer.TheVariants.{WrongLength}
+use Rattle.elias_fano_view.specs.declared.sizes.Sizes.{Sizes}
 use Rattle.bitm_c.specs.Status.{Exported}
 use Rattle.bitm_c.specs.declared.sequence.SequenceLens.{SequenceLens}
 use Rattle.bitm_c.specs.declared.sequence.Sequence.{Sequence}

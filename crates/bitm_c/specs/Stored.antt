@@ -1,7 +1,7 @@
 -- What a stored index or sequence begins with, and where each of its parts stands.
 use Rattle.std.specs.Prelude.{◌≡◌, ◌≢◌, ℕ, zero, suc, ◌+◌, ◌-◌, ◌*◌, ◌/◌, ◌%◌, ◌^◌, ◌<◌, ◌≤◌, ◌⊎◌, List, length, slice_index}
 use Rattle.std.specs.Int.{div_ceil}
-use Rattle.bitm_lent.specs.Samples.{enough_samples}
+use Rattle.bitm_view.specs.Samples.{enough_samples}
 use Rattle.bitm_c.specs.declared.layout.Span.{Span}
 use Rattle.bitm_c.specs.declared.layout.Stored.{Stored}
 use Rattle.bitm_c.specs.declared.sequence.SequenceLens.{SequenceLens}

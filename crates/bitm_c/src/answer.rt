@@ -2,7 +2,7 @@
 ghost use Rattle.std.specs.Prelude.{◌≡◌, MatchOption};
 ghost use Rattle.bitm_c.specs.Status.{IsReported};
 
-use bitm_lent::Answer;
+use bitm_view::Answer;
 
 /// The answer was written.
 pub(crate) const OK: u32 = 0;

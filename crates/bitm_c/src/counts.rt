@@ -1,7 +1,7 @@
 //! How many items of a list of answers are codes.
 ghost use Rattle.bitm_c.specs.Lists.{AreCounted};
 
-use bitm_lent::{NO_ANSWER, WRONG_TABLES};
+use bitm_view::{NO_ANSWER, WRONG_TABLES};
 
 /// How many items of a list of answers are codes.
 #[repr(C)]

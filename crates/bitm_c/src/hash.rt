@@ -4,7 +4,7 @@ ghost use Rattle.std.specs.Prelude.{◌≡◌, ◌≢◌, ℕ, ◌-◌, ◌<◌,
 ghost use Rattle.bitm.specs.Bits.{bits_of, IsShort};
 ghost use Rattle.bitm.specs.Count.{ones_of};
 ghost use Rattle.bitm.specs.Tables.{HasSizes};
-ghost use Rattle.bitm_lent.specs.Queries.{ranked_by};
+ghost use Rattle.bitm_view.specs.Queries.{ranked_by};
 ghost use Rattle.perfect_hash.specs.InPlace.{IsMade};
 ghost use Rattle.perfect_hash.specs.Levels.{left_of, AreSized, IsLevel, Leave};
 ghost use Rattle.perfect_hash.specs.Parts.{AreLevels};
@@ -15,7 +15,7 @@ ghost use Rattle.bitm_c.specs.Lists.{AreCounted};
 use crate::answer::{BAD_SIZE, OK, report};
 use crate::counts::{ListCounts, codes_in};
 use crate::view::Index;
-use bitm_lent::{Answer, Lent, NO_ANSWER, WRONG_TABLES, clear};
+use bitm_view::{Answer, Lent, NO_ANSWER, WRONG_TABLES, clear};
 use perfect_hash::{build_in_place, level_len, split_level, total_number_on};
 
 /// At most this many levels are queried.

@@ -4,8 +4,8 @@ ghost use Rattle.std.specs.Int.{div_ceil};
 ghost use Rattle.bitm.specs.Bits.{bits_of};
 ghost use Rattle.bitm.specs.Count.{ones_of};
 ghost use Rattle.bitm.specs.Tables.{HasSizes, HasTables};
-ghost use Rattle.bitm_lent.specs.Sizes.{lists_of};
-ghost use Rattle.bitm_lent.specs.Cut.{IsSizedCut};
+ghost use Rattle.bitm_view.specs.Sizes.{lists_of};
+ghost use Rattle.bitm_view.specs.Cut.{IsSizedCut};
 ghost use Rattle.bitm_c.specs.Queries.{cut_of};
 
 use crate::answer::{BAD_SIZE, OK, WRONG};
@@ -16,7 +16,7 @@ use crate::view::Index;
 pub extern "C" fn bitm_index_upper_len(words_len: usize) -> usize
     ensures { result ≡ div_ceil words_len (2 ^ 26) }
 {
-    bitm_lent::upper_len(words_len)
+    bitm_view::upper_len(words_len)
 }
 
 /// The length of the lower table of `words_len` words: one number for each 32 words, rounded up.
@@ -24,7 +24,7 @@ pub extern "C" fn bitm_index_upper_len(words_len: usize) -> usize
 pub extern "C" fn bitm_index_lower_len(words_len: usize) -> usize
     ensures { result ≡ div_ceil words_len 32 }
 {
-    bitm_lent::lower_len(words_len)
+    bitm_view::lower_len(words_len)
 }
 
 /// Writes both tables of the words, and the number of 1 bits.
@@ -43,7 +43,7 @@ pub extern "C" fn bitm_index_build(
     ensures kept { result ≢ 0 → (upper.new ≡ upper.old) × (lower.new ≡ lower.old)
         × (ones.new ≡ ones.old) }
 {
-    match bitm_lent::build(words, upper, lower) {
+    match bitm_view::build(words, upper, lower) {
         Some(count) => {
             *ones = count;
             OK

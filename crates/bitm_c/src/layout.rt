@@ -3,7 +3,7 @@ ghost use Rattle.std.specs.Prelude.{◌≡◌, ◌+◌, ◌*◌, ◌^◌, ◌<�
 ghost use Rattle.bitm_c.specs.Stored.{checksum_of, mixed, span_from, span_mixed, starts_of};
 ghost use Rattle.bitm_c.specs.Stored.{IsAlike, IsBounded, IsLaidOut};
 
-use bitm_lent::{lower_len, upper_len};
+use bitm_view::{lower_len, upper_len};
 
 /// The letters `bitm` and `tab`, and version 2: another number where the bytes stand in the other order.
 const MARK: u64 = 0x0262_6174_6d74_6962;

@@ -1,8 +1,8 @@
 //! More questions of a sequence: the last number that is at most a value, whether a value is one of the numbers, and
 //! the numbers in order.
 ghost use Rattle.std.specs.Prelude.{◌≡◌, ◌≢◌, ◌-◌, ◌≤◌, ◌↔◌, ℕ, List, length, min};
-ghost use Rattle.elias_fano_lent.specs.LentParts.{Holds};
-ghost use Rattle.elias_fano_lent.specs.Lists.{AreItemsFrom, IsKeptFrom};
+ghost use Rattle.elias_fano_view.specs.LentParts.{Holds};
+ghost use Rattle.elias_fano_view.specs.Lists.{AreItemsFrom, IsKeptFrom};
 ghost use Rattle.bitm_c.specs.Numbers.{ContainsAnswered, LastAnswered};
 ghost use Rattle.bitm_c.specs.Sequence.{lent_parts, IsSized};
 

@@ -11,7 +11,7 @@ use crate::answer::{BAD_SIZE, NONE, OK, tell};
 use crate::bits::{has_bits, has_counted_bits};
 use bit_slices::{count_in, count_range_in, next_in, positions_in, previous_in};
 use bitm::words;
-use bitm_lent::clear_from;
+use bitm_view::clear_from;
 
 /// How many of the first `bits_len` bits are 1 bits, or 0 bits.
 #[unsafe(no_mangle)]

@@ -5,7 +5,7 @@ ghost use Rattle.bitm_c.specs.Queries.{cut_of, RankAnswered};
 use crate::answer::{BAD_SIZE, report};
 use crate::view::Index;
 use bitm::U64_PER_L1_ENTRY;
-use bitm_lent::WORDS_AT_HAND;
+use bitm_view::WORDS_AT_HAND;
 
 /// What `bitm_index_rank` answers.
 #[inline(always)]

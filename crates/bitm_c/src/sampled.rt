@@ -2,14 +2,14 @@
 ghost use Rattle.std.specs.Prelude.{◌≡◌, ◌≢◌, ◌≤◌, ◌↔◌, ◌⊎◌, ℕ, length, min, slice_index, take, true, false};
 ghost use Rattle.bitm.specs.Density.{clamped_log};
 ghost use Rattle.bitm.specs.Tables.{HasTables, bits_in};
-ghost use Rattle.bitm_lent.specs.Samples.{AreSamples, AreSamplesOf, HasRoom, enough_samples};
-ghost use Rattle.bitm_lent.specs.Cut.{IsSizedCut};
+ghost use Rattle.bitm_view.specs.Samples.{AreSamples, AreSamplesOf, HasRoom, enough_samples};
+ghost use Rattle.bitm_view.specs.Cut.{IsSizedCut};
 ghost use Rattle.bitm_c.specs.Queries.{cut_of};
 ghost use Rattle.bitm_c.specs.Sampled.{lent_samples, samples_in};
 
 use crate::answer::{BAD_SIZE, OK, WRONG};
 use crate::view::Index;
-use bitm_lent::LentSamples;
+use bitm_view::LentSamples;
 
 /// Samples of one kind of bit: for C two pairs of a pointer and a length, and a number.
 #[repr(C)]
@@ -52,7 +52,7 @@ impl<'a> Samples<'a> {
 pub extern "C" fn bitm_index_samples_len(words_len: usize, log2: u32) -> usize
     ensures { result ≡ enough_samples words_len log2 }
 {
-    bitm_lent::samples_len(words_len, narrow_log2(log2))
+    bitm_view::samples_len(words_len, narrow_log2(log2))
 }
 
 /// Writes the samples of the 1 bits, or of the 0 bits, the number of samples before each upper block, and how many

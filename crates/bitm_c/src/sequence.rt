@@ -1,18 +1,18 @@
 //! Monotone integer sequences (Elias-Fano), whose parts lie in the caller's memory.
 ghost use Rattle.std.specs.Prelude.{◌≡◌, ◌≢◌, ◌<◌, ◌≤◌, ◌↔◌, ◌⊎◌, ℕ, List, length, slice_index, SomeIff};
-ghost use Rattle.bitm_lent.specs.Sizes.{lists_of};
+ghost use Rattle.bitm_view.specs.Sizes.{lists_of};
 ghost use Rattle.elias_fano.specs.Parts.{width_of};
 ghost use Rattle.elias_fano.specs.Sequence.{HasFall};
-ghost use Rattle.elias_fano_lent.specs.LentParts.{parts_of, AreParts, Holds};
-ghost use Rattle.elias_fano_lent.specs.Lists.{AreItems, IsKeptFrom};
-ghost use Rattle.elias_fano_lent.specs.Sizes.{sizes_of, HasRoom, IsLargest};
+ghost use Rattle.elias_fano_view.specs.LentParts.{parts_of, AreParts, Holds};
+ghost use Rattle.elias_fano_view.specs.Lists.{AreItems, IsKeptFrom};
+ghost use Rattle.elias_fano_view.specs.Sizes.{sizes_of, HasRoom, IsLargest};
 ghost use Rattle.bitm_c.specs.Sequence.{lent_parts, sizes_in_c, IsListTold, IsSized};
 ghost use Rattle.bitm_c.specs.Status.{IsReported};
 ghost use Rattle.bitm_c.specs.Sequence.{ItemAnswered, PlaceAnswered};
 
 use crate::answer::{BAD_SIZE, OK, UNSORTED, WRONG, report};
-use bitm_lent::Lent;
-use elias_fano_lent::{Answer, BuildError, LentSequence, ListAnswer, Sizes, build};
+use bitm_view::Lent;
+use elias_fano_view::{Answer, BuildError, LentSequence, ListAnswer, Sizes, build};
 
 /// A sequence in the caller's memory: for C two numbers, four pairs of a pointer and a length, and room.
 #[repr(C)]

@@ -1,7 +1,7 @@
 //! Lists of queries of a sequence: each item is answered as the single call answers it, by the codes of lists.
 ghost use Rattle.std.specs.Prelude.{◌≡◌, ◌≢◌, ◌<◌, ◌^◌, ◌-◌, ◌↔◌, ℕ, length, slice_index};
-ghost use Rattle.elias_fano_lent.specs.Answers.{IsPlaceOf};
-ghost use Rattle.elias_fano_lent.specs.Lists.{PlaceTold};
+ghost use Rattle.elias_fano_view.specs.Answers.{IsPlaceOf};
+ghost use Rattle.elias_fano_view.specs.Lists.{PlaceTold};
 ghost use Rattle.bitm_c.specs.Lists.{AreCounted};
 ghost use Rattle.bitm_c.specs.Numbers.{IsContained, IsPredecessor};
 ghost use Rattle.bitm_c.specs.Sequence.{lent_parts, sought_by, IsSized};
@@ -9,8 +9,8 @@ ghost use Rattle.bitm_c.specs.Sequence.{lent_parts, sought_by, IsSized};
 use crate::answer::{BAD_SIZE, OK};
 use crate::counts::{ListCounts, codes_in};
 use crate::sequence::Sequence;
-use bitm_lent::{NO_ANSWER, WRONG_TABLES};
-use elias_fano_lent::{Answer, LentSequence};
+use bitm_view::{NO_ANSWER, WRONG_TABLES};
+use elias_fano_view::{Answer, LentSequence};
 
 /// The successor of each value: the least index whose number is at least the value; and how many of these are codes.
 #[unsafe(no_mangle)]

@@ -7,7 +7,7 @@ ghost use Rattle.bitm_c.specs.Stored.{HasIndexLens, HasSequenceLens};
 use crate::answer::{BAD_SIZE, OK, WRONG};
 use crate::layout::{Span, Stored};
 use crate::sequence::SequenceLens;
-use bitm_lent::{lower_len, samples_len, upper_len};
+use bitm_view::{lower_len, samples_len, upper_len};
 
 /// How many words the header has.
 const HEADER_WORDS: usize = 24;

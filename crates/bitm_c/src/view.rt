@@ -1,10 +1,10 @@
 //! Words and tables in the caller's memory, and the index over them: what the calls of an index take.
 ghost use Rattle.std.specs.Prelude.{◌≡◌, ◌^◌, ◌<◌, ◌≤◌, SomeIff, length};
-ghost use Rattle.bitm_lent.specs.Cut.{IsSizedCut};
+ghost use Rattle.bitm_view.specs.Cut.{IsSizedCut};
 ghost use Rattle.bitm_c.specs.Queries.{cut_of};
 
 use crate::sampled::Samples;
-use bitm_lent::{IndexView, Lent};
+use bitm_view::{IndexView, Lent};
 
 /// An index in the caller's memory: words with their two tables, of which the first `bits_len` bits are the bit vector,
 /// and samples of either kind of bit, which may be none. For C each slice is a pointer and a length.

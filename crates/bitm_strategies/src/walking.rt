@@ -1,16 +1,16 @@
 //! The search for an entry of a part by a walk from an earlier one.
 ghost use Rattle.std.specs.Prelude.{◌≡◌, ◌+◌, ◌-◌, ◌*◌, ◌/◌, ◌<◌, ◌≤◌, length};
 ghost use Rattle.bit_lists.specs.Bits.{bits_of, IsShort};
-ghost use Rattle.bitm_search.specs.Entry.{lower_entry};
-ghost use Rattle.bitm_search.specs.Reads.{ReadsAtMost};
-ghost use Rattle.bitm_search.specs.Search.{entry_in, IsAbove, IsLastEntry, entries_from, items_to, sought_in};
-ghost use Rattle.bitm_search.specs.Tables.{HasTables};
+ghost use Rattle.bitm_select.specs.Entry.{lower_entry};
+ghost use Rattle.bitm_select.specs.Reads.{ReadsAtMost};
+ghost use Rattle.bitm_select.specs.Search.{entry_in, IsAbove, IsLastEntry, entries_from, items_to, sought_in};
+ghost use Rattle.bitm_select.specs.Tables.{HasTables};
 
-use bitm_search::entry::{entries_of_part, ones_to_entry};
-use bitm_search::levels::L2_ENTRIES_PER_L1_ENTRY;
-use bitm_search::search::entries::sought_entry;
-use bitm_search::search::record::NOT_READ;
-use bitm_search::source::TableSource;
+use bitm_select::entry::{entries_of_part, ones_to_entry};
+use bitm_select::levels::L2_ENTRIES_PER_L1_ENTRY;
+use bitm_select::search::entries::sought_entry;
+use bitm_select::search::record::NOT_READ;
+use bitm_select::source::TableSource;
 
 /// The last entry of a part, from entry `from` on, with no more than `rank` of the kind before it in the part: its
 /// place in the part, what it packs, and how many of the kind stand in the part before the next one, or `NOT_READ` where

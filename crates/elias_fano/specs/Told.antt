@@ -2,7 +2,7 @@
 use Rattle.std.specs.Prelude.{◌≡◌, ⊤, ℕ, ◌+◌, ◌-◌, ◌/◌, ◌%◌, ◌^◌, ◌<◌, ◌≤◌, ◌⊎◌, false, length}
 use Rattle.bitm.specs.Bits.{item}
 use Rattle.bitm.specs.Tables.{Lists, bits_in}
-use Rattle.bitm_search.specs.Told.{less, TellsNone}
+use Rattle.bitm_select.specs.Told.{less, TellsNone}
 use Rattle.elias_fano.specs.LentParts.{LentParts}
 use Rattle.elias_fano.specs.Low.{fragment, unread}
 use Rattle.bitm.specs.Answer.{Answer}

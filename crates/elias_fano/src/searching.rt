@@ -6,7 +6,7 @@ ghost use Rattle.bitm.specs.Bits.{bits_of, digit_count};
 ghost use Rattle.bitm.specs.Count.{Picks};
 ghost use Rattle.bitm.specs.Reads.{OnlyReads};
 ghost use Rattle.bitm.specs.Tables.{HasSizes, HasTables};
-ghost use Rattle.bitm_search.specs.Told.{less};
+ghost use Rattle.bitm_select.specs.Told.{less};
 ghost use Rattle.elias_fano.specs.Answers.{IsFirst, IsItem, IsOfPlace, IsPlaceOf};
 ghost use Rattle.elias_fano.specs.Buckets.{CountsTo, CountsBelow, HasEnds, LowsRise, Splits};
 ghost use Rattle.elias_fano.specs.LentParts.{parts_with, HasLengths, Holds};
@@ -16,8 +16,8 @@ ghost use Rattle.elias_fano.specs.Told.{IfPlace, PartsAt, TellsBelow, TellsLess,
 
 use crate::low::LowDigits;
 use bitm::{Answer, TableSource, n_lowest_bits, total_select_on};
-use bitm_search::search::many::ByTables;
-use bitm_search::search::selecting::search_on;
+use bitm_select::search::many::ByTables;
+use bitm_select::search::selecting::search_on;
 
 /// The number whose part above its low digits is `above`: the low digits are fragment `at`.
 ///
@@ -232,7 +232,7 @@ pub fn place_in_bucket(
 }
 
 /// What `total_first_at_least_on` answers. Where `TESTS` is 0 its selections look for no wrong tables but by the words,
-/// as in `search_on` of `bitm_search`.
+/// as in `search_on` of `bitm_select`.
 #[inline(always)]
 pub(crate) fn first_on<const TESTS: u8, T: TableSource>(
     source: &mut T,

@@ -8,7 +8,7 @@ ghost use Rattle.perfect_hash.specs.Parts.{AreLevels};
 ghost use Rattle.perfect_hash.specs.Places.{place_in, words_for};
 
 use crate::level::split_level;
-use bitm_lent::clear;
+use bitm_view::clear;
 
 /// At most this many levels are made.
 const LEVELS: usize = 256;

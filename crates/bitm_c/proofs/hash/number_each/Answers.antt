@@ -1,7 +1,7 @@
 -- One more item.
 use Rattle.std.proofs.Common.{slice_index, arith}
 use Rattle.bit_slices.proofs.lemmas.PositionLemmas.{placed_more}
-use Rattle.bitm_lent.specs.Queries.{ranked_by}
+use Rattle.bitm_view.specs.Queries.{ranked_by}
 use Rattle.bitm_c.specs.Hash.{IsHashNumber}
 use Rattle.bitm_c.proofs.hash.number_each.Goals as goal
 

@@ -1,5 +1,5 @@
 use Rattle.std.proofs.Common.{ℕ, ◌<◌, slice_index}
-use Rattle.bitm_lent.specs.Queries.{ranked_by}
+use Rattle.bitm_view.specs.Queries.{ranked_by}
 use Rattle.bitm_c.specs.Hash.{IsHashNumber}
 use Rattle.bitm_c.proofs.hash.number_each.Given as goal
 

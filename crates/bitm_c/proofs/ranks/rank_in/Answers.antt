@@ -1,5 +1,5 @@
 -- What is answered is told.
-use Rattle.bitm_lent.specs.Queries.{RanksIn}
+use Rattle.bitm_view.specs.Queries.{RanksIn}
 use Rattle.bitm_c.proofs.ToldLemmas.{told}
 use Rattle.bitm_c.proofs.ranks.rank_in.Goals as goal
 

@@ -5,9 +5,9 @@ use Rattle.std.specs.Int.{div_ceil}
 use Rattle.std.specs.List.{range_with_len}
 use Rattle.bit_lists.specs.Count.{as_bit}
 use Rattle.bitm_strategies.specs.Samples.{intervals, part_of, sample}
-use Rattle.bitm_search.specs.Search.{items_to, sought_bits}
+use Rattle.bitm_select.specs.Search.{items_to, sought_bits}
 use Rattle.bitm_strategies.proofs.lemmas.MadeLemmas.{sized_first, interval_item, half_within, one_more}
-use Rattle.bitm_search.proofs.lemmas.SoughtLemmas.{first_none}
+use Rattle.bitm_select.proofs.lemmas.SoughtLemmas.{first_none}
 use Rattle.bitm_strategies.proofs.samples.push_samples.Goals as goal
 
 pub sample_from-sample-requires-clause-item : goal.sample_from-sample-requires-clause-item

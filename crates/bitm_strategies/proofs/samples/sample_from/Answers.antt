@@ -3,7 +3,7 @@ use Rattle.std.proofs.Common.{◌≡◌, ℕ, ◌+◌, ◌*◌, ◌-◌, ◌%◌
 use Rattle.std.proofs.lemmas.Nat.{one_shl}
 use Rattle.bit_lists.specs.Count.{count_of, as_bit}
 use Rattle.bitm_strategies.specs.Samples.{IsSummaryOf, part_of}
-use Rattle.bitm_search.specs.Search.{IsLastEntry, items_to, sought_bits}
+use Rattle.bitm_select.specs.Search.{IsLastEntry, items_to, sought_bits}
 use Rattle.bitm_strategies.proofs.lemmas.MadeLemmas.{advanced, sample_middle, sample_alone}
 use Rattle.bitm_strategies.proofs.samples.sample_from.Goals as goal
 use Rattle.bitm_strategies.proofs.samples.sample_from.Goals.{After-min-distance}

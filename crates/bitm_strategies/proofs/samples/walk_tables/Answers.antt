@@ -2,8 +2,8 @@
 use Rattle.std.proofs.Common.{◌≡◌, ℕ, ◌+◌, ◌*◌, ◌-◌, ◌^◌, ◌<◌, ◌≤◌, List, Bool, sym, ◌∙◌, subst, arith}
 use Rattle.bit_lists.specs.Count.{as_bit}
 use Rattle.bitm_strategies.specs.Samples.{IsSummaryOf}
-use Rattle.bitm_search.specs.Search.{items_to, sought_bits}
-use Rattle.bitm_search.proofs.lemmas.SoughtLemmas.{low_is}
+use Rattle.bitm_select.specs.Search.{items_to, sought_bits}
+use Rattle.bitm_select.proofs.lemmas.SoughtLemmas.{low_is}
 use Rattle.bitm_strategies.proofs.samples.walk_tables.Goals as goal
 use Rattle.bitm_strategies.proofs.samples.walk_tables.Goals.{After-ones_to_entry}
 

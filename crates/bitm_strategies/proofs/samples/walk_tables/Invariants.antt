@@ -1,6 +1,6 @@
 use Rattle.std.proofs.Common.{◌-◌, ◌<◌, ◌≤◌, List, Bool}
 use Rattle.bitm_strategies.specs.Samples.{IsSummaryOf}
-use Rattle.bitm_search.specs.Search.{items_to}
+use Rattle.bitm_select.specs.Search.{items_to}
 use Rattle.bitm_strategies.proofs.samples.walk_tables.Given as goal
 
 -- the entry before this one has no more than the item's number before it

@@ -1,7 +1,7 @@
 use Rattle.std.proofs.Common.{◌≡◌, ◌+◌, ◌-◌, ◌*◌, ◌^◌, ◌<◌, ◌≤◌}
 use Rattle.bit_lists.specs.Bits.{bits_of}
-use Rattle.bitm_search.specs.Entry.{lower_entry}
-use Rattle.bitm_search.specs.Search.{items_to, sought_in}
+use Rattle.bitm_select.specs.Entry.{lower_entry}
+use Rattle.bitm_select.specs.Search.{items_to, sought_in}
 use Rattle.bitm_strategies.proofs.walking.walk.Given as goal
 
 -- the entry before this one has no more than the rank before it and is kept, and one read for each entry so far

@@ -1,0 +1,215 @@
+// libFuzzer over the C++ interface: changes of bits against std::vector<bool>, and files that hold anything.
+//     clang++ -std=c++17 -g -O1 -fsanitize=fuzzer,address,undefined -Iinclude bindings/cpp/fuzz.cpp ARCHIVE -o fuzz
+//     ./fuzz -max_total_time=60 -max_len=4096 corpus
+#include <bitm/bitm.hpp>
+
+#include <algorithm>
+#include <cstdio>
+#include <cstdlib>
+#include <fuzzer/FuzzedDataProvider.h>
+#include <vector>
+
+using u64 = std::uint64_t;
+static void broken(int line, const char *what)
+{
+    std::printf("line %d: %s\n", line, what);
+    std::abort();
+}
+#define MUST(...) ((__VA_ARGS__) ? void() : broken(__LINE__, #__VA_ARGS__))
+
+static void changes(FuzzedDataProvider &from)
+{
+    bitm::bits b;
+    std::vector<bool> model;
+    while (from.remaining_bytes() > 0) {
+        const u64 n = model.size(), at = from.ConsumeIntegralInRange<u64>(0, n),
+                  to = from.ConsumeIntegralInRange<u64>(at, n);
+        const bool value = from.ConsumeBool();
+        const auto m = [&](u64 i) { return model.begin() + static_cast<std::ptrdiff_t>(i); };
+        switch (from.ConsumeIntegralInRange(0, 12)) {
+        case 0: b.push_back(value), model.push_back(value); break;
+        case 1: if (at < n) b.set(at, value), model[at] = value; break;
+        case 2: b.fill(at, to, value), std::fill(m(at), m(to), value); break;
+        case 3: b.flip(at, to), std::transform(m(at), m(to), m(at), [](bool x) { return !x; }); break;
+        case 4: {
+            const u64 size = from.ConsumeIntegralInRange<u64>(0, 2000);
+            b.resize(size, value), model.resize(size, value);
+            break;
+        }
+        case 5: {
+            const u64 x = from.ConsumeIntegral<u64>();
+            const std::uint32_t len = from.ConsumeIntegralInRange(0u, 64u);
+            b.append(x, len);
+            for (std::uint32_t i = 0; i < len; i++) model.push_back(x >> i & 1);
+            break;
+        }
+        case 6:
+            if (n < 4000) {
+                b.append(b);
+                const auto c = model;
+                model.insert(model.end(), c.begin(), c.end());
+            }
+            break;
+        case 7: b <<= at, model.insert(model.begin(), at, false), model.resize(n); break;
+        case 8: b >>= at, model.erase(m(0), m(at)), model.resize(n); break;
+        case 9: b = b.slice(at, to), model = std::vector<bool>(m(at), m(to)); break;
+        case 10: {
+            const std::uint32_t len = static_cast<std::uint32_t>(std::min<u64>(64, n - at));
+            const u64 x = from.ConsumeIntegral<u64>();
+            b.set_bits(at, len, x);
+            for (std::uint32_t i = 0; i < len; i++) model[at + i] = x >> i & 1;
+            break;
+        }
+        case 11: {
+            bitm::bits other = b;
+            other.flip(at, to);
+            const u64 k = from.ConsumeIntegralInRange<u64>(0, 3);
+            std::vector<bool> o = model;
+            std::transform(o.begin() + static_cast<std::ptrdiff_t>(at), o.begin() + static_cast<std::ptrdiff_t>(to),
+                           o.begin() + static_cast<std::ptrdiff_t>(at), [](bool x) { return !x; });
+            if (k == 0) b &= other; else if (k == 1) b |= other; else if (k == 2) b ^= other; else b -= other;
+            for (u64 i = 0; i < n; i++)
+                model[i] = k == 0   ? model[i] && o[i]
+                           : k == 1 ? model[i] || o[i]
+                           : k == 2 ? model[i] != o[i]
+                                    : model[i] && !o[i];
+            break;
+        }
+        default: b.shrink_to_fit();
+        }
+        if (model.size() > 20000) b.resize(20000), model.resize(20000);
+    }
+    MUST(b.size() == model.size() && std::equal(b.begin(), b.end(), model.begin()));
+    const u64 n = model.size();
+    const bitm::rank_index x(b, {from.ConsumeBool() ? 7u : 0u, 0});
+    u64 ones = 0;
+    auto walk = b.ones().begin();
+    for (u64 i = 0; i < n; i++) {
+        MUST(x.rank(i) == ones && x[i] == model[i]);
+        if (model[i]) MUST(*walk == i && *x.select(ones) == i), ++walk, ones++;
+        else MUST(*x.select0(i - ones) == i);
+    }
+    MUST(walk == b.ones().end() && x.count() == ones && !x.select(ones) && !x.select0(n - ones) && x.check());
+}
+
+static void any_index(FuzzedDataProvider &from)
+{
+    // A right header before anything.
+    const u64 bits = from.ConsumeIntegralInRange<u64>(0, 6000), len = bits / 64 + (bits % 64 != 0);
+    const std::uint32_t log2 = from.ConsumeBool() ? from.ConsumeIntegralInRange(7u, 31u) : 0,
+                        log2_0 = from.ConsumeBool() ? 8u : 0;
+    const u64 most = log2 ? bitm_index_samples_len(len, log2) : 0,
+              most0 = log2_0 ? bitm_index_samples_len(len, log2_0) : 0;
+    bitm_stored header;
+    if (bitm_stored_index(bits, log2, from.ConsumeIntegralInRange<u64>(0, most), log2_0, most0, &header) != BITM_OK)
+        return;
+    std::vector<unsigned char> file(header.size);
+    std::memcpy(file.data(), &header, sizeof header);
+    const auto body = from.ConsumeRemainingBytes<unsigned char>();
+    std::copy_n(body.begin(), std::min(body.size(), file.size() - sizeof header), file.begin() + sizeof header);
+    const bitm::rank_index x = bitm::rank_index::of_bytes(file);
+    const bool right = x.check();
+    const bitm::bits_view bits_of_it = x.as_bits();
+    std::vector<u64> q, out(40), out0(40);
+    for (u64 i = 0; i < 40; i++) {
+        const u64 at = (i * 0x9E3779B97F4A7C15u) % (bits + 2);
+        q.push_back(at);
+        const auto rank = x.try_rank(at);
+        if (at > bits) MUST(!rank && rank.error().code == bitm::errc::outside);
+        else if (rank) MUST(*rank <= at && (!right || *rank == bits_of_it.count(0, at)));
+        const auto found = x.try_select(at), found0 = x.try_select0(at);
+        if (found && *found) MUST(**found < bits && x[**found] && (!right || bits_of_it.count(0, **found) == at));
+        if (found0 && *found0) MUST(**found0 < bits && !x[**found0]);
+        if (right) MUST(rank.has_value() == (at <= bits) && found && found0);
+        try {
+            if (const auto next = x.next_one(at)) MUST(!right || next == bits_of_it.next_one(at));
+        } catch (const bitm::wrong_tables &) {
+            MUST(!right);
+        }
+    }
+    try {
+        x.select(q, out), x.select0(q, out0);
+    } catch (const bitm::wrong_tables &) {
+        MUST(!right);
+    }
+    for (const u64 it : out) MUST(it < std::max<u64>(bits, 1) || it >= bitm::wrong_answer);
+    u64 walked = 0;
+    for (const u64 at : x.ones()) MUST(x[at]), walked++;
+    MUST(walked == bits_of_it.count());
+}
+
+static void any_sequence(FuzzedDataProvider &from)
+{
+    const u64 n = from.ConsumeIntegralInRange<u64>(0, 400),
+              largest = n ? from.ConsumeIntegral<u64>() >> from.ConsumeIntegralInRange(0, 63) : 0;
+    bitm_sequence_lens lens;
+    bitm_stored header;
+    if (bitm_sequence_sizes(n, largest, &lens) != BITM_OK || bitm_stored_sequence(n, &lens, &header) != BITM_OK) return;
+    std::vector<unsigned char> file(header.size);
+    std::memcpy(file.data(), &header, sizeof header);
+    const auto body = from.ConsumeRemainingBytes<unsigned char>();
+    std::copy_n(body.begin(), std::min(body.size(), file.size() - sizeof header), file.begin() + sizeof header);
+    const bitm::sequence s = bitm::sequence::of_bytes(file);
+    const bool right = s.check();
+    u64 steps = 0, last = 0;
+    try {
+        for (const u64 it : s.walk()) MUST(!right || (it >= last && it == s[steps])), last = it, steps++;
+        MUST(!right || steps == n);
+    } catch (const bitm::wrong_tables &) {
+        MUST(!right);
+    }
+    MUST(steps <= n);
+    for (u64 i = 0; i < 20; i++) {
+        const u64 value = largest / 19 * i;
+        const auto found = s.try_first_at_least(value), before = s.try_last_at_most(value);
+        if (found && *found) MUST(**found < n && (!right || s[**found] >= value));
+        if (before && *before) MUST(**before < n && (!right || s[**before] <= value));
+        try {
+            auto walk = s.walk();
+            if (walk.advance_to(value)) MUST(walk.position() < n && (!right || *walk >= value));
+        } catch (const bitm::wrong_tables &) {
+            MUST(!right);
+        }
+    }
+}
+
+static void any_hash(FuzzedDataProvider &from)
+{
+    std::vector<u64> hashes(from.ConsumeIntegralInRange<std::size_t>(0, 500));
+    u64 state = from.ConsumeIntegral<u64>();
+    for (u64 &it : hashes) it = state = state * 6364136223846793005u + 1442695040888963407u;
+    const bitm::perfect_hash h(hashes, from.ConsumeIntegralInRange(0u, 300u));
+    std::vector<bool> used(hashes.size());
+    for (const u64 it : hashes) MUST(h(it) && *h(it) < used.size() && !used[*h(it)]), used[*h(it)] = true;
+    // anything after the header
+    std::vector<unsigned char> file(h.bytes().begin(), h.bytes().end());
+    while (from.remaining_bytes() > 0)
+        file[from.ConsumeIntegralInRange<std::size_t>(0, file.size() - 1)] = from.ConsumeIntegral<unsigned char>();
+    const auto wrong = bitm::perfect_hash::try_of_bytes(file);
+    if (!wrong) return;
+    for (const u64 it : hashes) {
+        const auto number = wrong->try_number(it);
+        if (number && *number) MUST(**number < wrong->size());
+    }
+}
+
+static void any_file(const unsigned char *data, std::size_t size)
+{
+    (void)bitm::rank_index::try_of_bytes({data, size}, bitm::verify::yes).has_value();
+    (void)bitm::sequence::try_of_bytes({data, size}, bitm::verify::yes).has_value();
+    (void)bitm::perfect_hash::try_of_bytes({data, size}, bitm::verify::yes).has_value();
+}
+
+extern "C" int LLVMFuzzerTestOneInput(const unsigned char *data, std::size_t size)
+{
+    if (size == 0) return 0;
+    FuzzedDataProvider from(data + 1, size - 1);
+    switch (data[0] % 5) {
+    case 0: changes(from); break;
+    case 1: any_index(from); break;
+    case 2: any_sequence(from); break;
+    case 3: any_hash(from); break;
+    default: any_file(data + 1, size - 1);
+    }
+    return 0;
+}

@@ -1,0 +1,57 @@
+-- A search by halves: what it knows on the way, and that it takes no more tests than its range has binary digits.
+use Rattle.std.proofs.Common.{◌≡◌, ℕ, ◌+◌, ◌-◌, ◌/◌, ◌<◌, ◌≤◌, ◌⊎◌, ⊎_elim, arith, sym, subst}
+use Rattle.bit_lists.proofs.lemmas.DigitLemmas.{digit_count-mono, digit_count_half}
+use Rattle.bit_lists.specs.Bits.{digit_count}
+use Rattle.bitm_select.specs.Search.{Between, IsLast}
+
+module _ (count : ℕ → ℕ) (n r : ℕ) where
+  pub search_begins : 0 < n → count 0 ≤ r → Between count n r 0 n
+  search_begins some z = record { some = some; bound = omega arith; at_most = z; above = λ h. absurd (omega arith) }
+
+  -- the two sides of any cut of the range
+  pub goes_over : (low left cut : ℕ) → Between count n r low left → 0 < cut → cut < left → count (low + cut) ≤ r
+      → Between count n r (low + cut) (left - cut)
+  goes_over low left cut b some inside le =
+      let e : low + cut + (left - cut) ≡ low + left = omega arith in
+      record {
+        some = omega arith;
+        bound = omega (arith, b.bound);
+        at_most = le;
+        above = λ m. subst (λ k. r < count k) (sym e) (b.above (omega arith));
+      }
+
+  pub goes_under : (low left cut : ℕ) → Between count n r low left → 0 < cut → cut < left → r < count (low + cut)
+      → Between count n r low cut
+  goes_under low left cut b some inside lt =
+      record { some = some; bound = omega (arith, b.bound); at_most = b.at_most; above = λ m. lt }
+
+  -- one test in the middle, whichever way it goes: the counts do not fall
+  pub halves : (low left next seen : ℕ) → Between count n r low left → 1 < left → seen ≡ count (low + left / 2)
+      → ((seen ≤ r) × (next ≡ low + left / 2)) ⊎ ((r < seen) × (next ≡ low)) → ((j k : ℕ) → j ≤ k → k < n → count j ≤ count k)
+      → Between count n r next (left - left / 2)
+  halves low left next seen b h is side rise =
+      let P : ℕ → Type 0 = λ k. Between count n r k (left - left / 2) in
+      ⊎_elim
+      (λ up. subst P (sym up.1) (goes_over low left (left / 2) b (omega (arith, h)) (omega (arith, h)) (omega (arith, is, up.0))))
+      (λ down.
+      let lt : r < count (low + left / 2) = omega (arith, is, down.0) in
+      let rest : Between count n r low (left - left / 2) =
+      record {
+        some = omega (arith, h);
+        bound = omega (arith, b.bound);
+        at_most = b.at_most;
+        above = λ m. omega (arith, lt, rise (low + left / 2) (low + (left - left / 2)) (omega (arith, h)) m);
+      } in
+      subst P (sym down.1) rest)
+      side
+
+  pub search_ends : (low left : ℕ) → Between count n r low left → left ≤ 1 → IsLast count n r low
+  search_ends low left b h =
+      let e : low + 1 ≡ low + left = omega (arith, b.some) in
+      let next : low + 1 < n → r < count (low + 1) = λ m. subst (λ k. r < count k) (sym e) (b.above (omega arith)) in
+      record { inside = omega (arith, b.bound, b.some); at_most = b.at_most; next = next }
+
+-- a test leaves half of what was left, rounded up
+pub halves_left : (left : ℕ) → 1 < left → digit_count (left - left / 2 - 1) + 1 ≤ digit_count (left - 1)
+halves_left left h =
+    omega (arith, digit_count_half (left - 1) (omega arith), digit_count-mono (left - left / 2 - 1) ((left - 1) / 2) (omega arith))

@@ -1,0 +1,18 @@
+use Rattle.std.proofs.Common.{◌≡◌, ◌+◌, ◌-◌, ◌*◌, ◌<◌}
+use Rattle.bit_lists.specs.Count.{ones_before}
+use Rattle.bitm_select.specs.Search.{sought_in}
+use Rattle.bitm_select.proofs.search.record.among_last.Given as goal
+
+-- the ones that are left, up to the last word that is not counted, and one read for each word so far
+abbrev pub invariant-loop-k : goal.invariant-loop-k
+invariant-loop-k g l =
+    let T = g.T.TableSource in
+    let m = sought_in g.row.BIT (T.lists l.fn.source).words in
+    record {
+      some : 0 < l.left;
+      left : ones_before m (64 * (l.first + (8 - l.k))) + l.rest ≡ ones_before m (64 * (l.first + 8)) + l.left;
+      words : (T.reads l.source).words ≡ (T.reads l.fn.source).words + l.k;
+      upper : (T.reads l.source).upper ≡ (T.reads l.fn.source).upper;
+      lower : (T.reads l.source).lower ≡ (T.reads l.fn.source).lower;
+      same : T.lists l.source ≡ T.lists l.fn.source;
+    }

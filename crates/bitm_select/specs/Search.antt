@@ -1,0 +1,84 @@
+-- The bits in which ones are sought, and where the tables tell that one of a rank is.
+use Rattle.std.specs.Prelude.{◌≡◌, ℕ, ◌+◌, ◌*◌, ◌^◌, ◌<◌, ◌≤◌, Bool, if◌then◌else◌, List, length, slice_index}
+use Rattle.bit_lists.specs.Bits.{bits_of}
+use Rattle.bit_lists.specs.Count.{ones_before, as_bit}
+use Rattle.bit_lists.specs.Number.{number_at}
+use Rattle.bitm_tables.specs.Entry.{before_in_part}
+pub use Rattle.bitm_tables.specs.Entry.{entries_from, negation, padded_bits}
+use Rattle.bitm_tables.specs.Tables.{HasTables, Lists}
+use Rattle.bitm_select.specs.Told.{told_entry}
+use Rattle.bitm_select.specs.declared.search.entries.EntryRange.{EntryRange}
+
+-- the bits in which ones are sought: the padded bits, all negated where v is false, so that a missing bit of the last
+-- entry counts as a zero
+abbrev pub sought_bits : Bool → List Bool → List Bool
+sought_bits v b = if v then padded_bits b else negation (padded_bits b)
+
+-- the bits of words in which ones are sought, where 0 stands for zeros and each other number for ones
+abbrev pub sought_in : ℕ → List ℕ → List Bool
+sought_in bit words = sought_bits (as_bit bit) (bits_of words)
+
+-- k is the last of n places whose count is at most r, as far as the next one tells
+pub record IsLast (count : ℕ → ℕ) (n r k : ℕ) : Type 0 where
+  pub inside : k < n
+  pub at_most : count k ≤ r
+  pub next : k + 1 < n → r < count (k + 1)
+
+-- a search, among n counts that rise, for the last one that is at most r: it is among those from low on, of which so
+-- many are left
+pub record Between (count : ℕ → ℕ) (n r low left : ℕ) : Type 0 where
+  pub some : 0 < left
+  pub bound : low + left ≤ n
+  pub at_most : count low ≤ r
+  pub above : low + left < n → r < count (low + left)
+
+-- none of eight counts is more than a later one
+abbrev pub Rise : List ℕ → Type 0
+Rise counts = (i j : ℕ) → i ≤ j → j < 8 → slice_index counts i ≤ slice_index counts j
+
+-- how many ones stand before each of the eight words from `first` on, counted from the first bit of that one
+abbrev pub AreOnesToWords : List Bool → ℕ → List ℕ → Type 0
+AreOnesToWords m first counts = (k : ℕ) → k < 8 → ones_before m (64 * first) + slice_index counts k ≡ ones_before m (64 * (first + k))
+
+-- the last part with no more than r ones before it
+abbrev pub IsLastPart : List Bool → ℕ → ℕ → ℕ → Type 0
+IsLastPart m parts r part = IsLast (λ k. ones_before m (k * 2 ^ 32)) parts r part
+
+-- the last part with no more than r of the kind before it, of which rest are left there
+pub record IsPartOf (bit : ℕ) (lists : Lists) (r part rest : ℕ) : Type 0 where
+  pub last : IsLastPart (sought_in bit lists.words) (length lists.upper) (ones_before (sought_in bit lists.words) (part * 2 ^ 32) + rest) part
+  pub total : ones_before (sought_in bit lists.words) (part * 2 ^ 32) + rest ≡ r
+
+-- entry j of a part, counted from the first entry of all
+abbrev pub entry_in : ℕ → ℕ → ℕ
+entry_in part j = part * 2 ^ 21 + j
+
+-- the last entry of a part with no more than r ones before it in the part
+abbrev pub IsLastEntry : List Bool → ℕ → ℕ → ℕ → ℕ → Type 0
+IsLastEntry m entries part r e = IsLast (λ j. before_in_part m (entry_in part j)) (entries_from entries part) r e
+
+-- how many of the kind stand in a part before the entry after entry e; 2^62 and more say nothing
+abbrev pub IsAbove : ℕ → Lists → ℕ → ℕ → ℕ → Type 0
+IsAbove bit lists part e above = above < 2 ^ 62 → (e + 1 < entries_from (length lists.lower) part)
+    × (above ≡ before_in_part (sought_in bit lists.words) (entry_in part (e + 1)))
+
+-- the last entry of a part with no more than r ones before it in the part is among those from low on, of which so many
+-- are left
+abbrev pub IsAmong : List Bool → ℕ → ℕ → ℕ → ℕ → ℕ → Type 0
+IsAmong m entries part r low left = Between (λ j. before_in_part m (part * 2 ^ 21 + j)) (entries_from entries part) r low left
+
+-- a range of the entries of a part, and what its first entry is told to pack, unless it is the part's first; where the
+-- tables are those of the words, the last entry of the part with no more than r ones before it is in the range
+pub record IsRange (bit : ℕ) (lists : Lists) (part r : ℕ) (range : EntryRange) : Type 0 where
+  pub some : 0 < range.left
+  pub within : range.low + range.left ≤ entries_from (length lists.lower) part
+  pub among : HasTables lists → IsAmong (sought_in bit lists.words) (length lists.lower) part r range.low range.left
+  pub packed : 0 < range.low → range.packed ≡ told_entry (as_bit bit) lists (entry_in part range.low)
+
+-- how many of the bits that are sought stand in a part before its entry j
+abbrev pub items_to : ℕ → List Bool → ℕ → ℕ → ℕ
+items_to bit b part j = before_in_part (sought_bits (as_bit bit) b) (entry_in part j)
+
+-- w is word k of the bits: the number that 64 of them are, lowest first
+abbrev pub IsWord : List Bool → ℕ → ℕ → Type 0
+IsWord m k w = w ≡ number_at m (64 * k) 64

@@ -1,0 +1,34 @@
+//! What a selection answers, as a value and as a number in a list of answers.
+ghost use Rattle.std.specs.Prelude.{◌≡◌};
+ghost use Rattle.bitm_select.specs.Answers.{place_in, told_in};
+
+use bitm_tables::answer::Answer;
+
+/// The place that a selection found, if one was.
+#[inline(always)]
+pub fn found(selected: Answer<usize>) -> Option<usize>
+    ensures { result ≡ place_in selected }
+{
+    match selected {
+        Answer::Found(place) => Some(place),
+        Answer::Absent | Answer::Wrong => None,
+    }
+}
+
+/// In a list of answers: there is no such place or bit.
+pub const NO_ANSWER: usize = usize::MAX;
+
+/// In a list of answers: the tables are not those of the words.
+pub const WRONG_TABLES: usize = usize::MAX - 1;
+
+/// What a list of answers says of a selection: the place, `NO_ANSWER` or `WRONG_TABLES`.
+#[inline(always)]
+pub fn told(selected: Answer<usize>) -> usize
+    ensures { result ≡ told_in selected }
+{
+    match selected {
+        Answer::Found(place) => place,
+        Answer::Absent => NO_ANSWER,
+        Answer::Wrong => WRONG_TABLES,
+    }
+}

@@ -1,0 +1,215 @@
+//! Selection over a source, with a bound on its reads: the part, the entry, and what stands in it.
+//!
+//! The part and the entry are sought in tables that may hold anything: where they are not those of the words, the
+//! search ends as well, with some part and some entry.
+ghost use Rattle.std.specs.Prelude.{◌≡◌, ⊤, ℕ, ◌+◌, ◌-◌, ◌*◌, ◌/◌, ◌^◌, ◌<◌, ◌≤◌, ◌≢◌, length};
+ghost use Rattle.bit_lists.specs.Bits.{digit_count};
+ghost use Rattle.bit_lists.specs.Count.{ones_before, as_bit, IsSelect};
+ghost use Rattle.bitm_select.specs.Answers.{HasBit, IsSelected};
+ghost use Rattle.bitm_tables.specs.Reads.{upper_read, OnlyReads, ReadsAtMost};
+ghost use Rattle.bitm_select.specs.Search.{entry_in, sought_in, IsLastEntry, IsLastPart, IsPartOf};
+ghost use Rattle.bitm_tables.specs.Tables.{HasSizes, HasTables, IsIndexed, Lists, bits_in};
+ghost use Rattle.bitm_tables.specs.Entry.{entries_from, less, lower_entry};
+ghost use Rattle.bitm_select.specs.Told.{told_entry, told_part, IfAbsent, TellsNone};
+
+use crate::search::entries::last_entry;
+use crate::search::many::ByTables;
+use crate::search::record::{NOT_READ, in_packed};
+use bitm_tables::answer::Answer;
+use crate::search::selected::found;
+use bitm_tables::source::TableSource;
+
+/// How the entry of a rank is found in a part: by halves, or by samples.
+pub trait FindsEntry<const BIT: u8, T: TableSource> {
+    /// At most so many lower entries are read.
+    ghost lowers: { ℕ };
+
+    /// Where the value leads to the entry, in these tables: so many lower entries are enough then.
+    ghost leads: { Self → Lists → Type 0 };
+
+    /// At most so many lower entries are read where the value leads to the entry.
+    ghost lowers_led: { ℕ };
+
+    /// The last entry of a part with no more than `rank` of the kind before it in the part, where the tables are those
+    /// of the words, and what it packs; else some entry of the part.
+    ///
+    /// # Conditions
+    /// There is such a part, and the tables are as long as those of the words. They may hold anything.
+    fn entry(&self, source: &mut T, part: usize, rank: usize) -> (usize, u64)
+        requires sized { HasSizes (T.lists source.old) }
+        requires inside { part < length (T.lists source.old).upper }
+        ensures inside { result.0 < entries_from (length (T.lists source.old).lower) part }
+        ensures last { HasTables (T.lists source.old)
+            → IsLastEntry (sought_in BIT (T.lists source.old).words)
+            (length (T.lists source.old).lower) part rank result.0 }
+        ensures entry { HasTables (T.lists source.old) → result.1
+            ≡ lower_entry (sought_in BIT (T.lists source.old).words) (entry_in part result.0) }
+        ensures told { result.1
+            ≡ told_entry (as_bit BIT) (T.lists source.old) (entry_in part result.0) }
+        ensures reads { ReadsAtMost (T.reads source.old) (T.reads source.new) 0 lowers 0 }
+        ensures reads_led { leads self.now (T.lists source.old)
+            → ReadsAtMost (T.reads source.old) (T.reads source.new) 0 lowers_led 0 }
+        ensures same { T.lists source.new ≡ T.lists source.old };
+}
+
+impl<const BIT: u8, T: TableSource> FindsEntry<BIT, T> for ByTables {
+    ghost lowers = { 23 };
+
+    ghost leads = { λ _ _. ⊤ };
+
+    ghost lowers_led = { 23 };
+
+    #[inline(always)]
+    fn entry(&self, source: &mut T, part: usize, rank: usize) -> (usize, u64) {
+        last_entry::<BIT, T>(source, part, rank)
+    }
+}
+
+/// The place of the one of the source's words with exactly `rank` ones before it; zeros in place of ones where `BIT`
+/// is 0.
+///
+/// Whatever the tables hold, a place that is found is inside and has such a bit. Where they are those of the words it
+/// is the right one, `Absent` is answered exactly where there is none, and `Wrong` never.
+///
+/// # Conditions
+/// There are fewer than 2^58 words, and the tables have the right lengths. They may hold anything.
+/// # Cost
+/// At most as many upper entries as their number has binary digits and one more, 23 lower entries and eight words are
+/// read, whatever the tables hold.
+pub fn total_select_on<const BIT: u8, T: TableSource>(source: &mut T, rank: usize) -> Answer<usize>
+    requires { HasSizes (T.lists source.old) }
+    ensures bit { HasBit (bits_in (T.lists source.old)) (as_bit BIT) result }
+    ensures answer { HasTables (T.lists source.old)
+        → IsSelected (bits_in (T.lists source.old)) (as_bit BIT) rank result }
+    ensures none { IfAbsent result (TellsNone (as_bit BIT) (T.lists source.old) rank) }
+    ensures reads { OnlyReads T.lists T.reads source.old source.new
+        (digit_count (length (T.lists source.old).upper) + 1) 23 8 }
+{
+    search_on::<BIT, 1, T, ByTables>(source, &ByTables, rank)
+}
+
+/// The place of the one of the source's words with exactly `rank` ones before it, and `None` exactly where there is
+/// none; zeros in place of ones where `BIT` is 0.
+///
+/// # Conditions
+/// The source's tables are those of its words, of fewer than 2^58 words.
+/// # Cost
+/// At most as many upper entries as their number has binary digits and one more, 23 lower entries and eight words are
+/// read, also where the answer is `None`.
+/// # Source
+/// The levels are those of Zhou, Andersen and Kaminsky, 'Space-efficient, high-performance rank and select structures
+/// on uncompressed bit sequences' (SEA 2013).
+pub fn binary_select_on<const BIT: u8, T: TableSource>(source: &mut T, rank: usize) -> Option<usize>
+    requires { IsIndexed (T.lists source.old) }
+    ensures answer { IsSelect (bits_in (T.lists source.old)) (as_bit BIT) rank result }
+    ensures reads { OnlyReads T.lists T.reads source.old source.new
+        (digit_count (length (T.lists source.old).upper) + 1) 23 8 }
+{
+    found(search_on::<BIT, 0, T, ByTables>(source, &ByTables, rank))
+}
+
+/// What `total_select_on` answers. Where `TESTS` is 0 no test looks for a difference that wrapped: a rank that did is
+/// in no record, so the words decide, and `Absent` may be answered in place of `Wrong`.
+///
+/// # Conditions
+/// Those of `total_select_on`.
+/// # Cost
+/// That of `total_select_on`.
+#[inline(always)]
+pub fn search_on<const BIT: u8, const TESTS: u8, T: TableSource, F: FindsEntry<BIT, T>>(
+    source: &mut T,
+    finder: &F,
+    rank: usize,
+) -> Answer<usize>
+    requires { HasSizes (T.lists source.old) }
+    ensures bit { HasBit (bits_in (T.lists source.old)) (as_bit BIT) result }
+    ensures answer { HasTables (T.lists source.old)
+        → IsSelected (bits_in (T.lists source.old)) (as_bit BIT) rank result }
+    ensures none { TESTS ≢ 0
+        → IfAbsent result (TellsNone (as_bit BIT) (T.lists source.old) rank) }
+    ensures reads { OnlyReads T.lists T.reads source.old source.new
+        (digit_count (length (T.lists source.old).upper) + 1) F.lowers 8 }
+    ensures reads_led { F.leads finder.now (T.lists source.old)
+        → ReadsAtMost (T.reads source.old) (T.reads source.new)
+        (digit_count (length (T.lists source.old).upper) + 1) F.lowers_led 8 }
+{
+    if source.upper_len() == 0 {
+        return Answer::Absent;
+    }
+    let (part, in_part) = part_of_rank::<BIT, T>(source, rank);
+    if TESTS != 0 && in_part > rank {
+        return Answer::Wrong;
+    }
+    let (entry, packed) = finder.entry(source, part, in_part);
+    in_packed::<BIT, TESTS, T>(source, part, entry, packed, NOT_READ, in_part)
+}
+
+/// How many ones, or zeros where `BIT` is 0, stand before a part, where the tables are those of the words.
+#[inline(always)]
+pub fn before_part<const BIT: u8, T: TableSource>(source: &mut T, part: usize) -> usize
+    requires { part < length (T.lists source.old).upper }
+    ensures count { IsIndexed (T.lists source.old) → result
+        ≡ ones_before (sought_in BIT (T.lists source.old).words) (part * 2 ^ 32) }
+    ensures told { result ≡ told_part (as_bit BIT) (T.lists source.old) part }
+    ensures counted { T.reads source.new ≡ upper_read (T.reads source.old) }
+    ensures same { T.lists source.new ≡ T.lists source.old }
+{
+    let ones = source.upper(part);
+    if BIT == 0 {
+        (part << 32).wrapping_sub(ones)
+    } else {
+        ones
+    }
+}
+
+/// The last part with no more than `rank` of the kind before it, where the tables are those of the words; else some
+/// part.
+///
+/// # Conditions
+/// There is a part. The tables may hold anything.
+/// # Cost
+/// At most as many upper entries as their number has binary digits are read, whatever they hold.
+pub fn last_part<const BIT: u8, T: TableSource>(source: &mut T, rank: usize) -> usize
+    requires { 0 < length (T.lists source.old).upper }
+    ensures inside { result < length (T.lists source.old).upper }
+    ensures last { IsIndexed (T.lists source.old)
+        → IsLastPart (sought_in BIT (T.lists source.old).words)
+        (length (T.lists source.old).upper) rank result }
+    ensures reads { ReadsAtMost (T.reads source.old) (T.reads source.new)
+        (digit_count (length (T.lists source.old).upper)) 0 0 }
+    ensures same { T.lists source.new ≡ T.lists source.old }
+{
+    let mut low = 0;
+    let mut left = source.upper_len();
+    while left > 1 {
+        let half = left / 2;
+        if before_part::<BIT, T>(source, low + half) <= rank {
+            low += half;
+        }
+        left -= half;
+    }
+    low
+}
+
+/// The last part with no more than `rank` of the kind before it, and how many of them are left there, where the tables
+/// are those of the words; else some part. In wrong tables the difference may wrap: no record has a bit of such a rank.
+///
+/// # Conditions
+/// There is a part. The tables may hold anything.
+#[inline(always)]
+pub fn part_of_rank<const BIT: u8, T: TableSource>(source: &mut T, rank: usize) -> (usize, usize)
+    requires { 0 < length (T.lists source.old).upper }
+    ensures inside { result.0 < length (T.lists source.old).upper }
+    ensures part { IsIndexed (T.lists source.old)
+        → IsPartOf BIT (T.lists source.old) rank result.0 result.1 }
+    ensures told { result.1
+        ≡ less rank (told_part (as_bit BIT) (T.lists source.old) result.0) }
+    ensures fits { told_part (as_bit BIT) (T.lists source.old) result.0 < 2 ^ 64 }
+    ensures reads { ReadsAtMost (T.reads source.old) (T.reads source.new)
+        (digit_count (length (T.lists source.old).upper) + 1) 0 0 }
+    ensures same { T.lists source.new ≡ T.lists source.old }
+{
+    let part = last_part::<BIT, T>(source, rank);
+    let before = before_part::<BIT, T>(source, part);
+    (part, rank.wrapping_sub(before))
+}

@@ -1,0 +1,21 @@
+-- One more rank is cut.
+use Rattle.std.proofs.Common.{rules, ℕ, slice_index, refl, subst, sym, arith}
+use Rattle.bit_lists.specs.Count.{as_bit}
+use Rattle.bitm_select.specs.Answers.{RankTold}
+use Rattle.bitm_view.specs.Queries.{ranked_by, RanksIn}
+use Rattle.bitm_view.proofs.ListLemmas.{each_more}
+use Rattle.bitm_view.proofs.view.IndexView.cut_ranks.Goals as goal
+
+pub loop-at-preserved : goal.loop-at-preserved
+loop-at-preserved g c =
+    let i = c.loop-at.invariant in
+    record {
+      long = search rules;
+      each =
+          each_more (λ (q n : ℕ). RanksIn (as_bit g.row.BIT) c.args.self.now q (ranked_by n)) c.args.positions.now c.loop-at.out c.loop-at.at
+          c.cut_rank.result (omega arith) i.each
+          (c.cut_rank.ensures (as_bit g.row.BIT) (slice_index c.args.positions.now c.loop-at.at) refl
+          (subst (λ (n : ℕ). RankTold (as_bit g.row.BIT) c.args.self.now.lists (slice_index c.args.positions.now c.loop-at.at) n) (sym (i.rest c.loop-at.at (omega arith)))
+          (c.requires.told c.loop-at.at (omega arith))));
+      rest = search rules;
+    }

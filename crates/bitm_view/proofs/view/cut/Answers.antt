@@ -1,0 +1,23 @@
+-- A place behind the content says that there are no more; one before its end is the same.
+use Rattle.std.proofs.Common.{ℕ, subst, arith}
+use Rattle.bitm_view.specs.Queries.{Selects}
+use Rattle.bitm.specs.Answer.{Answer}
+use Rattle.bitm_view.proofs.CutLemmas.{cut_found, cut_none, cut_past, cut_wrong}
+use Rattle.bitm_view.proofs.view.cut.Goals as goal
+
+pub returns-then-place-len : goal.returns-then-place-len
+returns-then-place-len c = λ v cut r same within s.
+    cut_found v cut within r c.in-Found.place (omega (arith, same, c.if-place-len.true))
+    (subst (λ (x : Answer ℕ). Selects v cut.lists r x) c.in-Found.is s)
+
+pub returns-else-place-len : goal.returns-else-place-len
+returns-else-place-len c = λ v cut r same within s.
+    cut_past v cut within r c.in-Found.place (omega (arith, same, c.if-place-len.false))
+    (subst (λ (x : Answer ℕ). Selects v cut.lists r x) c.in-Found.is s)
+
+pub returns-in-Absent : goal.returns-in-Absent
+returns-in-Absent c = λ v cut r same within s. cut_none v cut within r (subst (λ (x : Answer ℕ). Selects v cut.lists r x) c.in-Absent.is s)
+
+pub returns-in-Wrong : goal.returns-in-Wrong
+returns-in-Wrong c = λ v cut r same within s.
+    cut_wrong v cut within r (subst (λ (x : Answer ℕ). Selects v cut.lists r x) c.in-Wrong.is s)

@@ -1,0 +1,15 @@
+pub mod Cut
+pub mod Queries
+pub mod Ranks
+pub mod Samples
+pub mod Sizes
+pub use Rattle.bit_lists.specs.Bits
+pub use Rattle.bit_lists.specs.Count
+pub use Rattle.bitm.specs.Density
+pub use Rattle.bitm_select.specs.Answers
+pub use Rattle.bitm_select.specs.Entry
+pub use Rattle.bitm_select.specs.Many
+pub use Rattle.bitm_select.specs.Reads
+pub use Rattle.bitm_select.specs.Search
+pub use Rattle.bitm_select.specs.Tables
+pub use Rattle.bitm_select.specs.Told

@@ -1,0 +1,335 @@
+//! The entry of a rank by a guess between two samples, over a source with any tables and samples: it is sought
+//! near the guess, entry by entry or in a window. Where it is not there, it is found as `sampled` finds it.
+ghost use Rattle.std.specs.Prelude.{◌≡◌, ◌+◌, ◌*◌, ◌^◌, ◌<◌, ◌≤◌, length, IfSome};
+ghost use Rattle.bit_lists.specs.Count.{as_bit};
+ghost use Rattle.bitm_select.specs.Entry.{before_in_part, lower_entry};
+ghost use Rattle.bitm_select.specs.Reads.{ReadsAtMost};
+ghost use Rattle.bitm_select.specs.Search.{entries_from, entry_in, sought_in, IsLastEntry};
+ghost use Rattle.bitm_select.specs.Tables.{HasSizes, HasTables, bits_in};
+ghost use Rattle.bitm_view.specs.Samples.{AreSamplesOf};
+ghost use Rattle.bitm_select.specs.Told.{told_entry};
+
+use crate::sampled::{Bounds, entry_between, entry_by_samples, samples_to};
+use crate::samples::{LentSamples, clamped_log};
+use bitm_select::entry::{entries_of_part, ones_to_entry};
+use bitm_select::levels::L2_ENTRIES_PER_L1_ENTRY;
+use bitm_select::search::entries::sought_entry;
+use bitm_select::search::selecting::FindsEntry;
+use bitm_select::source::TableSource;
+
+/// So many entries on either side of a guess are asked one after another.
+const STEPS: usize = 4;
+
+/// Entries of a window round a guess.
+const WINDOW: usize = 8;
+
+/// So many of them stand before the guess.
+const BEFORE: usize = 3;
+
+/// Where fewer entries lie between two samples a guess is right most often, and steps from it are the fastest way: the
+/// processor knows before it has read the entries which one it will be.
+const DENSE: usize = 16;
+
+/// Where so many entries lie between two samples a guess is wrong too often.
+const SPARSE: usize = 512;
+
+/// Finds entries by a guess between two samples.
+#[derive(Clone, Copy)]
+pub struct ByGuess<'a> {
+    /// The samples. They may hold anything.
+    pub samples: LentSamples<'a>,
+}
+
+/// Where the entry of a rank is sought first.
+#[derive(Clone, Copy)]
+struct Guess {
+    /// An entry of a part that is near where the items lie evenly between two samples of the words; else any number.
+    at: usize,
+    /// How many entries lie between the two samples, if they are those of the words; else any number.
+    between: usize,
+}
+
+/// The guess for item `rank` of a part.
+#[inline(always)]
+fn guess_of(lent: &LentSamples<'_>, part: usize, rank: usize) -> Guess
+    requires { part < 2 ^ 60 }
+{
+    let log2 = clamped_log(lent.log2);
+    let begin = samples_to(lent, part).wrapping_add(rank >> log2);
+    let Some(sample) = lent.samples.get(begin) else {
+        return Guess {
+            at: 0,
+            between: SPARSE,
+        };
+    };
+    let low = (*sample & 0x1F_FFFF) as usize;
+    let between = match lent.samples.get(begin.wrapping_add(1)) {
+        Some(next) => ((*next & 0x1F_FFFF) as usize).wrapping_sub(low),
+        // The sample tells how many entries half its interval has.
+        None => 2 * (*sample >> 21) as usize,
+    };
+    let interval = 1usize << log2;
+    let items = rank & interval.wrapping_sub(1);
+    let passed = items.wrapping_mul(between).wrapping_add(interval >> 1) >> log2;
+    Guess {
+        at: low.wrapping_add(passed),
+        between,
+    }
+}
+
+/// The last entry of a part with no more than `rank` of the kind before it in the part, where the tables are those of
+/// the words and entry `at`, which packs `packed`, has no more before it; `None` where it is more than four entries on.
+#[inline(always)]
+fn steps_on<const BIT: u8, T: TableSource>(
+    source: &mut T,
+    part: usize,
+    at: usize,
+    packed: u64,
+    rank: usize,
+) -> Option<(usize, u64)>
+    requires sized { HasSizes (T.lists source.old) }
+    requires inside { part < length (T.lists source.old).upper }
+    requires at { at < entries_from (length (T.lists source.old).lower) part }
+    requires at_most { HasTables (T.lists source.old)
+        → before_in_part (sought_in BIT (T.lists source.old).words) (entry_in part at) ≤ rank }
+    requires packed { packed ≡ told_entry (as_bit BIT) (T.lists source.old) (entry_in part at) }
+    ensures inside { IfSome result
+        (λ r. r.0 < entries_from (length (T.lists source.old).lower) part) }
+    ensures last { IfSome result (λ r. HasTables (T.lists source.old)
+        → IsLastEntry (sought_in BIT (T.lists source.old).words)
+        (length (T.lists source.old).lower) part rank r.0) }
+    ensures packed { IfSome result (λ r. r.1
+        ≡ told_entry (as_bit BIT) (T.lists source.old) (entry_in part r.0)) }
+    ensures reads { ReadsAtMost (T.reads source.old) (T.reads source.new) 0 4 0 }
+    ensures same { T.lists source.new ≡ T.lists source.old }
+{
+    let first = part * L2_ENTRIES_PER_L1_ENTRY;
+    let end = entries_of_part(source.lower_len(), part);
+    let mut packed = packed;
+    for k in 0..STEPS {
+        let next = at + k + 1;
+        if next >= end {
+            return Some((at + k, packed));
+        }
+        let entry = sought_entry::<BIT, T>(source, first + next);
+        if rank < ones_to_entry(entry) {
+            return Some((at + k, packed));
+        }
+        packed = entry;
+    }
+    None
+}
+
+/// The last entry of a part with no more than `rank` of the kind before it in the part, where the tables are those of
+/// the words and entry `at` has more before it; `None` where it is more than four entries back.
+#[inline(always)]
+fn steps_back<const BIT: u8, T: TableSource>(
+    source: &mut T,
+    part: usize,
+    at: usize,
+    rank: usize,
+) -> Option<(usize, u64)>
+    requires sized { HasSizes (T.lists source.old) }
+    requires inside { part < length (T.lists source.old).upper }
+    requires at { at < entries_from (length (T.lists source.old).lower) part }
+    requires above { HasTables (T.lists source.old)
+        → rank < before_in_part (sought_in BIT (T.lists source.old).words) (entry_in part at) }
+    ensures inside { IfSome result
+        (λ r. r.0 < entries_from (length (T.lists source.old).lower) part) }
+    ensures last { IfSome result (λ r. HasTables (T.lists source.old)
+        → IsLastEntry (sought_in BIT (T.lists source.old).words)
+        (length (T.lists source.old).lower) part rank r.0) }
+    ensures packed { IfSome result (λ r. r.1
+        ≡ told_entry (as_bit BIT) (T.lists source.old) (entry_in part r.0)) }
+    ensures reads { ReadsAtMost (T.reads source.old) (T.reads source.new) 0 4 0 }
+    ensures same { T.lists source.new ≡ T.lists source.old }
+{
+    let first = part * L2_ENTRIES_PER_L1_ENTRY;
+    for k in 0..STEPS {
+        if at <= k {
+            return None;
+        }
+        let next = at - k - 1;
+        let entry = sought_entry::<BIT, T>(source, first + next);
+        if ones_to_entry(entry) <= rank {
+            return Some((next, entry));
+        }
+    }
+    None
+}
+
+/// The last entry of a part with no more than `rank` of the kind before it in the part, where the tables are those of
+/// the words, and what it packs; `None` where it is more than four entries from entry `about`.
+#[inline(always)]
+fn entry_by_steps<const BIT: u8, T: TableSource>(
+    source: &mut T,
+    part: usize,
+    about: usize,
+    rank: usize,
+) -> Option<(usize, u64)>
+    requires sized { HasSizes (T.lists source.old) }
+    requires inside { part < length (T.lists source.old).upper }
+    ensures inside { IfSome result
+        (λ r. r.0 < entries_from (length (T.lists source.old).lower) part) }
+    ensures last { IfSome result (λ r. HasTables (T.lists source.old)
+        → IsLastEntry (sought_in BIT (T.lists source.old).words)
+        (length (T.lists source.old).lower) part rank r.0) }
+    ensures entry { IfSome result (λ r. HasTables (T.lists source.old) → r.1
+        ≡ lower_entry (sought_in BIT (T.lists source.old).words) (entry_in part r.0)) }
+    ensures packed { IfSome result (λ r. r.1
+        ≡ told_entry (as_bit BIT) (T.lists source.old) (entry_in part r.0)) }
+    ensures reads { ReadsAtMost (T.reads source.old) (T.reads source.new) 0 5 0 }
+    ensures same { T.lists source.new ≡ T.lists source.old }
+{
+    let entries = entries_of_part(source.lower_len(), part);
+    let at = about.min(entries - 1);
+    let packed = sought_entry::<BIT, T>(source, part * L2_ENTRIES_PER_L1_ENTRY + at);
+    if ones_to_entry(packed) <= rank {
+        steps_on::<BIT, T>(source, part, at, packed, rank)
+    } else {
+        steps_back::<BIT, T>(source, part, at, rank)
+    }
+}
+
+/// The same, `None` where it is not among the eight entries round entry `about`: by three halvings, without a branch on
+/// where it is.
+#[inline(always)]
+fn entry_in_window<const BIT: u8, T: TableSource>(
+    source: &mut T,
+    part: usize,
+    about: usize,
+    rank: usize,
+) -> Option<(usize, u64)>
+    requires sized { HasSizes (T.lists source.old) }
+    requires inside { part < length (T.lists source.old).upper }
+    ensures inside { IfSome result
+        (λ r. r.0 < entries_from (length (T.lists source.old).lower) part) }
+    ensures last { IfSome result (λ r. HasTables (T.lists source.old)
+        → IsLastEntry (sought_in BIT (T.lists source.old).words)
+        (length (T.lists source.old).lower) part rank r.0) }
+    ensures entry { IfSome result (λ r. HasTables (T.lists source.old) → r.1
+        ≡ lower_entry (sought_in BIT (T.lists source.old).words) (entry_in part r.0)) }
+    ensures packed { IfSome result (λ r. r.1
+        ≡ told_entry (as_bit BIT) (T.lists source.old) (entry_in part r.0)) }
+    ensures reads { ReadsAtMost (T.reads source.old) (T.reads source.new) 0 5 0 }
+    ensures same { T.lists source.new ≡ T.lists source.old }
+{
+    let entries = entries_of_part(source.lower_len(), part);
+    if entries < WINDOW {
+        return None;
+    }
+    let low = about.saturating_sub(BEFORE).min(entries - WINDOW);
+    let bounds = Bounds {
+        low,
+        end: low + WINDOW,
+    };
+    entry_between::<BIT, T>(source, part, bounds, rank)
+}
+
+/// The last entry of a part with no more than `rank` of the kind before it in the part, where the tables are those of
+/// the words, and what it packs; `None` where it is not near the guess. Where `SIDE_BY_SIDE` is 0 the fastest way for
+/// one query is taken, else that for many: without a branch on where the entry is.
+#[inline(always)]
+fn guessed_entry<const BIT: u8, const SIDE_BY_SIDE: u8, T: TableSource>(
+    source: &mut T,
+    lent: &LentSamples<'_>,
+    part: usize,
+    rank: usize,
+) -> Option<(usize, u64)>
+    requires sized { HasSizes (T.lists source.old) }
+    requires inside { part < length (T.lists source.old).upper }
+    ensures inside { IfSome result
+        (λ r. r.0 < entries_from (length (T.lists source.old).lower) part) }
+    ensures last { IfSome result (λ r. HasTables (T.lists source.old)
+        → IsLastEntry (sought_in BIT (T.lists source.old).words)
+        (length (T.lists source.old).lower) part rank r.0) }
+    ensures entry { IfSome result (λ r. HasTables (T.lists source.old) → r.1
+        ≡ lower_entry (sought_in BIT (T.lists source.old).words) (entry_in part r.0)) }
+    ensures packed { IfSome result (λ r. r.1
+        ≡ told_entry (as_bit BIT) (T.lists source.old) (entry_in part r.0)) }
+    ensures reads { ReadsAtMost (T.reads source.old) (T.reads source.new) 0 5 0 }
+    ensures same { T.lists source.new ≡ T.lists source.old }
+{
+    let Guess { at, between } = guess_of(lent, part, rank);
+    if between >= SPARSE {
+        return None;
+    }
+    if SIDE_BY_SIDE == 0 && between < DENSE {
+        entry_by_steps::<BIT, T>(source, part, at, rank)
+    } else {
+        entry_in_window::<BIT, T>(source, part, at, rank)
+    }
+}
+
+/// The last entry of a part with no more than `rank` of the kind before it in the part, where the tables are those of
+/// the words, and what it packs; else some entry of the part. Where it is not near the guess, it is sought between the
+/// samples, and where these do not lead to it, without them.
+#[inline(always)]
+pub(crate) fn entry_by_guess<const BIT: u8, const SIDE_BY_SIDE: u8, T: TableSource>(
+    source: &mut T,
+    lent: &LentSamples<'_>,
+    part: usize,
+    rank: usize,
+) -> (usize, u64)
+    requires sized { HasSizes (T.lists source.old) }
+    requires inside { part < length (T.lists source.old).upper }
+    ensures inside { result.0 < entries_from (length (T.lists source.old).lower) part }
+    ensures last { HasTables (T.lists source.old)
+        → IsLastEntry (sought_in BIT (T.lists source.old).words)
+        (length (T.lists source.old).lower) part rank result.0 }
+    ensures entry { HasTables (T.lists source.old) → result.1
+        ≡ lower_entry (sought_in BIT (T.lists source.old).words) (entry_in part result.0) }
+    ensures told { result.1
+        ≡ told_entry (as_bit BIT) (T.lists source.old) (entry_in part result.0) }
+    ensures reads { ReadsAtMost (T.reads source.old) (T.reads source.new) 0 51 0 }
+    ensures reads_by_samples { HasTables (T.lists source.old)
+        → AreSamplesOf (bits_in (T.lists source.old)) (as_bit BIT) lent.now
+        → ReadsAtMost (T.reads source.old) (T.reads source.new) 0 28 0 }
+    ensures same { T.lists source.new ≡ T.lists source.old }
+{
+    match guessed_entry::<BIT, SIDE_BY_SIDE, T>(source, lent, part, rank) {
+        Some(found) => found,
+        None => entry_far_off::<BIT, T>(source, lent, part, rank),
+    }
+}
+
+/// `entry_by_samples`, where the guess was wrong: a call of its own, so that the guess stands where it is asked.
+#[inline(never)]
+fn entry_far_off<const BIT: u8, T: TableSource>(
+    source: &mut T,
+    lent: &LentSamples<'_>,
+    part: usize,
+    rank: usize,
+) -> (usize, u64)
+    requires sized { HasSizes (T.lists source.old) }
+    requires inside { part < length (T.lists source.old).upper }
+    ensures inside { result.0 < entries_from (length (T.lists source.old).lower) part }
+    ensures last { HasTables (T.lists source.old)
+        → IsLastEntry (sought_in BIT (T.lists source.old).words)
+        (length (T.lists source.old).lower) part rank result.0 }
+    ensures entry { HasTables (T.lists source.old) → result.1
+        ≡ lower_entry (sought_in BIT (T.lists source.old).words) (entry_in part result.0) }
+    ensures told { result.1
+        ≡ told_entry (as_bit BIT) (T.lists source.old) (entry_in part result.0) }
+    ensures reads { ReadsAtMost (T.reads source.old) (T.reads source.new) 0 46 0 }
+    ensures reads_by_samples { HasTables (T.lists source.old)
+        → AreSamplesOf (bits_in (T.lists source.old)) (as_bit BIT) lent.now
+        → ReadsAtMost (T.reads source.old) (T.reads source.new) 0 23 0 }
+    ensures same { T.lists source.new ≡ T.lists source.old }
+{
+    entry_by_samples::<BIT, T>(source, lent, part, rank)
+}
+
+impl<'a, const BIT: u8, T: TableSource> FindsEntry<BIT, T> for ByGuess<'a> {
+    ghost lowers = { 51 };
+
+    ghost lowers_led = { 28 };
+
+    ghost leads = { λ by lists. HasTables lists
+        × AreSamplesOf (bits_in lists) (as_bit BIT) by.samples };
+
+    #[inline(always)]
+    fn entry(&self, source: &mut T, part: usize, rank: usize) -> (usize, u64) {
+        entry_by_guess::<BIT, 0, T>(source, &self.samples, part, rank)
+    }
+}

@@ -1,0 +1,51 @@
+//! Selections of lists of ranks in all the words.
+ghost use Rattle.std.specs.Prelude.{◌≡◌, ◌↔◌, IsTrue, length, false};
+ghost use Rattle.bit_lists.specs.Count.{as_bit};
+ghost use Rattle.bitm_select.specs.Answers.{ToldEach};
+ghost use Rattle.bitm_select.specs.Tables.{HasSizes};
+
+use crate::lent::Lent;
+use bitm_select::search::many::{ByTables, FindsEntries, tell_many_on};
+use bitm_select::search::selected::NO_ANSWER;
+use bitm_select::source::{Probe, TableSource};
+
+/// Writes the position with each rank, by searches side by side where there is a word, of which `finder` finds the
+/// entries: `NO_ANSWER` for `Absent` and `WRONG_TABLES` for `Wrong`. Answers false exactly where there is not room
+/// for as many answers as ranks, and nothing is written then.
+pub(crate) fn select_list_on<const BIT: u8, T: TableSource, F: FindsEntries<BIT, T>>(
+    source: &mut T,
+    finder: &F,
+    ranks: &[usize],
+    out: &mut [usize],
+) -> bool
+    requires { HasSizes (T.lists source.old) }
+    ensures room { IsTrue result ↔ length out.old ≡ length ranks.now }
+    ensures told { IsTrue result → ToldEach (as_bit BIT) (T.lists source.old) ranks.now out.new }
+    ensures kept { result ≡ false → out.new ≡ out.old }
+{
+    if out.len() != ranks.len() {
+        return false;
+    }
+    if source.upper_len() > 0 {
+        tell_many_on::<BIT, T, F>(source, finder, ranks, out);
+        return true;
+    }
+    for at in 0..ranks.len() {
+        out[at] = NO_ANSWER;
+    }
+    true
+}
+
+impl<'a> Lent<'a> {
+    /// Writes the position with each rank, as `select` answers it where the tables are those of the words; in others it
+    /// may be another position with such a bit. `NO_ANSWER` is written for `Absent` and `WRONG_TABLES` for
+    /// `Wrong`; answers false exactly where there is not room for as many answers as ranks, and nothing is written
+    /// then.
+    pub fn select_list<const BIT: u8>(&self, ranks: &[usize], out: &mut [usize]) -> bool
+        ensures room { IsTrue result ↔ length out.old ≡ length ranks.now }
+        ensures told { IsTrue result → ToldEach (as_bit BIT) self.now ranks.now out.new }
+        ensures kept { result ≡ false → out.new ≡ out.old }
+    {
+        select_list_on::<BIT, Probe<'_>, ByTables>(&mut self.probe(), &ByTables, ranks, out)
+    }
+}

@@ -1,0 +1,296 @@
+//! Selection that starts at samples, over a source with any tables and samples: the samples say between which entries
+//! of a part the rank is, two entries are asked whether that is so, and a search by halves finds the entry. Where it is
+//! not so, the search goes without samples, so that these make no answer another.
+ghost use Rattle.std.specs.Prelude.{◌≡◌, ℕ, ◌+◌, ◌-◌, ◌*◌, ◌%◌, ◌^◌, ◌<◌, ◌≤◌, ◌↔◌, Bool, List, length, slice_index, IfSome, IsSome, IsSomeAnd, IsTrue, MatchOption};
+ghost use Rattle.std.specs.Int.{div_ceil};
+ghost use Rattle.bit_lists.specs.Bits.{digit_count};
+ghost use Rattle.bit_lists.specs.Count.{as_bit};
+ghost use Rattle.bitm.specs.Density.{clamped_log};
+ghost use Rattle.bitm_select.specs.Entry.{before_in_part, lower_entry};
+ghost use Rattle.bitm_select.specs.Reads.{OnlyReads, ReadsAtMost};
+ghost use Rattle.bitm.specs.Samples.{part_of, parts, sample_count_before};
+ghost use Rattle.bitm_select.specs.Search.{entries_from, entry_in, sought_in, IsLastEntry};
+ghost use Rattle.bitm_select.specs.Tables.{HasSizes, HasTables, bits_in};
+ghost use Rattle.bitm_select.specs.Answers.{HasBit, IsSelected};
+ghost use Rattle.bitm_select.specs.Told.{told_entry, IfAbsent, TellsNone};
+ghost use Rattle.bitm_view.specs.Samples.{AreSamplesOf, IsBounded};
+
+use crate::guessed::ByGuess;
+use crate::samples::{LentSamples, clamped_log};
+use bitm::samples::first_entry;
+use bitm_select::entry::{entries_of_part, ones_to_entry};
+use bitm_select::levels::L2_ENTRIES_PER_L1_ENTRY;
+use bitm_select::search::entries::{EntryRange, last_entry, last_in_range, sought_entry};
+use bitm_select::answer::Answer;
+use bitm_select::search::selecting::search_on;
+use bitm_select::source::TableSource;
+
+/// How many samples there are before a part, or in all where there is no such part.
+#[inline(always)]
+pub(crate) fn samples_to(lent: &LentSamples<'_>, part: usize) -> usize
+    ensures few { result ≤ length lent.now.samples.now }
+    ensures own { (b : List Bool) → (v : Bool) → AreSamplesOf b v lent.now → part ≤ parts b
+        → result ≡ sample_count_before b v (clamped_log lent.now.log2) part }
+{
+    let all = lent.samples.len();
+    match lent.starts.get(part) {
+        Some(start) => all.min(*start),
+        None => all,
+    }
+}
+
+/// The entry behind that of the first item of the interval that sample `at` begins.
+///
+/// # Conditions
+/// There is such a sample.
+#[inline(always)]
+fn entry_behind(lent: &LentSamples<'_>, at: usize) -> usize
+    requires { at < length lent.now.samples.now }
+    ensures { result ≡ slice_index lent.now.samples.now at % 2 ^ 21 + 1 }
+{
+    (lent.samples[at] & 0x1F_FFFF) as usize + 1
+}
+
+/// Entries of a part: from `low` on and before `end`.
+#[derive(Clone, Copy)]
+pub(crate) struct Bounds {
+    pub low: usize,
+    pub end: usize,
+}
+
+/// Between which entries of a part the one is that has item `rank` of the part, if the samples are those of the words;
+/// `None` only where they are not.
+#[inline(always)]
+fn bounds_of(lent: &LentSamples<'_>, part: usize, entries: usize, rank: usize) -> Option<Bounds>
+    requires part { part < 2 ^ 60 }
+    requires some { 0 < entries }
+    ensures within { IfSome result (λ r. (r.low < r.end) × (r.end ≤ entries)) }
+    ensures own { (b : List Bool) → (v : Bool) → AreSamplesOf b v lent.now → part < parts b
+        → entries ≡ div_ceil (length (part_of b part)) 2048
+        → IsSomeAnd result (λ r. IsBounded (part_of b part) v rank entries r.low r.end) }
+{
+    let first = samples_to(lent, part);
+    let count = samples_to(lent, part + 1).saturating_sub(first);
+    let log2 = clamped_log(lent.log2);
+    let interval = rank >> log2;
+    if interval >= count {
+        return Some(Bounds {
+            low: entries - 1,
+            end: entries,
+        });
+    }
+    let at = first + interval;
+    let low = first_entry(lent.samples[at], rank, log2);
+    if interval + 1 >= count {
+        return if low < entries {
+            Some(Bounds { low, end: entries })
+        } else {
+            None
+        };
+    }
+    let end = entry_behind(lent, at + 1);
+    if end > entries || low >= end {
+        return None;
+    }
+    Some(Bounds { low, end })
+}
+
+/// What entry `low` of a part packs, 0 for the first, which need not be read; `None` where more than `rank` of the kind
+/// stand before it in the part.
+#[inline(always)]
+fn begun_by<const BIT: u8, T: TableSource>(
+    source: &mut T,
+    part: usize,
+    low: usize,
+    rank: usize,
+) -> Option<u64>
+    requires sized { HasSizes (T.lists source.old) }
+    requires inside { part < length (T.lists source.old).upper }
+    requires low { low < entries_from (length (T.lists source.old).lower) part }
+    ensures begun { HasTables (T.lists source.old) →
+        let m = sought_in BIT (T.lists source.old).words in
+        MatchOption result (rank < before_in_part m (entry_in part low))
+        (λ _. before_in_part m (entry_in part low) ≤ rank) }
+    ensures packed { 0 < low → IfSome result (λ packed. packed
+        ≡ told_entry (as_bit BIT) (T.lists source.old) (entry_in part low)) }
+    ensures reads { ReadsAtMost (T.reads source.old) (T.reads source.new) 0 1 0 }
+    ensures reads_first { low ≡ 0 → T.reads source.new ≡ T.reads source.old }
+    ensures same { T.lists source.new ≡ T.lists source.old }
+{
+    if low == 0 {
+        return Some(0);
+    }
+    let packed = sought_entry::<BIT, T>(source, part * L2_ENTRIES_PER_L1_ENTRY + low);
+    if ones_to_entry(packed) <= rank {
+        Some(packed)
+    } else {
+        None
+    }
+}
+
+/// Whether more than `rank` of the kind stand before entry `end` of a part in the part, if it has such an entry.
+#[inline(always)]
+fn is_behind<const BIT: u8, T: TableSource>(
+    source: &mut T,
+    part: usize,
+    end: usize,
+    rank: usize,
+) -> bool
+    requires sized { HasSizes (T.lists source.old) }
+    requires inside { part < length (T.lists source.old).upper }
+    ensures behind { HasTables (T.lists source.old) →
+        let m = sought_in BIT (T.lists source.old).words in
+        IsTrue result ↔ (end < entries_from (length (T.lists source.old).lower) part
+        → rank < before_in_part m (entry_in part end)) }
+    ensures reads { ReadsAtMost (T.reads source.old) (T.reads source.new) 0 1 0 }
+    ensures same { T.lists source.new ≡ T.lists source.old }
+{
+    if end >= entries_of_part(source.lower_len(), part) {
+        return true;
+    }
+    let packed = sought_entry::<BIT, T>(source, part * L2_ENTRIES_PER_L1_ENTRY + end);
+    rank < ones_to_entry(packed)
+}
+
+/// The last entry of a part with no more than `rank` of the kind before it in the part, where the tables are those of
+/// the words, and what it packs; `None` only where it is not between these bounds.
+#[inline(always)]
+pub(crate) fn entry_between<const BIT: u8, T: TableSource>(
+    source: &mut T,
+    part: usize,
+    bounds: Bounds,
+    rank: usize,
+) -> Option<(usize, u64)>
+    requires sized { HasSizes (T.lists source.old) }
+    requires inside { part < length (T.lists source.old).upper }
+    requires some { bounds.low < bounds.end }
+    requires within { bounds.end ≤ entries_from (length (T.lists source.old).lower) part }
+    ensures inside { IfSome result
+        (λ r. r.0 < entries_from (length (T.lists source.old).lower) part) }
+    ensures last { IfSome result (λ r. HasTables (T.lists source.old)
+        → IsLastEntry (sought_in BIT (T.lists source.old).words)
+        (length (T.lists source.old).lower) part rank r.0) }
+    ensures entry { IfSome result (λ r. HasTables (T.lists source.old) → r.1
+        ≡ lower_entry (sought_in BIT (T.lists source.old).words) (entry_in part r.0)) }
+    ensures packed { IfSome result (λ r. r.1
+        ≡ told_entry (as_bit BIT) (T.lists source.old) (entry_in part r.0)) }
+    ensures found { HasTables (T.lists source.old) →
+        let m = sought_in BIT (T.lists source.old).words in
+        before_in_part m (entry_in part bounds.low) ≤ rank
+        → (bounds.end < entries_from (length (T.lists source.old).lower) part
+        → rank < before_in_part m (entry_in part bounds.end))
+        → IsSome result }
+    ensures reads { ReadsAtMost (T.reads source.old) (T.reads source.new) 0 23 0 }
+    ensures reads_near { bounds.end ≤ bounds.low + 8
+        → ReadsAtMost (T.reads source.old) (T.reads source.new) 0 5 0 }
+    ensures same { T.lists source.new ≡ T.lists source.old }
+{
+    let Some(packed) = begun_by::<BIT, T>(source, part, bounds.low, rank) else {
+        return None;
+    };
+    if !is_behind::<BIT, T>(source, part, bounds.end, rank) {
+        return None;
+    }
+    let range = EntryRange {
+        low: bounds.low,
+        left: bounds.end - bounds.low,
+        packed,
+        above: 0,
+    };
+    Some(last_in_range::<BIT, T>(source, part, range, rank))
+}
+
+/// The last entry of a part with no more than `rank` of the kind before it in the part, where the tables are those of
+/// the words, and what it packs; `None` only where it is not where the samples say.
+#[inline(always)]
+fn sampled_entry<const BIT: u8, T: TableSource>(
+    source: &mut T,
+    lent: &LentSamples<'_>,
+    part: usize,
+    rank: usize,
+) -> Option<(usize, u64)>
+    requires sized { HasSizes (T.lists source.old) }
+    requires inside { part < length (T.lists source.old).upper }
+    ensures inside { IfSome result
+        (λ r. r.0 < entries_from (length (T.lists source.old).lower) part) }
+    ensures last { IfSome result (λ r. HasTables (T.lists source.old)
+        → IsLastEntry (sought_in BIT (T.lists source.old).words)
+        (length (T.lists source.old).lower) part rank r.0) }
+    ensures entry { IfSome result (λ r. HasTables (T.lists source.old) → r.1
+        ≡ lower_entry (sought_in BIT (T.lists source.old).words) (entry_in part r.0)) }
+    ensures packed { IfSome result (λ r. r.1
+        ≡ told_entry (as_bit BIT) (T.lists source.old) (entry_in part r.0)) }
+    ensures found { HasTables (T.lists source.old)
+        → AreSamplesOf (bits_in (T.lists source.old)) (as_bit BIT) lent.now
+        → IsSome result }
+    ensures reads { ReadsAtMost (T.reads source.old) (T.reads source.new) 0 23 0 }
+    ensures same { T.lists source.new ≡ T.lists source.old }
+{
+    let entries = entries_of_part(source.lower_len(), part);
+    let Some(bounds) = bounds_of(lent, part, entries, rank) else {
+        return None;
+    };
+    entry_between::<BIT, T>(source, part, bounds, rank)
+}
+
+/// The last entry of a part with no more than `rank` of the kind before it in the part, where the tables are those of
+/// the words, and what it packs; else some entry of the part. Where the samples do not lead to it, it is sought without
+/// them.
+#[inline(always)]
+pub(crate) fn entry_by_samples<const BIT: u8, T: TableSource>(
+    source: &mut T,
+    lent: &LentSamples<'_>,
+    part: usize,
+    rank: usize,
+) -> (usize, u64)
+    requires sized { HasSizes (T.lists source.old) }
+    requires inside { part < length (T.lists source.old).upper }
+    ensures inside { result.0 < entries_from (length (T.lists source.old).lower) part }
+    ensures last { HasTables (T.lists source.old)
+        → IsLastEntry (sought_in BIT (T.lists source.old).words)
+        (length (T.lists source.old).lower) part rank result.0 }
+    ensures entry { HasTables (T.lists source.old) → result.1
+        ≡ lower_entry (sought_in BIT (T.lists source.old).words) (entry_in part result.0) }
+    ensures told { result.1
+        ≡ told_entry (as_bit BIT) (T.lists source.old) (entry_in part result.0) }
+    ensures reads { ReadsAtMost (T.reads source.old) (T.reads source.new) 0 46 0 }
+    ensures reads_by_samples { HasTables (T.lists source.old)
+        → AreSamplesOf (bits_in (T.lists source.old)) (as_bit BIT) lent.now
+        → ReadsAtMost (T.reads source.old) (T.reads source.new) 0 23 0 }
+    ensures same { T.lists source.new ≡ T.lists source.old }
+{
+    match sampled_entry::<BIT, T>(source, lent, part, rank) {
+        Some(found) => found,
+        None => last_entry::<BIT, T>(source, part, rank),
+    }
+}
+
+/// What `total_select_on` answers, by samples of the ones; of the zeros where `BIT` is 0. Samples make it no other
+/// answer, whatever they hold: a rank that they do not lead to is sought without them.
+///
+/// # Conditions
+/// Those of `total_select_on`. Nothing is asked of the samples.
+/// # Cost
+/// At most as many upper entries as their number has binary digits and one more, 51 lower entries and eight words are
+/// read, whatever the tables and samples hold; and a few numbers of the samples. Where these are those of the words, 28
+/// lower entries: five near a guess, and where it was wrong two more, and one for each halving from the sample to the
+/// next.
+pub fn sampled_select_on<const BIT: u8, T: TableSource>(
+    source: &mut T,
+    lent: &LentSamples<'_>,
+    rank: usize,
+) -> Answer<usize>
+    requires { HasSizes (T.lists source.old) }
+    ensures bit { HasBit (bits_in (T.lists source.old)) (as_bit BIT) result }
+    ensures answer { HasTables (T.lists source.old)
+        → IsSelected (bits_in (T.lists source.old)) (as_bit BIT) rank result }
+    ensures none { IfAbsent result (TellsNone (as_bit BIT) (T.lists source.old) rank) }
+    ensures reads { OnlyReads T.lists T.reads source.old source.new
+        (digit_count (length (T.lists source.old).upper) + 1) 51 8 }
+    ensures reads_by_samples { HasTables (T.lists source.old)
+        → AreSamplesOf (bits_in (T.lists source.old)) (as_bit BIT) lent.now
+        → ReadsAtMost (T.reads source.old) (T.reads source.new)
+        (digit_count (length (T.lists source.old).upper) + 1) 28 8 }
+{
+    search_on::<BIT, 1, T, ByGuess<'_>>(source, &ByGuess { samples: *lent }, rank)
+}

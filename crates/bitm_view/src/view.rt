@@ -1,0 +1,344 @@
+//! The view of an index that is lent: all that is asked of it.
+ghost use Rattle.std.specs.Prelude.{◌≡◌, ◌+◌, ◌-◌, ◌<◌, ◌≤◌, ◌↔◌, ℕ, Bool, IsTrue, MatchOption, length, min, slice_index};
+ghost use Rattle.std.specs.Prelude.{true, false};
+ghost use Rattle.bit_lists.specs.Bits.{digit_count};
+ghost use Rattle.bit_lists.specs.Count.{count_before, count_of, as_bit, Picks};
+ghost use Rattle.bitm_select.specs.Tables.{HasTables, bits_in};
+ghost use Rattle.bitm_select.specs.Told.{IfAbsent};
+ghost use Rattle.bitm_view.specs.Cut.{bits_of_cut, cut_at, Cut, IsWithin, TellsNoneOf};
+ghost use Rattle.bitm_view.specs.Queries.{ranked_by, selected_by, RanksIn, Selects, SelectsIn};
+ghost use Rattle.bitm_view.specs.Ranks.{IsCountWithin, IsRanked};
+ghost use Rattle.bitm_select.specs.Answers.{HasBit, IsSelected, RanksTold, RankTold, SelectTold, ToldEach};
+ghost use Rattle.bitm_select.specs.Reads.{OnlyReads, ReadsAtMost};
+
+mod near;
+
+use crate::guessed::ByGuess;
+use crate::lent::{Lent, is_one};
+use crate::lists::select_list_on;
+use crate::places::bits_from;
+use bitm_select::answer::Answer;
+use crate::ranked::ranked_on;
+use crate::samples::LentSamples;
+use bitm::words;
+use bitm_select::search::many::{ByTables, total_rank_many_on};
+use bitm_select::search::selected::{NO_ANSWER, WRONG_TABLES};
+use bitm_select::search::selecting::{FindsEntry, search_on};
+use bitm_select::source::{Probe, TableSource};
+use std::marker::Model;
+
+/// A place that was found, where it is before place `len`.
+#[inline(always)]
+fn cut(selected: Answer<usize>, len: usize) -> Answer<usize>
+    ensures { (v : Bool) (c : Cut) (r : ℕ) → c.len ≡ len → IsWithin c
+        → Selects v c.lists r selected → SelectsIn v c r result }
+{
+    match selected {
+        Answer::Found(place) => {
+            if place < len {
+                Answer::Found(place)
+            } else {
+                Answer::Absent
+            }
+        }
+        Answer::Absent => Answer::Absent,
+        Answer::Wrong => Answer::Wrong,
+    }
+}
+
+/// An index that is lent: words with their two tables, of which the first `len` bits are the content, and samples of
+/// either kind.
+///
+/// Contracts see the three lists and the length. What stands behind the content may be anything: answers are those of
+/// the first `len` bits alone. Samples make no answer another, whatever they hold, so contracts do not see them.
+#[derive(Drop)]
+pub struct IndexView<'a> {
+    tables: Lent<'a>,
+    len: usize,
+    ones: LentSamples<'a>,
+    zeros: LentSamples<'a>,
+}
+
+impl<'a> Model for IndexView<'a> {
+    ghost use Rattle.bitm_view.specs.Cut.{cut_at, Cut, IsSizedCut};
+
+    ghost Value = { Cut };
+
+    ghost view = { λ i. cut_at i.tables i.len };
+
+    ghost invariant = { λ i. IsSizedCut (cut_at i.tables i.len) };
+}
+
+/// No samples.
+#[inline(always)]
+fn no_samples<'a>() -> LentSamples<'a> {
+    LentSamples {
+        samples: [].as_slice(),
+        starts: [].as_slice(),
+        log2: 0,
+    }
+}
+
+impl<'a> IndexView<'a> {
+    /// The first `len` bits; `None` exactly where there are fewer.
+    #[inline(always)]
+    #[tactic(auto, using(bitm::proofs::BitLaws::bits_are_counted))]
+    pub fn over(tables: Lent<'a>, len: usize) -> Option<IndexView<'a>>
+        ensures { MatchOption result (length (bits_in tables.entry) < len)
+            (λ view. (view ≡ cut_at tables.entry len) × IsWithin view) }
+    {
+        if len > tables.words().len() * 64 {
+            return None;
+        }
+        Some(IndexView {
+            tables,
+            len,
+            ones: no_samples(),
+            zeros: no_samples(),
+        })
+    }
+
+    /// The same content, with these samples of ones; of zeros where `BIT` is 0.
+    #[inline(always)]
+    pub fn with_samples<const BIT: u8>(self, samples: LentSamples<'a>) -> IndexView<'a>
+        ensures { result ≡ self.entry }
+    {
+        let IndexView {
+            tables,
+            len,
+            ones,
+            zeros,
+        } = self;
+        IndexView {
+            tables,
+            len,
+            ones: if BIT == 0 { ones } else { samples },
+            zeros: if BIT == 0 { samples } else { zeros },
+        }
+    }
+
+    /// The samples of one kind.
+    #[inline(always)]
+    fn samples<const BIT: u8>(&self) -> &LentSamples<'a> {
+        if BIT == 0 { &self.zeros } else { &self.ones }
+    }
+
+    /// How many of the first `index` bits are 1 bits, or 0 bits, over a source of the view's words and tables.
+    ///
+    /// # Cost
+    /// At most one upper entry, one lower entry and eight words are read.
+    #[inline(always)]
+    pub fn rank_on<T: TableSource>(&self, source: &mut T, one: bool, index: usize) -> Answer<usize>
+        requires { T.lists source.old ≡ self.now.lists }
+        ensures ranks { RanksIn one self.now index result }
+        ensures reads { OnlyReads T.lists T.reads source.old source.new 1 1 8 }
+    {
+        if index > self.len {
+            return Answer::Absent;
+        }
+        ranked_on(source, one, index)
+    }
+
+    /// How many of the first `index` bits are 1 bits, or 0 bits: `Absent` exactly where the bit vector has fewer,
+    /// whatever the tables hold; else as `Lent::rank`.
+    ///
+    /// # Cost
+    /// That of `rank_on`.
+    #[inline(always)]
+    pub fn rank_of(&self, one: bool, index: usize) -> Answer<usize>
+        ensures within { IsCountWithin self.now.len index result }
+        ensures counts { HasTables self.now.lists → IsRanked (bits_of_cut self.now) one index result }
+    {
+        self.rank_on(&mut self.tables.probe(), one, index)
+    }
+
+    /// How many of the first `index` bits are 1 bits; 0 bits where `BIT` is 0. As `rank_of`.
+    #[inline(always)]
+    pub fn rank<const BIT: u8>(&self, index: usize) -> Answer<usize>
+        ensures within { IsCountWithin self.now.len index result }
+        ensures counts { HasTables self.now.lists → IsRanked (bits_of_cut self.now) (as_bit BIT) index result }
+    {
+        self.rank_of(is_one::<BIT>(), index)
+    }
+
+    /// The position of the 1 bit with rank `rank` over a source of the view's words and tables, of which `finder` finds
+    /// the entry: `ByTables`, or `ByGuess` by samples. Of the 0 bit where `BIT` is 0.
+    ///
+    /// # Cost
+    /// At most as many upper entries as their number has binary digits and one more, the lower entries that the finder
+    /// reads and eight words are read, whatever the tables hold: 23 lower entries by the tables, 51 by samples, and 28 by
+    /// those of the words.
+    #[inline(always)]
+    pub fn select_on<const BIT: u8, T: TableSource, F: FindsEntry<BIT, T>>(
+        &self,
+        source: &mut T,
+        finder: &F,
+        rank: usize,
+    ) -> Answer<usize>
+        requires { T.lists source.old ≡ self.now.lists }
+        ensures selects { SelectsIn (as_bit BIT) self.now rank result }
+        ensures reads { OnlyReads T.lists T.reads source.old source.new
+            (digit_count (length self.now.lists.upper) + 1) F.lowers 8 }
+        ensures reads_led { F.leads finder.now self.now.lists
+            → ReadsAtMost (T.reads source.old) (T.reads source.new)
+            (digit_count (length self.now.lists.upper) + 1) F.lowers_led 8 }
+    {
+        let len = self.len;
+        cut(search_on::<BIT, 1, T, F>(source, finder, rank), len)
+    }
+
+    /// The position of the 1 bit with rank `rank`, as `Lent::select`: bits after the bit vector are not found. Of the 0
+    /// bit where `BIT` is 0.
+    ///
+    /// Whatever the tables hold, `Absent` is answered only where tables and words claim no more than `rank` such bits,
+    /// or the words have one after the bit vector.
+    ///
+    /// # Cost
+    /// That of `select_on` by the samples of the kind, and by the tables where there are none.
+    #[inline(always)]
+    pub fn select<const BIT: u8>(&self, rank: usize) -> Answer<usize>
+        ensures bit { HasBit (bits_of_cut self.now) (as_bit BIT) result }
+        ensures counts { HasTables self.now.lists → IsSelected (bits_of_cut self.now) (as_bit BIT) rank result }
+        ensures absent { IfAbsent result (TellsNoneOf (as_bit BIT) self.now rank) }
+    {
+        let source = &mut self.tables.probe();
+        let samples = *self.samples::<BIT>();
+        if samples.samples.is_empty() {
+            return self.select_on::<BIT, Probe<'_>, ByTables>(source, &ByTables, rank);
+        }
+        self.select_on::<BIT, Probe<'_>, ByGuess<'_>>(source, &ByGuess { samples }, rank)
+    }
+
+    /// Writes the rank of each position, as `rank` answers it, by the codes of lists: of many side by side where the
+    /// words do not stay in a processor's caches. Answers false exactly where there is not room for as many answers as
+    /// positions, and nothing is written then.
+    pub fn rank_each<const BIT: u8>(&self, positions: &[usize], out: &mut [usize]) -> bool
+        ensures room { IsTrue result ↔ length out.old ≡ length positions.now }
+        ensures ranks { IsTrue result → (j : ℕ) → j < length positions.now → RanksIn (as_bit BIT)
+            self.now (slice_index positions.now j) (ranked_by (slice_index out.new j)) }
+        ensures kept { result ≡ false → out.new ≡ out.old }
+    {
+        if out.len() != positions.len() {
+            return false;
+        }
+        total_rank_many_on::<BIT, Probe<'_>>(&mut self.tables.probe(), positions, &mut *out);
+        self.cut_ranks::<BIT>(positions, out);
+        true
+    }
+
+    /// Cuts the ranks of some positions that were counted in all the words.
+    fn cut_ranks<const BIT: u8>(&self, positions: &[usize], out: &mut [usize])
+        requires same_length { length out.old ≡ length positions.now }
+        requires told { RanksTold (as_bit BIT) self.now.lists positions.now out.old }
+        ensures ranks { (j : ℕ) → j < length positions.now → RanksIn (as_bit BIT) self.now
+            (slice_index positions.now j) (ranked_by (slice_index out.new j)) }
+        ensures len { length out.new ≡ length positions.now }
+    {
+        for at in 0..positions.len() {
+            out[at] = self.cut_rank(positions[at], out[at]);
+        }
+    }
+
+    /// The code of a rank, cut.
+    #[inline(always)]
+    fn cut_rank(&self, position: usize, code: usize) -> usize
+        ensures { (v : Bool) (i : ℕ) → i ≡ position → RankTold v self.now.lists i code
+            → RanksIn v self.now i (ranked_by result) }
+    {
+        if position > self.len { NO_ANSWER } else { code }
+    }
+
+    /// Writes the position with each rank, as `select` answers it where the tables are those of the words, by the codes
+    /// of lists; in other tables it may be another position with such a bit. Answers false exactly where there is not
+    /// room for as many answers as ranks, and nothing is written then.
+    pub fn select_each<const BIT: u8>(&self, ranks: &[usize], out: &mut [usize]) -> bool
+        ensures room { IsTrue result ↔ length out.old ≡ length ranks.now }
+        ensures selects { IsTrue result → (j : ℕ) → j < length ranks.now → SelectsIn (as_bit BIT)
+            self.now (slice_index ranks.now j) (selected_by (slice_index out.new j)) }
+        ensures kept { result ≡ false → out.new ≡ out.old }
+    {
+        let source = &mut self.tables.probe();
+        let samples = *self.samples::<BIT>();
+        let done = if samples.samples.is_empty() {
+            select_list_on::<BIT, Probe<'_>, ByTables>(source, &ByTables, ranks, &mut *out)
+        } else {
+            select_list_on::<BIT, Probe<'_>, LentSamples<'_>>(source, &samples, ranks, &mut *out)
+        };
+        if done {
+            self.cut_each::<BIT>(ranks, out);
+        }
+        done
+    }
+
+    /// Cuts the positions with some ranks that were found in all the words.
+    fn cut_each<const BIT: u8>(&self, ranks: &[usize], out: &mut [usize])
+        requires same_length { length out.old ≡ length ranks.now }
+        requires told { ToldEach (as_bit BIT) self.now.lists ranks.now out.old }
+        ensures selects { (j : ℕ) → j < length ranks.now → SelectsIn (as_bit BIT) self.now
+            (slice_index ranks.now j) (selected_by (slice_index out.new j)) }
+        ensures len { length out.new ≡ length ranks.now }
+    {
+        for at in 0..ranks.len() {
+            out[at] = self.cut_code(out[at]);
+        }
+    }
+
+    /// The code of a selection, cut.
+    #[inline(always)]
+    fn cut_code(&self, code: usize) -> usize
+        ensures { (v : Bool) (r : ℕ) → SelectTold v self.now.lists r code
+            → SelectsIn v self.now r (selected_by result) }
+    {
+        if code < self.len {
+            return code;
+        }
+        if code < WRONG_TABLES {
+            return NO_ANSWER;
+        }
+        code
+    }
+
+    /// The words with their tables.
+    #[inline(always)]
+    pub fn tables(&self) -> &Lent<'a>
+        ensures { result.now ≡ self.now.lists }
+    {
+        &self.tables
+    }
+
+    /// How many bits of the bit vector are 1 bits, counted in the words alone: right whatever the tables hold. The 0
+    /// bits where `BIT` is 0.
+    ///
+    /// # Cost
+    /// Each word of the bit vector is read once.
+    pub fn count<const BIT: u8>(&self) -> usize
+        ensures { result ≡ count_of (bits_of_cut self.now) (as_bit BIT) }
+    {
+        let ones = self.ones();
+        if BIT == 0 { self.len - ones } else { ones }
+    }
+
+    /// How many bits of the bit vector are 1 bits, counted in the words.
+    fn ones(&self) -> usize
+        ensures { result ≡ count_of (bits_of_cut self.now) true }
+    {
+        words::count_range(self.tables.words(), 0, self.len)
+    }
+
+    /// Writes the places of the content's ones from place `from` on, rising, as many as there is room for, and answers
+    /// how many; what stands behind them stays. Zeros in place of ones where `BIT` is 0. The tables are not read, so
+    /// all is right whatever they hold.
+    ///
+    /// # Cost
+    /// As of `bitm_view::ones_from`.
+    pub fn places_from<const BIT: u8>(&self, from: usize, out: &mut [usize]) -> usize
+        ensures number { let b = bits_of_cut self.now in result ≡ min (length out.old)
+            (count_of b (as_bit BIT) - count_before b (as_bit BIT) from) }
+        ensures len { length out.new ≡ length out.old }
+        ensures places { let b = bits_of_cut self.now in (j : ℕ) → j < result
+            → Picks b (as_bit BIT) (count_before b (as_bit BIT) from + j) (slice_index out.new j) }
+        ensures kept { (j : ℕ) → result ≤ j → slice_index out.new j ≡ slice_index out.old j }
+    {
+        bits_from::<BIT>(self.tables.words(), self.len, from, out)
+    }
+}

@@ -1,0 +1,30 @@
+-- Where the parts are those of a sequence each of its places has a one.
+use Rattle.std.proofs.Common.{◌<◌, length, true, arith}
+use Rattle.bitm.proofs.Callers.{length-bits_of}
+use Rattle.bitm.specs.Bits.{bits_of}
+use Rattle.bitm.specs.Count.{count_of}
+use Rattle.elias_fano.proofs.lemmas.ItemLemmas.{upper-short}
+use Rattle.elias_fano.proofs.lemmas.UpperLemmas.{ones_are}
+use Rattle.elias_fano_view.proofs.sequence.item_of.Goals as goal
+
+pub returns-then-one-ge-WRONG_TABLES-clause-answer : goal.returns-then-one-ge-WRONG_TABLES-clause-answer
+returns-then-one-ge-WRONG_TABLES-clause-answer c = λ xs upper h told.
+    let count = ones_are xs c.args.low.now.width _ h.are.upper_is in
+    let some : c.args.place < count_of (bits_of upper.words) true = omega (arith, h.are.count, count, c.if-place-n.false) in
+    omega (
+      arith,
+      (told.some h.tables some).inside,
+      length-bits_of upper.words,
+      upper-short _ _ _ _ _ h.are,
+      c.if-one-ge-WRONG_TABLES.true,
+    )
+
+pub returns-clause-answer : goal.returns-clause-answer
+returns-clause-answer c = λ xs upper h told.
+    let count = ones_are xs c.args.low.now.width _ h.are.upper_is in
+    let inside : c.args.place < length xs = omega (arith, h.are.count, c.if-place-n.false) in
+    let some : c.args.place < count_of (bits_of upper.words) true = omega (arith, inside, count) in (
+      inside,
+      c.item_at_one.ensures.item xs c.args.n _
+          record { parts = h.are; inside = omega (arith, c.if-place-n.false); one = told.some h.tables some },
+    )

@@ -1,0 +1,104 @@
+//! The first number that reaches a value, of which lists of selections tell the ends of the bucket: the numbers with
+//! the value's upper digits.
+ghost use Rattle.std.specs.Prelude.{◌≡◌, ◌-◌, ◌/◌, ◌^◌, ◌<◌, ◌≤◌, ℕ, List, length, slice_index, false, IsSomeAnd};
+ghost use Rattle.std.specs.Prelude.{IfSome};
+ghost use Rattle.bitm.specs.Answers.{SelectTold};
+ghost use Rattle.bitm.specs.Bits.{digit_count, IsShort};
+ghost use Rattle.bitm.specs.Tables.{HasTables, Lists};
+ghost use Rattle.elias_fano.specs.Buckets.{CountsTo, CountsBelow};
+ghost use Rattle.elias_fano.specs.Parts.{IsUpper};
+ghost use Rattle.elias_fano_view.specs.Answers.{IsFirst, IsPlaceOf};
+ghost use Rattle.elias_fano_view.specs.LentParts.{parts_with, Holds};
+ghost use Rattle.elias_fano_view.specs.Lists.{EndsTold};
+ghost use Rattle.elias_fano_view.specs.Low.{sharing, HasFragments, ReadsFragments};
+ghost use Rattle.elias_fano_view.specs.Told.{IfPlace, TellsBelow, TellsLess, TellsTo};
+
+use bitm_view::{NO_ANSWER, WRONG_TABLES};
+use elias_fano::building::{count_at_zero, place_in_bucket};
+use elias_fano::{Answer, LowDigits};
+
+/// Writes what each value says above its low digits, `less` below that, and 0 where that is less.
+#[inline(always)]
+pub(crate) fn rank_each(values: &[u64], width: u8, less: usize, ranks: &mut [usize])
+    requires width { width ≤ 63 }
+    requires room { length values.now ≤ length ranks.old }
+    ensures ranks { (j : ℕ) → j < length values.now
+        → slice_index ranks.new j ≡ slice_index values.now j / 2 ^ width - less }
+    ensures room { length ranks.new ≡ length ranks.old }
+{
+    for k in 0..values.len() {
+        ranks[k] = ((values[k] >> width) as usize).saturating_sub(less);
+    }
+}
+
+/// How many items have a number at most `above` above their low digits, where a list of selections tells the zero of
+/// that number; `None` only where the parts are wrong.
+#[inline(always)]
+fn count_to(told: usize, above: usize, n: usize) -> Option<usize>
+    ensures within { IfSome result (λ c. c ≤ n) }
+    ensures told { (upper : Lists) → SelectTold false upper above told
+        → IfSome result (TellsTo upper n above) }
+    ensures count { (xs : List ℕ) (l : ℕ) (upper : Lists) → IsUpper xs l upper.words
+        → HasTables upper → IsShort upper.words → n ≡ length xs → SelectTold false upper above told
+        → IsSomeAnd result (CountsTo xs l above) }
+{
+    if told == NO_ANSWER {
+        return Some(n);
+    }
+    if told == WRONG_TABLES {
+        return None;
+    }
+    count_at_zero(told, above, n)
+}
+
+/// How many items have a number below `above` above their low digits, as `count_to`.
+#[inline(always)]
+fn count_below(told: usize, above: usize, n: usize) -> Option<usize>
+    ensures within { IfSome result (λ c. c ≤ n) }
+    ensures told { (upper : Lists) → (0 < above → SelectTold false upper (above - 1) told)
+        → IfSome result (TellsBelow upper n above) }
+    ensures count { (xs : List ℕ) (l : ℕ) (upper : Lists) → IsUpper xs l upper.words
+        → HasTables upper → IsShort upper.words → n ≡ length xs
+        → (0 < above → SelectTold false upper (above - 1) told)
+        → IsSomeAnd result (CountsBelow xs l above) }
+{
+    if above == 0 {
+        return Some(0);
+    }
+    count_to(told, above - 1, n)
+}
+
+/// The least place whose number is at least `v`, of `n` numbers, of which lists of selections tell the zeros at the
+/// ends of its bucket. It reads as many fragments of the low digits as `place_in_bucket`.
+#[inline(always)]
+pub(crate) fn place_of(
+    low: &mut LowDigits<'_>,
+    n: usize,
+    v: u64,
+    begin: usize,
+    end: usize,
+) -> Answer<usize>
+    requires { HasFragments low.old n }
+    ensures inside { IsPlaceOf n result }
+    ensures told { (upper : Lists) → EndsTold (parts_with n low.old upper) v begin end
+        → IfPlace n result (TellsLess (parts_with n low.old upper) v) }
+    ensures answer { (xs : List ℕ) (upper : Lists) → Holds xs (parts_with n low.old upper)
+        → EndsTold (parts_with n low.old upper) v begin end → IsFirst xs v result }
+    ensures fragments { ReadsFragments low.old low.new (digit_count n) }
+    ensures shared { (xs : List ℕ) (upper : Lists) → Holds xs (parts_with n low.old upper)
+        → EndsTold (parts_with n low.old upper) v begin end
+        → ReadsFragments low.old low.new (digit_count (sharing xs low.old.width v)) }
+{
+    let width = low.width();
+    let above = (v >> width) as usize;
+    let Some(first) = count_below(begin, above, n) else {
+        return Answer::Wrong;
+    };
+    if width == 0 {
+        return place_in_bucket(low, n, first, n, v);
+    }
+    let Some(last) = count_to(end, above, n) else {
+        return Answer::Wrong;
+    };
+    place_in_bucket(low, n, first, last, v)
+}

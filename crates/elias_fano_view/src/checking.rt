@@ -1,0 +1,88 @@
+//! Whether parts are those of a sequence.
+ghost use Rattle.std.specs.Prelude.{◌≡◌, ◌-◌, ◌*◌, ◌^◌, ◌<◌, ◌≤◌, ◌↔◌, ℕ, IsTrue, List, length};
+ghost use Rattle.std.specs.Prelude.{MatchOption, SomeIff};
+ghost use Rattle.std.specs.Int.{div_ceil};
+ghost use Rattle.bitm.specs.Bits.{bits_of, IsShort};
+ghost use Rattle.bitm.specs.Count.{ones_of};
+ghost use Rattle.elias_fano.specs.Low.{joined_item, unread, HasFragments, ReadsFragments};
+ghost use Rattle.elias_fano.specs.Parts.{ArePartsOf, HasFragment};
+ghost use Rattle.elias_fano_view.specs.Checks.{AreNumbers};
+
+use crate::sizes::Sizes;
+use bitm::words;
+use elias_fano::LowDigits;
+use elias_fano::building::join_digits;
+
+/// Number `at`, whose one stands at `place`, if it is below 2^64.
+#[inline(always)]
+fn number_of(place: usize, low: &mut LowDigits<'_>, at: usize) -> Option<u64>
+    requires fragment { HasFragment low.old.words at low.old.width }
+    requires order { at ≤ place }
+    ensures number { let number = joined_item (place - at) low.old at in
+        SomeIff result (number < 2 ^ 64) number }
+    ensures fragments { ReadsFragments low.old low.new 1 }
+{
+    let width = low.width();
+    let above = place - at;
+    if width > 0 && (above as u64) >> (64 - width) != 0 {
+        return None;
+    }
+    Some(join_digits(above, low, at))
+}
+
+/// The last of `n` numbers, 0 where there is none, if the ones of the words and the low digits are those of `n` numbers
+/// that never decrease: at most one fragment of the low digits for each number.
+#[tactic(auto, using(bitm::proofs::BitLaws::ones_and_zeros, bitm::proofs::BitLaws::bits_are_counted))]
+fn last_of(words: &[u64], low: &mut LowDigits<'_>, n: usize) -> Option<u64>
+    requires short { IsShort words.now }
+    requires some { HasFragments low.old n }
+    ensures last { MatchOption result
+        ((xs : List ℕ) → ¬ (ArePartsOf xs n low.old.width low.old.words words.now))
+        (λ last. AreNumbers low.old.width low.old.words words.now n last
+        × (ones_of (bits_of words.now) ≡ n)) }
+    ensures fragments { ReadsFragments low.old low.new n }
+{
+    let mut from = 0;
+    let mut last = 0;
+    for at in 0..n {
+        let place = match words::find_bit_one(words, from) {
+            Some(place) => place,
+            None => return None,
+        };
+        let number = match number_of(place, &mut *low, at) {
+            Some(number) => number,
+            None => return None,
+        };
+        if number < last {
+            return None;
+        }
+        from = place + 1;
+        last = number;
+    }
+    match words::find_bit_one(words, from) {
+        Some(_) => None,
+        None => Some(last),
+    }
+}
+
+/// Whether these are the parts of some sequence: one pass over the upper words.
+pub(crate) fn are_parts(words: &[u64], low: &[u64], width: u8, n: usize) -> bool
+    requires short { IsShort words.now }
+    requires some { HasFragments (unread low.now width) n }
+    requires low { length low.now ≡ div_ceil (n * width) 64 }
+    ensures { IsTrue result ↔ ((xs : List ℕ) × ArePartsOf xs n width low.now words.now) }
+{
+    let Some(last) = last_of(words, &mut LowDigits::new(low, width), n) else {
+        return false;
+    };
+    let Some(sizes) = Sizes::of(n, last) else {
+        return false;
+    };
+    if sizes.width != width || sizes.words != words.len() {
+        return false;
+    }
+    match words::find_bit_one(low, n * width as usize) {
+        Some(_) => false,
+        None => true,
+    }
+}

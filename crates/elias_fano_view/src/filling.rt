@@ -1,0 +1,107 @@
+//! The parts of a sequence, made into memory that is lent.
+ghost use Rattle.std.specs.Prelude.{◌≡◌, ◌^◌, ◌<◌, ◌≤◌, ◌↔◌, IsErrOf, IfOk, IsErr, IsTrue, SomeIff, length};
+ghost use Rattle.std.specs.Prelude.{replicate};
+ghost use Rattle.bitm_view.specs.Sizes.{lists_of};
+ghost use Rattle.std.specs.List.Sorted.{IsNonDecreasing};
+ghost use Rattle.elias_fano.specs.Parts.{width_of, upper_words_of, IsUpper};
+ghost use Rattle.elias_fano.specs.Sequence.{HasFall};
+ghost use Rattle.elias_fano_view.specs.LentParts.{parts_of, Holds};
+ghost use Rattle.elias_fano_view.specs.Sizes.{HasRoom};
+
+use crate::error::BuildError;
+use crate::sizes::Sizes;
+use bitm::words::set_bit;
+use bitm_view::clear;
+use elias_fano::building::{is_rising, largest_of, write_low};
+
+/// Writes a one for each number, after as many zeros as it says without its `width` low digits, where all bits are
+/// zeros. Answers whether each had its place, as each has.
+///
+/// Each number is read once, and its place is tested before it is written: where another thread changes the numbers
+/// meanwhile, as no caller may let it, nothing is written outside.
+///
+/// # Conditions
+/// Those of `write_upper` of `elias_fano`.
+fn write_tested(words: &mut [u64], items: &[u64], width: u8) -> bool
+    requires width { width ≤ 63 }
+    requires rising { IsNonDecreasing items.now }
+    requires short { upper_words_of items.now width < 2 ^ 58 }
+    requires clear { words.old ≡ replicate (upper_words_of items.now width) 0 }
+    ensures upper { IsUpper items.now width words.new }
+    ensures all { IsTrue result }
+{
+    for i in 0..items.len() {
+        let place = (items[i] >> width) as usize + i;
+        if place / 64 >= words.len() {
+            return false;
+        }
+        set_bit(words, place);
+    }
+    true
+}
+
+/// How many low digits each of the numbers has, if the parts have the lengths that theirs have.
+fn width_if_room(
+    items: &[u64],
+    low: &[u64],
+    words: &[u64],
+    upper: &[usize],
+    lower: &[u64],
+) -> Option<u8>
+    ensures { SomeIff result (HasRoom items.now low.now words.now upper.now lower.now)
+        (width_of items.now) }
+{
+    let sizes = Sizes::of(items.len(), largest_of(items))?;
+    if low.len() != sizes.low || words.len() != sizes.words {
+        return None;
+    }
+    if upper.len() != sizes.upper || lower.len() != sizes.lower {
+        return None;
+    }
+    Some(sizes.width)
+}
+
+/// Writes the parts of a sequence of the numbers, and answers how many low digits each has: the words of the low
+/// digits, the upper words, and the two tables of these.
+///
+/// # Errors
+/// `WrongLength` exactly where there are 2^56 numbers or more, or a part has not the length that `Sizes::of` says of
+/// the number of the numbers and the last of them; else `NotSorted` exactly where some number is less than the one
+/// before it. Nothing is written then.
+/// # Cost
+/// One pass over the numbers for each of the two vectors, and one over the upper words for their tables. What was in
+/// the parts' memory is not read.
+pub fn build(
+    items: &[u64],
+    low: &mut [u64],
+    words: &mut [u64],
+    upper: &mut [usize],
+    lower: &mut [u64],
+) -> Result<u8, BuildError>
+    ensures width { IfOk result (λ l. l ≡ width_of items.now) }
+    ensures parts { IfOk result (λ l. Holds items.now
+        (parts_of (length items.now) l low.new (lists_of words.new upper.new lower.new))) }
+    ensures wrong_length { IsErrOf result BuildError.WrongLength
+        ↔ ¬ (HasRoom items.now low.old words.old upper.old lower.old) }
+    ensures not_sorted { IsErrOf result BuildError.NotSorted
+        ↔ (HasRoom items.now low.old words.old upper.old lower.old × HasFall items.now) }
+    ensures kept { IsErr result → (low.new ≡ low.old) × (words.new ≡ words.old)
+        × (upper.new ≡ upper.old) × (lower.new ≡ lower.old) }
+{
+    let Some(width) = width_if_room(items, &*low, &*words, &*upper, &*lower) else {
+        return Err(BuildError::WrongLength);
+    };
+    if !is_rising(items) {
+        return Err(BuildError::NotSorted);
+    }
+    clear(&mut *low);
+    write_low(low, items, width);
+    clear(&mut *words);
+    if !write_tested(&mut *words, items, width) {
+        return Err(BuildError::NotSorted);
+    }
+    match bitm_view::build(&*words, upper, lower) {
+        Some(_) => Ok(width),
+        None => unreachable!(),
+    }
+}

@@ -1,0 +1,89 @@
+//! The numbers of a list of places.
+ghost use Rattle.std.specs.Prelude.{◌≡◌, ◌<◌, ◌↔◌, ℕ, IsTrue, List, length, slice_index, false};
+ghost use Rattle.elias_fano_view.specs.LentParts.{Holds};
+ghost use Rattle.elias_fano_view.specs.Lists.{written_count, AreItems, EndsTold, IsKeptFrom, IsListed, IsNeverWrong};
+ghost use Rattle.elias_fano_view.specs.Lists.{PlaceTold};
+
+use crate::sequence::LentSequence;
+use bitm_view::{NO_ANSWER, WRONG_TABLES};
+use bitm_select::search::many::SIDE_BY_SIDE;
+use elias_fano::Answer;
+
+/// How far a list of places was answered.
+#[derive(Clone, Copy, PartialEq, Eq, Debug)]
+pub enum ListAnswer {
+    /// All numbers were written.
+    All,
+    /// At this place of the list stands one at which there is no number; the numbers before it were written.
+    AbsentAt(usize),
+    /// At this place of the list the parts turned out not to be those of a sequence; the numbers before it were
+    /// written.
+    WrongAt(usize),
+    /// There is not room for as many numbers as places; nothing was written.
+    WrongLength,
+}
+
+impl<'a> LentSequence<'a> {
+    /// Writes the number at each place of the list, as `get` answers it where the parts are those of a sequence, up to
+    /// the first that is not found. In other parts a number may be another than `get` finds.
+    pub fn get_list(&self, places: &[usize], out: &mut [u64]) -> ListAnswer
+        ensures listed { IsListed self.now.len places.now (length out.old) result }
+        ensures told { (xs : List ℕ) → Holds xs self.now
+            → AreItems xs places.now (written_count (length places.now) result) out.new }
+        ensures right { (xs : List ℕ) → Holds xs self.now → IsNeverWrong result }
+        ensures kept { IsKeptFrom (written_count (length places.now) result) out.old out.new }
+    {
+        if out.len() != places.len() {
+            return ListAnswer::WrongLength;
+        }
+        let mut ones = [0; SIDE_BY_SIDE];
+        for at in 0..places.len() {
+            self.select_ahead(places, at, &mut ones);
+            match self.item_told(places[at], ones[at % SIDE_BY_SIDE]) {
+                Answer::Found(number) => out[at] = number,
+                Answer::Absent => return ListAnswer::AbsentAt(at),
+                Answer::Wrong => return ListAnswer::WrongAt(at),
+            }
+        }
+        ListAnswer::All
+    }
+
+    /// Writes the place of the first number that is at least each value, as `first_at_least` answers it where the parts
+    /// are those of a sequence, `NO_ANSWER` for `Absent` and `WRONG_TABLES` for `Wrong`. In other parts it may be
+    /// another place than `first_at_least` finds. Answers false exactly where there is not room for as many places as
+    /// values, and nothing is written then.
+    pub fn first_at_least_list(&self, values: &[u64], out: &mut [usize]) -> bool
+        ensures room { IsTrue result ↔ length out.old ≡ length values.now }
+        ensures told { IsTrue result → (j : ℕ) → j < length values.now
+            → PlaceTold self.now (slice_index values.now j) (slice_index out.new j) }
+        ensures kept { result ≡ false → out.new ≡ out.old }
+    {
+        if out.len() != values.len() {
+            return false;
+        }
+        let mut begins = [0; SIDE_BY_SIDE];
+        let mut ends = [0; SIDE_BY_SIDE];
+        for at in 0..values.len() {
+            self.zeros_ahead(values, at, 1, &mut begins);
+            self.ends_ahead(values, at, &mut ends);
+            let (begin, end) = (begins[at % SIDE_BY_SIDE], ends[at % SIDE_BY_SIDE]);
+            out[at] = self.first_told(values[at], begin, end);
+        }
+        true
+    }
+
+    /// The place of the first number that is at least `v`, `NO_ANSWER` or `WRONG_TABLES`, of which lists of selections
+    /// tell the ends of the bucket.
+    #[inline(always)]
+    fn first_told(&self, v: u64, begin: usize, end: usize) -> usize
+        requires { EndsTold self.now v begin end }
+        ensures { PlaceTold self.now v result }
+    {
+        let _ = self.len(); // its clause makes the limit of the length known to the proof
+        match self.place_told(v, begin, end) {
+            Answer::Found(place) => place,
+            Answer::Absent => NO_ANSWER,
+            Answer::Wrong => WRONG_TABLES,
+        }
+    }
+}

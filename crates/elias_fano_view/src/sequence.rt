@@ -1,0 +1,222 @@
+//! A sequence whose parts are lent.
+ghost use Rattle.std.specs.Prelude.{◌≡◌, ◌+◌, ◌*◌, ◌/◌, ◌^◌, ◌<◌, ◌≤◌, ◌↔◌, ℕ, SomeIff};
+ghost use Rattle.std.specs.Prelude.{IsTrue, List, length, slice_index, true};
+ghost use Rattle.bitm.specs.Answers.{SelectTold};
+ghost use Rattle.bitm.specs.Tables.{Lists};
+ghost use Rattle.elias_fano.specs.Parts.{HasFragment};
+ghost use Rattle.elias_fano_view.specs.Answers.{IsFirst, IsItem, IsOfPlace, IsPlaceOf};
+ghost use Rattle.elias_fano_view.specs.LentParts.{parts_of, parts_with, AreParts, HasLengths, Holds};
+ghost use Rattle.elias_fano_view.specs.Lists.{AreAhead, AreZerosAhead, EndsTold, ZeroTold};
+ghost use Rattle.elias_fano_view.specs.Low.{unread, ReadsFragments};
+ghost use Rattle.elias_fano_view.specs.Told.{IfPlace, TellsLess};
+
+mod finding;
+mod items;
+
+use crate::bucket::{place_of, rank_each};
+use crate::checking::are_parts;
+use bitm_view::{Lent, WRONG_TABLES};
+use bitm_select::search::many::SIDE_BY_SIDE;
+use elias_fano::building::item_at_one;
+use elias_fano::{Answer, LowDigits, total_first_at_least_on, total_item_on};
+use std::marker::Model;
+
+/// Number `place` of `n`, of which a list of selections tells the one: at most one fragment of the low digits.
+#[inline(always)]
+fn item_of(low: &mut LowDigits<'_>, n: usize, place: usize, one: usize) -> Answer<u64>
+    requires { place < n → HasFragment low.old.words place low.old.width }
+    ensures inside { IsOfPlace n place result }
+    ensures answer { (xs : List ℕ) (upper : Lists) → Holds xs (parts_with n low.old upper)
+        → SelectTold true upper place one → IsItem xs place result }
+    ensures fragments { ReadsFragments low.old low.new 1 }
+{
+    if place >= n {
+        return Answer::Absent;
+    }
+    if one >= WRONG_TABLES {
+        return Answer::Wrong;
+    }
+    Answer::Found(item_at_one(one, low, place))
+}
+
+/// The parts of a sequence, all lent, of which the lengths are right.
+///
+/// Contracts see how many numbers there are, how many of their digits are low ones, and the lists. The lists may hold
+/// anything: a call says what it answers where they are the parts of a sequence, and what it answers else. The width
+/// is kept, and no largest number, since to find the width each call would divide anew.
+#[derive(Drop)]
+pub struct LentSequence<'a> {
+    len: usize,
+    width: u8,
+    low: &'a [u64],
+    upper: Lent<'a>,
+}
+
+impl<'a> Model for LentSequence<'a> {
+    ghost use Rattle.elias_fano_view.specs.LentParts.{parts_of, HasLengths, LentParts};
+
+    ghost Value = { LentParts };
+
+    ghost view = { λ s. parts_of s.len s.width s.low.now s.upper };
+
+    ghost invariant = { λ s. HasLengths (parts_of s.len s.width s.low.now s.upper) };
+}
+
+impl<'a> LentSequence<'a> {
+    /// `len` numbers with `width` low digits of each in `low`, and the upper words with their tables; `None` exactly
+    /// where there are 2^56 numbers or more, more than 63 low digits, or not as many low words as these take.
+    #[inline(always)]
+    pub fn over(len: usize, width: u8, low: &'a [u64], upper: Lent<'a>) -> Option<LentSequence<'a>>
+        ensures { SomeIff result (HasLengths (parts_of len width low.now upper.entry))
+            (parts_of len width low.now upper.entry) }
+    {
+        if len >= 1 << 56 || width > 63 {
+            return None;
+        }
+        if low.len() != (len * width as usize).div_ceil(64) {
+            return None;
+        }
+        Some(LentSequence {
+            len,
+            width,
+            low,
+            upper,
+        })
+    }
+
+    /// How many numbers there are: fewer than 2^56.
+    #[inline(always)]
+    pub fn len(&self) -> usize
+        ensures len { result ≡ self.now.len }
+        ensures short { result < 2 ^ 56 }
+    {
+        self.len
+    }
+
+    /// Whether the parts are those of some sequence, with the tables of its upper words: one pass over the upper words
+    /// for the tables, and one more for the numbers, with a fragment of the low words for each.
+    pub fn check(&self) -> bool
+        ensures { IsTrue result ↔ AreParts self.now }
+    {
+        self.upper.check() && are_parts(self.upper.words(), self.low, self.width, self.len)
+    }
+
+    /// The low digits, with no reads counted yet.
+    #[inline(always)]
+    fn low_digits(&self) -> LowDigits<'_>
+        ensures { result ≡ unread self.now.low self.now.width }
+    {
+        LowDigits::new(self.low, self.width)
+    }
+
+    /// At the first place of each sixteen, selects the ones of them all, side by side.
+    #[inline(always)]
+    pub(crate) fn select_ahead(&self, places: &[usize], at: usize, ones: &mut [usize])
+        requires at { at < length places.now }
+        requires room { length ones.old ≡ 16 }
+        requires told { AreAhead self.now.upper places.now at ((at + 15) / 16 * 16) ones.old }
+        ensures told { AreAhead self.now.upper places.now at ((at + 16) / 16 * 16) ones.new }
+        ensures room { length ones.new ≡ 16 }
+    {
+        if at % SIDE_BY_SIDE != 0 {
+            return;
+        }
+        let count = (places.len() - at).min(SIDE_BY_SIDE);
+        self.upper
+            .select_list::<1>(&places[at..at + count], &mut ones[0..count]);
+    }
+
+    /// At the first place of each sixteen, selects the zeros before the buckets of them all side by side, where `less`
+    /// is 1, and those after them where it is 0.
+    #[inline(always)]
+    pub(crate) fn zeros_ahead(&self, values: &[u64], at: usize, less: usize, zeros: &mut [usize])
+        requires at { at < length values.now }
+        requires room { length zeros.old ≡ 16 }
+        requires told { AreZerosAhead self.now less values.now at ((at + 15) / 16 * 16) zeros.old }
+        ensures told { AreZerosAhead self.now less values.now at ((at + 16) / 16 * 16) zeros.new }
+        ensures room { length zeros.new ≡ 16 }
+    {
+        if at % SIDE_BY_SIDE != 0 {
+            return;
+        }
+        let count = (values.len() - at).min(SIDE_BY_SIDE);
+        self.select_zeros(&values[at..at + count], less, &mut zeros[0..count]);
+    }
+
+    /// The zeros after the buckets, as `zeros_ahead`; none where there are no low digits.
+    #[inline(always)]
+    pub(crate) fn ends_ahead(&self, values: &[u64], at: usize, ends: &mut [usize])
+        requires at { at < length values.now }
+        requires room { length ends.old ≡ 16 }
+        requires told { 0 < self.now.width
+            → AreZerosAhead self.now 0 values.now at ((at + 15) / 16 * 16) ends.old }
+        ensures told { 0 < self.now.width
+            → AreZerosAhead self.now 0 values.now at ((at + 16) / 16 * 16) ends.new }
+        ensures room { length ends.new ≡ 16 }
+    {
+        if self.width > 0 {
+            self.zeros_ahead(values, at, 0, ends);
+        }
+    }
+
+    /// Selects the zero before the bucket of each value, where `less` is 1, and the one after it where it is 0.
+    fn select_zeros(&self, values: &[u64], less: usize, zeros: &mut [usize])
+        requires few { length values.now ≤ 16 }
+        requires room { length zeros.old ≡ length values.now }
+        ensures told { (j : ℕ) → j < length values.now
+            → ZeroTold self.now less (slice_index values.now j) (slice_index zeros.new j) }
+        ensures room { length zeros.new ≡ length values.now }
+    {
+        let mut ranks = [0; SIDE_BY_SIDE];
+        rank_each(values, self.width, less, &mut ranks);
+        self.upper.select_list::<0>(&ranks[0..values.len()], zeros);
+    }
+
+    /// Number `place`, of which a list of selections tells the one.
+    #[inline(always)]
+    pub(crate) fn item_told(&self, place: usize, one: usize) -> Answer<u64>
+        requires { SelectTold true self.now.upper place one }
+        ensures inside { IsOfPlace self.now.len place result }
+        ensures answer { (xs : List ℕ) → Holds xs self.now → IsItem xs place result }
+    {
+        item_of(&mut self.low_digits(), self.len, place, one)
+    }
+
+    /// The least place whose number is at least `v`, of which lists of selections tell the ends of the bucket.
+    #[inline(always)]
+    pub(crate) fn place_told(&self, v: u64, begin: usize, end: usize) -> Answer<usize>
+        requires { EndsTold self.now v begin end }
+        ensures inside { IsPlaceOf self.now.len result }
+        ensures told { IfPlace self.now.len result (TellsLess self.now v) }
+        ensures answer { (xs : List ℕ) → Holds xs self.now → IsFirst xs v result }
+    {
+        place_of(&mut self.low_digits(), self.len, v, begin, end)
+    }
+
+    /// Number `i`, where the parts are those of a sequence; `Absent` exactly where there is none, whatever they hold.
+    ///
+    /// # Cost
+    /// That of `total_item_on`: one selection, and at most one fragment of the low digits.
+    #[inline(always)]
+    pub fn get(&self, i: usize) -> Answer<u64>
+        ensures inside { IsOfPlace self.now.len i result }
+        ensures answer { (xs : List ℕ) → Holds xs self.now → IsItem xs i result }
+    {
+        total_item_on(&mut self.upper.probe(), &mut self.low_digits(), self.len, i)
+    }
+
+    /// The least place whose number is at least `v`, where the parts are those of a sequence, and `Absent` exactly
+    /// where each number is less. Whatever they hold, `Wrong` is answered, or the parts tell that so many numbers
+    /// are less than `v`: those before the place, or all for `Absent`.
+    ///
+    /// # Cost
+    /// That of `total_first_at_least_on`.
+    #[inline]
+    pub fn first_at_least(&self, v: u64) -> Answer<usize>
+        ensures inside { IsPlaceOf self.now.len result }
+        ensures told { IfPlace self.now.len result (TellsLess self.now v) }
+        ensures answer { (xs : List ℕ) → Holds xs self.now → IsFirst xs v result }
+    {
+        total_first_at_least_on(&mut self.upper.probe(), &mut self.low_digits(), self.len, v)
+    }
+}

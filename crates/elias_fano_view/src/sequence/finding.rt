@@ -1,0 +1,41 @@
+//! The last number that is at most a value, and whether a value is one of the numbers.
+ghost use Rattle.std.specs.Prelude.{◌≡◌, ◌↔◌, ℕ, false, IfSome, IsTrue, List, IsSomeAnd};
+ghost use Rattle.std.specs.List.{Contains};
+ghost use Rattle.elias_fano_view.specs.Answers.{IsLast, IsPlaceOf};
+ghost use Rattle.elias_fano_view.specs.LentParts.{Holds};
+ghost use Rattle.elias_fano_view.specs.Told.{IfLast, TellsAtMost, TellsLess};
+
+use crate::sequence::LentSequence;
+use elias_fano::{Answer, total_contains_on, total_last_at_most_on};
+
+impl<'a> LentSequence<'a> {
+    /// The greatest place whose number is at most `v`, where the parts are those of a sequence, and `Absent` exactly
+    /// where each number is more. Whatever they hold, `Wrong` is answered, or the parts tell that so many numbers
+    /// are at most `v`: those up to the place, or none for `Absent`.
+    ///
+    /// # Cost
+    /// That of `total_last_at_most_on`: as `first_at_least` of `v + 1`.
+    #[inline]
+    pub fn last_at_most(&self, v: u64) -> Answer<usize>
+        ensures inside { IsPlaceOf self.now.len result }
+        ensures told { IfLast result (TellsAtMost self.now v) }
+        ensures answer { (xs : List ℕ) → Holds xs self.now → IsLast xs v result }
+    {
+        total_last_at_most_on(&mut self.upper.probe(), &mut self.low_digits(), self.len, v)
+    }
+
+    /// Whether `v` is one of the numbers, where the parts are those of a sequence; else either, or `None`. Whatever
+    /// they hold, with an answer they tell how many numbers are less than `v`; it is false where that are all.
+    ///
+    /// # Cost
+    /// That of `total_contains_on`: as `first_at_least`, and as `get` where a place is found.
+    #[inline]
+    pub fn contains(&self, v: u64) -> Option<bool>
+        ensures answer { (xs : List ℕ) → Holds xs self.now
+            → IsSomeAnd result (λ is. IsTrue is ↔ Contains xs v) }
+        ensures told { IfSome result (λ is. (p : ℕ) × TellsLess self.now v p
+            × (p ≡ self.now.len → is ≡ false)) }
+    {
+        total_contains_on(&mut self.upper.probe(), &mut self.low_digits(), self.len, v)
+    }
+}

@@ -1,0 +1,44 @@
+//! Tables that came with the words and may be wrong: tried, made anew where they are, and asked.
+ghost use Rattle.std.specs.Prelude.{◌≡◌, ◌↔◌, true, false, IsNone, IsTrue};
+ghost use Rattle.bitm.specs.Bits.{bits_of};
+ghost use Rattle.bitm.specs.Count.{IsSelect};
+ghost use Rattle.bitm.specs.Tables.{HasSizes, HasTables};
+ghost use Rattle.bitm_view.specs.Sizes.{lists_of};
+
+use bitm_view::{Answer, Lent, build};
+
+/// Makes the tables those of the words, unless they are; false exactly where their lengths are not right.
+pub fn repair(words: &[u64], upper: &mut [usize], lower: &mut [u64]) -> bool
+    ensures done { IsTrue result ↔ HasSizes (lists_of words.now upper.old lower.old) }
+    ensures sizes { IsTrue result → HasSizes (lists_of words.now upper.new lower.new) }
+    ensures tables { IsTrue result → HasTables (lists_of words.now upper.new lower.new) }
+{
+    let Some(lent) = Lent::over(words, &*upper, &*lower) else {
+        return false;
+    };
+    if lent.check() {
+        return true;
+    }
+    build(words, upper, lower).is_some()
+}
+
+/// The place of the one with `rank` ones before it, by tables that may be wrong, and are right afterwards; `None` where
+/// there is none, or the lengths of the tables are not right.
+pub fn select(words: &[u64], upper: &mut [usize], lower: &mut [u64], rank: usize) -> Option<usize>
+    ensures answer { HasSizes (lists_of words.now upper.old lower.old)
+        → IsSelect (bits_of words.now) true rank result }
+    ensures refused { ¬ (HasSizes (lists_of words.now upper.old lower.old)) → IsNone result }
+{
+    if !repair(words, &mut *upper, &mut *lower) {
+        return None;
+    }
+    let Some(lent) = Lent::over(words, &*upper, &*lower) else {
+        unreachable!()
+    };
+    match lent.select::<1>(rank) {
+        Answer::Found(place) => Some(place),
+        Answer::Absent => None,
+        // No right tables are called wrong.
+        Answer::Wrong => unreachable!(),
+    }
+}

@@ -1,0 +1,24 @@
+//! Values by the number of a hash, over levels that came from elsewhere, as from a file, and may hold anything.
+ghost use Rattle.std.specs.Prelude.{◌≡◌, ◌≤◌, length, slice_index};
+ghost use Rattle.std.specs.Option.{option_map};
+ghost use Rattle.bitm.specs.Count.{ones_of};
+ghost use Rattle.bitm.specs.Tables.{bits_in, HasTables};
+ghost use Rattle.perfect_hash.specs.Parts.{number_by, AreSizes};
+
+use bitm_view::{Answer, Lent};
+use perfect_hash::total_number_on;
+
+/// The value at the number of a hash. Whatever words, tables and sizes hold, that number is one of a value.
+pub fn value_of_hash(lent: &Lent<'_>, sizes: &[usize], values: &[u64], hash: u64) -> Option<u64>
+    ensures { let b = bits_in lent.now in
+        HasTables lent.now → AreSizes sizes.now b → ones_of b ≤ length values.now
+        → result ≡ option_map (slice_index values.now) (number_by sizes.now b hash) }
+{
+    if sizes.len() > 256 {
+        return None;
+    }
+    match total_number_on(&mut lent.probe(), sizes, values.len(), hash) {
+        Answer::Found(number) => Some(values[number]),
+        Answer::Absent | Answer::Wrong => None,
+    }
+}

@@ -1,0 +1,45 @@
+//! Samples that lie beside right tables and may be stale: made into memory of one's own, and asked.
+ghost use Rattle.std.specs.Prelude.{◌≡◌, true};
+ghost use Rattle.bitm.specs.Count.{IsSelect};
+ghost use Rattle.bitm.specs.Tables.{HasTables, bits_in};
+ghost use Rattle.bitm_view.specs.Answers.{IsSelected};
+ghost use Rattle.bitm_view.specs.Samples.{HasRoom};
+
+use bitm_view::{Answer, Lent, LentSamples};
+
+/// The place of the one with `rank` ones before it, by samples of whatever words: they make it no other place.
+pub fn select(lent: &Lent<'_>, samples: &LentSamples<'_>, rank: usize) -> Option<usize>
+    requires { HasTables lent.now }
+    ensures { IsSelect (bits_in lent.now) true rank result }
+{
+    match lent.sampled_select::<1>(samples, rank) {
+        Answer::Found(place) => Some(place),
+        Answer::Absent => None,
+        // No right tables are called wrong.
+        Answer::Wrong => unreachable!(),
+    }
+}
+
+/// Makes samples of ones, one for each 2^`log2`, and answers one selection by them: `Wrong` only where there is
+/// no room for them.
+pub fn sample_and_select(
+    lent: &Lent<'_>,
+    log2: u8,
+    numbers: &mut [u32],
+    starts: &mut [usize],
+    rank: usize,
+) -> Answer<usize>
+    requires { HasTables lent.now }
+    ensures { HasRoom lent.now log2 numbers.old starts.old
+        → IsSelected (bits_in lent.now) true rank result }
+{
+    let Some(used) = lent.build_samples::<1>(log2, &mut *numbers, &mut *starts) else {
+        return Answer::Wrong;
+    };
+    let samples = LentSamples {
+        samples: &numbers[..used],
+        starts: &*starts,
+        log2,
+    };
+    lent.sampled_select::<1>(&samples, rank)
+}

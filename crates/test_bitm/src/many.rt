@@ -1,0 +1,140 @@
+//! Many queries of an index at once, of few words and of so many that the searches begin at a guess. By hand: of words
+//! with their lowest bit alone set, the one of rank r is at 64 r and the zero of rank r at r + r / 63 + 1, and the ones
+//! before place p are p / 64, rounded up; of empty words before full ones, the one of rank r is r after the empty ones,
+//! and the zero of rank r is at r. Full words at the end mislead a guess.
+use bitm::{BinaryRankSearch, RankSelect101111};
+use std::alloc::{AllocError, Global};
+use example_callers::many::{try_rank_many, try_select_many, try_select0_many};
+
+/// An index over words that are lent.
+type Index<'a> = RankSelect101111<BinaryRankSearch, BinaryRankSearch, &'a [u64]>;
+
+/// The three calls.
+#[derive(Clone, Copy)]
+enum Call {
+    Rank,
+    Select,
+    Select0,
+}
+
+/// A content: so many empty words before so many full ones, or, with none empty, so many with their lowest bit set.
+#[derive(Clone, Copy)]
+struct Content {
+    empty: usize,
+    rest: usize,
+}
+
+impl Content {
+    /// Its words.
+    fn words(self, alloc: Global) -> Result<Vec<u64>, AllocError> {
+        let mut words = vec![in alloc; 0u64; self.empty]?;
+        let word = if self.empty == 0 { 1 } else { u64::MAX };
+        for _ in 0..self.rest {
+            words.push(word)?;
+        }
+        Ok(words)
+    }
+
+    /// What a call of it has an answer below.
+    fn limit(self, call: Call) -> usize {
+        let lowest = self.empty == 0;
+        let (ones, zeros) = if lowest { (1, 63) } else { (64, 0) };
+        let zeros = 64usize
+            .wrapping_mul(self.empty)
+            .wrapping_add(self.rest.wrapping_mul(zeros));
+        let ones = self.rest.wrapping_mul(ones);
+        match call {
+            Call::Rank => ones.wrapping_add(zeros).wrapping_add(1),
+            Call::Select => ones,
+            Call::Select0 => zeros,
+        }
+    }
+
+    /// What it answers.
+    fn expected(self, call: Call, asked: usize) -> usize {
+        let before = self.empty.wrapping_mul(64);
+        match (call, self.empty) {
+            (Call::Rank, 0) => asked.div_ceil(64),
+            (Call::Select, 0) => asked.wrapping_mul(64),
+            (Call::Select0, 0) => asked.wrapping_add(asked / 63).wrapping_add(1),
+            (Call::Rank, _) => asked.saturating_sub(before),
+            (Call::Select, _) => asked.wrapping_add(before),
+            (Call::Select0, _) => asked,
+        }
+    }
+}
+
+/// Asks one of the calls; says whether each query has an answer.
+fn ask(index: &Index<'_>, call: Call, queries: &[usize], answers: &mut [usize]) -> bool {
+    if queries.len() != answers.len() {
+        return false;
+    }
+    match call {
+        Call::Rank => try_rank_many(index, queries, answers),
+        Call::Select => try_select_many(index, queries, answers),
+        Call::Select0 => try_select0_many(index, queries, answers),
+    }
+}
+
+/// Whether so many queries below the limit, far apart, are answered, and with the limit beside them none is.
+fn agrees(
+    alloc: Global,
+    index: &Index<'_>,
+    content: Content,
+    call: Call,
+    count: usize,
+) -> Result<bool, AllocError> {
+    let limit = content.limit(call);
+    let mut queries = Vec::new(alloc);
+    for k in 0..count {
+        let below = k.wrapping_mul(1_000_003) % limit.max(1);
+        queries.push(limit.wrapping_sub(1).wrapping_sub(below))?;
+    }
+    let mut answers = vec![in alloc; usize::MAX; count]?;
+    let mut agrees = ask(index, call, queries.as_slice(), answers.as_mut_slice());
+    for (query, answer) in queries.iter().zip(answers.iter()) {
+        agrees &= *answer == content.expected(call, *query);
+    }
+    queries.push(limit)?;
+    answers.push(7)?;
+    agrees &= !ask(index, call, queries.as_slice(), answers.as_mut_slice());
+    Ok(agrees && answers.last().copied() == Some(7))
+}
+
+/// Whether each of the calls agrees, for no queries up to a thousand.
+fn calls_agree(alloc: Global, index: &Index<'_>, content: Content) -> Result<bool, AllocError> {
+    let mut all = true;
+    for call in [Call::Rank, Call::Select, Call::Select0] {
+        for count in [0, 1, 16, 17, 33, 1000] {
+            all &= agrees(alloc, index, content, call, count)?;
+        }
+    }
+    Ok(all)
+}
+
+/// The same over an index that is built for them.
+fn content_agrees(alloc: Global, content: Content) -> Result<bool, AllocError> {
+    let words = content.words(alloc)?;
+    let words = words.as_slice();
+    if words.len() >= 1_000_000 {
+        return Ok(false);
+    }
+    match Index::build(alloc, words) {
+        Ok((index, _)) => calls_agree(alloc, &index, content),
+        Err(_) => Err(AllocError),
+    }
+}
+
+#[test]
+fn many_queries_are_answered(rt: HostRuntime) -> Result<(), AllocError> {
+    for (empty, rest) in [
+        (0, 3),
+        (0, 140_000),
+        (2, 1),
+        (20_000, 500),
+        (139_000, 1_000),
+    ] {
+        assert!(rt; content_agrees(rt.alloc(), Content { empty, rest })?);
+    }
+    Ok(())
+}

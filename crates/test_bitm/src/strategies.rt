@@ -1,0 +1,75 @@
+//! The index with strategies and a density that a user wrote: the places of sixty words that have ones at 0, 2 and 3,
+//! worked out by hand; and which strategy is asked, which no clause says.
+use crate::walk::Sampled;
+use bitm::{
+    BinaryRankSearch, CombinedSampling, RankSelect101111, Select, Select0, Select0ForRank101111,
+    SelectForRank101111,
+};
+use std::alloc::{AllocError, Global};
+use std::process::Abort;
+use example_callers::density::ByLength;
+use example_callers::strategies::guarded::Guarded;
+use example_callers::strategies::listed::Listed;
+use example_callers::strategies::scan::Scan;
+
+/// Whether each one, and two first zeros of each word and its last, are selected, and none past them.
+fn selects_each<S: SelectForRank101111, S0: Select0ForRank101111>(
+    alloc: Global,
+) -> Result<bool, AllocError> {
+    let words = [0b1101; 60];
+    let built = RankSelect101111::<S, S0, &[u64]>::build(alloc, words.as_slice());
+    let Ok((index, total)) = built else {
+        return Err(AllocError);
+    };
+    let mut agrees = total == 180;
+    for word in 0..60usize {
+        for (nth, place) in [(0, 0), (1, 2), (2, 3)] {
+            agrees &= index.try_select(3 * word + nth) == Some(64 * word + place);
+        }
+        for (nth, place) in [(0, 1), (1, 4), (60, 63)] {
+            agrees &= index.try_select0(61 * word + nth) == Some(64 * word + place);
+        }
+    }
+    Ok(agrees && (index.try_select(180), index.try_select0(3660)) == (None, None))
+}
+
+#[test]
+fn an_index_selects_by_strategies_that_a_user_wrote(rt: HostRuntime) -> Result<(), AllocError> {
+    let alloc = rt.alloc();
+    let by = [
+        selects_each::<Scan, Scan>(alloc)?,
+        selects_each::<Listed, Listed>(alloc)?,
+        selects_each::<Guarded<BinaryRankSearch>, Guarded<Sampled>>(alloc)?,
+        selects_each::<CombinedSampling<ByLength>, CombinedSampling<ByLength>>(alloc)?,
+    ];
+    assert!(rt; by == [true; 4]);
+    Ok(())
+}
+
+/// An index whose strategies count their calls.
+type Counting<'a> = RankSelect101111<Guarded<BinaryRankSearch>, Guarded<Sampled>, &'a [u64]>;
+
+#[test]
+fn an_index_asks_the_strategy_of_its_kind_once_a_call(rt: HostRuntime) -> Result<(), AllocError> {
+    match Counting::build(rt.alloc(), [0b1101, 0b110].as_slice()) {
+        Ok((index, _)) => {
+            expect_calls(&rt, &index);
+            Ok(())
+        }
+        Err(_) => Err(AllocError),
+    }
+}
+
+/// Stops where it answers otherwise than by hand, or asks more or fewer times.
+fn expect_calls(rt: &impl Abort, index: &Counting<'_>) {
+    for (rank, place, rank0, place0) in [(0, 0, 0, 1), (2, 3, 60, 63), (4, 66, 61, 64)] {
+        let found = (index.try_select(rank), index.try_select0(rank0));
+        assert!(rt; found == (Some(place), Some(place0)));
+    }
+    assert!(rt; index.try_select(1) == Some(2));
+    let calls = (
+        index.select_support().calls(),
+        index.select0_support().calls(),
+    );
+    assert!(rt; calls == (4, 3));
+}

@@ -1,0 +1,91 @@
+//! Replays a file of answers of the original crate against the calls of `bitm`.
+//!
+//! The file, `data/answers.txt`, was printed by a program over the Rust crate `bitm`, unchanged, and each answer was
+//! computed again from the definitions by a second program, which shares no code with that crate: none differed. The
+//! answers stay as they were printed.
+//!
+//! A line is a kind and then words, with one space between two of them; `#` begins a comment. Numbers are decimal,
+//! words and bytes hexadecimal; V is decimal but where a line below says hexadecimal. `-` stands for `None`. A list has
+//! items X, runs X*COUNT (COUNT items X), and runs X+STEP*COUNT (COUNT items X, X+STEP, X+2*STEP, ..). ID is the name
+//! of the last `content` above. A:V is an argument and its answer; a line may have several. KIND is the density of
+//! samples: cM is the same for each content, aM adapts to it; D is its logarithm.
+//!
+//! | Line | What it says |
+//! |---|---|
+//! | `content ID COUNT WORDS` | a content and its words, COUNT of them |
+//! | `ones ID TOTAL` | the number of ones |
+//! | `rank ID I:V..`, `rank0 ID I:V..` | ones or zeros before place I, by `try_rank` and `try_rank0` |
+//! | `select ID R:V..`, `select0 ID R:V..` | the place of the one or zero of rank R, by `try_select` and `try_select0` |
+//! | `simple ID N..` | the ones before each run of 512 bits that is begun |
+//! | `l1 ID N..`, `l2 ID WORDS` | the upper and the lower table of an index |
+//! | `l2at ID J:WORD..` | entries of the lower table at places J, where it is long |
+//! | `samples ID KIND B D BEGINS / WORDS` | the samples of the ones (B is 1) or the zeros (B is 0): where those of each part begin, and the samples |
+//! | `samplesat ID KIND B D COUNT BEGINS / J:WORD..` | the same of many samples: their number, and some of them by their place J |
+//! | `ocs LEN N V..` | `optimal_combined_sampling(N, LEN, M)` where M is 7, 8, 13, 14, 15 and 31 |
+//! | `bits ID S,L:V..`, `raw ID S,L:V..` | the number that L bits from S on are, V hexadecimal, by `try_get_bits` and `try_get_bits_unmasked` |
+//! | `find ID S:V..`, `rfind ID S:V..` | the nearest one from S on, and up to S |
+//! | `trail ID V` | the number of zeros before the first one |
+//! | `set ID S L V / WORDS` | the words after `set_bits(S, V, L)`, V hexadecimal here and in the next lines |
+//! | `xor ID S L V / WORDS` | the words after `xor_bits(S, V, L)` |
+//! | `init S L V / WORDS` | the words after `init_bits(S, V, L)` on as many zero words |
+//! | `swap ID I J L / WORDS` | the words after `swap_fragments(I, J, L)` |
+//! | `sel64 WORD P..` | the places of the ones of a word, by `select64` at each rank |
+//! | `ceil N D V` | N divided by D, rounded up |
+//! | `store N V` | `bits_to_store(N)` |
+//! | `bytes BYTES` | the bytes of the lines below it |
+//! | `get57 K V`, `get25 K V` | a read of eight or four of those bytes at first bit K, V hexadecimal |
+//! | `init57 K V / BYTES`, `init25 K V / BYTES` | the bytes after such a write of V, hexadecimal, to as many zero bytes |
+//! | `set57 K V MASK / BYTES`, `set25 K V MASK / BYTES` | those bytes after such a write of V under a mask, both hexadecimal |
+//!
+//! At the exact length that crate answers no rank, and `bitm` the total. So where a pair of `rank` or `rank0` has the
+//! exact length and `-`, the total is expected, which the line `ones` before it says (zeros are the other bits). These
+//! pairs are counted by themselves.
+//!
+//! `try_select` and `try_select0` are compared both by binary search and by samples.
+//!
+//! The program prints each difference, up to ten, a line for each kind, and one for the ranks at the exact
+//! length, and ends with status 0 where nothing differs.
+#![tactic(auto)]
+
+mod bits;
+mod bytes;
+mod conditions;
+mod content;
+mod fault;
+mod finds;
+mod found;
+mod index;
+mod ranks;
+mod replay;
+mod report;
+mod samples;
+mod selection;
+mod tables;
+mod text;
+mod word;
+mod writes;
+
+use std::process::ExitCode;
+use std::rt::Files;
+use std::{env, fs, io};
+
+fn main(rt: HostRuntime) -> io::Result<ExitCode> {
+    let mut args = env::args(&rt)?.skip(1);
+    let (Some(path), None) = (args.next(), args.next()) else {
+        eprintln!(rt; "usage: test_original FILE")?;
+        return Ok(ExitCode::FAILURE);
+    };
+    replay_file(&rt, path.as_str())
+}
+
+/// Replays the lines of a file, and answers the status that the program ends with.
+fn replay_file(rt: &(impl Files + Print + AllocGlobal), path: &str) -> io::Result<ExitCode> {
+    let text = fs::read_to_string(rt, path)?;
+    let report = replay::replay(rt.alloc(), text.as_str())?;
+    report.print(rt)?;
+    if report.is_clean() {
+        Ok(ExitCode::SUCCESS)
+    } else {
+        Ok(ExitCode::FAILURE)
+    }
+}
