@@ -7,7 +7,7 @@ ghost use Rattle.bitm_c.specs.Numbers.{ContainsAnswered, LastAnswered};
 ghost use Rattle.bitm_c.specs.Sequence.{lent_parts, IsSized};
 
 use crate::answer::{BAD_SIZE, OK, WRONG, report};
-use crate::sequence::{Sequence};
+use crate::sequence::Sequence;
 
 /// The predecessor of `value`: the greatest index whose number is at most `value`.
 #[unsafe(no_mangle)]

@@ -14,8 +14,8 @@ mod by_samples;
 mod checks;
 
 use crate::checking::are_tables;
-use bitm_select::answer::Answer;
 use crate::ranked::ranked_on;
+use bitm_select::answer::Answer;
 use bitm_select::levels::{U64_PER_L1_ENTRY, U64_PER_L2_ENTRY};
 use bitm_select::search::ranking::{WORDS_AT_HAND, total_rank_on};
 use bitm_select::search::selecting::total_select_on;

@@ -18,10 +18,10 @@ ghost use Rattle.bitm_view.specs.Samples.{AreSamplesOf, IsBounded};
 use crate::guessed::ByGuess;
 use crate::samples::{LentSamples, clamped_log};
 use bitm::samples::first_entry;
+use bitm_select::answer::Answer;
 use bitm_select::entry::{entries_of_part, ones_to_entry};
 use bitm_select::levels::L2_ENTRIES_PER_L1_ENTRY;
 use bitm_select::search::entries::{EntryRange, last_entry, last_in_range, sought_entry};
-use bitm_select::answer::Answer;
 use bitm_select::search::selecting::search_on;
 use bitm_select::source::TableSource;
 

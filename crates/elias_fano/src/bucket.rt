@@ -11,10 +11,9 @@ ghost use Rattle.elias_fano.specs.Low.{sharing, ReadsFragments};
 ghost use Rattle.elias_fano.specs.Parts.{IsUpper};
 ghost use Rattle.elias_fano.specs.Sequence.{IsFirstAtLeast};
 
-use bitm::Answer;
 use crate::low::LowDigits;
 use crate::searching::{count_at_zero, count_to, place_in_bucket};
-use bitm::{TableSource, index_laws, words};
+use bitm::{Answer, TableSource, index_laws, words};
 
 // In how many words the end of a bucket is looked for before it is selected.
 const NEAR: usize = 8;

@@ -10,10 +10,9 @@ ghost use Rattle.elias_fano.specs.Low.{sharing, ReadsFragments};
 ghost use Rattle.elias_fano.specs.Sequence.{ReachesTo};
 ghost use Rattle.elias_fano.specs.Told.{IfLast, TellsAtMost, TellsLess};
 
-use bitm::Answer;
 use crate::low::LowDigits;
 use crate::searching::{total_first_at_least_on, total_item_on};
-use bitm::TableSource;
+use bitm::{Answer, TableSource};
 
 /// How many numbers are at most `v`: those before the first that is at least `v + 1`; `None` only where the parts are
 /// wrong.

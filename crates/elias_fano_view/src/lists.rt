@@ -5,8 +5,8 @@ ghost use Rattle.elias_fano_view.specs.Lists.{written_count, AreItems, EndsTold,
 ghost use Rattle.elias_fano_view.specs.Lists.{PlaceTold};
 
 use crate::sequence::LentSequence;
-use bitm_view::{NO_ANSWER, WRONG_TABLES};
 use bitm_select::search::many::SIDE_BY_SIDE;
+use bitm_view::{NO_ANSWER, WRONG_TABLES};
 use elias_fano::Answer;
 
 /// How far a list of places was answered.

@@ -15,8 +15,8 @@ mod items;
 
 use crate::bucket::{place_of, rank_each};
 use crate::checking::are_parts;
-use bitm_view::{Lent, WRONG_TABLES};
 use bitm_select::search::many::SIDE_BY_SIDE;
+use bitm_view::{Lent, WRONG_TABLES};
 use elias_fano::building::item_at_one;
 use elias_fano::{Answer, LowDigits, total_first_at_least_on, total_item_on};
 use std::marker::Model;

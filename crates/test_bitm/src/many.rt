@@ -3,8 +3,8 @@
 //! before place p are p / 64, rounded up; of empty words before full ones, the one of rank r is r after the empty ones,
 //! and the zero of rank r is at r. Full words at the end mislead a guess.
 use bitm::{BinaryRankSearch, RankSelect101111};
-use std::alloc::{AllocError, Global};
 use example_callers::many::{try_rank_many, try_select_many, try_select0_many};
+use std::alloc::{AllocError, Global};
 
 /// An index over words that are lent.
 type Index<'a> = RankSelect101111<BinaryRankSearch, BinaryRankSearch, &'a [u64]>;

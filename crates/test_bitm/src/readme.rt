@@ -1,6 +1,6 @@
 //! The answers that the README states beside its program; `scripts/claims` compares these rows with its lines.
-use std::test::Fail;
 use example_callers::readme::ask;
+use std::test::Fail;
 
 /// A place and a rank that are asked, and the answers to both.
 type Row = (usize, usize, Option<usize>, Option<usize>);

@@ -5,12 +5,12 @@ use bitm::{
     BinaryRankSearch, CombinedSampling, RankSelect101111, Select, Select0, Select0ForRank101111,
     SelectForRank101111,
 };
-use std::alloc::{AllocError, Global};
-use std::process::Abort;
 use example_callers::density::ByLength;
 use example_callers::strategies::guarded::Guarded;
 use example_callers::strategies::listed::Listed;
 use example_callers::strategies::scan::Scan;
+use std::alloc::{AllocError, Global};
+use std::process::Abort;
 
 /// Whether each one, and two first zeros of each word and its last, are selected, and none past them.
 fn selects_each<S: SelectForRank101111, S0: Select0ForRank101111>(

@@ -5,8 +5,8 @@ ghost use Rattle.std.specs.Prelude.{◌≡◌, length};
 
 use crate::computed::Computed;
 use bitm::{TableSource, binary_select_on, bit_on, rank_many_on, rank_on, select_many_on};
-use std::process::Abort;
 use example_callers::many::all_below;
+use std::process::Abort;
 
 /// The words of a part and of half a part, which have 2^32 + 2^31 = 6442450944 bits.
 const WORDS: usize = 100_663_296;

@@ -1,8 +1,8 @@
 //! The calls of a sequence that take memory, and those of its users.
 use crate::outcome::{Ended, Outcome, answered, refused};
 use elias_fano::{EfError, EliasFano};
-use std::alloc::Global;
 use example_callers::inverted::common;
+use std::alloc::Global;
 
 const NUMBERS: [u64; 7] = [2, 3, 5, 7, 11, 13, 24];
 

@@ -207,7 +207,11 @@ fn among_eight<const BIT: u8, T: TableSource>(
 
 /// Selection among the eight words from `first` on, of which some may miss; the rank counts from there.
 #[inline(always)]
-fn in_record<const BIT: u8, T: TableSource>(source: &mut T, first: usize, rank: usize) -> Answer<usize>
+fn in_record<const BIT: u8, T: TableSource>(
+    source: &mut T,
+    first: usize,
+    rank: usize,
+) -> Answer<usize>
     requires short { IsShort (T.lists source.old).words }
     requires first { first < 2 ^ 60 }
     ensures answer { IsSelectedFrom (T.lists source.old).words (as_bit BIT) first

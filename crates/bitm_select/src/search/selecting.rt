@@ -15,8 +15,8 @@ ghost use Rattle.bitm_select.specs.Told.{told_entry, told_part, IfAbsent, TellsN
 use crate::search::entries::last_entry;
 use crate::search::many::ByTables;
 use crate::search::record::{NOT_READ, in_packed};
-use bitm_tables::answer::Answer;
 use crate::search::selected::found;
+use bitm_tables::answer::Answer;
 use bitm_tables::source::TableSource;
 
 /// How the entry of a rank is found in a part: by halves, or by samples.

@@ -69,7 +69,11 @@ impl<'a> Lent<'a> {
     /// near a guess between the rank's sample and the next, and where it was wrong two more, and one for each halving
     /// from the one to the other: 28 at most.
     #[inline(always)]
-    pub fn sampled_select<const BIT: u8>(&self, samples: &LentSamples<'_>, rank: usize) -> Answer<usize>
+    pub fn sampled_select<const BIT: u8>(
+        &self,
+        samples: &LentSamples<'_>,
+        rank: usize,
+    ) -> Answer<usize>
         ensures bit { HasBit (bits_in self.now) (as_bit BIT) result }
         ensures counts { HasTables self.now → IsSelected (bits_in self.now) (as_bit BIT) rank result }
         ensures absent { IfAbsent result (TellsNone (as_bit BIT) self.now rank) }

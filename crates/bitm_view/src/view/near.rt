@@ -7,8 +7,8 @@ ghost use Rattle.bitm_view.specs.Cut.{bits_of_cut, Cut, IsWithin};
 ghost use Rattle.bitm_view.specs.Queries.{IsNext, IsPrevious, NextIn, PreviousIn, RanksIn, SelectsIn};
 ghost use Rattle.bitm.specs.Answer.TheVariants.{Found, Absent, Wrong};
 
-use bitm_select::answer::Answer;
 use crate::view::IndexView;
+use bitm_select::answer::Answer;
 
 /// The selected position, where it is not before `from`: else the tables are not those of the words.
 #[inline(always)]
