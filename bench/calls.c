@@ -1,5 +1,5 @@
 /* Times the calls of the C library over 2^LOG2 random bits, and over a sequence of a quarter as many numbers: calls LOG2
- * ROUNDS. Rows, words, numbers, queries and clock are those of the crate `bench`, so the last column (the sum of the
+ * ROUNDS. Rows, words, numbers, queries and clock are those of the crate `tool_bench`, so the last column (the sum of the
  * answers) is the same too. */
 #define _GNU_SOURCE
 #define BITM_MUST_USE /* every status is BITM_OK here, and testing them all would be timed */

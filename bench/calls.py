@@ -2,7 +2,7 @@
 """calls.py LOG2 ROUNDS: times the calls of the Python package over 2^LOG2 random bits, and beside them bitarray's, NumPy's
 and bisect's, where these are installed. Prints CSV rows: name, by, LOG2, kind of bits, least time of all rounds, unit,
 sum of the answers. The time is that of a query, a bit, a position, a number or a key.
-Rows, words, queries and clock are those of the crate `bench`; single calls are timed for the first 2^12 queries alone, with
+Rows, words, queries and clock are those of the crate `tool_bench`; single calls are timed for the first 2^12 queries alone, with
 the loop around them. With NumPy the lists are arrays. With BITM_LIB (the archive) the rows `C` are the library's calls of
 the same lists."""
 import array

@@ -1,5 +1,5 @@
 // Times access, rank and selection of sdsl-lite's wavelet trees over drawn numbers of 8 and of 16 digits, as many as a
-// sixteenth of 2^LOG2: numbers LOG2 ROUNDS. Rows as those of `bench`, by the same clock, over the same numbers.
+// sixteenth of 2^LOG2: numbers LOG2 ROUNDS. Rows as those of `tool_bench`, by the same clock, over the same numbers.
 #include <cstdint>
 #include <cstdio>
 #include <cstdlib>
@@ -8,7 +8,7 @@
 #include <utility>
 #include <vector>
 
-// The next number of the sequence that `bench` draws.
+// The next number of the sequence that `tool_bench` draws.
 uint64_t draw(uint64_t& state) {
     state ^= state << 13;
     state ^= state >> 7;

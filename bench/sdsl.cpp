@@ -1,5 +1,5 @@
 // Times rank and selection of sdsl-lite over a random content of 2^LOG2 bits, a sequence of a quarter as many numbers, and
-// loading a stored index; of more than 2^30 bits the loading alone: sdsl LOG2 ROUNDS. Rows as those of `bench`, by the same
+// loading a stored index; of more than 2^30 bits the loading alone: sdsl LOG2 ROUNDS. Rows as those of `tool_bench`, by the same
 // clock, the thread's processor time.
 #include <cstdint>
 #include <cstdio>
@@ -46,7 +46,7 @@ void space(const char* name, int log2, double bytes) {
     std::printf("%s,sdsl,%d,even,%.2f,bits,%.0f\n", name, log2, bytes * 8 / (uint64_t(1) << (log2 - 6)), bytes);
 }
 
-// Numbers by 1 to 1000 greater than the one before, one more than those of `bench`, since a set has each number once.
+// Numbers by 1 to 1000 greater than the one before, one more than those of `tool_bench`, since a set has each number once.
 std::vector<uint64_t> numbers(size_t count) {
     std::vector<uint64_t> made(count);
     uint64_t n = 88172645463325252, last = 0;

@@ -1,5 +1,5 @@
-// Times the louds_tree of sdsl-lite over the tree that `bench` draws, of 2^LOG2 nodes: sdsl_trees LOG2 ROUNDS. Rows as
-// those of `bench`, by the same clock. A node of sdsl-lite is its number and its place among the bits, which are looked
+// Times the louds_tree of sdsl-lite over the tree that `tool_bench` draws, of 2^LOG2 nodes: sdsl_trees LOG2 ROUNDS. Rows as
+// those of `tool_bench`, by the same clock. A node of sdsl-lite is its number and its place among the bits, which are looked
 // up before the clock starts in the rows `of_node`, else within the call; each call answers both.
 #include <cstdint>
 #include <cstdio>
@@ -20,7 +20,7 @@ double used() {
     return at.tv_sec * 1e9 + at.tv_nsec;
 }
 
-// The numbers that `bench` draws.
+// The numbers that `tool_bench` draws.
 uint64_t draw(uint64_t& n) {
     n ^= n << 13;
     n ^= n >> 7;
@@ -109,7 +109,7 @@ int main(int argc, char** argv) {
         for (const auto& it : nodes) sum += tree.degree(Tree::node_type(it.first, it.second));
         return sum;
     });
-    // From the number alone, which is all that a node is to `bench`: its place is looked up first.
+    // From the number alone, which is all that a node is to `tool_bench`: its place is looked up first.
     row("tree_child", log2, rounds, nodes.size(), [&] {
         uint64_t sum = 0;
         for (const auto& it : nodes) {

@@ -1,6 +1,6 @@
 //! Laws of what tables and words hold, beside those of bits in `laws`: a function here does nothing, and its contract
 //! is the law. That rank and selection undo each other is `laws::rank_of_picked` and `laws::picked_by_rank`; that
-//! ones and zeros are together all bits is `laws::ones_and_zeros`. What follows for calls of an index shows `uses`
+//! ones and zeros are together all bits is `laws::ones_and_zeros`. What follows for calls of an index shows `example_callers`
 //! (`inverse.rt`).
 ghost use Rattle.bitm.specs.IndexLaws.{EntriesFit, OnesOfWord, TablesHaveSizes};
 
