@@ -1,13 +1,25 @@
 //! Selections of lists of ranks in all the words.
 ghost use Rattle.std.specs.Prelude.{◌≡◌, ◌↔◌, IsTrue, length, false};
 ghost use Rattle.bit_lists.specs.Count.{as_bit};
-ghost use Rattle.bitm_select.specs.Answers.{ToldEach};
+ghost use Rattle.bitm_select.specs.Answers.{SelectTold, ToldEach};
 ghost use Rattle.bitm_select.specs.Tables.{HasSizes};
 
 use crate::lent::Lent;
 use bitm_select::search::many::{ByTables, FindsEntries, tell_many_on};
-use bitm_select::search::selected::NO_ANSWER;
+use bitm_select::search::selected::told;
+use bitm_select::search::selecting::total_select_on;
 use bitm_select::source::{Probe, TableSource};
+
+/// The position with a rank, by the codes of lists. Not inlined: the loop that calls it where there are no words would
+/// become a call of the C library, and the archive needs none.
+#[inline(never)]
+fn code_on<const BIT: u8, T: TableSource>(source: &mut T, rank: usize) -> usize
+    requires { HasSizes (T.lists source.old) }
+    ensures told { SelectTold (as_bit BIT) (T.lists source.old) rank result }
+    ensures same { T.lists source.new ≡ T.lists source.old }
+{
+    told(total_select_on::<BIT, T>(source, rank))
+}
 
 /// Writes the position with each rank, by searches side by side where there is a word, of which `finder` finds the
 /// entries: `NO_ANSWER` for `Absent` and `WRONG_TABLES` for `Wrong`. Answers false exactly where there is not room
@@ -31,7 +43,7 @@ pub(crate) fn select_list_on<const BIT: u8, T: TableSource, F: FindsEntries<BIT,
         return true;
     }
     for at in 0..ranks.len() {
-        out[at] = NO_ANSWER;
+        out[at] = code_on::<BIT, T>(source, ranks[at]);
     }
     true
 }

@@ -13,7 +13,6 @@ ghost use Rattle.perfect_hash.specs.Placed.{FitIn, IsPlaced, WhereAbsent, WhereW
 
 use crate::placing::{Placing, Plain, no_reads};
 use bitm::{Answer, ReadCounts, TableSource, rank_on, total_rank_on, words};
-use bitm_view::Answer;
 
 /// Whether the bit at `place` of the source's words is a one.
 ///
