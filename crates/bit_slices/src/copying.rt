@@ -33,9 +33,40 @@ fn copy_word(to: &mut [u64], at: usize, from: &[u64], from_begin: usize)
     to[at] = words::get_bits_unmasked(from, from_begin, 64);
 }
 
-/// Copies bits into the `count` words from word `first` on.
+/// Copies word `from_at` into word `at`.
 #[inline(always)]
-fn copy_words(to: &mut [u64], first: usize, from: &[u64], from_begin: usize, count: usize)
+fn copy_whole_word(to: &mut [u64], at: usize, from: &[u64], from_at: usize)
+    requires to_inside { at < length to.old }
+    requires from_inside { from_at < length from.now }
+    ensures { bits_of to.new ≡ with_number (bits_of to.old) (64 * at) 64
+        (number_at (bits_of from.now) (64 * from_at) 64) }
+{
+    to[at] = from[from_at];
+}
+
+/// Copies the `count` words from word `from_first` on into those from word `first` on.
+#[inline(always)]
+fn copy_whole_words(to: &mut [u64], first: usize, from: &[u64], from_first: usize, count: usize)
+    requires to_inside { first + count ≤ length to.old }
+    requires from_inside { from_first + count ≤ length from.now }
+    ensures { IsCopied (bits_of from.now) (64 * from_first) (bits_of to.old) (64 * first) (64 * count)
+        (bits_of to.new) }
+{
+    let mut done = 0;
+    // A loop over single words would be compiled to a call of C's `memcpy`, and the archive for C calls nothing.
+    while count - done >= 2 {
+        copy_whole_word(&mut *to, first + done, from, from_first + done);
+        copy_whole_word(&mut *to, first + done + 1, from, from_first + done + 1);
+        done += 2;
+    }
+    if done < count {
+        copy_whole_word(to, first + done, from, from_first + done);
+    }
+}
+
+/// Copies bits into the `count` words from word `first` on, from any position.
+#[inline(always)]
+fn copy_shifted_words(to: &mut [u64], first: usize, from: &[u64], from_begin: usize, count: usize)
     requires to_inside { first + count ≤ length to.old }
     requires from_inside { from_begin + 64 * count ≤ 64 * length from.now }
     requires fits { from_begin + 64 * count < 2 ^ 64 }
@@ -43,7 +74,6 @@ fn copy_words(to: &mut [u64], first: usize, from: &[u64], from_begin: usize, cou
         (bits_of to.new) }
 {
     let mut done = 0;
-    // A loop over single words would be compiled to a call of C's `memcpy`, and the archive for C calls nothing.
     while count - done >= 2 {
         copy_word(&mut *to, first + done, from, from_begin + 64 * done);
         copy_word(
@@ -56,6 +86,22 @@ fn copy_words(to: &mut [u64], first: usize, from: &[u64], from_begin: usize, cou
     }
     if done < count {
         copy_word(to, first + done, from, from_begin + 64 * done);
+    }
+}
+
+/// Copies bits into the `count` words from word `first` on.
+#[inline(always)]
+fn copy_words(to: &mut [u64], first: usize, from: &[u64], from_begin: usize, count: usize)
+    requires to_inside { first + count ≤ length to.old }
+    requires from_inside { from_begin + 64 * count ≤ 64 * length from.now }
+    requires fits { from_begin + 64 * count < 2 ^ 64 }
+    ensures { IsCopied (bits_of from.now) from_begin (bits_of to.old) (64 * first) (64 * count)
+        (bits_of to.new) }
+{
+    if from_begin % 64 == 0 {
+        copy_whole_words(to, first, from, from_begin / 64, count);
+    } else {
+        copy_shifted_words(to, first, from, from_begin, count);
     }
 }
 

@@ -1,7 +1,7 @@
 use Rattle.std.proofs.Common.{◌-◌, ◌*◌, ◌≤◌}
 use Rattle.bit_lists.specs.Bits.{bits_of}
 use Rattle.bit_slices.specs.Copied.{IsCopied}
-use Rattle.bit_slices.proofs.copying.copy_words.Given as goal
+use Rattle.bit_slices.proofs.copying.copy_shifted_words.Given as goal
 
 -- the words so far
 abbrev pub invariant-loop-done : goal.invariant-loop-done

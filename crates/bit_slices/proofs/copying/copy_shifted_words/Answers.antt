@@ -4,7 +4,7 @@ use Rattle.bit_lists.proofs.lemmas.BitsLemmas.{length-bits_of}
 use Rattle.bit_lists.specs.Bits.{bits_of}
 use Rattle.bit_slices.specs.Copied.{IsCopied}
 use Rattle.bit_slices.proofs.lemmas.CopyLemmas.{copied_more}
-use Rattle.bit_slices.proofs.copying.copy_words.Goals as goal
+use Rattle.bit_slices.proofs.copying.copy_shifted_words.Goals as goal
 
 pub loop-done-preserved : goal.loop-done-preserved
 loop-done-preserved c =

@@ -1,0 +1,11 @@
+use Rattle.std.proofs.Common.{◌-◌, ◌*◌, ◌≤◌}
+use Rattle.bit_lists.specs.Bits.{bits_of}
+use Rattle.bit_slices.specs.Copied.{IsCopied}
+use Rattle.bit_slices.proofs.copying.copy_whole_words.Given as goal
+
+-- the words so far
+abbrev pub invariant-loop-done : goal.invariant-loop-done
+invariant-loop-done l = record { within : l.done ≤ l.count; copied : IsCopied (bits_of l.from) (64 * l.from_first) (bits_of l.fn.to) (64 * l.first) (64 * l.done) (bits_of l.to) }
+
+abbrev pub decreases-loop-done : goal.decreases-loop-done
+decreases-loop-done l = l.count - l.done
