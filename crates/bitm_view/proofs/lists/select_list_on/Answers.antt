@@ -11,9 +11,10 @@ code_on-requires g c = subst (λ (l : Lists). HasSizes l) (sym c.loop-at.invaria
 
 pub loop-at-preserved : goal.loop-at-preserved
 loop-at-preserved g c =
-    let lists = g.T.TableSource.lists c.args.source.now in
-    (c.code_on.ensures.same ∙ c.loop-at.invariant.0,
-    each_more (SelectTold (as_bit g.row.BIT) lists) c.args.ranks.now c.loop-at.out c.loop-at.at c.code_on.result
-    (omega (arith, c.loop-at-test.true, c.loop-at.auto.out, c.if-out-ranks.false))
-    c.loop-at.invariant.1 (subst (λ (l : Lists). SelectTold (as_bit g.row.BIT) l (slice_index c.args.ranks.now c.loop-at.at) c.code_on.result)
-    c.loop-at.invariant.0 c.code_on.ensures.told))
+    let lists = g.T.TableSource.lists c.args.source.now in (
+      c.code_on.ensures.same ∙ c.loop-at.invariant.0,
+      each_more (SelectTold (as_bit g.row.BIT) lists) c.args.ranks.now c.loop-at.out c.loop-at.at c.code_on.result
+          (omega (arith, c.loop-at-test.true, c.loop-at.auto.out, c.if-out-ranks.false))
+          c.loop-at.invariant.1 (subst (λ (l : Lists). SelectTold (as_bit g.row.BIT) l (slice_index c.args.ranks.now c.loop-at.at) c.code_on.result)
+          c.loop-at.invariant.0 c.code_on.ensures.told),
+    )
