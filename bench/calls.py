@@ -106,8 +106,8 @@ def changes(rows, vector, some):
     if bitarray is not None:
         bits = bitarray.bitarray(endian="little")
         bits.frombytes(vector.tobytes())
-        rows.single("count(1, 0, i)", "bitarray", lambda at: bits.count(1, 0, at), asked[:64])
-        rows.single("find(1, i)", "bitarray", lambda at: bits.find(1, at), asked)
+        rows.single("count before i", "bitarray", lambda at: bits.count(1, 0, at), asked[:64])
+        rows.single("find from i", "bitarray", lambda at: bits.find(1, at), asked)
         rows.item("vector[i]", "bitarray", bits, asked)
         rows.add("vector[i] = True", "bitarray", SINGLE, set_each(bits.copy()), lambda: asked)
         rows.whole("vector[5:-5]", "bitarray", len(vector), lambda: [bits[5:-5].count()])

@@ -260,7 +260,7 @@ PyObject *sequence_common(PyObject *module, PyObject *args);
 
 /* The hash and the fingerprint of a key, or of each key of a list of them, one after another. */
 #define MARK_BLAKE 0x687361686d746962u /* "bitmhash": files of version 0.2.0, whose keys are hashed by BLAKE2b */
-#define MARK_SIP 0x327361686d746962u   /* "bitmhas2": by SipHash-2-4 */
+#define MARK_SIP 0x327361686d746962u   /* "bitmhas2": by SipHash-1-3 */
 int key_hash(PyObject *key, uint64_t mark, uint64_t seed, uint64_t out[2]);
 uint64_t *keys_hash(PyObject *keys, uint64_t mark, uint64_t seed, size_t *count);
 

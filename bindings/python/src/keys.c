@@ -26,26 +26,30 @@ static inline __attribute__((always_inline)) void rounds(uint64_t v[4], int coun
     }
 }
 
-/* SipHash-2-4 with an answer of 128 bits, by the key (seed, kind). */
+/* SipHash-1-3, which hashes Python's own strings, by the key (seed, kind); and a mixture of its answer, of which the
+ * fingerprint is (the last steps of MurmurHash3). */
 static void siphash(const char *at, size_t len, uint64_t seed, uint64_t kind, uint64_t out[2])
 {
-    uint64_t v[4] = {0x736f6d6570736575u ^ seed, 0x646f72616e646f6du ^ kind ^ 0xee, 0x6c7967656e657261u ^ seed,
+    uint64_t v[4] = {0x736f6d6570736575u ^ seed, 0x646f72616e646f6du ^ kind, 0x6c7967656e657261u ^ seed,
                      0x7465646279746573u ^ kind};
     for (size_t left = len;; left -= 8, at += 8) {
         uint64_t word = (uint64_t)len << 56;
-        memcpy(&word, at, left < 8 ? left : 8);
+        if (left >= 8)
+            memcpy(&word, at, 8);
+        for (size_t i = 0; left < 8 && i < left; i++)
+            word |= (uint64_t)(unsigned char)at[i] << 8 * i;
         v[3] ^= word;
-        rounds(v, 2);
+        rounds(v, 1);
         v[0] ^= word;
         if (left < 8)
             break;
     }
-    v[2] ^= 0xee;
-    rounds(v, 4);
-    out[0] = v[0] ^ v[1] ^ v[2] ^ v[3];
-    v[1] ^= 0xdd;
-    rounds(v, 4);
-    out[1] = v[0] ^ v[1] ^ v[2] ^ v[3];
+    v[2] ^= 0xff;
+    rounds(v, 3);
+    uint64_t mixed = out[0] = v[0] ^ v[1] ^ v[2] ^ v[3];
+    mixed = (mixed ^ mixed >> 33) * 0xff51afd7ed558ccdu;
+    mixed = (mixed ^ mixed >> 33) * 0xc4ceb9fe1a85ec53u;
+    out[1] = mixed ^ mixed >> 33;
 }
 
 /* A number of 64 bits, with a sign or without. */
@@ -119,11 +123,15 @@ static int int_hash(PyObject *key, uint64_t seed, uint64_t out[2])
 
 int key_hash(PyObject *key, uint64_t mark, uint64_t seed, uint64_t out[2])
 {
-    if (PyUnicode_Check(key))
-        return mark == MARK_SIP ? text_hash(key, seed, out) : blake_hash(key, seed, out);
-    if (PyBytes_Check(key))
-        return mark == MARK_SIP ? bytes_hash(key, seed, BYTES, out) : blake_hash(key, seed, out);
-    if (!PyIndex_Check(key)) {
+    int is_text = PyUnicode_Check(key), is_int = !is_text && PyLong_Check(key);
+    int is_bytes = !is_text && !is_int && PyBytes_Check(key);
+    if (mark == MARK_SIP && is_text)
+        return text_hash(key, seed, out);
+    if (mark == MARK_SIP && is_int)
+        return int_hash(key, seed, out);
+    if (mark == MARK_SIP && is_bytes)
+        return bytes_hash(key, seed, BYTES, out);
+    if (!is_text && !is_bytes && !PyIndex_Check(key)) {
         PyErr_Format(PyExc_TypeError, "a key is a str, bytes or an int, not %R", key);
         return -1;
     }

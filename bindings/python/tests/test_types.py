@@ -203,3 +203,10 @@ def test_a_vector_is_a_mutable_sequence_and_an_index_a_sequence():
     for name in MutableSequence.__abstractmethods__ | {"append", "clear", "extend", "remove", "reverse", "pop", "__iadd__", "__iter__", "index", "count"}:
         assert hasattr(vector, name), name
     assert list(reversed(index)) == list(index)[::-1]
+
+
+def test_fingerprints_let_as_many_others_pass_as_their_bits_say():
+    for bits in (0, 1, 4, 8):
+        made = PerfectHash([f"key {at}" for at in range(3000)], bits=bits)
+        passed = sum(it is not None for it in made.get_list([f"other {at}" for at in range(20000)]))
+        assert 0.7 < passed * 2**bits / 20000 < 1.3 or (bits == 0 and passed > 10000)
