@@ -10,13 +10,10 @@
 #include <time.h>
 
 #define QUERIES ((size_t)1 << 17)
-#define EACH(call) for (size_t i = 0; i < QUERIES; i++) { uint64_t got = 0; call(&view, asked[i], &got); sum += got; }
-#define BY_SAMPLES(call, by) \
-    for (size_t i = 0; i < QUERIES; i++) { uint64_t got = 0; call(&view, &by, asked[i], &got); sum += got; }
+#define EACH(call, ...) for (size_t i = 0; i < QUERIES; i++) { uint64_t got = 0; call(__VA_ARGS__, asked[i], &got); sum += got; }
 #define ADD for (size_t i = 0; i < QUERIES; i++) sum += answers[i];
-#define ALL(call) call(&view, asked, QUERIES, answers, QUERIES); ADD
-#define ALL_BY_SAMPLES(call, by) call(&view, &by, asked, QUERIES, answers, QUERIES); ADD
-#define ALL_NUMBERS(call) call(&view, asked, QUERIES, answers, QUERIES, &written); ADD
+#define ALL(call, ...) call(__VA_ARGS__, asked, QUERIES, answers, QUERIES, &counts); ADD
+#define ALL_NUMBERS(call, ...) call(__VA_ARGS__, asked, QUERIES, answers, QUERIES, &written); ADD
 #define ROW(name, by, body) ROW_OF(QUERIES, name, by, body)
 #define ROW_OF(count, name, by, body) \
     do { \
@@ -33,6 +30,7 @@
     } while (0)
 
 static uint64_t asked[QUERIES], answers[QUERIES];
+static struct bitm_list_counts counts;
 
 static double used(void)
 {
@@ -64,15 +62,13 @@ static void *some(size_t count, size_t size)
     return made;
 }
 
-typedef uint32_t make_samples(const struct bitm_view *, uint32_t, uint32_t *, size_t, uint64_t *, size_t, uint64_t *);
-
-static struct bitm_samples samples_of(const struct bitm_view *view, make_samples *make)
+static struct bitm_samples samples_of(const struct bitm_index *index, bool one)
 {
-    size_t most = bitm_samples_len(view->words_len, 13);
+    size_t most = bitm_index_samples_len(index->words_len, 13);
     uint32_t *samples = some(most, 4);
-    uint64_t *starts = some(view->upper_len, 8), count;
-    if (make(view, 13, samples, most, starts, view->upper_len, &count) != BITM_OK) abort();
-    return (struct bitm_samples){samples, count, starts, view->upper_len, 13};
+    uint64_t *starts = some(index->upper_len, 8), count;
+    if (bitm_index_build_samples(index, one, 13, samples, most, starts, index->upper_len, &count) != BITM_OK) abort();
+    return (struct bitm_samples){samples, count, starts, index->upper_len, 13, 0};
 }
 
 /* Rows of numbers of which each is by less than 1000 greater than the one before it. */
@@ -87,17 +83,17 @@ static void numbers(int log2, int rounds, size_t count)
     if (bitm_sequence_build(items, count, low, of.low_len, words, of.words_len, upper, of.upper_len, lower, of.lower_len,
                             &width) != BITM_OK)
         abort();
-    struct bitm_sequence_view view = {count, width, low, of.low_len, words, of.words_len, upper, of.upper_len, lower,
-                                      of.lower_len};
+    struct bitm_sequence of_numbers = {count, width, low, of.low_len, words, of.words_len, upper, of.upper_len, lower,
+                                       of.lower_len, {0, 0}};
     ask(count);
-    ROW("sequence_get", "C", EACH(bitm_sequence_get));
-    ROW("sequence_get_list", "C", ALL_NUMBERS(bitm_sequence_get_list));
+    ROW("sequence_get", "C", EACH(bitm_sequence_get, &of_numbers));
+    ROW("sequence_get_list", "C", ALL_NUMBERS(bitm_sequence_get_list, &of_numbers));
     ask(last);
-    ROW("sequence_first_at_least", "C", EACH(bitm_sequence_first_at_least));
-    ROW("sequence_first_at_least_list", "C", ALL(bitm_sequence_first_at_least_list));
+    ROW("sequence_first_at_least", "C", EACH(bitm_sequence_first_at_least, &of_numbers));
+    ROW("sequence_first_at_least_list", "C", ALL(bitm_sequence_first_at_least_list, &of_numbers));
     ROW_OF(count, "sequence_in_order", "C",
         for (size_t at = 0; at < count; at += 1024) {
-            bitm_sequence_items(&view, at, answers, 1024, &written);
+            bitm_sequence_items(&of_numbers, at, answers, 1024, &written);
             for (size_t i = 0; i < written; i++) sum += answers[i];
         });
 }
@@ -107,7 +103,7 @@ int main(int argc, char **argv)
     if (argc != 3) return 2;
     int log2 = atoi(argv[1]), rounds = atoi(argv[2]);
     if (log2 < 10 || log2 > 33) return 2;
-    size_t len = (size_t)1 << (log2 - 6), upper_len = bitm_upper_len(len), lower_len = bitm_lower_len(len);
+    size_t len = (size_t)1 << (log2 - 6), upper_len = bitm_index_upper_len(len), lower_len = bitm_index_lower_len(len);
     uint64_t *words = some(len, 8), *upper = some(upper_len, 8), *lower = some(lower_len, 8);
     uint64_t state = 88172645463325252, ones;
     for (size_t i = 0; i < len; i++) {
@@ -116,24 +112,24 @@ int main(int argc, char **argv)
         draw(&state);
     }
     double start = used();
-    if (bitm_build(words, len, upper, upper_len, lower, lower_len, &ones) != BITM_OK) return 1;
+    if (bitm_index_build(words, len, upper, upper_len, lower, lower_len, &ones) != BITM_OK) return 1;
     printf("build_a_word,C,%d,even,%.2f,ns,%llu\n", log2, (used() - start) / (double)len, (unsigned long long)ones);
-    struct bitm_view view = {words, len, upper, upper_len, lower, lower_len};
-    struct bitm_samples of_ones = samples_of(&view, bitm_build_samples);
-    struct bitm_samples of_zeros = samples_of(&view, bitm_build_samples0);
+    struct bitm_index plain = {words, len, upper, upper_len, lower, lower_len, 64 * len, {0}, {0}, {0, 0}}, sampled = plain;
+    sampled.ones = samples_of(&plain, true);
+    sampled.zeros = samples_of(&plain, false);
     ask(64 * len);
-    ROW("rank", "C", EACH(bitm_rank));
-    ROW("rank_list", "C", ALL(bitm_rank_list));
+    ROW("rank", "C", EACH(bitm_index_rank, &plain, true));
+    ROW("rank_list", "C", ALL(bitm_index_rank_list, &plain, true));
     ask(ones);
-    ROW("select", "C binary", EACH(bitm_select));
-    ROW("select", "C sampled", BY_SAMPLES(bitm_sampled_select, of_ones));
-    ROW("select_list", "C", ALL(bitm_select_list));
-    ROW("select_list", "C sampled", ALL_BY_SAMPLES(bitm_sampled_select_list, of_ones));
+    ROW("select", "C binary", EACH(bitm_index_select, &plain, true));
+    ROW("select", "C sampled", EACH(bitm_index_select, &sampled, true));
+    ROW("select_list", "C", ALL(bitm_index_select_list, &plain, true));
+    ROW("select_list", "C sampled", ALL(bitm_index_select_list, &sampled, true));
     ask(64 * len - ones);
-    ROW("select0", "C binary", EACH(bitm_select0));
-    ROW("select0", "C sampled", BY_SAMPLES(bitm_sampled_select0, of_zeros));
-    ROW("select0_list", "C", ALL(bitm_select0_list));
-    ROW("select0_list", "C sampled", ALL_BY_SAMPLES(bitm_sampled_select0_list, of_zeros));
+    ROW("select0", "C binary", EACH(bitm_index_select, &plain, false));
+    ROW("select0", "C sampled", EACH(bitm_index_select, &sampled, false));
+    ROW("select0_list", "C", ALL(bitm_index_select_list, &plain, false));
+    ROW("select0_list", "C sampled", ALL(bitm_index_select_list, &sampled, false));
     numbers(log2, rounds, (size_t)1 << (log2 - 2));
     return 0;
 }

@@ -34,9 +34,9 @@ static uint64_t opened(int file, size_t size)
     uint64_t *at = mmap(NULL, size, PROT_READ, MAP_SHARED, file, 0), rank = UINT64_MAX;
     struct bitm_stored s;
     if (at == MAP_FAILED) return rank;
-    if (bitm_read_stored(at, size / 8, &s) == BITM_OK && s.kind == BITM_STORED_INDEX) {
-        struct bitm_view view = bitm_stored_view(at, &s);
-        if (bitm_rank(&view, s.len / 2, &rank) != BITM_OK) rank = UINT64_MAX;
+    if (bitm_stored_read(at, size / 8, &s) == BITM_OK && s.kind == BITM_STORED_INDEX) {
+        struct bitm_index index = bitm_stored_index_of(at, &s);
+        if (bitm_index_rank(&index, true, s.len / 2, &rank) != BITM_OK) rank = UINT64_MAX;
     }
     munmap(at, size);
     return rank;
@@ -58,7 +58,7 @@ int main(int argc, char **argv)
     uint64_t *words = (uint64_t *)(at + s.words.at), state = 88172645463325252, ones;
     *(struct bitm_stored *)at = s;
     for (size_t i = 0; i < s.words.len; i++) words[i] = draw(&state);
-    if (bitm_build(words, s.words.len, (uint64_t *)(at + s.upper.at), s.upper.len, (uint64_t *)(at + s.lower.at), s.lower.len,
+    if (bitm_index_build(words, s.words.len, (uint64_t *)(at + s.upper.at), s.upper.len, (uint64_t *)(at + s.lower.at), s.lower.len,
                    &ones) != BITM_OK)
         return 1;
     munmap(at, s.size);
