@@ -34,7 +34,7 @@ use content::{Kind, content, queries};
 use index::{Asked, Sampled};
 use std::alloc::{AllocError, Global};
 use std::{env, io};
-use tool_bench::Bench;
+use bench::Bench;
 use wavelet_matrix::all_fit;
 
 /// What is printed where the arguments are not a size, a kind and a number of rounds.
