@@ -62,7 +62,7 @@ dist: ## the artefacts of a release, into dist/, for the last commit
 	ARCHIVE="$(ARCHIVE)" scripts/dist
 
 dist-check: ## try each artefact of dist/ where the repository is hidden
-	ARCHIVE="$(ARCHIVE)" scripts/dist-check
+	ARCHIVE="$(ARCHIVE)" scripts/dist-check dist
 
 install: ## lay headers, archive, shared object, files for pkg-config and CMake below PREFIX (and DESTDIR)
 	@test -f $(ARCHIVE) || { echo "make install: there is no archive $(ARCHIVE). 'make archive' builds it (needs Rattle);"; \
