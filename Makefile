@@ -1,9 +1,14 @@
+# `make` alone prints the targets. The version stands in VERSION; scripts/headers compares it with all the other places.
+SHELL = /bin/bash
+.SHELLFLAGS = -eu -o pipefail -c
 PREFIX = /usr/local
 # Where libraries and headers go: LIBDIR=/usr/lib/x86_64-linux-gnu where each architecture has a folder.
 LIBDIR = $(PREFIX)/lib
 INCLUDEDIR = $(PREFIX)/include
-VERSION = $(shell cat VERSION)
+VERSION := $(shell cat VERSION)
+# The proved archive. What it prints while it is proved and built is kept beside it, for scripts/dist.
 ARCHIVE = crates/bitm_c/out/libbitm_c.a
+ARCHIVE_LOG = crates/bitm_c/out/archive.log
 SHARED = libbitm_c.so.$(VERSION)
 # Before 1.0 a minor version may change what a caller sees.
 SONAME = libbitm_c.so.$(basename $(VERSION))
@@ -15,35 +20,90 @@ LAID = $(addprefix $(INCLUDEDIR)/,$(patsubst include/%,%,$(HEADERS) $(HEADERS_CP
     cmake/bitm/bitm-config.cmake cmake/bitm/bitm-config-version.cmake)
 # Programs find the shared object where it was laid, but for /usr, where the system looks.
 RPATH = $(if $(filter /usr,$(PREFIX)),,-Wl,-rpath,$${libdir} )
-FILL = sed 's|@PREFIX@|$(PREFIX)|; s|@LIBDIR@|$(LIBDIR)|; s|@INCLUDEDIR@|$(INCLUDEDIR)|; s|@RPATH@|$(RPATH)|; \
-    s|@VERSION@|$(VERSION)|; s|@TO_INCLUDE@|$(shell realpath -m --relative-to=$(LIBDIR) $(INCLUDEDIR))|'
-check:
+# A folder below PREFIX is named by it, so that `pkg-config --define-prefix` can move all of them.
+BELOW = $(patsubst $(PREFIX)/%,$${prefix}/%,$(1))
+FILL = sed 's|@PREFIX@|$(PREFIX)|; s|@LIBDIR@|$(call BELOW,$(LIBDIR))|; s|@INCLUDEDIR@|$(call BELOW,$(INCLUDEDIR))|; \
+    s|@RPATH@|$(RPATH)|; s|@VERSION@|$(VERSION)|; \
+    s|@TO_INCLUDE@|$(shell realpath -m --relative-to=$(LIBDIR) $(INCLUDEDIR))|'
+IN_BASH = $(shell git ls-files | xargs grep -lE '^\#!.*bash' 2> /dev/null)
+IN_PYTHON = $(shell git ls-files '*.py'; git ls-files scripts bench | xargs grep -lE '^\#!.*python3' 2> /dev/null)
+IN_C = $(shell git ls-files '*.c' '*.h' '*.hpp' '*.cpp')
+IN_CARGO = bindings/rust examples/rust
+RUST_LAYOUT = --config max_width=120,use_small_heuristics=Max
+
+help: ## print these lines
+	@sed -nE 's/^([a-z-]+):[^#]*## (.*)/\1\t\2/p' Makefile | while IFS=$$'\t' read -r name what; do printf '  make %-15s %s\n' "$$name" "$$what"; done
+
+archive: ## prove and build the C library, crates/bitm_c/out/libbitm_c.a (needs Rattle)
+	@command -v rt > /dev/null || { echo "make archive: there is no rt on the PATH: install the toolchain that README.md names"; exit 1; }
+	mkdir -p crates/bitm_c/out
+	(cd crates/bitm_c && rt lib) 2>&1 | tee $(ARCHIVE_LOG).new
+	mv $(ARCHIVE_LOG).new $(ARCHIVE_LOG)
+
+build: archive ## the same as archive
+
+check: ## prove all crates that changed, without the rest of the gate
 	rt all check
-test:
+
+test: ## the gate: proofs, mutants, bindings, documents; half an hour
 	scripts/test
-ci:
-	.ci/run
-# The proved archive; rt proves what has changed, and else takes some seconds.
-archive:
-	cd crates/bitm_c && rt lib
-# Headers, the archive, a shared object of it, and files for pkg-config and CMake, below DESTDIR where it is given. Run
-# `make archive` first.
-install:
-	test -f $(ARCHIVE)
+
+thorough: ## what the gate leaves out because it is slow
+	scripts/test --thorough
+
+bench: ## measure this machine, into bench/out; under five minutes once the crates are built
+	bench/run
+
+docs: ## the Rust crate's documentation, in bindings/rust/target/doc
+	cd bindings/rust && DOCS_RS=1 cargo doc --quiet --offline --no-deps --features mmap
+	@echo "the documents of the library are docs/*.md and crates/*/CALLING.md; of the Rust crate: bindings/rust/target/doc/bitm_proved/index.html"
+
+dist: ## the artefacts of a release, into dist/, for the last commit
+	ARCHIVE="$(ARCHIVE)" scripts/dist
+
+dist-check: ## try each artefact of dist/ where the repository is hidden
+	ARCHIVE="$(ARCHIVE)" scripts/dist-check dist
+
+install: ## lay headers, archive, shared object, files for pkg-config and CMake below PREFIX (and DESTDIR)
+	@test -f $(ARCHIVE) || { echo "make install: there is no archive $(ARCHIVE). 'make archive' builds it (needs Rattle);"; \
+	    echo "or take vokhuliza-$(VERSION)-TARGET.tar.gz, the sources with the archive in it; or name one: make install ARCHIVE=FILE"; exit 1; }
 	mkdir -p $(DESTDIR)$(INCLUDEDIR)/bitm $(DESTDIR)$(LIBDIR)/pkgconfig $(DESTDIR)$(LIBDIR)/cmake/bitm
 	install -m 644 $(HEADERS) $(DESTDIR)$(INCLUDEDIR)
 	install -m 644 $(HEADERS_CPP) $(DESTDIR)$(INCLUDEDIR)/bitm
 	install -m 644 $(ARCHIVE) $(DESTDIR)$(LIBDIR)/libbitm_c.a
-	$(CC) -shared -nostdlib -o $(DESTDIR)$(LIBDIR)/$(SHARED) -Wl,-soname,$(SONAME) -Wl,--whole-archive $(ARCHIVE) -Wl,--no-whole-archive -lgcc
+	$(CC) $(LDFLAGS) -shared -nostdlib -o $(DESTDIR)$(LIBDIR)/$(SHARED) -Wl,-soname,$(SONAME) -Wl,--whole-archive $(ARCHIVE) -Wl,--no-whole-archive -lgcc
+	chmod 644 $(DESTDIR)$(LIBDIR)/$(SHARED)
 	ln -sf $(SHARED) $(DESTDIR)$(LIBDIR)/$(SONAME)
 	ln -sf $(SONAME) $(DESTDIR)$(LIBDIR)/libbitm_c.so
 	$(FILL) install/bitm.pc.in > $(DESTDIR)$(LIBDIR)/pkgconfig/bitm.pc
 	$(FILL) install/bitm-config.cmake.in > $(DESTDIR)$(LIBDIR)/cmake/bitm/bitm-config.cmake
 	$(FILL) install/bitm-config-version.cmake.in > $(DESTDIR)$(LIBDIR)/cmake/bitm/bitm-config-version.cmake
-uninstall:
+
+uninstall: ## take away what make install laid there
 	rm -f $(addprefix $(DESTDIR),$(LAID))
 	-rmdir $(DESTDIR)$(INCLUDEDIR)/bitm $(DESTDIR)$(LIBDIR)/cmake/bitm $(DESTDIR)$(LIBDIR)/cmake $(DESTDIR)$(LIBDIR)/pkgconfig 2> /dev/null
-# The Python package. Run `make archive` first.
-install-python:
+
+install-python: ## the Python package, into the Python of this shell (make archive first)
 	python3 -m pip install ./bindings/python
-.PHONY: check test ci archive install uninstall install-python
+
+format: ## lay out the sources of each language whose tool is here
+	@if command -v rt > /dev/null; then for it in crates/*/; do (cd "$$it" && rt fmt) || exit; done; else echo "format: no rt, so Rattle is left"; fi
+	@if cargo fmt --version > /dev/null 2>&1; then for it in $(IN_CARGO); do (cd "$$it" && cargo fmt -- $(RUST_LAYOUT)) || exit; done; else echo "format: no rustfmt, so Rust is left"; fi
+	@if command -v clang-format > /dev/null; then clang-format -i $(IN_C); else echo "format: no clang-format, so C and C++ are left"; fi
+
+lint: ## what linters say of each language whose tool is here, and of the layout
+	@failed=0; \
+	try() { name=$$1; tool=$$2; shift 2; if ! command -v "$$tool" > /dev/null; then echo "lint: no $$tool, so $$name is left"; \
+	    elif "$$@"; then echo "lint: $$name: nothing to say"; else failed=1; fi; }; \
+	rust() { for it in $(IN_CARGO); do (cd "$$it" && cargo fmt --check -- $(RUST_LAYOUT)) || return; done; }; \
+	clippy() { (cd bindings/rust && DOCS_RS=1 CARGO_TARGET_DIR="$${TMPDIR:-/tmp}/vokhuliza-clippy" cargo clippy --quiet --offline --locked --all-targets --features mmap -- -D warnings); }; \
+	try "Rust (layout)" rustfmt rust; try "Rust" cargo-clippy clippy; \
+	try "Python" flake8 flake8 --max-line-length 160 --extend-ignore=E203,E402,E501 $(IN_PYTHON); \
+	try "shell" shellcheck shellcheck --severity=error $(IN_BASH); \
+	try "versions" python3 scripts/headers; \
+	if command -v clang-format > /dev/null; then \
+	    echo "lint: C and C++ (layout): make format would change $$(for it in $(IN_C); do clang-format "$$it" | cmp -s - "$$it" || echo "$$it"; done | wc -l) files"; fi; \
+	echo "lint: the layout of Rattle is looked at by rt ci, which refuses files that rt fmt would change"; \
+	exit $$failed
+
+.PHONY: help archive build check test thorough bench docs dist dist-check install uninstall install-python format lint
