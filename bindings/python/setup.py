@@ -17,6 +17,7 @@ from setuptools import Extension, setup
 from setuptools.command.sdist import sdist
 
 HERE = pathlib.Path(__file__).resolve().parent
+TOP = HERE.parent.parent  # of the repository, where this is not an sdist
 
 
 def first(variable, *places):
@@ -26,8 +27,13 @@ def first(variable, *places):
     return found[0]
 
 
-ARCHIVE = first("BITM_LIB", HERE / "lib/libbitm_c.a", HERE.parent / "crates/bitm_c/out/libbitm_c.a")
-INCLUDE = first("BITM_INCLUDE", HERE / "include", HERE.parent / "include")
+def archive(path):
+    """The archive: a file, or that of a folder."""
+    return path / "libbitm_c.a" if path.is_dir() else path
+
+
+ARCHIVE = archive(first("BITM_LIB", HERE / "lib/libbitm_c.a", TOP / "crates/bitm_c/out/libbitm_c.a"))
+INCLUDE = first("BITM_INCLUDE", HERE / "include", TOP / "include")
 TAG = os.environ.get("BITM_TAG")
 FLAGS = os.environ.get("BITM_CFLAGS", "").split()
 COMPILED = ["-std=c11", "-O2", "-g0", "-Wall", "-Wextra", "-fvisibility=hidden", *(["-fno-stack-protector"] if TAG else []), *FLAGS]

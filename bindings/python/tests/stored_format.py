@@ -1,4 +1,4 @@
-"""Writes an index and a sequence into the first folder, and reads those of all: what other hosts wrote too."""
+"""Writes an index and a sequence into the first folder, and reads those of all: what other languages wrote too."""
 import os
 import sys
 
