@@ -38,10 +38,7 @@ export class BitVector {
         if (ArrayBuffer.isView(bits)) bytesOf(bits, "bits");
         const bytes = new Uint8Array(Math.ceil(items.length / 8));
         for (let k = 0; k < items.length; k++) {
-            const it = items[k];
-            if (typeof it !== "boolean" && it !== 0 && it !== 1 && it !== 0n && it !== 1n)
-                throw new TypeError(`bitm: bit ${k} is neither a boolean nor 0 or 1: ${String(it)}`);
-            if (it) bytes[Math.floor(k / 8)] |= 1 << k % 8;
+            if (bitOf(items[k], `bit ${k}`)) bytes[Math.floor(k / 8)] |= 1 << k % 8;
         }
         return BitVector.fromBytes(bytes, items.length);
     }
@@ -77,7 +74,7 @@ export class BitVector {
     }
 
     set(position, value = true) {
-        const got = calls.bitm_bits_set(this.#live(), this.#words, this.#length, place(position, "position"), value ? 1 : 0);
+        const got = calls.bitm_bits_set(this.#live(), this.#words, this.#length, place(position, "position"), bitOf(value, "value"));
         if (got < 0) throw refused(got, "position", position);
         return this;
     }
@@ -85,13 +82,14 @@ export class BitVector {
     /** Makes the bits from begin on and before end equal to value. */
     fill(value = true, begin = 0, end = this.#length) {
         const from = place(begin, "begin"), to = place(end, "end");
-        must(calls.bitm_bits_fill_range(this.#live(), this.#words, this.#length, from, to, value ? 1 : 0), `the range from ${from} to ${to}`);
+        must(calls.bitm_bits_fill_range(this.#live(), this.#words, this.#length, from, to, bitOf(value, "value")), `the range from ${from} to ${to}`);
         return this;
     }
 
-    /** Changes each bit from begin on and before end: a single one, or without arguments all. */
-    flip(begin = 0, end = arguments.length === 1 ? place(begin, "begin") + 1 : this.#length) {
-        const from = place(begin, "begin"), to = place(end, "end");
+    /** Changes a single bit; each from begin on and before end; without arguments all. */
+    flip(...range) {
+        const from = range.length ? place(range[0], "position") : 0;
+        const to = range.length > 1 ? place(range[1], "end") : range.length ? from + 1 : this.#length;
         must(calls.bitm_bits_flip_range(this.#live(), this.#words, this.#length, from, to), `the range from ${from} to ${to}`);
         return this;
     }
@@ -165,7 +163,7 @@ export class BitVector {
         return this;
     }
     fillFragments(width, value, count) {
-        const number = big(value, "value"), n = BigInt(place(count, "count"));
+        const number = big(value, "value"), n = width === 0 ? 0n : BigInt(place(count, "count"));
         const status = wasm.bitm_bits_fill_fragments(BigInt(this.#live()), BigInt(this.#words), BigInt(this.#length), widthOf(width), number, n);
         must(status, `fragment ${count}`);
         return this;
@@ -178,7 +176,7 @@ export class BitVector {
     }
 
     /** Replaces `count` bits from begin on by those of other from otherBegin on. */
-    setRange(begin, other, otherBegin = 0, count = other.length - otherBegin) {
+    setRange(begin, other, otherBegin = 0, count = other.length - Number(otherBegin)) {
         const from = other === this ? other.clone() : other;
         const args = [place(begin, "begin"), from.#live(), from.#words, place(otherBegin, "begin"), place(count, "count")];
         if (args[0] + args[4] > this.#length || args[3] + args[4] > from.#length) throw new RangeError("bitm: the range is past the end");
@@ -230,6 +228,12 @@ export class BitVector {
     /** Gives the memory back at once. */
     free() { this.#block.free(); }
     [dispose]() { this.free(); }
+}
+
+function bitOf(value, name) {
+    if (value === true || value === 1 || value === 1n) return 1;
+    if (value === false || value === 0 || value === 0n) return 0;
+    throw new TypeError(`bitm: ${name} must be a boolean, or 0 or 1, and is ${String(value)}`);
 }
 
 function widthOf(width) {

@@ -83,8 +83,8 @@ export function bytesOf(given, name) {
         if (!(given instanceof DataView)) given.at(0);
         return new Uint8Array(given.buffer, given.byteOffset, given.byteLength);
     }
-    if (given instanceof ArrayBuffer || (typeof SharedArrayBuffer === "function" && given instanceof SharedArrayBuffer))
-        return new Uint8Array(given);
+    // By its tag, so that a buffer of another realm, as of a frame, is taken too.
+    if (/^\[object (Shared)?ArrayBuffer\]$/.test(Object.prototype.toString.call(given))) return new Uint8Array(given);
     throw new TypeError(`bitm: ${name} must be an ArrayBuffer or a view of one`);
 }
 

@@ -11,13 +11,13 @@ const TYPE = ["1", null, undefined, true, {}, [], [1], () => 1, Symbol("1")];
 const one = {
     "Index.rank": it => x.rank(it), "Index.rank0": it => x.rank0(it), "Index.select": it => x.select(it), "Index.select0": it => x.select0(it),
     "Index.next": it => x.next(it), "Index.previous0": it => x.previous0(it), "Index.get": it => x.get(it),
-    "BitVector.get": it => v.get(it), "BitVector.set": it => v.set(it), "BitVector.next": it => v.next(it), "BitVector.flip": it => v.flip(it, 7),
+    "BitVector.get": it => v.get(it), "BitVector.set": it => v.set(it), "BitVector.next": it => v.next(it), "BitVector.flip": it => v.flip(it, 7), "BitVector.flip of one": it => v.flip(it), "BitVector.setRange": it => v.setRange(0, v, it),
     "BitVector.count": it => v.count(it, 7), "BitVector.fill": it => v.fill(true, it, 7), "BitVector.ones": it => v.ones(it).next(),
     "BitVector.getNumber": it => v.getNumber(it, 2), "BitVector.setNumber": it => v.setNumber(0, 2, it), "BitVector.slice": it => v.slice(it, 7),
     "EliasFano.firstAtLeast": it => s.firstAtLeast(it), "EliasFano.lastAtMost": it => s.lastAtMost(it), "EliasFano.has": it => s.has(it),
     "EliasFano.successor": it => s.successor(it), "EliasFano.valuesFrom": it => s.valuesFrom(it).next(), "EliasFano.values": it => s.values(it).next(),
 };
-const mayBeUndefined = /count|fill|flip|ones|slice|values$/;
+const mayBeUndefined = /count|fill|ones|slice|setRange|values$/;
 
 test("single arguments", () => {
     const before = v.toBytes();
@@ -81,7 +81,14 @@ test("lists", () => {
             assert.throws(() => call(view), TypeError, `${name} of a buffer that became shorter`);
         }
     }
-    assert.throws(() => BitVector.fromBooleans([2]), TypeError);
+    for (const it of ["0", 2, -1, null, {}, 2n, NaN]) {
+        assert.throws(() => BitVector.fromBooleans([true, it]), TypeError);
+        assert.throws(() => v.set(0, it), TypeError);
+        assert.throws(() => v.fill(it), TypeError);
+    }
+    assert.throws(() => v.flip(undefined), TypeError);
+    assert.throws(() => v.fillFragments(64, 0, 2 ** 53 - 1), RangeError);
+    v.clone().fillFragments(0, 1, 2 ** 53 - 1);
     assert.throws(() => BitVector.fromBooleans(["0"]), TypeError);
     assert.throws(() => new PerfectHash("abc"), TypeError);
     assert.throws(() => new PerfectHash([{}]), TypeError);

@@ -4,6 +4,7 @@ import { mkdtempSync, readFileSync, rmSync } from "node:fs";
 import { tmpdir } from "node:os";
 import { join } from "node:path";
 import { test } from "node:test";
+import { runInNewContext } from "node:vm";
 import { Worker } from "node:worker_threads";
 import { bitm, booleans, sorted } from "./plain.js";
 import { read, write } from "./stored_format.js";
@@ -27,7 +28,9 @@ test("every way to hand bytes over, and more bytes than the file has", () => {
     wide.set(bytes, 5);
     const shared = new SharedArrayBuffer(bytes.length);
     new Uint8Array(shared).set(bytes);
-    for (const it of [bytes, bytes.buffer, new DataView(bytes.buffer), wide.subarray(5), shared, Buffer.from(bytes), new Float64Array(bytes.buffer)]) {
+    const elsewhere = runInNewContext("new ArrayBuffer(size)", { size: bytes.length });
+    new Uint8Array(elsewhere).set(bytes);
+    for (const it of [elsewhere, bytes, bytes.buffer, new DataView(bytes.buffer), wide.subarray(5), shared, Buffer.from(bytes), new Float64Array(bytes.buffer)]) {
         const y = open(it);
         assert.equal(y.rank(4999), x.rank(4999));
         assert.deepEqual(y.toBytes(), bytes);

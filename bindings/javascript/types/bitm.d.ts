@@ -13,6 +13,8 @@ export type Whole = number | bigint;
 export type Wholes = Iterable<Whole> | NumberArray | BigUint64Array;
 /** Arrays that are answered by a Float64Array. */
 export type NumberArray = Uint32Array | Float64Array | Uint8Array | Uint8ClampedArray | Uint16Array | Int8Array | Int16Array | Int32Array | Float32Array;
+/** A number or a BigInt must be 0 or 1. */
+export type Bit = boolean | number | bigint;
 /** Bytes: any view, or a buffer. */
 export type Bytes = ArrayBuffer | SharedArrayBuffer | ArrayBufferView;
 
@@ -29,7 +31,7 @@ export class BitVector implements Iterable<boolean> {
     constructor(length: Whole);
     /** The bits at these positions are 1. Without a length, the largest position is the last bit. */
     static fromPositions(positions: Wholes, length?: Whole): BitVector;
-    static fromBooleans(bits: Iterable<boolean | number | bigint>): BitVector;
+    static fromBooleans(bits: Iterable<Bit>): BitVector;
     /** From bytes, the lowest bit of each first. */
     static fromBytes(bytes: Bytes, length?: Whole): BitVector;
     /** From 64-bit words, the lowest bit of each first. */
@@ -39,11 +41,13 @@ export class BitVector implements Iterable<boolean> {
     /** How many bytes of memory the bits take. */
     readonly byteLength: number;
     get(position: Whole): boolean;
-    set(position: Whole, value?: boolean): this;
+    set(position: Whole, value?: Bit): this;
     /** The bits from begin on and before end. */
-    fill(value?: boolean, begin?: Whole, end?: Whole): this;
-    /** The bit at begin alone; the bits from begin on and before end; without arguments all. */
-    flip(begin?: Whole, end?: Whole): this;
+    fill(value?: Bit, begin?: Whole, end?: Whole): this;
+    /** The bit at a position; the bits from begin on and before end; without arguments all. */
+    flip(position: Whole): this;
+    flip(begin: Whole, end: Whole): this;
+    flip(): this;
     /** How many 1 bits, or 0 bits, there are from begin on and before end. */
     count(begin?: Whole, end?: Whole): number;
     count0(begin?: Whole, end?: Whole): number;
@@ -107,7 +111,7 @@ export class Index implements Iterable<boolean> {
     /** Copies the bits. */
     constructor(bits: BitVector, options?: IndexOptions);
     static fromPositions(positions: Wholes, length?: Whole, options?: IndexOptions): Index;
-    static fromBooleans(bits: Iterable<boolean | number | bigint>, options?: IndexOptions): Index;
+    static fromBooleans(bits: Iterable<Bit>, options?: IndexOptions): Index;
 
     readonly length: number;
     readonly byteLength: number;
