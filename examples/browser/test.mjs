@@ -141,6 +141,26 @@ async function others(it) {
     }
 }
 
+/** A worker that has loaded the pair for 32-bit memory makes a file, which one that loads by itself opens. */
+const inWorkers = it => it.value(`(async () => {
+    const from = location.origin + "/bindings/javascript/", run = (body, given) => new Promise((done, fail) => {
+        const it = new Worker(URL.createObjectURL(new Blob([body], { type: "text/javascript" })), { type: "module" });
+        it.onmessage = said => done(said.data);
+        it.onerror = said => fail(new Error(said.message));
+        setTimeout(() => it.postMessage(given), 0);
+    });
+    const bytes = await run(\`import { start, EliasFano } from "\${from}src/bitm.js";
+        onmessage = async said => {
+            const [a, b] = await Promise.all(["bitm32", "calls32"].map(async name => (await fetch("\${from}wasm/" + name + ".wasm")).arrayBuffer()));
+            await start(a, b);
+            postMessage(new EliasFano(said.data).toBytes());
+        };\`, [3, 5, 900]);
+    return run(\`onmessage = async said => {
+            const { open } = await import("\${from}src/web.js"), it = open(said.data);
+            postMessage([it.toArray(), it.successor(6)].join());
+        };\`, bytes);
+})()`);
+
 try {
     for (const width of [360, 1000]) {
         const it = await opened(width);
@@ -148,9 +168,10 @@ try {
         await numbers(it);
         await texts(it);
         await others(it);
+        assert.equal(await inWorkers(it), "3,5,900,900");
     }
     assert.deepEqual(messages, [], "the console is empty");
-    console.log("the page in Chromium, 360 and 1000 wide: answers as expected, no message, nothing wider than the page");
+    console.log("the page in Chromium, 360 and 1000 wide, and workers: answers as expected, no message, nothing wider than the page");
 } finally {
     browser.kill();
     server.close();

@@ -72,11 +72,10 @@ export function byBigInts(name, at, value) {
     return status === STATUS.OK ? numberAt(ANSWER) : -status;
 }
 
-/** The answer of an adaptor, or undefined where it says that there is none. */
+/** The answer of an adaptor, which is below 2^53, or undefined where it says that there is none. */
 export function orNone(got, name, it) {
     if (got >= 0) return got;
     if (got === -STATUS.NONE) return undefined;
-    if (got !== got) return numberAt(ANSWER);
     throw refused(got, name, it);
 }
 
