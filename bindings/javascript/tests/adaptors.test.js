@@ -4,13 +4,12 @@ import assert from "node:assert/strict";
 import { readFileSync, readdirSync } from "node:fs";
 import { test } from "node:test";
 import { callsOf, structsOf, wasmType } from "../header.mjs";
-import { has64 } from "../src/core.js";
-import { Tally, random } from "./plain.js";
+import { Tally, moduleBytes, random } from "./plain.js";
 
 const beside = new URL("../", import.meta.url);
 const header = readFileSync(process.env.BITM_HEADER ?? new URL("../../include/bitm.h", beside), "utf8");
-const kind = has64() ? "64" : "32", exported = callsOf(header), structs = structsOf(header);
-const load = name => new WebAssembly.Module(readFileSync(new URL(`wasm/${name}${kind}.wasm`, beside)));
+const exported = callsOf(header), structs = structsOf(header);
+const load = name => new WebAssembly.Module(moduleBytes(name));
 const library = new WebAssembly.Instance(load("bitm"), {}).exports, memory = library.memory;
 const START = memory.buffer.byteLength, ROOM = 4096, SLOTS = 16;
 try {

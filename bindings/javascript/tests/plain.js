@@ -1,5 +1,7 @@
 // What the tests compare with: plain counting over arrays, and random contents that a seed determines.
 import assert from "node:assert/strict";
+import { readFileSync } from "node:fs";
+import { has64, startSync } from "../src/core.js";
 
 export function random(seed) {
     let x = seed >>> 0 || 1;
@@ -73,6 +75,8 @@ export class Tally {
     }
 }
 
-const from = process.env.BITM_JS ?? new URL("../src/node.js", import.meta.url).href;
-/** The package that is tested: that of this folder, or the one that BITM_JS names. */
-export const bitm = await import(from);
+/** "32" or "64": the pair of modules that is tested, the one that this engine takes unless BITM_FORM says another. */
+export const form = process.env.BITM_FORM ?? (has64() ? "64" : "32");
+export const moduleBytes = name => readFileSync(new URL(`../wasm/${name}${form}.wasm`, import.meta.url));
+startSync(moduleBytes("bitm"), moduleBytes("calls"));
+export const bitm = await import("../src/bitm.js");
