@@ -4,8 +4,11 @@ export const VERSION = "0.3.0";
 const VERSION_NUMBER = 300;
 const PAGE = 65536;
 
+const early = { get: () => { throw new Error("bitm: no value can be made before start() has ended"); } };
+let isStarted = false;
+
 /** The exports of the library, which take BigInts, and those of the adaptors, which take numbers. */
-export let wasm, calls;
+export let wasm = new Proxy({}, early), calls = wasm;
 /** Where the adaptors leave an answer, and where calls may write what they say beside it (1024 bytes). */
 export let ANSWER, BESIDE;
 /** The address from which on memory is ours: below stands what the library itself uses. */
@@ -18,15 +21,15 @@ export function has64() {
 
 /** Makes the values of this package usable, given both modules, compiled or as bytes. Does nothing the second time. */
 export async function start(module, adaptors) {
-    if (wasm) return;
+    if (isStarted) return;
     const library = await instance(module, {});
     const linked = await instance(adaptors, imports(library));
-    if (!wasm) adopt(library, linked);
+    if (!isStarted) adopt(library, linked);
 }
 
 /** The same at once, where an engine lets modules of this size be compiled at once: in Node, and in workers. */
 export function startSync(module, adaptors) {
-    if (wasm) return;
+    if (isStarted) return;
     const compiled = it => (it instanceof WebAssembly.Module ? it : new WebAssembly.Module(it));
     const library = new WebAssembly.Instance(compiled(module), {}).exports;
     adopt(library, new WebAssembly.Instance(compiled(adaptors), imports(library)).exports);
@@ -45,6 +48,7 @@ function imports(library) {
 
 function adopt(library, linked) {
     if (linked.bitm_version() !== VERSION_NUMBER) throw new Error(`bitm: bitm.wasm is not of version ${VERSION}`);
+    isStarted = true;
     wasm = library;
     calls = linked;
     firstFree = library.memory.buffer.byteLength;

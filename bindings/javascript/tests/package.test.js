@@ -99,8 +99,12 @@ test("tsc takes the types, and refuses what is wrong", { skip: !(has("tsc") && h
 
 test("a page's way to load: start() with bytes, from a module of its own", async () => {
     const core = join(root, "src/bitm.js"), body = `import { readFileSync } from "node:fs";
-        const { start, has64, Index, BitVector } = await import(${JSON.stringify(core)}), kind = has64() ? "64" : "32";
+        const { start, has64, open, Index, BitVector, EliasFano, PerfectHash } = await import(${JSON.stringify(core)}), kind = has64() ? "64" : "32";
         const read = name => readFileSync(${JSON.stringify(join(root, "wasm/"))} + name + kind + ".wasm");
+        for (const make of [() => new BitVector(1), () => new EliasFano([1]), () => new PerfectHash([]), () => open(new Uint8Array(9))]) {
+            try { make(); } catch (it) { if (/start\\(\\)/.test(it.message)) continue; }
+            throw new Error("a value was made before start()");
+        }
         await start(read("bitm"), new WebAssembly.Module(read("calls")));
         await start(read("bitm"), read("calls"));
         console.log(new Index(BitVector.fromPositions([5])).select(0));`;
