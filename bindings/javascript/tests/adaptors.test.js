@@ -53,6 +53,7 @@ function prepare(spoilt) {
     words(slot(9) + structs.get("bitm_index").size, 3).set([B(slot(13)), 2n, B(BITS)]);
     words(slot(13), 2).set([25n, 15n]);
     if (spoilt) for (let k = 0; k < 4; k++) words(slot([1, 2, 6, 7][k]), 1)[0] ^= B(r());
+    words(ANSWER, 1)[0] = 2n ** 64n - 1n; // an answer of 32 bits is read from four bytes alone
     return parts;
 }
 

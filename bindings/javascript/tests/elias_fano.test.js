@@ -23,7 +23,9 @@ function compare(items, span, many, seed = 11) {
             tally.same(s.at(-1 - k), plain.at(-1 - k), () => `at ${-1 - k}`);
         }
     }
-    for (const queries of [Float64Array.from(asked), asked]) {
+    const lists = [Float64Array.from(asked), asked];
+    if (span <= 2 ** 32 / 1.03) lists.push(Uint32Array.from(asked));
+    for (const queries of lists) {
         const none = queries === asked ? undefined : NaN;
         tally.list(s.firstAtLeastList(queries), asked.map(x => (lowerBound(plain, x) < n ? lowerBound(plain, x) : none)), "firstAtLeastList");
         tally.list(s.lastAtMostList(queries), asked.map(x => (lowerBound(plain, x + 1) > 0 ? lowerBound(plain, x + 1) - 1 : none)), "lastAtMostList");
@@ -48,6 +50,7 @@ test("small sequences of every density", () => {
 test("large sequences", () => {
     compare(sorted(100000, 2 ** 40, 5), 2 ** 40, 25000);
     compare(Uint32Array.from(sorted(300000, 3e6, 6)), 3e6, 25000);
+    compare(Uint32Array.from(sorted(5000, 2 ** 32, 8)), 2 ** 32 / 1.03, 3000);
     compare(sorted(3000, 2 ** 53 - 1, 7), 2 ** 53 / 1.03, 6000);
     tally.atLeast(1200000);
 });

@@ -56,6 +56,22 @@ test("garbage is freed", async () => {
     assert.ok(memoryUse().used <= before, `${memoryUse().used} bytes are more than ${before}`);
 });
 
+test("what was freed by hand is not freed again as garbage", async () => {
+    setFlagsFromString("--expose-gc");
+    const collect = runInNewContext("gc"), before = memoryUse().used;
+    for (let k = 0; k < 300; k++) new BitVector(3000).free();
+    const held = Array.from({ length: 300 }, (_, k) => new BitVector(3000).fill(true, 0, k)), there = memoryUse().used;
+    for (let k = 0; k < 20; k++) {
+        collect();
+        await new Promise(done => setTimeout(done, 5));
+    }
+    assert.equal(memoryUse().used, there);
+    const more = Array.from({ length: 300 }, () => new BitVector(3000).fill());
+    held.forEach((it, k) => assert.equal(it.count(), k, "another vector wrote into this one"));
+    [...held, ...more].forEach(it => it.free());
+    assert.equal(memoryUse().used, before);
+});
+
 test("a value stays while one iterates over it", async () => {
     setFlagsFromString("--expose-gc");
     const collect = runInNewContext("gc"), walk = (() => new EliasFano(Array.from({ length: 5000 }, (_, k) => 3 * k)).values())();
