@@ -70,7 +70,8 @@ export class BitVector {
     get byteLength() { return this.#block.at === 0 ? 0 : 8 * this.#words; }
 
     get(position) {
-        return orThrow(calls.bitm_bits_get(this.#live(), this.#words, this.#length, place(position, "position")), "position", position) === 1;
+        const got = calls.bitm_bits_get(this.#live(), this.#words, this.#length, place(position, "position"));
+        return orThrow(got, "position", position) === 1;
     }
 
     set(position, value = true) {
@@ -81,8 +82,8 @@ export class BitVector {
 
     /** Makes the bits from begin on and before end equal to value. */
     fill(value = true, begin = 0, end = this.#length) {
-        const from = place(begin, "begin"), to = place(end, "end");
-        must(calls.bitm_bits_fill_range(this.#live(), this.#words, this.#length, from, to, bitOf(value, "value")), `the range from ${from} to ${to}`);
+        const from = place(begin, "begin"), to = place(end, "end"), bit = bitOf(value, "value");
+        must(calls.bitm_bits_fill_range(this.#live(), this.#words, this.#length, from, to, bit), `the range from ${from} to ${to}`);
         return this;
     }
 
@@ -164,8 +165,8 @@ export class BitVector {
     }
     fillFragments(width, value, count) {
         const number = big(value, "value"), n = width === 0 ? 0n : BigInt(place(count, "count"));
-        const status = wasm.bitm_bits_fill_fragments(BigInt(this.#live()), BigInt(this.#words), BigInt(this.#length), widthOf(width), number, n);
-        must(status, `fragment ${count}`);
+        const vector = [this.#live(), this.#words, this.#length].map(BigInt);
+        must(wasm.bitm_bits_fill_fragments(...vector, widthOf(width), number, n), `fragment ${count}`);
         return this;
     }
 

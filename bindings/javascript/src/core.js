@@ -82,8 +82,7 @@ export const wordsAt = (at, length) => new BigUint64Array(wasm.memory.buffer, at
 export const doublesAt = (at, length) => new Float64Array(wasm.memory.buffer, at, length);
 export const halvesAt = (at, length) => new Uint32Array(wasm.memory.buffer, at, length);
 
-/** A number of 64 bits in memory: as a number below 2^53, else as a BigInt. */
-export function numberAt(at) {
-    const it = wordsAt(at, 1)[0];
-    return it <= 0x1fffffffffffffn ? Number(it) : it;
-}
+/** A BigInt, as a number where it is below 2^53. */
+export const smallest = it => (it <= 0x1fffffffffffffn ? Number(it) : it);
+/** A number of 64 bits in memory, so. */
+export const numberAt = at => smallest(wordsAt(at, 1)[0]);

@@ -1,6 +1,6 @@
 // Lists of queries and answers. A list crosses as one copy into memory and one out of it; the adaptors change doubles into
 // numbers of 64 bits and back, so nothing is added or cut here.
-import { BESIDE, bytesAt, calls, doublesAt, halvesAt, numberAt, wordsAt } from "./core.js";
+import { BESIDE, bytesAt, calls, doublesAt, halvesAt, numberAt, smallest, wordsAt } from "./core.js";
 import { BITM_LIST_COUNTS } from "./layout.js";
 import { withRoom } from "./memory.js";
 import { WrongTables, big, must, notWhole, refused } from "./numbers.js";
@@ -48,7 +48,7 @@ export function copyIn(items, at, name) {
 /** n numbers of 64 bits at `at`, as an array of the form; changes what stands there. */
 export function copyOut(at, n, form, canMiss) {
     if (form === "words") return wordsAt(at, n).slice();
-    if (form === "plain") return Array.from(wordsAt(at, n), it => (canMiss && it === MISSING ? undefined : it <= 0x1fffffffffffffn ? Number(it) : it));
+    if (form === "plain") return Array.from(wordsAt(at, n), it => (canMiss && it === MISSING ? undefined : smallest(it)));
     const good = calls.to_doubles(at, n, canMiss ? 1 : 0);
     if (good < n) throw new RangeError("bitm: an answer is 2^53 or more: ask with a BigUint64Array");
     return doublesAt(at, n).slice();

@@ -42,7 +42,8 @@ export class PerfectHash {
     #settle(all, at, first, most, percent) {
         for (this.#seed = 1; this.#seed <= TRIES; this.#seed++) {
             putHashes(all, this.#seed, at.hashes);
-            const left = orThrow(calls.bitm_hash_build(at.hashes, all.length, percent, at.words, most, at.again, first, at.sizes, LEVELS, BESIDE, BESIDE + 8), "keys", all.length);
+            const rooms = [at.words, most, at.again, first, at.sizes, LEVELS, BESIDE, BESIDE + 8];
+            const left = orThrow(calls.bitm_hash_build(at.hashes, all.length, percent, ...rooms), "keys", all.length);
             if (left === 0) return this.#keep(all, at, numberAt(BESIDE), numberAt(BESIDE + 8));
         }
         throw new RangeError("bitm: two keys are equal, or their hashes are");
@@ -50,7 +51,8 @@ export class PerfectHash {
 
     /** Copies the levels into a block of their own, and builds tables and fingerprints there. */
     #keep(all, at, levels, words) {
-        const lens = [words, calls.bitm_index_upper_len(words), calls.bitm_index_lower_len(words), levels, calls.bitm_bits_words_len(all.length * this.#width)];
+        const prints = calls.bitm_bits_words_len(all.length * this.#width);
+        const lens = [words, calls.bitm_index_upper_len(words), calls.bitm_index_lower_len(words), levels, prints];
         const begins = [STRUCT];
         for (const it of lens) begins.push(begins.at(-1) + rounded(8 * it));
         this.#printsLen = lens[4];
@@ -60,8 +62,8 @@ export class PerfectHash {
             const of = k => [block + begins[k], lens[k]];
             bytesAt(block + begins[0], 8 * words).set(bytesAt(at.words, 8 * words));
             bytesAt(block + begins[3], 8 * levels).set(bytesAt(at.sizes, 8 * levels));
-            const members = { index_words: of(0)[0], index_words_len: words, index_upper: of(1)[0], index_upper_len: lens[1],
-                index_lower: of(2)[0], index_lower_len: lens[2], index_bits_len: 64 * words, sizes: of(3)[0], sizes_len: levels, keys: all.length };
+            const members = { index_bits_len: 64 * words, keys: all.length };
+            ["index_words", "index_upper", "index_lower", "sizes"].forEach((it, k) => ([members[it], members[`${it}_len`]] = of(k)));
             for (const [name, value] of Object.entries(members)) wordsAt(block + BITM_HASH[name], 1)[0] = BigInt(value);
             orThrow(calls.bitm_index_build(...of(0), ...of(1), ...of(2)), "the levels", words);
             if (this.#width) this.#fingerprint(all, block);
@@ -72,9 +74,11 @@ export class PerfectHash {
         for (let k = 0; k < all.length; k++) {
             hashKey(all[k], this.#seed, out);
             const print = out[2] >>> (32 - this.#width), number = orThrow(calls.bitm_hash_get(block, out[0], out[1]), "key", k);
-            must(calls.bitm_bits_set_fragment(block + this.#prints, this.#printsLen, 64 * this.#printsLen, number, this.#width, print), "fingerprint");
+            must(calls.bitm_bits_set_fragment(...this.#printsIn(block), number, this.#width, print), "fingerprint");
         }
     }
+
+    #printsIn(at) { return [at + this.#prints, this.#printsLen, 64 * this.#printsLen]; }
 
     get length() { return this.#length; }
 
@@ -93,7 +97,7 @@ export class PerfectHash {
         if (number === -1) return undefined;
         if (number < 0) throw refused(number, "key", "");
         if (this.#width === 0) return number;
-        const kept = calls.bitm_bits_get_fragment(at + this.#prints, this.#printsLen, 64 * this.#printsLen, number, this.#width);
+        const kept = calls.bitm_bits_get_fragment(...this.#printsIn(at), number, this.#width);
         return kept === print >>> (32 - this.#width) ? number : undefined;
     }
 
