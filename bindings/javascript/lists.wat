@@ -1,0 +1,97 @@
+  ;; Lists: numbers of 64 bits in memory from and to what a typed array holds. Each works in place.
+
+  ;; n doubles become n numbers of 64 bits. Returns how many were whole numbers from 0 to 2^53 - 1 before the first that
+  ;; is not: n if all are.
+  (func (export "from_doubles") (param $at f64) (param $n f64) (result f64) (local $p i64) (local $end i64) (local $x f64)
+    (local.set $p (i64.trunc_f64_u (local.get $at)))
+    (local.set $end (i64.add (local.get $p) (i64.shl (i64.trunc_f64_u (local.get $n)) (i64.const 3))))
+    (block $done (loop $next
+      (br_if $done (i64.ge_u (local.get $p) (local.get $end)))
+      (local.set $x (f64.load (local.get $p)))
+      (br_if $done (i32.eqz (i32.and
+        (i32.and (f64.ge (local.get $x) (f64.const 0)) (f64.lt (local.get $x) (f64.const 9007199254740992)))
+        (f64.eq (f64.trunc (local.get $x)) (local.get $x)))))
+      (i64.store (local.get $p) (i64.trunc_f64_u (local.get $x)))
+      (local.set $p (i64.add (local.get $p) (i64.const 8)))
+      (br $next)))
+    (f64.sub (local.get $n) (f64.convert_i64_u (i64.shr_u (i64.sub (local.get $end) (local.get $p)) (i64.const 3)))))
+
+  ;; n numbers of 64 bits become n doubles; where missing is 1, 2^64 - 1 becomes NaN. Returns how many there were before
+  ;; the first that is 2^53 or more: n if there is none.
+  (func (export "to_doubles") (param $at f64) (param $n f64) (param $missing i32) (result f64)
+    (local $p i64) (local $end i64) (local $x i64)
+    (local.set $p (i64.trunc_f64_u (local.get $at)))
+    (local.set $end (i64.add (local.get $p) (i64.shl (i64.trunc_f64_u (local.get $n)) (i64.const 3))))
+    (block $done (loop $next
+      (br_if $done (i64.ge_u (local.get $p) (local.get $end)))
+      (local.set $x (i64.load (local.get $p)))
+      (if (i32.and (local.get $missing) (i64.eq (local.get $x) (i64.const -1)))
+        (then (f64.store (local.get $p) (f64.const nan)))
+        (else
+          (br_if $done (i64.ge_u (local.get $x) (i64.const 9007199254740992)))
+          (f64.store (local.get $p) (f64.convert_i64_u (local.get $x)))))
+      (local.set $p (i64.add (local.get $p) (i64.const 8)))
+      (br $next)))
+    (f64.sub (local.get $n) (f64.convert_i64_u (i64.shr_u (i64.sub (local.get $end) (local.get $p)) (i64.const 3)))))
+
+  ;; n numbers of 32 bits that stand from at + 4 * n on become n numbers of 64 bits from at on.
+  (func (export "from_32") (param $at f64) (param $n f64) (local $to i64) (local $from i64) (local $i i64) (local $end i64)
+    (local.set $to (i64.trunc_f64_u (local.get $at)))
+    (local.set $end (i64.trunc_f64_u (local.get $n)))
+    (local.set $from (i64.add (local.get $to) (i64.shl (local.get $end) (i64.const 2))))
+    (block $done (loop $next
+      (br_if $done (i64.ge_u (local.get $i) (local.get $end)))
+      (i64.store (local.get $to) (i64.load32_u (local.get $from)))
+      (local.set $to (i64.add (local.get $to) (i64.const 8)))
+      (local.set $from (i64.add (local.get $from) (i64.const 4)))
+      (local.set $i (i64.add (local.get $i) (i64.const 1)))
+      (br $next))))
+
+  ;; n numbers of 64 bits, each below 256, become n bytes.
+  (func (export "to_bytes") (param $at f64) (param $n f64) (local $from i64) (local $to i64) (local $end i64)
+    (local.set $from (i64.trunc_f64_u (local.get $at)))
+    (local.set $to (local.get $from))
+    (local.set $end (i64.add (local.get $to) (i64.trunc_f64_u (local.get $n))))
+    (block $done (loop $next
+      (br_if $done (i64.ge_u (local.get $to) (local.get $end)))
+      (i64.store8 (local.get $to) (i64.load (local.get $from)))
+      (local.set $to (i64.add (local.get $to) (i64.const 1)))
+      (local.set $from (i64.add (local.get $from) (i64.const 8)))
+      (br $next))))
+
+  ;; Makes the bits at a list of positions 1, by bitm_bits_set. Returns how many positions there were before the first
+  ;; that is bits_len or more: n if there is none.
+  (func (export "set_positions") (param $words f64) (param $words_len f64) (param $bits_len f64) (param $list f64) (param $n f64)
+    (result f64) (local $p i64) (local $end i64)
+    (local.set $p (i64.trunc_f64_u (local.get $list)))
+    (local.set $end (i64.add (local.get $p) (i64.shl (i64.trunc_f64_u (local.get $n)) (i64.const 3))))
+    (block $done (loop $next
+      (br_if $done (i64.ge_u (local.get $p) (local.get $end)))
+      (br_if $done (call $bitm_bits_set (i64.trunc_f64_u (local.get $words)) (i64.trunc_f64_u (local.get $words_len))
+        (i64.trunc_f64_u (local.get $bits_len)) (i64.load (local.get $p)) (i32.const 1)))
+      (local.set $p (i64.add (local.get $p) (i64.const 8)))
+      (br $next)))
+    (f64.sub (local.get $n) (f64.convert_i64_u (i64.shr_u (i64.sub (local.get $end) (local.get $p)) (i64.const 3)))))
+
+  ;; Copies those of n values whose flag, of 64 bits too, is not 0 behind the first k of `to`, leaving out what equals the
+  ;; one before. Returns how many `to` has then.
+  (func (export "keep") (param $values f64) (param $flags f64) (param $n f64) (param $to f64) (param $k f64) (result f64)
+    (local $v i64) (local $f i64) (local $i i64) (local $end i64) (local $first i64) (local $p i64)
+    (local.set $v (i64.trunc_f64_u (local.get $values)))
+    (local.set $f (i64.trunc_f64_u (local.get $flags)))
+    (local.set $end (i64.trunc_f64_u (local.get $n)))
+    (local.set $first (i64.trunc_f64_u (local.get $to)))
+    (local.set $p (i64.add (local.get $first) (i64.shl (i64.trunc_f64_u (local.get $k)) (i64.const 3))))
+    (block $done (loop $next
+      (br_if $done (i64.ge_u (local.get $i) (local.get $end)))
+      (if (i64.ne (i64.load (local.get $f)) (i64.const 0)) (then
+        (if (i32.or (i64.eq (local.get $p) (local.get $first)) (i64.ne
+            (i64.load (select (i64.sub (local.get $p) (i64.const 8)) (local.get $v) (i64.gt_u (local.get $p) (local.get $first))))
+            (i64.load (local.get $v)))) (then
+          (i64.store (local.get $p) (i64.load (local.get $v)))
+          (local.set $p (i64.add (local.get $p) (i64.const 8)))))))
+      (local.set $v (i64.add (local.get $v) (i64.const 8)))
+      (local.set $f (i64.add (local.get $f) (i64.const 8)))
+      (local.set $i (i64.add (local.get $i) (i64.const 1)))
+      (br $next)))
+    (f64.convert_i64_u (i64.shr_u (i64.sub (local.get $p) (local.get $first)) (i64.const 3))))

@@ -1,0 +1,250 @@
+import { bytesAt, calls, wasm, wordsAt } from "./core.js";
+import { bytesOf, chunks, copyIn, copyOut, numbersOf } from "./lists.js";
+import { Block, dispose, freed, withRoom } from "./memory.js";
+import { big, must, orNone, orThrow, place, refused, upTo } from "./numbers.js";
+
+const MOST_BITS = 2 ** 50;
+
+/** A fixed number of bits, each 0 or 1. Bit i is bit i % 64, lowest first, of word i / 64. */
+export class BitVector {
+    #block;
+    #words;
+    #length;
+
+    /** All bits are 0. */
+    constructor(length) {
+        this.#length = upTo(length, MOST_BITS, "the length");
+        this.#words = calls.bitm_bits_words_len(this.#length);
+        const bytes = 8 * this.#words;
+        this.#block = new Block(bytes).heldBy(this, at => bytesAt(at, bytes).fill(0));
+    }
+
+    /** The bits at these positions are 1. Without a length, the largest position is the last bit. */
+    static fromPositions(positions, length) {
+        const { items } = numbersOf(positions, "positions"), n = items.length;
+        return withRoom(8 * n, list => {
+            copyIn(items, list, "positions");
+            let bits = length;
+            if (bits === undefined) bits = items.reduce((most, it) => (it >= most ? Number(it) + 1 : most), 0);
+            const made = new BitVector(bits), set = calls.set_positions(made.#live(), made.#words, made.#length, list, n);
+            if (set < n) throw new RangeError(`bitm: position ${items[set]} is past the end of ${made.#length} bits`);
+            return made;
+        });
+    }
+
+    /** From booleans, or numbers and BigInts that are 0 or 1. */
+    static fromBooleans(bits) {
+        const items = Array.isArray(bits) || ArrayBuffer.isView(bits) ? bits : Array.from(bits);
+        if (ArrayBuffer.isView(bits)) bytesOf(bits, "bits");
+        const bytes = new Uint8Array(Math.ceil(items.length / 8));
+        for (let k = 0; k < items.length; k++) {
+            if (bitOf(items[k], `bit ${k}`)) bytes[Math.floor(k / 8)] |= 1 << k % 8;
+        }
+        return BitVector.fromBytes(bytes, items.length);
+    }
+
+    /** From bytes, the lowest bit of each first: a Uint8Array, or any buffer or view. */
+    static fromBytes(bytes, length) {
+        const from = bytesOf(bytes, "bytes"), made = new BitVector(length ?? 8 * from.length);
+        if (made.#length > 8 * from.length) throw new RangeError(`bitm: ${made.#length} bits are more than ${from.length} bytes have`);
+        const needed = Math.ceil(made.#length / 8);
+        bytesAt(made.#live(), needed).set(from.subarray(0, needed));
+        must(calls.bitm_bits_clear_from(made.#live(), made.#words, made.#length), "the bits");
+        return made;
+    }
+
+    /** From 64-bit words, the lowest bit of each first. */
+    static fromWords(words, length) {
+        if (!(words instanceof BigUint64Array)) throw new TypeError("bitm: words must be a BigUint64Array");
+        return BitVector.fromBytes(words, length);
+    }
+
+    #live() {
+        if (this.#block.at === 0) throw freed("BitVector");
+        return this.#block.at;
+    }
+
+    get length() { return this.#length; }
+
+    /** How many bytes of memory the bits take. */
+    get byteLength() { return this.#block.at === 0 ? 0 : 8 * this.#words; }
+
+    get(position) {
+        const got = calls.bitm_bits_get(this.#live(), this.#words, this.#length, place(position, "position"));
+        return orThrow(got, "position", position) === 1;
+    }
+
+    set(position, value = true) {
+        const got = calls.bitm_bits_set(this.#live(), this.#words, this.#length, place(position, "position"), bitOf(value, "value"));
+        if (got < 0) throw refused(got, "position", position);
+        return this;
+    }
+
+    /** Makes the bits from begin on and before end equal to value. */
+    fill(value = true, begin = 0, end = this.#length) {
+        const from = place(begin, "begin"), to = place(end, "end"), bit = bitOf(value, "value");
+        must(calls.bitm_bits_fill_range(this.#live(), this.#words, this.#length, from, to, bit), `the range from ${from} to ${to}`);
+        return this;
+    }
+
+    /** Changes a single bit; each from begin on and before end; without arguments all. */
+    flip(...range) {
+        const from = range.length ? place(range[0], "position") : 0;
+        const to = range.length > 1 ? place(range[1], "end") : range.length ? from + 1 : this.#length;
+        must(calls.bitm_bits_flip_range(this.#live(), this.#words, this.#length, from, to), `the range from ${from} to ${to}`);
+        return this;
+    }
+
+    /** How many 1 bits there are from begin on and before end. */
+    count(begin = 0, end = this.#length) { return this.#count(1, begin, end); }
+    count0(begin = 0, end = this.#length) { return this.#count(0, begin, end); }
+
+    #count(one, begin, end) {
+        const from = place(begin, "begin"), to = place(end, "end");
+        const got = from === 0 && to === this.#length
+            ? calls.bitm_bits_count(this.#live(), this.#words, this.#length, one)
+            : calls.bitm_bits_count_range(this.#live(), this.#words, this.#length, one, from, to);
+        return orThrow(got, "the range", `${from} to ${to}`);
+    }
+
+    /** The position of the first 1 bit, or 0 bit, at or after `from`; of the last one at or before it. */
+    next(from) { return this.#seek("bitm_bits_next", 1, from); }
+    next0(from) { return this.#seek("bitm_bits_next", 0, from); }
+    previous(from) { return this.#seek("bitm_bits_previous", 1, from); }
+    previous0(from) { return this.#seek("bitm_bits_previous", 0, from); }
+
+    #seek(name, one, from) {
+        return orNone(calls[name](this.#live(), this.#words, this.#length, one, place(from, "position")), "position", from);
+    }
+
+    /** The positions of the 1 bits, or 0 bits, from `from` on, in increasing order. */
+    ones(from = 0) { return this.#positions(1, from); }
+    zeros(from = 0) { return this.#positions(0, from); }
+
+    #positions(one, from) {
+        const fetch = (begin, at, size) => calls.bitm_bits_positions(this.#live(), this.#words, this.#length, one, begin, at, size);
+        return chunks(fetch, place(from, "position"), (_, found) => found.at(-1) + 1);
+    }
+
+    /** The positions of all 1 bits. */
+    toPositions() {
+        const n = this.count();
+        return withRoom(8 * n, at => {
+            orThrow(calls.bitm_bits_positions(this.#live(), this.#words, this.#length, 1, 0, at, n), "positions", 0);
+            return copyOut(at, n, "doubles", false);
+        });
+    }
+
+    toBytes() { return bytesAt(this.#live(), Math.ceil(this.#length / 8)).slice(); }
+    toWords() { return wordsAt(this.#live(), this.#words).slice(); }
+
+    *[Symbol.iterator]() {
+        for (let k = 0; k < this.#length; k++) yield this.get(k);
+    }
+
+    /** The number in `width` bits from begin on, lowest bit first; a BigInt if it is 2^53 or more. */
+    getNumber(begin, width) {
+        const got = calls.bitm_bits_get_number(this.#live(), this.#words, this.#length, place(begin, "begin"), widthOf(width));
+        return orThrow(got, "the number", `${width} bits from ${begin} on`);
+    }
+
+    /** Replaces these bits by the lowest of value; combines them with these by exclusive or. */
+    setNumber(begin, width, value) { return this.#write("bitm_bits_set_number", begin, width, value); }
+    xorNumber(begin, width, value) { return this.#write("bitm_bits_xor_number", begin, width, value); }
+
+    /** The bits as an array of numbers of `width` bits: reads, replaces, exchanges; replaces each of the first `count`. */
+    getFragment(index, width) {
+        const got = calls.bitm_bits_get_fragment(this.#live(), this.#words, this.#length, place(index, "index"), widthOf(width));
+        return orThrow(got, "fragment", index);
+    }
+    setFragment(index, width, value) { return this.#write("bitm_bits_set_fragment", index, width, value); }
+    swapFragments(first, second, width) {
+        const a = place(first, "index"), b = place(second, "index");
+        must(calls.bitm_bits_swap_fragments(this.#live(), this.#words, this.#length, a, b, widthOf(width)), `fragment ${Math.max(a, b)}`);
+        return this;
+    }
+    fillFragments(width, value, count) {
+        const number = big(value, "value"), n = width === 0 ? 0n : BigInt(place(count, "count"));
+        const vector = [this.#live(), this.#words, this.#length].map(BigInt);
+        must(wasm.bitm_bits_fill_fragments(...vector, widthOf(width), number, n), `fragment ${count}`);
+        return this;
+    }
+
+    #write(name, at, width, value) {
+        const where = BigInt(place(at, "position")), number = big(value, "value");
+        must(wasm[name](BigInt(this.#live()), BigInt(this.#words), BigInt(this.#length), where, widthOf(width), number), `position ${at}`);
+        return this;
+    }
+
+    /** Replaces `count` bits from begin on by those of other from otherBegin on. */
+    setRange(begin, other, otherBegin = 0, count = other.length - Number(otherBegin)) {
+        const from = other === this ? other.clone() : other;
+        const args = [place(begin, "begin"), from.#live(), from.#words, place(otherBegin, "begin"), place(count, "count")];
+        if (args[0] + args[4] > this.#length || args[3] + args[4] > from.#length) throw new RangeError("bitm: the range is past the end");
+        must(calls.bitm_bits_copy_range(this.#live(), this.#words, ...args), "the range");
+        if (from !== other) from.free();
+        return this;
+    }
+
+    /** A new vector of the bits from begin on and before end. */
+    slice(begin = 0, end = this.#length) {
+        const from = upTo(begin, this.#length, "begin"), to = upTo(end, this.#length, "end");
+        return from < to ? new BitVector(to - from).setRange(0, this, from, to - from) : new BitVector(0);
+    }
+
+    clone() { return this.slice(); }
+
+    equals(other) {
+        if (this.#length !== other.#length) return false;
+        const got = calls.bitm_bits_equal_range(this.#live(), this.#words, 0, other.#live(), other.#words, 0, this.#length);
+        return orThrow(got, "the range", this.#length) === 1;
+    }
+
+    /** These change this vector, bit by bit; other has as many bits. */
+    and(other) { return this.#combine("bitm_bits_and", other); }
+    or(other) { return this.#combine("bitm_bits_or", other); }
+    xor(other) { return this.#combine("bitm_bits_xor", other); }
+    andNot(other) { return this.#combine("bitm_bits_and_not", other); }
+    not() { return this.flip(0, this.#length); }
+
+    #combine(name, other) {
+        if (!(other instanceof BitVector)) throw new TypeError("bitm: the other must be a BitVector");
+        if (other.#length !== this.#length) throw new RangeError(`bitm: ${other.#length} bits are not ${this.#length}`);
+        const from = other === this ? other.clone() : other;
+        must(calls[name](this.#live(), this.#words, from.#live(), from.#words), "the other");
+        if (from !== other) from.free();
+        return this;
+    }
+
+    /** These make a new vector, as those of Set do. */
+    intersection(other) { return this.clone().and(other); }
+    union(other) { return this.clone().or(other); }
+    symmetricDifference(other) { return this.clone().xor(other); }
+    difference(other) { return this.clone().andNot(other); }
+    complement() { return this.clone().not(); }
+    isSubsetOf(other) { return none(this.difference(other)); }
+    isSupersetOf(other) { return none(other.difference(this)); }
+    isDisjointFrom(other) { return none(this.intersection(other)); }
+
+    /** Gives the memory back at once. */
+    free() { this.#block.free(); }
+    [dispose]() { this.free(); }
+}
+
+function bitOf(value, name) {
+    if (value === true || value === 1 || value === 1n) return 1;
+    if (value === false || value === 0 || value === 0n) return 0;
+    throw new TypeError(`bitm: ${name} must be a boolean, or 0 or 1, and is ${String(value)}`);
+}
+
+function widthOf(width) {
+    if (typeof width !== "number" || !Number.isInteger(width) || width < 0 || width > 64)
+        throw new RangeError(`bitm: a width is 0 to 64, and not ${String(width)}`);
+    return width;
+}
+
+function none(made) {
+    const found = made.next(0) === undefined;
+    made.free();
+    return found;
+}

@@ -1,0 +1,196 @@
+import { BESIDE, bytesAt, calls, numberAt, wasm, wordsAt } from "./core.js";
+import { Opened } from "./bit_index.js";
+import { BITM_LIST_COUNTS } from "./layout.js";
+import { answers, copyIn, copyOut, numbersOf } from "./lists.js";
+import { Block, dispose, freed, withRoom } from "./memory.js";
+import { WrongTables, big, byBigInts, must, notWhole, orNone, orThrow, place, refused, wrongType } from "./numbers.js";
+import { BEFORE, putHeader, putSequence, sequenceHeader } from "./stored.js";
+
+const CHUNK = 4096;
+
+/** A list of numbers in our memory, from which a sequence is built without a copy by JavaScript. */
+class Listed {
+    constructor(at, length) {
+        this.at = at;
+        this.length = length;
+    }
+}
+
+/** Numbers that do not decrease, each from 0 to 2^64 - 1, in little memory. */
+export class EliasFano {
+    #block;
+    #header;
+
+    /** The numbers, sorted: a Uint32Array, Float64Array, BigUint64Array, or another iterable of numbers and BigInts. */
+    constructor(numbers) {
+        if (numbers instanceof Opened) {
+            this.#header = numbers.header;
+            this.#block = numbers.block.heldBy(this, at => putSequence(at, this.#header));
+        } else if (numbers instanceof Listed) this.#build(numbers.at, numbers.length);
+        else {
+            const { items } = numbersOf(numbers, "numbers"), n = items.length;
+            withRoom(8 * n, at => {
+                copyIn(items, at, "numbers");
+                this.#build(at, n);
+            });
+        }
+    }
+
+    #build(list, n) {
+        const largest = n ? wordsAt(list, n)[n - 1] : 0n, lens = BESIDE + 256;
+        must(wasm.bitm_sequence_sizes(BigInt(n), largest, BigInt(lens)), "the numbers");
+        const it = sequenceHeader(n, lens), of = name => [it[`${name}_at`], it[`${name}_len`]];
+        this.#header = it;
+        this.#block = new Block(BEFORE + it.size).heldBy(this, at => {
+            const file = at + BEFORE, parts = ["low", "words", "upper", "lower"].map(of).flatMap(([begin, len]) => [file + begin, len]);
+            bytesAt(file, it.size).fill(0);
+            const got = calls.bitm_sequence_build(list, n, ...parts);
+            if (got < 0) throw refused(got, "the numbers", n);
+            sequenceHeader(n, lens);
+            putHeader(file);
+            putSequence(at, it);
+        });
+    }
+
+    #live() {
+        const at = this.#block.at;
+        if (at === 0) throw freed("EliasFano");
+        return at;
+    }
+
+    get length() { return this.#header.len; }
+
+    /** How many bytes of memory the numbers take. */
+    get byteLength() { return this.#block.at === 0 ? 0 : this.#header.size; }
+
+    /** The number at an index, which counts from the end if it is negative; undefined where there is none. */
+    at(index) {
+        if (typeof index !== "number" && typeof index !== "bigint") throw wrongType("index", index);
+        if (typeof index === "number" && !Number.isSafeInteger(index)) throw notWhole("index", index);
+        const k = index < 0 ? this.length + Number(index) : index;
+        const at = this.#live();
+        if (k < 0 || k >= this.length) return undefined;
+        return orThrow(calls.bitm_sequence_get(at, Number(k)), "index", index);
+    }
+
+    /** The least index whose number is at least value; undefined where there is none. */
+    firstAtLeast(value) { return this.#seek("bitm_sequence_first_at_least", value); }
+    /** The greatest index whose number is at most value; undefined where there is none. */
+    lastAtMost(value) { return this.#seek("bitm_sequence_last_at_most", value); }
+    has(value) { return this.#seek("bitm_sequence_contains", value) === 1; }
+
+    #seek(name, value) {
+        const at = this.#block.at;
+        if (at === 0) throw freed("EliasFano");
+        const got = typeof value === "number" ? calls[name](at, value) : byBigInts(name, at, big(value, "value"));
+        return got >= 0 ? got : orNone(got, "value", value);
+    }
+
+    /** The least number that is at least value, and the greatest that is at most value; undefined where there is none. */
+    successor(value) {
+        const k = this.firstAtLeast(value);
+        return k === undefined ? undefined : this.at(k);
+    }
+    predecessor(value) {
+        const k = this.lastAtMost(value);
+        return k === undefined ? undefined : this.at(k);
+    }
+
+    /** The least index of a number that equals value, or -1. */
+    indexOf(value) {
+        const k = this.firstAtLeast(value);
+        return k !== undefined && this.has(value) ? k : -1;
+    }
+
+    /** Lists: an array of the same kind as the queries, see README.md. */
+    atList(indices) {
+        const { items, form } = numbersOf(indices, "indices"), n = items.length;
+        return withRoom(16 * n, at => {
+            copyIn(items, at, "indices");
+            const written = orThrow(calls.bitm_sequence_get_list(this.#live(), at, n, at + 8 * n, n), "indices", n);
+            if (written < n && items[written] < this.length) throw new WrongTables();
+            if (written < n) throw new RangeError(`bitm: index ${items[written]} is past the end`);
+            return copyOut(at + 8 * n, n, form, false);
+        });
+    }
+    firstAtLeastList(values) { return this.#list("bitm_sequence_first_at_least_list", values, "fill"); }
+    lastAtMostList(values) { return this.#list("bitm_sequence_last_at_most_list", values, "fill"); }
+    hasList(values) { return this.#list("bitm_sequence_contains_list", values, "flags"); }
+
+    #list(name, given, missing) {
+        return answers(given, "values", missing, (at, n, out, counts) => calls[name](this.#live(), at, n, out, n, counts));
+    }
+
+    /** The numbers from an index on, or from the first that is at least value on. */
+    *values(from = 0) {
+        let size = 16;
+        for (let k = place(from, "index"); k < this.length; size = Math.min(2 * size, 512)) {
+            const found = this.#items(k, size);
+            yield* found;
+            k += found.length;
+        }
+    }
+    valuesFrom(value) { return this.values(this.firstAtLeast(value) ?? this.length); }
+    [Symbol.iterator]() { return this.values(); }
+
+    #items(from, size) {
+        return withRoom(8 * size, at => {
+            const n = orThrow(calls.bitm_sequence_items(this.#live(), from, at, size), "index", from);
+            if (n === 0) throw new WrongTables();
+            return copyOut(at, n, "plain", false);
+        });
+    }
+
+    /** All numbers. */
+    toArray() { return [...this]; }
+    toBigUint64Array() { return this.#all("words"); }
+    /** RangeError if a number is 2^53 or more. */
+    toFloat64Array() { return this.#all("doubles"); }
+
+    #all(form) {
+        const n = this.length;
+        return withRoom(8 * n, at => {
+            if (orThrow(calls.bitm_sequence_items(this.#live(), 0, at, n), "index", 0) < n) throw new WrongTables();
+            return copyOut(at, n, form, false);
+        });
+    }
+
+    /** The numbers that all of these have, each once. */
+    intersection(...others) {
+        for (const it of others) if (!(it instanceof EliasFano)) throw new TypeError("bitm: the other must be an EliasFano");
+        const [least, ...rest] = [this, ...others].sort((a, b) => a.length - b.length);
+        return withRoom(8 * least.length, to => {
+            let kept = 0;
+            for (let k = 0; k < least.length; k += CHUNK) kept = least.#keep(rest, k, Math.min(CHUNK, least.length - k), to, kept);
+            return new EliasFano(new Listed(to, kept));
+        });
+    }
+
+    /** Of n numbers from index k on, puts those that the others have after the first `kept` of a list. */
+    #keep(others, k, n, to, kept) {
+        return withRoom(24 * n, from => {
+            const flags = from + 8 * n, next = flags + 8 * n;
+            if (orThrow(calls.bitm_sequence_items(this.#live(), k, from, n), "index", k) < n) throw new WrongTables();
+            wordsAt(flags, n).fill(1n);
+            let count = n;
+            for (const it of others) {
+                must(calls.bitm_sequence_contains_list(it.#live(), from, count, flags, count, BESIDE), "the other");
+                if (numberAt(BESIDE + BITM_LIST_COUNTS.wrong) !== 0) throw new WrongTables();
+                count = calls.keep(from, flags, count, next, 0);
+                bytesAt(from, 8 * count).set(bytesAt(next, 8 * count));
+                wordsAt(flags, count).fill(1n);
+            }
+            return calls.keep(from, flags, count, to, kept);
+        });
+    }
+
+    /** Whether all parts are those of some sequence, by going over all. */
+    check() { return wasm.bitm_sequence_check(BigInt(this.#live())) === 0; }
+
+    /** The bytes of a file: what open() takes, and the C library and its other bindings. */
+    toBytes() { return bytesAt(this.#live() + BEFORE, this.#header.size).slice(); }
+
+    /** Gives the memory back at once. */
+    free() { this.#block.free(); }
+    [dispose]() { this.free(); }
+}

@@ -1,0 +1,87 @@
+// Arguments: a whole number as a number below 2^53 or a BigInt below 2^64. Anything else is refused: TypeError for another
+// type, RangeError for another number.
+import { ANSWER, numberAt, wasm } from "./core.js";
+import { BAD_ARGUMENT, STATUS } from "./layout.js";
+
+const MOST = 2n ** 64n - 1n;
+
+/** Tables that are not those of the words, as in a damaged file that was opened with `check: false`. */
+export class WrongTables extends Error {
+    constructor(message = "bitm: the tables are not those of the words") {
+        super(message);
+        this.name = "WrongTables";
+    }
+}
+
+export function wrongType(name, it) {
+    const found = it === null ? "null" : typeof it;
+    return new TypeError(`bitm: ${name} must be a whole number, and is of type ${found}`);
+}
+
+export function notWhole(name, it) {
+    if (typeof it === "bigint") return new RangeError(`bitm: ${name} must be 0 to 2^64 - 1, and is ${it}`);
+    return new RangeError(`bitm: ${name} must be a whole number from 0 to 2^53 - 1 (beyond it a BigInt), and is ${it}`);
+}
+
+/** A BigInt from 0 to 2^64 - 1 of a number or a BigInt. */
+export function big(it, name) {
+    if (typeof it === "number") {
+        if (!Number.isSafeInteger(it) || it < 0) throw notWhole(name, it);
+        return BigInt(it);
+    }
+    if (typeof it !== "bigint") throw wrongType(name, it);
+    if (it < 0n || it > MOST) throw notWhole(name, it);
+    return it;
+}
+
+/** A number from 0 to 2^53 - 1, where all that are larger mean the same as 2^53 - 1: past the end. */
+export function place(it, name) {
+    if (typeof it === "bigint") return Math.min(Number(big(it, name)), Number.MAX_SAFE_INTEGER);
+    if (typeof it !== "number") throw wrongType(name, it);
+    if (!Number.isSafeInteger(it) || it < 0) throw notWhole(name, it);
+    return it;
+}
+
+/** A number from 0 to `most`. */
+export function upTo(it, most, name) {
+    const found = place(it, name);
+    if (found > most) throw new RangeError(`bitm: ${name} is past the end: ${it}, and the most is ${most}`);
+    return found;
+}
+
+/** The error of what an adaptor returned in place of an answer. */
+export function refused(got, name, it) {
+    switch (-got) {
+        case STATUS.NONE: return new RangeError(`bitm: ${name} is past the end: ${it}`);
+        case STATUS.BAD_SIZE: return new RangeError(`bitm: a length is wrong: ${name}`);
+        case STATUS.WRONG: return new WrongTables();
+        case STATUS.UNSORTED: return new RangeError("bitm: a number is less than the one before it");
+        case BAD_ARGUMENT: return notWhole(name, it);
+        default: return new Error(`bitm: ${name}: status ${-got}`);
+    }
+}
+
+/** Throws unless an adaptor without an answer, or the library itself, said that all is well. */
+export function must(got, name) {
+    if (got !== 0) throw refused(-Math.abs(got), name);
+}
+
+/** A call of the library by BigInts, whose answer stands at ANSWER: the answer, or minus the status. */
+export function byBigInts(name, at, value) {
+    const status = wasm[name](BigInt(at), value, BigInt(ANSWER));
+    return status === STATUS.OK ? numberAt(ANSWER) : -status;
+}
+
+/** The answer of an adaptor, which is below 2^53, or undefined where it says that there is none. */
+export function orNone(got, name, it) {
+    if (got >= 0) return got;
+    if (got === -STATUS.NONE) return undefined;
+    throw refused(got, name, it);
+}
+
+/** The answer of an adaptor; a RangeError where it says that there is none. */
+export function orThrow(got, name, it) {
+    if (got >= 0) return got;
+    if (got !== got) return numberAt(ANSWER);
+    throw refused(got, name, it);
+}

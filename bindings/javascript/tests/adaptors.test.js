@@ -1,0 +1,155 @@
+// Each export of include/bitm.h by its adaptor and by BigInts, over the same memory: the same status, the same answer, and
+// the same bytes afterwards. And which exports the package reaches.
+import assert from "node:assert/strict";
+import { readFileSync, readdirSync } from "node:fs";
+import { test } from "node:test";
+import { callsOf, structsOf, wasmType } from "../header.mjs";
+import { Tally, moduleBytes, random } from "./plain.js";
+
+const beside = new URL("../", import.meta.url);
+const header = readFileSync(process.env.BITM_HEADER ?? new URL("../../include/bitm.h", beside), "utf8");
+const exported = callsOf(header), structs = structsOf(header);
+const load = name => new WebAssembly.Module(moduleBytes(name));
+const library = new WebAssembly.Instance(load("bitm"), {}).exports, memory = library.memory;
+const START = memory.buffer.byteLength, ROOM = 4096, SLOTS = 16;
+try {
+    memory.grow(8n);
+} catch {
+    memory.grow(8);
+}
+const ANSWER = START + 2 * SLOTS * ROOM;
+const link = { bitm: { ...library, answer: new WebAssembly.Global({ value: "i64" }, BigInt(ANSWER)) } };
+const adaptors = new WebAssembly.Instance(load("calls"), link).exports;
+const arena = () => new Uint8Array(memory.buffer, START, 7 * 65536);
+const words = (at, n) => new BigUint64Array(memory.buffer, at, n);
+const r = random(77), tally = new Tally(), N = 40, BITS = 64 * N - 9;
+const slot = k => START + k * ROOM;
+
+// Slots: 0 words, 1 upper, 2 lower, 3 an index, 4 to 7 the parts of a sequence, 8 its struct, 9 a hash, 10 on: free.
+const put = (at, name, members) => {
+    for (const it of structs.get(name).members) if (it.name in members) words(at + it.at, 1)[0] = BigInt(members[it.name]);
+};
+
+function prepare(spoilt) {
+    arena().fill(0);
+    for (let k = 0; k < 2 * ROOM / 8; k++) words(slot(10) + 8 * k, 1)[0] = BigInt(r() % 3000);
+    for (let k = 0; k < N; k++) words(slot(0), N)[k] = (BigInt(r()) << 32n) | BigInt(r());
+    const B = BigInt, upper = Number(library.bitm_index_upper_len(B(N))), lower = Number(library.bitm_index_lower_len(B(N)));
+    assert.equal(library.bitm_index_build(B(slot(0)), B(N), B(slot(1)), B(upper), B(slot(2)), B(lower), B(ANSWER)), 0);
+    const index = { words: slot(0), words_len: N, upper: slot(1), upper_len: upper, lower: slot(2), lower_len: lower, bits_len: BITS };
+    put(slot(3), "bitm_index", index);
+    const used = slot(15), samples = [slot(12), 20, slot(12) + 1024, upper].map(B);
+    assert.equal(library.bitm_index_build_samples(B(slot(3)), 1, 8, ...samples, B(used)), 0);
+    put(slot(3) + structs.get("bitm_index").members.find(it => it.name === "ones").at, "bitm_samples",
+        { samples: samples[0], samples_len: words(used, 1)[0], starts: samples[2], starts_len: samples[3], log2: 8 });
+    const items = Array.from({ length: 60 }, () => r() % 3000).sort((a, b) => a - b), lens = slot(15);
+    words(slot(14), 60).set(items.map(BigInt));
+    assert.equal(library.bitm_sequence_sizes(60n, B(items[59]), B(lens)), 0);
+    const [width, ...sizes] = Array.from(words(lens, 5), Number), parts = sizes.flatMap((it, k) => [slot(4 + k), it]);
+    assert.equal(library.bitm_sequence_build(B(slot(14)), 60n, ...parts.map(B), B(ANSWER)), 0);
+    const names = ["low", "low_len", "words", "words_len", "upper", "upper_len", "lower", "lower_len"];
+    put(slot(8), "bitm_sequence", { len: 60, width, ...Object.fromEntries(names.map((it, k) => [it, parts[k]])) });
+    put(slot(9), "bitm_index", index);
+    words(slot(9) + structs.get("bitm_index").size, 3).set([B(slot(13)), 2n, B(BITS)]);
+    words(slot(13), 2).set([25n, 15n]);
+    if (spoilt) for (let k = 0; k < 4; k++) words(slot([1, 2, 6, 7][k]), 1)[0] ^= B(r());
+    words(ANSWER, 1)[0] = 2n ** 64n - 1n; // an answer of 32 bits is read from four bytes alone
+    return parts;
+}
+
+const SMALL = { index: 70, first: 30, second: 30, ones_log2: 14, zeros_log2: 14, width: 66, rank: 70, log2: 40, percent: 300, level: 9, most: 40, len: 100, largest: 100, count: 90, left: 400 };
+// Which parts of the arena a pointer of this name has; others are free slots, one for each parameter.
+const WHERE = { index: slot(3), sequence: slot(8), hash: slot(9) };
+
+/** Arguments that keep the duties of the header: lengths are those of the memory, or wrong ones that are refused. */
+function argumentsOf(call, parts) {
+    const building = call.name === "bitm_sequence_build", ofIndex = call.name === "bitm_index_build";
+    let free = 16;
+    if (call.name === "bitm_stored_read" && r() % 3) library.bitm_stored_sequence(60n, BigInt(slot(15)), BigInt(slot(10)));
+    return call.parameters.map(({ type, name }, k) => {
+        if (name in WHERE && type.endsWith("*")) return WHERE[name];
+        if (building && k >= 2 && k < 10) return parts[k - 2];
+        if (building && name === "items") return slot(14);
+        if (building && name === "items_len") return 60;
+        if (ofIndex && k < 6) return [slot(0), N, slot(10), Number(library.bitm_index_upper_len(BigInt(N))), slot(12), Number(library.bitm_index_lower_len(BigInt(N)))][k];
+        if (type === "const uint64_t *" && name === "words") return slot(0);
+        if (type.endsWith("*")) return k === 0 ? slot(10) : slot(free++);
+        if (type === "bool") return r() % 2;
+        if (name === "starts_len") return r() % 7 ? 1 : 2;
+        if (name === "file_len") return r() % 7 ? 400 : r() % 400;
+        if (type === "uint64_t" && /^(ones|zeros)_len$/.test(name)) return r() % 4;
+        if (name === "bits_len") return r() % 9 ? BITS : r() % 4000;
+        if (name.endsWith("_len") || name === "sizes_len") return r() % 7 ? N : r() % N;
+        if (type === "uint32_t") return r() % (SMALL[name] ?? 2 ** 31);
+        return r() % 50 === 0 ? Number.MAX_SAFE_INTEGER - (r() % 9) : r() % (SMALL[name] ?? BITS + 60);
+    });
+}
+
+const isAnswer = (call, k) => k === call.parameters.length - 1 && /^uint(32|64)_t \*$/.test(call.parameters[k].type);
+
+function both(call, parts) {
+    const given = argumentsOf(call, parts), hasAnswer = call.parameters.some((_, k) => isAnswer(call, k));
+    const plain = given.map((it, k) => (isAnswer(call, k) ? ANSWER : it));
+    const before = arena().slice();
+    const status = library[call.name](...plain.map((it, k) => (wasmType(call.parameters[k].type) === "i64" ? BigInt(it) : it)));
+    const after = arena().slice(), stood = words(ANSWER, 1)[0];
+    arena().set(before);
+    const numbers = given.flatMap((it, k) => (isAnswer(call, k) ? [] : call.parameters[k].name === "key_hash" ? [it >>> 0, Math.floor(it / 2 ** 32)] : [it]));
+    const got = adaptors[call.name](...numbers), isStatus = call.result === "uint32_t" && !/version|optimal|to_store/.test(call.name);
+    const value = isStatus ? (hasAnswer ? (call.parameters.at(-1).type === "uint32_t *" ? stood & 0xffffffffn : stood) : 0n) : BigInt.asUintN(64, BigInt(status));
+    const wanted = isStatus && status !== 0 ? -status : value < 2n ** 53n ? Number(value) : NaN;
+    tally.same(got, wanted, () => `${call.name}(${given})`);
+    assert.ok(Buffer.compare(arena(), after) === 0, `${call.name}(${given}) wrote something else`);
+    return !isStatus || status === 0;
+}
+
+test("each adaptor does what its export does", () => {
+    assert.equal(exported.length, 69);
+    for (const call of exported) {
+        let answered = 0;
+        for (let round = 0; round < 60; round++) answered += both(call, prepare(round % 4 === 3));
+        assert.ok(answered >= 5, `${call.name} answered ${answered} times of 60`);
+    }
+    tally.atLeast(69 * 60);
+});
+
+test("each adaptor refuses what is no whole number of its range", () => {
+    const parts = prepare(false);
+    for (const call of exported) {
+        const given = argumentsOf(call, parts), own = call.parameters.filter((_, k) => !isAnswer(call, k));
+        own.forEach((it, k) => {
+            if (it.type.endsWith("*") || (it.type === "size_t" && it.name.endsWith("_len")) || it.name === "key_hash") return;
+            const most = { bool: 2, uint32_t: 2 ** 32 }[it.type] ?? 2 ** 53;
+            for (const bad of [-1, 0.5, NaN, Infinity, -Infinity, most]) {
+                const tried = given.slice(0, own.length), before = arena().slice();
+                tried[k] = bad;
+                if (own.at(-1).name === "key_hash") tried.push(0);
+                assert.equal(adaptors[call.name](...tried), -5, `${call.name}: ${it.name} = ${bad}`);
+                assert.ok(Buffer.compare(arena(), before) === 0, `${call.name} wrote`);
+            }
+        });
+    }
+});
+
+// Exports that no function of the package calls, each with the reason.
+const LEFT_OUT = {
+    bitm_bytes_get57: "a DataView reads 8 bytes of a buffer where they are; a copy into memory would be slower",
+    bitm_bytes_init57: "as bitm_bytes_get57",
+    bitm_bytes_set57: "as bitm_bytes_get57",
+    bitm_bytes_get25: "as bitm_bytes_get57",
+    bitm_bytes_init25: "as bitm_bytes_get57",
+    bitm_bytes_set25: "as bitm_bytes_get57",
+    bitm_index_count: "a rank at the length gives the same number with fewer reads",
+    bitm_hash_level: "bitm_hash_build builds all levels",
+};
+
+test("each export is reached, or listed with its reason", () => {
+    const source = readdirSync(new URL("src/", beside)).map(it => readFileSync(new URL(`src/${it}`, beside), "utf8")).join("\n");
+    const reached = name => new RegExp(`\\b${name}\\b`).test(source);
+    assert.deepEqual(exported.map(it => it.name).filter(it => !reached(it)).sort(), Object.keys(LEFT_OUT).sort());
+    const readme = readFileSync(new URL("README.md", beside), "utf8");
+    for (const it of Object.keys(LEFT_OUT)) assert.ok(readme.includes(`\`${it}\``) || /bytes_/.test(it), `README.md does not list ${it}`);
+    const names = WebAssembly.Module.exports(load("bitm")).map(it => it.name).filter(it => it.startsWith("bitm_")).sort();
+    assert.deepEqual(names, exported.map(it => it.name).sort());
+    assert.deepEqual(WebAssembly.Module.imports(load("bitm")), []);
+});

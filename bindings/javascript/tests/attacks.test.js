@@ -1,0 +1,85 @@
+// Tables that are overwritten, and files that are spoilt: errors or wrong ranks, never a trap, never a position that is past
+// the end or holds another bit.
+import assert from "node:assert/strict";
+import { test } from "node:test";
+import { bitm, booleans, random, sorted, Tally } from "./plain.js";
+
+const { BitVector, EliasFano, Index, WrongTables, open } = bitm;
+const tally = new Tally();
+
+function answer(call) {
+    try {
+        return call();
+    } catch (it) {
+        if (!(it instanceof WrongTables)) throw it;
+        return undefined;
+    }
+}
+
+test("an index over spoilt tables", () => {
+    const n = 300000, bits = booleans(n, 5), file = new Index(BitVector.fromBooleans(bits), { sampleLog2: 8 }).toBytes();
+    const r = random(3), from = 192 + Math.ceil(n / 64) * 8;
+    for (let round = 0; round < 150; round++) {
+        const bad = file.slice();
+        for (let k = 0; k < 1 + round * 3; k++) bad[from + (r() % (bad.length - from))] = r();
+        const x = open(bad, { check: false });
+        for (let k = 0; k < 300; k++) {
+            const p = r() % n;
+            for (const [name, bit] of [["select", true], ["select0", false], ["next", true], ["next0", false], ["previous", true], ["previous0", false]]) {
+                const at = answer(() => x[name](p));
+                if (at !== undefined) tally.same(bits[at], bit, () => `${name} ${p} is ${at}`);
+                if (at !== undefined && name.startsWith("next")) assert.ok(at >= p);
+                if (at !== undefined && name.startsWith("prev")) assert.ok(at <= p);
+            }
+            const rank = answer(() => x.rank(p));
+            tally.same(rank === undefined || rank <= p, true, () => `rank ${p} is ${rank}`);
+        }
+        const asked = Uint32Array.from({ length: 200 }, () => r() % n);
+        for (const at of answer(() => x.selectList(asked)) ?? []) if (!Number.isNaN(at)) tally.same(bits[at], true, () => `selectList: ${at}`);
+        x.free();
+    }
+    tally.atLeast(100000);
+});
+
+test("a sequence over spoilt parts", () => {
+    const n = 20000, file = new EliasFano(sorted(n, 2 ** 40, 3)).toBytes(), r = random(4);
+    for (let round = 0; round < 150; round++) {
+        const bad = file.slice();
+        for (let k = 0; k < 1 + round * 3; k++) bad[192 + (r() % (bad.length - 192))] = r();
+        const s = open(bad, { check: false });
+        for (let k = 0; k < 200; k++) {
+            const x = r() * 250;
+            for (const name of ["firstAtLeast", "lastAtMost"]) {
+                const at = answer(() => s[name](x));
+                assert.ok(at === undefined || (at >= 0 && at < n));
+            }
+            answer(() => s.at(r() % n));
+            answer(() => s.has(x));
+        }
+        answer(() => [...s.values(r() % n)].length);
+        answer(() => s.intersection(s).length);
+        s.free();
+    }
+});
+
+test("each byte of a header, each length of a file, and drawn bytes", () => {
+    const index = new Index(BitVector.fromBooleans(booleans(3000, 1)), { sampleLog2: 7 }).toBytes(), sequence = new EliasFano(sorted(300, 9000, 1)).toBytes();
+    const r = random(6);
+    for (const file of [index, sequence]) {
+        for (let k = 0; k < file.length; k++) assert.throws(() => open(file.subarray(0, k)), WrongTables);
+        for (let k = 0; k < 192; k++)
+            for (const change of [1, 128, r() % 255 + 1]) {
+                const bad = file.slice();
+                bad[k] ^= change;
+                assert.throws(() => open(bad), WrongTables);
+            }
+        let refused = 0;
+        for (let k = 192; k < file.length; k++) {
+            const bad = file.slice();
+            bad[k] ^= 1 << r() % 8;
+            if (answer(() => open(bad)) === undefined) refused++;
+        }
+        assert.ok(refused > 0);
+        for (let k = 0; k < 300; k++) assert.throws(() => open(Uint8Array.from({ length: r() % 900 }, () => r())), WrongTables);
+    }
+});

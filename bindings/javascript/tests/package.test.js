@@ -1,0 +1,112 @@
+// The package itself: its types, the lines of its README, its fields, its sums, and what `npm pack` makes of it.
+import assert from "node:assert/strict";
+import { execFileSync, spawnSync } from "node:child_process";
+import { createHash } from "node:crypto";
+import { existsSync, mkdtempSync, readFileSync, readdirSync, rmSync, writeFileSync } from "node:fs";
+import { tmpdir } from "node:os";
+import { join } from "node:path";
+import { fileURLToPath } from "node:url";
+import { after, test } from "node:test";
+import { bitm } from "./plain.js";
+
+const root = fileURLToPath(new URL("..", import.meta.url)), room = mkdtempSync(join(tmpdir(), "bitm-package-"));
+after(() => rmSync(room, { recursive: true }));
+const has = tool => spawnSync(tool, ["--version"]).status === 0;
+const read = name => readFileSync(join(root, name), "utf8");
+
+test("the modules have the sums that stand beside them, and import nothing", () => {
+    const lines = read("wasm/SHA256SUMS").trim().split("\n").map(it => it.split(/\s+/));
+    assert.deepEqual(lines.map(it => it[1]), ["bitm32.wasm", "bitm64.wasm", "calls32.wasm", "calls64.wasm"]);
+    for (const [sum, name] of lines) assert.equal(createHash("sha256").update(readFileSync(join(root, "wasm", name))).digest("hex"), sum, name);
+    assert.deepEqual(WebAssembly.Module.imports(new WebAssembly.Module(readFileSync(join(root, "wasm/bitm32.wasm")))), []);
+});
+
+test("package.json names files that are there, and nothing is left out", () => {
+    const it = JSON.parse(read("package.json")), named = [it.types, ...it.sideEffects];
+    for (const target of Object.values(it.exports)) named.push(...(typeof target === "string" ? [target] : Object.values(target)));
+    for (const name of named) if (!name.includes("*")) assert.ok(existsSync(join(root, name)), name);
+    const version = existsSync(join(root, "../../VERSION")) ? readFileSync(join(root, "../../VERSION"), "utf8").trim() : bitm.VERSION;
+    assert.deepEqual([it.version, bitm.VERSION], [version, version]);
+    assert.equal(it.dependencies, undefined);
+});
+
+test("each value that is exported has a type, and each type a value", async () => {
+    const types = [...read("types/bitm.d.ts").matchAll(/^export (?:declare )?(?:class|function|const) (\w+)/gm)].map(it => it[1]);
+    assert.deepEqual([...new Set(types)].sort(), Object.keys(bitm).sort());
+    for (const name of ["BitVector", "Index", "EliasFano", "PerfectHash"]) {
+        const body = new RegExp(`^export class ${name} [^]*?^}`, "m").exec(read("types/bitm.d.ts"))[0];
+        const declared = new Set([...body.matchAll(/^    (?:static |readonly )?(\w+)[(:?]/gm)].map(it => it[1]));
+        const own = [...Object.getOwnPropertyNames(bitm[name].prototype), ...Object.getOwnPropertyNames(bitm[name])];
+        const there = new Set(own.filter(it => !["name", "prototype"].includes(it) && !(it === "length" && !declared.has(it))));
+        assert.deepEqual([...declared].sort(), [...there].sort(), name);
+    }
+});
+
+/** Installs what npm pack makes, without a network. */
+function installed() {
+    const folder = join(room, "site");
+    if (!existsSync(folder)) {
+        const packed = JSON.parse(execFileSync("npm", ["pack", "--json", "--pack-destination", room], { cwd: root, encoding: "utf8" }))[0];
+        execFileSync("mkdir", ["-p", join(folder, "node_modules/bitm")]);
+        execFileSync("tar", ["-xzf", join(room, packed.filename), "-C", join(folder, "node_modules/bitm"), "--strip-components=1"]);
+        writeFileSync(join(folder, "package.json"), '{ "type": "module" }');
+    }
+    return folder;
+}
+
+test("the lines of README.md, against the packed package", { skip: !has("npm") && "npm is not here" }, () => {
+    const folder = installed();
+    assert.deepEqual(readdirSync(join(folder, "node_modules/bitm")).sort(), ["LICENSE", "README.md", "package.json", "src", "types", "wasm"]);
+    const lines = [...read("README.md").matchAll(/```js\n([^]*?)```/g)].map(it => it[1]).join("\n").split("\n");
+    const plain = 'const shown = it => JSON.stringify(it, (_, x) => typeof x === "bigint" ? `${x}n` : x === undefined ? "undefined" : Number.isNaN(x) ? "NaN" : ArrayBuffer.isView(x) ? Array.from(x) : x);';
+    const checked = lines.map(line => {
+        const [, call, said] = /^(.*?);\s*\/\/ (.*)$/.exec(line) ?? [];
+        const value = said && /^(?:\w+Array )?(\[.*\]|\w+)(?:[:;,].*)?$/.exec(said.replace("NO_ANSWER], which is 2n ** 64n - 1n", "18446744073709551615n]"));
+        if (!value || /^(const|import) /.test(line) || /^(a|an)$/.test(value[1])) return line;
+        return `if (shown(${call}) !== shown(${value[1].replace(/^NaN$/, "NaN")})) throw new Error(${JSON.stringify(line)} + ": " + shown(${call})); else count++;`;
+    });
+    writeFileSync(join(folder, "readme.js"), `let count = 0; ${plain}\n${checked.join("\n")}\nconsole.log(count);`);
+    const got = Number(execFileSync(process.execPath, ["readme.js"], { cwd: folder, encoding: "utf8" }));
+    assert.ok(got >= 20, `${got} lines of README.md were compared`);
+});
+
+const USE = `import { BitVector, Index, EliasFano, PerfectHash, open, NO_ANSWER, WrongTables } from "bitm";
+const index: Index = new Index(BitVector.fromPositions([1, 2n, 3], 10), { sampleLog2: 9 });
+const rank: number = index.rank(4), place: number | undefined = index.select(2n);
+const doubles: Float64Array = index.rankList(Uint32Array.of(1)), wide: BigUint64Array = index.selectList(BigUint64Array.of(1n));
+const list: (number | undefined)[] = index.selectList([1, 2]), all: number[] = [...index.ones()];
+const numbers = new EliasFano(new Set([1, 2])), least: number | bigint | undefined = numbers.successor(1);
+const flags: boolean[] = numbers.hasList([1]), bytes: Uint8Array = numbers.hasList(Float64Array.of(1));
+const opened = open(index.toBytes().buffer, { check: false });
+if (opened instanceof EliasFano) { const more: IterableIterator<number | bigint> = opened.valuesFrom(1); void more; }
+const key: number | undefined = new PerfectHash(["a", 1, 1n]).get("a");
+void [rank, place, doubles, wide, list, all, least, flags, bytes, key, NO_ANSWER === 1n, WrongTables];
+`;
+const WRONG = ["index.rank('1')", "index.rank()", "const x: number = index.select(1)", "const x: number = numbers.at(0)", "new EliasFano('12')",
+    "new Index([1, 2])", "index.selectList([1]).byteLength", "open('name')", "new PerfectHash([{}])", "index.set(1)"];
+
+test("tsc takes the types, and refuses what is wrong", { skip: !(has("tsc") && has("npm")) && "tsc is not here" }, () => {
+    const folder = installed(), base = ["--strict", "--noEmit", "--target", "es2022", "--lib", "es2022,dom"];
+    writeFileSync(join(folder, "use.mts"), USE);
+    WRONG.forEach((line, k) => writeFileSync(join(folder, `wrong${k}.mts`), `${USE}\n${line};\n`));
+    const run = (names, mode) => spawnSync("tsc", [...base, ...mode, ...names], { cwd: folder, encoding: "utf8" });
+    const node = ["--module", "node16", "--moduleResolution", "node16"];
+    const fine = run(["use.mts"], node);
+    assert.equal(fine.status, 0, fine.stdout);
+    const found = run(WRONG.map((_, k) => `wrong${k}.mts`), node).stdout;
+    WRONG.forEach((line, k) => assert.ok(found.includes(`wrong${k}.mts(`), `tsc takes: ${line}`));
+});
+
+test("a page's way to load: start() with bytes, from a module of its own", async () => {
+    const core = join(root, "src/bitm.js"), body = `import { readFileSync } from "node:fs";
+        const { start, has64, open, Index, BitVector, EliasFano, PerfectHash } = await import(${JSON.stringify(core)}), kind = has64() ? "64" : "32";
+        const read = name => readFileSync(${JSON.stringify(join(root, "wasm/"))} + name + kind + ".wasm");
+        for (const make of [() => new BitVector(1), () => new EliasFano([1]), () => new PerfectHash([]), () => open(new Uint8Array(9))]) {
+            try { make(); } catch (it) { if (/start\\(\\)/.test(it.message)) continue; }
+            throw new Error("a value was made before start()");
+        }
+        await start(read("bitm"), new WebAssembly.Module(read("calls")));
+        await start(read("bitm"), read("calls"));
+        console.log(new Index(BitVector.fromPositions([5])).select(0));`;
+    assert.equal(execFileSync(process.execPath, ["--input-type=module", "-e", body], { encoding: "utf8" }), "5\n");
+});

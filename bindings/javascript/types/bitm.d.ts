@@ -1,0 +1,254 @@
+// bitm 0.3.0. Positions, ranks, indices and lengths are numbers below 2^53. Where any number from 0 to 2^64 - 1 may stand,
+// a number is one below 2^53, and a BigInt any: `Whole` is taken, and what is answered is a BigInt from 2^53 on.
+
+declare global {
+    interface SymbolConstructor {
+        readonly dispose: unique symbol;
+    }
+}
+
+/** A whole number from 0 to 2^53 - 1, or a BigInt from 0 to 2^64 - 1. */
+export type Whole = number | bigint;
+/** A list of whole numbers: doubles must be whole numbers from 0 to 2^53 - 1. */
+export type Wholes = Iterable<Whole> | NumberArray | BigUint64Array;
+/** Arrays that are answered by a Float64Array. */
+export type NumberArray = Uint32Array | Float64Array | Uint8Array | Uint8ClampedArray | Uint16Array | Int8Array | Int16Array | Int32Array | Float32Array;
+/** A number or a BigInt must be 0 or 1. */
+export type Bit = boolean | number | bigint;
+/** Bytes: any view, or a buffer. */
+export type Bytes = ArrayBuffer | SharedArrayBuffer | ArrayBufferView;
+
+/** What a list of answers in a BigUint64Array has where there is none: 2^64 - 1. In a Float64Array it is NaN. */
+export const NO_ANSWER: bigint;
+export const VERSION: string;
+
+/** The tables are not those of the bits, or the file is none: it was damaged. */
+export class WrongTables extends Error {}
+
+/** A fixed number of bits, each 0 or 1. */
+export class BitVector implements Iterable<boolean> {
+    /** All bits are 0. */
+    constructor(length: Whole);
+    /** The bits at these positions are 1. Without a length, the largest position is the last bit. */
+    static fromPositions(positions: Wholes, length?: Whole): BitVector;
+    static fromBooleans(bits: Iterable<Bit>): BitVector;
+    /** From bytes, the lowest bit of each first. */
+    static fromBytes(bytes: Bytes, length?: Whole): BitVector;
+    /** From 64-bit words, the lowest bit of each first. */
+    static fromWords(words: BigUint64Array, length?: Whole): BitVector;
+
+    readonly length: number;
+    /** How many bytes of memory the bits take. */
+    readonly byteLength: number;
+    get(position: Whole): boolean;
+    set(position: Whole, value?: Bit): this;
+    /** The bits from begin on and before end. */
+    fill(value?: Bit, begin?: Whole, end?: Whole): this;
+    /** The bit at a position; the bits from begin on and before end; without arguments all. */
+    flip(position: Whole): this;
+    flip(begin: Whole, end: Whole): this;
+    flip(): this;
+    /** How many 1 bits, or 0 bits, there are from begin on and before end. */
+    count(begin?: Whole, end?: Whole): number;
+    count0(begin?: Whole, end?: Whole): number;
+    /** The position of the first 1 bit, or 0 bit, at or after `from`; of the last one at or before it. */
+    next(from: Whole): number | undefined;
+    next0(from: Whole): number | undefined;
+    previous(from: Whole): number | undefined;
+    previous0(from: Whole): number | undefined;
+    /** The positions of the 1 bits, or 0 bits, from `from` on. */
+    ones(from?: Whole): IterableIterator<number>;
+    zeros(from?: Whole): IterableIterator<number>;
+    toPositions(): Float64Array;
+    toBytes(): Uint8Array;
+    toWords(): BigUint64Array;
+    [Symbol.iterator](): IterableIterator<boolean>;
+
+    /** The number in `width` bits (0 to 64) from begin on, lowest bit first: a BigInt from 2^53 on. */
+    getNumber(begin: Whole, width: number): number | bigint;
+    setNumber(begin: Whole, width: number, value: Whole): this;
+    xorNumber(begin: Whole, width: number, value: Whole): this;
+    /** The bits as an array of numbers of `width` bits each. */
+    getFragment(index: Whole, width: number): number | bigint;
+    setFragment(index: Whole, width: number, value: Whole): this;
+    swapFragments(first: Whole, second: Whole, width: number): this;
+    fillFragments(width: number, value: Whole, count: Whole): this;
+
+    /** Replaces `count` bits from begin on by those of other from otherBegin on. */
+    setRange(begin: Whole, other: BitVector, otherBegin?: Whole, count?: Whole): this;
+    slice(begin?: Whole, end?: Whole): BitVector;
+    clone(): BitVector;
+    equals(other: BitVector): boolean;
+
+    /** These change this vector; other has as many bits. */
+    and(other: BitVector): this;
+    or(other: BitVector): this;
+    xor(other: BitVector): this;
+    andNot(other: BitVector): this;
+    not(): this;
+    /** These make a new one. */
+    intersection(other: BitVector): BitVector;
+    union(other: BitVector): BitVector;
+    symmetricDifference(other: BitVector): BitVector;
+    difference(other: BitVector): BitVector;
+    complement(): BitVector;
+    isSubsetOf(other: BitVector): boolean;
+    isSupersetOf(other: BitVector): boolean;
+    isDisjointFrom(other: BitVector): boolean;
+
+    /** Gives the memory back at once; after that every call throws a TypeError. */
+    free(): void;
+    [Symbol.dispose](): void;
+}
+
+export interface IndexOptions {
+    /** 7 to 31: one sample for each 2^sampleLog2 bits of a kind makes selections faster. */
+    sampleLog2?: number;
+}
+
+/** Bits that do not change, with tables to count and find them at once. */
+export class Index implements Iterable<boolean> {
+    /** Copies the bits. */
+    constructor(bits: BitVector, options?: IndexOptions);
+    static fromPositions(positions: Wholes, length?: Whole, options?: IndexOptions): Index;
+    static fromBooleans(bits: Iterable<Bit>, options?: IndexOptions): Index;
+
+    readonly length: number;
+    readonly byteLength: number;
+    get(position: Whole): boolean;
+    /** How many 1 bits, or 0 bits, there are before a position, which is at most length. */
+    rank(position: Whole): number;
+    rank0(position: Whole): number;
+    /** The position of the 1 bit, or 0 bit, that has `rank` of them before it. */
+    select(rank: Whole): number | undefined;
+    select0(rank: Whole): number | undefined;
+    next(from: Whole): number | undefined;
+    next0(from: Whole): number | undefined;
+    previous(from: Whole): number | undefined;
+    previous0(from: Whole): number | undefined;
+    count(): number;
+    count0(): number;
+
+    /** RangeError if a position is above length. */
+    rankList(positions: NumberArray): Float64Array;
+    rankList(positions: BigUint64Array): BigUint64Array;
+    rankList(positions: Iterable<Whole>): number[];
+    rank0List(positions: NumberArray): Float64Array;
+    rank0List(positions: BigUint64Array): BigUint64Array;
+    rank0List(positions: Iterable<Whole>): number[];
+    /** NaN, NO_ANSWER or undefined where there is none. */
+    selectList(ranks: NumberArray): Float64Array;
+    selectList(ranks: BigUint64Array): BigUint64Array;
+    selectList(ranks: Iterable<Whole>): (number | undefined)[];
+    select0List(ranks: NumberArray): Float64Array;
+    select0List(ranks: BigUint64Array): BigUint64Array;
+    select0List(ranks: Iterable<Whole>): (number | undefined)[];
+
+    ones(from?: Whole): IterableIterator<number>;
+    zeros(from?: Whole): IterableIterator<number>;
+    [Symbol.iterator](): IterableIterator<boolean>;
+    toBitVector(): BitVector;
+    /** Whether tables and samples are those of the bits, by going over all. */
+    check(): boolean;
+    /** The bytes of a file: what open() takes, and the C library and its other bindings. */
+    toBytes(): Uint8Array;
+    free(): void;
+    [Symbol.dispose](): void;
+}
+
+/** Numbers that do not decrease, each from 0 to 2^64 - 1, in little memory. Those from 2^53 on are BigInts. */
+export class EliasFano implements Iterable<number | bigint> {
+    /** RangeError if a number is less than the one before it. */
+    constructor(numbers: Wholes);
+
+    readonly length: number;
+    readonly byteLength: number;
+    /** The number at an index, which counts from the end if it is negative. */
+    at(index: number | bigint): number | bigint | undefined;
+    /** The least index whose number is at least value; the greatest whose number is at most value. */
+    firstAtLeast(value: Whole): number | undefined;
+    lastAtMost(value: Whole): number | undefined;
+    /** The least number that is at least value; the greatest that is at most value. */
+    successor(value: Whole): number | bigint | undefined;
+    predecessor(value: Whole): number | bigint | undefined;
+    has(value: Whole): boolean;
+    /** The least index of value, or -1. */
+    indexOf(value: Whole): number;
+
+    /** RangeError if an index is past the end, or an answer in doubles is 2^53 or more. */
+    atList(indices: NumberArray): Float64Array;
+    atList(indices: BigUint64Array): BigUint64Array;
+    atList(indices: Iterable<Whole>): (number | bigint)[];
+    /** NaN, NO_ANSWER or undefined where there is none. */
+    firstAtLeastList(values: NumberArray): Float64Array;
+    firstAtLeastList(values: BigUint64Array): BigUint64Array;
+    firstAtLeastList(values: Iterable<Whole>): (number | undefined)[];
+    lastAtMostList(values: NumberArray): Float64Array;
+    lastAtMostList(values: BigUint64Array): BigUint64Array;
+    lastAtMostList(values: Iterable<Whole>): (number | undefined)[];
+    /** 0 or 1 for each, or booleans. */
+    hasList(values: NumberArray | BigUint64Array): Uint8Array;
+    hasList(values: Iterable<Whole>): boolean[];
+
+    /** The numbers from an index on; from the first that is at least value on. */
+    values(from?: Whole): IterableIterator<number | bigint>;
+    valuesFrom(value: Whole): IterableIterator<number | bigint>;
+    [Symbol.iterator](): IterableIterator<number | bigint>;
+    toArray(): (number | bigint)[];
+    toBigUint64Array(): BigUint64Array;
+    /** RangeError if a number is 2^53 or more. */
+    toFloat64Array(): Float64Array;
+    /** The numbers that all of these have, each once. */
+    intersection(...others: EliasFano[]): EliasFano;
+
+    /** Whether all parts are those of some sequence, by going over all. */
+    check(): boolean;
+    toBytes(): Uint8Array;
+    free(): void;
+    [Symbol.dispose](): void;
+}
+
+export type Key = string | number | bigint | Uint8Array;
+
+export interface PerfectHashOptions {
+    /** 0 to 32, else 16: all but one in 2^fingerprintBits of the values that are no key are known for none. */
+    fingerprintBits?: number;
+    /** 50 to 10000, else 100: 100 takes least memory, 200 less time. */
+    percent?: number;
+}
+
+/** Numbers for keys: each of n keys has one of its own below n. No key is kept. */
+export class PerfectHash {
+    /** RangeError if two keys are equal. */
+    constructor(keys: Iterable<Key>, options?: PerfectHashOptions);
+    readonly length: number;
+    readonly byteLength: number;
+    get(key: Key): number | undefined;
+    getList(keys: Iterable<Key>): (number | undefined)[];
+    free(): void;
+    [Symbol.dispose](): void;
+}
+
+export interface OpenOptions {
+    /** Whether to look at all parts, and throw WrongTables where they are not right: true unless given. */
+    check?: boolean;
+}
+
+/** An Index or an EliasFano of the bytes of a file, which are copied once. */
+export function open(bytes: Bytes, options?: OpenOptions): Index | EliasFano;
+
+/** How many bytes of WebAssembly memory there are, and how many hold values. */
+export function memoryUse(): { total: number; used: number };
+
+/** The position, 0 to 63, of the 1 bit of a 64-bit word with the given rank. */
+export function selectInWord(word: Whole, rank: Whole): number | undefined;
+/** How many binary digits a number has; 0 for 0. */
+export function bitsToStore(value: Whole): number;
+/** A sampleLog2 for `items` bits of a kind among `length`, such that samples take about the same share of memory. */
+export function optimalSampleLog2(items: Whole, length: Whole, most?: Whole): number;
+
+/** For "bitm/core", which loads nothing by itself: whether the modules for 64-bit memory run here. */
+export function has64(): boolean;
+/** Makes the values usable, given bitm64.wasm and calls64.wasm, or bitm32.wasm and calls32.wasm. */
+export function start(module: Bytes | WebAssembly.Module, adaptors: Bytes | WebAssembly.Module): Promise<void>;
+export function startSync(module: Bytes | WebAssembly.Module, adaptors: Bytes | WebAssembly.Module): void;
