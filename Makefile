@@ -86,6 +86,11 @@ uninstall: ## take away what make install laid there
 install-python: ## the Python package, into the Python of this shell (make archive first)
 	python3 -m pip install ./bindings/python
 
+javascript: archive ## the modules of the JavaScript package, its tests and its tarball
+	bindings/javascript/build
+	bindings/javascript/tests/each
+	cd bindings/javascript && npm pack
+
 format: ## lay out the sources of each language whose tool is here
 	@if command -v rt > /dev/null; then for it in crates/*/; do (cd "$$it" && rt fmt) || exit; done; else echo "format: no rt, so Rattle is left"; fi
 	@if cargo fmt --version > /dev/null 2>&1; then for it in $(IN_CARGO); do (cd "$$it" && cargo fmt -- $(RUST_LAYOUT)) || exit; done; else echo "format: no rustfmt, so Rust is left"; fi
@@ -106,4 +111,4 @@ lint: ## what linters say of each language whose tool is here, and of the layout
 	echo "lint: the layout of Rattle is looked at by rt ci, which refuses files that rt fmt would change"; \
 	exit $$failed
 
-.PHONY: help archive build check test thorough bench docs dist dist-check install uninstall install-python format lint
+.PHONY: help archive build check test thorough bench docs dist dist-check install uninstall install-python javascript format lint
