@@ -6,8 +6,8 @@ PREFIX = /usr/local
 LIBDIR = $(PREFIX)/lib
 INCLUDEDIR = $(PREFIX)/include
 VERSION := $(shell cat VERSION)
-# The proved archive. What it prints while it is proved and built is kept beside it, for scripts/dist.
-ARCHIVE = crates/bitm_c/out/libbitm_c.a
+# The proved archive, or another that the environment names. What its proof prints is kept beside it, for scripts/dist.
+ARCHIVE ?= crates/bitm_c/out/libbitm_c.a
 ARCHIVE_LOG = crates/bitm_c/out/archive.log
 SHARED = libbitm_c.so.$(VERSION)
 # Before 1.0 a minor version may change what a caller sees.
