@@ -29,12 +29,12 @@ mod trees;
 mod words;
 
 use answers::Compared;
+use bench::Bench;
 use bitm::BinaryRankSearch;
 use content::{Kind, content, queries};
 use index::{Asked, Sampled};
 use std::alloc::{AllocError, Global};
 use std::{env, io};
-use bench::Bench;
 use wavelet_matrix::all_fit;
 
 /// What is printed where the arguments are not a size, a kind and a number of rounds.
