@@ -12,7 +12,6 @@ from fractions import Fraction
 
 import pytest
 
-import bitm
 from bitm import BitVector, EliasFano, Index, PerfectHash
 
 
