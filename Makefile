@@ -54,9 +54,8 @@ thorough: ## what the gate leaves out because it is slow
 bench: ## measure this machine, into bench/out; under five minutes once the crates are built
 	bench/run
 
-docs: ## the Rust crate's documentation, in bindings/rust/target/doc
-	cd bindings/rust && DOCS_RS=1 cargo doc --quiet --offline --no-deps --features mmap
-	@echo "the documents of the library are docs/*.md and crates/*/CALLING.md; of the Rust crate: bindings/rust/target/doc/bitm_proved/index.html"
+docs: ## the site of documents and references, out/docs/html, without network
+	docs/site/build
 
 dist: ## the artefacts of a release, into dist/, for the last commit
 	ARCHIVE="$(ARCHIVE)" scripts/dist

@@ -1,0 +1,98 @@
+"""The site of documents and references, which docs/site/build makes of the packages of Debian 12, without network."""
+import importlib.util
+import os
+import pathlib
+import sys
+
+from pygments.lexer import RegexLexer, words
+from pygments.lexers.special import TextLexer
+from pygments.token import Comment, Keyword, Name, Number, Operator, String, Text
+
+OUT = pathlib.Path(os.environ["SITE"])  # where build puts the XML of Doxygen and the Python package
+sys.path.insert(0, str(OUT / "python"))
+
+project = "Vokhuliza"
+version = release = os.environ["VERSION"]
+copyright = "the authors of Vokhuliza; Apache-2.0"
+optional = [it for it in ("sphinx_inline_tabs", "sphinx_copybutton") if importlib.util.find_spec(it)]
+extensions = ["myst_parser", "breathe", "sphinx.ext.autodoc", *optional]
+nitpicky = False
+highlight_language = "none"
+default_role = "py:obj"  # `name` in a docstring is code, and a link where there is such a name
+myst_enable_extensions = ["colon_fence", "deflist"]
+myst_heading_anchors = 3
+suppress_warnings = ["config.cache", "myst.header"]
+
+breathe_projects = {"c": str(OUT / "doxygen/c/xml"), "cpp": str(OUT / "doxygen/cpp/xml")}
+breathe_default_project = "c"
+breathe_domain_by_extension = {"h": "c", "hpp": "cpp"}
+breathe_show_include = False
+
+autodoc_member_order = "bysource"
+python_use_unqualified_type_names = True
+add_module_names = False
+toc_object_entries_show_parents = "hide"
+
+html_theme = "furo"
+html_title = f"Vokhuliza {release}"
+html_static_path = ["static"]
+html_css_files = ["site.css"]
+html_copy_source = False
+html_show_sphinx = False
+html_show_copyright = False
+html_theme_options = {"navigation_with_keys": True}
+pygments_dark_style = "github-dark"
+copybutton_selector = ".tab-content div.highlight pre, article > section > section > div.highlight pre"
+copybutton_prompt_text = r">>> |\.\.\. |\$ "
+copybutton_prompt_is_regexp = True
+
+
+class Rattle(RegexLexer):
+    """Rattle, and the language of its definitions."""
+
+    name, aliases = "Rattle", ["rattle", "antt"]
+    tokens = {
+        "root": [
+            (r"(//[/!]?|--) .*?$|//$", Comment.Single),
+            (r'"(?:\\.|[^"\\])*"', String),
+            (words(("requires", "ensures", "ghost", "invariant", "record", "abbrev", "unfoldable", "where", "then", "λ"),
+                   suffix=r"\b"), Keyword.Declaration),
+            (words(("as const else enum fn for if impl in let match mod mut pub return self Self struct trait type use "
+                    "while loop break continue").split(), prefix=r"\b", suffix=r"\b"), Keyword),
+            (r"\b(?:[ui](?:8|16|32|64|size)|bool|str)\b", Keyword.Type),
+            (r"\b[A-Z]\w*", Name.Class),
+            (r"\b\d[\d_]*(?:[ui]\w+)?\b|\b0x[0-9a-f_]+", Number),
+            (r"'[a-z_]\w*\b", Name.Label),
+            (r"[≡≤<>↔→×∷¬+*/^=&|-]+", Operator),
+            (r"\w+|\s+|.", Text),
+        ]
+    }
+
+
+class Output(TextLexer):
+    """What a guide's programs print: scripts/blocks compares it."""
+
+    name, aliases = "Output", ["output"]
+
+
+def mend_furo(app, failed):
+    """Debian's furo takes normalize.css from an address of Debian's web server, and has lost the dark colours of
+    readers whose system is dark: both are put into its style sheet."""
+    sheet = pathlib.Path(app.outdir) / "_static/styles/furo.css"
+    plain = pathlib.Path("/usr/share/javascript/normalize.css/normalize.css")
+    if failed or app.builder.format != "html" or not plain.exists():
+        return
+    text = sheet.read_text()
+    start = text.find('body[data-theme="dark"] {')
+    dark = text[start:text.find("}", start) + 1]
+    lost = "@import url(/javascript/normalize.css/normalize.css);"
+    if lost in text:
+        by_system = dark.replace('body[data-theme="dark"]', 'body:not([data-theme="light"])')
+        sheet.write_text(text.replace(lost, plain.read_text()) + "@media not print { @media (prefers-color-scheme: dark) {" + by_system + "} }\n")
+
+
+def setup(app):
+    app.connect("build-finished", mend_furo)
+    for lexer in (Rattle, Output):
+        for alias in lexer.aliases:
+            app.add_lexer(alias, lexer)
