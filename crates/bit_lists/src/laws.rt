@@ -54,19 +54,19 @@ pub fn digits_bound_powers()
     ensures { DigitsBoundPowers }
 {}
 
-/// The ones and the zeros before a place are together as many as the places before it.
+/// The 1 bits and the 0 bits before a position are together as many as the positions before it.
 #[tactic(auto, using(crate::proofs::BitLaws::ones_and_zeros))]
 pub fn ones_and_zeros()
     ensures { OnesAndZeros }
 {}
 
-/// The ones and the zeros of words are together as many as their bits.
+/// The 1 bits and the 0 bits of words are together as many as their bits.
 #[tactic(auto, using(crate::proofs::BitLaws::ones_and_zeros_of_content))]
 pub fn ones_and_zeros_of_content()
     ensures { OnesAndZerosOfContent }
 {}
 
-/// No fewer items of a kind stand before a later place.
+/// No fewer items of a kind stand before a later position.
 #[tactic(auto, using(crate::proofs::BitLaws::counts_grow))]
 pub fn counts_grow()
     ensures { CountsGrow }
@@ -78,66 +78,66 @@ pub fn count_after_item()
     ensures { CountAfterItem }
 {}
 
-/// No items stand before the first place.
+/// No items stand before the first position.
 #[tactic(auto, using(crate::proofs::BitLaws::none_before_the_first))]
 pub fn none_before_the_first()
     ensures { NoneBeforeTheFirst }
 {}
 
-/// At most one place has a given bit and a given rank.
+/// At most one position has a given bit and a given rank.
 #[tactic(auto, using(crate::proofs::BitLaws::at_most_one_picked))]
 pub fn at_most_one_picked()
     ensures { AtMostOnePicked }
 {}
 
-/// For each rank below the count of a bit, some place has that bit and that rank.
+/// For each rank below the count of a bit, some position has that bit and that rank.
 #[tactic(auto, using(crate::proofs::BitLaws::one_picked_for_each_rank))]
 pub fn one_picked_for_each_rank()
     ensures { OnePickedForEachRank }
 {}
 
-/// A rank is at least the count of a bit exactly where no place has that bit and that rank.
+/// A rank is at least the count of a bit exactly where no position has that bit and that rank.
 pub fn none_picked_from_the_count_on()
     ensures { NonePickedFromTheCountOn }
 {}
 
-/// The rank of the place that was selected by a rank is that rank.
+/// The rank of the position that was selected by a rank is that rank.
 #[tactic(auto, using(crate::proofs::BitLaws::rank_of_picked))]
 pub fn rank_of_picked()
     ensures { RankOfPicked }
 {}
 
-/// The place selected by the rank of a place, for its own bit, is that place.
+/// The position selected by the rank of a position, for its own bit, is that position.
 #[tactic(auto, using(crate::proofs::BitLaws::picked_by_rank))]
 pub fn picked_by_rank()
     ensures { PickedByRank }
 {}
 
-/// The rank of a place selects the first one from that place on.
+/// The rank of a position selects the first such bit from that position on.
 #[tactic(auto, using(crate::proofs::BitLaws::next_one_is_selected))]
 pub fn next_one_is_selected()
     ensures { NextOneIsSelected }
 {}
 
-/// The places of a bit rise strictly.
+/// The positions of a bit rise strictly.
 #[tactic(auto, using(crate::proofs::BitLaws::places_rise))]
 pub fn places_rise()
     ensures { PlacesRise }
 {}
 
-/// Item `k` of the places of a bit is the place that is selected by rank `k`.
+/// Item `k` of the positions of a bit is the position that is selected by rank `k`.
 #[tactic(auto, using(crate::proofs::BitLaws::places_are_picked))]
 pub fn places_are_picked()
     ensures { PlacesArePicked }
 {}
 
-/// There are as many places of a bit as the count of that bit.
+/// There are as many positions of a bit as the count of that bit.
 #[tactic(auto, using(crate::proofs::BitLaws::places_are_counted))]
 pub fn places_are_counted()
     ensures { PlacesAreCounted }
 {}
 
-/// The bits of the range of all places are all bits.
+/// The bits of the range of all positions are all bits.
 #[tactic(auto, using(crate::proofs::BitLaws::all_bits_come))]
 pub fn all_bits_come()
     ensures { AllBitsCome }
@@ -155,13 +155,13 @@ pub fn bits_come_from_the_front()
     ensures { BitsComeFromTheFront }
 {}
 
-/// The bits of a range are those of the range before its last place and then the bit there.
+/// The bits of a range are those of the range before its last position and then the bit there.
 #[tactic(auto, using(crate::proofs::BitLaws::bits_come_from_the_back))]
 pub fn bits_come_from_the_back()
     ensures { BitsComeFromTheBack }
 {}
 
-/// What came from the front, what is left, and what came from the back are the bits of the range, each once.
+/// What came from the start, what is left, and what came from the end are the bits of the range, each once.
 #[tactic(auto, using(crate::proofs::BitLaws::each_bit_once))]
 pub fn each_bit_once()
     ensures { EachBitOnce }

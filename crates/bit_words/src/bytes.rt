@@ -62,8 +62,7 @@ pub fn get_bits57(bytes: &[u8], first_bit: usize) -> u64
 }
 
 /// Makes each bit from `first_bit` to the end of the eight bytes that begin with its byte true where it was, or where
-/// that digit of `value` is one, lowest first. All other bits stay, and digits of `value` past the eight bytes are
-/// lost.
+/// that bit of `value` is 1, lowest first. All other bits stay, and bits of `value` past the eight bytes are lost.
 ///
 /// # Conditions
 /// There are eight bytes from byte `first_bit / 8` on.
@@ -77,8 +76,8 @@ pub fn init_bits57(bytes: &mut [u8], first_bit: usize, value: u64)
     store8(bytes, at, word);
 }
 
-/// Makes each bit from `first_bit` to the end of the eight bytes that begin with its byte that digit of `value` where
-/// that digit of `len_mask` is one, lowest first, and elsewhere does as `init_bits57`. All other bits stay.
+/// Makes each bit from `first_bit` to the end of the eight bytes that begin with its byte that bit of `value` where
+/// that bit of `len_mask` is 1, lowest first, and elsewhere does as `init_bits57`. All other bits stay.
 ///
 /// # Conditions
 /// There are eight bytes from byte `first_bit / 8` on.
@@ -108,8 +107,7 @@ pub fn get_bits25(bytes: &[u8], first_bit: usize) -> u32
 }
 
 /// Makes each bit from `first_bit` to the end of the four bytes that begin with its byte true where it was, or where
-/// that digit of `value` is one, lowest first. All other bits stay, and digits of `value` past the four bytes are
-/// lost.
+/// that bit of `value` is 1, lowest first. All other bits stay, and bits of `value` past the four bytes are lost.
 ///
 /// # Conditions
 /// There are four bytes from byte `first_bit / 8` on.
@@ -123,8 +121,8 @@ pub fn init_bits25(bytes: &mut [u8], first_bit: usize, value: u32)
     store4(bytes, at, word);
 }
 
-/// Makes each bit from `first_bit` to the end of the four bytes that begin with its byte that digit of `value` where
-/// that digit of `len_mask` is one, lowest first, and elsewhere does as `init_bits25`. All other bits stay.
+/// Makes each bit from `first_bit` to the end of the four bytes that begin with its byte that bit of `value` where that
+/// bit of `len_mask` is 1, lowest first, and elsewhere does as `init_bits25`. All other bits stay.
 ///
 /// # Conditions
 /// There are four bytes from byte `first_bit / 8` on.

@@ -62,8 +62,8 @@ pub fn conditionally_change_fragment<F: FnOnce(u64) -> Option<u64>>(
     conditionally_change_bits(words, new_value, index * s as usize, s)
 }
 
-/// Replaces the `s` bits from `begin` on by those of `src` at the same place, where `predicate`, called once on the two
-/// numbers, the old one first, answers true.
+/// Replaces the `s` bits from `begin` on by those of `src` at the same position, where `predicate`, called once on the
+/// two numbers, the old one first, answers true.
 ///
 /// # Conditions
 /// The bits are in range in both; `s` is 0 to 63; the closure may be called on the two numbers.

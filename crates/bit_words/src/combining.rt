@@ -1,4 +1,4 @@
-//! Bitwise operations of two contents of one length, word by word: and, or, exclusive or, and one without the other.
+//! Bitwise operations of two bit vectors of one length, word by word: and, or, exclusive or, and one without the other.
 ghost use Rattle.std.specs.Prelude.{◌≡◌, ◌*◌, ◌<◌, ◌&&◌, ◌||◌, ℕ, not, if◌then◌else◌, length};
 ghost use Rattle.bit_lists.specs.Bits.{bits_of, digit, item};
 ghost use Rattle.bit_words.specs.Combined.{combined};
@@ -11,7 +11,7 @@ pub(crate) const XOR: u8 = 2;
 
 pub(crate) const AND_NOT: u8 = 3;
 
-/// Two words, combined digit by digit.
+/// Two words, combined bit by bit.
 #[inline(always)]
 pub(crate) fn combined<const OP: u8>(a: u64, b: u64) -> u64
     ensures { (j : ℕ) → j < 64 → digit result j ≡ combined OP (digit a j) (digit b j) }
@@ -27,7 +27,7 @@ pub(crate) fn combined<const OP: u8>(a: u64, b: u64) -> u64
     }
 }
 
-/// Combines each word with the other at its place.
+/// Combines each word with the other at its index.
 #[inline(always)]
 fn combine<const OP: u8>(words: &mut [u64], other: &[u64])
     requires { length words.old ≡ length other.now }
@@ -40,7 +40,7 @@ fn combine<const OP: u8>(words: &mut [u64], other: &[u64])
     }
 }
 
-/// Leaves a bit one exactly where the other content has a one too.
+/// Leaves a bit 1 exactly where the other bit vector has a 1 bit too.
 ///
 /// # Conditions
 /// Both have the same number of words.
@@ -54,7 +54,7 @@ pub fn and(words: &mut [u64], other: &[u64])
     combine::<AND>(words, other);
 }
 
-/// Makes a bit one where the other content has a one.
+/// Makes a bit 1 where the other bit vector has a 1 bit.
 ///
 /// # Conditions
 /// Both have the same number of words.
@@ -68,7 +68,7 @@ pub fn or(words: &mut [u64], other: &[u64])
     combine::<OR>(words, other);
 }
 
-/// Negates a bit where the other content has a one.
+/// Negates a bit where the other bit vector has a 1 bit.
 ///
 /// # Conditions
 /// Both have the same number of words.
@@ -83,7 +83,7 @@ pub fn xor(words: &mut [u64], other: &[u64])
     combine::<XOR>(words, other);
 }
 
-/// Makes a bit zero where the other content has a one.
+/// Makes a bit 0 where the other bit vector has a 1 bit.
 ///
 /// # Conditions
 /// Both have the same number of words.

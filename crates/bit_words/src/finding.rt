@@ -6,7 +6,7 @@ ghost use Rattle.bit_lists.specs.Count.{MatchesFirstOne};
 
 use crate::masks::{n_lowest_bits, n_lowest_bits_1_64};
 
-/// How many zeros stand before the first one: its place, or the number of bits where there is no one.
+/// How many 0 bits there are before the first 1 bit: its position, or the number of bits if there is no 1 bit.
 ///
 /// # Conditions
 /// There are fewer than 2^58 words.
@@ -23,7 +23,8 @@ pub fn trailing_zero_bits(words: &[u64]) -> usize
     words.len() * 64
 }
 
-/// The place of the first one from `start` on; `None` exactly where there is none, also where `start` is outside.
+/// The position of the first 1 bit at or after `start`; `None` exactly where there is none, also where `start` is
+/// outside.
 ///
 /// # Conditions
 /// There are fewer than 2^58 words.
@@ -41,10 +42,10 @@ pub fn find_bit_one(words: &[u64], start: usize) -> Option<usize>
     Some(word_index * 64 + rest.trailing_zeros() as usize)
 }
 
-/// The place of the first one from `start` on.
+/// The position of the first 1 bit at or after `start`.
 ///
 /// # Conditions
-/// There is a one at `start` or after it, and there are fewer than 2^58 words.
+/// There is a 1 bit at `start` or after it, and there are fewer than 2^58 words.
 #[inline]
 pub fn find_bit_one_unchecked(words: &[u64], start: usize) -> usize
     requires exists { HasOneFrom (bits_of words.now) start }
@@ -60,10 +61,10 @@ pub fn find_bit_one_unchecked(words: &[u64], start: usize) -> usize
     word_index * 64 + rest.trailing_zeros() as usize
 }
 
-/// The place of the last one up to `start`.
+/// The position of the last 1 bit up to `start`.
 ///
 /// # Conditions
-/// The place `start` is inside, there is a one at `start` or before it, and there are fewer than 2^58 words.
+/// The position `start` is inside, there is a 1 bit at `start` or before it, and there are fewer than 2^58 words.
 #[inline]
 pub fn rfind_bit_one_unchecked(words: &[u64], start: usize) -> usize
     requires inside { start < 64 * length words.now }

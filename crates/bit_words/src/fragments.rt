@@ -104,8 +104,7 @@ pub fn set_fragment(words: &mut [u64], index: usize, v: u64, s: u8)
     set_bits(words, index * s as usize, v, s);
 }
 
-/// Makes fragment `index` of width `s`, whose bits are zeros or already the number `v`, the number `v`, lowest bit
-/// first.
+/// Makes fragment `index` of width `s`, whose bits are 0 or already the number `v`, the number `v`, lowest bit first.
 ///
 /// # Conditions
 /// The fragment is in range, and as a number 0 or `v`; `s` is 0 to 64; `v` is below 2^`s`.
@@ -120,8 +119,8 @@ pub fn init_fragment(words: &mut [u64], index: usize, v: u64, s: u8)
     init_bits(words, index * s as usize, v, s);
 }
 
-/// Negates each bit from the begin of fragment `index` on at whose place `v` has a one, also past the fragment: up to
-/// the end of the word, or 64 bits where the fragment crosses that end.
+/// Negates each bit from the begin of fragment `index` on at whose position `v` has a 1 bit, also past the fragment: up
+/// to the end of the word, or 64 bits where the fragment crosses that end.
 ///
 /// # Conditions
 /// The fragment is in range; `s` is 0 to 64.
@@ -134,7 +133,7 @@ pub fn xor_fragment(words: &mut [u64], index: usize, v: u64, s: u8)
     xor_bits(words, index * s as usize, v, s);
 }
 
-/// Makes fragments `i` and `j` of width `s` change places; nothing changes where `i` is `j`.
+/// Exchanges fragments `i` and `j` of width `s`; nothing changes if `i` is `j`.
 ///
 /// # Conditions
 /// Both fragments are in range; `s` is 0 to 63.

@@ -1,11 +1,12 @@
-//! The first zero from a place on, and the last one and the last zero up to a place, found word by word.
+//! The first 0 bit from a position on, and the last 1 bit and the last 0 bit up to a position, found word by word.
 ghost use Rattle.std.specs.Prelude.{ℕ, ◌*◌, ◌<◌, length, true, false};
 ghost use Rattle.bit_lists.specs.Bits.{bits_of, IsShort};
 ghost use Rattle.bit_lists.specs.Count.{MatchesFirstZero, MatchesLast};
 
 use crate::masks::{n_lowest_bits, n_lowest_bits_1_64};
 
-/// The place of the first zero from `start` on; `None` exactly where there is none, also where `start` is outside.
+/// The position of the first 0 bit at or after `start`; `None` exactly where there is none, also where `start` is
+/// outside.
 ///
 /// # Conditions
 /// There are fewer than 2^58 words.
@@ -23,10 +24,10 @@ pub fn find_bit_zero(words: &[u64], start: usize) -> Option<usize>
     Some(word_index * 64 + rest.trailing_zeros() as usize)
 }
 
-/// The place of the last one up to `start`; `None` exactly where there is none.
+/// The position of the last 1 bit up to `start`; `None` exactly where there is none.
 ///
 /// # Conditions
-/// The place `start` is inside, and there are fewer than 2^58 words.
+/// The position `start` is inside, and there are fewer than 2^58 words.
 #[inline]
 pub fn rfind_bit_one(words: &[u64], start: usize) -> Option<usize>
     requires inside { start < 64 * length words.now }
@@ -45,10 +46,10 @@ pub fn rfind_bit_one(words: &[u64], start: usize) -> Option<usize>
     Some(word_index * 64 + (63 - rest.leading_zeros() as usize))
 }
 
-/// The place of the last zero up to `start`; `None` exactly where there is none.
+/// The position of the last 0 bit up to `start`; `None` exactly where there is none.
 ///
 /// # Conditions
-/// The place `start` is inside, and there are fewer than 2^58 words.
+/// The position `start` is inside, and there are fewer than 2^58 words.
 #[inline]
 pub fn rfind_bit_zero(words: &[u64], start: usize) -> Option<usize>
     requires inside { start < 64 * length words.now }

@@ -1,4 +1,4 @@
-//! The places of the ones, and of the zeros, as iterators.
+//! The positions of the 1 bits, and of the 0 bits, as iterators.
 ghost use Rattle.std.specs.Prelude.{◌≡◌, ℕ, ◌+◌, ◌*◌, ◌^◌, ◌<◌, List, drop, length, Some, IfSome};
 ghost use Rattle.std.specs.Iterator.{YieldsFirst, item_count, UpTo, at_most};
 ghost use Rattle.std.specs.Iterator.SizeHint.{IsWithinCount};
@@ -11,8 +11,8 @@ use broadword::{count_bit_ones, count_bit_zeros};
 use std::iter::{ExactSizeIterator, FusedIterator, Iterator};
 use std::marker::Model;
 
-/// The places of the zeros where `BIT` is 0, and otherwise of the ones, rising, seen as the list of those still to
-/// come.
+/// The positions of the 0 bits where `BIT` is 0, and otherwise of the 1 bits, rising, seen as the list of those still
+/// to come.
 #[derive(Drop)]
 pub struct BitBIterator<'a, const BIT: u8> {
     // The words after the current one.
@@ -23,10 +23,10 @@ pub struct BitBIterator<'a, const BIT: u8> {
     current: u64,
 }
 
-/// The places of the ones.
+/// The positions of the 1 bits.
 pub type BitOnesIterator<'a> = BitBIterator<'a, 1>;
 
-/// The places of the zeros.
+/// The positions of the 0 bits.
 pub type BitZerosIterator<'a> = BitBIterator<'a, 0>;
 
 impl<'a, const BIT: u8> Model for BitBIterator<'a, BIT> {
@@ -46,7 +46,7 @@ fn word_of<const BIT: u8>(word: u64) -> u64
 }
 
 impl<'a, const BIT: u8> BitBIterator<'a, BIT> {
-    /// All places of this kind of bit; none where there are no words.
+    /// All positions of this kind of bit; none where there are no words.
     ///
     /// # Conditions
     /// There are fewer than 2^58 words.
@@ -70,7 +70,7 @@ impl<'a, const BIT: u8> BitBIterator<'a, BIT> {
         }
     }
 
-    /// The places of this kind of bit from `start` on: all but those before it; none where `start` is outside.
+    /// The positions of this kind of bit from `start` on: all but those before it; none where `start` is outside.
     ///
     /// # Conditions
     /// There are fewer than 2^58 words.

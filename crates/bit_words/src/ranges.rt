@@ -1,4 +1,4 @@
-//! The bits of a range of places: how many are ones, and writes to all of them that leave the others.
+//! The bits of a range of positions: how many are 1, and writes to all of them that leave the others.
 ghost use Rattle.std.specs.Prelude.{◌≡◌, ◌≢◌, ℕ, ◌+◌, ◌-◌, ◌*◌, ◌/◌, ◌<◌, ◌≤◌, ◌⊎◌, not, true, length};
 ghost use Rattle.bit_lists.specs.Bits.{bits_of, digit, item, IsShort};
 ghost use Rattle.bit_lists.specs.Count.{ones_before};
@@ -8,7 +8,7 @@ use crate::combining::{AND_NOT, OR, XOR, combined};
 use crate::masks::{n_lowest_bits, n_lowest_bits_0_64};
 use broadword::count_bit_ones;
 
-/// How many ones the word of `place` has before it; none is read where `place` is the first of a word.
+/// How many 1 bits the word of `place` has before it; none is read where `place` is the first of a word.
 #[inline(always)]
 fn ones_in_word(words: &[u64], place: usize) -> usize
     requires { place ≤ 64 * length words.now }
@@ -22,7 +22,7 @@ fn ones_in_word(words: &[u64], place: usize) -> usize
     (words[place / 64] & n_lowest_bits(offset)).count_ones() as usize
 }
 
-/// How many of the bits from `from` on and before `to` are ones.
+/// How many of the bits from `from` on and before `to` are 1.
 ///
 /// # Conditions
 /// The range is not reversed and ends inside or at the end of the words, of which there are fewer than 2^58.
@@ -38,7 +38,7 @@ pub fn count_range(words: &[u64], from: usize, to: usize) -> usize
     whole + last - ones_in_word(words, from)
 }
 
-/// Ones at the digits of word `k` whose bits stand in the range.
+/// 1 bits where bits of word `k` stand in the range.
 #[inline(always)]
 fn mask_of(k: usize, from: usize, to: usize) -> u64
     requires { 64 * k < to }
@@ -50,7 +50,7 @@ fn mask_of(k: usize, from: usize, to: usize) -> u64
     n_lowest_bits_0_64(high) & !n_lowest_bits_0_64(low)
 }
 
-/// Combines each bit of the range with a one; `OP` is not that which leaves ones alone.
+/// Combines each bit of the range with a 1 bit; `OP` is not that which leaves such a bit as it is.
 #[inline(always)]
 fn combine_range<const OP: u8>(words: &mut [u64], from: usize, to: usize)
     requires op { OP ≢ 0 }

@@ -6,14 +6,14 @@ ghost use Rattle.bit_lists.specs.Window.{reach_of};
 
 use crate::masks::{n_lowest_bits, n_lowest_bits_0_64};
 
-/// So many words, 2 MiB, stay near the processor. In larger contents a read waits for its words, and a test whether it
-/// crosses into a second word costs nothing.
+/// This number of words, 2 MiB, stays near the processor. In larger bit vectors a read waits for its words, and a test
+/// whether it crosses into a second word costs nothing.
 const NEAR_WORDS: usize = 1 << 18;
 
 /// The bit at `place`.
 ///
 /// # Conditions
-/// The place is inside.
+/// The position is inside.
 #[inline(always)]
 #[tactic(auto, using(bit_lists::proofs::lemmas::BitsLemmas::item_tested))]
 pub fn get_bit(words: &[u64], place: usize) -> bool
@@ -23,7 +23,7 @@ pub fn get_bit(words: &[u64], place: usize) -> bool
     words[place / 64] & (1u64 << (place % 64)) != 0
 }
 
-/// The bit at `place`; `None` exactly where that place is outside.
+/// The bit at `place`; `None` exactly where that position is outside.
 #[inline(always)]
 pub fn try_get_bit(words: &[u64], place: usize) -> Option<bool>
     ensures { SomeIff result (place < 64 * length words.now) (item (bits_of words.now) place) }
@@ -66,7 +66,7 @@ fn last_word(begin: usize, len: u8) -> usize
     begin / 64 + ((begin % 64) as u8 + len > 64) as usize
 }
 
-/// A number whose lowest digits are the bits from `begin` on, those in word `last` too. No test is made whether they
+/// A number whose lowest bits are the bits from `begin` on, those in word `last` too. No test is made whether they
 /// cross into that word: a processor cannot guess it. Where they do not, it may be that of `begin`.
 #[inline(always)]
 fn joined_bits(words: &[u64], begin: usize, last: usize) -> u64
@@ -79,7 +79,7 @@ fn joined_bits(words: &[u64], begin: usize, last: usize) -> u64
     (both >> (begin % 64) & u64::MAX as u128) as u64
 }
 
-/// A number whose lowest digits are the `len` bits from `begin` on.
+/// A number whose lowest bits are the `len` bits from `begin` on.
 #[inline(always)]
 fn wide_bits(words: &[u64], begin: usize, len: u8) -> u64
     requires in_range { IsInRange words.now begin len }
@@ -93,7 +93,7 @@ fn wide_bits(words: &[u64], begin: usize, len: u8) -> u64
     }
 }
 
-/// A number whose lowest digits are the `len` bits from `begin` on; `None` exactly where these are not in range.
+/// A number whose lowest bits are the `len` bits from `begin` on; `None` exactly where these are not in range.
 #[inline(always)]
 fn try_wide_bits(words: &[u64], begin: usize, len: u8) -> Option<u64>
     requires { len ≤ 64 }

@@ -1,4 +1,4 @@
-//! Calls that take a place, a begin or an index by reference, and leave there the next one.
+//! Calls that take a position, a begin or an index by reference, and leave there the next one.
 ghost use Rattle.std.specs.Prelude.{◌≡◌, ◌+◌, ◌*◌, ◌^◌, ◌<◌, ◌≤◌, length, if◌then◌else◌};
 ghost use Rattle.bit_lists.specs.Bits.{bits_of, item, IsShort};
 ghost use Rattle.bit_lists.specs.Number.{number_at, with_number, IsClearOrAlready, IsFalseOrAlready, IsInRange};
@@ -12,7 +12,7 @@ use crate::writing::{init_bit, init_bits, set_bit_to, set_bits, xor_bits};
 /// The bit at `place`, which moves on by one.
 ///
 /// # Conditions
-/// The place is inside; there are fewer than 2^58 words.
+/// The position is inside; there are fewer than 2^58 words.
 #[inline(always)]
 pub fn get_successive_bit(words: &[u64], place: &mut usize) -> bool
     requires inside { place.old < 64 * length words.now }
@@ -65,7 +65,7 @@ pub fn get_successive_fragment(words: &[u64], index: &mut usize, s: u8) -> u64
 /// Makes the bit at `place` equal to `value`; `place` moves on by one.
 ///
 /// # Conditions
-/// The place is inside; there are fewer than 2^58 words.
+/// The position is inside; there are fewer than 2^58 words.
 #[inline(always)]
 pub fn set_successive_bit_to(words: &mut [u64], place: &mut usize, value: bool)
     requires inside { place.old < 64 * length words.old }
@@ -78,10 +78,10 @@ pub fn set_successive_bit_to(words: &mut [u64], place: &mut usize, value: bool)
     *place += 1;
 }
 
-/// Makes the bit at `place`, which is zero or already `value`, equal to `value`; `place` moves on by one.
+/// Makes the bit at `place`, which is 0 or already `value`, equal to `value`; `place` moves on by one.
 ///
 /// # Conditions
-/// The place is inside; its bit is zero or already `value`; there are fewer than 2^58 words.
+/// The position is inside; its bit is 0 or already `value`; there are fewer than 2^58 words.
 #[inline(always)]
 pub fn init_successive_bit(words: &mut [u64], place: &mut usize, value: bool)
     requires inside { place.old < 64 * length words.old }
@@ -112,8 +112,8 @@ pub fn set_successive_bits(words: &mut [u64], begin: &mut usize, v: u64, len: u8
     *begin += len as usize;
 }
 
-/// Makes the `len` bits from `begin` on, which are zeros or already the number `v`, the number `v`, lowest first;
-/// `begin` moves on by `len`.
+/// Makes the `len` bits from `begin` on, which are 0 or already the number `v`, the number `v`, lowest first; `begin`
+/// moves on by `len`.
 ///
 /// # Conditions
 /// They are in range, and as a number 0 or `v`; there are fewer than 2^58 words; `len` is 0 to 64; `v` is below
@@ -167,8 +167,8 @@ pub fn set_successive_fragment(words: &mut [u64], index: &mut usize, v: u64, s: 
     *index += 1;
 }
 
-/// Makes fragment `index` of width `s`, whose bits are zeros or already the number `v`, the number `v`, lowest bit
-/// first; `index` moves on by one.
+/// Makes fragment `index` of width `s`, whose bits are 0 or already the number `v`, the number `v`, lowest bit first;
+/// `index` moves on by one.
 ///
 /// # Conditions
 /// The fragment is in range, and as a number 0 or `v`; there are fewer than 2^58 words; `index` is below `usize::MAX`;

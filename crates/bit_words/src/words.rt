@@ -1,6 +1,6 @@
 //! The calls of `BitAccess` and `BitAccessMut` that read, count, find or write, as functions over slices by value.
 //!
-//! A caller that lends a slice to one of these learns what the slice's owner holds afterwards, in every form of call.
+//! A caller that passes a slice to one of these learns what the slice's owner holds afterwards, in every form of call.
 //! Where two calls of the traits do the same (plain and `_unchecked`), there is one function here. Iterators are made
 //! by `BitBIterator::new` and `BitIterator::{new, with_range}`; hints to load (`prefetch_..`) have no function.
 

@@ -21,7 +21,7 @@ fn set_bits_to(word: &mut u64, value: u64, mask: u64)
 /// Makes the bit at `place` equal to `value`.
 ///
 /// # Conditions
-/// The place is inside.
+/// The position is inside.
 #[inline(always)]
 pub fn set_bit_to(words: &mut [u64], place: usize, value: bool)
     requires { place < 64 * length words.old }
@@ -35,10 +35,10 @@ pub fn set_bit_to(words: &mut [u64], place: usize, value: bool)
     );
 }
 
-/// Makes the bit at `place` one.
+/// Makes the bit at `place` 1.
 ///
 /// # Conditions
-/// The place is inside.
+/// The position is inside.
 #[inline(always)]
 #[tactic(auto, using(crate::proofs::lemmas::WriteLemmas::bit_set))]
 pub fn set_bit(words: &mut [u64], place: usize)
@@ -48,10 +48,10 @@ pub fn set_bit(words: &mut [u64], place: usize)
     words[place / 64] |= 1u64 << (place % 64);
 }
 
-/// Makes the bit at `place` zero.
+/// Makes the bit at `place` 0.
 ///
 /// # Conditions
-/// The place is inside.
+/// The position is inside.
 #[inline(always)]
 #[tactic(auto, using(crate::proofs::lemmas::WriteLemmas::bit_cleared))]
 pub fn clear_bit(words: &mut [u64], place: usize)
@@ -61,8 +61,8 @@ pub fn clear_bit(words: &mut [u64], place: usize)
     words[place / 64] &= !(1u64 << (place % 64));
 }
 
-/// Makes the bit at `place` equal to `value`, as `set_bit_to` does. Answers false exactly where the place is past the
-/// end, and nothing is written then.
+/// Makes the bit at `place` equal to `value`, as `set_bit_to` does. Answers false exactly where the position is past
+/// the end, and nothing is written then.
 #[inline(always)]
 pub fn try_set_bit_to(words: &mut [u64], place: usize, value: bool) -> bool
     ensures done { IsTrue result ↔ (place < 64 * length words.old) }
@@ -77,7 +77,7 @@ pub fn try_set_bit_to(words: &mut [u64], place: usize, value: bool) -> bool
     true
 }
 
-/// Makes the bit at `place` one. Answers false exactly where the place is past the end, and nothing is written then.
+/// Makes the bit at `place` 1. Answers false exactly where the position is past the end, and nothing is written then.
 #[inline(always)]
 pub fn try_set_bit(words: &mut [u64], place: usize) -> bool
     ensures done { IsTrue result ↔ (place < 64 * length words.old) }
@@ -88,7 +88,7 @@ pub fn try_set_bit(words: &mut [u64], place: usize) -> bool
     try_set_bit_to(words, place, true)
 }
 
-/// Makes the bit at `place` zero. Answers false exactly where the place is past the end, and nothing is written then.
+/// Makes the bit at `place` 0. Answers false exactly where the position is past the end, and nothing is written then.
 #[inline(always)]
 pub fn try_clear_bit(words: &mut [u64], place: usize) -> bool
     ensures done { IsTrue result ↔ (place < 64 * length words.old) }
@@ -99,10 +99,10 @@ pub fn try_clear_bit(words: &mut [u64], place: usize) -> bool
     try_set_bit_to(words, place, false)
 }
 
-/// Makes the bit at `place`, which is zero or already `value`, equal to `value`.
+/// Makes the bit at `place`, which is 0 or already `value`, equal to `value`.
 ///
 /// # Conditions
-/// The place is inside; its bit is zero or already `value`.
+/// The position is inside; its bit is 0 or already `value`.
 #[inline(always)]
 #[tactic(auto, using(crate::proofs::lemmas::InitLemmas::bit_joined))]
 pub fn init_bit(words: &mut [u64], place: usize, value: bool)
@@ -147,7 +147,7 @@ pub fn set_bits(words: &mut [u64], begin: usize, v: u64, len: u8)
     put_bits(words, begin, v, len, n_lowest_bits(len));
 }
 
-/// Replaces the `len` bits from `begin` on by the `len` lowest ones of `v`, lowest first, up to 64 of them. Answers
+/// Replaces the `len` bits from `begin` on by the `len` lowest bits of `v`, lowest first, up to 64 of them. Answers
 /// false exactly where they are not in range, or `len` is above 64, and nothing is written then.
 #[inline(always)]
 pub fn try_set_bits_0_64(words: &mut [u64], begin: usize, v: u64, len: u8) -> bool
@@ -164,7 +164,7 @@ pub fn try_set_bits_0_64(words: &mut [u64], begin: usize, v: u64, len: u8) -> bo
     true
 }
 
-/// Makes the `len` bits from `begin` on, which are zeros or already the number `v`, the number `v`, lowest first.
+/// Makes the `len` bits from `begin` on, which are 0 or already the number `v`, the number `v`, lowest first.
 ///
 /// # Conditions
 /// They are in range, and as a number 0 or `v`; `len` is 0 to 64; `v` is below 2^`len`.
@@ -183,8 +183,8 @@ pub fn init_bits(words: &mut [u64], begin: usize, v: u64, len: u8)
     words[segment] |= v << offset;
 }
 
-/// Negates each bit from `begin` on at whose place `v` has a one, also past `len`: up to the end of the word, or 64
-/// bits where `len` bits cross that end.
+/// Negates each bit from `begin` on at whose position `v` has a 1 bit, also past `len`: up to the end of the word, or
+/// 64 bits where `len` bits cross that end.
 ///
 /// # Conditions
 /// The `len` bits from `begin` on are in range; `len` is 0 to 64.

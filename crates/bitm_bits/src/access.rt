@@ -1,4 +1,4 @@
-//! What a value that lends words can be asked: the trait `BitAccess`.
+//! Reads of a value that gives out words: the trait `BitAccess`.
 ghost use Rattle.std.specs.Prelude.{◌≡◌, ◌+◌, ◌*◌, ◌^◌, ◌<◌, ◌≤◌, ℕ, List, length, SomeIff, true, false};
 ghost use Rattle.bit_lists.specs.Bits.{bits_of, item, IsShort};
 ghost use Rattle.bit_lists.specs.Coming.{all_bits_left};
@@ -10,27 +10,28 @@ ghost use Rattle.bit_lists.specs.Window.{reach_of};
 use bit_words::{BitIterator, BitOnesIterator, BitZerosIterator};
 use std::ops::Range;
 
-/// Reads the bits of the words that a value lends: of a slice of `u64`, shared or mutable.
+/// Reads the bits of the words that a value gives out: of a slice of `u64`, shared or mutable.
 ///
-/// Places, widths and counts are in bits. A call ending in `_unchecked` is the plain one: both have the same condition,
-/// which the checker proves at each call, and neither tests it when it runs. The two finds are apart:
-/// `find_bit_one_unchecked` has the condition that there is a one, and then answers what `find_bit_one` does.
+/// Positions, widths and counts are in bits. A call ending in `_unchecked` is the plain one: both have the same
+/// condition, which the checker proves at each call, and neither tests it when it runs. The two finds are apart:
+/// `find_bit_one_unchecked` has the condition that there is a 1 bit, and then answers what `find_bit_one` does.
 ///
 /// # Cost
 /// A bit, or a range that lies in one word, is read by one word; a range over a border by two. Counts, and `len` of the
-/// iterators over places, read each word that is left; a find reads the words up to its answer. All others read none.
+/// iterators over positions, read each word that is left; a find reads the words up to its answer. All others read
+/// none.
 ///
 /// A range is in range where there is a bit at its begin and none of its bits is past the end: a range of width 0 at
 /// the exact end is not. Fragment `index` of width `s` is the range of `s` bits from bit `index * s` on, a product of
 /// whole numbers: where it does not fit `usize`, the fragment is not in range.
 pub trait BitAccess {
-    /// The words that are lent.
+    /// The words.
     ghost words: { Self → List ℕ };
 
     /// The bit at `place`.
     ///
     /// # Conditions
-    /// The place is inside.
+    /// The position is inside.
     fn get_bit(&self, place: usize) -> bool
         requires { place < 64 * length (words self.now) }
         ensures { result ≡ item (bits_of (words self.now)) place };
@@ -38,7 +39,7 @@ pub trait BitAccess {
     /// The bit at `place`, as `get_bit`.
     ///
     /// # Conditions
-    /// The place is inside.
+    /// The position is inside.
     #[inline(always)]
     fn get_bit_unchecked(&self, place: usize) -> bool
         requires { place < 64 * length (words self.now) }
@@ -47,7 +48,7 @@ pub trait BitAccess {
         self.get_bit(place)
     }
 
-    /// The bit at `place`; `None` exactly where that place is outside.
+    /// The bit at `place`; `None` exactly where that position is outside.
     fn try_get_bit(&self, place: usize) -> Option<bool>
         ensures { SomeIff result (place < 64 * length (words self.now))
             (item (bits_of (words self.now)) place) };
@@ -55,14 +56,14 @@ pub trait BitAccess {
     /// The bit at `place`, which moves on by one.
     ///
     /// # Conditions
-    /// The place is inside; there are fewer than 2^58 words.
+    /// The position is inside; there are fewer than 2^58 words.
     fn get_successive_bit(&self, place: &mut usize) -> bool
         requires inside { place.old < 64 * length (words self.now) }
         requires short { IsShort (words self.now) }
         ensures bit { result ≡ item (bits_of (words self.now)) place.old }
         ensures advances { place.new ≡ place.old + 1 };
 
-    /// Does nothing: a caller may name a place that it reads soon, inside or not.
+    /// Does nothing: a caller may name a position that it reads soon, inside or not.
     #[inline(always)]
     fn prefetch_bit(&self, _place: usize) {}
 
@@ -229,7 +230,7 @@ pub trait BitAccess {
     #[inline(always)]
     fn prefetch_fragment(&self, _index: usize, _s: u8) {}
 
-    /// How many bits are ones.
+    /// How many bits are 1.
     ///
     /// # Conditions
     /// There are fewer than 2^58 words.
@@ -237,7 +238,7 @@ pub trait BitAccess {
         requires { IsShort (words self.now) }
         ensures { result ≡ ones_of (bits_of (words self.now)) };
 
-    /// How many bits are zeros.
+    /// How many bits are 0.
     ///
     /// # Conditions
     /// There are fewer than 2^58 words.
@@ -245,7 +246,7 @@ pub trait BitAccess {
         requires { IsShort (words self.now) }
         ensures { result ≡ zeros_of (bits_of (words self.now)) };
 
-    /// The places of the ones, rising.
+    /// The positions of the 1 bits, rising.
     ///
     /// # Conditions
     /// There are fewer than 2^58 words.
@@ -253,7 +254,7 @@ pub trait BitAccess {
         requires { IsShort (words self.now) }
         ensures { result ≡ places true 0 (bits_of (words self.now)) };
 
-    /// The places of the zeros, rising.
+    /// The positions of the 0 bits, rising.
     ///
     /// # Conditions
     /// There are fewer than 2^58 words.
@@ -291,7 +292,7 @@ pub trait BitAccess {
         self.bit_in_range_iter(range)
     }
 
-    /// How many zeros stand before the first one: its place, or the number of bits where there is no one.
+    /// How many 0 bits there are before the first 1 bit: its position, or the number of bits if there is no 1 bit.
     ///
     /// # Conditions
     /// There are fewer than 2^58 words.
@@ -299,7 +300,8 @@ pub trait BitAccess {
         requires { IsShort (words self.now) }
         ensures { IsFirstOneOrEnd (bits_of (words self.now)) result };
 
-    /// The place of the first one from `start` on; `None` exactly where there is none, also where `start` is outside.
+    /// The position of the first 1 bit at or after `start`; `None` exactly where there is none, also where `start` is
+    /// outside.
     ///
     /// # Conditions
     /// There are fewer than 2^58 words.
@@ -307,19 +309,19 @@ pub trait BitAccess {
         requires { IsShort (words self.now) }
         ensures { MatchesFirstOne (bits_of (words self.now)) start result };
 
-    /// The place of the first one from `start` on.
+    /// The position of the first 1 bit at or after `start`.
     ///
     /// # Conditions
-    /// There is a one at `start` or after it, and there are fewer than 2^58 words.
+    /// There is a 1 bit at `start` or after it, and there are fewer than 2^58 words.
     fn find_bit_one_unchecked(&self, start: usize) -> usize
         requires exists { HasOneFrom (bits_of (words self.now)) start }
         requires short { IsShort (words self.now) }
         ensures { IsFirstOneFrom (bits_of (words self.now)) start result };
 
-    /// The place of the last one up to `start`.
+    /// The position of the last 1 bit up to `start`.
     ///
     /// # Conditions
-    /// The place `start` is inside, there is a one at `start` or before it, and there are fewer than 2^58 words.
+    /// The position `start` is inside, there is a 1 bit at `start` or before it, and there are fewer than 2^58 words.
     fn rfind_bit_one_unchecked(&self, start: usize) -> usize
         requires inside { start < 64 * length (words self.now) }
         requires exists { HasOneTo (bits_of (words self.now)) start }

@@ -1,4 +1,4 @@
-//! What a value that lends words can be told to change: the trait `BitAccessMut`.
+//! Writes to a value that gives out words: the trait `BitAccessMut`.
 //!
 //! A trait cannot be cut into files, and a reader wants its 33 calls side by side: hence the length of this file.
 ghost use Rattle.std.specs.Prelude.{◌≡◌, ◌+◌, ◌*◌, ◌^◌, ◌<◌, ◌≤◌, ℕ, length, if◌then◌else◌, Some, MatchOption};
@@ -9,11 +9,11 @@ ghost use Rattle.bit_lists.specs.Number.{IsInRange, IsFragmentInRange};
 
 use crate::access::BitAccess;
 
-/// Writes bits of the words that a value lends: of a mutable slice of `u64`.
+/// Writes bits of the words that a value gives out: of a mutable slice of `u64`.
 ///
-/// Each call leaves every bit that it does not name as it was, and the value lends the same slice afterwards. A call
-/// ending in `_unchecked` is the plain one: both have the same condition, which the checker proves at each call. Ranges
-/// and fragments are those of `BitAccess`.
+/// Each call leaves every bit that it does not name as it was, and the value gives out the same slice afterwards. A
+/// call ending in `_unchecked` is the plain one: both have the same condition, which the checker proves at each call.
+/// Ranges and fragments are those of `BitAccess`.
 ///
 /// # What the slice's owner holds afterwards
 /// The checker knows it by the form of the call:
@@ -25,16 +25,16 @@ use crate::access::BitAccess;
 /// | any of these | the functions of `words` on the slice, as `words::set_bit(slice, 3)` |
 /// | a `B: BitAccessMut` | the methods, where the caller's own contract says that `B.lender` and the number of words stay |
 ///
-/// After a method on a local slice, as `slice.set_bit(3)`, it knows what `slice` lends as long as `slice` is used, and
-/// of the owner no more than the number of words.
+/// After a method on a local slice, as `slice.set_bit(3)`, it knows what `slice` gives out as long as `slice` is used,
+/// and of the owner no more than the number of words.
 pub trait BitAccessMut: BitAccess {
-    /// The name of the borrow: values with one name lend the same slice.
+    /// The name of the borrow: values with one name give out the same slice.
     ghost lender: { Self → ℕ };
 
     /// Makes the bit at `place` equal to `value`.
     ///
     /// # Conditions
-    /// The place is inside.
+    /// The position is inside.
     fn set_bit_to(&mut self, place: usize, value: bool)
         requires { place < 64 * length (Self.words self.old) }
         ensures same { LendsSame Self.lender Self.words self.old self.new }
@@ -50,10 +50,10 @@ pub trait BitAccessMut: BitAccess {
         self.set_bit_to(place, value);
     }
 
-    /// Makes the bit at `place` one.
+    /// Makes the bit at `place` 1.
     ///
     /// # Conditions
-    /// The place is inside.
+    /// The position is inside.
     fn set_bit(&mut self, place: usize)
         requires { place < 64 * length (Self.words self.old) }
         ensures same { LendsSame Self.lender Self.words self.old self.new }
@@ -69,10 +69,10 @@ pub trait BitAccessMut: BitAccess {
         self.set_bit(place);
     }
 
-    /// Makes the bit at `place` zero.
+    /// Makes the bit at `place` 0.
     ///
     /// # Conditions
-    /// The place is inside.
+    /// The position is inside.
     fn clear_bit(&mut self, place: usize)
         requires { place < 64 * length (Self.words self.old) }
         ensures same { LendsSame Self.lender Self.words self.old self.new }
@@ -88,10 +88,10 @@ pub trait BitAccessMut: BitAccess {
         self.clear_bit(place);
     }
 
-    /// Makes the bit at `place`, which is zero or already `value`, equal to `value`.
+    /// Makes the bit at `place`, which is 0 or already `value`, equal to `value`.
     ///
     /// # Conditions
-    /// The place is inside; its bit is zero or already `value`.
+    /// The position is inside; its bit is 0 or already `value`.
     fn init_bit(&mut self, place: usize, value: bool)
         requires inside { place < 64 * length (Self.words self.old) }
         requires clear { IsFalseOrAlready (bits_of (Self.words self.old)) place value }
@@ -112,7 +112,7 @@ pub trait BitAccessMut: BitAccess {
     /// Makes the bit at `place` equal to `value`; `place` moves on by one.
     ///
     /// # Conditions
-    /// The place is inside; there are fewer than 2^58 words.
+    /// The position is inside; there are fewer than 2^58 words.
     fn set_successive_bit_to(&mut self, place: &mut usize, value: bool)
         requires inside { place.old < 64 * length (Self.words self.old) }
         requires short { IsShort (Self.words self.old) }
@@ -132,10 +132,10 @@ pub trait BitAccessMut: BitAccess {
         self.set_successive_bit_to(place, value);
     }
 
-    /// Makes the bit at `place`, which is zero or already `value`, equal to `value`; `place` moves on by one.
+    /// Makes the bit at `place`, which is 0 or already `value`, equal to `value`; `place` moves on by one.
     ///
     /// # Conditions
-    /// The place is inside; its bit is zero or already `value`; there are fewer than 2^58 words.
+    /// The position is inside; its bit is 0 or already `value`; there are fewer than 2^58 words.
     fn init_successive_bit(&mut self, place: &mut usize, value: bool)
         requires inside { place.old < 64 * length (Self.words self.old) }
         requires clear { IsFalseOrAlready (bits_of (Self.words self.old)) place.old value }
@@ -180,7 +180,7 @@ pub trait BitAccessMut: BitAccess {
         self.set_bits(begin, v, len);
     }
 
-    /// Makes the `len` bits from `begin` on, which are zeros or already the number `v`, the number `v`, lowest first.
+    /// Makes the `len` bits from `begin` on, which are 0 or already the number `v`, the number `v`, lowest first.
     ///
     /// # Conditions
     /// They are in range, and as a number 0 or `v`; `len` is 0 to 64; `v` is below 2^`len`.
@@ -205,8 +205,8 @@ pub trait BitAccessMut: BitAccess {
         self.init_bits(begin, v, len);
     }
 
-    /// Negates each bit from `begin` on at whose place `v` has a one, also past `len`: up to the end of the word, or 64
-    /// bits where `len` bits cross that end.
+    /// Negates each bit from `begin` on at whose position `v` has a 1 bit, also past `len`: up to the end of the word,
+    /// or 64 bits where `len` bits cross that end.
     ///
     /// # Conditions
     /// The `len` bits from `begin` on are in range; `len` is 0 to 64.
@@ -229,7 +229,7 @@ pub trait BitAccessMut: BitAccess {
         ensures after { Replaces Self.words self.old self.new begin.old len v }
         ensures advances { begin.new ≡ begin.old + len };
 
-    /// Makes the `len` bits from `begin` on, which are zeros or already the number `v`, the number `v`, lowest first;
+    /// Makes the `len` bits from `begin` on, which are 0 or already the number `v`, the number `v`, lowest first;
     /// `begin` moves on by `len`.
     ///
     /// # Conditions
@@ -280,7 +280,7 @@ pub trait BitAccessMut: BitAccess {
         self.set_fragment(index, v, s);
     }
 
-    /// Makes fragment `index` of width `s`, whose bits are zeros or already the number `v`, the number `v`, lowest bit
+    /// Makes fragment `index` of width `s`, whose bits are 0 or already the number `v`, the number `v`, lowest bit
     /// first.
     ///
     /// # Conditions
@@ -306,8 +306,8 @@ pub trait BitAccessMut: BitAccess {
         self.init_fragment(index, v, s);
     }
 
-    /// Negates each bit from the begin of fragment `index` on at whose place `v` has a one, also past the fragment: up
-    /// to the end of the word, or 64 bits where the fragment crosses that end.
+    /// Negates each bit from the begin of fragment `index` on at whose position `v` has a 1 bit, also past the
+    /// fragment: up to the end of the word, or 64 bits where the fragment crosses that end.
     ///
     /// # Conditions
     /// The fragment is in range; `s` is 0 to 64.
@@ -332,7 +332,7 @@ pub trait BitAccessMut: BitAccess {
         ensures after { Replaces Self.words self.old self.new (index.old * s) s v }
         ensures advances { index.new ≡ index.old + 1 };
 
-    /// Makes fragment `index` of width `s`, whose bits are zeros or already the number `v`, the number `v`, lowest bit
+    /// Makes fragment `index` of width `s`, whose bits are 0 or already the number `v`, the number `v`, lowest bit
     /// first; `index` moves on by one.
     ///
     /// # Conditions
@@ -362,7 +362,7 @@ pub trait BitAccessMut: BitAccess {
         ensures after { Negates Self.words self.old self.new (index.old * s) s v }
         ensures advances { index.new ≡ index.old + 1 };
 
-    /// Makes fragments `i` and `j` of width `s` change places; nothing changes where `i` is `j`.
+    /// Exchanges fragments `i` and `j` of width `s`; nothing changes if `i` is `j`.
     ///
     /// # Conditions
     /// Both fragments are in range; `s` is 0 to 63.
@@ -423,8 +423,8 @@ pub trait BitAccessMut: BitAccess {
             × MatchOption answer (Self.words self.new ≡ Self.words self.old)
             (Replaces Self.words self.old self.new (index * s) s) };
 
-    /// Replaces the `s` bits from `begin` on by those of `src` at the same place, where `predicate`, called once on the
-    /// two numbers, the old one first, answers true.
+    /// Replaces the `s` bits from `begin` on by those of `src` at the same position, where `predicate`, called once on
+    /// the two numbers, the old one first, answers true.
     ///
     /// # Conditions
     /// The bits are in range in both; `s` is 0 to 63; the closure may be called on the two numbers.

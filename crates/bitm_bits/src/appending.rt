@@ -1,4 +1,4 @@
-//! Bits and numbers that are written one behind the other: the type `BitWriter`.
+//! Bits and numbers that are written one after the other: the type `BitWriter`.
 ghost use Rattle.std.specs.Prelude.{◌≡◌, ◌+◌, ◌^◌, ◌<◌, ◌≤◌, ℕ, false, length, take, IfOk, IfErr};
 ghost use Rattle.std.specs.Prelude.{[], ◌∷◌, ◌++◌};
 ghost use Rattle.std.specs.Box.{boxed_slice_items};
@@ -11,7 +11,7 @@ use std::alloc::{AllocError, Global};
 use std::boxed::BoxedSlice;
 use std::marker::Model;
 
-/// A content that grows: bits, and numbers by their binary digits, are written one behind the other.
+/// A bit vector that grows: bits, and numbers by their binary digits, are written one after the other.
 ///
 /// Contracts see a writer as the list of the bits that were written.
 #[derive(Drop)]
@@ -88,7 +88,7 @@ impl BitWriter {
         Ok(())
     }
 
-    /// The words of the bits that were written: as few as hold them, and the bits after them are zeros.
+    /// The words of the bits that were written: as few as hold them, and the bits after them are 0.
     #[inline(always)]
     #[tactic(auto, using(crate::proofs::lemmas::AppendLemmas::length_filled))]
     pub fn as_slice(&self) -> &[u64]
@@ -99,7 +99,7 @@ impl BitWriter {
         self.words.as_slice()
     }
 
-    /// The same words, owned: for an index over them.
+    /// The words, owned: for an index over them.
     #[inline]
     #[tactic(auto, using(crate::proofs::lemmas::AppendLemmas::length_filled))]
     pub fn into_boxed_slice(self) -> BoxedSlice<u64, Global>
@@ -112,7 +112,7 @@ impl BitWriter {
     }
 }
 
-/// Puts the `count` lowest bits of `v` behind the first `len` bits, in a new word where they need one.
+/// Puts the `count` lowest bits of `v` after the first `len` bits, in a new word where they need one.
 #[inline]
 fn append(words: &mut Vec<u64>, len: usize, v: u64, count: u8) -> Result<(), AllocError>
     requires filled { AreFilledTo words.old.items len }
@@ -130,7 +130,7 @@ fn append(words: &mut Vec<u64>, len: usize, v: u64, count: u8) -> Result<(), All
     Ok(())
 }
 
-/// Adds a word of zeros where `count` more bits behind the first `len` need one.
+/// Adds a word that is 0 where `count` more bits after the first `len` need one.
 #[inline(always)]
 fn make_room(words: &mut Vec<u64>, len: usize, count: u8) -> Result<(), AllocError>
     requires filled { AreFilledTo words.old.items len }

@@ -1,11 +1,11 @@
-//! Contents that can be copied.
+//! Bit vectors that can be copied.
 ghost use Rattle.std.specs.Prelude.{◌≡◌, IfOk, IsOk};
 
 use std::alloc::{AllocError, Global};
 use std::boxed::BoxedSlice;
 use std::convert::AsSlice;
 
-/// A value that lends words and can be copied, where memory is found.
+/// A value that gives out words and can be copied, if there is memory.
 pub trait CloneWords: AsSlice<u64> + Drop {
     /// A value with the same words.
     ///
@@ -16,7 +16,7 @@ pub trait CloneWords: AsSlice<u64> + Drop {
 }
 
 impl CloneWords for &[u64] {
-    /// The same slice, lent once more: this takes no memory and always succeeds.
+    /// The slice once more: this takes no memory and always succeeds.
     #[inline(always)]
     fn try_same(&self, _alloc: Global) -> Result<Self, AllocError>
         ensures succeeds { IsOk result }

@@ -1,4 +1,4 @@
-//! The calls of slices that are lent: each is one call of `words`.
+//! The calls of borrowed slices: each is one call of `words`.
 
 use crate::access::BitAccess;
 use crate::access_mut::BitAccessMut;

@@ -1,8 +1,8 @@
 //! Bits and fragments of slices of `u64`.
 //!
 //! Bit `i` of a slice is bit `i % 64`, lowest first, of word `i / 64`, so a slice of `n` words has `64 * n` bits.
-//! `BitAccess` reads the bits of a slice that is lent, `BitAccessMut` writes them, and the functions of `words` do the
-//! same by value. Contracts see a slice as the list of its bits.
+//! `BitAccess` reads the bits of a borrowed slice, `BitAccessMut` writes them, and the functions of `words` do the same
+//! by value. Contracts see a slice as the list of its bits.
 //!
 //! ```
 //! let mut array = [0u64; 32];
@@ -10,7 +10,8 @@
 //! words::get_bit(array.as_slice(), 100)    // true
 //! ```
 //!
-//! The crate `uses` proves this and more of a caller's code; `CALLING.md` says which form of call tells what.
+//! The crate `example_callers` proves this and more of a caller's code; `CALLING.md` says what is known after each form
+//! of call.
 #![tactic(auto)]
 
 mod access;

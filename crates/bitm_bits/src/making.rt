@@ -9,7 +9,7 @@ use std::alloc::{AllocError, Allocator};
 use std::boxed::BoxedSlice;
 use std::convert::AsSlice;
 
-/// Makes vectors of words: what is made is what its `AsSlice` lends.
+/// Makes vectors of words: what is made is what its `AsSlice` gives out.
 ///
 /// Every call takes the allocator first. A length too great for any allocation is refused like any other request for
 /// memory, and nothing was made then.
@@ -35,7 +35,7 @@ pub trait BitVec: AsSlice<u64> {
         Self::with_64bit_segments(alloc, 0, n)
     }
 
-    /// A vector of `n` words whose bits are all ones.
+    /// A vector of `n` words whose bits are all 1.
     ///
     /// # Errors
     /// `AllocError` if memory was refused.
@@ -57,7 +57,7 @@ pub trait BitVec: AsSlice<u64> {
         Self::with_zeroed_64bit_segments(alloc, n.div_ceil(64))
     }
 
-    /// A vector of the fewest words that have `n` bits; all bits of these words are ones, also those past `n`.
+    /// A vector of the fewest words that have `n` bits; all bits of these words are 1, also those past `n`.
     ///
     /// # Errors
     /// `AllocError` if memory was refused.
@@ -69,7 +69,7 @@ pub trait BitVec: AsSlice<u64> {
     }
 
     /// A vector of the fewest words that have `n` fragments of `s` bits: each of them is `word`, and the bits after
-    /// them are zeros. At width 0 there are no words.
+    /// them are 0. At width 0 there are no words.
     ///
     /// # Conditions
     /// `s` is 0 to 64, `word` has at most `s` binary digits, and `n * s` fits a `usize`.
@@ -117,7 +117,7 @@ impl<A: Allocator> BitVec for Vec<u64, A> {
     }
 }
 
-/// Makes the first `n` fragments of width `s` equal to `word`, where all bits are zeros.
+/// Makes the first `n` fragments of width `s` equal to `word`, where all bits are 0.
 #[inline]
 fn init_fragments(words: &mut [u64], word: u64, s: u8, n: usize)
     requires width { s ≤ 64 }

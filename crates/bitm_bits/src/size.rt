@@ -6,9 +6,9 @@ use std::alloc::Allocator;
 use std::boxed::BoxedSlice;
 use std::mem::size_of;
 
-/// Tells how many bytes a value keeps on the heap.
+/// How many bytes a value keeps on the heap.
 ///
-/// A lent slice keeps none, since its owner does. A value made of parts keeps the sum of what they keep, or
+/// A borrowed slice keeps none, since its owner does. A value made of parts keeps the sum of what they keep, or
 /// `usize::MAX` where that is less.
 // No body in the trait: one that answers 0 could not be proved against each type's own number of bytes.
 pub trait GetSize {

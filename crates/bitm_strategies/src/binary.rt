@@ -11,14 +11,15 @@ use bitm_select::search::selecting::binary_select_on;
 use bitm_select::source::{Probe, TableSource};
 use std::alloc::{AllocError, Global};
 
-/// Selects by binary search: the part by the upper table, the entry by the lower one, then its record and at most eight
-/// words. It keeps nothing and supports every content with fewer than 2^58 words.
+/// Selects by binary search: the upper block by the upper table, the lower block by the lower one, then its basic
+/// block, of which at most eight words are read. It keeps nothing and supports every bit vector of fewer than 2^58
+/// words.
 #[derive(Clone, Copy, Debug, PartialEq, Eq)]
 pub struct BinaryRankSearch;
 
 impl BinaryRankSearch {
-    /// The place of the one of the source's words with exactly `rank` ones before it; `None` exactly where there is
-    /// none.
+    /// The position of the 1 bit of the source's words with exactly `rank` 1 bits before it; `None` exactly where there
+    /// is none.
     ///
     /// # Conditions
     /// The source's tables are those of its words, of fewer than 2^58 words.
@@ -35,8 +36,8 @@ impl BinaryRankSearch {
         binary_select_on::<1, T>(source, rank)
     }
 
-    /// The place of the zero of the source's words with exactly `rank` zeros before it; `None` exactly where there is
-    /// none.
+    /// The position of the 0 bit of the source's words with exactly `rank` 0 bits before it; `None` exactly where there
+    /// is none.
     ///
     /// # Conditions
     /// The source's tables are those of its words, of fewer than 2^58 words.

@@ -16,12 +16,12 @@ use std::alloc::{AllocError, Global};
 use std::boxed::BoxedSlice;
 use std::marker::Model;
 
-/// Selection that starts at samples: one 32-bit sample for each begun interval of 2^d items of a part of 2^32 bits, and
-/// one number for each part, where the density `D` chooses d for the content.
+/// Selection that starts at samples: of each upper block (2^32 bits) one sample of 32 bits for each 2^d bits of the
+/// kind, rounded up, and one number, where the density `D` chooses d for the bit vector.
 ///
-/// A sample has the entry of 2048 bits of its interval's first item, counted in the part, and the distance in entries
-/// from there to the item half an interval later, kept as at most 2047. Selection walks over the lower entries from
-/// there on.
+/// A sample has the entry of 2048 bits of its interval's first item, counted in the upper block, and the distance in
+/// entries from there to the item half an interval later, kept as at most 2047. Selection walks over the lower entries
+/// from there on.
 ///
 /// # Source
 /// Samples beside the summary of rank are from Navarro and Providel, 'Fast, small, simple rank/select on bitmaps'
@@ -82,7 +82,7 @@ impl<D: CombinedSamplingDensity> CombinedSampling<D> {
         })
     }
 
-    /// How many samples are kept: for each part its items divided by how many one sample stands for, rounded up.
+    /// How many samples are kept: for each upper block its items divided by how many one sample stands for, rounded up.
     #[inline(always)]
     pub fn sample_count(&self) -> usize
         ensures len { result ≡ length self.now.samples }
@@ -92,8 +92,8 @@ impl<D: CombinedSamplingDensity> CombinedSampling<D> {
         self.samples.len()
     }
 
-    /// The samples that are kept, part after part, each with its entry in the low 21 bits and its distance in the
-    /// others: for code that stores them.
+    /// The samples that are kept, upper block after upper block, each with its entry in the low 21 bits and its
+    /// distance in the others: for code that stores them.
     #[inline(always)]
     pub fn samples(&self) -> &[u32]
         ensures { result.now ≡ self.now.samples }
@@ -101,7 +101,7 @@ impl<D: CombinedSamplingDensity> CombinedSampling<D> {
         self.samples.as_slice()
     }
 
-    /// How many samples there are before those of each part.
+    /// How many samples there are before those of each upper block.
     #[inline(always)]
     pub fn starts(&self) -> &[usize]
         ensures { result.now ≡ self.now.starts }
@@ -117,16 +117,16 @@ impl<D: CombinedSamplingDensity> CombinedSampling<D> {
         self.log2
     }
 
-    /// The place of the one of the source's words with exactly `rank` ones before it; `None` exactly where there is
-    /// none.
+    /// The position of the 1 bit of the source's words with exactly `rank` 1 bits before it; `None` exactly where there
+    /// is none.
     ///
     /// # Conditions
-    /// The source's tables are those of its words, and the value supports these for ones.
+    /// The source's tables are those of its words, and the value supports these for 1 bits.
     /// # Cost
     /// At most as many upper entries as their number has binary digits and one more are read; and eight words and two
     /// lower entries more than the walk passes from where the sample lets it begin to the answer's entry. Where there
-    /// is no answer, the walk ends at the last entry of the last part, if that part has items of the rank's interval;
-    /// else neither a lower entry nor a word is read.
+    /// is no answer, the walk ends at the last entry of the last upper block, if that upper block has items of the
+    /// rank's interval; else neither a lower entry nor a word is read.
     #[inline(always)]
     pub fn select_counted<T: TableSource>(&self, source: &mut T, rank: usize) -> Option<usize>
         requires tables { HasTables (T.lists source.old) }
@@ -139,11 +139,11 @@ impl<D: CombinedSamplingDensity> CombinedSampling<D> {
         sampled_select_on::<1, T>(self.samples(), self.starts(), self.log2, source, rank)
     }
 
-    /// The place of the zero of the source's words with exactly `rank` zeros before it; `None` exactly where there is
-    /// none.
+    /// The position of the 0 bit of the source's words with exactly `rank` 0 bits before it; `None` exactly where there
+    /// is none.
     ///
     /// # Conditions
-    /// The source's tables are those of its words, and the value supports these for zeros.
+    /// The source's tables are those of its words, and the value supports these for 0 bits.
     /// # Cost
     /// The reads of `select_counted`.
     #[inline(always)]

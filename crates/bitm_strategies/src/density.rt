@@ -14,7 +14,7 @@ pub trait CombinedSamplingDensity: Copy {
     /// The logarithm that a kept density stands for.
     ghost log: { Self.SamplingDensity → ℕ };
 
-    /// The density for so many items among so many bits.
+    /// The density for `items` bits of a kind among all.
     ghost chosen: { ℕ → ℕ → Self.SamplingDensity };
 
     /// The density for `items` items among `len` bits.
@@ -35,7 +35,7 @@ pub trait CombinedSamplingDensity: Copy {
         1 << Self::items_per_sample_log2(density)
     }
 
-    /// In which interval of so many items item `index` is.
+    /// In which interval item `index` is.
     #[inline(always)]
     fn divide(index: usize, density: Self::SamplingDensity) -> usize
         ensures { result ≡ index / 2 ^ log density }

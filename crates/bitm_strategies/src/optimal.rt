@@ -4,8 +4,8 @@ ghost use Rattle.bitm_strategies.specs.Density.{optimal_log};
 
 /// The logarithm of how many items one sample is to stand for, where `n` of `len` bits are items: 7 to `max_result`.
 ///
-/// Samples then take about the same part of the memory for each share of items: with `max_result` M there is no more
-/// than one sample for each 2^(M+1) / 3 bits, beside one for each part.
+/// Samples then take about the same share of memory whatever share of the bits is of the kind: with `max_result` M
+/// there is no more than one sample for each 2^(M+1) / 3 bits, beside one for each upper block.
 ///
 /// # Conditions
 /// `max_result` is 7 to 31.

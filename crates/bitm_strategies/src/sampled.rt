@@ -13,11 +13,11 @@ use bitm_select::search::selected::found;
 use bitm_select::search::selecting::{before_part, last_part};
 use bitm_select::source::TableSource;
 
-/// The entry at which a sample lets the selection of this rank begin, counted in its part, where a sample stands for
-/// 2^`log2` items.
+/// The entry at which a sample lets the selection of this rank begin, counted in its upper block, where a sample stands
+/// for 2^`log2` items.
 ///
 /// # Conditions
-/// The logarithm is 7 to 31. Nothing is asked of the sample.
+/// The logarithm is 7 to 31. The sample may be any number.
 #[inline(always)]
 pub fn first_entry(sample: u32, rank: usize, log2: u8) -> usize
     requires low { 7 ≤ log2 }
@@ -32,19 +32,19 @@ pub fn first_entry(sample: u32, rank: usize, log2: u8) -> usize
     }
 }
 
-/// A part, and how many samples and items there are before it.
+/// An upper block, and how many samples and items there are before it.
 #[derive(Clone, Copy)]
 pub struct PartBegin {
-    /// Which part it is.
+    /// Which upper block it is.
     pub part: usize,
-    /// The samples of the parts before it.
+    /// The samples of the upper blocks before it.
     pub samples: usize,
     /// The items before it.
     pub items: usize,
 }
 
-/// Selection by the samples of the source's words, of which one stands for 2^`log2` items, in a part that is known: a
-/// walk over the lower entries from the sample on.
+/// Selection by the samples of the source's words, of which one stands for 2^`log2` items, in an upper block that is
+/// known: a walk over the lower entries from the sample on.
 #[inline(always)]
 fn sampled_in_part<const BIT: u8, T: TableSource>(
     source: &mut T,
@@ -74,8 +74,8 @@ fn sampled_in_part<const BIT: u8, T: TableSource>(
     found(in_packed::<BIT, 0, T>(source, begin.part, entry, packed, above, in_part))
 }
 
-/// Selection by the samples of the source's words where there are more parts than one: one read of an upper entry for
-/// each halving and one more, and a walk over the lower entries from the sample on.
+/// Selection by the samples of the source's words where there are more upper blocks than one: one read of an upper
+/// entry for each halving and one more, and a walk over the lower entries from the sample on.
 #[inline(never)]
 fn sampled_in_parts<const BIT: u8, T: TableSource>(
     samples: &[u32],
@@ -108,8 +108,8 @@ fn sampled_in_parts<const BIT: u8, T: TableSource>(
     sampled_in_part::<BIT, T>(source, samples, log2, begin, rank)
 }
 
-/// Selection by the samples of the source's words, of which one stands for 2^`log2` items: where there is one part no
-/// upper entry is read. More parts have a call of their own, so that the one for one part stands where it is asked.
+/// Selection by the samples of the source's words, of which one stands for 2^`log2` items: where there is one upper
+/// block no upper entry is read. More upper blocks have a call of their own, so that the short one is inlined.
 #[inline(always)]
 pub(crate) fn sampled_select_on<const BIT: u8, T: TableSource>(
     samples: &[u32],

@@ -1,6 +1,6 @@
 //! Samples made from the tables alone: no word is read.
 //!
-//! In each part the items of a kind (ones or zeros) are counted from 0 and cut into intervals of `2^d`. Each begun
+//! In each upper block the items of a kind (1 bits or 0 bits) are counted from 0 and cut into intervals of `2^d`. Each
 //! interval has one sample of 32 bits:
 //!
 //! ```text
@@ -12,7 +12,7 @@
 //!  distance  in entries from there to the item 2^(d-1) later, at most 2047; 0 where there is no such item
 //! ```
 //!
-//! Beside the samples stand how many come before each part, and the density. `specs/Samples.antt` defines them.
+//! Beside the samples stand how many come before each upper block, and the density. `specs/Samples.antt` defines them.
 //!
 //! The tables may hold anything: where they are not those of some bits, the samples are some numbers.
 ghost use Rattle.std.specs.Prelude.{◌≡◌, ◌+◌, ◌-◌, ◌*◌, ◌^◌, ◌<◌, ◌≤◌, ◌++◌, Bool, List, length, min, IfOk};
@@ -28,20 +28,20 @@ use bitm_select::levels::L2_ENTRIES_PER_L1_ENTRY;
 use std::alloc::{AllocError, Global};
 use std::boxed::BoxedSlice;
 
-/// The tables of some bits, and how many ones and bits there are.
+/// The tables of some bits, and how many 1 bits and bits there are.
 #[derive(Clone, Copy)]
 pub struct Summary<'a> {
-    /// The ones before each part.
+    /// The 1 bits before each upper block.
     pub upper: &'a [usize],
     /// The packed entries.
     pub lower: &'a [u64],
-    /// How many ones there are.
+    /// How many 1 bits there are.
     pub total: usize,
     /// How many bits there are.
     pub len: usize,
 }
 
-/// How many ones there are, or zeros where `BIT` is 0, of so many ones among so many bits.
+/// How many 1 bits there are, or 0 bits if `BIT` is 0, where `total` of `len` bits are 1.
 #[inline(always)]
 pub(crate) fn items_among<const BIT: u8>(total: usize, len: usize) -> usize
     requires { total ≤ len }
@@ -52,7 +52,7 @@ pub(crate) fn items_among<const BIT: u8>(total: usize, len: usize) -> usize
     if BIT == 0 { len - total } else { total }
 }
 
-/// How many ones stand before a part's end.
+/// How many 1 bits stand before an upper block's end.
 fn ones_to_end(summary: &Summary<'_>, part: usize) -> usize
     requires sized { IsSized summary.now }
     requires inside { part < length summary.now.upper.now }
@@ -66,11 +66,11 @@ fn ones_to_end(summary: &Summary<'_>, part: usize) -> usize
     }
 }
 
-/// How many ones, or zeros where `BIT` is 0, a part has, where the tables are those of some bits; else no more than it
-/// has bits.
+/// How many 1 bits, or 0 bits if `BIT` is 0, an upper block has, where the tables are those of some bits; else no more
+/// than it has bits.
 ///
 /// # Conditions
-/// There is such a part, and the tables are as long as those of so many bits. They may hold anything.
+/// There is such an upper block, and the tables are as long as those of that number of bits. They may hold anything.
 pub fn items_in<const BIT: u8>(summary: &Summary<'_>, part: usize) -> usize
     requires sized { IsSized summary.now }
     requires inside { part < length summary.now.upper.now }
@@ -86,7 +86,7 @@ pub fn items_in<const BIT: u8>(summary: &Summary<'_>, part: usize) -> usize
     if BIT == 0 { bits - ones } else { ones }
 }
 
-/// Lower entry `at` of the bits in which ones are sought.
+/// Lower entry `at` of the bits in which 1 bits are sought.
 #[inline(always)]
 fn sought_entry<const BIT: u8>(summary: &Summary<'_>, at: usize) -> u64
     requires sized { IsSized summary.now }
@@ -102,7 +102,7 @@ fn sought_entry<const BIT: u8>(summary: &Summary<'_>, at: usize) -> u64
     }
 }
 
-/// How many entries a part has.
+/// How many entries an upper block has.
 #[inline(always)]
 fn entries_in(summary: &Summary<'_>, part: usize) -> usize
     requires sized { IsSized summary.now }
@@ -112,7 +112,7 @@ fn entries_in(summary: &Summary<'_>, part: usize) -> usize
     entries_of_part(summary.lower.len(), part)
 }
 
-/// The last entry of a part, from entry `from` on, with no more than `item` items before it in the part.
+/// The last entry of an upper block, from entry `from` on, with no more than `item` items before it in the upper block.
 fn walk_tables<const BIT: u8>(summary: &Summary<'_>, part: usize, from: usize, item: usize) -> usize
     requires sized { IsSized summary.now }
     requires inside { part < length summary.now.upper.now }
@@ -133,11 +133,11 @@ fn walk_tables<const BIT: u8>(summary: &Summary<'_>, part: usize, from: usize, i
 }
 
 /// The sample of an interval that begins at `item`, and an entry that is no later than that of the next interval's
-/// first item, where the tables are those of some bits; else some number and some entry of the part.
+/// first item, where the tables are those of some bits; else some number and some entry of the upper block.
 ///
 /// # Conditions
-/// The part has so many items by `items_in`, `item` is one of them, and `from` is an entry of the part, that of an
-/// earlier item or the first. The logarithm is 7 to 31.
+/// The upper block has that number of items by `items_in`, `item` is one of them, and `from` is an entry of the upper
+/// block, that of an earlier item or the first. The logarithm is 7 to 31.
 pub fn sample_from<const BIT: u8>(
     summary: &Summary<'_>,
     part: usize,
@@ -171,7 +171,7 @@ pub fn sample_from<const BIT: u8>(
     }
 }
 
-/// How many samples a part has.
+/// How many samples an upper block has.
 #[inline(always)]
 fn samples_in<const BIT: u8>(summary: &Summary<'_>, part: usize, log2: u8) -> usize
     requires sized { IsSized summary.now }
@@ -185,7 +185,7 @@ fn samples_in<const BIT: u8>(summary: &Summary<'_>, part: usize, log2: u8) -> us
     items_in::<BIT>(summary, part).div_ceil(1 << log2)
 }
 
-/// How many samples there are before each part, and in all.
+/// How many samples there are before each upper block, and in all.
 fn make_starts<const BIT: u8>(
     alloc: Global,
     summary: &Summary<'_>,
@@ -206,7 +206,7 @@ fn make_starts<const BIT: u8>(
     Ok((starts, count))
 }
 
-/// Adds the samples of a part.
+/// Adds the samples of an upper block.
 fn push_samples<const BIT: u8>(
     samples: &mut Vec<u32>,
     summary: &Summary<'_>,
@@ -238,7 +238,7 @@ fn push_samples<const BIT: u8>(
     Ok(())
 }
 
-/// The samples of some bits at a density, and how many there are before each part.
+/// The samples of some bits at a density, and how many there are before each upper block.
 ///
 /// # Errors
 /// `AllocError` if no memory was found; nothing is left.

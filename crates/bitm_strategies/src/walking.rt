@@ -1,4 +1,4 @@
-//! The search for an entry of a part by a walk from an earlier one.
+//! The search for an entry of an upper block by a walk from an earlier one.
 ghost use Rattle.std.specs.Prelude.{◌≡◌, ◌+◌, ◌-◌, ◌*◌, ◌/◌, ◌<◌, ◌≤◌, length};
 ghost use Rattle.bit_lists.specs.Bits.{bits_of, IsShort};
 ghost use Rattle.bitm_select.specs.Entry.{lower_entry};
@@ -12,9 +12,9 @@ use bitm_select::search::entries::sought_entry;
 use bitm_select::search::record::NOT_READ;
 use bitm_select::source::TableSource;
 
-/// The last entry of a part, from entry `from` on, with no more than `rank` of the kind before it in the part: its
-/// place in the part, what it packs, and how many of the kind stand in the part before the next one, or `NOT_READ` where
-/// it is the part's last.
+/// The last entry of an upper block, from entry `from` on, with no more than `rank` of the kind before it in the upper
+/// block: its position in the upper block, what it packs, and how many of the kind stand in the upper block before the
+/// next one, or `NOT_READ` where it is the upper block's last.
 #[inline(always)]
 pub(crate) fn walk<const BIT: u8, T: TableSource>(
     source: &mut T,

@@ -1,4 +1,4 @@
-//! How many bits of words are ones, and how many are zeros.
+//! How many bits of words are 1, and how many are 0.
 ghost use Rattle.std.specs.Prelude.{◌≡◌, ◌≤◌, count_ones};
 ghost use Rattle.std.specs.Int.{count_zeros, w64};
 ghost use Rattle.bit_lists.specs.Bits.{bits_of, IsShort};
@@ -20,7 +20,7 @@ fn zeros_in(word: &u64) -> usize
     word.count_zeros() as usize
 }
 
-/// How many bits are ones.
+/// How many bits are 1.
 ///
 /// # Conditions
 /// There are fewer than 2^58 words.
@@ -32,7 +32,7 @@ pub fn count_bit_ones(words: &[u64]) -> usize
     words.iter().map(ones_in).sum()
 }
 
-/// How many bits are zeros.
+/// How many bits are 0.
 ///
 /// # Conditions
 /// There are fewer than 2^58 words.

@@ -1,4 +1,4 @@
-//! Ones and zeros of words counted, and rank and selection in one word, by arithmetic on all its bytes at once.
+//! 1 bits and 0 bits of words counted, and rank and selection in one word, by arithmetic on all its bytes at once.
 #![tactic(auto)]
 
 mod counting;

@@ -6,7 +6,7 @@ ghost use Rattle.std.specs.List.{range_with_len};
 ghost use Rattle.bit_lists.specs.Bits.{low_digits};
 ghost use Rattle.bit_lists.specs.Count.{ones_before, Picks};
 
-/// How many ones a word has up to bit `last`, that one included: the bits above it are shifted out.
+/// How many 1 bits a word has up to bit `last`, that one included: the bits above it are shifted out.
 ///
 /// # Conditions
 /// `last` is below 64.
@@ -25,7 +25,7 @@ const LOWEST_OF_EACH_BYTE: u64 = 0x0101_0101_0101_0101;
 /// The highest bit of each byte.
 const HIGHEST_OF_EACH_BYTE: u64 = 0x8080_8080_8080_8080;
 
-/// A word whose byte k, lowest first, is the number of ones in bytes 0 to k of `n`.
+/// A word whose byte k, lowest first, is the number of 1 bits in bytes 0 to k of `n`.
 #[inline(always)]
 pub fn byte_sums(n: u64) -> u64
     ensures { to_le_bytes w64 result
@@ -58,8 +58,8 @@ const BOUNDS: [u64; 64] = [
     0xBCBC_BCBC_BCBC_BCBC, 0xBDBD_BDBD_BDBD_BDBD, 0xBEBE_BEBE_BEBE_BEBE, 0xBFBF_BFBF_BFBF_BFBF,
 ];
 
-/// For each byte and each rank below 8, at 8 times the byte and the rank, the place of the byte's one with that rank; 8
-/// where it has none.
+/// For each byte and each rank below 8, at 8 times the byte and the rank, the position of the byte's 1 bit with that
+/// rank; 8 where it has none.
 #[rattlefmt::skip]
 const PLACES: [u8; 2048] = [
     8, 8, 8, 8, 8, 8, 8, 8, 0, 8, 8, 8, 8, 8, 8, 8, 1, 8, 8, 8, 8, 8, 8, 8, 0, 1, 8, 8, 8, 8, 8, 8,
@@ -152,7 +152,8 @@ pub fn bytes_at_most(sums: u64, r: u8) -> u8
     (kept & HIGHEST_OF_EACH_BYTE).count_ones() as u8
 }
 
-/// What is left of `rank` at each byte of `n`: byte k is 128 more than the rank, less the ones in the bytes before it.
+/// What is left of `rank` at each byte of `n`: byte k is 128 more than the rank, less the 1 bits in the bytes before
+/// it.
 #[inline(always)]
 fn ranks_left(n: u64, rank: u8) -> u64
     requires { rank ≤ 63 }
@@ -163,7 +164,7 @@ fn ranks_left(n: u64, rank: u8) -> u64
     bounds(rank) - (byte_sums(n) << 8)
 }
 
-/// The place of the one of `byte` with `rank` ones before it.
+/// The position of the 1 bit of `byte` with `rank` 1 bits before it.
 #[inline(always)]
 fn select_in_byte(byte: u8, rank: u8) -> u8
     requires { rank < ones_before (low_digits 8 byte) 8 }
@@ -172,14 +173,14 @@ fn select_in_byte(byte: u8, rank: u8) -> u8
     PLACES[byte as usize * 8 + rank as usize]
 }
 
-/// The place of the one of `n` with `rank` ones before it. For the place of a zero, pass `!n`.
+/// The position of the 1 bit of `n` with `rank` 1 bits before it. For a 0 bit, pass `!n`.
 ///
 /// # Conditions
-/// `n` has more than `rank` ones.
+/// `n` has more than `rank` 1 bits.
 /// # Source
 /// Vigna, "Broadword Implementation of Rank/Select Queries" (WEA 2008), here with one product, of which one difference
-/// tells for each byte whether no more than `rank` ones stand before it, and what these leave of the rank. A table of
-/// 2 KiB tells the place in the last of these bytes.
+/// says for each byte whether no more than `rank` 1 bits stand before it, and what these leave of the rank. A table of
+/// 2 KiB has the position in the last of these bytes.
 #[inline(always)]
 pub fn select64(n: u64, rank: u8) -> u8
     requires { rank < ones_before (low_digits 64 n) 64 }

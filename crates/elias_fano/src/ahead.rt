@@ -1,11 +1,11 @@
-//! Low digits of the next numbers, those of several read at once, for a walk in order.
+//! Low bits of the next numbers, those of several read at once, for a walk in order.
 ghost use Rattle.std.specs.Prelude.{◌≡◌, ◌*◌, ◌^◌, ◌<◌, ◌≤◌, MatchOption};
 ghost use Rattle.elias_fano.specs.Ahead.{IsAhead};
 ghost use Rattle.elias_fano.specs.Low.{unread, HasFragments};
 
 use bitm::words;
 
-/// Low digits that are not used yet, those of the next number lowest.
+/// Low bits that are not used yet, those of the next number lowest.
 #[derive(Copy, Clone, Drop)]
 pub(crate) struct Ahead {
     // The number before which the numbers stand whose digits these are.
@@ -14,7 +14,7 @@ pub(crate) struct Ahead {
 }
 
 impl Ahead {
-    /// No digits, before number `until`.
+    /// No bits, before number `until`.
     #[inline(always)]
     pub(crate) fn nothing(until: usize) -> Ahead
         ensures until { result.until ≡ until }
@@ -27,7 +27,7 @@ impl Ahead {
 // A word has three fragments of so many digits. To read two at once costs more than it saves.
 const WIDEST: u8 = 21;
 
-/// Of how many numbers the low digits are read at once, `width` of each; 0 where it does not pay.
+/// Of how many numbers the low bits are read at once, `width` of each; 0 where it does not pay.
 #[inline(always)]
 pub(crate) fn numbers_at_once(width: u8) -> usize
     ensures fit { result * width ≤ 64 }
@@ -39,11 +39,11 @@ pub(crate) fn numbers_at_once(width: u8) -> usize
     64 / width as usize
 }
 
-/// The digits ahead of number `at`, read anew where none are left, of at most `most` numbers before number `end`;
-/// `None` exactly where `end` is reached.
+/// The bits ahead of number `at`, read anew where none are left, of at most `most` numbers before number `end`; `None`
+/// exactly where `end` is reached.
 ///
 /// # Conditions
-/// There are so many fragments, and `most` of them, one or more, have at most 64 digits.
+/// `low` has a fragment for each number, and `most` of them, one or more, take at most 64 bits.
 #[inline(always)]
 pub(crate) fn look_ahead(
     low: &[u64],

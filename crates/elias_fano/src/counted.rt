@@ -29,7 +29,7 @@ fn item_on<T: TableSource>(source: &mut T, low: &mut LowDigits<'_>, n: usize, at
     }
 }
 
-/// Whether the only number of a sequence is at least `v`. Its low digits are read where it has the upper digits of `v`.
+/// Whether the only number of a sequence is at least `v`. Its low bits are read where it has the high bits of `v`.
 #[inline(always)]
 fn only_reaches<T: TableSource>(source: &mut T, low: &mut LowDigits<'_>, v: u64) -> bool
     requires parts { AreParts (parts_with 1 low.old (T.lists source.old)) }
@@ -54,19 +54,19 @@ fn only_reaches<T: TableSource>(source: &mut T, low: &mut LowDigits<'_>, v: u64)
     }
 }
 
-/// The least place of a sequence whose number is at least `v`; `None` exactly where there is none.
+/// The least index of a sequence whose number is at least `v` (the successor); `None` exactly where there is none.
 ///
-/// The sequence is handed in by its parts: the low digits are those of `EliasFano::low_digits`, `n` is the number of
-/// its items, and the source has its `upper_words`.
+/// The sequence is handed in by its parts: the low bits are those of `EliasFano::low_digits`, `n` is the number of its
+/// items, and the source has its `upper_words`.
 ///
 /// # Conditions
 /// The parts are those of one sequence of fewer than 2^56 numbers; the source's tables are those of its words.
 /// # Cost
-/// Two selections of zeros in the source, one of them where no number has low digits, or one selection of a one where
-/// `n` is 1, and none where it is 0; then a search among the low digits of the items with the same upper digits as
-/// `v`, which reads nothing of the source. So at most `2 * (digits + 1)` upper entries, where the number of them has
-/// so many digits, 46 lower entries and 16 words, and at most as many selections as `n` has digits. The search reads at
-/// most one fragment of the low digits for each binary digit of how many items share the upper digits of `v`.
+/// Two selections of 0 bits in the source, one of them if no number has low bits, or one selection of a 1 bit where `n`
+/// is 1, and none where it is 0; then a search among the low bits of the items with the same high bits as `v`, which
+/// reads nothing of the source. So at most `2 * (digits + 1)` upper entries, where the number of them has `digits`
+/// binary digits, 46 lower entries and 16 words, and at most as many selections as `n` has binary digits. The search
+/// reads at most one fragment of the low bits for each binary digit of how many items share the high bits of `v`.
 pub fn first_at_least_on<T: TableSource>(
     source: &mut T,
     low: &mut LowDigits<'_>,
@@ -103,8 +103,8 @@ pub fn first_at_least_on<T: TableSource>(
     }
 }
 
-/// The least place of a sequence whose number is at least `v`; `None` exactly where there is none. It is
-/// `first_at_least_on` where nobody asks how many fragments of the low digits are read.
+/// The least index of a sequence whose number is at least `v` (the successor); `None` exactly where there is none. It
+/// is `first_at_least_on` where reads of fragments are not counted.
 ///
 /// The sequence is handed in by its parts: `low` and `width` are what `EliasFano` answers as `low_words` and
 /// `low_width`, `n` is the number of its items, and the source has its `upper_words`.
@@ -153,7 +153,7 @@ fn count_at_most<T: TableSource>(source: &mut T, low: &mut LowDigits<'_>, n: usi
     }
 }
 
-/// The greatest place of a sequence whose number is at most `v`; `None` exactly where there is none.
+/// The greatest index of a sequence whose number is at most `v` (the predecessor); `None` exactly where there is none.
 ///
 /// # Conditions
 /// As of `first_at_least_on`.
@@ -184,8 +184,8 @@ pub fn last_at_most_counted<T: TableSource>(
 /// # Conditions
 /// As of `first_at_least_on`.
 /// # Cost
-/// That of `first_at_least_on`, and where some number is at least `v` one more selection, and one more fragment of
-/// the low digits.
+/// That of `first_at_least_on`, and where some number is at least `v` one more selection, and one more fragment of the
+/// low bits.
 pub fn contains_counted<T: TableSource>(
     source: &mut T,
     low: &mut LowDigits<'_>,

@@ -8,12 +8,12 @@ use crate::sequence::Sequence;
 use bitm::{Select0ForRank101111, SelectForRank101111};
 
 impl<S: SelectForRank101111, S0: Select0ForRank101111> Sequence<S, S0> {
-    /// The least place whose number is at least `v`; `None` exactly where there is none.
+    /// The least index whose number is at least `v` (the successor); `None` exactly where there is none.
     ///
     /// # Cost
-    /// One selection of a zero in the upper vector, then at most eight words, or, where the numbers that share the upper
-    /// digits of `v` do not end in these, a second selection; and at most one fragment of the low vector for each binary
-    /// digit of how many these are. What comes after the first selection is counted by `first_from_on`.
+    /// One selection of a 0 bit in the upper vector, then at most eight words, or, where the numbers that share the
+    /// high bits of `v` do not end in these, a second selection; and at most one fragment of the low vector for each
+    /// binary digit of how many these are. What comes after the first selection is counted by `first_from_on`.
     #[inline]
     pub fn first_at_least(&self, v: u64) -> Option<usize>
         ensures { IsFirstAtLeast self.now.items v result }
@@ -38,7 +38,7 @@ impl<S: SelectForRank101111, S0: Select0ForRank101111> Sequence<S, S0> {
         }
     }
 
-    /// The greatest place whose number is at most `v`; `None` exactly where there is none.
+    /// The greatest index whose number is at most `v` (the predecessor); `None` exactly where there is none.
     ///
     /// # Cost
     /// That of `first_at_least` of `v + 1`, and nothing where `v` is 2^64 - 1.

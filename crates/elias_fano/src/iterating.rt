@@ -51,8 +51,8 @@ impl<'a> Model for Numbers<'a> {
 }
 
 impl<'a> Numbers<'a> {
-    /// The numbers from place `start` on, of a sequence of `len` numbers with these parts; as many ones stand before bit
-    /// `first` of the upper words.
+    /// The numbers from index `start` on, of a sequence of `len` numbers with these parts; as many 1 bits stand before
+    /// bit `first` of the upper words.
     #[inline(always)]
     pub(crate) fn new(
         low: &'a [u64],

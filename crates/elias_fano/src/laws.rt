@@ -15,25 +15,25 @@ pub fn numbers_rise<S: SelectForRank101111, S0: Select0ForRank101111>(sequence: 
     sequence.rise();
 }
 
-/// Where numbers never decrease, a number is at least a value exactly from the first such place on.
+/// Where numbers never decrease, a number is at least a value exactly from the first such index on.
 #[inline(always)]
 pub fn reached_from_there()
     ensures { ReachedFromThere }
 {}
 
-/// Where numbers never decrease, the first place that reaches a number is the least place of an equal number.
+/// Where numbers never decrease, the first index whose number reaches a number is the least index of an equal number.
 #[inline(always)]
 pub fn first_of_equal()
     ensures { FirstOfEqual }
 {}
 
-/// The upper vector has as many ones as there are numbers.
+/// The upper vector has as many 1 bits as there are numbers.
 #[inline(always)]
 pub fn one_for_each_item()
     ensures { OneForEachItem }
 {}
 
-/// The one that rank `i` picks in the upper vector stands where number `i` says.
+/// The 1 bit that rank `i` picks in the upper vector stands where number `i` says.
 #[inline(always)]
 pub fn items_are_picked()
     ensures { ItemsArePicked }
@@ -45,7 +45,7 @@ pub fn parts_hold_items()
     ensures { PartsHoldItems }
 {}
 
-/// The two vectors of `n` numbers with `l` low digits have `n * (l + 3) + 126` bits at most.
+/// The two vectors of `n` numbers with `l` low bits have `n * (l + 3) + 126` bits at most.
 #[inline(always)]
 pub fn parts_are_small()
     ensures { PartsAreSmall }

@@ -1,4 +1,4 @@
-//! The low digits of a sequence's numbers. A search reads a fragment by a call that counts it, and by no other.
+//! The low bits of a sequence's numbers. A search reads a fragment by a call that counts it, and by no other.
 ghost use Rattle.std.specs.Prelude.{◌≡◌, ◌+◌, ◌<◌, ◌≤◌, ◌^◌};
 ghost use Rattle.bitm.specs.Number.{IsFragmentInRange};
 ghost use Rattle.elias_fano.specs.Low.{fragment, unread};
@@ -6,7 +6,7 @@ ghost use Rattle.elias_fano.specs.Low.{fragment, unread};
 use bitm::{Probe, ReadCounts, words};
 use std::marker::Model;
 
-/// Words of low digits, so many of each number, of which each fragment that is read is counted.
+/// The words of the low bits, a fragment of `width` bits for each number; each fragment that is read is counted.
 ///
 /// The words may hold anything. The count has no greatest number and takes no bytes at run time; only clauses see it.
 #[derive(Drop)]
@@ -26,7 +26,7 @@ impl<'a> Model for LowDigits<'a> {
 }
 
 impl<'a> LowDigits<'a> {
-    /// The low digits in these words, `width` of each number, with no reads counted yet.
+    /// The low bits in these words, `width` of each number, with no reads counted yet.
     #[inline(always)]
     pub fn new(words: &'a [u64], width: u8) -> LowDigits<'a>
         ensures { result ≡ unread words.now width }
@@ -38,7 +38,7 @@ impl<'a> LowDigits<'a> {
         }
     }
 
-    /// How many digits of each number are low ones.
+    /// How many low bits each number has.
     #[inline(always)]
     pub fn width(&self) -> u8
         ensures { result ≡ self.now.width }
@@ -46,10 +46,10 @@ impl<'a> LowDigits<'a> {
         self.width
     }
 
-    /// The low digits of number `at`; one more fragment is read.
+    /// The low bits of number `at`; one more fragment is read.
     ///
     /// # Conditions
-    /// There is such a fragment, of at most 63 digits.
+    /// There is such a fragment, of at most 63 bits.
     #[inline(always)]
     pub fn fragment(&mut self, at: usize) -> u64
         requires in_range { IsFragmentInRange self.old.words at self.old.width }

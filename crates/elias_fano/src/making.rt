@@ -19,8 +19,7 @@ pub fn largest_of(items: &[u64]) -> u64
     }
 }
 
-/// How many digits of each of `len` numbers are low ones, 0 to 63, where `largest` is the last of them; 0 where there
-/// is none.
+/// How many low bits each of `len` numbers has, 0 to 63, where `largest` is the last of them; 0 where there is none.
 #[inline]
 pub fn low_width(len: usize, largest: u64) -> u8
     ensures width { result ≡ width_at len largest }
@@ -32,14 +31,14 @@ pub fn low_width(len: usize, largest: u64) -> u8
     bits_to_store(largest / len as u64).saturating_sub(1)
 }
 
-/// How many digits of each number are low ones.
+/// How many low bits each number has.
 pub(crate) fn width_for(items: &[u64]) -> u8
     ensures { result ≡ width_of items.now }
 {
     low_width(items.len(), largest_of(items))
 }
 
-/// The low digits of each number, one number after another.
+/// The low bits of each number, one number after another.
 ///
 /// # Errors
 /// `AllocError` if memory was refused.
@@ -57,10 +56,10 @@ pub(crate) fn make_low(
     Ok(low)
 }
 
-/// Writes the low digits of each number, `width` of each, where all bits are zeros.
+/// Writes the low bits of each number, `width` of each, where all bits are 0.
 ///
 /// # Conditions
-/// There are fewer than 2^56 numbers and at most 63 low digits; there are as many words as these take, all zeros.
+/// There are fewer than 2^56 numbers and at most 63 low bits; there are as many words as these take, all 0.
 #[inline]
 pub fn write_low(low: &mut [u64], items: &[u64], width: u8)
     requires width { width ≤ 63 }
@@ -77,7 +76,7 @@ pub fn write_low(low: &mut [u64], items: &[u64], width: u8)
     }
 }
 
-/// A one for each number, after as many zeros as it says without its low digits.
+/// A 1 bit for each number, after as many 0 bits as it says without its low bits.
 ///
 /// # Errors
 /// `AllocError` if memory was refused.
@@ -96,12 +95,11 @@ pub(crate) fn make_upper(
     Ok(upper)
 }
 
-/// Writes a one for each number, after as many zeros as it says without its `width` low digits, where all bits are
-/// zeros.
+/// Writes a 1 bit for each number, after as many 0 bits as it says without its `width` low bits, where all bits are 0.
 ///
 /// # Conditions
-/// The numbers never decrease, and there are at most 63 low digits; there are as many words as the ones and zeros take,
-/// fewer than 2^58, all zeros.
+/// The numbers never decrease, and there are at most 63 low bits; there are as many words as the 1 bits and 0 bits
+/// take, fewer than 2^58, all 0.
 #[inline]
 pub fn write_upper(upper: &mut [u64], items: &[u64], width: u8)
     requires width { width ≤ 63 }

@@ -46,12 +46,12 @@ fn count_at_most<T: TableSource>(
     }
 }
 
-/// The greatest place whose number is at most `v`, of the `n` numbers whose parts are the low digits and the source's
-/// words.
+/// The greatest index whose number is at most `v` (the predecessor), of the `n` numbers whose parts are the low bits
+/// and the source's words.
 ///
-/// Whatever the parts hold, a place that is found is below `n`, and the parts tell (`TellsAtMost`) that the numbers up
-/// to `v` end behind it, or at place 0 for `Absent`. Where they are those of a sequence, with the tables of its upper
-/// words, it is the right one, `Absent` is answered exactly where each number is more, and `Wrong` never.
+/// Whatever the parts hold, an index that is found is below `n`, and by the parts (`TellsAtMost`) the numbers up to `v`
+/// end after it, or at index 0 for `Absent`. Where they are those of a sequence, with the tables of its upper words, it
+/// is the right one, `Absent` is answered exactly where each number is more, and `Wrong` never.
 ///
 /// # Conditions
 /// As of `total_item_on`.
@@ -82,15 +82,16 @@ pub fn total_last_at_most_on<T: TableSource>(
     }
 }
 
-/// Whether `v` is one of the `n` numbers whose parts are the low digits and the source's words.
+/// Whether `v` is one of the `n` numbers whose parts are the low bits and the source's words.
 ///
 /// `None` is answered only where the parts are not those of a sequence, with the tables of its upper words; with any
-/// other answer the parts tell (`TellsLess`) where the numbers less than `v` end, and it is false where that is at `n`.
+/// other answer it is by the parts (`TellsLess`) where the numbers less than `v` end, and it is false where that is at
+/// `n`.
 ///
 /// # Conditions
 /// As of `total_item_on`.
 /// # Cost
-/// That of `total_first_at_least_on`, and where a place is found that of `total_item_on`.
+/// That of `total_first_at_least_on`, and where an index is found that of `total_item_on`.
 pub fn total_contains_on<T: TableSource>(
     source: &mut T,
     low: &mut LowDigits<'_>,

@@ -19,12 +19,12 @@ use bitm::{Answer, TableSource, n_lowest_bits, total_select_on};
 use bitm_select::search::many::ByTables;
 use bitm_select::search::selecting::search_on;
 
-/// The number whose part above its low digits is `above`: the low digits are fragment `at`.
+/// The number whose part above its low bits is `above`: the low bits are fragment `at`.
 ///
 /// # Conditions
 /// There is such a fragment. Where the number is 2^64 or more, the answer is any.
 /// # Cost
-/// At most one fragment of the low digits is read.
+/// At most one fragment of the low bits is read.
 #[inline(always)]
 pub fn join_digits(above: usize, low: &mut LowDigits<'_>, at: usize) -> u64
     requires { HasFragment low.old.words at low.old.width }
@@ -38,14 +38,14 @@ pub fn join_digits(above: usize, low: &mut LowDigits<'_>, at: usize) -> u64
     ((above as u64) << width).wrapping_add(low.fragment(at))
 }
 
-/// Number `at` of a sequence, whose one in the upper vector stands at `place`: as many zeros are before that place as
-/// the number says above its low digits.
+/// Number `at` of a sequence, whose 1 bit in the upper vector is at `place`: as many 0 bits are before that position as
+/// the number says above its low bits.
 ///
 /// # Conditions
 /// There is fragment `at`, in words that may hold anything. Where they are not the low words of a sequence, or the
-/// place is not that of the number's one, the answer is any.
+/// position is not that of the number's 1 bit, the answer is any.
 /// # Cost
-/// At most one fragment of the low digits is read.
+/// At most one fragment of the low bits is read.
 #[inline(always)]
 pub fn item_at_one(place: usize, low: &mut LowDigits<'_>, at: usize) -> u64
     requires { HasFragment low.old.words at low.old.width }
@@ -56,16 +56,16 @@ pub fn item_at_one(place: usize, low: &mut LowDigits<'_>, at: usize) -> u64
     join_digits(place.wrapping_sub(at), low, at)
 }
 
-/// Number `at` of the `n` numbers whose parts are the low digits and the source's words.
+/// Number `at` of the `n` numbers whose parts are the low bits and the source's words.
 ///
 /// Whatever the parts hold, `Absent` is answered exactly where there is no such number. Where they are those of a
 /// sequence, with the tables of its upper words, the number is the right one, and `Wrong` is never answered.
 ///
 /// # Conditions
-/// There are fewer than 2^56 numbers and at most 63 low digits, and as many low words as these take; there are fewer
-/// than 2^58 words, and the tables have the right lengths. They may hold anything.
+/// There are fewer than 2^56 numbers and at most 63 low bits, and as many low words as these take; there are fewer than
+/// 2^58 words, and the tables have the right lengths. They may hold anything.
 /// # Cost
-/// One selection in the source, and one fragment of the low digits: at most as many upper entries as their number has
+/// One selection in the source, and one fragment of the low bits: at most as many upper entries as their number has
 /// binary digits and one more, 23 lower entries and eight words, whatever the parts hold.
 #[inline(always)]
 pub fn total_item_on<T: TableSource>(
@@ -93,8 +93,8 @@ pub fn total_item_on<T: TableSource>(
     }
 }
 
-/// How many items have a number at most `above` above their low digits, where the zero of that number stands at
-/// `place`; `None` only where it does not.
+/// How many items have a number at most `above` above their low bits, where the 0 bit of that number stands at `place`;
+/// `None` only where it does not.
 #[inline(always)]
 pub fn count_at_zero(place: usize, above: usize, n: usize) -> Option<usize>
     ensures within { IfSome result (λ c. c ≤ n) }
@@ -106,9 +106,9 @@ pub fn count_at_zero(place: usize, above: usize, n: usize) -> Option<usize>
     if count <= n { Some(count) } else { None }
 }
 
-/// How many items have a number at most `above` above their low digits: the ones before the zero of that number, if the
-/// parts are right; `None` only where they are not. `TESTS` as in `first_on`. It is not inlined, so that both ends of a
-/// bucket are found by one copy of the search.
+/// How many items have a number at most `above` above their low bits: the 1 bits before the 0 bit of that number, if
+/// the parts are right; `None` only where they are not. `TESTS` as in `first_on`. It is not inlined, so that both ends
+/// of a bucket are found by one copy of the search.
 pub(crate) fn count_to<const TESTS: u8, T: TableSource>(
     source: &mut T,
     above: usize,
@@ -130,8 +130,8 @@ pub(crate) fn count_to<const TESTS: u8, T: TableSource>(
     }
 }
 
-/// How many items have a number below `above` above their low digits, if the parts are right; `None` only where they
-/// are not. `TESTS` as in `first_on`.
+/// How many items have a number below `above` above their low bits, if the parts are right; `None` only where they are
+/// not. `TESTS` as in `first_on`.
 #[inline(always)]
 fn count_below<const TESTS: u8, T: TableSource>(
     source: &mut T,
@@ -153,14 +153,14 @@ fn count_below<const TESTS: u8, T: TableSource>(
     count_to::<TESTS, T>(source, above - 1, n)
 }
 
-/// The least place from `first` up to `end` whose low digits are at least `rest`, and `end` where there is none;
-/// `first` where there are no low digits.
+/// The least index from `first` up to `end` whose low bits are at least `rest`, and `end` where there is none; `first`
+/// where there are no low bits.
 ///
 /// # Conditions
-/// The places are in order, and there are so many fragments, in words that may hold anything. Where the low digits fall
-/// somewhere in that range, the answer is any place of it, or `end`.
+/// The two indices are in order, and there are fragments up to `end`, in words that may hold anything. Where the low
+/// bits fall somewhere in that range, the answer is any index of it, or `end`.
 /// # Cost
-/// At most one fragment for each binary digit of how many places there are, and none where there are no low digits.
+/// At most one fragment for each binary digit of how many indices there are, and none where there are no low bits.
 #[inline]
 fn split_low(low: &mut LowDigits<'_>, first: usize, end: usize, rest: u64) -> usize
     requires some { HasFragments low.old end }
@@ -188,17 +188,17 @@ fn split_low(low: &mut LowDigits<'_>, first: usize, end: usize, rest: u64) -> us
     from
 }
 
-/// The least place whose number is at least `v`, of `n` numbers of which those from `first` up to `end` have its upper
-/// digits; where there are no low digits `end` is not looked at.
+/// The least index whose number is at least `v` (the successor), of `n` numbers of which those from `first` up to `end`
+/// have its high bits; where there are no low bits `end` is not looked at.
 ///
-/// Whatever the parts hold, and whatever these two places are, a place that is found is below `n`, and low digits part
+/// Whatever the parts hold, and whatever these two indices are, an index that is found is below `n`, and low bits part
 /// there, or at `n` for `Absent` (`PartsAt`).
 ///
 /// # Conditions
-/// There are fewer than 2^56 numbers and at most 63 low digits, and as many fragments as numbers; `end` is at most `n`.
+/// There are fewer than 2^56 numbers and at most 63 low bits, and as many fragments as numbers; `end` is at most `n`.
 /// # Cost
-/// At most one fragment for each binary digit of how many numbers share the upper digits of `v`; in parts that are not
-/// those of a sequence, for each digit of `n`.
+/// At most one fragment for each binary digit of how many numbers share the high bits of `v`; in parts that are not
+/// those of a sequence, for each binary digit of `n`.
 #[inline(always)]
 pub fn place_in_bucket(
     low: &mut LowDigits<'_>,
@@ -267,20 +267,20 @@ pub(crate) fn first_on<const TESTS: u8, T: TableSource>(
     place_in_bucket(low, n, first, end, v)
 }
 
-/// The least place whose number is at least `v`, of the `n` numbers whose parts are the low digits and the source's
-/// words.
+/// The least index whose number is at least `v` (the successor), of the `n` numbers whose parts are the low bits and
+/// the source's words.
 ///
-/// Whatever the parts hold, a place that is found is below `n`, and the parts tell (`TellsLess`) that the numbers less
-/// than `v` end there, or at `n` for `Absent`. Where they are those of a sequence, with the tables of its upper words,
-/// it is the right one, `Absent` is answered exactly where each number is less, and `Wrong` never.
+/// Whatever the parts hold, an index that is found is below `n`, and by the parts (`TellsLess`) the numbers less than
+/// `v` end there, or at `n` for `Absent`. Where they are those of a sequence, with the tables of its upper words, it is
+/// the right one, `Absent` is answered exactly where each number is less, and `Wrong` never.
 ///
 /// # Conditions
 /// As of `total_item_on`.
 /// # Cost
-/// Two selections of zeros in the source, and one where numbers have no low digits: at most twice as many upper entries
+/// Two selections of 0 bits in the source, and one where numbers have no low bits: at most twice as many upper entries
 /// as their number has binary digits and one more, 46 lower entries and 16 words, whatever the parts hold. Then at most
-/// one fragment of the low digits for each binary digit of how many numbers share the upper digits of `v`; in parts
-/// that are not those of a sequence, for each digit of `n`.
+/// one fragment of the low bits for each binary digit of how many numbers share the high bits of `v`; in parts that are
+/// not those of a sequence, for each binary digit of `n`.
 pub fn total_first_at_least_on<T: TableSource>(
     source: &mut T,
     low: &mut LowDigits<'_>,

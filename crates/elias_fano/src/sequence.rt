@@ -29,29 +29,28 @@ use std::marker::Model;
 
 /// A monotone integer sequence (Elias-Fano): numbers, each at least the one before it.
 ///
-/// The `l` lowest binary digits of the numbers lie side by side in the low words, those of number `i` as fragment
-/// `i`. The rest of number `i`, `x >> l`, is how many zeros stand before its one in the upper words, so that one is
-/// at `(x >> l) + i`. With `n` numbers and `u` the largest, `l` is the number of digits of `u / n` less one, 0
-/// where there is none; the upper vector has `n + (u >> l) + 1` bits, fewer than `3 n + 2`. Both have as few words
-/// as hold them, and all other bits are zeros. So a sequence takes at most `n * (l + 3) + 126` bits and the index
-/// over the upper vector.
+/// The `l` lowest bits of the numbers lie side by side in the low words, those of number `i` as fragment `i`. The rest
+/// of number `i`, `x >> l`, is how many 0 bits stand before its 1 bit in the upper words, so that bit is at `(x >> l) +
+/// i`. With `n` numbers and `u` the largest, `l` is the number of binary digits of `u / n` less one, 0 where there is
+/// none; the upper vector has `n + (u >> l) + 1` bits, fewer than `3 n + 2`. Both have as few words as hold them, and
+/// all other bits are 0. So a sequence takes at most `n * (l + 3) + 126` bits and the index over the upper vector.
 ///
 /// For 2, 3, 5, 7, 11, 13, 24 the width `l` is 1, since 24 / 7 is 3, and there are 7 + 12 + 1 = 20 upper bits:
 ///
 /// ```text
 /// number         2  3  5  7 11 13 24
-/// its low digit  0  1  1  1  1  1  0        the low vector
+/// its low bit    0  1  1  1  1  1  0        the low vector
 /// the rest       1  1  2  3  5  6 12
 ///
-/// place          0  1  2  3  4  5  6  7  8  9 10 11 12 13 14 15 16 17 18 19
+/// position       0  1  2  3  4  5  6  7  8  9 10 11 12 13 14 15 16 17 18 19
 /// upper bit      0  1  1  0  1  0  1  0  0  1  0  1  0  0  0  0  0  0  1  0
 /// number            2  3     5     7       11    13                   24
 /// ```
 ///
-/// Number 4 is at the one with four ones before it, place 9: 9 - 4 = 5 zeros stand before it, its low digit is 1, and
-/// 5 * 2 + 1 = 11. The first number that is at least 8 has a rest of at least 8 >> 1 = 4. The zero with three zeros
-/// before it is at 7, so 7 - 3 = 4 numbers have a rest of at most 3; the next zero is at 8, and 8 - 4 = 4 have one
-/// of at most 4. So no number has the rest 4, and the first one with more, number 4, is the answer.
+/// Number 4 is at the 1 bit with four 1 bits before it, position 9: 9 - 4 = 5 of the bits before it are 0, its low bit
+/// is 1, and 5 * 2 + 1 = 11. The first number that is at least 8 has a rest of at least 8 >> 1 = 4. The 0 bit with
+/// three 0 bits before it is at 7, so 7 - 3 = 4 numbers have a rest of at most 3; the next 0 bit is at 8, and 8 - 4 = 4
+/// have one of at most 4. So no number has the rest 4, and the first one with more, number 4, is the answer.
 /// `specs/Parts.antt` has the definitions.
 ///
 /// # Source
@@ -84,7 +83,7 @@ impl<S: SelectForRank101111, S0: Select0ForRank101111> Model for Sequence<S, S0>
         ArePartsOf (items_of e.len e.width low upper) e.len e.width low upper };
 }
 
-/// The first place of an index with so many zeros before it; `None` exactly where it has fewer.
+/// The first position of an index with the given number of 0 bits before it; `None` exactly where it has fewer.
 #[inline(always)]
 fn first_after<I: Select0>(index: &I, zeros: usize) -> Option<usize>
     ensures { MatchOption result (zeros_of (I.bits index.now) < zeros)
@@ -179,7 +178,7 @@ impl<S: SelectForRank101111, S0: Select0ForRank101111> Sequence<S, S0> {
         }
     }
 
-    /// The low digits of each number, one number after another, and zeros after them.
+    /// The low bits of each number, one number after another, and 0 bits after them.
     #[inline(always)]
     pub fn low_words(&self) -> &[u64]
         ensures { IsLow self.now.items (width_of self.now.items) result.now }
@@ -187,7 +186,7 @@ impl<S: SelectForRank101111, S0: Select0ForRank101111> Sequence<S, S0> {
         self.low.as_slice()
     }
 
-    /// A one for each number, after as many zeros in all as the number says without its low digits.
+    /// A 1 bit for each number, after as many 0 bits in all as the number says without its low bits.
     #[inline(always)]
     pub fn upper_words(&self) -> &[u64]
         ensures { IsUpper self.now.items (width_of self.now.items) result.now }
@@ -195,7 +194,7 @@ impl<S: SelectForRank101111, S0: Select0ForRank101111> Sequence<S, S0> {
         self.upper.as_slice()
     }
 
-    /// The low digits of each number, with no reads counted yet.
+    /// The low bits of each number, with no reads counted yet.
     #[inline(always)]
     pub fn low_digits(&self) -> LowDigits<'_>
         ensures words { IsLow self.now.items (width_of self.now.items) result.words }
@@ -216,7 +215,7 @@ impl<S: SelectForRank101111, S0: Select0ForRank101111> Sequence<S, S0> {
         self.upper.probe()
     }
 
-    /// How many digits of each number are low ones, 0 to 63.
+    /// How many low bits each number has, 0 to 63.
     #[inline(always)]
     pub fn low_width(&self) -> u8
         ensures { result ≡ width_of self.now.items }
@@ -227,8 +226,8 @@ impl<S: SelectForRank101111, S0: Select0ForRank101111> Sequence<S, S0> {
     /// The numbers, from the first on and from the last back.
     ///
     /// # Cost
-    /// One upper word is read before the first call of `next` or `next_back`. All numbers together are one pass over the
-    /// upper words and one over the low ones, and no selection.
+    /// One upper word is read before the first call of `next` or `next_back`. All numbers together are one pass over
+    /// the upper words and one over the low words, and no selection.
     #[inline]
     pub fn iter(&self) -> Numbers<'_>
         ensures { result ≡ self.now.items }
@@ -236,10 +235,10 @@ impl<S: SelectForRank101111, S0: Select0ForRank101111> Sequence<S, S0> {
         self.numbers(0, 0)
     }
 
-    /// The numbers from number `place` on.
+    /// The numbers from index `place` on.
     ///
     /// # Conditions
-    /// The place is that of a number, or the one after all.
+    /// There is a number at that index, or it is the number of all.
     /// # Cost
     /// One selection, and none where no number is left; then as `iter`.
     #[inline]
@@ -250,7 +249,7 @@ impl<S: SelectForRank101111, S0: Select0ForRank101111> Sequence<S, S0> {
         self.numbers(place, self.first_bit(place))
     }
 
-    /// The numbers from number `place` on, where as many ones stand before bit `first` of the upper words.
+    /// The numbers from index `place` on, where as many 1 bits stand before bit `first` of the upper words.
     #[inline(always)]
     fn numbers(&self, place: usize, first: usize) -> Numbers<'_>
         requires order { place ≤ length self.now.items }
@@ -261,7 +260,7 @@ impl<S: SelectForRank101111, S0: Select0ForRank101111> Sequence<S, S0> {
         Numbers::new(low, upper, self.width, self.len, place, first)
     }
 
-    /// A bit of the upper words before which the ones of the numbers before `place` stand, and no others.
+    /// A bit of the upper words before which the 1 bits of the numbers before `place` stand, and no others.
     #[inline(always)]
     fn first_bit(&self, place: usize) -> usize
         requires { place ≤ length self.now.items }
@@ -274,11 +273,11 @@ impl<S: SelectForRank101111, S0: Select0ForRank101111> Sequence<S, S0> {
         }
     }
 
-    /// A source over the upper words and the tables of their index, with no reads counted yet, and the first place in
-    /// these words with as many zeros before it as `v` says above its low digits; `None` exactly where there is none.
+    /// A source over the upper words and the tables of their index, with no reads counted yet, and the first position
+    /// in these words with as many 0 bits before it as `v` says above its low bits; `None` exactly where there is none.
     ///
     /// # Cost
-    /// One selection of a zero, and none where these digits are zeros.
+    /// One selection of a 0 bit, and none if these bits are 0.
     #[inline(always)]
     pub(crate) fn probe_from(&self, v: u64) -> (Probe<'_>, Option<usize>)
         ensures words { IsUpper self.now.items (width_of self.now.items) result.0.lists.words }
@@ -290,7 +289,7 @@ impl<S: SelectForRank101111, S0: Select0ForRank101111> Sequence<S, S0> {
         (self.upper.probe(), first_after(&self.upper, above))
     }
 
-    /// A sequence of the same numbers.
+    /// A copy of the sequence.
     ///
     /// # Errors
     /// `AllocError` if memory was refused; this value is as it was.
@@ -324,7 +323,7 @@ impl<S: SelectForRank101111 + GetSize, S0: Select0ForRank101111 + GetSize> GetSi
     }
 }
 
-/// Samples of the upper vector: one for each 2^13 ones or zeros, or fewer where there are fewer of these.
+/// Samples of the upper vector: one for each 2^13 1 bits or 0 bits, or fewer where there are fewer of these.
 type Sampled = CombinedSampling<AdaptiveCombinedSamplingDensity<13>>;
 
 /// A sequence that selects by samples, the fastest: what to take unless the reads of binary search are wanted.

@@ -6,7 +6,7 @@ ghost use Rattle.louds.specs.Tree.{MatchesChild, MatchesParent, MatchesNextSibli
 
 use bitm::{TableSource, binary_select_on, bit_on};
 
-/// The place of the zero before the ones of a node, or of the last zero.
+/// The position of the 0 bit before the 1 bits of a node, or of the last 0 bit.
 #[inline(always)]
 pub(crate) fn zero_on<T: TableSource>(source: &mut T, len: usize, node: usize) -> usize
     requires tree { IsLouds len (T.lists source.old) }
@@ -21,7 +21,7 @@ pub(crate) fn zero_on<T: TableSource>(source: &mut T, len: usize, node: usize) -
     }
 }
 
-/// The place of the one of a node.
+/// The position of the 1 bit of a node.
 #[inline(always)]
 fn one_on<T: TableSource>(source: &mut T, len: usize, node: usize) -> usize
     requires tree { IsLouds len (T.lists source.old) }

@@ -14,10 +14,10 @@ use bitm::{GetSize, Select0ForRank101111, SelectForRank101111};
 use std::alloc::{AllocError, Global};
 use std::marker::Model;
 
-/// A tree with a label for each node, a number of up to 63 binary digits, where the labels of siblings rise. So each
-/// word of labels leads from the root to at most one node: the tree is a trie.
+/// A tree with a label for each node, a number of up to 63 bits, where the labels of siblings rise. So each word of
+/// labels leads from the root to at most one node: the tree is a trie.
 ///
-/// The labels stand side by side, in so many bits each, by the numbers of their nodes. No call reads the root's.
+/// The labels stand side by side, in `width` bits each, by the numbers of their nodes. No call reads the root's.
 #[derive(Drop)]
 pub struct LabelledLouds<S: SelectForRank101111, S0: Select0ForRank101111> {
     tree: Louds<S, S0>,
@@ -65,8 +65,7 @@ fn rise<S: SelectForRank101111, S0: Select0ForRank101111>(
     true
 }
 
-/// Whether these are labels for the nodes of a tree: one of at most `width` binary digits for each, and those of
-/// siblings rise.
+/// Whether these are labels for the nodes of a tree: one of at most `width` bits for each, and those of siblings rise.
 ///
 /// # Conditions
 /// `width` is at most 63.
@@ -243,7 +242,7 @@ impl<S: SelectForRank101111, S0: Select0ForRank101111> LabelledLouds<S, S0> {
         Ok(word)
     }
 
-    /// A tree of the same degrees and labels, with memory of its own.
+    /// A copy of the tree, with memory of its own.
     ///
     /// # Errors
     /// `AllocError` if memory was refused; this value is as it was.

@@ -1,4 +1,4 @@
-//! Numbers of so many bits each, side by side.
+//! Numbers of one width in bits, side by side.
 ghost use Rattle.std.specs.Prelude.{◌≡◌, ◌*◌, ◌^◌, ◌<◌, ◌≤◌, ◌↔◌, All, IfOk, IsTrue, length, slice_index};
 ghost use Rattle.std.specs.Box.{boxed_slice_items};
 ghost use Rattle.std.specs.Int.{div_ceil};
@@ -9,7 +9,7 @@ use std::alloc::{AllocError, Global};
 use std::boxed::BoxedSlice;
 use std::marker::Model;
 
-/// Numbers of so many bits each, side by side.
+/// Numbers of one width in bits, side by side.
 #[derive(Drop)]
 pub(crate) struct Packed {
     words: BoxedSlice<u64, Global>,
@@ -31,7 +31,7 @@ impl Model for Packed {
     ghost invariant = { λ p. HasRoom (boxed_slice_items p.words) p.width p.len };
 }
 
-/// Whether no number has more than `width` binary digits.
+/// Whether no number has more than `width` bits.
 ///
 /// # Conditions
 /// `width` is at most 63.
@@ -48,7 +48,7 @@ pub(crate) fn all_fit(numbers: &[u64], width: u8) -> bool
     true
 }
 
-/// Writes each number at its place.
+/// Writes each number at its index.
 ///
 /// # Conditions
 /// There is room, and each number fits.
@@ -66,7 +66,7 @@ impl Packed {
     /// The numbers, packed.
     ///
     /// # Conditions
-    /// `width` is 1 to 63, and no number has more digits.
+    /// `width` is 1 to 63, and no number has more bits.
     /// # Errors
     /// `AllocError` if memory was refused, as it is where the numbers would have 2^64 bits or more.
     pub(crate) fn build(alloc: Global, numbers: &[u64], width: u8) -> Result<Self, AllocError>
@@ -100,7 +100,7 @@ impl Packed {
         words::get_fragment(self.words.as_slice(), i, self.width)
     }
 
-    /// The same numbers, in memory of their own.
+    /// A copy of the numbers.
     ///
     /// # Errors
     /// `AllocError` if memory was refused; this value is as it was.

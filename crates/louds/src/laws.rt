@@ -2,7 +2,7 @@
 //! that wants the law calls it.
 ghost use Rattle.louds.specs.Laws.{OneDepth, OneParent, TreesHaveParents};
 
-/// A node is a child of one node alone, in one place.
+/// A node is a child of one node alone, at one index.
 pub fn one_parent()
     ensures { OneParent }
 {}

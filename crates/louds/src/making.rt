@@ -8,7 +8,7 @@ use bitm::{BitVec, words};
 use std::alloc::{AllocError, Global};
 use std::boxed::BoxedSlice;
 
-/// Writes 10, and then for each node its degree in ones and a zero, where all bits are zeros.
+/// Writes 10, and then for each node its degree in 1 bits and a 0 bit, where all bits are 0.
 ///
 /// # Conditions
 /// There are as many bits as these take.

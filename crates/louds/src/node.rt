@@ -1,5 +1,5 @@
-//! Nodes that carry their places, so that a walk selects once where it goes. What is read from a node's place on, the
-//! clauses of `run` count; what a selection by the tree's own strategy reads, no clause here does.
+//! Nodes that carry their positions, so that a walk selects once where it goes. What is read from a node's position on,
+//! the clauses of `run` count; what a selection by the tree's own strategy reads, no clause here does.
 ghost use Rattle.std.specs.Prelude.{◌≡◌, ◌==◌, ◌<◌, length, slice_index};
 ghost use Rattle.louds.specs.Node.{IsNode, MatchesChildNode, MatchesNextSiblingNode, MatchesParentNode};
 ghost use Rattle.louds.specs.Tree.{AreChildren, IsChild};
@@ -10,8 +10,8 @@ use bitm::{Select0ForRank101111, SelectForRank101111};
 use std::marker::Model;
 use std::ops::Range;
 
-/// A node of a tree, with its place among the bits: what a walk carries, so that degrees, leaves and the numbers of
-/// children need no selection. It is a node of the tree that answered it, and of each tree of the same degrees.
+/// A node of a tree, with its position among the bits: what a walk carries, so that degrees, leaves and the numbers of
+/// children need no selection. It is a node of the tree that answered it, and of each tree with these degrees.
 #[derive(Clone, Copy, Debug, PartialEq, Eq)]
 pub struct Node {
     number: usize,
@@ -121,7 +121,7 @@ impl<S: SelectForRank101111, S0: Select0ForRank101111> Louds<S, S0> {
     /// # Conditions
     /// It is a node of this tree, and has more than `k` children.
     /// # Cost
-    /// One selection, of the child's place.
+    /// One selection, of the child's position.
     #[inline(always)]
     pub fn nth_child_of(&self, node: Node, k: usize) -> Node
         requires node { IsNode self.now.degrees node }
@@ -138,7 +138,7 @@ impl<S: SelectForRank101111, S0: Select0ForRank101111> Louds<S, S0> {
     /// # Conditions
     /// It is a node of this tree.
     /// # Cost
-    /// One word, and one selection, of the child's place.
+    /// One word, and one selection, of the child's position.
     #[inline(always)]
     pub fn first_child_of(&self, node: Node) -> Option<Node>
         requires { IsNode self.now.degrees node }
@@ -156,7 +156,7 @@ impl<S: SelectForRank101111, S0: Select0ForRank101111> Louds<S, S0> {
     /// # Conditions
     /// It is a node of this tree.
     /// # Cost
-    /// Two words, and one selection, of the child's place; two selections where the node has more than 64 children.
+    /// Two words, and one selection, of the child's position; two selections where the node has more than 64 children.
     #[inline]
     pub fn child_of(&self, node: Node, k: usize) -> Option<Node>
         requires { IsNode self.now.degrees node }
@@ -174,8 +174,8 @@ impl<S: SelectForRank101111, S0: Select0ForRank101111> Louds<S, S0> {
     /// # Conditions
     /// It is a node of this tree.
     /// # Cost
-    /// One selection, and the words from there back to the parent's place: one for each begun 64 children before the
-    /// node, and one more.
+    /// One selection, and the words from there back to the parent's position: one for each 64 children, rounded up,
+    /// before the node, and one more.
     #[inline]
     pub fn parent_of(&self, node: Node) -> Option<Node>
         requires { IsNode self.now.degrees node }

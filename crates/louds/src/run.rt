@@ -1,4 +1,4 @@
-//! The ones of a node, its children, from where they begin, over any source: what they read is counted.
+//! The 1 bits of a node, its children, from where they begin, over any source: what they read is counted.
 ghost use Rattle.std.specs.Prelude.{◌≡◌, ◌+◌, ◌^◌, ◌<◌, ◌≤◌, false, slice_index, IfSome};
 ghost use Rattle.bitm.specs.Bits.{IsShort};
 ghost use Rattle.bitm.specs.Count.{IsFirstFrom};
@@ -15,12 +15,12 @@ use std::ops::Range;
 // In how many words the end of a node's ones is looked for before it is selected.
 const NEAR: usize = 2;
 
-/// The first zero from `from` on, in its word or the one after it; `None` where they have none.
+/// The first 0 bit from `from` on, in its word or the one after it; `None` where they have none.
 ///
 /// # Conditions
 /// There are fewer than 2^58 words.
 /// # Cost
-/// The words up to that of the zero, two at most.
+/// The words up to that of the 0 bit, two at most.
 #[inline(always)]
 fn near_zero_on<T: TableSource>(source: &mut T, from: usize) -> Option<usize>
     requires { IsShort (T.lists source.old).words }
@@ -42,8 +42,8 @@ fn near_zero_on<T: TableSource>(source: &mut T, from: usize) -> Option<usize>
     None
 }
 
-/// The place of the zero before the ones of a node, or of the last zero, out of the way of `end_on`, which seldom asks
-/// it.
+/// The position of the 0 bit before the 1 bits of a node, or of the last 0 bit, out of the way of `end_on`, which
+/// seldom needs it it.
 #[inline(never)]
 fn far_zero_on<T: TableSource>(source: &mut T, len: usize, node: usize) -> usize
     requires tree { IsLouds len (T.lists source.old) }
@@ -55,12 +55,12 @@ fn far_zero_on<T: TableSource>(source: &mut T, len: usize, node: usize) -> usize
     zero_on(source, len, node)
 }
 
-/// The place of the zero after the ones of a node, where that before them stands at `start`.
+/// The position of the 0 bit after the 1 bits of a node, where that before them stands at `start`.
 ///
 /// # Conditions
 /// The source holds a tree of `len` nodes, and there is such a node.
 /// # Cost
-/// Two words at most, and what a selection by binary search reads where these have no zero behind `start`.
+/// Two words at most, and what a selection by binary search reads where these have no 0 bit after `start`.
 #[inline(always)]
 pub(crate) fn end_on<T: TableSource>(source: &mut T, len: usize, node: usize, start: usize) -> usize
     requires tree { IsLouds len (T.lists source.old) }
@@ -76,7 +76,7 @@ pub(crate) fn end_on<T: TableSource>(source: &mut T, len: usize, node: usize, st
     }
 }
 
-/// How many children a node has, where the zero before its ones stands at `start`.
+/// How many children a node has, where the 0 bit before its 1 bits stands at `start`.
 ///
 /// # Conditions
 /// Those of `end_on`.
@@ -99,7 +99,7 @@ pub(crate) fn degree_from_on<T: TableSource>(
     end_on(source, len, node, start) - start - 1
 }
 
-/// The children of a node, in their order, where the zero before its ones stands at `start`.
+/// The children of a node, in their order, where the 0 bit before its 1 bits stands at `start`.
 ///
 /// # Conditions
 /// Those of `end_on`.
@@ -122,8 +122,8 @@ pub(crate) fn children_from_on<T: TableSource>(
     start - node..end - node - 1
 }
 
-/// Child `k` of a node, where the zero before its ones stands at `start`; `None` exactly where it has no more than `k`
-/// children.
+/// Child `k` of a node, where the 0 bit before its 1 bits stands at `start`; `None` exactly where it has no more than
+/// `k` children.
 ///
 /// # Conditions
 /// Those of `end_on`.

@@ -1,4 +1,4 @@
-//! The type of a tree, and what it is asked.
+//! The type of a tree, and its queries.
 ghost use Rattle.std.specs.Prelude.{◌≡◌, ◌==◌, ◌+◌, ◌*◌, ◌^◌, ◌<◌, ◌≤◌, ◌↔◌, ℕ, IfOk, IfSome, IsErrOf, length, slice_index};
 ghost use Rattle.std.specs.Int.{div_ceil};
 ghost use Rattle.bitm.specs.Reads.{none_read};
@@ -28,9 +28,9 @@ pub(crate) const TOO_MANY: usize = 1 << 60;
 /// A tree whose nodes are numbered level by level from the root, node 0: child `k` of node `i` is one more than the
 /// children of all nodes before `i`, and `k`.
 ///
-/// It is held as 10 and then for each node its degree in ones and a zero, `2 * n + 1` bits for `n` nodes, with an
-/// index. The one of rank `v` is that of node `v`, among those of its parent; the zero of rank `v` stands before the
-/// ones of node `v`. Generic in the two strategies that select ones and zeros.
+/// It is held as 10 and then for each node its degree in 1 bits and a 0 bit, `2 * n + 1` bits for `n` nodes, with an
+/// index. The 1 bit of rank `v` is that of node `v`, among those of its parent; the 0 bit of rank `v` stands before the
+/// 1 bits of node `v`. Generic in the two strategies that select 1 bits and 0 bits.
 #[derive(Drop)]
 pub struct Louds<S: SelectForRank101111, S0: Select0ForRank101111> {
     len: usize,
@@ -105,7 +105,7 @@ impl<S: SelectForRank101111, S0: Select0ForRank101111> Louds<S, S0> {
         self.index.probe()
     }
 
-    /// The place of the zero before the ones of a node, or of the last zero.
+    /// The position of the 0 bit before the 1 bits of a node, or of the last 0 bit.
     #[inline(always)]
     pub(crate) fn zero(&self, node: usize) -> usize
         requires { node ≤ length self.now.degrees }
@@ -115,7 +115,7 @@ impl<S: SelectForRank101111, S0: Select0ForRank101111> Louds<S, S0> {
         self.index.select0(node)
     }
 
-    /// The place of the zero after the ones of a node, where that before them stands at `start`.
+    /// The position of the 0 bit after the 1 bits of a node, where that before them stands at `start`.
     ///
     /// # Cost
     /// That of `run::end_on`.
@@ -129,10 +129,10 @@ impl<S: SelectForRank101111, S0: Select0ForRank101111> Louds<S, S0> {
         end_on(&mut self.probe(), self.len(), node, start)
     }
 
-    /// The place of the zero before the ones among which that of a node stands, where its own is at `one`.
+    /// The position of the 0 bit before the 1 bits among which that of a node stands, where its own is at `one`.
     ///
     /// # Cost
-    /// One word for each begun 64 children of the parent that stand before the node, and no selection.
+    /// One word for each 64 children of the parent before the node, rounded up, and no selection.
     #[inline(always)]
     pub(crate) fn start(&self, node: usize, one: usize) -> usize
         requires node { node < length self.now.degrees }
@@ -146,7 +146,7 @@ impl<S: SelectForRank101111, S0: Select0ForRank101111> Louds<S, S0> {
         }
     }
 
-    /// Whether the bit after the zero before a node's ones is none of these.
+    /// Whether the bit after the 0 bit before a node's 1 bits is none of these.
     #[inline(always)]
     pub(crate) fn ends_after(&self, node: usize, start: usize) -> bool
         requires node { node < length self.now.degrees }
@@ -156,7 +156,7 @@ impl<S: SelectForRank101111, S0: Select0ForRank101111> Louds<S, S0> {
         !self.index.get_bit(start + 1)
     }
 
-    /// The place of the one of a node.
+    /// The position of the 1 bit of a node.
     #[inline(always)]
     pub(crate) fn one(&self, node: usize) -> usize
         requires { node < length self.now.degrees }
@@ -340,7 +340,7 @@ impl<S: SelectForRank101111, S0: Select0ForRank101111> Louds<S, S0> {
         0..self.len
     }
 
-    /// A tree of the same degrees, with bits, tables and strategies of its own.
+    /// A copy of the tree, with bits, tables and strategies of its own.
     ///
     /// # Errors
     /// `AllocError` if memory was refused; this value is as it was.
@@ -370,10 +370,10 @@ impl<S: SelectForRank101111 + GetSize, S0: Select0ForRank101111 + GetSize> GetSi
     }
 }
 
-/// Samples: one for each 2^13 ones, or fewer where there are fewer of these.
+/// Samples: one for each 2^13 1 bits, or fewer where there are fewer of these.
 pub(crate) type SampledOnes = CombinedSampling<AdaptiveCombinedSamplingDensity<13>>;
 
-/// Samples: one for each 2^11 zeros, or fewer. A child, a degree and a leaf wait for a zero, a parent for a one.
+/// Samples: one for each 2^11 0 bits, or fewer. A child, a degree and a leaf wait for a 0 bit, a parent for a 1 bit.
 pub(crate) type SampledZeros = CombinedSampling<AdaptiveCombinedSamplingDensity<11>>;
 
 /// A tree that selects by samples, the fastest: what to take unless the reads of binary search are wanted.

@@ -14,7 +14,7 @@ ghost use Rattle.perfect_hash.specs.Placed.{FitIn, IsPlaced, WhereAbsent, WhereW
 use crate::placing::{Placing, Plain, no_reads};
 use bitm::{Answer, ReadCounts, TableSource, rank_on, total_rank_on, words};
 
-/// Whether the bit at `place` of the source's words is a one.
+/// Whether the bit at `place` of the source's words is 1.
 ///
 /// # Conditions
 /// There is such a bit.
@@ -31,7 +31,7 @@ fn is_one_on<T: TableSource>(source: &mut T, place: usize) -> bool
     words::get_bit(&[source.word(place / 64)], place % 64)
 }
 
-/// The place of the one that a hash falls on, in the first of the levels where it falls on one; `Wrong` where the
+/// The position of the 1 bit that a hash falls on, in the first of the levels where it falls on one; `Wrong` where the
 /// sizes turn out not to be those of levels.
 #[inline(always)]
 fn place_on<T: TableSource, P: Placing>(
@@ -76,8 +76,9 @@ fn place_on<T: TableSource, P: Placing>(
 }
 
 /// The number of a hash over any source, whatever words, tables and sizes hold: `Count` of a number below `count`,
-/// `Absent` only where the sizes are those of levels in these words and the hash falls on no one, or `Wrong`. Where the tables are those of the words, and these those
-/// of levels of these sizes with no more ones than `count`, the number is right, and `Wrong` is never answered.
+/// `Absent` only where the sizes are those of levels in these words and the hash falls on no 1 bit, or `Wrong`. Where
+/// the tables are those of the words, and these those of levels of these sizes with no more 1 bits than `count`, the
+/// number is right, and `Wrong` is never answered.
 ///
 /// # Conditions
 /// There are fewer than 2^58 words, the tables have the right lengths, and there are no more than 256 sizes.
@@ -111,12 +112,13 @@ pub fn total_number_on<T: TableSource>(
     }
 }
 
-/// The number of a hash over any source: of the first level where it falls on a one, how many ones stand before that.
+/// The number of a hash over any source: of the first level where it falls on a 1 bit, how many 1 bits stand before
+/// that.
 ///
 /// # Conditions
 /// The source's tables are those of its words, which are those of levels of these sizes.
 /// # Cost
-/// One word is read of each level up to the one where the hash falls on a one, and what `rank_on` reads: at most one
+/// One word is read of each level up to the one where the hash falls on a 1 bit, and what `rank_on` reads: at most one
 /// upper entry, one lower entry and eight words.
 #[inline]
 pub fn number_on<T: TableSource>(source: &mut T, sizes: &[usize], hash: u64) -> Option<usize>
@@ -131,7 +133,8 @@ pub fn number_on<T: TableSource>(source: &mut T, sizes: &[usize], hash: u64) -> 
     number_by_on(source, &Plain, sizes, hash, &mut no_reads())
 }
 
-/// The same where `placing` says where hashes fall, and the seeds that it reads are counted too: at most one a level.
+/// As `number_on`, where `placing` says where hashes fall; the seeds that it reads are counted too, at most one a
+/// level.
 #[inline]
 pub(crate) fn number_by_on<T: TableSource, P: Placing>(
     source: &mut T,

@@ -15,18 +15,18 @@ use crate::table::PerfectHash;
 use bitm::ArrayWithRank101111;
 use std::alloc::{AllocError, Global};
 
-/// At most so many levels are made.
+/// The greatest number of levels that are made.
 const LEVELS: u32 = 256;
 
 /// The first level has fewer words, so that all levels together have fewer than 2^58.
 const TOO_MANY: u128 = 1 << 50;
 
-/// The levels of keys: how many words each has, the words of all, one level behind another, and what placed the hashes.
+/// The levels of keys: how many words each has, the words of all, one level after another, and what placed the hashes.
 #[derive(Drop)]
 pub struct Levels<P: Placing = Plain> {
     /// How many words each level has.
     pub sizes: Vec<usize>,
-    /// The words of all levels, one level behind another.
+    /// The words of all levels, one level after another.
     pub words: Vec<u64>,
     /// What placed the hashes.
     pub placing: P,
@@ -144,7 +144,7 @@ fn make_levels<P: Placing>(
 
 impl Levels {
     /// The levels of the keys, over which an index of any kind makes a perfect hash (`PerfectHash::over`). A hash's
-    /// digits alone place it.
+    /// bits alone place it.
     ///
     /// # Errors
     /// As `build_by`.

@@ -19,9 +19,9 @@ use std::marker::Model;
 /// The spread number that a fingerprint is taken from: the levels have those before it.
 const PRINT: u32 = 256;
 
-/// A perfect hash with a fingerprint of each key, by which it tells almost all values that are no keys.
+/// A perfect hash with a fingerprint of each key, by which it finds almost all values that are no keys.
 ///
-/// The fingerprint of a key stands at its number, as a fragment of so many bits. A value that is no key is found only
+/// The fingerprint of a key stands at its number, as a fragment of `width` bits. A value that is no key is found only
 /// if its fingerprint is that of the key with its number: where hashes are as good as drawn, one in 2^`width` is.
 #[derive(Drop)]
 pub struct Dictionary<H, I: Access = ArrayWithRank101111, P: Placing = Plain> {
@@ -111,7 +111,7 @@ fn make_prints<K, H: KeyHash<K>, I: Access, P: Placing>(
 }
 
 impl<H, I: Access, P: Placing> Dictionary<H, I, P> {
-    /// A dictionary of the keys of a perfect hash, with fingerprints of so many bits, in as few words as these take.
+    /// A dictionary of the keys of a perfect hash, with fingerprints of `width` bits, in as few words as these take.
     ///
     /// # Conditions
     /// The perfect hash is of these keys; `width` is 1 to 32.

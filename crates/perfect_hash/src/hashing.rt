@@ -15,9 +15,9 @@ pub trait KeyHash<K> {
         ensures { result ≡ hash self.now key.now };
 }
 
-/// Hashes any key that has std's `Hash`, as integers, `&str` and tuples, by std's fast hasher over the seed
-/// and the key. Where keys collide, another seed may tell them apart. An attacker who knows the seed can
-/// make keys that collide.
+/// Hashes any key that has std's `Hash`, as integers, `&str` and tuples, by std's fast hasher over the seed and the
+/// key. Where keys collide, another seed may give them different hashes. An attacker who knows the seed can make keys
+/// that collide.
 #[derive(Clone, Copy, Debug)]
 pub struct Seeded {
     /// What is hashed before each key.

@@ -1,4 +1,4 @@
-//! Levels that are made without an allocator, in memory that the caller lends.
+//! Levels that are made without an allocator, in memory of the caller's.
 ghost use Rattle.std.specs.Prelude.{◌≡◌, ℕ, ◌+◌, ◌-◌, ◌<◌, ◌≤◌, ◌^◌, ◌⊎◌, drop, length, min, slice_index, take};
 ghost use Rattle.bitm.specs.Bits.{bits_of, IsShort};
 ghost use Rattle.bitm.specs.Count.{ones_of};
@@ -35,7 +35,8 @@ pub fn level_len(percent: u32, keys: usize) -> usize
     whole.saturating_add(keys % 6400 * percent / 6400 + 1)
 }
 
-/// Makes a level of the hashes in `ones`, and moves those that are left to the front; all are zeros first.
+/// Makes a level of the hashes in `ones`, and moves those that are left to the start of the list; all words are 0 at
+/// first.
 #[inline(always)]
 #[tactic(auto, using(bitm::proofs::BitLaws::zeros_have_no_ones))]
 fn split_cleared(hashes: &mut [u64], level: u32, ones: &mut [u64], again: &mut [u64]) -> usize
@@ -53,7 +54,7 @@ fn split_cleared(hashes: &mut [u64], level: u32, ones: &mut [u64], again: &mut [
 }
 
 /// Makes a level of the first `left` hashes in the `size` words from word `used` on, and answers how many are left
-/// then; these go to the front.
+/// then; these go to the start of the list.
 #[inline(always)]
 fn add_level(
     hashes: &mut [u64],
@@ -81,8 +82,8 @@ fn add_level(
 }
 
 /// Makes level after level for the hashes that are left, each with as many words as `level_len` says, the words of all
-/// levels one behind another, until no hash is left, there are 256 levels, `sizes` is full, or the next level is longer
-/// than the rest of `words` or than `again`. Each size goes to `sizes`, and the hashes that are left to the front of
+/// levels one after another, until no hash is left, there are 256 levels, `sizes` is full, or the next level is longer
+/// than the rest of `words` or than `again`. Each size goes to `sizes`, and the hashes that are left to the start of
 /// `hashes`. What `again` holds afterwards means nothing.
 ///
 /// # Conditions

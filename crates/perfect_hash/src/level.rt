@@ -15,7 +15,7 @@ pub(crate) struct Buffers {
     pub(crate) again: Vec<u64>,
 }
 
-/// Makes the buffer so many words that are 0, in the memory that it has where that is enough.
+/// Makes the buffer the given number of words that are 0, in the memory that it has where that is enough.
 fn zero(buffer: &mut Vec<u64>, words: usize) -> Result<(), AllocError>
     ensures { OnOk result (buffer.new.items ≡ replicate words 0) }
 {
@@ -27,7 +27,7 @@ fn zero(buffer: &mut Vec<u64>, words: usize) -> Result<(), AllocError>
 /// Marks the bits that some hash falls on, and those that two do.
 ///
 /// # Conditions
-/// All bits are zeros; there are as many of both, and some, but fewer than 2^58 words.
+/// All bits are 0; there are as many of both, and some, but fewer than 2^58 words.
 fn mark<P: Placing>(
     placing: &P,
     begin: usize,
@@ -57,10 +57,10 @@ fn mark<P: Placing>(
     }
 }
 
-/// Makes each bit that exactly one hash falls on a one. Also writes `again`, whose bits mean nothing afterwards.
+/// Makes each bit that exactly one hash falls on a 1 bit. Also writes `again`, whose bits mean nothing afterwards.
 ///
 /// # Conditions
-/// All bits are zeros; there are as many of both, and some, but fewer than 2^58 words.
+/// All bits are 0; there are as many of both, and some, but fewer than 2^58 words.
 fn fill<P: Placing>(
     placing: &P,
     begin: usize,
@@ -82,8 +82,8 @@ fn fill<P: Placing>(
     words::and_not(ones, again);
 }
 
-/// Makes `buffers.hit` the level of the hashes: so many words, whose ones are the bits that exactly one
-/// of them falls on.
+/// Makes `buffers.hit` the level of the hashes: of the given number of words, whose 1 bits are the bits that exactly
+/// one of them falls on.
 ///
 /// # Conditions
 /// The level has a word, and ends before word 2^58.
@@ -118,7 +118,8 @@ pub(crate) fn make_level<P: Placing>(
     Ok(())
 }
 
-/// Moves the hashes that do not fall on a one to the front, in their order, and answers how many they are.
+/// Moves the hashes that do not fall on a 1 bit to the start of the list, in their order, and answers how many they
+/// are.
 ///
 /// # Conditions
 /// The level has a word, and ends before word 2^58.
@@ -148,14 +149,14 @@ pub(crate) fn keep_left<P: Placing>(
     kept
 }
 
-/// Makes `ones` a level of the hashes, whose ones are the bits that exactly one of them falls on. The hashes that fall
-/// on no one go to the front of `hashes`, in their order, and the answer is how many they are.
+/// Makes `ones` a level of the hashes, whose 1 bits are the bits that exactly one of them falls on. The hashes that
+/// fall on no 1 bit go to the start of `hashes`, in their order, and the answer is how many they are.
 ///
 /// For those who build without an allocator: level after level for the hashes that are left, until none is, numbers
 /// them as `Levels::build` does. What `again` holds afterwards means nothing.
 ///
 /// # Conditions
-/// All bits are zeros; there are as many words of both, and some, but fewer than 2^58.
+/// All bits are 0; there are as many words of both, and some, but fewer than 2^58.
 /// # Cost
 /// Two passes over the hashes, each of which goes to two random words.
 pub fn split_level(hashes: &mut [u64], level: u32, ones: &mut [u64], again: &mut [u64]) -> usize

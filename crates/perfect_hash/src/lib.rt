@@ -1,8 +1,8 @@
 //! Minimal perfect hashing: each of n keys gets a number of its own below n, in under three bits a key.
 //!
 //! Levels of bits: at a level each key that is left falls on a bit, by its hash. A bit that exactly one key falls on is
-//! a one, and that key is done; the others go on to the next level. The number of a key is how many ones stand before
-//! its own in all levels, one behind another.
+//! a 1 bit, and that key is done; the others go on to the next level. The number of a key is how many 1 bits stand
+//! before its own in all levels, one after another.
 //!
 //! ```
 //! let Ok(numbers) = build(alloc, Seeded { seed: 7 }, [13u64, 5, 99].as_slice(), 100) else { .. };

@@ -11,10 +11,10 @@ use crate::placing::{Placing, no_reads};
 use crate::table::PerfectHash;
 use bitm::{Access, NO_ANSWER};
 
-/// So many look-ups go side by side. Of fewer, the last levels would leave too few to wait together.
+/// This number of look-ups go side by side. Of fewer, the last levels would leave too few to wait together.
 const SIDE_BY_SIDE: usize = 256;
 
-/// The place of the one that a hash falls on at this level; `NO_ANSWER` where it falls on none.
+/// The position of the 1 bit that a hash falls on at this level; `NO_ANSWER` where it falls on none.
 #[inline(always)]
 fn look<I: Access, P: Placing>(
     placing: &P,
@@ -41,7 +41,7 @@ fn look<I: Access, P: Placing>(
 }
 
 /// Looks at one level for those of the hashes that wait, the first `count` of the list. Those that go on come to its
-/// front, without a branch that the processor would have to guess, and the answer is how many they are.
+/// start, without a branch that the processor would have to guess, and the answer is how many they are.
 #[inline(always)]
 fn look_at_level<I: Access, P: Placing>(
     placing: &P,
@@ -75,7 +75,7 @@ fn look_at_level<I: Access, P: Placing>(
     kept
 }
 
-/// The place of each hash, or `NO_ANSWER`.
+/// The position of each hash, or `NO_ANSWER`.
 #[inline(always)]
 fn find_places<I: Access, P: Placing>(
     placing: &P,
@@ -117,7 +117,7 @@ fn find_places<I: Access, P: Placing>(
     }
 }
 
-/// Makes each place how many ones stand before it; `NO_ANSWER` stays.
+/// Replaces each position by how many 1 bits stand before it; `NO_ANSWER` stays.
 #[inline(always)]
 fn rank_places<I: Access>(index: &I, places: &mut [usize])
     requires { (k : ℕ) → k < length places.old → slice_index places.old k ≢ 2 ^ 64 - 1

@@ -5,7 +5,7 @@ ghost use Rattle.perfect_hash.specs.Places.{folded, place_in, spread, words_for}
 /// The step of the generator: 2^64 divided by the golden ratio, made odd.
 pub(crate) const STEP: u64 = 0x9E37_79B9_7F4A_7C15;
 
-/// A number, its higher half folded down by so many digits, times another.
+/// A number, its higher half folded down by `by` bits, times another.
 #[inline(always)]
 pub(crate) fn fold(x: u64, by: u32, times: u64) -> u64
     requires { by < 64 }
@@ -30,7 +30,8 @@ pub(crate) fn spread_at(hash: u64, level: u32) -> u64
     z ^ (z >> 31)
 }
 
-/// A fraction `x / 2^64` of so many bits, rounded down: a product and a shift, which take less time than a remainder.
+/// The fraction `x / 2^64` of the number of bits, rounded down: a product and a shift, which take less time than a
+/// remainder.
 ///
 /// # Source
 /// Lemire, 'Fast random integer generation in an interval' (ACM Transactions on Modeling
@@ -44,7 +45,7 @@ pub(crate) fn scaled(x: u64, bits: usize) -> usize
     ((x as u128 * bits as u128) >> 64) as usize
 }
 
-/// The bit of a level of so many words that a hash falls on.
+/// The bit of a level of the given number of words that a hash falls on.
 ///
 /// # Conditions
 /// There is a word, and fewer than 2^58.
@@ -59,8 +60,8 @@ pub(crate) fn place_of(hash: u64, level: u32, words: usize) -> usize
     scaled(spread_at(hash, level), 64 * words)
 }
 
-/// How many words a level for so many keys has: `percent` bits for each 100 keys, no fewer than 50, and at least one
-/// word.
+/// How many words a level for the given number of keys has: `percent` bits for each 100 keys, no fewer than 50, and at
+/// least one word.
 pub(crate) fn level_words(percent: u16, keys: usize) -> u128
     ensures { result ≡ words_for percent keys }
 {

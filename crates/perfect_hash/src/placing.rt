@@ -1,4 +1,4 @@
-//! What places hashes in levels: their digits alone, or with a seed for each word.
+//! What places hashes in levels: their bits alone, or with a seed for each word.
 ghost use Rattle.std.specs.Prelude.{◌≡◌, ◌+◌, ◌*◌, ◌^◌, ◌<◌, ◌≤◌, ℕ, List, IfOk, OnOk};
 ghost use Rattle.bitm.specs.Reads.{none_read, ReadsAtMost};
 ghost use Rattle.perfect_hash.specs.Places.{place_in};
@@ -12,18 +12,19 @@ use std::alloc::{AllocError, Global};
 ///
 /// That numbers are one-to-one is proved of any placing; a bad one costs bits, or ends in `KeysCollide`.
 pub trait Placing: Drop {
-    /// The bit that a hash falls on, of a level that has so many words before it, a number, and so many words: `fall
-    /// placing begin hash level words`.
+    /// The bit that a hash falls on, of a level, by the number of words before it, its number and how many words it
+    /// has: `fall placing begin hash level words`.
     ghost fall: { Self → ℕ → ℕ → ℕ → ℕ → ℕ };
 
     /// How many seeds are read to place a hash in a level.
     ghost seeds_each: { ℕ };
 
-    /// How a level is chosen that is added after so many words, for the hashes that are left: `chooses old new begin
-    /// hashes level words`, of this value as it was and as it is then.
+    /// How a level is chosen that is added after the given number of words, for the hashes that are left: `chooses old
+    /// new begin hashes level words`, of this value as it was and as it is then.
     ghost chooses: { Self → Self → ℕ → List ℕ → ℕ → ℕ → Type 0 };
 
-    /// The bit that a hash falls on, of a level that has `begin` words before it, a number, and so many words.
+    /// The bit that a hash falls on, of a level that has `begin` words before it, by its number and how many words it
+    /// has.
     ///
     /// # Conditions
     /// The level has a word, and ends before word 2^58.
@@ -65,7 +66,7 @@ pub trait Placing: Drop {
             → fall self.new first hash number size ≡ fall self.old first hash number size }
         ensures chosen { OnOk result (chooses self.old self.new begin hashes.now level words) };
 
-    /// The same again.
+    /// A copy.
     ///
     /// # Errors
     /// `AllocError` if memory was refused; this value is as it was.
@@ -85,7 +86,7 @@ pub(crate) fn no_reads() -> ReadCounts
     Probe::new([].as_slice(), [].as_slice(), [].as_slice()).into_reads()
 }
 
-/// Places a hash by its digits alone, for which nothing is kept.
+/// Places a hash by its bits alone, for which nothing is kept.
 #[derive(Clone, Copy, Debug)]
 pub struct Plain;
 

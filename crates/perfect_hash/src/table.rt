@@ -1,4 +1,4 @@
-//! The levels, and what is asked of them.
+//! The levels, and the queries of them.
 ghost use Rattle.std.specs.Prelude.{◌≡◌, ◌+◌, ◌*◌, ◌<◌, ◌≤◌, length, IfOk, IfSome};
 ghost use Rattle.bitm.specs.Bits.{bits_of};
 ghost use Rattle.bitm.specs.Count.{ones_of};
@@ -22,7 +22,7 @@ use std::marker::Model;
 
 /// A minimal perfect hash: each key that it was built of has a number of its own, below their count.
 ///
-/// The levels stand one behind another in the bits of an index, which is asked for one bit a level and one rank. With
+/// The levels stand one after another in the bits of an index, which answers one bit for each level, and one rank. With
 /// `n` keys at 100 per cent the levels have about `e * n` bits, 2.72 a key, and the index's tables 3.2 per cent more;
 /// with a seed for each word (`Grouped`) all is 2.27 bits a key. A contract sees a perfect hash as its hasher, what
 /// places hashes, how many words each level has, and the bits.
@@ -182,8 +182,8 @@ impl<H, S: SelectForRank101111, S0: Select0ForRank101111, BV: AsSlice<u64>> Perf
     H,
     RankSelect101111<S, S0, BV>,
 > {
-    /// What `get` answers, and what was read for it: one word of each level up to the one where the key falls on a one,
-    /// and one rank.
+    /// What `get` answers, and what was read for it: one word of each level up to the one where the key falls on a 1
+    /// bit, and one rank.
     #[inline]
     pub fn get_counted<K>(&self, key: &K) -> (Option<usize>, ReadCounts)
     where
@@ -207,7 +207,8 @@ impl<H, S: SelectForRank101111, S0: Select0ForRank101111, BV: AsSlice<u64>, P: P
     P,
 > {
     /// What `get` answers, and what was read for it: of the index one word of each level up to the one where the key
-    /// falls on a one, and one rank; of what places hashes at most one seed for each of these levels, counted as words.
+    /// falls on a 1 bit, and one rank; of what places hashes at most one seed for each of these levels, counted as
+    /// words.
     #[inline]
     pub fn get_counted_by<K>(&self, key: &K) -> (Option<usize>, ReadCounts, ReadCounts)
     where
@@ -234,7 +235,7 @@ impl<
     BV: CloneWords,
     P: Placing,
 > PerfectHash<H, RankSelect101111<S, S0, BV>, P> {
-    /// A perfect hash of the same levels, with an index of its own.
+    /// A copy of the perfect hash, with an index of its own.
     ///
     /// # Errors
     /// `AllocError` if memory was refused; this value is as it was.

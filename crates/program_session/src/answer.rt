@@ -7,13 +7,13 @@ use std::fmt;
 /// The answer to one line.
 #[derive(Clone, Copy, Debug, PartialEq, Eq)]
 pub(crate) enum Answer {
-    /// The vector has so many words, or the bit at this place was changed.
+    /// The vector has this number of words, or the bit at this position was changed.
     Accepted(u64),
-    /// The index that was built counts so many ones.
+    /// The index that was built counts this number of 1 bits.
     Ones(u64),
-    /// The number that was asked for.
+    /// The number that the query answers.
     Number(u64),
-    /// There is no such place.
+    /// There is no such position.
     Absent,
     /// No index that could answer is built.
     NotBuilt,
@@ -40,7 +40,7 @@ impl fmt::Display for Answer {
 }
 
 impl Answer {
-    /// The answer that tells a place, or that there is none.
+    /// The answer for a position, or that there is none.
     pub(crate) fn of_place(place: Option<usize>) -> Answer
         ensures { MatchOption place (result ≡ Answer.Absent) (λ p. result ≡ Answer.Number p) }
     {

@@ -21,7 +21,7 @@ pub(crate) enum Kind {
     Sampled,
 }
 
-/// What a line asks for.
+/// What a line requests.
 #[derive(Drop)]
 pub(crate) enum Command {
     Words(Vec<u64>),
@@ -29,7 +29,7 @@ pub(crate) enum Command {
     Clear(u64),
     Build(Kind),
     Rank(u64),
-    /// A range: its first place and its width.
+    /// A range: its first position and its width.
     Bits(u64, u8),
     Rank0(u64),
     Select(u64),
@@ -138,8 +138,7 @@ fn are_words(text: &[u8]) -> bool
     parts.all(|part| hexadecimal(part).is_some())
 }
 
-/// The words that the parts write, of which there are so many, in one allocation of just their
-/// size.
+/// The words that the parts write, `count` of them, in one allocation of just their size.
 fn collect_words(alloc: Global, text: &[u8], count: usize) -> Result<Vec<u64>, AllocError>
     ensures { IfOk result (λ words. words.items ≡ filter_map hexadecimal_of (parts_of text.now)) }
 {

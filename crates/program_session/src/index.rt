@@ -13,7 +13,7 @@ use bitm::{
 use std::alloc::{AllocError, Global};
 use std::boxed::BoxedSlice;
 
-/// Samples for ones and for zeros, at a density that adapts to how many there are.
+/// Samples for 1 bits and for 0 bits, at a density that adapts to how many there are.
 type Samples = CombinedSampling<AdaptiveCombinedSamplingDensity<13>>;
 
 type SampledIndex = RankSelect101111<Samples, Samples, BoxedSlice<u64, Global>>;
@@ -30,7 +30,7 @@ ghost use Rattle.program_session.specs.Index.{indexed_words, kind_of_index};
 ghost use Rattle.program_session.specs.Session.{IsPlaceAnswer};
 
 impl Index {
-    /// An index over a copy of the words, and the number of ones.
+    /// An index over a copy of the words, and the number of 1 bits.
     pub(crate) fn build(
         alloc: Global,
         kind: Kind,
@@ -61,7 +61,7 @@ impl Index {
         }
     }
 
-    /// How many of so many bits from the front are ones; `None` exactly where there are fewer bits.
+    /// How many of the first `index` bits are 1; `None` exactly where there are fewer bits.
     pub(crate) fn try_rank(&self, index: usize) -> Option<usize>
         ensures { IsRank (bits_of (indexed_words self.now)) index result }
     {
@@ -72,7 +72,7 @@ impl Index {
         }
     }
 
-    /// How many of so many bits from the front are zeros; `None` exactly where there are fewer bits.
+    /// How many of the first `index` bits are 0; `None` exactly where there are fewer bits.
     pub(crate) fn try_rank0(&self, index: usize) -> Option<usize>
         ensures { IsRank0 (bits_of (indexed_words self.now)) index result }
     {
@@ -83,7 +83,7 @@ impl Index {
         }
     }
 
-    /// Where the one with `rank` ones before it stands, if this kind of index selects.
+    /// The position of the 1 bit with `rank` 1 bits before it, if this kind of index selects.
     pub(crate) fn select(&self, rank: usize) -> Answer
         ensures { IsPlaceAnswer (Some (kind_of_index self.now))
             (bits_of (indexed_words self.now)) true rank result }
@@ -95,7 +95,7 @@ impl Index {
         }
     }
 
-    /// Where the zero with `rank` zeros before it stands, if this kind of index selects.
+    /// The position of the 0 bit with `rank` 0 bits before it, if this kind of index selects.
     pub(crate) fn select0(&self, rank: usize) -> Answer
         ensures { IsPlaceAnswer (Some (kind_of_index self.now))
             (bits_of (indexed_words self.now)) false rank result }

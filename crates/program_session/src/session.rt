@@ -110,7 +110,7 @@ impl Session {
         }
     }
 
-    /// The same vector, and nothing built.
+    /// The vector as it was, and nothing built.
     fn forget_index(&mut self)
         ensures { self.new ≡ record { bits = self.old.bits; built = None } }
     {

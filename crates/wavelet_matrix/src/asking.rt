@@ -1,4 +1,4 @@
-//! A number by its place, and a number's ranks, over any source: what they read is counted.
+//! A number by its index, and a number's ranks, over any source: what they read is counted.
 ghost use Rattle.std.specs.Prelude.{◌≡◌, ◌-◌, ◌*◌, ◌^◌, ◌<◌, ◌≤◌, ℕ, slice_index};
 ghost use Rattle.wavelet_matrix.specs.Levels.{level_place};
 ghost use Rattle.wavelet_matrix.specs.Matrix.{IsMatrix, OnlyRanks, numbers_in};
@@ -14,7 +14,7 @@ impl Levels {
     /// # Conditions
     /// The levels are those of the source, and there is such a number.
     /// # Cost
-    /// For each digit what a rank reads: at most one upper entry, no lower one and two words; of compact levels at most
+    /// For each level what a rank reads: at most one upper entry, no lower one and two words; of compact levels at most
     /// one upper entry, one lower one and eight words.
     #[inline(always)]
     pub fn get_on<T: TableSource>(&self, source: &mut T, i: usize) -> u64
@@ -33,7 +33,7 @@ impl Levels {
         number
     }
 
-    /// Where a number that stands at a place of level `from`, or would there, stands at level `to`.
+    /// Where a number that stands at an index of level `from`, or would there, stands at level `to`.
     #[inline(always)]
     pub(crate) fn place_on<T: TableSource>(
         &self,
@@ -61,7 +61,7 @@ impl Levels {
         at
     }
 
-    /// The same for two places and the last level; their walks wait for memory side by side.
+    /// As `place_on`, for two indices and the last level; their walks wait for memory side by side.
     #[inline(always)]
     pub(crate) fn last_places_on<T: TableSource>(
         &self,
@@ -138,7 +138,7 @@ impl Levels {
     /// # Conditions
     /// The levels are those of the source, and there are no fewer than `i` numbers.
     /// # Cost
-    /// For each digit what two ranks read, and for each known one what one reads.
+    /// For each level what two ranks read, and for each level that is known what one reads.
     #[inline(always)]
     pub fn rank_on<T: TableSource>(&self, source: &mut T, number: u64, i: usize) -> usize
         requires matrix { IsMatrix self.now (T.lists source.old) }
@@ -154,8 +154,8 @@ impl Levels {
         last - first
     }
 
-    /// How many of the first `i` numbers are this one, where place `i` of the list is moved by its digits to place
-    /// `last` after the last level.
+    /// How many of the first `i` numbers are this one, where index `i` of the list is moved by its bits to index `last`
+    /// after the last level.
     #[inline(always)]
     pub(crate) fn rank_to_on<T: TableSource>(
         &self,

@@ -1,11 +1,11 @@
-//! Binary digits of a number.
+//! The bits of a number.
 ghost use Rattle.std.specs.Prelude.{◌≡◌, ◌<◌, ◌≤◌, ◌*◌, ◌/◌, ◌^◌, ◌↔◌, All, IsTrue};
 ghost use Rattle.bitm.specs.Bits.{digit};
 ghost use Rattle.wavelet_matrix.specs.Levels.{known_of};
 
 use bitm::bits_to_store;
 
-/// Whether binary digit `place` of the number is 1.
+/// Whether bit `place` of the number is 1.
 #[inline(always)]
 pub(crate) fn digit_of(number: u64, place: u8) -> bool
     requires { place < 64 }
@@ -14,7 +14,7 @@ pub(crate) fn digit_of(number: u64, place: u8) -> bool
     (number >> place) & 1 == 1
 }
 
-/// Whether the number has no more than `width` binary digits.
+/// Whether the number has no more than `width` bits.
 #[inline(always)]
 pub(crate) fn fits(number: u64, width: u8) -> bool
     requires { width ≤ 64 }
@@ -23,7 +23,7 @@ pub(crate) fn fits(number: u64, width: u8) -> bool
     width == 64 || number >> width == 0
 }
 
-/// The number without its lowest `count` binary digits.
+/// The number without its lowest `count` bits.
 #[inline(always)]
 pub(crate) fn without_lowest(number: u64, count: u8) -> u64
     requires { count ≤ 64 }
@@ -32,7 +32,7 @@ pub(crate) fn without_lowest(number: u64, count: u8) -> u64
     if count < 64 { number >> count } else { 0 }
 }
 
-/// How many of the `width` digits of `len` numbers are to be known from the table of starts.
+/// How many of the `width` bits of `len` numbers are to be known from the table of starts.
 pub(crate) fn known_for(len: usize, width: u8) -> u8
     requires most { width ≤ 64 }
     requires short { width * len < 2 ^ 63 }
@@ -44,7 +44,7 @@ pub(crate) fn known_for(len: usize, width: u8) -> u8
     bits_to_store(words as u64).saturating_sub(1).min(width)
 }
 
-/// Whether no number has more than `width` binary digits: what `WaveletMatrix::build` asks of its numbers.
+/// Whether no number has more than `width` bits: what `WaveletMatrix::build` requires of its numbers.
 ///
 /// # Conditions
 /// The width is at most 64.

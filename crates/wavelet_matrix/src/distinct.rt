@@ -36,7 +36,7 @@ impl<'a, S: SelectForRank101111, S0: Select0ForRank101111> Model for DistinctVal
 }
 
 impl<S: SelectForRank101111, S0: Select0ForRank101111> WaveletMatrix<S, S0> {
-    /// The number of a range that would stand at place `k` if the range were sorted, and how often it is in the range.
+    /// The number of a range that would stand at index `k` if the range were sorted, and how often it is in the range.
     ///
     /// # Conditions
     /// The range does not end before it starts, nor past the numbers, and has more than `k` of them.

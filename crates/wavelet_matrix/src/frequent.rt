@@ -26,7 +26,7 @@ fn place_for(found: &[(u64, usize)], count: usize) -> usize
 
 impl<S: SelectForRank101111, S0: Select0ForRank101111> WaveletMatrix<S, S0> {
     /// The `k` most frequent numbers of a range, each with how often it is in the range: the most frequent first, and
-    /// of equally frequent ones the least; all its numbers where it has no more than `k` distinct ones.
+    /// of equally frequent numbers the least; all its numbers where it has no more than `k` distinct numbers.
     ///
     /// # Conditions
     /// The range does not end before it starts, nor past the numbers.

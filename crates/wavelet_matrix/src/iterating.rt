@@ -41,7 +41,7 @@ impl<S: SelectForRank101111, S0: Select0ForRank101111> WaveletMatrix<S, S0> {
     /// The numbers from number `place` on, in their order.
     ///
     /// # Conditions
-    /// The place is that of a number, or the one after all.
+    /// There is a number at that index, or it is the number of all.
     /// # Cost
     /// For each number that comes that of `get`.
     #[inline]

@@ -1,17 +1,17 @@
-//! A sequence of numbers that is asked by value: how often a number is in a front or a range, where it is, and which
+//! A sequence of numbers that is queried by value: how often a number is in a prefix or a range, where it is, and which
 //! number of a range is the k-th smallest.
 //!
-//! Contracts see a matrix as the list of its numbers and their width in binary digits.
+//! Contracts see a matrix as the list of its numbers and their width in bits.
 //!
 //! ```
 //! let m = BinaryWaveletMatrix::build(alloc, [3u64, 1, 4, 1, 5, 1].as_slice(), 3)?;
 //! m.try_get(2)             // Some(4)
-//! m.try_rank(1, 4)         // Some(2): ones among the first four
-//! m.try_select(1, 2)       // Some(5): the place of the third 1
+//! m.try_rank(1, 4)         // Some(2): 1s among the first four
+//! m.try_select(1, 2)       // Some(5): the index of the third 1
 //! m.quantile(1..5, 2)      // 4: of 1 4 1 5 the third smallest
 //! m.next_value(0..6, 2)    // Some(3): the least that is at least 2
 //! m.distinct(1..5)         // (1, 2), (4, 1), (5, 1): each number of 1 4 1 5, and how often
-//! m.top_k(alloc, 0..6, 2)? // (1, 3), (3, 1): the most frequent two, the least of equally frequent ones first
+//! m.top_k(alloc, 0..6, 2)? // (1, 3), (3, 1): the most frequent two, the least of equally frequent numbers first
 //! ```
 #![tactic(auto)]
 

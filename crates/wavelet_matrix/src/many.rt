@@ -1,4 +1,4 @@
-//! Many numbers by their places at once, and many ranks, over any source.
+//! Many numbers by their indices at once, and many ranks, over any source.
 ghost use Rattle.std.specs.Prelude.{◌≡◌, ◌-◌, ◌*◌, ◌<◌, ◌≤◌, All, length};
 ghost use Rattle.wavelet_matrix.specs.Matrix.{IsMatrix, OnlyRanks, numbers_in};
 ghost use Rattle.wavelet_matrix.specs.Numbers.{GetsEach, RanksEach};
@@ -9,15 +9,15 @@ use crate::walk::Levels;
 use bitm::{Select0ForRank101111, SelectForRank101111, TableSource};
 
 impl Levels {
-    /// For each place the number there; they go to `numbers` in the order of the places, which are overwritten.
+    /// For each index the number there; they go to `numbers` in the order of the indices, which are overwritten.
     ///
     /// All go from level to level together, so that each waits for memory while the others do.
     ///
     /// # Conditions
-    /// The levels are those of the source, there are as many `numbers` as `places`, and there is a
-    /// number at each place.
+    /// The levels are those of the source, there are as many `numbers` as `places`, and there is a number at each
+    /// index.
     /// # Cost
-    /// For each place what `get_on` reads.
+    /// For each index what `get_on` reads.
     #[inline(always)]
     pub fn get_many_on<T: TableSource>(
         &self,
@@ -45,13 +45,14 @@ impl Levels {
         }
     }
 
-    /// For each number and its place, how many of so many first numbers are this one; they go to `ranks` in this order.
+    /// For each number and its index in `places`, how many numbers before that index equal it; the counts go to `ranks`
+    /// in this order.
     ///
     /// All go from level to level together, so that each waits for memory while the others do. Where the numbers start
     /// after the last level is found for one after another.
     ///
     /// # Conditions
-    /// The levels are those of the source, there are as many `numbers` and `ranks` as `places`, and no place is past
+    /// The levels are those of the source, there are as many `numbers` and `ranks` as `places`, and no index is past
     /// the end.
     /// # Cost
     /// For each number what `rank_on` reads.
@@ -89,10 +90,11 @@ impl Levels {
 }
 
 impl<S: SelectForRank101111, S0: Select0ForRank101111> WaveletMatrix<S, S0> {
-    /// For each number and its place, how many of so many first numbers are this one; they go to `ranks` in this order.
+    /// For each number and its index in `places`, how many numbers before that index equal it; the counts go to `ranks`
+    /// in this order.
     ///
     /// # Conditions
-    /// There are as many `numbers` and `ranks` as `places`, and no place is past the end.
+    /// There are as many `numbers` and `ranks` as `places`, and no index is past the end.
     /// # Cost
     /// That of `Levels::rank_many_on`: all go from level to level together.
     pub fn rank_many(&self, numbers: &[u64], places: &[usize], ranks: &mut [usize])

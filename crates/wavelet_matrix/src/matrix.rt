@@ -1,4 +1,4 @@
-//! The type of a matrix: its numbers by place and by value.
+//! The type of a matrix: its numbers by index and by value.
 ghost use Rattle.std.specs.Prelude.{◌≡◌, ◌==◌, ◌+◌, ◌*◌, ◌^◌, ◌<◌, ◌≤◌, true, false, All, IfOk, SomeIff, length, slice_index};
 ghost use Rattle.std.specs.Int.{div_ceil};
 ghost use Rattle.bitm.specs.Reads.{none_read};
@@ -18,26 +18,26 @@ use std::alloc::{AllocError, Global};
 use std::boxed::BoxedSlice;
 use std::marker::Model;
 
-/// Numbers of up to 64 binary digits, kept digit by digit, and generic in the strategies that select ones and zeros.
+/// Numbers of up to 64 bits, kept bit by bit, and generic in the strategies that select 1 bits and 0 bits.
 ///
-/// Level `d` has one bit for each number, its digit `width - 1 - d`; before the next level the numbers are partitioned
-/// by that digit, those with a 0 first, each kind in its order. All levels stand side by side in one content under one
-/// index: `n` numbers of `w` digits take `n * w` bits and the index, and sixteen bytes for each level. A table has for
-/// each number of some of the highest digits the place where the numbers that begin with it start after so many levels,
-/// so that a rank walks through these levels once and not twice. It has as many digits as leave its words no more than
-/// a 64th of these bits.
+/// Level `d` has one bit for each number, its bit `width - 1 - d`; before the next level the numbers are partitioned by
+/// that bit, those with a 0 first, each kind in its order. All levels stand side by side in one bit vector under one
+/// index: `n` numbers of `w` bits take `n * w` bits and the index, and sixteen bytes for each level. A table has for
+/// each number of some of the highest bits the index where the numbers that begin with it start after these levels, so
+/// that a rank walks through these levels once and not twice. It has as many bits as leave its words no more than a
+/// 64th of these bits.
 ///
 /// A rank on a level goes by quarters (`bitm::rank_by_quarters_on`), which take an eighth of these bits: it reads at
 /// most two words and no lower entry. A compact matrix (`build_compact`) has no quarters; there a rank goes by the
 /// index alone (`bitm::rank_on`) and reads at most eight words and one lower entry, so its answers take longer.
 ///
-/// For 3, 1, 4, 1, 5, 1 of three digits:
+/// For 3, 1, 4, 1, 5, 1 of three bits:
 ///
 /// ```text
-/// level 0   3 1 4 1 5 1   digit 2: 0 0 1 0 1 0
-/// level 1   3 1 1 1 4 5   digit 1: 1 0 0 0 0 0
-/// level 2   1 1 1 4 5 3   digit 0: 1 1 1 0 1 1
-/// at last   4 1 1 1 5 3   the ones are side by side: three of them, from place 1 on
+/// level 0   3 1 4 1 5 1   bit 2: 0 0 1 0 1 0
+/// level 1   3 1 1 1 4 5   bit 1: 1 0 0 0 0 0
+/// level 2   1 1 1 4 5 3   bit 0: 1 1 1 0 1 1
+/// at last   4 1 1 1 5 3   the 1s are side by side: three of them, from index 1 on
 /// ```
 ///
 /// # Source
@@ -73,8 +73,7 @@ impl<S: SelectForRank101111, S0: Select0ForRank101111> WaveletMatrix<S, S0> {
     /// A matrix of the numbers, which are not changed.
     ///
     /// # Conditions
-    /// The width is 1 to 64, no number has more digits than that (`all_fit`), and all digits together are fewer than
-    /// 2^63.
+    /// The width is 1 to 64, no number has more bits than that (`all_fit`), and all bits together are fewer than 2^63.
     /// # Errors
     /// `AllocError` if memory was refused; nothing is left.
     /// # Cost
@@ -162,7 +161,7 @@ impl<S: SelectForRank101111, S0: Select0ForRank101111> WaveletMatrix<S, S0> {
         self.levels.len() == 0
     }
 
-    /// How many binary digits each number has at most, as said when the matrix was built: 1 to 64.
+    /// How many bits each number has at most, as said when the matrix was built: 1 to 64.
     #[inline(always)]
     pub fn width(&self) -> u8
         ensures value { result ≡ self.now.width }
@@ -188,7 +187,7 @@ impl<S: SelectForRank101111, S0: Select0ForRank101111> WaveletMatrix<S, S0> {
         (&self.levels, self.index.probe())
     }
 
-    /// A matrix of the same numbers, with strategies of its own.
+    /// A copy of the matrix, with strategies of its own.
     ///
     /// # Errors
     /// `AllocError` if memory was refused; this value is as it was.
@@ -229,10 +228,10 @@ impl<S: SelectForRank101111, S0: Select0ForRank101111> WaveletMatrix<S, S0> {
         }
     }
 
-    /// For each place the number there; they go to `numbers` in the order of the places, which are overwritten.
+    /// For each index the number there; they go to `numbers` in the order of the indices, which are overwritten.
     ///
     /// # Conditions
-    /// There are as many `numbers` as `places`, and there is a number at each place.
+    /// There are as many `numbers` as `places`, and there is a number at each index.
     /// # Cost
     /// That of `Levels::get_many_on`: all go from level to level together.
     pub fn get_many(&self, places: &mut [usize], numbers: &mut [u64])
@@ -271,7 +270,7 @@ impl<S: SelectForRank101111, S0: Select0ForRank101111> WaveletMatrix<S, S0> {
         }
     }
 
-    /// From where a number came to a place of the next level, where it stands with `k` such numbers before it.
+    /// From where a number came to an index of the next level, where it stands with `k` such numbers before it.
     #[inline(always)]
     fn back(&self, depth: u8, number: u64, k: usize, place: usize) -> usize
         requires depth { depth < self.now.width }
@@ -289,7 +288,7 @@ impl<S: SelectForRank101111, S0: Select0ForRank101111> WaveletMatrix<S, S0> {
         bit - start
     }
 
-    /// From where a number came to a place after the last level, where it stands with `k` such numbers before it.
+    /// From where a number came to an index after the last level, where it stands with `k` such numbers before it.
     #[inline(always)]
     fn first_place(&self, number: u64, k: usize, place: usize) -> usize
         requires { PicksItem (level self.now.items self.now.width self.now.width) number k place }
@@ -303,12 +302,12 @@ impl<S: SelectForRank101111, S0: Select0ForRank101111> WaveletMatrix<S, S0> {
         at
     }
 
-    /// The place of this number with exactly `k` such numbers before it.
+    /// The index of this number with exactly `k` such numbers before it.
     ///
     /// # Conditions
     /// There is one: there are more than `k` such numbers.
     /// # Cost
-    /// For each digit a selection, and for each that is not known from the table of starts a rank.
+    /// For each level a selection, and for each that is not known from the table of starts a rank.
     #[inline]
     pub fn select(&self, number: u64, k: usize) -> usize
         requires { k < count_before self.now.items number (length self.now.items) }
@@ -319,10 +318,10 @@ impl<S: SelectForRank101111, S0: Select0ForRank101111> WaveletMatrix<S, S0> {
         self.first_place(number, k, first + k)
     }
 
-    /// The place of this number with exactly `k` such numbers before it; `None` exactly where there is none.
+    /// The index of this number with exactly `k` such numbers before it; `None` exactly where there is none.
     ///
     /// # Cost
-    /// For each digit a selection, and two ranks, or one where it is known from the table of starts.
+    /// For each level a selection, and two ranks, or one where it is known from the table of starts.
     #[inline]
     pub fn try_select(&self, number: u64, k: usize) -> Option<usize>
         ensures { IsItemSelect self.now.items number k result }

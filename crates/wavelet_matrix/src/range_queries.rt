@@ -1,4 +1,4 @@
-//! What a matrix is asked of the numbers of a range.
+//! Queries of the numbers of a range.
 ghost use Rattle.std.specs.Prelude.{◌≡◌, ◌+◌, ◌-◌, ◌<◌, ◌≤◌, length, slice_range};
 ghost use Rattle.wavelet_matrix.specs.Numbers.{count_less, count_between, IsSmallest, IsNextItem, IsPreviousItem};
 
@@ -40,7 +40,7 @@ impl<S: SelectForRank101111, S0: Select0ForRank101111> WaveletMatrix<S, S0> {
         levels.range_count_on(&mut probe, range.start, range.end, low, high)
     }
 
-    /// The number of a range that would stand at place `k` if the range were sorted.
+    /// The number of a range that would stand at index `k` if the range were sorted.
     ///
     /// # Conditions
     /// The range does not end before it starts, nor past the numbers, and has more than `k` of them.

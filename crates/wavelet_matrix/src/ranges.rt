@@ -1,4 +1,4 @@
-//! What is asked of the numbers of a range, over any source: how many are less than a number, and the k-th smallest.
+//! Queries of the numbers of a range, over any source: how many are less than a number, and the k-th smallest.
 ghost use Rattle.std.specs.Prelude.{◌≡◌, ◌*◌, ◌-◌, ◌<◌, ◌≤◌, true, false, is_some, if◌then◌else◌, take, count_by, slice_range};
 ghost use Rattle.wavelet_matrix.specs.Distinct.{count_equal};
 ghost use Rattle.wavelet_matrix.specs.Levels.{has_digit, partition_place};
@@ -10,8 +10,8 @@ use crate::walk::Levels;
 use bitm::TableSource;
 
 impl Levels {
-    /// Of a range of a level: how many items before its start and how many before its end have the digit 1, and how
-    /// many of its own have the digit 0.
+    /// Of a range of a level: how many items before its start and how many before its end have a 1 bit, and how many of
+    /// its own have a 0 bit.
     #[inline(always)]
     pub(crate) fn part_on<T: TableSource>(
         &self,
@@ -39,12 +39,12 @@ impl Levels {
         (before, through, (last - through) - (first - before))
     }
 
-    /// How many numbers from place `start` on and before place `end` are less than `bound`.
+    /// How many numbers from index `start` on and before index `end` are less than `bound`.
     ///
     /// # Conditions
     /// The levels are those of the source, and the range does not end before it starts, nor past the numbers.
     /// # Cost
-    /// For each digit what two ranks read.
+    /// For each level what two ranks read.
     #[inline(always)]
     pub fn count_less_on<T: TableSource>(
         &self,
@@ -79,13 +79,13 @@ impl Levels {
         count
     }
 
-    /// The number of a range that would stand at place `k` if the range were sorted.
+    /// The number of a range that would stand at index `k` if the range were sorted.
     ///
     /// # Conditions
     /// The levels are those of the source, and the range does not end before it starts, nor past the numbers, and has
     /// more than `k` of them.
     /// # Cost
-    /// For each digit what two ranks read.
+    /// For each level what two ranks read.
     /// # Source
     /// Gagie, Puglisi and Turpin, 'Range quantile queries: another virtue of wavelet trees' (SPIRE 2009).
     #[inline(always)]
@@ -150,13 +150,13 @@ impl Levels {
         (number, last - first)
     }
 
-    /// How many numbers from place `start` on and before place `end` are at least `low` and less than `high`; none where
-    /// `high` is no more than `low`.
+    /// How many numbers from index `start` on and before index `end` are at least `low` and less than `high`; none
+    /// where `high` is no more than `low`.
     ///
     /// # Conditions
     /// The levels are those of the source, and the range does not end before it starts, nor past the numbers.
     /// # Cost
-    /// For each digit what four ranks read; nothing is read where `high` is no more than `low`.
+    /// For each level what four ranks read; nothing is read where `high` is no more than `low`.
     #[inline(always)]
     pub fn range_count_on<T: TableSource>(
         &self,
@@ -182,13 +182,13 @@ impl Levels {
         less - self.count_less_on(source, start, end, low)
     }
 
-    /// The least number from place `start` on and before place `end` that is at least `bound`; `None` exactly where all
+    /// The least number from index `start` on and before index `end` that is at least `bound`; `None` exactly where all
     /// are less.
     ///
     /// # Conditions
     /// The levels are those of the source, and the range does not end before it starts, nor past the numbers.
     /// # Cost
-    /// For each digit what four ranks read, and what two read where there is none.
+    /// For each level what four ranks read, and what two read where there is none.
     #[inline(always)]
     pub fn next_value_on<T: TableSource>(
         &self,
@@ -213,13 +213,13 @@ impl Levels {
         }
     }
 
-    /// The greatest number from place `start` on and before place `end` that is less than `bound`; `None` exactly where
+    /// The greatest number from index `start` on and before index `end` that is less than `bound`; `None` exactly where
     /// none is.
     ///
     /// # Conditions
     /// The levels are those of the source, and the range does not end before it starts, nor past the numbers.
     /// # Cost
-    /// For each digit what four ranks read, and what two read where there is none.
+    /// For each level what four ranks read, and what two read where there is none.
     #[inline(always)]
     pub fn previous_value_on<T: TableSource>(
         &self,

@@ -12,7 +12,7 @@ use bitm::{
 };
 
 impl Levels {
-    /// How many ones stand among the bits of all levels before a place of a level.
+    /// How many 1 bits stand among the bits of all levels before an index of a level.
     #[inline(always)]
     fn ones_before_on<T: TableSource>(&self, source: &mut T, depth: u8, place: usize) -> usize
         requires matrix { IsMatrix self.now (T.lists source.old) }
@@ -33,7 +33,7 @@ impl Levels {
         }
     }
 
-    /// How many of the first items of a level have the digit 1.
+    /// How many of the first items of a level have a 1 bit.
     #[inline(always)]
     pub(crate) fn ones_to_on<T: TableSource>(
         &self,
@@ -52,7 +52,7 @@ impl Levels {
         ones - self.ones_before_level(depth)
     }
 
-    /// Where an item with this digit at a place of a level stands at the next level.
+    /// Where an item with this bit at an index of a level stands at the next level.
     #[inline(always)]
     pub(crate) fn next_on<T: TableSource>(
         &self,
@@ -72,7 +72,7 @@ impl Levels {
         self.place_by_rank(source, depth, digit, place, rank)
     }
 
-    /// The bit of a level at a place, and how many ones stand among the bits of all levels before it.
+    /// The bit of a level at an index, and how many 1 bits stand among the bits of all levels before it.
     #[inline(always)]
     fn bit_and_ones_before_on<T: TableSource>(
         &self,
@@ -100,7 +100,7 @@ impl Levels {
         }
     }
 
-    /// The digit by which the item at a place of a level is partitioned, and where it stands at the next level.
+    /// The bit by which the item at an index of a level is partitioned, and where it stands at the next level.
     #[inline(always)]
     pub(crate) fn digit_and_next_on<T: TableSource>(
         &self,

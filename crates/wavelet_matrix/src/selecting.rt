@@ -1,4 +1,4 @@
-//! The places of a number over any source, by binary search: what they read is counted.
+//! The indices of a number over any source, by binary search: what they read is counted.
 ghost use Rattle.std.specs.Prelude.{◌≡◌, ◌+◌, ◌-◌, ◌*◌, ◌<◌, ◌≤◌, false, length};
 ghost use Rattle.bitm.specs.Bits.{digit_count};
 ghost use Rattle.bitm.specs.Reads.{OnlyReads};
@@ -9,7 +9,7 @@ use crate::walk::Levels;
 use bitm::{TableSource, binary_select_on};
 
 impl Levels {
-    /// From where a number came to a place of the next level, where it stands with `k` such numbers before it.
+    /// From where a number came to an index of the next level, where it stands with `k` such numbers before it.
     #[inline(always)]
     fn back_on<T: TableSource>(
         &self,
@@ -39,12 +39,12 @@ impl Levels {
         }
     }
 
-    /// The place of this number with exactly `k` such numbers before it.
+    /// The index of this number with exactly `k` such numbers before it.
     ///
     /// # Conditions
     /// The levels are those of the source, and there are more than `k` such numbers.
     /// # Cost
-    /// For each digit what a selection by binary search reads, and for each that is not known what a rank reads.
+    /// For each level what a selection by binary search reads, and for each that is not known what a rank reads.
     pub fn select_on<T: TableSource>(&self, source: &mut T, number: u64, k: usize) -> usize
         requires matrix { IsMatrix self.now (T.lists source.old) }
         requires some { let numbers = numbers_in self.now (T.lists source.old) in

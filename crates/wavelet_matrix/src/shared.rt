@@ -40,7 +40,7 @@ impl Levels {
         (zero_start..zero_end, one_start..one_end)
     }
 
-    /// Adds the numbers that stand in both ranges of a level, whose items all begin with the digits of `prefix`.
+    /// Adds the numbers that stand in both ranges of a level, whose items all begin with the bits of `prefix`.
     fn add_shared_on<T: TableSource>(
         &self,
         source: &mut T,
@@ -86,7 +86,7 @@ impl Levels {
     /// # Errors
     /// `AllocError` if memory was refused.
     /// # Cost
-    /// Four ranks for each beginning, of none to all but one of the digits, that numbers of both ranges have.
+    /// Four ranks for each beginning, of none to all but one of the bits, that numbers of both ranges have.
     /// # Source
     /// Gagie, Navarro and Puglisi, 'New algorithms on wavelet trees and applications to information retrieval'
     /// (Theoretical Computer Science 426-427, 2012).

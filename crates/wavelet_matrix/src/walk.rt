@@ -15,9 +15,9 @@ use std::alloc::{AllocError, Global};
 use std::boxed::BoxedSlice;
 use std::marker::Model;
 
-/// Where the levels of a matrix are among the bits of a source: how many numbers there are, of how many digits, and for
-/// each level how many ones stand before it, and how many of its items have the digit 0. A table says for each number
-/// of some of the highest digits, the known ones, where the numbers that begin with it start after so many levels. The
+/// Where the levels of a matrix are among the bits of a source: how many numbers there are, of how many bits, and for
+/// each level how many 1 bits stand before it, and how many of its items have a 0 bit. A table says for each number of
+/// some of the highest bits, those that are known, where the numbers that begin with it start after these levels. The
 /// quarters of the bits spare a rank the lower table and six words; compact levels have none.
 #[derive(Drop)]
 pub struct Levels {
@@ -50,8 +50,8 @@ impl Model for Levels {
 }
 
 impl Levels {
-    /// The levels of `len` numbers of `width` digits, whose bits the index has from its first one on, with these
-    /// quarters, or compact. No digits are known from the table of starts: it says that all numbers start at place 0.
+    /// The levels of `len` numbers of `width` bits, whose bits the index has from its first one on, with these
+    /// quarters, or compact. No bits are known from the table of starts: it says that all numbers start at index 0.
     ///
     /// # Errors
     /// `AllocError` if memory was refused; nothing is left.
@@ -103,12 +103,12 @@ impl Levels {
         })
     }
 
-    /// Makes `known` of the highest digits known from the table of starts.
+    /// Makes `known` of the highest bits known from the table of starts.
     ///
     /// # Errors
     /// `AllocError` if memory was refused; the levels are as they were.
     /// # Cost
-    /// For each number of so many digits, and each digit, a rank.
+    /// For each of the 2^`known` prefixes, and each of its levels, a rank.
     pub(crate) fn keep_starts<T: TableSource>(
         &mut self,
         alloc: Global,
@@ -139,7 +139,7 @@ impl Levels {
         Ok(())
     }
 
-    /// The same levels once more.
+    /// A copy of the levels.
     ///
     /// # Errors
     /// `AllocError` if memory was refused; this value is as it was.
@@ -162,7 +162,7 @@ impl Levels {
         })
     }
 
-    /// How many of the highest digits are known from the table of starts.
+    /// How many of the highest bits are known from the table of starts.
     #[inline(always)]
     pub fn known(&self) -> u8
         ensures { result ≡ self.now.known }
@@ -186,7 +186,7 @@ impl Levels {
         self.quarters.as_slice()
     }
 
-    /// Where the numbers that begin with the known digits of this one start after so many levels.
+    /// Where the numbers that begin with the known high bits of this one start after these levels.
     #[inline(always)]
     pub(crate) fn start_of<T: TableSource>(&self, source: &T, number: u64) -> usize
         requires matrix { IsMatrix self.now (T.lists source.now) }
@@ -217,7 +217,7 @@ impl Levels {
         self.len
     }
 
-    /// How many binary digits each number has at most.
+    /// How many bits each number has at most.
     #[inline(always)]
     pub fn width(&self) -> u8
         ensures { result ≡ self.now.width }
@@ -225,7 +225,7 @@ impl Levels {
         self.width
     }
 
-    /// How many ones stand before a level.
+    /// How many 1 bits stand before a level.
     #[inline(always)]
     pub(crate) fn ones_before_level(&self, depth: u8) -> usize
         requires { depth < length self.now.ones }
@@ -234,7 +234,7 @@ impl Levels {
         self.ones[depth as usize]
     }
 
-    /// How many items of a level have the digit 0.
+    /// How many items of a level have a 0 bit.
     #[inline(always)]
     fn zeros_of_level(&self, depth: u8) -> usize
         requires { depth < length self.now.zeros }
@@ -243,7 +243,7 @@ impl Levels {
         self.zeros[depth as usize]
     }
 
-    /// Where an item with this digit at a place of a level stands at the next level, where so many ones stand among the
+    /// Where an item with this bit at an index of a level stands at the next level, where `rank` 1 bits stand among the
     /// bits of all levels before it.
     #[inline(always)]
     pub(crate) fn place_by_rank<T: TableSource>(
@@ -273,8 +273,8 @@ impl Levels {
         if digit { among_ones } else { among_zeros }
     }
 
-    /// Where an item with this digit at a place of a level stands at the next level, where so many before it have the
-    /// digit 1.
+    /// Where an item with this bit at an index of a level stands at the next level, where `ones` items before it have a
+    /// 1 bit.
     #[inline(always)]
     pub(crate) fn place_after<T: TableSource>(
         &self,
@@ -296,8 +296,8 @@ impl Levels {
         self.place_by_rank(source, depth, digit, place, rank)
     }
 
-    /// Which bit of the source is that of the item that stands, with `k` equal to `number` before it, at a place of the
-    /// level after this one: its kind and its rank, and the place of the level's first bit.
+    /// Which bit of the source is that of the item that stands, with `k` equal to `number` before it, at an index of
+    /// the level after this one: its kind and its rank, and the index of the level's first bit.
     #[inline(always)]
     pub(crate) fn bit_before<T: TableSource>(
         &self,

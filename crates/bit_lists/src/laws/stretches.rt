@@ -9,24 +9,24 @@ pub fn item_of_stretch()
     ensures { ItemOfStretch }
 {}
 
-/// The count before a place of a stretch, and the count before the stretch, are together that before the place.
+/// The count before a position of a stretch, and the count before the stretch, are together that before the position.
 #[tactic(auto, using(crate::proofs::BitLaws::count_in_stretch))]
 pub fn count_in_stretch()
     ensures { CountInStretch }
 {}
 
-/// A place is picked in a stretch exactly where it is picked in all, by its rank and those before the stretch.
+/// A position is picked in a stretch exactly where it is picked in all, by its rank and those before the stretch.
 pub fn picked_in_stretch()
     ensures { PickedInStretch }
 {}
 
-/// Ones and zeros are counted alike: the items that are the same as one.
+/// 1 bits and 0 bits are counted alike: as the items that equal a given bit.
 #[tactic(auto, using(crate::proofs::BitLaws::count_is_of_same))]
 pub fn count_is_of_same()
     ensures { CountIsOfSame }
 {}
 
-/// A rank between those of two places picks a place between them.
+/// A rank between those of two positions picks a position between them.
 pub fn picked_between()
     ensures { PickedBetween }
 {}
@@ -43,25 +43,25 @@ pub fn equal_items_count_for_one()
     ensures { EqualItemsCountForOne }
 {}
 
-/// Where the items of two lists agree up to a place, so do the counts before it.
+/// Where the items of two lists agree up to a position, so do the counts before it.
 #[tactic(auto, using(crate::proofs::BitLaws::counts_agree))]
 pub fn counts_agree()
     ensures { CountsAgree }
 {}
 
-/// The bits of two contents, one behind the other, are the bits of the joined content.
+/// The bits of two lists of words, one after the other, are the bits of the joined list.
 #[tactic(auto, using(crate::proofs::BitLaws::bits_are_joined))]
 pub fn bits_are_joined()
     ensures { BitsAreJoined }
 {}
 
-/// Bit `i` of words is digit `i mod 64` of word `i / 64`.
+/// Bit `i` of words is bit `i mod 64`, lowest first, of word `i / 64`.
 #[tactic(auto, using(crate::proofs::BitLaws::bit_is_digit))]
 pub fn bit_is_digit()
     ensures { BitIsDigit }
 {}
 
-/// A bit that was written is the number's lowest digit, and each other item is as it was.
+/// A bit that was written is the number's lowest bit, and each other item is as it was.
 pub fn item_after_write()
     ensures { ItemAfterWrite }
 {}

@@ -1,4 +1,4 @@
-//! Laws of words, of zeros and of what a write leaves, for items, numbers and counts.
+//! Laws of words, of 0 bits and of what a write leaves, for items, numbers and counts.
 ghost use Rattle.bit_lists.specs.WriteLaws.{BitsAreCounted, PlaceIsInside, WordIsItsBits};
 ghost use Rattle.bit_lists.specs.WriteLaws.{ZerosHaveNoOnes, ZerosAreCounted, ZerosAreZero, NoItemsAreZero};
 ghost use Rattle.bit_lists.specs.WriteLaws.{LengthIsKept, OneBitIsSet, ItemIsWritten, ItemBesideIsKept};
@@ -11,7 +11,7 @@ pub fn bits_are_counted()
     ensures { BitsAreCounted }
 {}
 
-/// A place is inside exactly where its word is.
+/// A position is inside exactly where its word is.
 #[tactic(auto, using(crate::proofs::BitLaws::place_is_inside))]
 pub fn place_is_inside()
     ensures { PlaceIsInside }
@@ -23,18 +23,18 @@ pub fn word_is_its_bits()
     ensures { WordIsItsBits }
 {}
 
-/// Words that are 0 have no ones.
+/// Words that are 0 have no 1 bits.
 #[tactic(auto, using(crate::proofs::BitLaws::zeros_have_no_ones))]
 pub fn zeros_have_no_ones()
     ensures { ZerosHaveNoOnes }
 {}
 
-/// In words that are 0 no ones are counted, and as many zeros before a place as there are places.
+/// In words that are 0 no 1 bits are counted, and as many 0 bits before a position as there are positions.
 pub fn zeros_are_counted()
     ensures { ZerosAreCounted }
 {}
 
-/// Items that are zeros are the number 0.
+/// Items that are all 0 are the number 0.
 #[tactic(auto, using(crate::proofs::BitLaws::zeros_are_zero))]
 pub fn zeros_are_zero()
     ensures { ZerosAreZero }
@@ -58,7 +58,7 @@ pub fn one_bit_is_set()
     ensures { OneBitIsSet }
 {}
 
-/// An item that was written is the digit of the number at its place there.
+/// An item that was written is the bit of the number at its position there.
 #[tactic(auto, using(crate::proofs::BitLaws::item_is_written))]
 pub fn item_is_written()
     ensures { ItemIsWritten }
@@ -76,23 +76,23 @@ pub fn number_beside_is_kept()
     ensures { NumberBesideIsKept }
 {}
 
-/// A count up to the place where a write begins is as it was.
+/// A count up to the position where a write begins is as it was.
 #[tactic(auto, using(crate::proofs::BitLaws::count_before_is_kept))]
 pub fn count_before_is_kept()
     ensures { CountBeforeIsKept }
 {}
 
-/// After a zero that was made a one there is one one more, and one zero less.
+/// After a 0 bit was made a 1 bit there is one more 1 bit, and one fewer 0 bit.
 pub fn one_more_is_set()
     ensures { OneMoreIsSet }
 {}
 
-/// After a one that was made a zero there is one one less, and one zero more.
+/// After a 1 bit was made a 0 bit there is one fewer 1 bit, and one more 0 bit.
 pub fn one_more_is_cleared()
     ensures { OneMoreIsCleared }
 {}
 
-/// A one that was written after all ones is the last of their places.
+/// A 1 bit that was written after all 1 bits has the last of their positions.
 #[tactic(auto, using(crate::proofs::BitLaws::last_one_is_set))]
 pub fn last_one_is_set()
     ensures { LastOneIsSet }
