@@ -104,7 +104,7 @@ impl<S: SelectForRank101111, S0: Select0ForRank101111> Sequence<S, S0> {
     ///
     /// # Errors
     /// `TooLong` exactly where there are 2^56 numbers or more; else `NotSorted` exactly where some number is less than
-    /// the one before it; else `OutOfMemory` if memory was refused. Nothing is left then.
+    /// the one before it; else `OutOfMemory` if memory was refused. Nothing stays allocated then.
     /// # Cost
     /// One pass over the numbers for each of the two vectors, and one over the upper vector for its index.
     pub fn build(alloc: Global, items: &[u64]) -> Result<Self, EfError>

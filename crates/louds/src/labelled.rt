@@ -88,7 +88,7 @@ impl<S: SelectForRank101111, S0: Select0ForRank101111> LabelledLouds<S, S0> {
     /// # Errors
     /// `TooLong` exactly where there are 2^60 degrees or more; else `NotATree` exactly where they are those of no tree;
     /// else `OutOfMemory` where memory was refused, or `NotLabels` only where these are no labels for that tree
-    /// (`are_labels` tests it). Nothing is left then.
+    /// (`are_labels` tests it). Nothing stays allocated then.
     /// # Cost
     /// That of `Louds::build`, a call of `next_sibling` for each node, and two passes over the labels.
     pub fn build(

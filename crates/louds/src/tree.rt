@@ -60,7 +60,7 @@ impl<S: SelectForRank101111, S0: Select0ForRank101111> Louds<S, S0> {
     ///
     /// # Errors
     /// `TooLong` exactly where there are 2^60 degrees or more; else `NotATree` exactly where they are those of no tree;
-    /// else `OutOfMemory` where memory was refused. Nothing is left then.
+    /// else `OutOfMemory` where memory was refused. Nothing stays allocated then.
     /// # Cost
     /// One pass over the degrees to test them, one to write their bits, and one over the bits for the index.
     pub fn build(alloc: Global, degrees: &[usize]) -> Result<Self, LoudsError>
