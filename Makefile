@@ -70,7 +70,7 @@ install: ## lay headers, archive, shared object, files for pkg-config and CMake 
 	install -m 644 $(HEADERS) $(DESTDIR)$(INCLUDEDIR)
 	install -m 644 $(HEADERS_CPP) $(DESTDIR)$(INCLUDEDIR)/bitm
 	install -m 644 $(ARCHIVE) $(DESTDIR)$(LIBDIR)/libbitm_c.a
-	$(CC) $(LDFLAGS) -shared -nostdlib -o $(DESTDIR)$(LIBDIR)/$(SHARED) -Wl,-soname,$(SONAME) -Wl,--whole-archive $(ARCHIVE) -Wl,--no-whole-archive -lgcc
+	$(CC) $(LDFLAGS) -shared -nostdlib -o $(DESTDIR)$(LIBDIR)/$(SHARED) -Wl,-soname,$(SONAME) -Wl,--version-script=install/libbitm_c.map -Wl,--whole-archive $(ARCHIVE) -Wl,--no-whole-archive -lgcc
 	chmod 644 $(DESTDIR)$(LIBDIR)/$(SHARED)
 	ln -sf $(SHARED) $(DESTDIR)$(LIBDIR)/$(SONAME)
 	ln -sf $(SONAME) $(DESTDIR)$(LIBDIR)/libbitm_c.so
