@@ -85,11 +85,19 @@ typedef char bitm_sizes_are_64_bits[sizeof(size_t) == 8 && sizeof(void *) == 8 ?
 /* The version of the library that is linked, to compare with BITM_VERSION_NUMBER of this header. */
 uint32_t bitm_version(void);
 
+/* Whether the library that is linked is one for programs that were compiled with this header: of the same series, and
+ * not older. Before 1.0 a series is a minor version, from 1.0 on a major one. */
+static inline bool bitm_version_fits(void)
+{
+    const uint32_t is = bitm_version(), series = is < 10000 ? 100 : 10000;
+    return is / series == BITM_VERSION_NUMBER / series && is >= BITM_VERSION_NUMBER;
+}
+
 /* What a call returns; each call names those that it may return. */
 enum bitm_status {
     BITM_OK = 0,       /* the answer was written */
     BITM_NONE = 1,     /* there is no such position, bit or number */
-    BITM_BAD_SIZE = 2, /* a length is wrong: see each call */
+    BITM_BAD_SIZE = 2, /* a length is wrong: see each call; bitm_index_fault, bitm_sequence_fault, .. say which one */
     BITM_WRONG = 3,    /* the tables or samples are not those of the words, the parts not those of a sequence, or the
                         * header is not one */
     BITM_UNSORTED = 4  /* a number is less than the one before it */
@@ -128,6 +136,16 @@ struct bitm_list_counts {
 
 /* How many words hold the given number of bits: bits_len / 64, rounded up. */
 size_t bitm_bits_words_len(uint64_t bits_len);
+
+/* Faults. Which length is wrong where a call returns BITM_BAD_SIZE, in words and in memory that stays; NULL if none is.
+ * Each looks at the lengths of one struct, or of words, which are the same for all calls that take these; where it
+ * returns NULL, a length is wrong that the call alone takes, such as out_len. */
+static inline const char *bitm_bits_fault(size_t words_len, uint64_t bits_len)
+{
+    if (bitm_bits_words_len(bits_len) > words_len) return "bits_len is above 64 * words_len";
+    if (words_len >= (size_t)1 << 58) return "words_len is 2^58 or more";
+    return NULL;
+}
 
 /* One bit at a position that you know to be below 64 * words_len: nothing is tested. */
 static inline bool bitm_bit_at(const uint64_t *words, uint64_t position)
@@ -284,6 +302,20 @@ struct bitm_index {
 size_t bitm_index_upper_len(size_t words_len);
 size_t bitm_index_lower_len(size_t words_len);
 
+/* Faults of words with tables, and of an index: see bitm_bits_fault. */
+static inline const char *bitm_tables_fault(size_t words_len, size_t upper_len, size_t lower_len)
+{
+    if (words_len >= (size_t)1 << 58) return "words_len is 2^58 or more";
+    if (upper_len != bitm_index_upper_len(words_len)) return "upper_len is not bitm_index_upper_len(words_len)";
+    if (lower_len != bitm_index_lower_len(words_len)) return "lower_len is not bitm_index_lower_len(words_len)";
+    return NULL;
+}
+static inline const char *bitm_index_fault(const struct bitm_index *index)
+{
+    const char *const fault = bitm_tables_fault(index->words_len, index->upper_len, index->lower_len);
+    return fault ? fault : bitm_bits_fault(index->words_len, index->bits_len);
+}
+
 /* The greatest number of samples of one kind that the given number of words can have: words_len / 2^(log2 - 6), rounded
  * up. */
 size_t bitm_index_samples_len(size_t words_len, uint32_t log2);
@@ -372,6 +404,16 @@ struct bitm_sequence {
     size_t lower_len;
     uint64_t reserved[2]; /* 0: not given */
 };
+
+/* Faults of a sequence: see bitm_bits_fault. */
+static inline const char *bitm_sequence_fault(const struct bitm_sequence *sequence)
+{
+    if (sequence->len >= (size_t)1 << 56) return "len is 2^56 or more";
+    if (sequence->width > 63) return "width is above 63";
+    if (sequence->low_len != bitm_bits_words_len(sequence->len * sequence->width))
+        return "low_len is not bitm_bits_words_len(len * width)";
+    return bitm_tables_fault(sequence->words_len, sequence->upper_len, sequence->lower_len);
+}
 
 /* How many low bits each number has, and how many items each part. */
 struct bitm_sequence_lens {
@@ -464,6 +506,13 @@ struct bitm_hash {
     size_t sizes_len;
     size_t keys;
 };
+
+/* Faults of a hash: see bitm_bits_fault. */
+static inline const char *bitm_hash_fault(const struct bitm_hash *hash)
+{
+    if (hash->sizes_len > 256) return "sizes_len is above 256";
+    return bitm_tables_fault(hash->index.words_len, hash->index.upper_len, hash->index.lower_len);
+}
 
 /* The words of a level for the given number of hashes: `percent` bits for each 100 of them (below 50 it counts as 50),
  * at least one word: left * percent / 6400 + 1. 100 takes least memory, 200 less time. */

@@ -55,9 +55,54 @@ static void by_using()
     CHECK(x.count() == 2 && v.select(1) == maybe_position(2));
 }
 
+// Which argument is wrong, in the text of the exception.
+template <class Call> static void says(Call call, const char *text)
+{
+#if defined __cpp_exceptions
+    std::string said = "nothing";
+    try {
+        call();
+    } catch (const std::exception &why) {
+        said = why.what();
+    }
+    if (said != text) std::printf("it says %s\n", said.c_str());
+    CHECK(said == text);
+#else
+    (void)call, (void)text;
+#endif
+}
+static void faults()
+{
+    bitm::bits b("0101101");
+    const bitm::rank_index x(b);
+    const bitm::sequence s{2, 3, 5};
+    std::vector<u64> two(2), three(3), words(2);
+    bitm_index raw = x.raw();
+    bitm_sequence parts = s.raw();
+    raw.upper_len = 0, parts.low_len++;
+    says([&] { bitm::rank_index_view v(raw); }, "bitm: a size or a length is wrong: upper_len is not bitm_index_upper_len(words_len)");
+    says([&] { bitm::sequence_view v(parts); },
+         "bitm: a size or a length is wrong: low_len is not bitm_bits_words_len(len * width)");
+    says([&] { x.rank(three, two); }, "bitm: a size or a length is wrong: there is not room for one answer a query");
+    says([&] { s.at(three, two); }, "bitm: a size or a length is wrong: there is not room for one answer a query");
+    says([&] { bitm::rank_index y(b, {12, 32}); }, "bitm: a size or a length is wrong: sampling::zeros is neither 0 nor 7 to 31");
+    says([&] { bitm::rank_index y(b, {6, 0}); }, "bitm: a size or a length is wrong: sampling::ones is neither 0 nor 7 to 31");
+    says([&] { bitm::bits_view v(words, 129); }, "bitm: a size or a length is wrong: the words have fewer than size bits");
+    says([&] { b &= bitm::bits("01"); }, "bitm: a size or a length is wrong: the other bits have another size");
+    says([&] { bitm::bits c("012"); }, "bitm: a size or a length is wrong: a letter is neither 0 nor 1");
+    says([&] { (void)x.rank(8); }, "bitm: a position past the end: 8 of 7");
+    says([&] { (void)b[7]; }, "bitm: a position past the end: 7 of 7");
+    says([&] { (void)b.count(5, 8); }, "bitm: a position past the end: the end of a range is 8 of 7");
+    says([&] { b.fill(5, 3, true); }, "bitm: a position past the end: the begin of a range is 5 of 3");
+    says([&] { (void)b.get_bits(0, 65); }, "bitm: a position past the end: the number of bits is 65 of 64");
+    says([&] { (void)b.get_bits(5, 3); }, "bitm: a position past the end: the first bit of a number is 5 of 4");
+    says([&] { (void)b.fragment(2, 3); }, "bitm: a position past the end: the index of a fragment is 2 of 2");
+    CHECK(bitm::rank_index::try_load("no/such/file").error().which == nullptr);
+}
+
 static void once()
 {
-    by_using();
+    by_using(), faults();
     CHECK(bitm::version_fits());
     const bitm::bits b{true, false, true};
     CHECK(b.size() == 3 && b[2] && !b[1] && bitm::bits("101") == b && b.front() && b.back());

@@ -57,7 +57,7 @@ public:
     {
         reserve(text.size());
         for (const char letter : text) {
-            if (letter != '0' && letter != '1') fail({errc::bad_size});
+            if (letter != '0' && letter != '1') fail(detail::bad_size("a letter is neither 0 nor 1"));
             push_back(letter == '1');
         }
     }
@@ -160,34 +160,47 @@ public:
     // The bits from one position on and before another: makes them equal to a value, or flips them.
     bits &fill(std::uint64_t from, std::uint64_t to, bool value)
     {
-        return done(bitm_bits_fill_range(block_.data(), len_, size_, from, to, value), detail::greater(from, to));
+        const std::uint32_t status = bitm_bits_fill_range(block_.data(), len_, size_, from, to, value);
+        if (BITM_RARELY(status != BITM_OK)) detail::outside_range(from, to, size_);
+        return *this;
     }
     bits &flip(std::uint64_t from, std::uint64_t to)
     {
-        return done(bitm_bits_flip_range(block_.data(), len_, size_, from, to), detail::greater(from, to));
+        const std::uint32_t status = bitm_bits_flip_range(block_.data(), len_, size_, from, to);
+        if (BITM_RARELY(status != BITM_OK)) detail::outside_range(from, to, size_);
+        return *this;
     }
     // Replaces the number in the `len` bits from position `begin` on; or combines it with a value by exclusive or.
     bits &set_bits(std::uint64_t begin, std::uint32_t len, std::uint64_t value)
     {
-        return done(bitm_bits_set_number(block_.data(), len_, size_, begin, len, value), begin);
+        const std::uint32_t status = bitm_bits_set_number(block_.data(), len_, size_, begin, len, value);
+        if (BITM_RARELY(status != BITM_OK)) detail::outside_number(begin, len, size_);
+        return *this;
     }
     bits &xor_bits(std::uint64_t begin, std::uint32_t len, std::uint64_t value)
     {
-        return done(bitm_bits_xor_number(block_.data(), len_, size_, begin, len, value), begin);
+        const std::uint32_t status = bitm_bits_xor_number(block_.data(), len_, size_, begin, len, value);
+        if (BITM_RARELY(status != BITM_OK)) detail::outside_number(begin, len, size_);
+        return *this;
     }
     // The bits as an array of numbers of `width` bits: replaces one, exchanges two, or makes the first `count` a value.
     bits &set_fragment(std::uint64_t index, std::uint32_t width, std::uint64_t value)
     {
-        return done(bitm_bits_set_fragment(block_.data(), len_, size_, index, width, value), index);
+        const std::uint32_t status = bitm_bits_set_fragment(block_.data(), len_, size_, index, width, value);
+        if (BITM_RARELY(status != BITM_OK)) detail::outside_fragment(index, width, size_);
+        return *this;
     }
     bits &swap_fragments(std::uint64_t first, std::uint64_t second, std::uint32_t width)
     {
-        return done(bitm_bits_swap_fragments(block_.data(), len_, size_, first, second, width),
-                    detail::greater(first, second));
+        const std::uint32_t status = bitm_bits_swap_fragments(block_.data(), len_, size_, first, second, width);
+        if (BITM_RARELY(status != BITM_OK)) detail::outside_fragment(detail::greater(first, second), width, size_);
+        return *this;
     }
     bits &fill_fragments(std::uint32_t width, std::uint64_t value, std::size_t count)
     {
-        return done(bitm_bits_fill_fragments(block_.data(), len_, size_, width, value, count), count);
+        const std::uint32_t status = bitm_bits_fill_fragments(block_.data(), len_, size_, width, value, count);
+        if (BITM_RARELY(status != BITM_OK)) detail::outside_fragment(count, width, size_);
+        return *this;
     }
     void push_back(bool value)
     {
@@ -202,7 +215,7 @@ public:
     // Appends the `len` lowest bits of a number, or other bits.
     void append(std::uint64_t value, std::uint32_t len)
     {
-        if (BITM_RARELY(len > 64)) detail::outside(len, 64);
+        if (BITM_RARELY(len > 64)) detail::outside(len, 64, "the number of bits");
         grow(size_ + len);
         set_bits(size_ - len, len, value);
     }
@@ -240,7 +253,7 @@ public:
     // A copy of the bits from one position on and before another.
     bits slice(std::uint64_t from, std::uint64_t to) const
     {
-        if (BITM_RARELY(from > to || to > size_)) detail::outside(detail::greater(from, to), size_);
+        if (BITM_RARELY(from > to || to > size_)) detail::outside_range(from, to, size_);
         bits made(to - from);
         made.take(*this, from, 0);
         return made;
@@ -287,14 +300,14 @@ private:
     // Makes the size this one; new bits are 0 bits, since all words past the size are zeros at all times.
     void grow(std::uint64_t size)
     {
-        if (BITM_RARELY(size < size_)) fail({errc::bad_size}); // past 2^64
+        if (BITM_RARELY(size < size_)) fail(detail::bad_size("2^64 bits or more"));
         const std::size_t words = bitm_bits_words_len(size);
         if (words > block_.size()) hold(detail::greater(words, detail::greater(8, block_.size() + block_.size() / 2)));
         len_ = words, size_ = size;
     }
-    bits &done(std::uint32_t status, std::uint64_t at = 0)
+    bits &done(std::uint32_t status)
     {
-        if (BITM_RARELY(status != BITM_OK)) detail::fail_status(status, at, size_);
+        detail::need(status);
         return *this;
     }
     // Whether a view lies in the memory of this owner.
@@ -304,7 +317,7 @@ private:
     }
     template <class Call> bits &with(Call call, bits_view other)
     {
-        if (BITM_RARELY(other.size() != size_)) fail({errc::bad_size, other.size(), size_});
+        if (BITM_RARELY(other.size() != size_)) fail(detail::bad_size("the other bits have another size"));
         if (BITM_RARELY(mine(other))) {
             const bits copy(other);
             return with(call, copy.view());

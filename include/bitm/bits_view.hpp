@@ -40,7 +40,7 @@ struct bits_parts {
 // How many bits the words have.
 inline std::uint64_t bits_in(std::size_t words)
 {
-    if (BITM_RARELY(words >= (std::size_t{1} << 58))) fail({errc::bad_size, words, std::uint64_t{1} << 58});
+    if (BITM_RARELY(words >= (std::size_t{1} << 58))) fail(bad_size("2^58 words or more"));
     return 64 * static_cast<std::uint64_t>(words);
 }
 
@@ -161,7 +161,7 @@ public:
     fragments_range() noexcept = default;
     fragments_range(const detail::bits_parts &of, std::uint32_t width) : of_(of), width_(width)
     {
-        if (width == 0 || width > 64) detail::outside(width, 64);
+        if (width == 0 || width > 64) detail::outside(width, 64, "the width of a fragment");
     }
     std::uint64_t size() const noexcept { return width_ ? of_.size / width_ : 0; }
     bool empty() const noexcept { return size() == 0; }
@@ -175,7 +175,7 @@ private:
     {
         std::uint64_t out = 0;
         const std::uint32_t status = bitm_bits_get_fragment(of.words, of.len, of.size, at, width, &out);
-        if (BITM_RARELY(status != BITM_OK || width == 0)) detail::outside(at, width ? of.size / width : 0);
+        if (BITM_RARELY(status != BITM_OK || width == 0)) detail::outside_fragment(at, width, of.size);
         return out;
     }
     detail::bits_parts of_;
@@ -208,7 +208,7 @@ public:
         std::uint64_t out = 0;
         const bits_parts of = parts();
         const std::uint32_t status = bitm_bits_get_number(of.words, of.len, of.size, begin, len, &out);
-        if (BITM_RARELY(status != BITM_OK)) fail_status(status, begin, of.size);
+        if (BITM_RARELY(status != BITM_OK)) outside_number(begin, len, of.size);
         return out;
     }
     // Number `index` of an array of numbers of `width` bits.
@@ -217,7 +217,7 @@ public:
         std::uint64_t out = 0;
         const bits_parts of = parts();
         const std::uint32_t status = bitm_bits_get_fragment(of.words, of.len, of.size, index, width, &out);
-        if (BITM_RARELY(status != BITM_OK)) fail_status(status, index, of.size);
+        if (BITM_RARELY(status != BITM_OK)) outside_fragment(index, width, of.size);
         return out;
     }
 
@@ -228,7 +228,8 @@ public:
         std::uint64_t out = 0;
         const bits_parts of = parts();
         const std::uint32_t status = bitm_bits_count_range(of.words, of.len, of.size, true, from, to, &out);
-        if (BITM_RARELY(status != BITM_OK)) fail_status(status, to, of.size);
+        if (BITM_RARELY(status == BITM_NONE)) outside_range(from, to, of.size);
+        need(status, "2^58 words or more");
         return out;
     }
     bool any() const { return next_one(0).has_value(); }
@@ -319,7 +320,7 @@ private:
     // Whether `test` holds of some 64 bits of both, or of the last fewer.
     template <class Other, class Test> bool some(const bits_calls<Other> &other, Test test) const
     {
-        if (BITM_RARELY(size() != other.size())) fail({errc::bad_size, other.size(), size()});
+        if (BITM_RARELY(size() != other.size())) fail(bad_size("the other bits have another size"));
         for (std::uint64_t at = 0; at < size(); at += 64) {
             const std::uint32_t len = static_cast<std::uint32_t>(lesser(64, size() - at));
             if (test(get_bits(at, len), other.get_bits(at, len))) return true;
@@ -343,7 +344,7 @@ public:
         : parts_{words.data(), words.size(), size ? *size : detail::bits_in(words.size())}
     {
         const std::size_t len = bitm_bits_words_len(parts_.size);
-        if (len > parts_.len) fail({errc::bad_size, parts_.size, words.size()});
+        if (len > parts_.len) fail(detail::bad_size("the words have fewer than size bits"));
         parts_.len = len;
     }
     using bits_calls::ones, bits_calls::zeros;

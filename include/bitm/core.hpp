@@ -76,14 +76,14 @@ using maybe_position = std::optional<std::uint64_t>;
 // In lists of answers: there is no such position; the tables are not those of the words.
 inline constexpr std::uint64_t no_answer = BITM_NO_ANSWER, wrong_answer = BITM_WRONG_TABLES;
 
-// Whether the library that is linked is the one of these headers.
-inline bool version_fits() noexcept { return bitm_version() == BITM_VERSION_NUMBER; }
+// Whether the library that is linked is one for programs that were compiled with these headers.
+inline bool version_fits() noexcept { return bitm_version_fits(); }
 
 // ---- errors
 
 enum class errc : std::uint8_t {
     none = 0,
-    bad_size = BITM_BAD_SIZE, // sizes that do not fit, or more words than 2^58
+    bad_size = BITM_BAD_SIZE, // a size or a length is wrong
     wrong = BITM_WRONG,       // the tables are not those of the words, the parts not those of a sequence
     unsorted = BITM_UNSORTED, // a number is less than the one before it
     outside = 16,             // a position past the end
@@ -93,16 +93,18 @@ enum class errc : std::uint8_t {
     overlap                   // memory that is written overlaps what is read
 };
 
-// What went wrong: position `at` of `of` where it is `outside`; `at` is errno where it is `no_file`.
+// What went wrong: position `at` of `of` where it is `outside`; `at` is errno where it is `no_file`. `which` says which
+// argument or length is wrong, in memory that stays; nullptr where nothing more is known.
 struct failure {
     errc code = errc::none;
     std::uint64_t at = 0, of = 0;
+    const char *which = nullptr;
 
     const char *text() const noexcept
     {
         switch (code) {
         case errc::none: return "bitm: no error";
-        case errc::bad_size: return "bitm: sizes that do not fit together, or 2^58 words or more";
+        case errc::bad_size: return "bitm: a size or a length is wrong";
         case errc::wrong: return "bitm: the tables are not those of the words";
         case errc::unsorted: return "bitm: a number is less than the one before it";
         case errc::outside: return "bitm: a position past the end";
@@ -121,6 +123,17 @@ struct failure {
 };
 
 #if defined __cpp_exceptions
+// A failure in words: what went wrong, and which argument or length it is.
+inline std::string message(const failure &why)
+{
+    std::string text = why.text();
+    if (why.which) text += std::string(": ") + why.which;
+    if (why.code == errc::no_file) text += std::string(": ") + std::strerror(static_cast<int>(why.at));
+    if (why.code == errc::outside)
+        text += (why.which ? " is " : ": ") + std::to_string(why.at) + " of " + std::to_string(why.of);
+    return text;
+}
+
 struct wrong_tables : std::runtime_error {
     wrong_tables() : std::runtime_error("bitm: the tables are not those of the words") {}
 };
@@ -136,15 +149,14 @@ struct wrong_file : std::runtime_error {
 #if defined __cpp_exceptions
     switch (why.code) {
     case errc::wrong: throw wrong_tables();
-    case errc::wrong_file: throw wrong_file(why.text());
-    case errc::no_file: throw wrong_file(why.text() + std::string(": ") + std::strerror(static_cast<int>(why.at)));
-    case errc::outside:
-        throw std::out_of_range(why.text() + (": " + std::to_string(why.at)) + " of " + std::to_string(why.of));
-    default: throw std::invalid_argument(why.text());
+    case errc::wrong_file:
+    case errc::no_file: throw wrong_file(message(why));
+    case errc::outside: throw std::out_of_range(message(why));
+    default: throw std::invalid_argument(message(why));
     }
 #else
-    std::fprintf(stderr, "%s: %llu of %llu\n", why.text(), static_cast<unsigned long long>(why.at),
-                 static_cast<unsigned long long>(why.of));
+    std::fprintf(stderr, "%s%s%s: %llu of %llu\n", why.text(), why.which ? ": " : "", why.which ? why.which : "",
+                 static_cast<unsigned long long>(why.at), static_cast<unsigned long long>(why.of));
     std::abort();
 #endif
 }
@@ -195,13 +207,36 @@ private:
 
 namespace detail {
 
-[[noreturn]] BITM_COLD inline void outside(std::uint64_t at, std::uint64_t of) { fail({errc::outside, at, of}); }
-
-// The error of a status that is not BITM_OK, where BITM_NONE means that a position is past the end.
-inline failure error_of(std::uint32_t status, std::uint64_t at = 0, std::uint64_t of = 0) noexcept
+[[noreturn]] BITM_COLD inline void outside(std::uint64_t at, std::uint64_t of, const char *which = nullptr)
 {
-    if (status == BITM_NONE) return {errc::outside, at, of};
-    return {static_cast<errc>(status), 0, 0};
+    fail({errc::outside, at, of, which});
+}
+// The number of `len` bits from `begin` on, a fragment, or the bits from one position on and before another, of which
+// an argument is past the end.
+[[noreturn]] BITM_COLD inline void outside_number(std::uint64_t begin, std::uint32_t len, std::uint64_t size)
+{
+    if (len > 64) outside(len, 64, "the number of bits");
+    outside(begin, size - (len < size ? len : size), "the first bit of a number");
+}
+[[noreturn]] BITM_COLD inline void outside_fragment(std::uint64_t index, std::uint32_t width, std::uint64_t size)
+{
+    if (width > 64) outside(width, 64, "the width of a fragment");
+    outside(index, width ? size / width : 0, "the index of a fragment");
+}
+[[noreturn]] BITM_COLD inline void outside_range(std::uint64_t from, std::uint64_t to, std::uint64_t size)
+{
+    if (from > to) outside(from, to, "the begin of a range");
+    outside(to, size, "the end of a range");
+}
+constexpr failure bad_size(const char *which) noexcept { return {errc::bad_size, 0, 0, which}; }
+
+// The error of a status that is not BITM_OK, where BITM_NONE means that a position is past the end, and `which` says
+// which length BITM_BAD_SIZE is about.
+inline failure error_of(std::uint32_t status, std::uint64_t at = 0, std::uint64_t of = 0,
+                        const char *which = nullptr) noexcept
+{
+    if (status == BITM_NONE) return {errc::outside, at, of, nullptr};
+    return {static_cast<errc>(status), 0, 0, status == BITM_BAD_SIZE ? which : nullptr};
 }
 [[noreturn]] BITM_COLD inline void fail_status(std::uint32_t status, std::uint64_t at = 0, std::uint64_t of = 0)
 {
@@ -210,6 +245,10 @@ inline failure error_of(std::uint32_t status, std::uint64_t at = 0, std::uint64_
 inline void need(std::uint32_t status)
 {
     if (BITM_RARELY(status != BITM_OK)) fail_status(status);
+}
+inline void need(std::uint32_t status, const char *which)
+{
+    if (BITM_RARELY(status != BITM_OK)) fail(error_of(status, 0, 0, which));
 }
 // Where BITM_NONE means that there is none: returns whether the answer was written.
 inline bool there(std::uint32_t status)
@@ -233,7 +272,7 @@ inline result<maybe_position> tried(std::uint32_t status, std::uint64_t out) noe
 // The status of a list, whose answers are written: fails where one of them says that the tables are wrong.
 inline void need_list(std::uint32_t status, const bitm_list_counts &counts)
 {
-    need(status);
+    need(status, "there is not room for one answer a query");
     if (BITM_RARELY(counts.wrong != 0)) fail_status(BITM_WRONG);
 }
 

@@ -35,6 +35,14 @@ struct sampling {
 
 namespace detail {
 
+// Why no index can be built so: a sampling, else the size.
+inline const char *fault_of(sampling how) noexcept
+{
+    const auto is_log2 = [](std::uint32_t it) { return it == 0 || (it >= 7 && it <= 31); };
+    if (!is_log2(how.ones)) return "sampling::ones is neither 0 nor 7 to 31";
+    return is_log2(how.zeros) ? "size is above 2^64 - 64" : "sampling::zeros is neither 0 nor 7 to 31";
+}
+
 template <class Self> class index_calls {
 public:
     std::uint64_t size() const noexcept { return raw().bits_len; }
@@ -180,8 +188,7 @@ public:
     // Fails where the lengths do not fit together.
     explicit rank_index_view(const bitm_index &raw) : raw_(raw)
     {
-        std::uint64_t out;
-        if (bitm_index_rank(&raw_, true, 0, &out) == BITM_BAD_SIZE) fail({errc::bad_size});
+        if (const char *const fault = bitm_index_fault(&raw_)) fail(detail::bad_size(fault));
     }
     // The index in the words of a file that was mapped or read.
     static result<rank_index_view> try_in(detail::kept<const std::uint64_t> file BITM_LIFETIMEBOUND) noexcept
@@ -232,7 +239,8 @@ public:
             return log2 ? bitm_index_samples_len(bitm_bits_words_len(size), log2) : 0;
         };
         bitm_stored header;
-        detail::need(bitm_stored_index(size, how.ones, most(how.ones), how.zeros, most(how.zeros), &header));
+        detail::need(bitm_stored_index(size, how.ones, most(how.ones), how.zeros, most(how.zeros), &header),
+                     detail::fault_of(how));
         rank_index made;
         made.block_ = detail::block(header.size / 8);
         std::uint64_t *const file = made.block_.data();

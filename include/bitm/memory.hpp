@@ -93,7 +93,7 @@ public:
     explicit block(std::size_t words)
     {
         if (words == 0) return;
-        if (BITM_RARELY(words >= (std::size_t{1} << 58))) fail({errc::bad_size});
+        if (BITM_RARELY(words >= (std::size_t{1} << 58))) fail(bad_size("2^58 words or more"));
         data_ = static_cast<std::uint64_t *>(::operator new(8 * words, std::align_val_t(64)));
         len_ = words, drop_ = free_heap;
         std::memset(data_, 0, 8 * words);

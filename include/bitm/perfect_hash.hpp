@@ -150,7 +150,7 @@ private:
     static result<perfect_hash> filed(words_in words, words_in sizes, std::size_t keys)
     {
         bitm_stored header;
-        if (bitm_stored_index(64 * words.size(), 0, 0, 0, 0, &header) != BITM_OK) return failure{errc::bad_size};
+        if (bitm_stored_index(64 * words.size(), 0, 0, 0, 0, &header) != BITM_OK) return detail::bad_size("2^58 words or more");
         detail::block all(header.size / 8 + head + sizes.size());
         const auto room = [&](bitm_span part) { return bitm_stored_room(all.data(), part); };
         std::memcpy(all.data(), &header, sizeof header);

@@ -34,7 +34,7 @@ public:
         const std::uint64_t largest = numbers.empty() ? 0 : numbers.end()[-1];
         if (bitm_sequence_sizes(numbers.size(), largest, &lens) != BITM_OK ||
             bitm_stored_sequence(numbers.size(), &lens, &header) != BITM_OK)
-            return failure{errc::bad_size};
+            return detail::bad_size("2^56 numbers or more");
         detail::block all(header.size / 8);
         const auto room = [&](bitm_span part) { return bitm_stored_room(all.data(), part); };
         std::uint64_t width = 0;

@@ -201,7 +201,8 @@ public:
     {
         std::uint64_t written = 0;
         need_apart(indexes, out);
-        need(bitm_sequence_get_list(&raw(), indexes.data(), indexes.size(), out.data(), out.size(), &written));
+        need(bitm_sequence_get_list(&raw(), indexes.data(), indexes.size(), out.data(), out.size(), &written),
+             "there is not room for one answer a query");
         if (BITM_RARELY(written < indexes.size())) (void)at(indexes.data()[written]), fail({errc::wrong});
     }
     // Writes the numbers from an index on until `out` is full or there are no more: how many. Fails where the parts are
@@ -266,8 +267,7 @@ public:
     sequence_view() noexcept = default;
     explicit sequence_view(const bitm_sequence &raw) : raw_(raw)
     {
-        std::uint64_t out;
-        if (bitm_sequence_get(&raw_, 0, &out) == BITM_BAD_SIZE) fail({errc::bad_size});
+        if (const char *const fault = bitm_sequence_fault(&raw_)) fail(detail::bad_size(fault));
     }
     static result<sequence_view> try_in(detail::kept<const std::uint64_t> file BITM_LIFETIMEBOUND) noexcept
     {

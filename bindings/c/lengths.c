@@ -1,0 +1,102 @@
+/* Which length is wrong: a fault is named exactly where a call returns BITM_BAD_SIZE, by the name of the length. And
+ * which versions of the library fit a header. */
+#define bitm_version version_of_the_test
+#include "common.h"
+#undef bitm_version
+
+#include <string.h>
+
+enum { WORDS = 96, LOWERS = 3, TURNS = 200000 };
+
+static uint32_t linked;
+uint32_t version_of_the_test(void) { return linked; }
+
+static uint64_t words[WORDS], upper[2], lower[LOWERS + 1], low[8], sizes[260];
+
+/* A right length, or one near it, or a huge one. */
+static size_t near_to(size_t right)
+{
+    switch (draw() % 8) {
+    case 0: return right + 1;
+    case 1: return right - (right > 0);
+    case 2: return ((size_t)1 << 58) - draw() % 2;
+    case 3: return SIZE_MAX - draw() % 2;
+    default: return right;
+    }
+}
+
+/* Whether a fault is named where, and only where, the status says so, and by a name of the struct. */
+static bool agrees(uint32_t status, const char *fault, const char *names)
+{
+    if ((status == BITM_BAD_SIZE) != (fault != NULL)) return false;
+    if (!fault) return true;
+    char name[32] = " ";
+    const size_t len = strcspn(fault, " ");
+    MUST(len < sizeof name - 2);
+    memcpy(name + 1, fault, len);
+    name[len + 1] = ' ', name[len + 2] = '\0';
+    return strstr(names, name) != NULL;
+}
+
+/* Lengths past the memory are wrong ones, which no call may take for right. */
+static void drawn(void)
+{
+    uint64_t out;
+    const size_t words_len = near_to(WORDS - draw() % 40), inside = words_len <= WORDS ? words_len : WORDS;
+    const size_t uppers = near_to(bitm_index_upper_len(inside)), lowers = near_to(bitm_index_lower_len(inside));
+    const struct bitm_index index = {.words = words, .words_len = words_len, .upper = upper, .upper_len = uppers,
+                                     .lower = lower, .lower_len = lowers, .bits_len = near_to(64 * inside)};
+    if (words_len <= WORDS || words_len >= (size_t)1 << 58) {
+        MUST(agrees(bitm_index_rank(&index, true, 0, &out), bitm_index_fault(&index),
+                    " words_len upper_len lower_len bits_len "));
+        MUST(agrees(bitm_bits_next(words, words_len, index.bits_len, true, UINT64_MAX, &out),
+                    bitm_bits_fault(words_len, index.bits_len), " words_len bits_len "));
+        const struct bitm_hash hash = {index, sizes, near_to(256), 7};
+        MUST(agrees(bitm_hash_get(&hash, 5, &out), bitm_hash_fault(&hash), " words_len upper_len lower_len sizes_len "));
+        const uint64_t width = draw() % 66;
+        const size_t len = draw() % 8 ? draw() % 8 : ((size_t)1 << 56) - draw() % 2;
+        const struct bitm_sequence sequence = {len, width, low, near_to(bitm_bits_words_len(len % 8 * width)), words,
+                                               words_len, upper, uppers, lower, lowers, {0, 0}};
+        MUST(agrees(bitm_sequence_get(&sequence, 0, &out), bitm_sequence_fault(&sequence),
+                    " len width low_len words_len upper_len lower_len "));
+    }
+}
+
+static void by_hand(void)
+{
+    struct bitm_index index = index_over(words, WORDS, upper, 1, lower, LOWERS);
+    MUST(!bitm_index_fault(&index) && !bitm_bits_fault(WORDS, 64 * WORDS) && !bitm_tables_fault(0, 0, 0));
+    index.bits_len++;
+    MUST(strcmp(bitm_index_fault(&index), "bits_len is above 64 * words_len") == 0);
+    index.upper_len = 0;
+    MUST(strcmp(bitm_index_fault(&index), "upper_len is not bitm_index_upper_len(words_len)") == 0);
+    MUST(strcmp(bitm_tables_fault(33, 1, 1), "lower_len is not bitm_index_lower_len(words_len)") == 0);
+    MUST(strcmp(bitm_bits_fault((size_t)1 << 58, 7), "words_len is 2^58 or more") == 0);
+    struct bitm_sequence sequence = {3, 5, low, 2, words, WORDS, upper, 1, lower, LOWERS, {0, 0}};
+    MUST(strcmp(bitm_sequence_fault(&sequence), "low_len is not bitm_bits_words_len(len * width)") == 0);
+    sequence.low_len = 1;
+    MUST(!bitm_sequence_fault(&sequence));
+}
+
+static void versions(void)
+{
+    linked = BITM_VERSION_NUMBER;
+    MUST(bitm_version_fits());
+    for (linked = 0; linked < 30000; linked++) { /* the same series is the same first two numbers, or from 1.0 on the first */
+        const bool same = BITM_VERSION_NUMBER < 10000 ? linked / 100 == BITM_VERSION_NUMBER / 100
+                                                      : linked / 10000 == BITM_VERSION_NUMBER / 10000;
+        MUST(bitm_version_fits() == (same && linked >= BITM_VERSION_NUMBER));
+    }
+}
+
+int main(int argc, char **argv)
+{
+    take_seed(argc, argv);
+    uint64_t ones;
+    MUST(bitm_index_build(words, WORDS, upper, 1, lower, LOWERS, &ones) == BITM_OK);
+    by_hand();
+    for (int i = 0; i < TURNS; i++) drawn();
+    versions();
+    puts("C: a fault is named exactly where a call returns BITM_BAD_SIZE; versions of one series fit");
+    return 0;
+}
