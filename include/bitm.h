@@ -488,6 +488,74 @@ BITM_MUST_USE uint32_t bitm_sequence_contains_list(const struct bitm_sequence *s
                                                    size_t values_len, uint64_t *out, size_t out_len,
                                                    struct bitm_list_counts *counts);
 
+/* A walk through the numbers in order, which reads them in blocks of 64 and may be moved on to a value. It keeps a copy
+ * of the struct that it walks through, and is memory of yours as any other: a walk is for one thread.
+ *
+ *     uint64_t sum = 0;
+ *     struct bitm_sequence_walk walk = {.sequence = primes};
+ *     uint32_t status = bitm_sequence_walk_from(&walk, 1, &item);
+ *     for (; status == BITM_OK; status = bitm_sequence_walk_next(&walk, &item)) sum += item;
+ *     if (status != BITM_NONE || sum != 3 + 5 + 7 + 11) return 1;
+ *     if (bitm_sequence_walk_from(&walk, 0, &item) != BITM_OK || bitm_sequence_walk_to(&walk, 6, &item) != BITM_OK ||
+ *         item != 7 || bitm_sequence_walk_index(&walk) != 3) return 1; */
+struct bitm_sequence_walk {
+    struct bitm_sequence sequence;
+    uint64_t first; /* the index of numbers[0] */
+    uint64_t at;    /* where the walk stands in numbers */
+    uint64_t len;   /* how many numbers were read: 0 at the end */
+    uint64_t numbers[64];
+};
+
+/* The index of the number where the walk stands; the length of the sequence at the end. */
+static inline uint64_t bitm_sequence_walk_index(const struct bitm_sequence_walk *walk)
+{
+    return walk->first + walk->at;
+}
+
+/* Moves to the number at an index, to the next one, or to the first from here on that is at least value: never back.
+ * Each writes that number. BITM_NONE if there is none: the walk is at its end then, and stays there but for an index.
+ * BITM_WRONG if the parts turn out not to be those of a sequence. A call reads what bitm_sequence_items reads for 64
+ * numbers, or nothing if the block holds the number; to a value also what bitm_sequence_first_at_least reads. */
+BITM_MUST_USE static inline uint32_t bitm_sequence_walk_from(struct bitm_sequence_walk *walk, uint64_t index,
+                                                             uint64_t *out)
+{
+    uint64_t written = 0;
+    const uint32_t status = bitm_sequence_items(&walk->sequence, index, walk->numbers, 64, &written);
+    walk->first = index < walk->sequence.len ? index : walk->sequence.len;
+    walk->at = 0;
+    walk->len = written;
+    if (status != BITM_OK) return status;
+    if (written == 0) return index < walk->sequence.len ? BITM_WRONG : BITM_NONE;
+    *out = walk->numbers[0];
+    return BITM_OK;
+}
+BITM_MUST_USE static inline uint32_t bitm_sequence_walk_next(struct bitm_sequence_walk *walk, uint64_t *out)
+{
+    if (walk->at + 1 < walk->len) {
+        walk->at++;
+        *out = walk->numbers[walk->at];
+        return BITM_OK;
+    }
+    if (walk->len == 0) return BITM_NONE;
+    return bitm_sequence_walk_from(walk, walk->first + walk->len, out);
+}
+BITM_MUST_USE static inline uint32_t bitm_sequence_walk_to(struct bitm_sequence_walk *walk, uint64_t value,
+                                                           uint64_t *out)
+{
+    uint64_t index = 0;
+    const uint64_t end = walk->first + walk->len;
+    if (walk->len == 0) return BITM_NONE;
+    if (walk->numbers[walk->len - 1] < value) {
+        const uint32_t status = bitm_sequence_first_at_least(&walk->sequence, value, &index);
+        if (status == BITM_NONE) index = walk->sequence.len;
+        else if (status != BITM_OK) return status;
+        return bitm_sequence_walk_from(walk, index < end ? end : index, out);
+    }
+    while (walk->numbers[walk->at] < value) walk->at++;
+    *out = walk->numbers[walk->at];
+    return BITM_OK;
+}
+
 /* ---- minimal perfect hashes
  *
  * Each of n keys gets a number of its own below n, in about three bits a key; no key is kept. You hash each key to 64

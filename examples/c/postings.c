@@ -1,4 +1,4 @@
-/* Posting lists: which documents hold both of two words. Each list is a sequence; the shorter one is walked. */
+/* Posting lists: which documents hold both of two words. Each list is a sequence; walks go on to each other's. */
 #include <bitm.h>
 #include <inttypes.h>
 #include <stdio.h>
@@ -25,13 +25,16 @@ static uint32_t build(struct list *to, const uint64_t *documents, size_t count)
 int main(void)
 {
     const uint64_t rank[] = {3, 17, 40, 99}, select[] = {1, 3, 8, 40, 41, 57, 80};
-    struct list shorter, longer;
-    uint64_t document, is_there;
-    if (build(&shorter, rank, 4) != BITM_OK || build(&longer, select, 7) != BITM_OK) return 1;
+    struct list a, b;
+    uint64_t x, y;
+    if (build(&a, rank, 4) != BITM_OK || build(&b, select, 7) != BITM_OK) return 1;
+    struct bitm_sequence_walk in_a = {.sequence = a.sequence}, in_b = {.sequence = b.sequence};
+    uint32_t status = bitm_sequence_walk_from(&in_a, 0, &x) | bitm_sequence_walk_from(&in_b, 0, &y);
     printf("both words:");
-    for (uint64_t i = 0; bitm_sequence_get(&shorter.sequence, i, &document) == BITM_OK; i++)
-        if (bitm_sequence_contains(&longer.sequence, document, &is_there) == BITM_OK && is_there)
-            printf(" %" PRIu64, document);
+    while (status == BITM_OK && bitm_sequence_walk_to(&in_b, x, &y) == BITM_OK) {
+        if (x == y) printf(" %" PRIu64, x);
+        status = x == y ? bitm_sequence_walk_next(&in_a, &x) : bitm_sequence_walk_to(&in_a, y, &x);
+    }
     printf("\n");
     return 0;
 }
