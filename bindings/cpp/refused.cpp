@@ -153,6 +153,8 @@ int main()
 #elif CASE == 37
     const bitm::bits b = some();
     bitm::bits_view v(b);
+#elif CASE == 38
+    auto it = numbers().lower_bound(2);
 #elif CASE == 110 // an answer that is not looked at
     bitm::rank_index::try_load("a");
 #elif CASE >= 100

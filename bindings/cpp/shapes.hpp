@@ -119,6 +119,19 @@ static void once()
     bitm::rank_index direct =
         bitm::rank_index::build(130, {7, 7}, [](bitm::words_out words) { words[0] = 5, words[2] = ~u64{}; });
     CHECK(direct.count() == 4 && direct.check() && *direct.select(3) == 129 && !direct.select(4));
+    // Text, and all that is left of it; an index of iterators; a number from a value on.
+    std::istringstream text("  0110 1x0");
+    bitm::bits first, second, third("1");
+    text >> first >> second;
+    CHECK(first == bitm::bits("0110") && second == bitm::bits("1") && text.peek() == 'x' && !(text >> third));
+    CHECK(third == bitm::bits("1") && bitm::bits::max_size() == 0xFFFFFFFFFFFFFFC0u);
+    first[1] -= true, first[2] -= false;
+    CHECK(first == bitm::bits("0010"));
+    const std::vector<bool> plain{false, true, true};
+    CHECK(bitm::rank_index(plain.begin(), plain.end(), {7, 7}) == bitm::rank_index(bitm::bits("011")));
+    const bitm::sequence some{2, 3, 3, 8};
+    CHECK(*some.lower_bound(4) == 8 && some.lower_bound(3) == some.begin() + 1 && some.lower_bound(9) == some.end() &&
+          some.view().lower_bound(0) == some.begin());
     const std::map<std::string, bitm::rank_index> member{{"a", direct}};
     CHECK(member.at("a").count() == 4);
 #if __cplusplus >= 202002L &&                                                                                          \

@@ -32,6 +32,7 @@ public:
         reference &operator|=(bool value) { return value ? *this = true : *this; }
         reference &operator&=(bool value) { return value ? *this : *this = false; }
         reference &operator^=(bool value) { return value ? flip() : *this; }
+        reference &operator-=(bool value) { return value ? *this = false : *this; }
         reference &flip() { return *this = !*this; }
         bool operator~() const { return !*this; }
         reference(const reference &) = default;
@@ -104,6 +105,7 @@ public:
     friend void swap(bits &a, bits &b) noexcept { a.swap(b); }
 
     // ---- size
+    static constexpr std::uint64_t max_size() noexcept { return 64 * ((std::uint64_t{1} << 58) - 1); }
     std::uint64_t capacity() const noexcept { return 64 * block_.size(); }
     void reserve(std::uint64_t size)
     {
@@ -257,6 +259,26 @@ public:
         bits made(to - from);
         made.take(*this, from, 0);
         return made;
+    }
+
+    // From text of zeros and ones, position 0 first, up to another letter: fails where there is no zero or one.
+    template <class Char, class Traits>
+    friend std::basic_istream<Char, Traits> &operator>>(std::basic_istream<Char, Traits> &from, bits &to)
+    {
+        using stream = std::basic_istream<Char, Traits>;
+        const typename stream::sentry ready(from);
+        if (!ready) return from;
+        bits read;
+        const auto is = [&](typename Traits::int_type letter, char wanted) {
+            return Traits::eq_int_type(letter, Traits::to_int_type(from.widen(wanted)));
+        };
+        for (auto letter = from.peek(); is(letter, '0') || is(letter, '1'); letter = from.peek()) {
+            read.push_back(is(letter, '1'));
+            from.ignore();
+        }
+        if (read.empty()) from.setstate(stream::failbit);
+        else to.swap(read);
+        return from;
     }
 
     // ---- views and walks: deleted for temporaries

@@ -232,6 +232,10 @@ public:
         : rank_index(bits_view(detail::kept<const std::uint64_t>(words.data(), words.size()), size), how)
     {
     }
+    template <class It, class = typename std::iterator_traits<It>::iterator_category>
+    rank_index(It first, It last, sampling how = {}) : rank_index(bits(first, last), how)
+    {
+    }
     // An index of `size` bits, which `fill` writes into words of zeros: without a copy.
     template <class Fill> static rank_index build(std::uint64_t size, sampling how, Fill &&fill)
     {

@@ -90,7 +90,9 @@ public:
     {
         return std::reverse_iterator<sequence_iterator>(begin());
     }
+    sequence_iterator lower_bound(std::uint64_t value) const &BITM_LIFETIMEBOUND { return {raw_, rank(value)}; }
     sequence_walk walk(std::uint64_t from = 0) const &BITM_LIFETIMEBOUND { return {raw_, from}; }
+    void lower_bound(std::uint64_t) const && = delete;
     void view() const && = delete;
     void raw() const && = delete;
     void begin() const && = delete;

@@ -261,6 +261,8 @@ public:
     sequence_iterator end() const noexcept { return {raw_, raw_.len}; }
     std::reverse_iterator<sequence_iterator> rbegin() const { return std::reverse_iterator<sequence_iterator>(end()); }
     std::reverse_iterator<sequence_iterator> rend() const { return std::reverse_iterator<sequence_iterator>(begin()); }
+    // The first number that is at least a value, by one search; end() where there is none.
+    sequence_iterator lower_bound(std::uint64_t value) const { return {raw_, rank(value)}; }
     sequence_walk walk(std::uint64_t from = 0) const { return {raw_, from}; }
 
 private:
