@@ -4,12 +4,13 @@
  * Bit i is bit i % 64, lowest first, of words[i / 64]. You own the memory of words and tables, which may be a mapped
  * file. No call allocates, keeps a pointer or has state, so any number of threads may query at once.
  *
- *     size_t m = bitm_index_upper_len(n), k = bitm_index_lower_len(n);
- *     uint64_t ones, position;
- *     if (bitm_index_build(words, n, upper, m, lower, k, &ones) != BITM_OK) ..
+ *     uint64_t words[2] = {0x5a, 1}, ones, position; // the bits 1, 3, 4, 6 and 64
+ *     size_t n = 2, m = bitm_index_upper_len(n), k = bitm_index_lower_len(n);
+ *     uint64_t *upper = malloc(8 * m), *lower = malloc(8 * k);
+ *     if (!upper || !lower || bitm_index_build(words, n, upper, m, lower, k, &ones) != BITM_OK) return 1;
  *     struct bitm_index index = {.words = words, .words_len = n, .upper = upper, .upper_len = m, .lower = lower,
- *                                .lower_len = k, .bits_len = bits};
- *     if (bitm_index_select(&index, true, 17, &position) == BITM_OK) ..
+ *                                .lower_len = k, .bits_len = 100};
+ *     if (bitm_index_select(&index, true, 4, &position) != BITM_OK || position != 64) return 1;
  *
  * NAMES. The prefix says what is queried: bitm_bits_ (words without tables), bitm_index_ (words with tables),
  * bitm_sequence_, bitm_hash_, bitm_stored_. `bool one` says which bits are meant: true the 1 bits, false the 0 bits. A
@@ -265,8 +266,10 @@ BITM_MUST_USE uint32_t bitm_bytes_set25(uint8_t *bytes, size_t bytes_len, uint64
  * takes less space and a longer search.
  *
  *     size_t most = bitm_index_samples_len(n, 12);
- *     uint64_t used;
- *     if (bitm_index_build_samples(&index, true, 12, samples, most, starts, m, &used) != BITM_OK) ..
+ *     uint32_t *samples = malloc(4 * most);
+ *     uint64_t *starts = malloc(8 * m), used;
+ *     if (!samples || !starts ||
+ *         bitm_index_build_samples(&index, true, 12, samples, most, starts, m, &used) != BITM_OK) return 1;
  *     index.ones = (struct bitm_samples){samples, used, starts, m, 12, 0};
  *
  * samples_len is what the build wrote to used; the rest of the list is not part of the samples. Lists, lengths and log2
@@ -385,7 +388,20 @@ BITM_MUST_USE uint32_t bitm_index_positions(const struct bitm_index *index, bool
 BITM_MUST_USE uint32_t bitm_index_next(const struct bitm_index *index, bool one, uint64_t from, uint64_t *out);
 BITM_MUST_USE uint32_t bitm_index_previous(const struct bitm_index *index, bool one, uint64_t from, uint64_t *out);
 
-/* ---- monotone integer sequences (Elias-Fano) */
+/* ---- monotone integer sequences (Elias-Fano)
+ *
+ *     const uint64_t items[5] = {2, 3, 5, 7, 11};
+ *     struct bitm_sequence_lens of;
+ *     if (bitm_sequence_sizes(5, items[4], &of) != BITM_OK) return 1;
+ *     uint64_t *low = malloc(8 * of.low_len), *high = malloc(8 * of.words_len), width, at, item;
+ *     uint64_t *high_upper = malloc(8 * of.upper_len), *high_lower = malloc(8 * of.lower_len);
+ *     if (!low || !high || !high_upper || !high_lower ||
+ *         bitm_sequence_build(items, 5, low, of.low_len, high, of.words_len, high_upper, of.upper_len, high_lower,
+ *                             of.lower_len, &width) != BITM_OK) return 1;
+ *     struct bitm_sequence primes = {.len = 5, .width = width, .low = low, .low_len = of.low_len, .words = high,
+ *                                    .words_len = of.words_len, .upper = high_upper, .upper_len = of.upper_len,
+ *                                    .lower = high_lower, .lower_len = of.lower_len};
+ *     if (bitm_sequence_first_at_least(&primes, 6, &at) != BITM_OK || at != 3) return 1; */
 
 /* The parts of a sequence of len numbers: the width low bits of each number in low, the high bits as 1 bits in words,
  * and the two tables of these words. Calls that take one return BITM_BAD_SIZE if len is 2^56 or more, width is above
@@ -562,12 +578,16 @@ BITM_MUST_USE static inline uint32_t bitm_sequence_walk_to(struct bitm_sequence_
  * bits. Levels are built one after another, each for the hashes that are left, and their words stand one after another
  * under one index:
  *
- *     uint64_t levels, used, left, ones;
- *     if (bitm_hash_build(hashes, n, 100, words, words_len, again, again_len, sizes, 256, &levels, &used, &left)) ..
- *     if (left > 0) .. (keys are equal, or their hashes are, or words_len is too small)
- *     if (bitm_index_build(words, used, upper, m, lower, k, &ones)) ..
- *     struct bitm_hash hash = {.index = {..}, .sizes = sizes, .sizes_len = levels, .keys = n};
- *     if (bitm_hash_get(&hash, key_hash, &number) == BITM_OK) .. */
+ *     uint64_t hashes[3] = {0x243f6a8885a308d3, 0x13198a2e03707344, 0xa4093822299f31d0};
+ *     uint64_t room[64], again[64], sizes[256], tables[3], levels, filled, left, number;
+ *     if (bitm_hash_build(hashes, 3, 100, room, 64, again, 64, sizes, 256, &levels, &filled, &left) != BITM_OK ||
+ *         left > 0) return 1; // keys are equal, or their hashes are, or there is not enough room
+ *     size_t lowers = bitm_index_lower_len(filled);
+ *     if (bitm_index_build(room, filled, tables, 1, tables + 1, lowers, &ones) != BITM_OK) return 1;
+ *     struct bitm_hash hash = {.index = {.words = room, .words_len = filled, .upper = tables, .upper_len = 1,
+ *                                        .lower = tables + 1, .lower_len = lowers, .bits_len = 64 * filled},
+ *                              .sizes = sizes, .sizes_len = levels, .keys = 3};
+ *     if (bitm_hash_get(&hash, 0x13198a2e03707344, &number) != BITM_OK || number > 2) return 1; */
 struct bitm_hash {
     struct bitm_index index; /* of the words of all levels; bits_len and samples are not read */
     const uint64_t *sizes;   /* the words of each level */
@@ -625,8 +645,17 @@ BITM_MUST_USE uint32_t bitm_hash_get_list(const struct bitm_hash *hash, const ui
  * header again with their number, samples of 1 bits first, and cut the file.
  *
  *     struct bitm_stored s;
- *     if (bitm_stored_read(file, bytes / 8, &s) != BITM_OK || s.kind != BITM_STORED_INDEX) ..
- *     struct bitm_index index = bitm_stored_index_of(file, &s);
+ *     if (bitm_stored_index(1000, 0, 0, 0, 0, &s) != BITM_OK) return 1;
+ *     size_t bytes = s.size;
+ *     uint64_t *file = calloc(1, bytes), *bits = file ? bitm_stored_room(file, s.words) : NULL; // or mapped
+ *     if (!file || bitm_bits_fill_range(bits, s.words.len, 1000, 10, 20, true) != BITM_OK ||
+ *         bitm_index_build(bits, s.words.len, bitm_stored_room(file, s.upper), s.upper.len,
+ *                          bitm_stored_room(file, s.lower), s.lower.len, &ones) != BITM_OK) return 1;
+ *     memcpy(file, &s, sizeof s);
+ *
+ *     if (bitm_stored_read(file, bytes / 8, &s) != BITM_OK || s.kind != BITM_STORED_INDEX) return 1;
+ *     struct bitm_index stored = bitm_stored_index_of(file, &s);
+ *     if (bitm_index_rank(&stored, true, 1000, &ones) != BITM_OK || ones != 10) return 1;
  *
  * A header says nothing of the contents of the parts: bitm_index_check, bitm_index_check_samples and
  * bitm_sequence_check do. */

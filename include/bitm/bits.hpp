@@ -1,9 +1,9 @@
 // Bits: an owner that grows, and a view of bits in memory of the caller's.
 //
-//     bitm::bits b(1000);
-//     b.set(17), b[18] = true, b.push_back(true), b.append(other), b &= other;
-//     for (auto position : b.ones()) ..             // forwards and backwards; b.ones(from), b.zeros()
-//     b.count(), b.next_one(5), b.get_bits(3, 13);
+//     bitm::bits b(1000), other("0011");
+//     b.set(17), b[18] = true, b.append(other), b.push_back(true), b &= b << 1;
+//     for (const std::uint64_t position : b.ones()) std::cout << position << ' '; // 18 1003 1004
+//     std::cout << b.count() << ' ' << b.next_one(5).value() << ' ' << b.get_bits(16, 13) << '\n'; // 3 18 4
 //
 // Bit i is bit i % 64, lowest first, of word i / 64. Positions past the end fail everywhere, also in `[]`.
 #ifndef BITM_BITS_HPP

@@ -1,10 +1,14 @@
 // Rank and selection: an owner of bits with their tables, and a view of both in memory of the caller's.
 //
-//     bitm::rank_index x(bits);                     // or of words; bitm::rank_index x(bits, {12, 12}) with samples
-//     x.rank(70), x.select(3), x.next_one(5);       // a number; optionals
-//     x.rank(queries, answers);                     // lists, into memory of the caller's
-//     x.save("a.bitm"), bitm::rank_index::map("a.bitm"); // the file is read where it lies
-//     f(x.view());                                  // a view; not of a temporary
+//     const bitm::rank_index x(bitm::bits("0101101"), {12, 12}); // or of words; without samples where they are left out
+//     std::cout << x.rank(4) << ' ' << x.select(2).value() << ' ' << x.next_one(5).value() << '\n'; // 2 4 6
+//     const std::vector<std::uint64_t> queries{0, 4, 7};
+//     std::vector<std::uint64_t> answers(3);
+//     x.rank(queries, answers);                                  // lists, into memory of the caller's
+//     x.save("a.bitm");
+//     const auto mapped = bitm::rank_index::map("a.bitm");       // the file is read where it lies
+//     const bitm::rank_index_view v = mapped.view();             // of a temporary it does not compile
+//     std::cout << v.select0(1).value() << ' ' << answers[2] << '\n'; // 2 4
 //
 // Answers over tables that are not those of the words (of a wrong file) are safe: bitm.h says how. Where wrong tables
 // are noticed, the call fails by bitm::wrong_tables; the `try_` calls return a bitm::result instead.

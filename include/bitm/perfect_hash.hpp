@@ -1,8 +1,10 @@
 // Minimal perfect hashes: a number of its own below n for each of n keys, in about three bits a key. No key is kept.
 //
-//     bitm::perfect_hash h(hashes);                       // of keys that you hashed to 64 bits
-//     h(hash)                                             // its number, or none; any number for what is no key
-//     bitm::perfect_hash h(keys.begin(), keys.end(), f);  // hashes them by f; then h(f(key))
+//     const std::vector<std::string> keys{"zero", "one", "two"};
+//     const std::hash<std::string> hash;
+//     const bitm::perfect_hash numbers(keys.begin(), keys.end(), hash); // or of hashes: bitm::perfect_hash(hashes)
+//     const bitm::maybe_position number = numbers(hash("two")); // below 3; none, or any number, for what is no key
+//     std::cout << (number.value() < numbers.size()) << '\n';   // 1
 //
 // A file is the one that Python's PerfectHash writes and loads (without fingerprints): an index, and sizes after it.
 #ifndef BITM_PERFECT_HASH_HPP

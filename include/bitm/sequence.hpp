@@ -1,10 +1,11 @@
 // Monotone sequences (Elias-Fano): an owner, and a view of parts in memory of the caller's.
 //
-//     bitm::sequence primes{2, 3, 5, 7, 11};        // or of a vector, a span, iterators
-//     primes[2], primes.first_at_least(6), primes.contains(7), primes.rank(7);
-//     std::ranges::lower_bound(primes, 6u);          // random access; begin() + 3, reverse
-//     auto w = primes.walk();                        // the fast way through all: in blocks
-//     w.advance_to(7);                               // to the first number that is not less
+//     const bitm::sequence primes{2, 3, 5, 7, 11};     // or of a vector, a span, iterators
+//     std::cout << primes[2] << ' ' << primes.first_at_least(6).value() << ' ' << primes.contains(7) << '\n'; // 5 3 1
+//     std::cout << *primes.lower_bound(6) << ' ' << primes.rank(7) << ' ' << *primes.rbegin() << '\n';        // 7 3 11
+//     auto walk = primes.walk();                       // the fast way through all: in blocks
+//     walk.advance_to(4);                              // to the first number that is not less
+//     for (const std::uint64_t it : walk) std::cout << it << ' '; // 5 7 11
 #ifndef BITM_SEQUENCE_HPP
 #define BITM_SEQUENCE_HPP
 
