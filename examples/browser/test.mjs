@@ -1,26 +1,34 @@
-// node examples/browser/test.mjs [FOLDER [CHROMIUM]]: opens the page in a headless Chromium at the width of a phone and of a
-// desk, drops files on it, chooses and types, and looks at answers, messages of the console and the width. Writes pictures
-// to FOLDER, if it is given.
+// node examples/browser/test.mjs [BROWSER [FOLDER]]: opens the page in a headless browser at the width of a phone and of a desk,
+// drops files on it, chooses and types, and looks at answers, messages of the console and the width. Says how long after
+// the page has loaded the first query is answered. BROWSER is a command whose name has chromium or firefox in it (else
+// chromium). Writes pictures to FOLDER, if it is given.
 import assert from "node:assert/strict";
-import { spawn, spawnSync } from "node:child_process";
+import { spawnSync } from "node:child_process";
 import { once } from "node:events";
 import { createServer } from "node:http";
-import { mkdtemp, readFile, rm, writeFile } from "node:fs/promises";
-import { tmpdir } from "node:os";
+import { readFile, writeFile } from "node:fs/promises";
 import { extname, join } from "node:path";
 import { fileURLToPath } from "node:url";
+import { chromium, firefox } from "./browsers.mjs";
 
-const [pictures, chromium = "chromium"] = process.argv.slice(2);
-if (spawnSync(chromium, ["--version"]).status !== 0) {
-    console.log(`skipped: the page in a browser, since ${chromium} is not here`);
+const [command = "chromium", pictures] = process.argv.slice(2), isFirefox = /firefox/.test(command);
+if (spawnSync(command, ["--version"]).status !== 0) {
+    console.log(`skipped: the page in a browser, since ${command} is not here`);
     process.exit(0);
 }
-const root = fileURLToPath(new URL("../..", import.meta.url)), home = await mkdtemp(join(tmpdir(), "bitm-page-"));
+if (isFirefox && typeof WebSocket === "undefined") {
+    const { status } = spawnSync(process.execPath, ["--experimental-websocket", ...process.argv.slice(1)], { stdio: "inherit" });
+    process.exit(status ?? 1);
+}
+const root = fileURLToPath(new URL("../..", import.meta.url));
 const TYPES = { ".html": "text/html", ".js": "text/javascript", ".css": "text/css", ".wasm": "application/wasm" };
+
+const EMPTY = '<!doctype html><title>empty</title><link rel="icon" href="data:,">';
 
 const server = createServer(async (asked, answer) => {
     const path = new URL(asked.url, "http://x").pathname;
     try {
+        if (path === "/empty.html") return answer.setHeader("Content-Type", "text/html").end(EMPTY);
         if (!/^\/(examples\/browser|bindings\/javascript)\/[\w./]+$/.test(path) || path.includes("..")) throw new Error(path);
         answer.setHeader("Content-Type", TYPES[extname(path)] ?? "application/octet-stream");
         answer.end(await readFile(join(root, path)));
@@ -30,49 +38,21 @@ const server = createServer(async (asked, answer) => {
     }
 });
 await once(server.listen(0, "127.0.0.1"), "listening");
-
-const flags = ["--headless", "--no-sandbox", "--disable-gpu", "--hide-scrollbars", "--remote-debugging-pipe", `--user-data-dir=${home}`];
-const browser = spawn(chromium, [...flags, "about:blank"], { stdio: ["ignore", "ignore", "ignore", "pipe", "pipe"] });
-const waiting = new Map(), messages = [];
-let number = 0, rest = "";
-browser.stdio[4].on("data", it => {
-    const parts = (rest + it).split("\0");
-    rest = parts.pop();
-    for (const said of parts.map(JSON.parse)) {
-        if (said.id) waiting.get(said.id)(said);
-        else if (["Runtime.consoleAPICalled", "Runtime.exceptionThrown", "Log.entryAdded"].includes(said.method)) messages.push(JSON.stringify(said.params));
-    }
-});
-const ask = (method, params = {}, sessionId) =>
-    new Promise((done, fail) => {
-        waiting.set(++number, it => (it.error ? fail(new Error(`${method}: ${it.error.message}`)) : done(it.result)));
-        browser.stdio[3].write(JSON.stringify({ id: number, method, params, sessionId }) + "\0");
-    });
+const browser = await (isFirefox ? firefox : chromium)(command);
+const address = path => `http://127.0.0.1:${server.address().port}/${path}`;
 
 async function opened(width) {
-    const { targetId } = await ask("Target.createTarget", { url: "about:blank" });
-    const { sessionId } = await ask("Target.attachToTarget", { targetId, flatten: true });
-    const page = (method, params) => ask(method, params, sessionId);
-    for (const it of ["Page", "Runtime", "Log", "DOM"]) await page(`${it}.enable`);
-    await page("Emulation.setDeviceMetricsOverride", { width, height: 800, deviceScaleFactor: 2, mobile: width < 500 });
-    const value = async it => {
-        const { result, exceptionDetails } = await page("Runtime.evaluate", { expression: it, awaitPromise: true, returnByValue: true });
-        if (exceptionDetails) throw new Error(exceptionDetails.exception?.description ?? it);
-        return result.value;
-    };
+    const page = await browser.open(address("examples/browser/index.html"), width);
     const until = async (state, what) => {
-        for (let k = 0; k < 300 && (await value("document.body?.dataset.state")) !== state; k++) await new Promise(done => setTimeout(done, 100));
-        assert.equal(await value("document.body.dataset.state"), state, `${what}: ${await value("document.getElementById('status').textContent")}`);
+        for (let k = 0; k < 300 && (await page.value("document.body?.dataset.state")) !== state; k++) await new Promise(done => setTimeout(done, 100));
+        assert.equal(await page.value("document.body.dataset.state"), state, `${what}: ${await page.value("document.getElementById('status')?.textContent")}`);
     };
-    await page("Page.navigate", { url: `http://127.0.0.1:${server.address().port}/examples/browser/index.html` });
     await until("ready", "the page");
-    return { page, value, until, width };
+    return { ...page, until };
 }
 
-async function picture({ page }, name) {
-    if (!pictures) return;
-    const { data } = await page("Page.captureScreenshot", { format: "png", captureBeyondViewport: true });
-    await writeFile(join(pictures, `${name}.png`), Buffer.from(data, "base64"));
+async function picture(it, name) {
+    if (pictures) await writeFile(join(pictures, `${name}.png`), Buffer.from(await it.picture(), "base64"));
 }
 
 /** Drops a file of this text, as a user would. */
@@ -161,6 +141,22 @@ const inWorkers = it => it.value(`(async () => {
         };\`, bytes);
 })()`);
 
+/** The milliseconds from the end of loading an empty page to the first answer, the least of some pages. */
+async function firstAnswer() {
+    let least = Infinity;
+    for (let k = 0; k < 5; k++) {
+        const it = await browser.open(address("empty.html"), 360);
+        const took = await it.value(`(async () => {
+            const start = performance.now(), { BitVector, Index } = await import("/bindings/javascript/src/web.js");
+            const got = new Index(BitVector.fromPositions([3, 5, 900])).rank(6);
+            return got === 2 ? performance.now() - start : NaN;
+        })()`);
+        assert.ok(took > 0, "the first answer");
+        least = Math.min(least, took);
+    }
+    return least;
+}
+
 try {
     for (const width of [360, 1000]) {
         const it = await opened(width);
@@ -170,12 +166,11 @@ try {
         await others(it);
         assert.equal(await inWorkers(it), "3,5,900,900");
     }
-    assert.deepEqual(messages, [], "the console is empty");
-    console.log("the page in Chromium, 360 and 1000 wide, and workers: answers as expected, no message, nothing wider than the page");
+    const first = await firstAnswer();
+    assert.deepEqual(browser.messages, [], "the console is empty");
+    console.log(`the page in ${isFirefox ? "Firefox" : "Chromium"}, 360 and 1000 wide, and workers: answers as expected, no message, ` +
+        `nothing wider than the page; ${Math.round(first)} ms from an empty page to the first answer`);
 } finally {
-    browser.kill();
+    await browser.close();
     server.close();
-    await new Promise(done => setTimeout(done, 300));
-    await rm(home, { recursive: true, force: true }).catch(() => {});
 }
-process.exit(process.exitCode ?? 0);
