@@ -1,5 +1,7 @@
 pub mod CopyLemmas
 pub mod FillLemmas
 pub mod FirstLemmas
+pub mod ListedLemmas
 pub mod PositionLemmas
 pub mod SameLemmas
+pub mod WhereLemmas
