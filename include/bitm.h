@@ -166,6 +166,13 @@ BITM_MUST_USE uint32_t bitm_bits_get(const uint64_t *words, size_t words_len, ui
 BITM_MUST_USE uint32_t bitm_bits_set(uint64_t *words, size_t words_len, uint64_t bits_len, uint64_t position,
                                      bool value);
 
+/* Makes the bits at the positions of a list equal to value, and writes to outside how many of the positions are bits_len
+ * or more: these change nothing. positions and outside may not overlap each other or the words. Reads each position
+ * once, and reads and writes the word of each that is inside. */
+BITM_MUST_USE uint32_t bitm_bits_set_list(uint64_t *words, size_t words_len, uint64_t bits_len,
+                                          const uint64_t *positions, size_t positions_len, bool value,
+                                          uint64_t *outside);
+
 /* The number in the width bits from position begin on, lowest bit first; replaces it by the width lowest bits of value;
  * combines these bits with the width lowest bits of value by exclusive or. A width is 0 to 64; the number of width 0 is
  * 0. BITM_NONE if begin + width is above bits_len or width is above 64. Reads or writes at most two words. */
@@ -235,6 +242,14 @@ BITM_MUST_USE uint32_t bitm_bits_and(uint64_t *words, size_t words_len, const ui
 BITM_MUST_USE uint32_t bitm_bits_or(uint64_t *words, size_t words_len, const uint64_t *other, size_t other_len);
 BITM_MUST_USE uint32_t bitm_bits_xor(uint64_t *words, size_t words_len, const uint64_t *other, size_t other_len);
 BITM_MUST_USE uint32_t bitm_bits_and_not(uint64_t *words, size_t words_len, const uint64_t *other, size_t other_len);
+
+/* Whether a position among the first bits_len has a 1 bit in both words and other; whether other has a 1 bit at each such
+ * position where words has one. As 0 or 1. BITM_BAD_SIZE if either has fewer than bits_len bits. words and other may
+ * overlap. Reads each word of both at most twice, up to the first that decides. */
+BITM_MUST_USE uint32_t bitm_bits_intersects(const uint64_t *words, size_t words_len, const uint64_t *other,
+                                            size_t other_len, uint64_t bits_len, uint64_t *out);
+BITM_MUST_USE uint32_t bitm_bits_is_subset(const uint64_t *words, size_t words_len, const uint64_t *other,
+                                           size_t other_len, uint64_t bits_len, uint64_t *out);
 
 /* The position, 0 to 63, of the 1 bit of a word with the given rank. BITM_NONE if the word has no more than rank. */
 BITM_MUST_USE uint32_t bitm_bits_select_in_word(uint64_t word, uint32_t rank, uint64_t *out);

@@ -3,6 +3,7 @@
  * position or rank that is answered has to index an array of the caller's. */
 #define _DEFAULT_SOURCE
 #include "guard.h"
+#include "sets.h"
 
 enum { MOST = 40 }; /* words of a bit vector */
 
@@ -240,6 +241,7 @@ int main(int argc, char **argv)
     struct guarded *const blocks[] = {&words_of,  &upper_of,   &lower_of, &samples_of,
                                       &starts_of, &queries_of, &out_of,   &low_of};
     for (size_t i = 0; i < sizeof blocks / sizeof *blocks; i++) *blocks[i] = guard(1 << 16);
+    sets();
     unsigned long calls = 0;
     while (calls < 10000000) calls += query_an_index() + query_a_sequence() + query_ranges() + query_bytes();
     puts("C host: ten million calls over random tables and parts, each array against a page that may not be touched");

@@ -58,6 +58,9 @@ static void fewer_bits_than(uint64_t bits_len)
     LEAVES(BITM_BAD_SIZE, bitm_bits_swap_fragments(some, LIST, bits_len, 0, 1, 1));
     LEAVES(BITM_BAD_SIZE, bitm_bits_fill_fragments(some, LIST, bits_len, 1, 1, 1));
     LEAVES(BITM_BAD_SIZE, bitm_bits_flip_range(some, LIST, bits_len, 0, 1));
+    LEAVES(BITM_BAD_SIZE, bitm_bits_set_list(some, LIST, bits_len, queries, LIST, true, &written.one));
+    LEAVES(BITM_BAD_SIZE, bitm_bits_intersects(words, WORDS, words, WORDS, bits_len, &written.one));
+    LEAVES(BITM_BAD_SIZE, bitm_bits_is_subset(words, WORDS, words, WORDS, bits_len, &written.one));
 }
 
 /* Lengths that differ by one either way, too many words, and tables of no words. */

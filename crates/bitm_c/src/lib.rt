@@ -14,6 +14,7 @@ mod fragments;
 mod hash;
 mod index;
 mod layout;
+mod listed;
 mod numbers;
 mod queries;
 mod ranges;

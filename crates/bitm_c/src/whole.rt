@@ -1,8 +1,12 @@
 //! Bitwise operations of two contents of the caller's, word by word.
-ghost use Rattle.std.specs.Prelude.{◌≡◌, ◌≢◌, ℕ, ◌*◌, ◌<◌, ◌↔◌, ◌&&◌, ◌||◌, not, if◌then◌else◌, length};
+ghost use Rattle.std.specs.Prelude.{◌≡◌, ◌≢◌, ℕ, ◌*◌, ◌<◌, ◌≤◌, ◌↔◌, ◌&&◌, ◌||◌, not, if◌then◌else◌, length};
 ghost use Rattle.bitm.specs.Bits.{bits_of, item};
+ghost use Rattle.bit_slices.specs.Where.{AreDisjoint, IsSubset};
+ghost use Rattle.bitm_c.specs.Bits.{HasBits};
 
 use crate::answer::{BAD_SIZE, OK};
+use crate::bits::has_bits;
+use bit_slices::has_where;
 use bitm::words;
 
 /// Keeps a 1 bit exactly where `other` has one too.
@@ -63,5 +67,47 @@ pub extern "C" fn bitm_bits_and_not(words: &mut [u64], other: &[u64]) -> u32
         return BAD_SIZE;
     }
     words::and_not(words, other);
+    OK
+}
+
+/// Whether a position among the first `bits_len` has a 1 bit in both, as 0 or 1.
+#[unsafe(no_mangle)]
+pub extern "C" fn bitm_bits_intersects(
+    words: &[u64],
+    other: &[u64],
+    bits_len: usize,
+    out: &mut u64,
+) -> u32
+    ensures ok { (result ≡ 0) ↔ (HasBits words.now bits_len × HasBits other.now bits_len) }
+    ensures disjoint { result ≡ 0
+        → (out.new ≡ 0) ↔ AreDisjoint (bits_of words.now) (bits_of other.now) bits_len }
+    ensures truth { result ≡ 0 → out.new ≤ 1 }
+    ensures unchanged { result ≢ 0 → (result ≡ 2) × (out.new ≡ out.old) }
+{
+    if !has_bits(words, bits_len) || !has_bits(other, bits_len) {
+        return BAD_SIZE;
+    }
+    *out = !has_where::<0>(words, other, bits_len) as u64;
+    OK
+}
+
+/// Whether `other` has a 1 bit at each position among the first `bits_len` where `words` has one, as 0 or 1.
+#[unsafe(no_mangle)]
+pub extern "C" fn bitm_bits_is_subset(
+    words: &[u64],
+    other: &[u64],
+    bits_len: usize,
+    out: &mut u64,
+) -> u32
+    ensures ok { (result ≡ 0) ↔ (HasBits words.now bits_len × HasBits other.now bits_len) }
+    ensures subset { result ≡ 0
+        → (out.new ≡ 1) ↔ IsSubset (bits_of words.now) (bits_of other.now) bits_len }
+    ensures truth { result ≡ 0 → out.new ≤ 1 }
+    ensures unchanged { result ≢ 0 → (result ≡ 2) × (out.new ≡ out.old) }
+{
+    if !has_bits(words, bits_len) || !has_bits(other, bits_len) {
+        return BAD_SIZE;
+    }
+    *out = has_where::<1>(words, other, bits_len) as u64;
     OK
 }

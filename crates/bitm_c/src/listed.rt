@@ -1,0 +1,32 @@
+//! Bits at a list of positions.
+ghost use Rattle.std.specs.Prelude.{◌≡◌, ◌≢◌, ◌↔◌};
+ghost use Rattle.bitm.specs.Bits.{bits_of};
+ghost use Rattle.bit_slices.specs.Listed.{outside_of, IsSetAt};
+ghost use Rattle.bitm_c.specs.Bits.{HasBits};
+
+use crate::answer::{BAD_SIZE, OK};
+use crate::bits::has_bits;
+use bit_slices::set_listed_in;
+
+/// Makes the bits at those of the positions that are below `bits_len` equal to `value`, and writes how many are not.
+#[unsafe(no_mangle)]
+pub extern "C" fn bitm_bits_set_list(
+    words: &mut [u64],
+    bits_len: usize,
+    positions: &[usize],
+    value: bool,
+    outside: &mut usize,
+) -> u32
+    ensures ok { (result ≡ 0) ↔ HasBits words.old bits_len }
+    ensures outside { result ≡ 0 → outside.new ≡ outside_of bits_len positions.now }
+    ensures bits { result ≡ 0
+        → IsSetAt (bits_of words.old) bits_len value positions.now (bits_of words.new) }
+    ensures unchanged { result ≢ 0
+        → (result ≡ 2) × (words.new ≡ words.old) × (outside.new ≡ outside.old) }
+{
+    if !has_bits(&*words, bits_len) {
+        return BAD_SIZE;
+    }
+    *outside = set_listed_in(words, bits_len, value, positions);
+    OK
+}
