@@ -14,7 +14,8 @@ fn random(seed: &mut u64) -> usize {
     *seed as usize
 }
 
-/// Adds up what a query answers.
+/// Adds up what a query answers, in a loop of its own for each kind.
+#[inline(never)]
 fn queries(count: usize, mut query: impl FnMut(usize) -> usize) -> usize {
     let mut seed = 88172645463325252;
     (0..count).fold(0, |all: usize, _| all.wrapping_add(query(black_box(random(&mut seed)))))
@@ -35,6 +36,7 @@ fn main() {
     let hash = PerfectHash::build(hashes.clone()).expect("no two are equal");
     let all = match what {
         "nothing" => queries(n, |at| at % BITS),
+        "nothing below the 1 bits" => queries(n, |at| at % BITS % ones),
         "words::count" => queries(n, |at| words::count(&bits, at % BITS % 64, true)),
         "RankSelect101111::rank" => queries(n, |at| owned.rank(at % BITS)),
         "Index::rank" => queries(n, |at| index.rank(at % BITS)),

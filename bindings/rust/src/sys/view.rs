@@ -241,7 +241,8 @@ impl<'a> IndexView<'a> {
     }
 }
 
-/// A rank of all bits of words with tables, whose lengths may be any. The call reads no samples, so none are written.
+/// A rank of all bits of words with tables, whose lengths may be any. The call reads neither samples nor what is reserved,
+/// so these are not written.
 #[inline(always)]
 pub(crate) fn rank_of(
     words: &[u64],
@@ -260,7 +261,6 @@ pub(crate) fn rank_of(
         (&raw mut (*at).lower).write(lower.as_ptr());
         (&raw mut (*at).lower_len).write(lower.len());
         (&raw mut (*at).bits_len).write((words.len() as u64).wrapping_mul(64));
-        (&raw mut (*at).reserved).write([0; 2]);
     }
     // SAFETY: borrowed slices, and room for the number that the call writes where it returns OK.
     let found = unsafe { query(|out| bitm_index_rank(at, one, position as u64, out)) };
