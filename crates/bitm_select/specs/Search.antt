@@ -3,7 +3,7 @@ use Rattle.std.specs.Prelude.{◌≡◌, ℕ, ◌+◌, ◌*◌, ◌^◌, ◌<◌
 use Rattle.bit_lists.specs.Bits.{bits_of}
 use Rattle.bit_lists.specs.Count.{ones_before, as_bit}
 use Rattle.bit_lists.specs.Number.{number_at}
-use Rattle.bitm_tables.specs.Entry.{before_in_part}
+use Rattle.bitm_tables.specs.Entry.{before_in_part, lower_entry}
 pub use Rattle.bitm_tables.specs.Entry.{entries_from, negation, padded_bits}
 use Rattle.bitm_tables.specs.Tables.{HasTables, Lists}
 use Rattle.bitm_select.specs.Told.{told_entry}
@@ -66,6 +66,18 @@ IsAbove bit lists part e above = above < 2 ^ 62 → (e + 1 < entries_from (lengt
 -- are left
 abbrev pub IsAmong : List Bool → ℕ → ℕ → ℕ → ℕ → ℕ → Type 0
 IsAmong m entries part r low left = Between (λ j. before_in_part m (part * 2 ^ 21 + j)) (entries_from entries part) r low left
+
+-- the same of the items that are sought in lists
+abbrev pub IsAmongIn : ℕ → Lists → ℕ → ℕ → ℕ → ℕ → Type 0
+IsAmongIn bit lists part r low left = IsAmong (sought_in bit lists.words) (length lists.lower) part r low left
+
+-- what a search for the last entry of a part with no more than r of the kind before it in the part finds: an entry of
+-- the part, and what it is told to pack; where the tables are those of the words it is that entry
+pub record IsLastFound (bit : ℕ) (lists : Lists) (part r : ℕ) (found : ℕ × ℕ) : Type 0 where
+  pub inside : found.0 < entries_from (length lists.lower) part
+  pub last : HasTables lists → IsLastEntry (sought_in bit lists.words) (length lists.lower) part r found.0
+  pub entry : HasTables lists → found.1 ≡ lower_entry (sought_in bit lists.words) (entry_in part found.0)
+  pub told : found.1 ≡ told_entry (as_bit bit) lists (entry_in part found.0)
 
 -- a range of the entries of a part, and what its first entry is told to pack, unless it is the part's first; where the
 -- tables are those of the words, the last entry of the part with no more than r ones before it is in the range

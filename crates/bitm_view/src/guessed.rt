@@ -2,9 +2,9 @@
 //! near the guess, entry by entry or in a window. Where it is not there, it is found as `sampled` finds it.
 ghost use Rattle.std.specs.Prelude.{◌≡◌, ◌+◌, ◌*◌, ◌^◌, ◌<◌, ◌≤◌, length, IfSome};
 ghost use Rattle.bit_lists.specs.Count.{as_bit};
-ghost use Rattle.bitm_select.specs.Entry.{before_in_part, lower_entry};
+ghost use Rattle.bitm_select.specs.Entry.{before_in_part};
 ghost use Rattle.bitm_select.specs.Reads.{ReadsAtMost};
-ghost use Rattle.bitm_select.specs.Search.{entries_from, entry_in, sought_in, IsLastEntry};
+ghost use Rattle.bitm_select.specs.Search.{entries_from, entry_in, sought_in, IsLastFound};
 ghost use Rattle.bitm_select.specs.Tables.{HasSizes, HasTables, bits_in};
 ghost use Rattle.bitm_view.specs.Samples.{AreSamplesOf};
 ghost use Rattle.bitm_select.specs.Told.{told_entry};
@@ -13,7 +13,7 @@ use crate::sampled::{Bounds, entry_between, entry_by_samples, samples_to};
 use crate::samples::{LentSamples, clamped_log};
 use bitm_select::entry::{entries_of_part, ones_to_entry};
 use bitm_select::levels::L2_ENTRIES_PER_L1_ENTRY;
-use bitm_select::search::entries::sought_entry;
+use bitm_select::search::entries::{last_entry, sought_entry};
 use bitm_select::search::selecting::FindsEntry;
 use bitm_select::source::TableSource;
 
@@ -33,7 +33,7 @@ const DENSE: usize = 16;
 /// Where so many entries lie between two samples a guess is wrong too often.
 const SPARSE: usize = 512;
 
-/// Finds entries by a guess between two samples.
+/// Finds entries by a guess between two samples; by the tables alone where there are none.
 #[derive(Clone, Copy)]
 pub struct ByGuess<'a> {
     /// The samples. They may hold anything.
@@ -93,13 +93,7 @@ fn steps_on<const BIT: u8, T: TableSource>(
     requires at_most { HasTables (T.lists source.old)
         → before_in_part (sought_in BIT (T.lists source.old).words) (entry_in part at) ≤ rank }
     requires packed { packed ≡ told_entry (as_bit BIT) (T.lists source.old) (entry_in part at) }
-    ensures inside { IfSome result
-        (λ r. r.0 < entries_from (length (T.lists source.old).lower) part) }
-    ensures last { IfSome result (λ r. HasTables (T.lists source.old)
-        → IsLastEntry (sought_in BIT (T.lists source.old).words)
-        (length (T.lists source.old).lower) part rank r.0) }
-    ensures packed { IfSome result (λ r. r.1
-        ≡ told_entry (as_bit BIT) (T.lists source.old) (entry_in part r.0)) }
+    ensures last { IfSome result (IsLastFound BIT (T.lists source.old) part rank) }
     ensures reads { ReadsAtMost (T.reads source.old) (T.reads source.new) 0 4 0 }
     ensures same { T.lists source.new ≡ T.lists source.old }
 {
@@ -134,13 +128,7 @@ fn steps_back<const BIT: u8, T: TableSource>(
     requires at { at < entries_from (length (T.lists source.old).lower) part }
     requires above { HasTables (T.lists source.old)
         → rank < before_in_part (sought_in BIT (T.lists source.old).words) (entry_in part at) }
-    ensures inside { IfSome result
-        (λ r. r.0 < entries_from (length (T.lists source.old).lower) part) }
-    ensures last { IfSome result (λ r. HasTables (T.lists source.old)
-        → IsLastEntry (sought_in BIT (T.lists source.old).words)
-        (length (T.lists source.old).lower) part rank r.0) }
-    ensures packed { IfSome result (λ r. r.1
-        ≡ told_entry (as_bit BIT) (T.lists source.old) (entry_in part r.0)) }
+    ensures last { IfSome result (IsLastFound BIT (T.lists source.old) part rank) }
     ensures reads { ReadsAtMost (T.reads source.old) (T.reads source.new) 0 4 0 }
     ensures same { T.lists source.new ≡ T.lists source.old }
 {
@@ -169,15 +157,7 @@ fn entry_by_steps<const BIT: u8, T: TableSource>(
 ) -> Option<(usize, u64)>
     requires sized { HasSizes (T.lists source.old) }
     requires inside { part < length (T.lists source.old).upper }
-    ensures inside { IfSome result
-        (λ r. r.0 < entries_from (length (T.lists source.old).lower) part) }
-    ensures last { IfSome result (λ r. HasTables (T.lists source.old)
-        → IsLastEntry (sought_in BIT (T.lists source.old).words)
-        (length (T.lists source.old).lower) part rank r.0) }
-    ensures entry { IfSome result (λ r. HasTables (T.lists source.old) → r.1
-        ≡ lower_entry (sought_in BIT (T.lists source.old).words) (entry_in part r.0)) }
-    ensures packed { IfSome result (λ r. r.1
-        ≡ told_entry (as_bit BIT) (T.lists source.old) (entry_in part r.0)) }
+    ensures last { IfSome result (IsLastFound BIT (T.lists source.old) part rank) }
     ensures reads { ReadsAtMost (T.reads source.old) (T.reads source.new) 0 5 0 }
     ensures same { T.lists source.new ≡ T.lists source.old }
 {
@@ -202,15 +182,7 @@ fn entry_in_window<const BIT: u8, T: TableSource>(
 ) -> Option<(usize, u64)>
     requires sized { HasSizes (T.lists source.old) }
     requires inside { part < length (T.lists source.old).upper }
-    ensures inside { IfSome result
-        (λ r. r.0 < entries_from (length (T.lists source.old).lower) part) }
-    ensures last { IfSome result (λ r. HasTables (T.lists source.old)
-        → IsLastEntry (sought_in BIT (T.lists source.old).words)
-        (length (T.lists source.old).lower) part rank r.0) }
-    ensures entry { IfSome result (λ r. HasTables (T.lists source.old) → r.1
-        ≡ lower_entry (sought_in BIT (T.lists source.old).words) (entry_in part r.0)) }
-    ensures packed { IfSome result (λ r. r.1
-        ≡ told_entry (as_bit BIT) (T.lists source.old) (entry_in part r.0)) }
+    ensures last { IfSome result (IsLastFound BIT (T.lists source.old) part rank) }
     ensures reads { ReadsAtMost (T.reads source.old) (T.reads source.new) 0 5 0 }
     ensures same { T.lists source.new ≡ T.lists source.old }
 {
@@ -238,15 +210,7 @@ fn guessed_entry<const BIT: u8, const SIDE_BY_SIDE: u8, T: TableSource>(
 ) -> Option<(usize, u64)>
     requires sized { HasSizes (T.lists source.old) }
     requires inside { part < length (T.lists source.old).upper }
-    ensures inside { IfSome result
-        (λ r. r.0 < entries_from (length (T.lists source.old).lower) part) }
-    ensures last { IfSome result (λ r. HasTables (T.lists source.old)
-        → IsLastEntry (sought_in BIT (T.lists source.old).words)
-        (length (T.lists source.old).lower) part rank r.0) }
-    ensures entry { IfSome result (λ r. HasTables (T.lists source.old) → r.1
-        ≡ lower_entry (sought_in BIT (T.lists source.old).words) (entry_in part r.0)) }
-    ensures packed { IfSome result (λ r. r.1
-        ≡ told_entry (as_bit BIT) (T.lists source.old) (entry_in part r.0)) }
+    ensures last { IfSome result (IsLastFound BIT (T.lists source.old) part rank) }
     ensures reads { ReadsAtMost (T.reads source.old) (T.reads source.new) 0 5 0 }
     ensures same { T.lists source.new ≡ T.lists source.old }
 {
@@ -273,14 +237,7 @@ pub(crate) fn entry_by_guess<const BIT: u8, const SIDE_BY_SIDE: u8, T: TableSour
 ) -> (usize, u64)
     requires sized { HasSizes (T.lists source.old) }
     requires inside { part < length (T.lists source.old).upper }
-    ensures inside { result.0 < entries_from (length (T.lists source.old).lower) part }
-    ensures last { HasTables (T.lists source.old)
-        → IsLastEntry (sought_in BIT (T.lists source.old).words)
-        (length (T.lists source.old).lower) part rank result.0 }
-    ensures entry { HasTables (T.lists source.old) → result.1
-        ≡ lower_entry (sought_in BIT (T.lists source.old).words) (entry_in part result.0) }
-    ensures told { result.1
-        ≡ told_entry (as_bit BIT) (T.lists source.old) (entry_in part result.0) }
+    ensures last { IsLastFound BIT (T.lists source.old) part rank result }
     ensures reads { ReadsAtMost (T.reads source.old) (T.reads source.new) 0 51 0 }
     ensures reads_by_samples { HasTables (T.lists source.old)
         → AreSamplesOf (bits_in (T.lists source.old)) (as_bit BIT) lent.now
@@ -303,14 +260,7 @@ fn entry_far_off<const BIT: u8, T: TableSource>(
 ) -> (usize, u64)
     requires sized { HasSizes (T.lists source.old) }
     requires inside { part < length (T.lists source.old).upper }
-    ensures inside { result.0 < entries_from (length (T.lists source.old).lower) part }
-    ensures last { HasTables (T.lists source.old)
-        → IsLastEntry (sought_in BIT (T.lists source.old).words)
-        (length (T.lists source.old).lower) part rank result.0 }
-    ensures entry { HasTables (T.lists source.old) → result.1
-        ≡ lower_entry (sought_in BIT (T.lists source.old).words) (entry_in part result.0) }
-    ensures told { result.1
-        ≡ told_entry (as_bit BIT) (T.lists source.old) (entry_in part result.0) }
+    ensures last { IsLastFound BIT (T.lists source.old) part rank result }
     ensures reads { ReadsAtMost (T.reads source.old) (T.reads source.new) 0 46 0 }
     ensures reads_by_samples { HasTables (T.lists source.old)
         → AreSamplesOf (bits_in (T.lists source.old)) (as_bit BIT) lent.now
@@ -330,6 +280,9 @@ impl<'a, const BIT: u8, T: TableSource> FindsEntry<BIT, T> for ByGuess<'a> {
 
     #[inline(always)]
     fn entry(&self, source: &mut T, part: usize, rank: usize) -> (usize, u64) {
+        if self.samples.samples.is_empty() {
+            return last_entry::<BIT, T>(source, part, rank);
+        }
         entry_by_guess::<BIT, 0, T>(source, &self.samples, part, rank)
     }
 }

@@ -1,5 +1,5 @@
 //! Words and tables that are lent, and how long the tables are.
-ghost use Rattle.std.specs.Prelude.{◌≡◌, ◌^◌, ◌↔◌, ◌<◌, ◌≤◌, IsTrue, MatchOption, length, SomeIff};
+ghost use Rattle.std.specs.Prelude.{◌≡◌, ◌^◌, ◌↔◌, ◌<◌, ◌≤◌, IsTrue, MatchOption, length, SomeIff, true};
 ghost use Rattle.std.specs.Int.{div_ceil};
 ghost use Rattle.bit_lists.specs.Bits.{bits_of, IsShort};
 ghost use Rattle.bit_lists.specs.Count.{as_bit, IsRank};
@@ -98,6 +98,18 @@ impl<'a> Lent<'a> {
         }
     }
 
+    /// The words and their tables where there is a word and there are no more than `WORDS_AT_HAND`; else `None`, as where a
+    /// length is not right. For a call that has a form of its own for these: fewer tests than `over`.
+    #[inline(always)]
+    pub fn over_few(words: &'a [u64], upper: &'a [usize], lower: &'a [u64]) -> Option<Lent<'a>>
+        ensures { SomeIff result (HasSizes (lists_of words.now upper.now lower.now)
+            × (0 < length words.now) × (length words.now ≤ 2 ^ 18))
+            (lists_of words.now upper.now lower.now) }
+    {
+        let few = words.len().wrapping_sub(1) < WORDS_AT_HAND;
+        Lent::over_part(few, words, upper, lower)
+    }
+
     /// The words and their tables where there are more than `WORDS_AT_HAND` words and one upper block; else `None`, as
     /// where a length is not right. For a call that has a form of its own for these: fewer tests than `over`.
     #[inline(always)]
@@ -110,8 +122,23 @@ impl<'a> Lent<'a> {
             × (2 ^ 18 < length words.now) × (length words.now ≤ 2 ^ 26))
             (lists_of words.now upper.now lower.now) }
     {
-        if words.len() > WORDS_AT_HAND
-            && words.len() <= U64_PER_L1_ENTRY
+        let large = words.len() > WORDS_AT_HAND && words.len() <= U64_PER_L1_ENTRY;
+        Lent::over_part(large, words, upper, lower)
+    }
+
+    /// The words and their tables, if they are `asked` for; else `None`, as where a length is not right.
+    #[inline(always)]
+    fn over_part(
+        asked: bool,
+        words: &'a [u64],
+        upper: &'a [usize],
+        lower: &'a [u64],
+    ) -> Option<Lent<'a>>
+        requires { asked ≡ true → (0 < length words.now) × (length words.now ≤ 2 ^ 26) }
+        ensures { SomeIff result ((asked ≡ true) × HasSizes (lists_of words.now upper.now lower.now))
+            (lists_of words.now upper.now lower.now) }
+    {
+        if asked
             && upper.len() == 1
             && lower.len() == (words.len() + (U64_PER_L2_ENTRY - 1)) / U64_PER_L2_ENTRY
         {

@@ -6,10 +6,10 @@ ghost use Rattle.std.specs.Int.{div_ceil};
 ghost use Rattle.bit_lists.specs.Bits.{digit_count};
 ghost use Rattle.bit_lists.specs.Count.{as_bit};
 ghost use Rattle.bitm.specs.Density.{clamped_log};
-ghost use Rattle.bitm_select.specs.Entry.{before_in_part, lower_entry};
+ghost use Rattle.bitm_select.specs.Entry.{before_in_part};
 ghost use Rattle.bitm_select.specs.Reads.{OnlyReads, ReadsAtMost};
 ghost use Rattle.bitm.specs.Samples.{part_of, parts, sample_count_before};
-ghost use Rattle.bitm_select.specs.Search.{entries_from, entry_in, sought_in, IsLastEntry};
+ghost use Rattle.bitm_select.specs.Search.{entries_from, entry_in, sought_in, IsLastFound};
 ghost use Rattle.bitm_select.specs.Tables.{HasSizes, HasTables, bits_in};
 ghost use Rattle.bitm_select.specs.Answers.{HasBit, IsSelected};
 ghost use Rattle.bitm_select.specs.Told.{told_entry, IfAbsent, TellsNone};
@@ -165,15 +165,7 @@ pub(crate) fn entry_between<const BIT: u8, T: TableSource>(
     requires inside { part < length (T.lists source.old).upper }
     requires some { bounds.low < bounds.end }
     requires within { bounds.end ≤ entries_from (length (T.lists source.old).lower) part }
-    ensures inside { IfSome result
-        (λ r. r.0 < entries_from (length (T.lists source.old).lower) part) }
-    ensures last { IfSome result (λ r. HasTables (T.lists source.old)
-        → IsLastEntry (sought_in BIT (T.lists source.old).words)
-        (length (T.lists source.old).lower) part rank r.0) }
-    ensures entry { IfSome result (λ r. HasTables (T.lists source.old) → r.1
-        ≡ lower_entry (sought_in BIT (T.lists source.old).words) (entry_in part r.0)) }
-    ensures packed { IfSome result (λ r. r.1
-        ≡ told_entry (as_bit BIT) (T.lists source.old) (entry_in part r.0)) }
+    ensures last { IfSome result (IsLastFound BIT (T.lists source.old) part rank) }
     ensures found { HasTables (T.lists source.old) →
         let m = sought_in BIT (T.lists source.old).words in
         before_in_part m (entry_in part bounds.low) ≤ rank
@@ -211,15 +203,7 @@ fn sampled_entry<const BIT: u8, T: TableSource>(
 ) -> Option<(usize, u64)>
     requires sized { HasSizes (T.lists source.old) }
     requires inside { part < length (T.lists source.old).upper }
-    ensures inside { IfSome result
-        (λ r. r.0 < entries_from (length (T.lists source.old).lower) part) }
-    ensures last { IfSome result (λ r. HasTables (T.lists source.old)
-        → IsLastEntry (sought_in BIT (T.lists source.old).words)
-        (length (T.lists source.old).lower) part rank r.0) }
-    ensures entry { IfSome result (λ r. HasTables (T.lists source.old) → r.1
-        ≡ lower_entry (sought_in BIT (T.lists source.old).words) (entry_in part r.0)) }
-    ensures packed { IfSome result (λ r. r.1
-        ≡ told_entry (as_bit BIT) (T.lists source.old) (entry_in part r.0)) }
+    ensures last { IfSome result (IsLastFound BIT (T.lists source.old) part rank) }
     ensures found { HasTables (T.lists source.old)
         → AreSamplesOf (bits_in (T.lists source.old)) (as_bit BIT) lent.now
         → IsSome result }
@@ -245,14 +229,7 @@ pub(crate) fn entry_by_samples<const BIT: u8, T: TableSource>(
 ) -> (usize, u64)
     requires sized { HasSizes (T.lists source.old) }
     requires inside { part < length (T.lists source.old).upper }
-    ensures inside { result.0 < entries_from (length (T.lists source.old).lower) part }
-    ensures last { HasTables (T.lists source.old)
-        → IsLastEntry (sought_in BIT (T.lists source.old).words)
-        (length (T.lists source.old).lower) part rank result.0 }
-    ensures entry { HasTables (T.lists source.old) → result.1
-        ≡ lower_entry (sought_in BIT (T.lists source.old).words) (entry_in part result.0) }
-    ensures told { result.1
-        ≡ told_entry (as_bit BIT) (T.lists source.old) (entry_in part result.0) }
+    ensures last { IsLastFound BIT (T.lists source.old) part rank result }
     ensures reads { ReadsAtMost (T.reads source.old) (T.reads source.new) 0 46 0 }
     ensures reads_by_samples { HasTables (T.lists source.old)
         → AreSamplesOf (bits_in (T.lists source.old)) (as_bit BIT) lent.now

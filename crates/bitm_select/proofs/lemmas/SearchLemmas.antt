@@ -1,8 +1,28 @@
 -- A search by halves: what it knows on the way, and that it takes no more tests than its range has binary digits.
-use Rattle.std.proofs.Common.{◌≡◌, ℕ, ◌+◌, ◌-◌, ◌/◌, ◌<◌, ◌≤◌, ◌⊎◌, ⊎_elim, arith, sym, subst}
+use Rattle.std.proofs.Common.{◌≡◌, ℕ, ◌+◌, ◌-◌, ◌*◌, ◌/◌, ◌%◌, ◌^◌, ◌<◌, ◌≤◌, ◌⊎◌, ⊎_elim, ap, ◌∙◌, arith, inl, inr, sym, subst}
+use Rattle.std.proofs.Math.Pow.{pow_mono}
+use Rattle.std.proofs.lemmas.Bool.{cases_lt}
 use Rattle.bit_lists.proofs.lemmas.DigitLemmas.{digit_count-mono, digit_count_half}
 use Rattle.bit_lists.specs.Bits.{digit_count}
 use Rattle.bitm_select.specs.Search.{Between, IsLast}
+
+-- what a step adds is the step or nothing
+pub no_step : (r at step : ℕ) → r ≡ 0 → at + r * step % 18446744073709551616 ≡ at
+no_step r at step none = ap (λ (n : ℕ). at + n * step % 18446744073709551616) none ∙ omega arith
+
+pub one_step : (r at step : ℕ) → r ≡ 1 → step ≤ 2 ^ 20 → at + r * step % 18446744073709551616 ≡ at + step
+one_step r at step one small = ap (λ (n : ℕ). at + n * step % 18446744073709551616) one ∙ omega (arith, small)
+
+-- a power of two that is at most 2^21
+pub few_halvings : (k n : ℕ) → 2 ^ k ≤ n → n ≤ 2 ^ 21 → k ≤ 21
+few_halvings k n least few =
+    elim (cases_lt 21 k) [
+      | inl h ↦
+          let more : 22 ≤ k = omega (arith, h) in
+          let big : 2 ^ 22 ≤ 2 ^ k = pow_mono more in
+          absurd (omega (arith, big, least, few))
+      | inr h ↦ h
+    ]
 
 module _ (count : ℕ → ℕ) (n r : ℕ) where
   pub search_begins : 0 < n → count 0 ≤ r → Between count n r 0 n
@@ -24,6 +44,24 @@ module _ (count : ℕ → ℕ) (n r : ℕ) where
       → Between count n r low cut
   goes_under low left cut b some inside lt =
       record { some = some; bound = omega (arith, b.bound); at_most = b.at_most; above = λ m. lt }
+
+  -- the last w entries, or the first ones: some are among both
+  pub last_of_all : (w : ℕ) → 0 < w → w ≤ n → count (n - w) ≤ r → Between count n r (n - w) w
+  last_of_all w some fits le = record { some = some; bound = omega (arith, fits); at_most = le; above = λ m. absurd (omega (arith, m, fits)) }
+
+  pub first_of_all : (w : ℕ) → 0 < w → w ≤ n → n < 2 * w → r < count (n - w) → count 0 ≤ r
+      → ((j k : ℕ) → j ≤ k → k < n → count j ≤ count k) → Between count n r 0 w
+  first_of_all w some fits more lt z rise =
+      record {
+        some = some;
+        bound = omega (arith, fits);
+        at_most = z;
+        above = λ m.
+            let begins : 0 + w ≡ w = omega arith in
+            let inside : w < n = omega (arith, m) in
+            let later : count (n - w) ≤ count w = rise (n - w) w (omega (arith, more)) inside in
+            subst (λ k. r < count k) (sym begins) (omega (arith, lt, later));
+      }
 
   -- one test in the middle, whichever way it goes: the counts do not fall
   pub halves : (low left next seen : ℕ) → Between count n r low left → 1 < left → seen ≡ count (low + left / 2)

@@ -9,7 +9,7 @@ use Rattle.std.proofs.lemmas.Bool.{cases_lt}
 use Rattle.bitm_tables.specs.Entry.{FieldsFit, greatest_entry, lower_entry, record_field, entries_from, less}
 use Rattle.bitm_select.specs.Answers.{IsSelectedFrom}
 use Rattle.bitm_select.specs.Many.{IsToldRecord}
-use Rattle.bitm_select.specs.Search.{entry_in, sought_bits, sought_in}
+use Rattle.bitm_select.specs.Search.{entry_in, sought_bits, sought_in, IsLastEntry, IsLastFound}
 use Rattle.bitm_tables.specs.Tables.{HasSizes, HasTables, Lists}
 use Rattle.bitm_select.specs.Told.{count_from_word, told_entry, told_part, told_to, EntryTellsNone, IfAbsent, TellsNone}
 use Rattle.bitm_select.specs.declared.search.loaded.InRecord.{InRecord}
@@ -18,6 +18,7 @@ use Rattle.bitm_tables.specs.declared.answer.Answer.TheVariants.{Found, Absent, 
 use Rattle.bitm_tables.proofs.lemmas.EntryLemmas.{entry-fits, entry-complement}
 use Rattle.bitm_select.proofs.lemmas.MarkLemmas.{as_bit_other, none_in_nothing, ones_before-sought_bits, zeros_before-sought_bits}
 use Rattle.bitm_select.proofs.lemmas.SoughtLemmas.{entry_ones, entry_zeros}
+use Rattle.bitm_tables.proofs.lemmas.LengthLemmas.{first_of_part}
 use Rattle.bitm_tables.proofs.lemmas.TableLemmas.{entries}
 
 -- the number that is told, by the kind that the code tests
@@ -49,6 +50,19 @@ told_is zero lists at t h =
     ∙ entry_zeros b at 0 (refl {A = ℕ})
 told_is (suc n) lists at t h =
     (entries _ _ _ t).lower_is at h ∙ entry_ones (bits_of lists.words) at (suc n) (λ e. absurd (omega (arith, e)))
+
+-- what a search for an entry finds, by what it is told to pack
+pub last_found : (bit : ℕ) (lists : Lists) → HasSizes lists → (part r : ℕ) → part < length lists.upper → (found : ℕ × ℕ)
+    → found.0 < entries_from (length lists.lower) part
+    → (HasTables lists → IsLastEntry (sought_in bit lists.words) (length lists.lower) part r found.0)
+    → found.1 ≡ told_entry (as_bit bit) lists (entry_in part found.0) → IsLastFound bit lists part r found
+last_found bit lists sized part r there found inside last told =
+    record {
+      inside = inside;
+      last = last;
+      entry = λ t. told ∙ told_is bit lists (entry_in part found.0) t (omega (arith, inside, first_of_part lists sized part there));
+      told = told;
+    }
 
 -- ---- where Absent is answered
 

@@ -5,16 +5,20 @@ ghost use Rattle.bit_lists.specs.Bits.{digit_count};
 ghost use Rattle.bit_lists.specs.Count.{as_bit};
 ghost use Rattle.bitm_tables.specs.Entry.{lower_entry, entries_from};
 ghost use Rattle.bitm_tables.specs.Reads.{lower_read, ReadsAtMost};
-ghost use Rattle.bitm_select.specs.Search.{entry_in, sought_in, IsLastEntry, IsRange};
+ghost use Rattle.bitm_select.specs.Search.{entry_in, sought_in, IsAmongIn, IsLastEntry, IsLastFound, IsRange};
 ghost use Rattle.bitm_tables.specs.Tables.{HasSizes, HasTables};
 ghost use Rattle.bitm_select.specs.Told.{told_entry};
 
+use crate::search::record::is_at_most;
 use bitm_tables::entry::{complement_entry, entries_of_part, ones_to_entry};
 use bitm_tables::levels::L2_ENTRIES_PER_L1_ENTRY;
 use bitm_tables::source::TableSource;
 
-/// A search over fewer entries than this is by halving alone: the first caches hold them.
-const FEW: usize = 1 << 12;
+/// A search over so many entries is by halving alone: the first caches hold them.
+const FEW: usize = 1 << 13;
+
+/// So many halvings are the last ones.
+const LAST: u32 = 8;
 
 /// Entries of a window round a guess: five lines of a cache at most.
 const WINDOW: usize = 32;
@@ -155,38 +159,6 @@ fn narrow_by_guess<const BIT: u8, T: TableSource>(
     side_of::<BIT, T>(source, part, near, WINDOW, rank)
 }
 
-/// The range in which a search by halves begins: all entries of a part where they are few, else what a guess leaves.
-#[inline(always)]
-fn search_range<const BIT: u8, T: TableSource>(
-    source: &mut T,
-    part: usize,
-    rank: usize,
-) -> EntryRange
-    requires sized { HasSizes (T.lists source.old) }
-    requires inside { part < length (T.lists source.old).upper }
-    ensures range { IsRange BIT (T.lists source.old) part rank result }
-    ensures reads { (T.reads source.new).lower + digit_count (result.left - 1)
-        ≤ (T.reads source.old).lower + 23 }
-    ensures reads_first { result.low ≡ 0
-        → (T.reads source.new).lower + digit_count (result.left - 1)
-        ≤ (T.reads source.old).lower + 22 }
-    ensures lower_kept { (T.reads source.old).lower ≤ (T.reads source.new).lower }
-    ensures upper { (T.reads source.new).upper ≡ (T.reads source.old).upper }
-    ensures words { (T.reads source.new).words ≡ (T.reads source.old).words }
-    ensures same { T.lists source.new ≡ T.lists source.old }
-{
-    let range = EntryRange {
-        low: 0,
-        left: entries_of_part(source.lower_len(), part),
-        packed: 0,
-        above: 0,
-    };
-    if range.left < FEW {
-        return range;
-    }
-    narrow_by_guess::<BIT, T>(source, part, range, rank)
-}
-
 /// The last entry of a range of a part with no more than `rank` of the kind before it in the part, where the tables are
 /// those of the words and it is in the range; else some entry of the range: its place in the part, and what it packs.
 ///
@@ -246,6 +218,179 @@ pub fn last_in_range<const BIT: u8, T: TableSource>(
     (low, packed)
 }
 
+/// What `last_entry` answers where there are more entries: by halving what a guess leaves. It is a call of its own, so that
+/// the search of few entries stands where it is asked.
+#[inline(never)]
+fn last_of_many<const BIT: u8, T: TableSource>(
+    source: &mut T,
+    part: usize,
+    rank: usize,
+) -> (usize, u64)
+    requires sized { HasSizes (T.lists source.old) }
+    requires inside { part < length (T.lists source.old).upper }
+    requires many { 2 ^ 12 ≤ entries_from (length (T.lists source.old).lower) part }
+    ensures last { IsLastFound BIT (T.lists source.old) part rank result }
+    ensures reads { ReadsAtMost (T.reads source.old) (T.reads source.new) 0 23 0 }
+    ensures same { T.lists source.new ≡ T.lists source.old }
+{
+    let all = EntryRange {
+        low: 0,
+        left: entries_of_part(source.lower_len(), part),
+        packed: 0,
+        above: 0,
+    };
+    let range = narrow_by_guess::<BIT, T>(source, part, all, rank);
+    last_in_range::<BIT, T>(source, part, range, rank)
+}
+
+/// Entry `low` + 2^`size` of a part where no more than `rank` of the kind stand before it in the part, else entry `low`:
+/// by a sum that has no branch on the count.
+#[inline(always)]
+fn step<const BIT: u8, T: TableSource>(
+    source: &mut T,
+    part: usize,
+    low: usize,
+    size: u32,
+    rank: usize,
+) -> usize
+    requires sized { HasSizes (T.lists source.old) }
+    requires size { size < 21 }
+    requires room { low + 2 ^ (size + 1) ≤ entries_from (length (T.lists source.old).lower) part }
+    ensures room { result + 2 ^ size ≤ entries_from (length (T.lists source.old).lower) part }
+    ensures among { HasTables (T.lists source.old)
+        → IsAmongIn BIT (T.lists source.old) part rank low (2 ^ (size + 1))
+        → IsAmongIn BIT (T.lists source.old) part rank result (2 ^ size) }
+    ensures counted { T.reads source.new ≡ lower_read (T.reads source.old) }
+    ensures same { T.lists source.new ≡ T.lists source.old }
+{
+    let at = part * L2_ENTRIES_PER_L1_ENTRY + low + (1 << size);
+    let count = ones_to_entry(sought_entry::<BIT, T>(source, at));
+    low + (is_at_most(count, rank) << size)
+}
+
+/// The first of the 2^`to` entries that halving leaves of the 2^`from` from entry `begin` on.
+#[inline(always)]
+fn halve<const BIT: u8, T: TableSource>(
+    source: &mut T,
+    part: usize,
+    begin: usize,
+    from: u32,
+    to: u32,
+    rank: usize,
+) -> usize
+    requires sized { HasSizes (T.lists source.old) }
+    requires most { from ≤ 21 }
+    requires down { to ≤ from }
+    requires room { begin + 2 ^ from ≤ entries_from (length (T.lists source.old).lower) part }
+    ensures room { result + 2 ^ to ≤ entries_from (length (T.lists source.old).lower) part }
+    ensures among { HasTables (T.lists source.old)
+        → IsAmongIn BIT (T.lists source.old) part rank begin (2 ^ from)
+        → IsAmongIn BIT (T.lists source.old) part rank result (2 ^ to) }
+    ensures reads { ReadsAtMost (T.reads source.old) (T.reads source.new) 0 (from - to) 0 }
+    ensures same { T.lists source.new ≡ T.lists source.old }
+{
+    let mut low = begin;
+    let mut size = from;
+    while size > to {
+        size -= 1;
+        low = step::<BIT, T>(source, part, low, size, rank);
+    }
+    low
+}
+
+/// The entry that halving leaves of the 2^`size` from entry `begin` on. The last halvings are always the same, so that no
+/// loop is left of them.
+#[inline(always)]
+fn halve_all<const BIT: u8, T: TableSource>(
+    source: &mut T,
+    part: usize,
+    begin: usize,
+    size: u32,
+    rank: usize,
+) -> usize
+    requires sized { HasSizes (T.lists source.old) }
+    requires most { size ≤ 21 }
+    requires room { begin + 2 ^ size ≤ entries_from (length (T.lists source.old).lower) part }
+    ensures room { result < entries_from (length (T.lists source.old).lower) part }
+    ensures among { HasTables (T.lists source.old)
+        → IsAmongIn BIT (T.lists source.old) part rank begin (2 ^ size)
+        → IsAmongIn BIT (T.lists source.old) part rank result 1 }
+    ensures reads { ReadsAtMost (T.reads source.old) (T.reads source.new) 0 size 0 }
+    ensures same { T.lists source.new ≡ T.lists source.old }
+{
+    if size < LAST {
+        return halve::<BIT, T>(source, part, begin, size, 0, rank);
+    }
+    let near = halve::<BIT, T>(source, part, begin, size, LAST, rank);
+    halve::<BIT, T>(source, part, near, LAST, 0, rank)
+}
+
+/// The greatest number whose power of two is at most so many entries.
+#[inline(always)]
+fn whole_halvings(entries: usize) -> u32
+    requires some { 0 < entries }
+    requires few { entries ≤ 2 ^ 21 }
+    ensures least { 2 ^ result ≤ entries }
+    ensures most { entries < 2 * 2 ^ result }
+    ensures few { result ≤ 21 }
+{
+    entries.ilog2()
+}
+
+/// Where 2^`size` of a part's entries begin that have the last entry of this rank: they are its last or its first ones,
+/// and some are among both.
+#[inline(always)]
+fn first_half<const BIT: u8, T: TableSource>(
+    source: &mut T,
+    part: usize,
+    entries: usize,
+    size: u32,
+    rank: usize,
+) -> usize
+    requires sized { HasSizes (T.lists source.old) }
+    requires all { entries ≡ entries_from (length (T.lists source.old).lower) part }
+    requires least { 2 ^ size ≤ entries }
+    requires most { entries < 2 * 2 ^ size }
+    requires few { size ≤ 21 }
+    ensures room { result + 2 ^ size ≤ entries }
+    ensures among { HasTables (T.lists source.old)
+        → IsAmongIn BIT (T.lists source.old) part rank result (2 ^ size) }
+    ensures counted { T.reads source.new ≡ lower_read (T.reads source.old) }
+    ensures same { T.lists source.new ≡ T.lists source.old }
+{
+    let last = entries - (1 << size);
+    let entry = sought_entry::<BIT, T>(source, part * L2_ENTRIES_PER_L1_ENTRY + last);
+    if ones_to_entry(entry) <= rank {
+        last
+    } else {
+        0
+    }
+}
+
+/// What `last_entry` answers, by halving alone.
+#[inline(always)]
+fn last_of_few<const BIT: u8, T: TableSource>(
+    source: &mut T,
+    part: usize,
+    entries: usize,
+    rank: usize,
+) -> (usize, u64)
+    requires sized { HasSizes (T.lists source.old) }
+    requires all { entries ≡ entries_from (length (T.lists source.old).lower) part }
+    requires some { 0 < entries }
+    ensures last { IsLastFound BIT (T.lists source.old) part rank result }
+    ensures reads { ReadsAtMost (T.reads source.old) (T.reads source.new) 0 23 0 }
+    ensures same { T.lists source.new ≡ T.lists source.old }
+{
+    let size = whole_halvings(entries);
+    let begin = first_half::<BIT, T>(source, part, entries, size, rank);
+    let low = halve_all::<BIT, T>(source, part, begin, size, rank);
+    (
+        low,
+        sought_entry::<BIT, T>(source, part * L2_ENTRIES_PER_L1_ENTRY + low),
+    )
+}
+
 /// The last entry of a part with no more than `rank` of the kind before it in the part, where the tables are those of
 /// the words; else some entry of the part: its place in the part, and what it packs.
 ///
@@ -253,6 +398,7 @@ pub fn last_in_range<const BIT: u8, T: TableSource>(
 /// There is such a part, and the tables are as long as those of the words. They may hold anything.
 /// # Cost
 /// At most 23 lower entries are read, whatever they hold.
+#[inline(always)]
 pub fn last_entry<const BIT: u8, T: TableSource>(
     source: &mut T,
     part: usize,
@@ -260,17 +406,13 @@ pub fn last_entry<const BIT: u8, T: TableSource>(
 ) -> (usize, u64)
     requires sized { HasSizes (T.lists source.old) }
     requires inside { part < length (T.lists source.old).upper }
-    ensures inside { result.0 < entries_from (length (T.lists source.old).lower) part }
-    ensures last { HasTables (T.lists source.old)
-        → IsLastEntry (sought_in BIT (T.lists source.old).words)
-        (length (T.lists source.old).lower) part rank result.0 }
-    ensures entry { HasTables (T.lists source.old) → result.1
-        ≡ lower_entry (sought_in BIT (T.lists source.old).words) (entry_in part result.0) }
-    ensures told { result.1
-        ≡ told_entry (as_bit BIT) (T.lists source.old) (entry_in part result.0) }
+    ensures last { IsLastFound BIT (T.lists source.old) part rank result }
     ensures reads { ReadsAtMost (T.reads source.old) (T.reads source.new) 0 23 0 }
     ensures same { T.lists source.new ≡ T.lists source.old }
 {
-    let range = search_range::<BIT, T>(source, part, rank);
-    last_in_range::<BIT, T>(source, part, range, rank)
+    let entries = entries_of_part(source.lower_len(), part);
+    if entries <= FEW {
+        return last_of_few::<BIT, T>(source, part, entries, rank);
+    }
+    last_of_many::<BIT, T>(source, part, rank)
 }

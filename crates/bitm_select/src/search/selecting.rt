@@ -7,10 +7,10 @@ ghost use Rattle.bit_lists.specs.Bits.{digit_count};
 ghost use Rattle.bit_lists.specs.Count.{ones_before, as_bit, IsSelect};
 ghost use Rattle.bitm_select.specs.Answers.{HasBit, IsSelected};
 ghost use Rattle.bitm_tables.specs.Reads.{upper_read, OnlyReads, ReadsAtMost};
-ghost use Rattle.bitm_select.specs.Search.{entry_in, sought_in, IsLastEntry, IsLastPart, IsPartOf};
+ghost use Rattle.bitm_select.specs.Search.{sought_in, IsLastFound, IsLastPart, IsPartOf};
 ghost use Rattle.bitm_tables.specs.Tables.{HasSizes, HasTables, IsIndexed, Lists, bits_in};
-ghost use Rattle.bitm_tables.specs.Entry.{entries_from, less, lower_entry};
-ghost use Rattle.bitm_select.specs.Told.{told_entry, told_part, IfAbsent, TellsNone};
+ghost use Rattle.bitm_tables.specs.Entry.{less};
+ghost use Rattle.bitm_select.specs.Told.{told_part, IfAbsent, TellsNone};
 
 use crate::search::entries::last_entry;
 use crate::search::many::ByTables;
@@ -38,14 +38,7 @@ pub trait FindsEntry<const BIT: u8, T: TableSource> {
     fn entry(&self, source: &mut T, part: usize, rank: usize) -> (usize, u64)
         requires sized { HasSizes (T.lists source.old) }
         requires inside { part < length (T.lists source.old).upper }
-        ensures inside { result.0 < entries_from (length (T.lists source.old).lower) part }
-        ensures last { HasTables (T.lists source.old)
-            → IsLastEntry (sought_in BIT (T.lists source.old).words)
-            (length (T.lists source.old).lower) part rank result.0 }
-        ensures entry { HasTables (T.lists source.old) → result.1
-            ≡ lower_entry (sought_in BIT (T.lists source.old).words) (entry_in part result.0) }
-        ensures told { result.1
-            ≡ told_entry (as_bit BIT) (T.lists source.old) (entry_in part result.0) }
+        ensures last { IsLastFound BIT (T.lists source.old) part rank result }
         ensures reads { ReadsAtMost (T.reads source.old) (T.reads source.new) 0 lowers 0 }
         ensures reads_led { leads self.now (T.lists source.old)
             → ReadsAtMost (T.reads source.old) (T.reads source.new) 0 lowers_led 0 }

@@ -11,7 +11,7 @@ inside : (g : _) (c : After-entry_by_guess-in_part g)
     → c.entry_by_guess-in_part.result.0 < entries_from (length (g.T.TableSource.lists c.args.source.now).lower) c.part_of_rank-part.result.0
 inside g c =
     subst (λ (l : Lists). c.entry_by_guess-in_part.result.0 < entries_from (length l.lower) c.part_of_rank-part.result.0)
-    c.part_of_rank-part.ensures.same c.entry_by_guess-in_part.ensures.inside
+    c.part_of_rank-part.ensures.same c.entry_by_guess-in_part.ensures.last.inside
 
 pub overflow_mul-entry : goal.overflow_mul-entry
 overflow_mul-entry g c =
@@ -61,5 +61,5 @@ returns-clause-search g c =
           near_found g.row.BIT lists c.args.rank rest part entry
           (c.part_of_rank-part.ensures.part (record { tables = t; short = c.requires.sized.short }))
           (subst (λ (l : Lists). IsLastEntry (sought_in g.row.BIT l.words) (length l.lower) part rest entry) same
-          (c.entry_by_guess-in_part.ensures.last (subst HasTables (sym same) t)));
+          (c.entry_by_guess-in_part.ensures.last.last (subst HasTables (sym same) t)));
     }

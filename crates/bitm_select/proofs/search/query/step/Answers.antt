@@ -1,5 +1,5 @@
 -- The count before the entry in the middle tells on which side of it the entry is.
-use Rattle.std.proofs.Common.{◌≡◌, ℕ, ◌+◌, ◌*◌, ◌%◌, ◌^◌, ◌<◌, ◌≤◌, length, sym, ap, subst, ◌∙◌, arith, inl, inr}
+use Rattle.std.proofs.Common.{◌≡◌, ℕ, ◌+◌, ◌*◌, ◌%◌, ◌^◌, ◌<◌, ◌≤◌, length, sym, subst, ◌∙◌, arith, inl, inr}
 use Rattle.std.proofs.lemmas.Bool.{cases_lt}
 use Rattle.bit_lists.specs.Count.{as_bit}
 use Rattle.bitm_tables.specs.Entry.{before_in_part}
@@ -7,15 +7,9 @@ use Rattle.bitm_select.specs.Many.{IsSearch}
 use Rattle.bitm_select.specs.Search.{sought_in}
 use Rattle.bitm_tables.specs.Tables.{HasTables}
 use Rattle.bitm_select.proofs.lemmas.ManyLemmas.{near_stays, near_up, part_stays, part_up, step_few}
+use Rattle.bitm_select.proofs.lemmas.SearchLemmas.{no_step, one_step}
 use Rattle.bitm_select.proofs.lemmas.SoughtLemmas.{low_is}
 use Rattle.bitm_select.proofs.search.query.step.Goals as goal
-
--- what the code adds is the step or nothing
-no_step : (r at step : ℕ) → r ≡ 0 → at + r * step % 18446744073709551616 ≡ at
-no_step r at step none = ap (λ (n : ℕ). at + n * step % 18446744073709551616) none ∙ omega arith
-
-one_step : (r at step : ℕ) → r ≡ 1 → step ≤ 2 ^ 20 → at + r * step % 18446744073709551616 ≡ at + step
-one_step r at step one small = ap (λ (n : ℕ). at + n * step % 18446744073709551616) one ∙ omega (arith, small)
 
 pub returns-clause-search : goal.returns-clause-search
 returns-clause-search g c rank search_is =

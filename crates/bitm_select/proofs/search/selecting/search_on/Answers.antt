@@ -66,9 +66,9 @@ returns-clause-none g c = λ tests.
       | else-this-ne0-via-else-this-ne0 w ↦ absurd (tests w.if-this-ne0.false)
     ] in
     let inside : entry < entries_from (length lists.lower) part =
-    subst (λ (l : Lists). entry < entries_from (length l.lower) part) of_rank.same of_entry.inside in
+    subst (λ (l : Lists). entry < entries_from (length l.lower) part) of_rank.same of_entry.last.inside in
     let is : packed ≡ told_entry v lists (entry_in part entry) =
-    subst (λ (l : Lists). packed ≡ told_entry v l (entry_in part entry)) of_rank.same of_entry.told in
+    subst (λ (l : Lists). packed ≡ told_entry v l (entry_in part entry)) of_rank.same of_entry.last.told in
     all_none lists v c.requires part entry packed left c.args.rank of_rank.inside inside is of_rank.told of_rank.fits
     c.ranges.rank.fits tested c.in_packed.result
     (subst (λ (l : Lists). IfAbsent c.in_packed.result (EntryTellsNone v l (entry_in part entry) packed left)) all (c.in_packed.ensures.none tests))
