@@ -1,5 +1,5 @@
 //! Ranges of bits that are copied.
-ghost use Rattle.std.specs.Prelude.{◌≡◌, ◌+◌, ◌*◌, ◌<◌, ◌≤◌, ◌^◌, length};
+ghost use Rattle.std.specs.Prelude.{◌≡◌, ◌+◌, ◌*◌, ◌%◌, ◌<◌, ◌≤◌, ◌^◌, length};
 ghost use Rattle.bit_lists.specs.Bits.{bits_of};
 ghost use Rattle.bit_lists.specs.Number.{number_at, with_number};
 ghost use Rattle.bit_slices.specs.Copied.{IsCopied};
@@ -22,61 +22,43 @@ fn copy_bits(to: &mut [u64], to_begin: usize, from: &[u64], from_begin: usize, w
     words::set_bits(to, to_begin, value, width);
 }
 
-/// Copies 64 bits into word `at`.
+/// Copies 64 bits into word `at`; those of one word where `SHIFTED` is 0.
 #[inline(always)]
-fn copy_word(to: &mut [u64], at: usize, from: &[u64], from_begin: usize)
+fn copy_word<const SHIFTED: u8>(to: &mut [u64], at: usize, from: &[u64], from_begin: usize)
     requires to_inside { at < length to.old }
     requires from_inside { from_begin + 64 ≤ 64 * length from.now }
+    requires whole { SHIFTED ≡ 0 → from_begin % 64 ≡ 0 }
     ensures { bits_of to.new ≡ with_number (bits_of to.old) (64 * at) 64
         (number_at (bits_of from.now) from_begin 64) }
 {
+    if SHIFTED == 0 {
+        to[at] = from[from_begin / 64];
+        return;
+    }
     to[at] = words::get_bits_unmasked(from, from_begin, 64);
 }
 
-/// Copies word `from_at` into word `at`.
+/// Copies bits into the `count` words from word `first` on; whole words where `SHIFTED` is 0.
 #[inline(always)]
-fn copy_whole_word(to: &mut [u64], at: usize, from: &[u64], from_at: usize)
-    requires to_inside { at < length to.old }
-    requires from_inside { from_at < length from.now }
-    ensures { bits_of to.new ≡ with_number (bits_of to.old) (64 * at) 64
-        (number_at (bits_of from.now) (64 * from_at) 64) }
-{
-    to[at] = from[from_at];
-}
-
-/// Copies the `count` words from word `from_first` on into those from word `first` on.
-#[inline(always)]
-fn copy_whole_words(to: &mut [u64], first: usize, from: &[u64], from_first: usize, count: usize)
+fn copy_each_word<const SHIFTED: u8>(
+    to: &mut [u64],
+    first: usize,
+    from: &[u64],
+    from_begin: usize,
+    count: usize,
+)
     requires to_inside { first + count ≤ length to.old }
-    requires from_inside { from_first + count ≤ length from.now }
-    ensures { IsCopied (bits_of from.now) (64 * from_first) (bits_of to.old) (64 * first) (64 * count)
+    requires from_inside { from_begin + 64 * count ≤ 64 * length from.now }
+    requires fits { from_begin + 64 * count < 2 ^ 64 }
+    requires whole { SHIFTED ≡ 0 → from_begin % 64 ≡ 0 }
+    ensures { IsCopied (bits_of from.now) from_begin (bits_of to.old) (64 * first) (64 * count)
         (bits_of to.new) }
 {
     let mut done = 0;
     // A loop over single words would be compiled to a call of C's `memcpy`, and the archive for C calls nothing.
     while count - done >= 2 {
-        copy_whole_word(&mut *to, first + done, from, from_first + done);
-        copy_whole_word(&mut *to, first + done + 1, from, from_first + done + 1);
-        done += 2;
-    }
-    if done < count {
-        copy_whole_word(to, first + done, from, from_first + done);
-    }
-}
-
-/// Copies bits into the `count` words from word `first` on, from any position.
-#[inline(always)]
-fn copy_shifted_words(to: &mut [u64], first: usize, from: &[u64], from_begin: usize, count: usize)
-    requires to_inside { first + count ≤ length to.old }
-    requires from_inside { from_begin + 64 * count ≤ 64 * length from.now }
-    requires fits { from_begin + 64 * count < 2 ^ 64 }
-    ensures { IsCopied (bits_of from.now) from_begin (bits_of to.old) (64 * first) (64 * count)
-        (bits_of to.new) }
-{
-    let mut done = 0;
-    while count - done >= 2 {
-        copy_word(&mut *to, first + done, from, from_begin + 64 * done);
-        copy_word(
+        copy_word::<SHIFTED>(&mut *to, first + done, from, from_begin + 64 * done);
+        copy_word::<SHIFTED>(
             &mut *to,
             first + done + 1,
             from,
@@ -85,7 +67,7 @@ fn copy_shifted_words(to: &mut [u64], first: usize, from: &[u64], from_begin: us
         done += 2;
     }
     if done < count {
-        copy_word(to, first + done, from, from_begin + 64 * done);
+        copy_word::<SHIFTED>(to, first + done, from, from_begin + 64 * done);
     }
 }
 
@@ -99,9 +81,9 @@ fn copy_words(to: &mut [u64], first: usize, from: &[u64], from_begin: usize, cou
         (bits_of to.new) }
 {
     if from_begin % 64 == 0 {
-        copy_whole_words(to, first, from, from_begin / 64, count);
+        copy_each_word::<0>(to, first, from, from_begin, count);
     } else {
-        copy_shifted_words(to, first, from, from_begin, count);
+        copy_each_word::<1>(to, first, from, from_begin, count);
     }
 }
 

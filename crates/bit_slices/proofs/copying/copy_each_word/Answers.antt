@@ -4,10 +4,10 @@ use Rattle.bit_lists.proofs.lemmas.BitsLemmas.{length-bits_of}
 use Rattle.bit_lists.specs.Bits.{bits_of}
 use Rattle.bit_slices.specs.Copied.{IsCopied}
 use Rattle.bit_slices.proofs.lemmas.CopyLemmas.{copied_more}
-use Rattle.bit_slices.proofs.copying.copy_shifted_words.Goals as goal
+use Rattle.bit_slices.proofs.copying.copy_each_word.Goals as goal
 
 pub loop-done-preserved : goal.loop-done-preserved
-loop-done-preserved c =
+loop-done-preserved g c =
     let source = bits_of c.args.from.now in
     let old = bits_of c.args.to.now in
     let s = 64 * c.args.first in
@@ -23,7 +23,7 @@ loop-done-preserved c =
     record { within = more; copied = subst (λ (k : ℕ). IsCopied source t old s k (bits_of c.copy_word-in-loop-done.new.to)) count two }
 
 pub returns-then-done-count : goal.returns-then-done-count
-returns-then-done-count c =
+returns-then-done-count g c =
     let source = bits_of c.args.from.now in
     let old = bits_of c.args.to.now in
     let s = 64 * c.args.first in

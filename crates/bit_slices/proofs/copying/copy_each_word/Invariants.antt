@@ -1,11 +1,11 @@
 use Rattle.std.proofs.Common.{◌-◌, ◌*◌, ◌≤◌}
 use Rattle.bit_lists.specs.Bits.{bits_of}
 use Rattle.bit_slices.specs.Copied.{IsCopied}
-use Rattle.bit_slices.proofs.copying.copy_shifted_words.Given as goal
+use Rattle.bit_slices.proofs.copying.copy_each_word.Given as goal
 
 -- the words so far
 abbrev pub invariant-loop-done : goal.invariant-loop-done
-invariant-loop-done l = record { within : l.done ≤ l.count; copied : IsCopied (bits_of l.from) l.from_begin (bits_of l.fn.to) (64 * l.first) (64 * l.done) (bits_of l.to) }
+invariant-loop-done g l = record { within : l.done ≤ l.count; copied : IsCopied (bits_of l.from) l.from_begin (bits_of l.fn.to) (64 * l.first) (64 * l.done) (bits_of l.to) }
 
 abbrev pub decreases-loop-done : goal.decreases-loop-done
-decreases-loop-done l = l.count - l.done
+decreases-loop-done g l = l.count - l.done
