@@ -16,6 +16,7 @@
 mod counted;
 mod index;
 pub mod index_laws;
+mod near;
 mod queries;
 pub mod ranges;
 pub mod samples;
@@ -47,5 +48,6 @@ pub use bitm_strategies::{
 };
 pub use broadword::{byte_sums, bytes_at_most, select64};
 pub use index::{ArrayWithRank101111, RankSelect101111};
+pub use near::near_zero_on;
 pub use queries::{Access, HasBits, Rank, Select, Select0};
 pub use simple::{ArrayWithRankSimple, RankSimple};

@@ -4,7 +4,6 @@ pub mod CursorLemmas
 pub mod FragmentLemmas
 pub mod ItemLemmas
 pub mod LowLemmas
-pub mod NearLemmas
 pub mod SelectionReadLemmas
 pub mod SequenceLemmas
 pub mod SizeLemmas

@@ -1,8 +1,8 @@
 //! The bucket of a value, from where it begins, and the search for the first number that reaches the value there.
-ghost use Rattle.std.specs.Prelude.{◌≡◌, ◌+◌, ◌*◌, ◌/◌, ◌^◌, ◌<◌, ◌≤◌, ℕ, List, length, false, IfSome, MatchOption};
+ghost use Rattle.std.specs.Prelude.{◌≡◌, ◌+◌, ◌*◌, ◌/◌, ◌^◌, ◌<◌, ◌≤◌, ℕ, List, length, IfSome, MatchOption};
 ghost use Rattle.std.specs.Prelude.{IsSomeAnd};
-ghost use Rattle.bitm.specs.Bits.{digit_count, IsShort};
-ghost use Rattle.bitm.specs.Count.{zeros_of, IsFirstFrom};
+ghost use Rattle.bitm.specs.Bits.{digit_count};
+ghost use Rattle.bitm.specs.Count.{zeros_of};
 ghost use Rattle.bitm.specs.Reads.{OnlyReads};
 ghost use Rattle.bitm.specs.Tables.{bits_in, HasSizes, HasTables};
 ghost use Rattle.elias_fano.specs.Buckets.{BeginsAt, CountsTo, HasEnds};
@@ -13,37 +13,10 @@ ghost use Rattle.elias_fano.specs.Sequence.{IsFirstAtLeast};
 
 use crate::low::LowDigits;
 use crate::searching::{count_at_zero, count_to, place_in_bucket};
-use bitm::{Answer, TableSource, index_laws, words};
+use bitm::{Answer, TableSource, index_laws, near_zero_on};
 
 // In how many words the end of a bucket is looked for before it is selected.
 const NEAR: usize = 8;
-
-/// The first zero from `from` on, in its word or one of the seven after it; `None` where they have none.
-///
-/// # Conditions
-/// There are fewer than 2^58 words.
-/// # Cost
-/// The words up to that of the zero, eight at most.
-#[inline(always)]
-fn near_zero_on<T: TableSource>(source: &mut T, from: usize) -> Option<usize>
-    requires { IsShort (T.lists source.old).words }
-    ensures zero { IfSome result (IsFirstFrom (bits_in (T.lists source.old)) false from) }
-    ensures reads { OnlyReads T.lists T.reads source.old source.new 0 0 8 }
-{
-    let mut start = from;
-    for _ in 0..NEAR {
-        let at = start / 64;
-        if at >= source.words_len() {
-            return None;
-        }
-        let word = source.word(at);
-        if let Some(place) = words::find_bit_zero(&[word], start % 64) {
-            return Some(64 * at + place);
-        }
-        start = 64 * at + 64;
-    }
-    None
-}
 
 /// How many of `n` numbers have at most `above` above their low digits, where `begin` is the first place with so many
 /// zeros before it; `None` only where the parts are wrong.
@@ -61,7 +34,7 @@ fn end_on<T: TableSource>(source: &mut T, n: usize, above: usize, begin: usize) 
     ensures reads { OnlyReads T.lists T.reads source.old source.new
         (digit_count (length (T.lists source.old).upper) + 1) 23 16 }
 {
-    match near_zero_on(source, begin) {
+    match near_zero_on::<NEAR, T>(source, begin) {
         Some(zero) => count_at_zero(zero, above, n),
         None => count_to::<0, T>(source, above, n),
     }

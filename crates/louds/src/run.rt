@@ -1,49 +1,18 @@
 //! The 1 bits of a node, its children, from where they begin, over any source: what they read is counted.
-ghost use Rattle.std.specs.Prelude.{◌≡◌, ◌+◌, ◌^◌, ◌<◌, ◌≤◌, false, slice_index, IfSome};
-ghost use Rattle.bitm.specs.Bits.{IsShort};
-ghost use Rattle.bitm.specs.Count.{IsFirstFrom};
-ghost use Rattle.bitm.specs.Reads.{OnlyReads};
-ghost use Rattle.bitm.specs.Tables.{bits_in};
+ghost use Rattle.std.specs.Prelude.{◌≡◌, ◌+◌, ◌^◌, ◌<◌, ◌≤◌, slice_index, IfSome};
 ghost use Rattle.louds.specs.Counted.{degrees_in, IsLouds, OnlySelects};
 ghost use Rattle.louds.specs.Held.{zero_place};
 ghost use Rattle.louds.specs.Tree.{AreChildren, MatchesChild};
 
 use crate::counted::zero_on;
-use bitm::{TableSource, words};
+use bitm::{TableSource, near_zero_on};
 use std::ops::Range;
 
 // In how many words the end of a node's ones is looked for before it is selected.
 const NEAR: usize = 2;
 
-/// The first 0 bit from `from` on, in its word or the one after it; `None` where they have none.
-///
-/// # Conditions
-/// There are fewer than 2^58 words.
-/// # Cost
-/// The words up to that of the 0 bit, two at most.
-#[inline(always)]
-fn near_zero_on<T: TableSource>(source: &mut T, from: usize) -> Option<usize>
-    requires { IsShort (T.lists source.old).words }
-    ensures zero { IfSome result (IsFirstFrom (bits_in (T.lists source.old)) false from) }
-    ensures reads { OnlyReads T.lists T.reads source.old source.new 0 0 2 }
-{
-    let mut start = from;
-    for _ in 0..NEAR {
-        let at = start / 64;
-        if at >= source.words_len() {
-            return None;
-        }
-        let word = source.word(at);
-        if let Some(place) = words::find_bit_zero(&[word], start % 64) {
-            return Some(64 * at + place);
-        }
-        start = 64 * at + 64;
-    }
-    None
-}
-
 /// The position of the 0 bit before the 1 bits of a node, or of the last 0 bit, out of the way of `end_on`, which
-/// seldom needs it it.
+/// seldom needs it.
 #[inline(never)]
 fn far_zero_on<T: TableSource>(source: &mut T, len: usize, node: usize) -> usize
     requires tree { IsLouds len (T.lists source.old) }
@@ -70,7 +39,7 @@ pub(crate) fn end_on<T: TableSource>(source: &mut T, len: usize, node: usize, st
     ensures small { result < 2 ^ 62 }
     ensures reads { OnlySelects T.lists T.reads source.old source.new 1 2 }
 {
-    match near_zero_on(source, start + 1) {
+    match near_zero_on::<NEAR, T>(source, start + 1) {
         Some(place) => place,
         None => far_zero_on(source, len, node + 1),
     }

@@ -2,8 +2,8 @@
 use Rattle.std.proofs.Common.{◌≡◌, ℕ, ◌+◌, ◌*◌, ◌/◌, ◌%◌, ◌<◌, ◌≤◌, true, false, List, [], ◌∷◌, length, get_or, sym, ap, ◌∙◌, ⊎_elim, arith}
 use Rattle.std.proofs.lemmas.Bool.{cases_lt}
 use Rattle.bit_lists.proofs.lemmas.BitsLemmas.{item-bits_of_at, length-bits_of}
-use Rattle.bitm.specs.Bits.{bits_of, digit, item}
-use Rattle.bitm.specs.Count.{IsFirstFrom}
+use Rattle.bit_lists.specs.Bits.{bits_of, digit, item}
+use Rattle.bit_lists.specs.Count.{IsFirstFrom}
 
 module _ (words : List ℕ) (q w : ℕ) (inside : q < length words) (is : w ≡ get_or words q 0) where
   -- a bit of the word alone is that of the content

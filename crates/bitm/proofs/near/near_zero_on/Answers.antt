@@ -1,10 +1,10 @@
 -- The word that is read holds bits of the content, so its first zero is the first of all, behind the ones before it.
 use Rattle.std.proofs.Common.{◌≡◌, ◌/◌, ◌<◌, [], ◌∷◌, length, get_or, ap, ◌∙◌, arith}
-use Rattle.bitm.specs.Tables.{Lists}
+use Rattle.bitm_select.specs.Tables.{Lists}
 use Rattle.bit_lists.proofs.lemmas.BitsLemmas.{length-bits_of}
-use Rattle.elias_fano.proofs.lemmas.NearLemmas.{near-found, near-none}
-use Rattle.elias_fano.proofs.bucket.near_zero_on.Goals as goal
-use Rattle.elias_fano.proofs.bucket.near_zero_on.Goals.{After-word-word}
+use Rattle.bitm.proofs.lemmas.NearLemmas.{near-found, near-none}
+use Rattle.bitm.proofs.near.near_zero_on.Goals as goal
+use Rattle.bitm.proofs.near.near_zero_on.Goals.{After-word-word}
 
 inside : (g : _) (c : After-word-word g) → c.loop.start / 64 < length (g.T.TableSource.lists c.args.source.now).words
 inside g c = omega (arith, c.if-at-words_len.false, c.words_len.ensures, ap (λ (l : Lists). length l.words) c.loop.invariant.same)

@@ -1,8 +1,8 @@
 use Rattle.std.proofs.Common.{◌≡◌, ℕ, ◌<◌, ◌≤◌, true}
-use Rattle.bitm.specs.Bits.{item}
-use Rattle.bitm.specs.Reads.{ReadsAtMost}
-use Rattle.bitm.specs.Tables.{bits_in}
-use Rattle.elias_fano.proofs.bucket.near_zero_on.Given as goal
+use Rattle.bit_lists.specs.Bits.{item}
+use Rattle.bitm_select.specs.Reads.{ReadsAtMost}
+use Rattle.bitm_select.specs.Tables.{bits_in}
+use Rattle.bitm.proofs.near.near_zero_on.Given as goal
 
 -- ones alone stand from the first place on up to the start of the word that comes, and a word was read in each round
 abbrev pub invariant-loop : goal.invariant-loop

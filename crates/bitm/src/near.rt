@@ -1,0 +1,39 @@
+//! The first 0 bit from a position on, where it is near.
+ghost use Rattle.std.specs.Prelude.{false, IfSome};
+ghost use Rattle.bit_lists.specs.Bits.{IsShort};
+ghost use Rattle.bit_lists.specs.Count.{IsFirstFrom};
+ghost use Rattle.bitm_select.specs.Reads.{OnlyReads};
+ghost use Rattle.bitm_select.specs.Tables.{bits_in};
+
+use bitm_bits::words;
+use bitm_select::source::TableSource;
+
+/// The first 0 bit from `from` on, in its word or those after it, `WORDS` in all; `None` where they have none.
+///
+/// # Conditions
+/// There are fewer than 2^58 words.
+/// # Cost
+/// The words up to that of the bit, `WORDS` at most.
+#[inline(always)]
+pub fn near_zero_on<const WORDS: usize, T: TableSource>(
+    source: &mut T,
+    from: usize,
+) -> Option<usize>
+    requires { IsShort (T.lists source.old).words }
+    ensures zero { IfSome result (IsFirstFrom (bits_in (T.lists source.old)) false from) }
+    ensures reads { OnlyReads T.lists T.reads source.old source.new 0 0 WORDS }
+{
+    let mut start = from;
+    for _ in 0..WORDS {
+        let at = start / 64;
+        if at >= source.words_len() {
+            return None;
+        }
+        let word = source.word(at);
+        if let Some(place) = words::find_bit_zero(&[word], start % 64) {
+            return Some(64 * at + place);
+        }
+        start = 64 * at + 64;
+    }
+    None
+}
