@@ -4,8 +4,6 @@ pub mod CodeLemmas
 pub mod CutLemmas
 pub mod FilledLemmas
 pub mod GuessLemmas
-pub mod ListLemmas
 pub mod NearLemmas
-pub mod OnesFromLemmas
 pub mod SampleCheckLemmas
 pub mod SamplingLemmas

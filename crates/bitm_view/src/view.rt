@@ -16,9 +16,9 @@ mod near;
 use crate::guessed::ByGuess;
 use crate::lent::{Lent, is_one};
 use crate::lists::select_list_on;
-use crate::places::bits_from;
 use crate::ranked::ranked_on;
 use crate::samples::LentSamples;
+use bit_slices::positions_in;
 use bitm::words;
 use bitm_select::answer::Answer;
 use bitm_select::search::many::{ByTables, total_rank_many_on};
@@ -330,7 +330,7 @@ impl<'a> IndexView<'a> {
     /// all is right whatever they hold.
     ///
     /// # Cost
-    /// As of `bitm_view::ones_from`.
+    /// That of `bit_slices::positions_in`.
     pub fn places_from<const BIT: u8>(&self, from: usize, out: &mut [usize]) -> usize
         ensures number { let b = bits_of_cut self.now in result ≡ min (length out.old)
             (count_of b (as_bit BIT) - count_before b (as_bit BIT) from) }
@@ -339,6 +339,7 @@ impl<'a> IndexView<'a> {
             → Picks b (as_bit BIT) (count_before b (as_bit BIT) from + j) (slice_index out.new j) }
         ensures kept { (j : ℕ) → result ≤ j → slice_index out.new j ≡ slice_index out.old j }
     {
-        bits_from::<BIT>(self.tables.words(), self.len, from, out)
+        let words = self.tables.words();
+        positions_in(words, self.len, is_one::<BIT>(), from, out)
     }
 }

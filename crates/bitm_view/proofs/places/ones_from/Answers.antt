@@ -8,10 +8,10 @@ use Rattle.bitm_view.proofs.places.ones_from.Goals as goal
 pub returns-clause-number : goal.returns-clause-number
 returns-clause-number c =
     let all = take_all (length c.args.words.now * 64) (bits_of c.args.words.now) (omega (arith, length-bits_of c.args.words.now)) in
-    subst (λ (b : List Bool). c.bits_from.result ≡ min (length c.args.out.now) (ones_of b - ones_before b c.args.from)) all c.bits_from.ensures.number
+    subst (λ (b : List Bool). c.positions_in.result ≡ min (length c.args.out.now) (ones_of b - ones_before b c.args.from)) all c.positions_in.ensures.number
 
 pub returns-clause-places : goal.returns-clause-places
 returns-clause-places c =
     let all = take_all (length c.args.words.now * 64) (bits_of c.args.words.now) (omega (arith, length-bits_of c.args.words.now)) in
-    subst (λ (b : List Bool). (j : ℕ) → j < c.bits_from.result → Picks b true (ones_before b c.args.from + j) (slice_index c.bits_from.new.out j)) all
-    c.bits_from.ensures.places
+    subst (λ (b : List Bool). (j : ℕ) → j < c.positions_in.result → Picks b true (ones_before b c.args.from + j) (slice_index c.positions_in.new.out j)) all
+    c.positions_in.ensures.positions

@@ -2,7 +2,7 @@
 use Rattle.std.proofs.Common.{◌≡◌, ℕ, ◌+◌, ◌-◌, ◌<◌, true, sym, ap, subst, ◌∙◌, arith}
 use Rattle.bitm.proofs.Callers.{length-bits_of, rank_below}
 use Rattle.bitm.specs.Bits.{bits_of}
-use Rattle.bitm_view.proofs.OnesFromLemmas.{first_picked, next_counts, none_follows}
+use Rattle.bit_slices.proofs.lemmas.PositionLemmas.{first_picked, next_counts, none_follows}
 use Rattle.elias_fano.proofs.lemmas.FragmentLemmas.{joined-same}
 use Rattle.elias_fano_view.proofs.CheckLemmas.{AreNumbers-more, held_of_pick, held_is, ones-all, last-at_most}
 use Rattle.elias_fano_view.specs.Checks.{AreNumbers}

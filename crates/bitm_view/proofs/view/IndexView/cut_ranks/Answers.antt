@@ -3,7 +3,7 @@ use Rattle.std.proofs.Common.{rules, ℕ, slice_index, refl, subst, sym, arith}
 use Rattle.bit_lists.specs.Count.{as_bit}
 use Rattle.bitm_select.specs.Answers.{RankTold}
 use Rattle.bitm_view.specs.Queries.{ranked_by, RanksIn}
-use Rattle.bitm_view.proofs.ListLemmas.{each_more}
+use Rattle.bit_slices.proofs.lemmas.PositionLemmas.{placed_more}
 use Rattle.bitm_view.proofs.view.IndexView.cut_ranks.Goals as goal
 
 pub loop-at-preserved : goal.loop-at-preserved
@@ -12,8 +12,8 @@ loop-at-preserved g c =
     record {
       long = search rules;
       each =
-          each_more (λ (q n : ℕ). RanksIn (as_bit g.row.BIT) c.args.self.now q (ranked_by n)) c.args.positions.now c.loop-at.out c.loop-at.at
-          c.cut_rank.result (omega arith) i.each
+          placed_more (λ j n. RanksIn (as_bit g.row.BIT) c.args.self.now (slice_index c.args.positions.now j) (ranked_by n)) c.loop-at.out c.loop-at.at
+          c.cut_rank.result i.each (omega arith)
           (c.cut_rank.ensures (as_bit g.row.BIT) (slice_index c.args.positions.now c.loop-at.at) refl
           (subst (λ (n : ℕ). RankTold (as_bit g.row.BIT) c.args.self.now.lists (slice_index c.args.positions.now c.loop-at.at) n) (sym (i.rest c.loop-at.at (omega arith)))
           (c.requires.told c.loop-at.at (omega arith))));

@@ -1,6 +1,6 @@
 -- One more place is told.
 use Rattle.std.proofs.Common.{ℕ, ◌<◌, length, slice_index, arith}
-use Rattle.bitm_view.proofs.FilledLemmas.{placed_more}
+use Rattle.bit_slices.proofs.lemmas.PositionLemmas.{placed_more}
 use Rattle.elias_fano_view.specs.Lists.{PlaceTold}
 use Rattle.elias_fano_view.proofs.sequence.LentSequence.first_at_least_list.Goals as goal
 

@@ -7,7 +7,7 @@ use Rattle.bitm.specs.Bits.{item}
 use Rattle.bitm.specs.Count.{ones_before, IsFirstFrom, Picks}
 use Rattle.bitm.specs.Reads.{ReadsAtMost}
 use Rattle.bitm.specs.Tables.{bits_in, Lists}
-use Rattle.bitm_view.proofs.FilledLemmas.{placed_more}
+use Rattle.bit_slices.proofs.lemmas.PositionLemmas.{placed_more}
 use Rattle.elias_fano.proofs.lemmas.UpperLemmas.{ones_are}
 use Rattle.elias_fano.specs.Parts.{HasOneAt}
 use Rattle.elias_fano_view.proofs.OnesLemmas.{all-counted, first-next, first-picked}
