@@ -1,27 +1,10 @@
 -- What the items of a list of answers stand for.
-use Rattle.std.proofs.Common.{◌≡◌, ℕ, ◌-◌, ◌^◌, ◌<◌, ◌↔◌, Bool, true, false, IsTrue, List, if◌then◌else◌, nat_eq, ne_eqb, refl, sym, ap, ◌∙◌, inl, arith}
+use Rattle.std.proofs.Common.{◌≡◌, ℕ, ◌↔◌, Bool, true, false, IsTrue, List, refl, sym, inl, arith}
 use Rattle.std.proofs.lemmas.Bool.{false≢true}
 use Rattle.std.specs.List.{Contains}
-use Rattle.bitm.specs.Answer.{Answer}
 use Rattle.elias_fano_view.specs.LentParts.{Holds, LentParts}
 use Rattle.elias_fano_view.specs.Told.{TellsLess}
-use Rattle.bitm_view.specs.Queries.{ranked_by}
-use Rattle.bitm.specs.Answer.TheVariants.{Found, Absent, Wrong}
 use Rattle.bitm_c.specs.Numbers.{IsContained}
-use Rattle.bitm_c.specs.Sequence.{sought_by}
-
--- a number that is no code stands for itself
-pub sought_index : (n : ℕ) → n < 2 ^ 64 - 2 → sought_by n ≡ Answer.Found n
-sought_index n below =
-    ap (λ (e : Bool). if e then Answer.Absent else if nat_eq n (2 ^ 64 - 2) then Answer.Wrong else Answer.Found n)
-    (ne_eqb n (2 ^ 64 - 1) (λ e. omega (arith, e, below)))
-    ∙ ap (λ (e : Bool). if e then Answer.Wrong else Answer.Found n) (ne_eqb n (2 ^ 64 - 2) (λ e. omega (arith, e, below)))
-
-pub ranked_number : (n : ℕ) → n < 2 ^ 64 - 2 → ranked_by n ≡ Found n
-ranked_number n below =
-    ap (λ (e : Bool). if e then Absent else if nat_eq n (2 ^ 64 - 2) then Wrong else Found n)
-    (ne_eqb n (2 ^ 64 - 1) (λ e. omega (arith, e, below)))
-    ∙ ap (λ (e : Bool). if e then Wrong else Found n) (ne_eqb n (2 ^ 64 - 2) (λ e. omega (arith, e, below)))
 
 -- a truth is 0 or 1
 pub contained_as : (value : ℕ) (parts : LentParts) (n : ℕ) (is : Bool) → (is ≡ true → n ≡ 1) → (is ≡ false → n ≡ 0)

@@ -1,13 +1,13 @@
 -- What the exported calls on sequences answer: a status, and a number written where the caller says.
-use Rattle.std.specs.Prelude.{◌≡◌, ℕ, ◌-◌, ◌^◌, List, if◌then◌else◌, nat_eq}
+use Rattle.std.specs.Prelude.{◌≡◌, ℕ, List}
 use Rattle.bitm.specs.Tables.{HasSizes}
+use Rattle.bitm_view.specs.Queries.{selected_by}
 use Rattle.bitm_view.specs.Sizes.{lists_of}
 use Rattle.elias_fano_view.specs.LentParts.{parts_of, HasLengths, LentParts, Holds}
 use Rattle.elias_fano_view.specs.Lists.{written_count}
 use Rattle.elias_fano_view.specs.Answers.{IsFirst, IsItem, IsOfPlace, IsPlaceOf}
 use Rattle.elias_fano_view.specs.Told.{IfPlace, TellsLess}
 use Rattle.bitm.specs.Answer.{Answer}
-use Rattle.bitm.specs.Answer.TheVariants.{Found, Absent, Wrong}
 use Rattle.elias_fano_view.specs.declared.lists.ListAnswer.{ListAnswer}
 use Rattle.elias_fano_view.specs.declared.lists.ListAnswer.TheVariants.{WrongLength}
 use Rattle.elias_fano_view.specs.declared.sizes.Sizes.{Sizes}
@@ -33,7 +33,7 @@ pub record IsSized (sequence : Sequence) : Type 0 where
 
 -- the answer that an item of a list of answers stands for
 abbrev pub sought_by : ℕ → Answer ℕ
-sought_by n = if nat_eq n (2 ^ 64 - 1) then Absent else if nat_eq n (2 ^ 64 - 2) then Wrong else Found n
+sought_by = selected_by
 
 -- how far a list of n places was answered, as a status, and the number before and after
 abbrev pub IsListTold : ListAnswer → ℕ → ℕ → ℕ → ℕ → Type 0

@@ -13,13 +13,7 @@ use Rattle.bitm_view.specs.Cut.{Cut, IsSizedCut}
 use Rattle.bitm_view.specs.Queries.{ranked_by, selected_by, RanksIn, Selects, SelectsIn}
 
 -- a number that is no code stands for itself
-ranked_place : (n : ℕ) → n < 2 ^ 64 - 2 → ranked_by n ≡ Found n
-ranked_place n below =
-    ap (λ (e : Bool). if e then Absent else if nat_eq n (2 ^ 64 - 2) then Wrong else Found n)
-    (ne_eqb n (2 ^ 64 - 1) (λ e. omega (arith, e, below)))
-    ∙ ap (λ (e : Bool). if e then Wrong else Found n) (ne_eqb n (2 ^ 64 - 2) (λ e. omega (arith, e, below)))
-
-selected_place : (n : ℕ) → n < 2 ^ 64 - 2 → selected_by n ≡ Found n
+pub selected_place : (n : ℕ) → n < 2 ^ 64 - 2 → selected_by n ≡ Found n
 selected_place n below =
     ap (λ (e : Bool). if e then Absent else if nat_eq n (2 ^ 64 - 2) then Wrong else Found n)
     (ne_eqb n (2 ^ 64 - 1) (λ e. omega (arith, e, below)))
@@ -38,7 +32,7 @@ module _ (v : Bool) (c : Cut) (sized : IsSizedCut c) where
       let within : i ≤ length (bits_in c.lists) = omega (arith, inside, sized.within) in
       elim (cases_lt n (2 ^ 64 - 2)) [
         | inl below ↦
-            subst (λ (r : Answer ℕ). RanksIn v c i r) (sym (ranked_place n below))
+            subst (λ (r : Answer ℕ). RanksIn v c i r) (sym (selected_place n below))
             (cut_counted v c sized.within i inside (Found n)
             (record { within = (within, told.most below); counts = λ t. (within, (told.count t within).1) }))
         | inr above ↦

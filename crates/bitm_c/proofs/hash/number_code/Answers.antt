@@ -3,14 +3,14 @@ use Rattle.std.proofs.Common.{subst, sym, arith}
 use Rattle.bitm.specs.Answer.TheVariants.{Found, Absent, Wrong}
 use Rattle.bitm_c.specs.Hash.{IsHashNumber}
 use Rattle.bitm_c.proofs.HashLemmas.{number_below}
-use Rattle.bitm_c.proofs.ListedLemmas.{ranked_number}
+use Rattle.bitm_view.proofs.CodeLemmas.{selected_place}
 use Rattle.bitm_c.proofs.hash.number_code.Goals as goal
 
 pub returns-in-Found : goal.returns-in-Found
 returns-in-Found c =
     let n = c.in-Found.number in
     subst (IsHashNumber c.args.sizes.now c.args.keys c.args.hash c.args.lent.now)
-    (sym (ranked_number n (omega (arith, c.in-Found.ensures.below, c.min.ensures))))
+    (sym (selected_place n (omega (arith, c.in-Found.ensures.below, c.min.ensures))))
     (number_below c.args.sizes.now c.args.keys c.args.hash c.min.result c.probe.result.lists c.args.lent.now (Found n) c.probe.ensures.lists c.min.ensures
     c.in-Found.ensures.below c.in-Found.ensures.number)
 
