@@ -655,22 +655,19 @@ BITM_MUST_USE uint32_t bitm_hash_get_list(const struct bitm_hash *hash, const ui
 /* ---- stored
  *
  * A file is a header of 192 bytes and the parts that it names, in this order, each from a multiple of 64 bytes on:
- * words, upper and lower table, low bits of a sequence, starts and samples. The lengths determine all of it. So map a
- * file of size bytes, copy the header to its front, and build each part in its place; once samples are built, write the
- * header again with their number, samples of 1 bits first, and cut the file.
+ * words, upper and lower table, low bits of a sequence, starts and samples. The lengths determine all of it. To write an
+ * index, take memory of the size that bitm_stored_index_room says, and keep the first s.size bytes:
  *
  *     struct bitm_stored s;
- *     if (bitm_stored_index(1000, 0, 0, 0, 0, &s) != BITM_OK) return 1;
- *     size_t bytes = s.size;
- *     uint64_t *file = calloc(1, bytes), *bits = file ? bitm_stored_room(file, s.words) : NULL; // or mapped
- *     if (!file || bitm_bits_fill_range(bits, s.words.len, 1000, 10, 20, true) != BITM_OK ||
- *         bitm_index_build(bits, s.words.len, bitm_stored_room(file, s.upper), s.upper.len,
- *                          bitm_stored_room(file, s.lower), s.lower.len, &ones) != BITM_OK) return 1;
- *     memcpy(file, &s, sizeof s);
+ *     struct bitm_index stored;
+ *     if (bitm_stored_index_room(100, 12, 0, &s) != BITM_OK) return 1;
+ *     uint64_t *file = calloc(s.size / 8, 8); // or mapped
+ *     if (!file || bitm_stored_write_index(words, n, 100, 12, 0, file, s.size / 8, &s) != BITM_OK ||
+ *         bitm_stored_open_index(file, s.size / 8, &stored) != BITM_OK) return 1;
+ *     if (bitm_index_rank(&stored, true, 100, &ones) != BITM_OK || ones != 5) return 1;
  *
- *     if (bitm_stored_read(file, bytes / 8, &s) != BITM_OK || s.kind != BITM_STORED_INDEX) return 1;
- *     struct bitm_index stored = bitm_stored_index_of(file, &s);
- *     if (bitm_index_rank(&stored, true, 1000, &ones) != BITM_OK || ones != 10) return 1;
+ * What stands between the parts, at most 63 bytes each, is not written; in zeroed memory the same bits give the same
+ * bytes. A part can be built in its place too.
  *
  * A header says nothing of the contents of the parts: bitm_index_check, bitm_index_check_samples and
  * bitm_sequence_check do. */
@@ -707,6 +704,21 @@ struct bitm_stored {
  * for the words, or more than 2^64 - 64 bits. */
 BITM_MUST_USE uint32_t bitm_stored_index(uint64_t bits_len, uint32_t ones_log2, uint64_t ones_len, uint32_t zeros_log2,
                                          uint64_t zeros_len, struct bitm_stored *out);
+
+/* The same with the greatest numbers of samples that so many bits can have: s.size bytes hold each such index. */
+BITM_MUST_USE uint32_t bitm_stored_index_room(uint64_t bits_len, uint32_t ones_log2, uint32_t zeros_log2,
+                                              struct bitm_stored *out);
+
+/* Copies the first bits_len bits of words to an index in the caller's memory, 0 bits after them; writes its tables, the
+ * samples of 1 bits and of 0 bits, each with a log2 of 7 to 31, or 0 and none, and to out the header of such a file. The
+ * samples of 0 bits begin at the first multiple of 16 behind the others. BITM_BAD_SIZE if words has fewer bits, to,
+ * upper, lower, starts or starts0 is not as long as bitm_stored_index_room says, samples has not room for the greatest
+ * number of each kind, or for other log2. Nothing that is passed may overlap. Reads the words twice. */
+BITM_MUST_USE uint32_t bitm_stored_build(const uint64_t *words, size_t words_len, uint64_t bits_len, uint32_t ones_log2,
+                                         uint32_t zeros_log2, uint64_t *to, size_t to_len, uint64_t *upper,
+                                         size_t upper_len, uint64_t *lower, size_t lower_len, uint64_t *starts,
+                                         size_t starts_len, uint64_t *starts0, size_t starts0_len, uint32_t *samples,
+                                         size_t samples_len, struct bitm_stored *out);
 
 /* Writes the header of a sequence of len numbers. BITM_BAD_SIZE where no sequence can have such lengths. */
 BITM_MUST_USE uint32_t bitm_stored_sequence(uint64_t len, const struct bitm_sequence_lens *lens,
@@ -779,6 +791,44 @@ static inline struct bitm_sequence bitm_stored_sequence_of(const uint64_t *file,
     sequence.reserved[0] = 0;
     sequence.reserved[1] = 0;
     return sequence;
+}
+
+/* Writes a whole file of an index of the first bits_len bits of words, and its header to s too: of the file_len words of
+ * file the first s->size / 8. BITM_BAD_SIZE as bitm_stored_build, and if file_len is less than bitm_stored_index_room
+ * says. file may overlap neither words nor s. */
+BITM_MUST_USE static inline uint32_t bitm_stored_write_index(const uint64_t *words, size_t words_len, uint64_t bits_len,
+                                                             uint32_t ones_log2, uint32_t zeros_log2, uint64_t *file,
+                                                             size_t file_len, struct bitm_stored *s)
+{
+    struct bitm_stored r;
+    uint32_t status = bitm_stored_index_room(bits_len, ones_log2, zeros_log2, &r);
+    if (status != BITM_OK) return status;
+    if (file_len < r.size / 8) return BITM_BAD_SIZE;
+    void *const samples = bitm_stored_room(file, r.samples), *const front = file;
+#ifdef __cplusplus
+    uint32_t *const numbers = static_cast<uint32_t *>(samples);
+    bitm_stored *const header = static_cast<bitm_stored *>(front);
+#else
+    uint32_t *const numbers = samples;
+    struct bitm_stored *const header = front;
+#endif
+    status = bitm_stored_build(words, words_len, bits_len, ones_log2, zeros_log2, bitm_stored_room(file, r.words),
+                               r.words.len, bitm_stored_room(file, r.upper), r.upper.len,
+                               bitm_stored_room(file, r.lower), r.lower.len, bitm_stored_room(file, r.starts),
+                               r.starts.len, bitm_stored_room(file, r.starts0), r.starts0.len, numbers,
+                               (r.size - r.samples.at) / 4, s);
+    if (status == BITM_OK) *header = *s;
+    return status;
+}
+
+/* The index that file_len words hold, as bitm_stored_read and bitm_stored_index_of. BITM_WRONG also for a sequence. */
+BITM_MUST_USE static inline uint32_t bitm_stored_open_index(const uint64_t *file, size_t file_len,
+                                                            struct bitm_index *index)
+{
+    struct bitm_stored s;
+    if (bitm_stored_read(file, file_len, &s) != BITM_OK || s.kind != BITM_STORED_INDEX) return BITM_WRONG;
+    *index = bitm_stored_index_of(file, &s);
+    return BITM_OK;
 }
 
 #ifdef __cplusplus

@@ -49,6 +49,78 @@ static struct bitm_stored sampled(uint64_t *file, struct bitm_stored s, const st
     return s;
 }
 
+/* The same index, step by step: its parts built in their place, the header written again with the numbers of samples. */
+static struct bitm_stored step_by_step(uint64_t *file, const uint64_t *words, uint64_t bits, uint32_t log, uint32_t log0)
+{
+    struct bitm_stored s;
+    const size_t n = bitm_bits_words_len(bits);
+    uint64_t ones = log ? bitm_index_samples_len(n, log) : 0, zeros = log0 ? bitm_index_samples_len(n, log0) : 0, got;
+    MUST(bitm_stored_index(bits, log, ones, log0, zeros, &s) == BITM_OK);
+    uint64_t *const mine = bitm_stored_room(file, s.words);
+    for (uint64_t i = 0; i < bits; i++) bitm_set_bit_at(mine, i, bit_of(words, i));
+    MUST(bitm_index_build(mine, n, bitm_stored_room(file, s.upper), s.upper.len, bitm_stored_room(file, s.lower),
+                          s.lower.len, &got) == BITM_OK);
+    const struct bitm_index view = bitm_stored_index_of(file, &s);
+    if (log)
+        MUST(bitm_index_build_samples(&view, true, log, samples_room(file, s.samples), ones,
+                                      bitm_stored_room(file, s.starts), s.starts.len, &ones) == BITM_OK);
+    MUST(bitm_stored_index(bits, log, ones, log0, zeros, &s) == BITM_OK);
+    if (log0)
+        MUST(bitm_index_build_samples(&view, false, log0, samples_room(file, s.samples0), zeros,
+                                      bitm_stored_room(file, s.starts0), s.starts0.len, &zeros) == BITM_OK);
+    MUST(bitm_stored_index(bits, log, ones, log0, zeros, &s) == BITM_OK);
+    memcpy(file, &s, sizeof s);
+    return s;
+}
+
+/* A file that is written in one call is that of the steps, byte for byte; what is too short is refused, and nothing is
+ * written then. Words, and the file, end at a page that may not be touched. */
+static void one_call(const struct guarded *of_words, const struct guarded *of_file, uint64_t bits, uint32_t log,
+                     uint32_t log0)
+{
+    struct bitm_stored room, s, kept;
+    struct bitm_index view, none;
+    const size_t n = bitm_bits_words_len(bits);
+    MUST(bitm_stored_index_room(bits, log, log0, &room) == BITM_OK);
+    uint64_t *const words = ends_at_the_guard(of_words, 8 * n), *const file = ends_at_the_guard(of_file, room.size);
+    for (size_t i = 0; i < n; i++) words[i] = draw() & draw();
+    uint64_t *const want = calloc(room.size / 8, 8), *const before = malloc(room.size);
+    MUST(want && before);
+    const struct bitm_stored made = step_by_step(want, words, bits, log, log0);
+    memset(file, UNTOUCHED, room.size), memcpy(before, file, room.size);
+    memset(&s, UNTOUCHED, sizeof s), kept = s;
+    MUST(bitm_stored_write_index(words, n, bits, log, log0, file, room.size / 8 - 1, &s) == BITM_BAD_SIZE);
+    MUST(bitm_stored_write_index(words, n, 64 * (uint64_t)n + 1, log, log0, file, room.size / 8, &s) == BITM_BAD_SIZE);
+    MUST(bitm_stored_write_index(words, n, bits, 6, log0, file, room.size / 8, &s) == BITM_BAD_SIZE);
+    MUST(bitm_stored_write_index(words, n, bits, log, 32, file, room.size / 8, &s) == BITM_BAD_SIZE);
+    MUST(memcmp(file, before, room.size) == 0 && memcmp(&s, &kept, sizeof s) == 0);
+    memset(file, 0, room.size);
+    MUST(bitm_stored_write_index(words, n, bits, log, log0, file, room.size / 8, &s) == BITM_OK);
+    MUST(memcmp(&s, &made, sizeof s) == 0 && s.size <= room.size && memcmp(file, want, s.size) == 0);
+    MUST(bitm_stored_open_index(file, s.size / 8, &view) == BITM_OK && view.bits_len == bits);
+    MUST(bitm_index_check(&view) == BITM_OK);
+    MUST(!log || bitm_index_check_samples(&view, true) == BITM_OK);
+    MUST(!log0 || bitm_index_check_samples(&view, false) == BITM_OK);
+    memset(&none, UNTOUCHED, sizeof none), view = none;
+    MUST(bitm_stored_open_index(file, s.size / 8 - 1, &view) == BITM_WRONG && memcmp(&view, &none, sizeof view) == 0);
+    free(want), free(before);
+}
+
+static void one_call_each(void)
+{
+    const uint32_t logs[] = {0, 7, 12, 31};
+    const struct guarded of_words = guard(8 * WORDS), of_file = guard(1 << 17);
+    for (uint64_t bits = 0; bits <= 200; bits++)
+        for (unsigned i = 0; i < 16; i++) one_call(&of_words, &of_file, bits, logs[i % 4], logs[i / 4]);
+    for (unsigned i = 0; i < 16; i++) one_call(&of_words, &of_file, BITS - i, logs[i % 4], logs[i / 4]);
+    struct bitm_stored s, kept;
+    memset(&s, UNTOUCHED, sizeof s), kept = s;
+    MUST(bitm_stored_index_room(UINT64_MAX - 62, 0, 0, &s) == BITM_BAD_SIZE);
+    MUST(bitm_stored_index_room(64, 6, 0, &s) == BITM_BAD_SIZE && bitm_stored_index_room(64, 0, 32, &s) == BITM_BAD_SIZE);
+    MUST(bitm_stored_index_room(64, UINT32_MAX, 0, &s) == BITM_BAD_SIZE && memcmp(&s, &kept, sizeof s) == 0);
+    MUST(bitm_stored_index_room(UINT64_MAX - 63, 7, 7, &s) == BITM_OK && s.words.len == ((uint64_t)1 << 58) - 1);
+}
+
 static void write_index(void)
 {
     struct bitm_stored s;
@@ -297,6 +369,7 @@ int main(int argc, char **argv)
     size_t size, length;
     struct bitm_stored s;
     take_seed(argc, argv);
+    one_call_each();
     write_index();
     write_sequence();
     const uint64_t *index = map_file(ONES, &size), *sequence = map_file(NUMBERS, &length);
@@ -307,6 +380,8 @@ int main(int argc, char **argv)
     MUST(bitm_stored_read(sequence, length / 8, &s) == BITM_OK && s.kind == BITM_STORED_SEQUENCE && s.len == ITEMS);
     struct bitm_sequence view = bitm_stored_sequence_of(sequence, &s);
     MUST(bitm_sequence_check(&view) == BITM_OK);
+    struct bitm_index none;
+    MUST(bitm_stored_open_index(sequence, length / 8, &none) == BITM_WRONG);
     spoil(sequence, length);
     unsigned read = drawn();
     MUST(read > 1000);

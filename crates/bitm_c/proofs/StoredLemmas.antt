@@ -2,7 +2,8 @@
 use Rattle.std.proofs.Common.{◌≡◌, ℕ, zero, suc, ◌+◌, ◌-◌, ◌*◌, ◌/◌, ◌^◌, ◌<◌, ◌≤◌, ◌⊎◌, sym, subst, ap, ◌∙◌, ◌↔◌, inl, inr, arith}
 use Rattle.std.proofs.Math.Nat.{div-le_self, mul-le-mul_left}
 use Rattle.bitm.specs.Density.{clamped_log}
-use Rattle.bitm_c.specs.Stored.{sample_room, IsAlike, IsBounded, IsIndex, IsLaidOut, IsSequence, LiesWithin}
+use Rattle.bitm_view.specs.Block.{sample_room}
+use Rattle.bitm_c.specs.Stored.{IsAlike, IsBounded, IsIndex, IsLaidOut, IsSequence, LiesWithin}
 use Rattle.bitm_c.specs.declared.layout.Span.{Span}
 use Rattle.bitm_c.specs.declared.layout.Stored.{Stored}
 

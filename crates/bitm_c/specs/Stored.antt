@@ -1,7 +1,7 @@
 -- What a stored index or sequence begins with, and where each of its parts stands.
-use Rattle.std.specs.Prelude.{◌≡◌, ◌≢◌, ℕ, zero, suc, ◌+◌, ◌-◌, ◌*◌, ◌/◌, ◌%◌, ◌^◌, ◌<◌, ◌≤◌, ◌⊎◌, List, length, slice_index}
+use Rattle.std.specs.Prelude.{◌≡◌, ◌≢◌, ℕ, ◌+◌, ◌-◌, ◌*◌, ◌/◌, ◌%◌, ◌^◌, ◌<◌, ◌≤◌, ◌⊎◌, List, length, slice_index}
 use Rattle.std.specs.Int.{div_ceil}
-use Rattle.bitm_view.specs.Samples.{enough_samples}
+use Rattle.bitm_view.specs.Block.{sample_room, starts_of}
 use Rattle.bitm_c.specs.declared.layout.Span.{Span}
 use Rattle.bitm_c.specs.declared.layout.Stored.{Stored}
 use Rattle.bitm_c.specs.declared.sequence.SequenceLens.{SequenceLens}
@@ -17,16 +17,6 @@ span_from n len = record { at = aligned n; len = len }
 -- the first byte behind items of so many bytes
 abbrev pub end_of : Span → ℕ → ℕ
 end_of span bytes = span.at + span.len * bytes
-
--- with samples there is a start for each part of the words; logarithm 0 says that there are none
-abbrev pub starts_of : ℕ → ℕ → ℕ
-starts_of zero upper = 0
-starts_of (suc log) upper = upper
-
--- the most samples of one kind
-abbrev pub sample_room : ℕ → ℕ → ℕ
-sample_room words zero = 0
-sample_room words (suc log) = enough_samples words (suc log)
 
 -- one more number is mixed into a checksum
 unfoldable pub mixed : ℕ → ℕ → ℕ
@@ -176,6 +166,11 @@ pub record IsSequenceOf (n : ℕ) (lens : SequenceLens) (h : Stored) : Type 0 wh
   pub samples : h.samples.len ≡ 0
   pub zeros_log2 : h.zeros_log2 ≡ 0
   pub samples0 : h.samples0.len ≡ 0
+
+-- a logarithm of samples, or 0 for none
+pub record IsLog (log : ℕ) : Type 0 where
+  pub low : log ≢ 0 → 7 ≤ log
+  pub high : log ≤ 31
 
 -- so many bits have an index, and can have so many samples
 pub record HasIndexLens (bits log n log0 n0 : ℕ) : Type 0 where

@@ -1,6 +1,7 @@
 //! Where the parts of a stored index or sequence stand.
 ghost use Rattle.std.specs.Prelude.{◌≡◌, ◌+◌, ◌*◌, ◌^◌, ◌<◌, ◌≤◌, ◌↔◌, IsTrue};
-ghost use Rattle.bitm_c.specs.Stored.{checksum_of, mixed, span_from, span_mixed, starts_of};
+ghost use Rattle.bitm_view.specs.Block.{starts_of};
+ghost use Rattle.bitm_c.specs.Stored.{checksum_of, mixed, span_from, span_mixed};
 ghost use Rattle.bitm_c.specs.Stored.{IsAlike, IsBounded, IsLaidOut};
 
 use bitm_view::{lower_len, upper_len};

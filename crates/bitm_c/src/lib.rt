@@ -7,6 +7,7 @@
 
 mod answer;
 mod bits;
+mod block;
 mod bytes;
 mod copying;
 mod counts;

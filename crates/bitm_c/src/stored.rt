@@ -122,7 +122,7 @@ fn items(len: u64) -> Span
 
 /// The lengths of an index, with no places.
 #[inline(always)]
-fn index_of(len: u64, ones_log2: u32, ones: u64, zeros_log2: u32, zeros: u64) -> Stored
+pub(crate) fn index_of(len: u64, ones_log2: u32, ones: u64, zeros_log2: u32, zeros: u64) -> Stored
     ensures { IsIndexOf len ones_log2 ones zeros_log2 zeros result }
 {
     Stored {

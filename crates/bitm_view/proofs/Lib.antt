@@ -1,3 +1,4 @@
+pub mod BlockLemmas
 pub mod BoundsLemmas
 pub mod ClearingLemmas
 pub mod CodeLemmas

@@ -1,3 +1,4 @@
+pub mod Block
 pub mod Cut
 pub mod Queries
 pub mod Ranks

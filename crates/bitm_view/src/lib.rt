@@ -18,6 +18,7 @@
 //! ```
 #![tactic(auto)]
 
+mod block;
 mod checking;
 mod clearing;
 mod filling;
@@ -38,6 +39,7 @@ pub use bitm_select::search::many::ByTables;
 pub use bitm_select::search::ranking::{WORDS_AT_HAND, total_rank_on};
 pub use bitm_select::search::selected::{NO_ANSWER, WRONG_TABLES};
 pub use bitm_select::search::selecting::total_select_on;
+pub use block::{build_block, has_block_room};
 pub use clearing::{clear, clear_from};
 pub use filling::build;
 pub use guessed::ByGuess;
