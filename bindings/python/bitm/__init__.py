@@ -18,9 +18,10 @@ from collections.abc import MutableSequence, Sequence
 from . import _more
 from ._core import BitVector, EliasFano, Index, PerfectHash, WrongTables
 from ._more import load, loads, tables_of
+from .shards import ShardError, Shards
 
 __version__ = "0.3.0"
-__all__ = ["BitVector", "EliasFano", "Index", "PerfectHash", "WrongTables", "load", "loads", "tables_of"]
+__all__ = ["BitVector", "EliasFano", "Index", "PerfectHash", "ShardError", "Shards", "WrongTables", "load", "loads", "tables_of"]
 
 _more.complete()
 Sequence.register(Index)

@@ -1,0 +1,128 @@
+"""Lists of queries of shards: each query's shard is its predecessor among the numbers before each; the queries of a shard
+are asked by one call."""
+import operator
+from typing import Any, Callable, Dict, List, Tuple
+
+Asked = Callable[[int, Any], Any]
+NO_ANSWER = 2**64 - 1
+
+
+def _is_array(queries: Any) -> bool:
+    return type(queries).__module__.split(".")[0] == "numpy" and hasattr(queries, "dtype")
+
+
+def _in_lists(bounds: Any, starts: List[int], queries: List[int], ask: Asked) -> List[int]:
+    groups: Dict[int, List[int]] = {}
+    for at, shard in enumerate(bounds.last_at_most_list(queries, missing="error")):
+        groups.setdefault(shard, []).append(at)
+    answers = [NO_ANSWER] * len(queries)
+    for shard, places in groups.items():
+        found = ask(shard, [queries[at] - starts[shard] for at in places])
+        for at, answer in zip(places, found):
+            answers[at] = answer
+    return answers
+
+
+def _in_arrays(bounds: Any, starts: List[int], queries: Any, ask: Asked) -> Any:
+    import numpy
+
+    shards = bounds.last_at_most_list(queries, missing="error")
+    small = shards.astype(numpy.uint16 if len(starts) < 2**16 else numpy.uint32)
+    order = numpy.argsort(small, kind="stable")  # of 16 bits: by digits, in two passes
+    asked, answers = queries.astype(numpy.uint64, copy=False)[order], numpy.empty(len(queries), dtype=numpy.uint64)
+    begin = 0
+    for shard, count in enumerate(numpy.bincount(small, minlength=len(starts)).tolist()):
+        if count:
+            here = slice(begin, begin + count)
+            answers[here] = ask(shard, asked[here] - numpy.uint64(starts[shard]))
+            begin += count
+    made = numpy.empty_like(answers)
+    made[order] = answers
+    return made
+
+
+def _answers(bounds: Any, starts: List[int], queries: Any, ask: Asked) -> Tuple[Any, Any]:
+    """The queries, which are gone over once, and their answers."""
+    if _is_array(queries):
+        return queries, _in_arrays(bounds, starts, queries, ask)
+    numbers = list(queries)
+    return numbers, _in_lists(bounds, starts, numbers, ask)
+
+
+def _plus(answers: Any, base: int) -> Any:
+    if _is_array(answers):
+        return answers + answers.dtype.type(base)
+    return [it + base for it in answers]
+
+
+def ranks(shards: Any, one: bool, queries: Any) -> Any:
+    starts, counts = shards._starts[None], shards._starts[one]
+
+    def ask(shard: int, positions: Any) -> Any:
+        if shard == len(shards.parts):  # of all bits
+            return [counts[shard] if not it else NO_ANSWER for it in positions]
+        index = shards.shard(shard)
+        return _plus((index.rank_list if one else index.rank0_list)(positions), counts[shard])
+
+    queries, answers = _answers(shards._bits, starts, queries, ask)
+    past = _first_without(answers)
+    if past is not None:
+        raise IndexError(f"a position is past the end: {queries[past]}, item {past} of the list")
+    return answers
+
+
+def _first_without(answers: Any) -> Any:
+    if _is_array(answers):
+        where = (answers == NO_ANSWER).nonzero()[0]
+        return int(where[0]) if len(where) else None
+    return answers.index(NO_ANSWER) if NO_ANSWER in answers else None
+
+
+def selections(shards: Any, one: bool, queries: Any, missing: Any) -> Any:
+    missing = _look(missing, _is_array(queries))
+    starts, bits = shards._starts[one], shards._starts[None]
+
+    def ask(shard: int, of_ranks: Any) -> Any:
+        if shard == len(shards.parts):  # of no bit
+            return [NO_ANSWER] * len(of_ranks)
+        index = shards.shard(shard)
+        return _plus((index.select_list if one else index.select0_list)(of_ranks, missing="error"), bits[shard])
+
+    queries, answers = _answers(shards._ones if one else shards._zeros, starts, queries, ask)
+    return _with_missing(answers, missing)
+
+
+def _look(missing: Any, is_array: bool) -> Any:
+    if isinstance(missing, str):
+        if missing == "error" or (missing == "mask" and is_array):
+            return missing
+        raise ValueError(f"missing is 'error', a number{' or ' + repr('mask') if is_array else ' or None'}, not {missing!r}")
+    if missing is None:
+        return None
+    number = operator.index(missing)
+    if not 0 <= number < 2**64:
+        raise OverflowError(f"missing has to be at least 0 and below 2**64, not {number}")
+    return number
+
+
+def _with_missing(answers: Any, missing: Any) -> Any:
+    is_array = _is_array(answers)
+    if is_array:
+        import numpy
+
+        absent = answers == numpy.uint64(NO_ANSWER)
+        if missing is None or missing == "mask":
+            masked: Any = numpy.ma.masked_array
+            return masked(answers, absent)
+        count = int(absent.sum())
+    else:
+        count = answers.count(NO_ANSWER)
+        if missing is None:
+            return [None if it == NO_ANSWER else it for it in answers]
+    if missing == "error" and count:
+        raise IndexError(f"{count} items of the list have no answer")
+    if missing != "error" and count and is_array:
+        answers[absent] = missing
+    elif missing != "error" and count:
+        return [missing if it == NO_ANSWER else it for it in answers]
+    return answers

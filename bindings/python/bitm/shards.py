@@ -1,0 +1,395 @@
+"""One bit vector in many files, asked as one: see `Shards`."""
+import builtins
+import contextlib
+import hashlib
+import itertools
+import json
+import mmap as mapped
+import operator
+import os
+import secrets
+import struct
+import zlib
+from typing import Any, Callable, Dict, Iterable, Iterator, List, NamedTuple, Optional, Sequence, Tuple, Union
+
+from . import _more, _shard_lists
+from ._core import BitVector, EliasFano, Index, parts
+
+MANIFEST, FORMAT, VERSION = "shards.json", "bitm shards", 1
+OTHER, WRONG = "it is not the one that the manifest names", "its tables are not those of its words"
+PathLike = Union[str, "os.PathLike[str]"]
+Mapper = Callable[..., Iterable[Any]]
+
+
+class ShardError(Exception):
+    """A shard is missing, cut short, or not the one that the manifest names: the message says which."""
+
+
+class Part(NamedTuple):
+    """What the manifest says of a shard: its file in the folder, its bits and 1 bits, a sum of its lengths, tables and
+    some words, which is looked at when the shard is mapped, and one of all words, which is looked at by `check`."""
+
+    file: str
+    bits: int
+    ones: int
+    sum: str
+    words: int
+
+
+# ---- one shard: built where its bits lie, and mapped where it is asked
+
+
+def sum_of(index: Index) -> str:
+    """A sum of the lengths of an index, both its tables, and one word in 2^13, so that few pages of a file are read: another
+    one where some 512 bits have another number of 1 bits, or one of these words is another."""
+    numbers, (words, upper, lower, *_) = parts(index)
+    made = hashlib.blake2b(struct.pack("<4Q", len(words), *numbers), digest_size=16)
+    made.update(memoryview(words)[::8192].tobytes())
+    made.update(upper)
+    made.update(lower)
+    return made.hexdigest()
+
+
+def words_sum_of(index: Index) -> int:
+    """A sum of all words of an index: CRC-32, which costs little beside the write of a shard."""
+    return zlib.crc32(parts(index)[1][0])
+
+
+def _bits_of(source: Any) -> Tuple[Any, Any]:
+    """The bits of a source, and how many they are: None for all."""
+    if callable(source):
+        source = source()
+    source, length = source if isinstance(source, tuple) else (source, None)
+    if isinstance(source, (str, os.PathLike)):
+        with open(source, "rb") as file:
+            size = os.fstat(file.fileno()).st_size
+            source = mapped.mmap(file.fileno(), size, access=mapped.ACCESS_READ) if size else b""
+    return source, length
+
+
+def build_shard(task: Tuple[str, str, Any, Optional[int], str]) -> Part:
+    """Builds one shard and stores it: what `build` has its map do, in whatever process. The last item of a task makes no
+    two tasks equal, for maps that keep what they have once computed."""
+    folder, file, source, sample_log2, _ = task
+    bits, length = _bits_of(source)
+    index = bits if isinstance(bits, Index) and length is None else Index(bits, length, sample_log2=sample_log2)
+    path = os.path.join(folder, file)
+    index.save(path)
+    with _mapped(path) as stored:
+        return Part(file, len(stored), stored.rank(len(stored)), sum_of(stored), words_sum_of(stored))
+
+
+def _mapped(path: str) -> Index:
+    found = _more.load(path, mmap=True)
+    if not isinstance(found, Index):
+        raise ValueError(f"{path} has no index")
+    return found
+
+
+def _asked(shard: Tuple[str, int, Part]) -> Optional[str]:
+    """What is wrong with a shard, if something is: for `check`."""
+    folder, number, part = shard
+    try:
+        with _opened(folder, number, part) as index:
+            if words_sum_of(index) != part.words:
+                return _says(folder, number, part, OTHER)
+            return None if index.check() else _says(folder, number, part, WRONG)
+    except ShardError as error:
+        return str(error)
+
+
+def _says(folder: str, number: int, part: Part, what: object) -> str:
+    return f"shard {number} ({os.path.join(folder, part.file)}): {what}"
+
+
+def _opened(folder: str, number: int, part: Part) -> Index:
+    try:
+        index = _mapped(os.path.join(folder, part.file))
+    except (OSError, ValueError) as error:
+        raise ShardError(_says(folder, number, part, error)) from error
+    if (len(index), index.rank(len(index)), sum_of(index)) != part[1:4]:
+        raise ShardError(_says(folder, number, part, OTHER))
+    return index
+
+
+# ---- the manifest
+
+
+def _read(folder: str) -> List[Part]:
+    path = os.path.join(folder, MANIFEST)
+    with open(path, encoding="utf-8") as file:
+        try:
+            found = json.load(file)
+            if (found["format"], found["version"]) != (FORMAT, VERSION):
+                raise ValueError("it is of another format or version")
+            made = [Part(*(it[name] for name in Part._fields)) for it in found["shards"]]
+            if not all(_is_part(it) for it in made):
+                raise ValueError("a shard's entry is not one")
+        except (ValueError, TypeError, LookupError) as error:
+            raise ValueError(f"{path} is not a manifest of shards: {error}") from error
+    return made
+
+
+def _is_part(it: Part) -> bool:
+    is_file = isinstance(it.file, str) and it.file not in ("", ".", "..") and os.path.basename(it.file) == it.file
+    are_numbers = all(type(number) is int for number in (it.bits, it.ones, it.words)) and 0 <= it.ones <= it.bits
+    return is_file and isinstance(it.sum, str) and are_numbers
+
+
+def _write(folder: str, shards: Sequence[Part]) -> None:
+    """Writes the manifest beside the old one, and puts it in its place: who reads it sees either whole."""
+    data = {"format": FORMAT, "version": VERSION, "shards": [it._asdict() for it in shards]}
+    beside = os.path.join(folder, f".{MANIFEST}-{secrets.token_hex(8)}")
+    try:
+        with open(beside, "x", encoding="utf-8") as file:
+            json.dump(data, file, indent=1)
+            file.flush()
+            os.fsync(file.fileno())
+        os.replace(beside, os.path.join(folder, MANIFEST))
+    except BaseException:
+        if os.path.exists(beside):
+            os.unlink(beside)
+        raise
+    _more._sync_folder(os.fsencode(folder))
+
+
+# ---- the shards as one
+
+
+class Shards:
+    """The bits of the shards of a folder, one after the other, asked as those of one `Index`.
+
+    A folder has a manifest and one stored index a shard. A shard is mapped when it is first asked; before, and for what
+    is asked of other shards, its file need not be there. ShardError where it is not, or is not the one that the manifest
+    names. A value is pickled as its folder.
+
+    >>> import bitm, tempfile
+    >>> folder = tempfile.mkdtemp()
+    >>> shards = bitm.Shards.build([bitm.BitVector.from_bits("0110"), bitm.BitVector.from_bits("101")], folder)
+    >>> shards, shards.rank(5), shards.select(3), shards.select_list([0, 2, 9])
+    (<Shards of 7 bits, 4 ones, in 2 shards>, 3, 6, [1, 4, None])
+    """
+
+    def __init__(self, folder: PathLike) -> None:
+        self.folder = os.path.abspath(os.fspath(folder))
+        self._take(_read(self.folder))
+
+    def _take(self, shards: Sequence[Part]) -> None:
+        self.parts: Tuple[Part, ...] = tuple(shards)
+        bits = [0, *itertools.accumulate(it.bits for it in shards)]
+        ones = [0, *itertools.accumulate(it.ones for it in shards)]
+        if bits[-1] >= 2**64:
+            raise ValueError("the shards have 2**64 bits or more")
+        self._bits, self._ones = EliasFano(bits), EliasFano(ones)
+        self._zeros = EliasFano([all_ - one for all_, one in zip(bits, ones)])
+        self._starts = {True: ones, False: [all_ - one for all_, one in zip(bits, ones)], None: bits}
+        self._open: Dict[int, Index] = {}
+
+    # ---- making and changing
+
+    @classmethod
+    def build(cls, sources: Iterable[Any], folder: PathLike, *, map: Mapper = builtins.map, sample_log2: Optional[int] = None) -> "Shards":
+        """Builds one shard of each source, and writes the manifest once all are stored.
+
+        A source is what `Index` takes, the path of a file of raw bits, a pair of one of these and a number of bits, or a
+        callable without arguments that returns one of these where the shard is built. `map` is the builtin, an
+        executor's `map`, or that of a Dask client: it calls a function of this module with one argument for each source,
+        and both travel to its workers by pickle. FileExistsError where the folder has a manifest. Where a build fails or
+        is killed there is none, and another build in the folder writes all shards again."""
+        place = os.path.abspath(os.fspath(folder))
+        os.makedirs(place, exist_ok=True)
+        if os.path.exists(os.path.join(place, MANIFEST)):
+            raise FileExistsError(f"{place} has shards already")
+        token = secrets.token_hex(8)
+        tasks = [(place, f"shard-{k:06d}.bitm", it, sample_log2, token) for k, it in enumerate(sources)]
+        made = [it.result() if hasattr(it, "result") else it for it in map(build_shard, tasks)]
+        _write(place, [Part(*it) for it in made])
+        return cls(place)
+
+    def append(self, source: Any, *, sample_log2: Optional[int] = None) -> None:
+        """Adds a shard after the last."""
+        self._store(len(self.parts), source, sample_log2)
+
+    def replace(self, shard: int, source: Any, *, sample_log2: Optional[int] = None) -> None:
+        """Puts other bits, as many or not, in place of a shard. The file of the old one is removed once the manifest names
+        the new one: who has opened the folder before, and not yet that shard, then gets a ShardError."""
+        old = self.parts[range(len(self.parts))[shard]].file
+        self._store(range(len(self.parts))[shard], source, sample_log2)
+        with contextlib.suppress(FileNotFoundError):
+            os.unlink(os.path.join(self.folder, old))
+
+    def _store(self, shard: int, source: Any, sample_log2: Optional[int]) -> None:
+        name = f"shard-{shard:06d}-{secrets.token_hex(8)}.bitm"
+        made = build_shard((self.folder, name, source, sample_log2, ""))
+        shards = [*self.parts[:shard], made, *self.parts[shard + 1 :]]
+        _write(self.folder, shards)
+        self._take(shards)
+
+    def check(self, *, map: Mapper = builtins.map) -> None:
+        """Reads each shard whole: ShardError, which names each that is missing, is not the one of the manifest, or whose
+        tables are not those of its words."""
+        tasks = [(self.folder, k, it) for k, it in enumerate(self.parts)]
+        found = [it.result() if hasattr(it, "result") else it for it in map(_asked, tasks)]
+        if any(found):
+            raise ShardError("; ".join(it for it in found if it))
+
+    def __reduce__(self) -> Tuple[Any, Tuple[str]]:
+        return type(self), (self.folder,)
+
+    def __repr__(self) -> str:
+        return f"<Shards of {len(self)} bits, {self.count()} ones, in {len(self.parts)} shards>"
+
+    def shard(self, number: int) -> Index:
+        """The index of a shard, mapped when it is first asked."""
+        found = self._open.get(number)
+        if found is None:
+            found = self._open[number] = _opened(self.folder, number, self.parts[number])
+        return found
+
+    def close(self) -> None:
+        """Gives the mapped files back. A shard that is asked afterwards is mapped again."""
+        self._open = {}
+
+    # ---- single queries
+
+    def __len__(self) -> int:
+        return self._starts[None][-1]
+
+    def count(self, bit: Any = 1) -> int:
+        """How many 1 bits, or 0 bits, there are."""
+        if bit not in (0, 1):
+            raise ValueError(f"a bit is true or false, not {bit!r}")
+        return self._starts[bool(bit)][-1]
+
+    def find(self, position: int, /) -> Tuple[int, int]:
+        """The shard that has a position, and the position in it."""
+        return self._find(None, self._inside(position))
+
+    def _find(self, one: Optional[bool], number: int) -> Tuple[int, int]:
+        """Which shard holds a position, or the bit with a rank, is the predecessor among the numbers before each."""
+        bounds = self._bits if one is None else self._ones if one else self._zeros
+        shard = bounds.last_at_most(number)
+        assert shard is not None  # the first number is 0
+        return shard, number - self._starts[one][shard]
+
+    def _inside(self, position: int) -> int:
+        if -len(self) <= position < len(self):
+            return position % len(self)
+        raise IndexError(f"index {position} of {len(self)} bits")
+
+    def __getitem__(self, position: Any, /) -> Any:
+        if isinstance(position, slice):
+            return self._slice(position)
+        shard, within = self._find(None, self._inside(operator.index(position)))
+        return self.shard(shard)[within]
+
+    def _slice(self, position: slice) -> BitVector:
+        start, stop, step = position.indices(len(self))
+        made = BitVector()
+        for shard, low, high in self._pieces(*((start, stop) if step > 0 else (stop + 1, start + 1))):
+            made += self.shard(shard)[low:high]
+        if step in (1, -1):
+            return made if step == 1 else made[::-1]
+        return made[::step]
+
+    def _pieces(self, start: int, stop: int) -> Iterator[Tuple[int, int, int]]:
+        """The shards of a range, and the range in each."""
+        bits = self._starts[None]
+        while start < min(stop, len(self)):
+            shard, low = self._find(None, start)
+            high = min(stop - bits[shard], self.parts[shard].bits)
+            yield shard, low, high
+            start = bits[shard] + high
+
+    def rank(self, position: int, /) -> int:
+        """How many 1 bits there are before a position. IndexError where it is past the end."""
+        return self._rank(True, position)
+
+    def rank0(self, position: int, /) -> int:
+        """How many 0 bits there are before a position. IndexError where it is past the end."""
+        return self._rank(False, position)
+
+    def _rank(self, one: bool, position: int) -> int:
+        shard, within = self._find(None, position)
+        if shard == len(self.parts):
+            if within:
+                raise IndexError(f"position {position} of {len(self)} bits")
+            return self._starts[one][-1]
+        index = self.shard(shard)
+        return self._starts[one][shard] + (index.rank(within) if one else index.rank0(within))
+
+    def select(self, rank: int, /) -> Optional[int]:
+        """The position of the 1 bit with this many 1 bits before it; None where there is none."""
+        return self._select(True, rank)
+
+    def select0(self, rank: int, /) -> Optional[int]:
+        """The position of the 0 bit with this many 0 bits before it; None where there is none."""
+        return self._select(False, rank)
+
+    def _select(self, one: bool, rank: int) -> Optional[int]:
+        shard, within = self._find(one, rank)
+        if shard == len(self.parts):
+            return None
+        found = self.shard(shard).select(within) if one else self.shard(shard).select0(within)
+        if found is None:
+            raise ShardError(_says(self.folder, shard, self.parts[shard], WRONG))
+        return self._starts[None][shard] + found
+
+    def next_one(self, position: int, /) -> Optional[int]:
+        """The position of the first 1 bit at or after a position; None where there is none."""
+        return self._next(True, position)
+
+    def next_zero(self, position: int, /) -> Optional[int]:
+        """The position of the first 0 bit at or after a position; None where there is none."""
+        return self._next(False, position)
+
+    def _next(self, one: bool, position: int) -> Optional[int]:
+        shard, _ = self._find(None, position)
+        return None if shard == len(self.parts) else self._select(one, self._rank(one, position))
+
+    def previous_one(self, position: int, /) -> Optional[int]:
+        """The position of the last 1 bit at or before a position, which may be past the end; None where there is none."""
+        return self._previous(True, position)
+
+    def previous_zero(self, position: int, /) -> Optional[int]:
+        """The position of the last 0 bit at or before a position, which may be past the end; None where there is none."""
+        return self._previous(False, position)
+
+    def _previous(self, one: bool, position: int) -> Optional[int]:
+        shard, _ = self._find(None, position)
+        before = self._starts[one][-1] if shard == len(self.parts) else self._rank(one, position + 1)
+        return self._select(one, before - 1) if before else None
+
+    def ones(self, start: int = 0, stop: Optional[int] = None, *, reverse: bool = False) -> Iterator[int]:
+        """The positions of the 1 bits of a range, rising, or falling with `reverse`."""
+        return self._positions("ones", start, stop, reverse)
+
+    def zeros(self, start: int = 0, stop: Optional[int] = None, *, reverse: bool = False) -> Iterator[int]:
+        """The positions of the 0 bits of a range, rising, or falling with `reverse`."""
+        return self._positions("zeros", start, stop, reverse)
+
+    def _positions(self, kind: str, start: int, stop: Optional[int], reverse: bool) -> Iterator[int]:
+        pieces: Iterable[Tuple[int, int, int]] = self._pieces(start, len(self) if stop is None else stop)
+        for shard, low, high in reversed([*pieces]) if reverse else pieces:
+            base = self._starts[None][shard]
+            for found in getattr(self.shard(shard), kind)(low, high, reverse=reverse):
+                yield base + found
+
+    # ---- lists of queries: sorted by shard, and each shard asked once
+
+    def rank_list(self, queries: Any) -> Any:
+        """`rank` of each position: a list, or an array of uint64 for an array. IndexError where one is past the end."""
+        return _shard_lists.ranks(self, True, queries)
+
+    def rank0_list(self, queries: Any) -> Any:
+        """`rank0` of each position, likewise."""
+        return _shard_lists.ranks(self, False, queries)
+
+    def select_list(self, queries: Any, *, missing: Any = None) -> Any:
+        """`select` of each rank: a list, or an array for an array. Where there is none: None, in an array masked; the
+        number `missing`; or IndexError for `missing="error"`."""
+        return _shard_lists.selections(self, True, queries, missing)
+
+    def select0_list(self, queries: Any, *, missing: Any = None) -> Any:
+        """`select0` of each rank, likewise."""
+        return _shard_lists.selections(self, False, queries, missing)
