@@ -1,0 +1,4 @@
+pub mod JoinedLaws
+pub mod JoinedLemmas
+pub mod PlaceLemmas
+pub mod ShardedLemmas

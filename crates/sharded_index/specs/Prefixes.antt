@@ -1,0 +1,69 @@
+-- How many bits, and how many 1 bits, there are before each shard: what is found in such numbers, whatever they are, and
+-- where they are those of the shards.
+use Rattle.std.specs.Prelude.{◌≡◌, ℕ, ◌+◌, ◌-◌, ◌<◌, ◌≤◌, Bool, List, length, slice_index}
+use Rattle.bitm_tables.specs.declared.answer.Answer.{Answer}
+use Rattle.bitm_tables.specs.declared.answer.Answer.TheVariants.{Found, Absent, Wrong}
+use Rattle.sharded_index.specs.Joined.{joined, joined_to, number_of, shard_at}
+use Rattle.sharded_index.specs.declared.counts.Kind.{Kind}
+use Rattle.sharded_index.specs.declared.counts.Kind.TheVariants.{Positions, Zeros, Ones}
+use Rattle.sharded_index.specs.declared.counts.Place.{Place}
+
+-- a number for each shard and one more: the bits before it, and the 1 bits
+pub record Prefixes : Type 0 where
+  pub bits : List ℕ
+  pub ones : List ℕ
+
+-- these two
+abbrev pub prefixes_of : List ℕ → List ℕ → Prefixes
+prefixes_of bits ones = record { bits = bits; ones = ones }
+
+-- as many numbers of either kind, and at least one
+pub record HasLengths (c : Prefixes) : Type 0 where
+  pub some : 0 < length c.bits
+  pub same : length c.ones ≡ length c.bits
+
+-- how many shards there are
+abbrev pub shard_count : Prefixes → ℕ
+shard_count c = length c.bits - 1
+
+-- how many bits of a kind the numbers claim before shard k
+abbrev pub claimed : Kind → Prefixes → ℕ → ℕ
+claimed Positions c k = slice_index c.bits k
+claimed Zeros c k = slice_index c.bits k - slice_index c.ones k
+claimed Ones c k = slice_index c.ones k
+
+-- and in all
+abbrev pub claimed_in_all : Kind → Prefixes → ℕ
+claimed_in_all of c = claimed of c (shard_count c)
+
+-- the numbers are those of the shards
+pub record ArePrefixes (bs : List (List Bool)) (c : Prefixes) : Type 0 where
+  pub bits_len : length c.bits ≡ length bs + 1
+  pub ones_len : length c.ones ≡ length bs + 1
+  pub bits_before : (k : ℕ) → k ≤ length bs → slice_index c.bits k ≡ number_of Positions (joined_to bs k)
+  pub ones_before : (k : ℕ) → k ≤ length bs → slice_index c.ones k ≡ number_of Ones (joined_to bs k)
+
+-- the numbers claim that a position, or the bit with a rank, is in a shard, after the given number of its kind there
+pub record IsClaimed (of : Kind) (c : Prefixes) (number : ℕ) (place : Place) : Type 0 where
+  pub inside : place.shard < shard_count c
+  pub is : claimed of c place.shard + place.within ≡ number
+  pub next : number < claimed of c (place.shard + 1)
+
+-- whatever the numbers are: Absent is answered exactly where they claim no more in all, and Wrong only where they claim
+-- more than the number before the first shard
+abbrev pub IsClaimedBy : Kind → Prefixes → ℕ → Answer Place → Type 0
+IsClaimedBy of c number (Found place) = IsClaimed of c number place × (number < claimed_in_all of c)
+IsClaimedBy of c number Absent = claimed_in_all of c ≤ number
+IsClaimedBy of c number Wrong = (number < claimed of c 0) × (number < claimed_in_all of c)
+
+-- a position of the joined bits, or the bit with a rank there, is in a shard, after the given number of its kind there
+pub record IsWithin (of : Kind) (bs : List (List Bool)) (number : ℕ) (place : Place) : Type 0 where
+  pub inside : place.shard < length bs
+  pub within : place.within < number_of of (shard_at bs place.shard)
+  pub is : number_of of (joined_to bs place.shard) + place.within ≡ number
+
+-- where the numbers are those of the shards: Absent exactly where the joined bits have no more of the kind
+abbrev pub IsPlaced : Kind → List (List Bool) → ℕ → Answer Place → Type 0
+IsPlaced of bs number (Found place) = IsWithin of bs number place
+IsPlaced of bs number Absent = number_of of (joined bs) ≤ number
+IsPlaced of bs number Wrong = ⊥

@@ -1,0 +1,29 @@
+//! Bits in shards, asked as one: rank, selection and the nearest bits of the joined bits of several indexes, one after
+//! the other.
+//!
+//! Beside the shards stand prefix counts: how many bits, and how many 1 bits, there are before each. Which shard holds a
+//! position, or the bit with a rank, is answered by these alone, so that the shards may lie in other files or on other
+//! machines. No call trusts them, nor a shard's tables.
+//!
+//! ```
+//! let counts = PrefixCounts::over(&[0, 7, 7, 12], &[0, 4, 4, 6])?;    // of 7, 0 and 5 bits
+//! counts.find(Kind::Positions, 9);        // Found(Place { shard: 2, within: 2 })
+//! counts.find(Kind::Ones, 4);             // Found(Place { shard: 2, within: 0 })
+//! let index = ShardedIndex { counts, shards: &views };
+//! index.rank(true, 9);                    // Found(4 and those of the first 2 bits of shard 2)
+//! index.select(true, 4);                  // Found(7 and the position in shard 2)
+//! ```
+#![tactic(auto)]
+
+mod building;
+mod counts;
+mod laws;
+mod shard;
+mod sharded;
+
+pub use bitm_view::Answer;
+pub use building::{are_prefix_sums, prefix_sums};
+pub use counts::{Kind, Place, PrefixCounts};
+pub use laws::{item_of_joined, picked_in_joined, prefixes_are_sums, rank_in_joined};
+pub use shard::Shard;
+pub use sharded::ShardedIndex;

@@ -1,0 +1,152 @@
+//! Several indexes asked as one.
+ghost use Rattle.std.specs.Prelude.{◌≡◌, ◌+◌, ◌<◌, ◌≤◌, Bool, List, MatchOption, length, map};
+ghost use Rattle.bitm_select.specs.Answers.{IsSelected};
+ghost use Rattle.bitm_view.specs.Ranks.{IsCountWithin, IsRanked};
+ghost use Rattle.sharded_index.specs.Joined.{joined, kind_of};
+ghost use Rattle.sharded_index.specs.Prefixes.{claimed_in_all, IsClaimed};
+ghost use Rattle.sharded_index.specs.Shards.{IfFoundHasBit, IsOfRank};
+ghost use Rattle.bitm_tables.specs.declared.answer.Answer.{Answer};
+ghost use Rattle.sharded_index.specs.declared.counts.Kind.TheVariants.{Positions};
+
+use crate::counts::{Kind, Place, PrefixCounts};
+use crate::shard::Shard;
+use bitm_view::Answer;
+
+/// Shards, one after the other, and their prefix counts: the joined bits are ranked and selected as those of one index.
+#[derive(Drop)]
+pub struct ShardedIndex<'a, S> {
+    /// How many bits, and 1 bits, there are before each shard.
+    pub counts: PrefixCounts<'a>,
+    /// The shards.
+    pub shards: &'a [S],
+    ghost as_many: { length counts.bits ≡ length shards.now + 1 },
+}
+
+/// The kind of number by which 1 bits, or 0 bits, are ranked.
+#[inline(always)]
+fn rank_kind(one: bool) -> Kind
+    ensures { result ≡ kind_of one }
+{
+    if one { Kind::Ones } else { Kind::Zeros }
+}
+
+/// A sum that fits and is at most a number; else the prefix counts are wrong.
+#[inline(always)]
+fn at_most(sum: Option<usize>, most: usize) -> Answer<usize>
+    ensures { MatchOption sum (result ≡ Answer.Wrong)
+        (λ n. (n ≤ most → result ≡ Answer.Found n) × (most < n → result ≡ Answer.Wrong)) }
+{
+    match sum {
+        Some(number) => {
+            if number <= most {
+                Answer::Found(number)
+            } else {
+                Answer::Wrong
+            }
+        }
+        None => Answer::Wrong,
+    }
+}
+
+/// A sum that fits and is less than a number; else the prefix counts are wrong.
+#[inline(always)]
+fn below(sum: Option<usize>, end: usize) -> Answer<usize>
+    ensures { MatchOption sum (result ≡ Answer.Wrong)
+        (λ n. (n < end → result ≡ Answer.Found n) × (end ≤ n → result ≡ Answer.Wrong)) }
+{
+    match sum {
+        Some(number) => {
+            if number < end {
+                Answer::Found(number)
+            } else {
+                Answer::Wrong
+            }
+        }
+        None => Answer::Wrong,
+    }
+}
+
+impl<'a, S: Shard> ShardedIndex<'a, S> {
+    ghost use Rattle.sharded_index.specs.Sharded.{AreShards};
+
+    /// How many of the first `index` bits are 1 bits, or 0 bits.
+    ///
+    /// Whatever the prefix counts and tables hold, `Absent` is answered exactly where the prefix counts claim fewer bits,
+    /// and a count is at most `index`. Where they are right it is the right one, and `Wrong` is never answered.
+    ///
+    /// # Cost
+    /// That of `PrefixCounts::find` and of a rank in one shard; of a rank of all bits, two prefix counts.
+    pub fn rank(&self, one: bool, index: usize) -> Answer<usize>
+        ensures within { IsCountWithin (claimed_in_all Positions self.now.counts) index result }
+        ensures counts { AreShards S.bits S.right self.now
+            → IsRanked (joined (map S.bits self.now.shards.now)) one index result }
+    {
+        if index == self.counts.total(Kind::Positions) {
+            return at_most(Some(self.counts.total(rank_kind(one))), index);
+        }
+        match self.counts.find(Kind::Positions, index) {
+            Answer::Found(place) => self.rank_at(one, place, index),
+            Answer::Absent => Answer::Absent,
+            Answer::Wrong => Answer::Wrong,
+        }
+    }
+
+    /// The rank of a position that lies in a shard.
+    fn rank_at(&self, one: bool, place: Place, index: usize) -> Answer<usize>
+        requires claimed { IsClaimed Positions self.now.counts index place }
+        requires inside { index < claimed_in_all Positions self.now.counts }
+        ensures within { IsCountWithin (claimed_in_all Positions self.now.counts) index result }
+        ensures counts { AreShards S.bits S.right self.now
+            → IsRanked (joined (map S.bits self.now.shards.now)) one index result }
+    {
+        let before = self.counts.before(rank_kind(one), place.shard);
+        match self.shards[place.shard].rank(one, place.within) {
+            Answer::Found(rank) => at_most(before.checked_add(rank), index),
+            Answer::Absent => Answer::Wrong,
+            Answer::Wrong => Answer::Wrong,
+        }
+    }
+
+    /// The position of the 1 bit, or 0 bit, with rank `rank`.
+    ///
+    /// Whatever the prefix counts and tables hold, `Absent` is answered exactly where the prefix counts claim no more such
+    /// bits, and a position that is found is one of the claimed bits and, in some shard, has such a bit. Where they are
+    /// right it is the right one, and `Wrong` is never answered.
+    ///
+    /// # Cost
+    /// That of `PrefixCounts::find` and of a selection in one shard.
+    pub fn select(&self, one: bool, rank: usize) -> Answer<usize>
+        ensures bit { IfFoundHasBit one (map S.bits self.now.shards.now) self.now.counts result }
+        ensures absent { IsOfRank (claimed_in_all (kind_of one) self.now.counts) rank result }
+        ensures counts { AreShards S.bits S.right self.now
+            → IsSelected (joined (map S.bits self.now.shards.now)) one rank result }
+    {
+        match self.counts.find(rank_kind(one), rank) {
+            Answer::Found(place) => self.select_at(one, place, rank),
+            Answer::Absent => Answer::Absent,
+            Answer::Wrong => Answer::Wrong,
+        }
+    }
+
+    /// The position of the bit with a rank that lies in a shard.
+    fn select_at(&self, one: bool, place: Place, rank: usize) -> Answer<usize>
+        requires claimed { IsClaimed (kind_of one) self.now.counts rank place }
+        requires inside { rank < claimed_in_all (kind_of one) self.now.counts }
+        ensures bit { IfFoundHasBit one (map S.bits self.now.shards.now) self.now.counts result }
+        ensures absent { IsOfRank (claimed_in_all (kind_of one) self.now.counts) rank result }
+        ensures counts { AreShards S.bits S.right self.now
+            → IsSelected (joined (map S.bits self.now.shards.now)) one rank result }
+    {
+        let before = self.counts.before(Kind::Positions, place.shard);
+        match self.shards[place.shard].select(one, place.within) {
+            Answer::Found(position) => {
+                below(
+                    before.checked_add(position),
+                    self.counts.total(Kind::Positions),
+                )
+            }
+            Answer::Absent => Answer::Wrong,
+            Answer::Wrong => Answer::Wrong,
+        }
+    }
+}
