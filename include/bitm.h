@@ -831,6 +831,77 @@ BITM_MUST_USE static inline uint32_t bitm_stored_open_index(const uint64_t *file
     return BITM_OK;
 }
 
+/* ---- shards: bits in several indexes, one after the other, asked as one
+ *
+ * Beside the shards stand prefix counts: for each shard how many bits, and how many 1 bits, there are before it, and
+ * last those of all. Which shard holds a position, or the bit with a rank, is answered by these alone, so that shards
+ * may lie in other files or on other machines:
+ *
+ *     const uint64_t bits_of[2] = {1000, 700}, ones_of[2] = {480, 351};
+ *     uint64_t bits_before[3], ones_before[3];
+ *     if (bitm_prefix_sums(bits_of, 2, bits_before, 3) != BITM_OK ||
+ *         bitm_prefix_sums(ones_of, 2, ones_before, 3) != BITM_OK) return 1;
+ *     struct bitm_prefixes prefixes = {.bits = bits_before, .bits_len = 3, .ones = ones_before, .ones_len = 3};
+ *     struct bitm_shard_place place;
+ *     if (bitm_shards_find(&prefixes, BITM_ONES, 500, &place) != BITM_OK || place.shard != 1 || place.within != 20)
+ *         return 1;
+ *
+ * The position of that bit is bits_before[1] and its position in the shard; the rank of a position likewise is that of
+ * ones_before and the rank in the shard. Both, and that place.within is a rank (a position) which the shard has, are
+ * proved for any number of shards, empty ones too, and fewer than 2^64 bits, where the counts are those of the shards. */
+
+/* What is numbered. */
+#define BITM_ZEROS 0     /* ranks of 0 bits */
+#define BITM_ONES 1      /* ranks of 1 bits */
+#define BITM_POSITIONS 2 /* positions */
+
+/* Prefix counts: one number more than shards, of either kind. Calls that take them return BITM_BAD_SIZE if there is
+ * none, or not as many of either kind. */
+struct bitm_prefixes {
+    const uint64_t *bits;
+    size_t bits_len;
+    const uint64_t *ones;
+    size_t ones_len;
+};
+
+/* A shard, and a position in it or the rank of a bit there. */
+struct bitm_shard_place {
+    size_t shard;
+    uint64_t within;
+};
+
+/* The shards themselves with their counts, where all lie in this process. Calls that take them return BITM_BAD_SIZE also
+ * if counts.bits_len is not shards_len + 1. Over any counts and tables, a rank is at most its position and a selection
+ * finds a position below the claimed number of bits that in some shard holds the requested bit; if the counts are those
+ * of the shards, and each shard's tables those of its words, the answer is that of counting in the joined bits. */
+struct bitm_shards {
+    struct bitm_prefixes counts;
+    const struct bitm_index *shards;
+    size_t shards_len;
+    uint64_t reserved[2]; /* 0: not given */
+};
+
+/* Writes the sum of the numbers before each number, and last that of all. BITM_BAD_SIZE if out_len is not numbers_len +
+ * 1, or the sum is 2^64 or more. numbers and out may not overlap. */
+BITM_MUST_USE uint32_t bitm_prefix_sums(const uint64_t *numbers, size_t numbers_len, uint64_t *out, size_t out_len);
+
+/* Whether sums are those that bitm_prefix_sums writes: BITM_OK or BITM_WRONG. */
+BITM_MUST_USE uint32_t bitm_prefix_sums_check(const uint64_t *numbers, size_t numbers_len, const uint64_t *sums,
+                                              size_t sums_len);
+
+/* The shard that holds a position, or the bit of a kind with a rank, and the position or rank in it. BITM_NONE exactly
+ * if the counts claim no more in all; BITM_WRONG only if they claim more than number before the first shard, and so
+ * never if they are those of the shards. BITM_BAD_SIZE also if kind is none of the three. Reads a pair of counts for
+ * each halving of their number, and three more. */
+BITM_MUST_USE uint32_t bitm_shards_find(const struct bitm_prefixes *counts, uint32_t kind, uint64_t number,
+                                        struct bitm_shard_place *out);
+
+/* bitm_index_rank and bitm_index_select of the joined bits: one search among the counts, and one query of a shard.
+ * BITM_NONE exactly if position is above the number of all bits that the counts claim, or rank is not below that of the
+ * bits of its kind. BITM_WRONG if counts or tables turn out to be wrong. */
+BITM_MUST_USE uint32_t bitm_shards_rank(const struct bitm_shards *shards, bool one, uint64_t position, uint64_t *out);
+BITM_MUST_USE uint32_t bitm_shards_select(const struct bitm_shards *shards, bool one, uint64_t rank, uint64_t *out);
+
 #ifdef __cplusplus
 }
 #endif

@@ -24,6 +24,7 @@ mod sampled;
 mod selections;
 mod sequence;
 mod sequence_lists;
+mod shards;
 mod stored;
 mod version;
 mod view;

@@ -20,7 +20,6 @@ pub enum Kind {
 }
 
 /// Where a number leads: to a shard, and to a number of the same kind in it.
-#[repr(C)]
 #[derive(Clone, Copy, PartialEq, Eq, Debug)]
 pub struct Place {
     /// The shard.
