@@ -1,0 +1,67 @@
+// Shards in C++: as one index of the joined bits; which shard holds what; counts that do not fit.
+#include <bitm.hpp>
+
+#include <cstdio>
+#include <cstdlib>
+#include <vector>
+
+#define MUST(condition) \
+    do { \
+        if (!(condition)) std::fprintf(stderr, "%s:%d: not so: %s\n", __FILE__, __LINE__, #condition), std::exit(1); \
+    } while (0)
+
+int main()
+{
+    std::uint64_t seed = 0x9E3779B97F4A7C15u;
+    const auto draw = [&seed] { return seed ^= seed << 13, seed ^= seed >> 7, seed ^= seed << 17; };
+    for (std::size_t count = 0; count < 8; count++) {
+        std::vector<bitm::rank_index> owners;
+        std::vector<bitm::rank_index_view> views;
+        std::vector<bool> joined;
+        std::vector<std::uint64_t> starts;
+        for (std::size_t k = 0; k < count; k++) {
+            bitm::bits bits(draw() % 3 ? draw() % 900 : 0);
+            starts.push_back(joined.size());
+            for (std::uint64_t i = 0; i < bits.size(); i++) {
+                const bool bit = draw() % (k + 2) == 0;
+                bits.set(i, bit);
+                joined.push_back(bit);
+            }
+            owners.emplace_back(bits);
+        }
+        for (const auto &it : owners) views.push_back(it.view());
+        const bitm::sharded_index all(views);
+        MUST(all.size() == joined.size());
+        std::uint64_t ranks[2] = {0, 0};
+        for (std::uint64_t i = 0; i <= joined.size(); i++) {
+            MUST(all.rank(i) == ranks[1] && all.rank0(i) == ranks[0]);
+            const auto at = all.counts().find(i);
+            if (i == joined.size()) {
+                MUST(!at);
+                break;
+            }
+            MUST(at && at->within < owners[at->shard].size() && starts[at->shard] + at->within == i);
+            const auto of = joined[i] ? all.counts().find_one(ranks[1]) : all.counts().find_zero(ranks[0]);
+            MUST(of && of->shard == at->shard);
+            MUST((joined[i] ? all.select(ranks[1]) : all.select0(ranks[0])) == i);
+            ranks[joined[i]]++;
+        }
+        MUST(!all.select(ranks[1]) && !all.select0(ranks[0]) && all.count() == ranks[1]);
+#if defined __cpp_exceptions
+        try {
+            all.rank(joined.size() + 1);
+            MUST(false);
+        } catch (const std::out_of_range &) {
+        }
+#endif
+    }
+#if defined __cpp_exceptions
+    for (const auto &ones : {std::vector<std::uint64_t>{1}, std::vector<std::uint64_t>{UINT64_MAX, 1}})
+        try {
+            bitm::prefix_counts({UINT64_MAX, 0}, ones);
+            MUST(false);
+        } catch (const std::invalid_argument &) {
+        }
+#endif
+    std::puts("C++: shards answer as plain counting over the joined bits");
+}

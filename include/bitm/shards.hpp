@@ -1,0 +1,139 @@
+// Bits in shards: which shard holds a position or a rank, and the shards of one process asked as one.
+//
+//     bitm::prefix_counts counts(bits_of_each, ones_of_each);     // two lists of numbers, one for each shard
+//     counts.find_one(17);                                        // the shard of that 1 bit, and its rank there
+//     bitm::sharded_index x({a.view(), b.view(), c.view()});      // counts them; the indexes stay the caller's
+//     x.rank(70), x.select(3);                                    // as one index of the joined bits
+//
+// Where the counts are those of the shards, and each shard's tables those of its words, the answers are those of counting.
+#ifndef BITM_SHARDS_HPP
+#define BITM_SHARDS_HPP
+
+#include <bitm/index.hpp>
+
+#include <vector>
+
+BITM_NAMESPACE_BEGIN
+
+// A shard, and a position in it or the rank of a bit there.
+using shard_place = bitm_shard_place;
+
+// How many bits, and how many 1 bits, there are before each shard, and in all.
+class prefix_counts {
+public:
+    // Of no shards.
+    prefix_counts() : bits_{0}, ones_{0} {}
+
+    // Of the bits and the 1 bits of each shard: fails where these are not as many, or are 2^64 or more together.
+    prefix_counts(const std::vector<std::uint64_t> &bits_of_each, const std::vector<std::uint64_t> &ones_of_each)
+        : bits_(sums(bits_of_each)), ones_(sums(ones_of_each))
+    {
+        if (bits_.size() != ones_.size()) fail({errc::bad_size});
+    }
+
+    std::size_t shards() const noexcept { return bits_.size() - 1; }
+    std::uint64_t size() const noexcept { return bits_.back(); }
+    std::uint64_t count() const noexcept { return ones_.back(); }
+
+    // How many bits, or 1 bits, there are before a shard; with shards(), in all.
+    const std::vector<std::uint64_t> &bits_before() const noexcept BITM_LIFETIMEBOUND { return bits_; }
+    const std::vector<std::uint64_t> &ones_before() const noexcept BITM_LIFETIMEBOUND { return ones_; }
+
+    // The shard that holds a position, or the 1 bit, or 0 bit, with a rank; none where there is none.
+    std::optional<shard_place> find(std::uint64_t position) const { return placed(BITM_POSITIONS, position); }
+    std::optional<shard_place> find_one(std::uint64_t rank) const { return placed(BITM_ONES, rank); }
+    std::optional<shard_place> find_zero(std::uint64_t rank) const { return placed(BITM_ZEROS, rank); }
+
+    // All of it as C takes it.
+    bitm_prefixes raw() const noexcept BITM_LIFETIMEBOUND { return {bits_.data(), bits_.size(), ones_.data(), ones_.size()}; }
+
+private:
+    static std::vector<std::uint64_t> sums(const std::vector<std::uint64_t> &numbers)
+    {
+        std::vector<std::uint64_t> made(numbers.size() + 1);
+        if (bitm_prefix_sums(numbers.data(), numbers.size(), made.data(), made.size()) != BITM_OK) fail({errc::bad_size});
+        return made;
+    }
+    std::optional<shard_place> placed(std::uint32_t kind, std::uint64_t number) const
+    {
+        shard_place out{};
+        const bitm_prefixes counts = raw();
+        switch (bitm_shards_find(&counts, kind, number, &out)) {
+        case BITM_OK: return out;
+        case BITM_NONE: return std::nullopt;
+        default: fail({errc::wrong});
+        }
+    }
+
+    std::vector<std::uint64_t> bits_, ones_;
+};
+
+// Indexes of one process, one after the other. What the views look at has to stay.
+class sharded_index {
+public:
+    explicit sharded_index(const std::vector<rank_index_view> &shards) : shards_(raw_of(shards)), counts_(measured(shards)) {}
+
+    std::uint64_t size() const noexcept { return counts_.size(); }
+    std::uint64_t count() const noexcept { return counts_.count(); }
+    const prefix_counts &counts() const noexcept BITM_LIFETIMEBOUND { return counts_; }
+
+    // How many 1 bits, or 0 bits, there are before a position of the joined bits: fails where that is past size().
+    std::uint64_t rank(std::uint64_t position) const { return counted(true, position); }
+    std::uint64_t rank0(std::uint64_t position) const { return counted(false, position); }
+
+    // The position, in the joined bits, of the 1 bit, or 0 bit, with a rank; none where there is none.
+    maybe_position select(std::uint64_t rank) const { return placed(true, rank); }
+    maybe_position select0(std::uint64_t rank) const { return placed(false, rank); }
+
+private:
+    static std::vector<bitm_index> raw_of(const std::vector<rank_index_view> &shards)
+    {
+        std::vector<bitm_index> made;
+        for (const rank_index_view &it : shards) made.push_back(it.raw());
+        return made;
+    }
+    static prefix_counts measured(const std::vector<rank_index_view> &shards)
+    {
+        std::vector<std::uint64_t> bits, ones;
+        for (const rank_index_view &it : shards) {
+            bits.push_back(it.size());
+            ones.push_back(it.count());
+        }
+        return prefix_counts(bits, ones);
+    }
+    bitm_shards raw() const noexcept
+    {
+        bitm_shards made{};
+        made.counts = counts_.raw();
+        made.shards = shards_.data();
+        made.shards_len = shards_.size();
+        return made;
+    }
+    std::uint64_t counted(bool one, std::uint64_t position) const
+    {
+        std::uint64_t out = 0;
+        const bitm_shards shards = raw();
+        switch (bitm_shards_rank(&shards, one, position, &out)) {
+        case BITM_OK: return out;
+        case BITM_NONE: fail({errc::outside, position, size()});
+        default: fail({errc::wrong});
+        }
+    }
+    maybe_position placed(bool one, std::uint64_t rank) const
+    {
+        std::uint64_t out = 0;
+        const bitm_shards shards = raw();
+        switch (bitm_shards_select(&shards, one, rank, &out)) {
+        case BITM_OK: return out;
+        case BITM_NONE: return std::nullopt;
+        default: fail({errc::wrong});
+        }
+    }
+
+    std::vector<bitm_index> shards_;
+    prefix_counts counts_;
+};
+
+BITM_NAMESPACE_END
+
+#endif
