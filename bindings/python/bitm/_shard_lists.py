@@ -1,10 +1,11 @@
 """Lists of queries of shards: each query's shard is its predecessor among the numbers before each; the queries of a shard
-are asked by one call."""
+are asked by one call, those of a large array by one for each block of it."""
 import operator
 from typing import Any, Callable, Dict, List, Tuple
 
 Asked = Callable[[int, Any], Any]
 NO_ANSWER = 2**64 - 1
+BLOCK = 2**17  # queries of an array that are sorted at once: their order stays in a processor's cache
 
 
 def _is_array(queries: Any) -> bool:
@@ -24,6 +25,14 @@ def _in_lists(bounds: Any, starts: List[int], queries: List[int], ask: Asked) ->
 
 
 def _in_arrays(bounds: Any, starts: List[int], queries: Any, ask: Asked) -> Any:
+    import numpy
+
+    if len(queries) <= BLOCK:
+        return _in_block(bounds, starts, queries, ask)
+    return numpy.concatenate([_in_block(bounds, starts, queries[at : at + BLOCK], ask) for at in range(0, len(queries), BLOCK)])
+
+
+def _in_block(bounds: Any, starts: List[int], queries: Any, ask: Asked) -> Any:
     import numpy
 
     shards = bounds.last_at_most_list(queries, missing="error")

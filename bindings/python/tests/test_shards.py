@@ -97,6 +97,20 @@ def test_arrays_are_those_of_one_index(kind, tmp_path):
             shards.rank_list(bad)
 
 
+def test_large_arrays_are_answered_in_blocks(tmp_path):
+    numpy = pytest.importorskip("numpy")
+    _, whole, shards = made(7, tmp_path)
+    queries = numpy.random.default_rng(2).integers(0, len(whole) + 1, 2**18 + 5)
+    assert (shards.rank_list(queries) == whole.rank_list(queries)).all()
+    queries[-1] = len(whole) + 1
+    with pytest.raises(IndexError, match=f"item {2**18 + 4} of the list"):
+        shards.rank_list(queries)
+    assert shards.select_list(queries, missing=5).tolist() == whole.select_list(queries, missing=5).tolist()
+    queries[-1] = -1
+    with pytest.raises(OverflowError):
+        shards.rank_list(queries)
+
+
 class Drawn:
     """A source that a worker makes where it builds."""
 
