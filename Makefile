@@ -40,6 +40,9 @@ archive: ## prove and build the C library, crates/bitm_c/out/libbitm_c.a (needs 
 	(cd crates/bitm_c && rt lib) 2>&1 | tee $(ARCHIVE_LOG).new
 	mv $(ARCHIVE_LOG).new $(ARCHIVE_LOG)
 
+archives: ## prove and build it for each processor, crates/bitm_c/out/*/libbitm_c.a (needs Rattle)
+	scripts/archives
+
 build: archive ## the same as archive
 
 check: ## prove all crates that changed, without the rest of the gate
@@ -57,7 +60,8 @@ bench: ## measure this machine, into bench/out; under five minutes once the crat
 docs: ## the site of documents and references, out/docs/html, without network
 	docs/site/build
 
-dist: ## the artefacts of a release, into dist/, for the last commit
+# Where there is no archive, all are made.
+dist: $(if $(wildcard $(ARCHIVE)),,archives) ## the artefacts of a release, into dist/, for the last commit (make archives first, for all processors)
 	ARCHIVE="$(ARCHIVE)" scripts/dist
 
 dist-check: ## try each artefact of dist/ where the repository is hidden
@@ -110,4 +114,4 @@ lint: ## what linters say of each language whose tool is here, and of the layout
 	echo "lint: the layout of Rattle is looked at by rt ci, which refuses files that rt fmt would change"; \
 	exit $$failed
 
-.PHONY: help archive build check test thorough bench docs dist dist-check install uninstall install-python javascript format lint
+.PHONY: help archive archives build check test thorough bench docs dist dist-check install uninstall install-python javascript format lint
