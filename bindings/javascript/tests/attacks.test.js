@@ -62,6 +62,34 @@ test("a sequence over spoilt parts", () => {
     }
 });
 
+/** What no spoilt table may change: a place is inside and has the bit; an index of a sequence is inside. */
+function holds(it, n, bits, k) {
+    if (it instanceof Index) {
+        const one = answer(() => it.select(k % 300)), zero = answer(() => it.select0(k % 500)), next = answer(() => it.next(k % n));
+        return (one === undefined || bits[one] === true) && (zero === undefined || bits[zero] === false) &&
+            (next === undefined || (bits[next] === true && next >= k % n)) && (answer(() => it.rank(k % n)) ?? 0) <= k % n;
+    }
+    const first = answer(() => it.firstAtLeast(k % 9000)), last = answer(() => it.lastAtMost(k % 9000));
+    answer(() => it.at(k % n));
+    answer(() => it.has(k % 9000));
+    return (first === undefined || first < n) && (last === undefined || last < n);
+}
+
+// A million, which takes a minute or two, by LARGE=1.
+const FILES = globalThis.process?.env.LARGE > 0 ? 1000000 : 20000;
+
+test("many files with spoilt tables", () => {
+    const n = 900, bits = booleans(n, 2), r = random(8), BITS_END = 192 + 8 * Math.ceil(n / 64);
+    const files = [[new Index(BitVector.fromBooleans(bits), { sampleLog2: 7 }).toBytes(), BITS_END], [new EliasFano(sorted(300, 9000, 1)).toBytes(), 192]];
+    for (let k = 0; k < FILES; k++) {
+        const [file, from] = files[k % 2], bad = file.slice();
+        for (let change = r() % 12; change >= 0; change--) bad[from + (r() % (bad.length - from))] = r();
+        const it = open(bad, { check: false });
+        if (!holds(it, k % 2 ? 300 : n, bits, r())) assert.fail(`file ${k} of the seed 8`);
+        it.free();
+    }
+});
+
 test("each byte of a header, each length of a file, and drawn bytes", () => {
     const index = new Index(BitVector.fromBooleans(booleans(3000, 1)), { sampleLog2: 7 }).toBytes(), sequence = new EliasFano(sorted(300, 9000, 1)).toBytes();
     const r = random(6);
