@@ -17,7 +17,8 @@ from collections.abc import MutableSequence, Sequence
 
 from . import _more
 from ._core import BitVector, EliasFano, Index, PerfectHash, WrongTables
-from ._more import load, loads, tables_of
+from ._files import load, loads
+from ._more import tables_of
 from .shards import ShardError, Shards
 
 __version__ = "0.3.0"

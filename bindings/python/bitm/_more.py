@@ -1,28 +1,24 @@
-"""What is not a hot path: files, pickles, and NumPy where the caller has it. NumPy is imported only by calls that answer
-in arrays, which a caller asks for by their name or by passing an array."""
+"""What is not a hot path: pickles, and NumPy where the caller has it. NumPy is imported only by calls that answer in
+arrays, which a caller asks for by their name or by passing an array."""
 import array
-import errno
 import hashlib
-import mmap as mapped
-import os
 import pickle
-import secrets
-import stat
-from typing import Any, BinaryIO, Callable, List, Optional, Tuple, Union
+from typing import Any, Callable, Optional, Tuple
 
 from . import _core
-
-PathLike = Union[str, bytes, "os.PathLike[str]", "os.PathLike[bytes]"]
-Stored = Union["_core.Index", "_core.EliasFano", "_core.PerfectHash"]
-Piece = Tuple[int, Any]
-HEADER = 192
+from ._files import save
 
 
 # ---- tables
 
 
 def tables_of(words: Any) -> Tuple["array.array[int]", "array.array[int]", int]:
-    """Both tables of a buffer of words, in two new arrays, and the number of 1 bits."""
+    """Both tables of a buffer of words, in two new arrays, and the number of 1 bits: what `Index.over` takes.
+
+    >>> upper, lower, ones = tables_of(b"\x5a" * 8)
+    >>> len(upper), len(lower), ones
+    (1, 1, 32)
+    """
     index = _core.Index(words)
     _, (_, upper, lower, *_) = _core.parts(index)
     return array.array("Q", bytes(upper)), array.array("Q", bytes(lower)), index.count()
@@ -69,17 +65,30 @@ def _as(answers: Any, dtype: Any, copy: Optional[bool]) -> Any:
 
 
 def vector_to_numpy(self: Any) -> Any:
-    """The bits as an array of bools."""
+    """The bits as a new array of bools. (The buffer of a BitVector is its words: `numpy.asarray` gives these.)
+
+    >>> BitVector.from_bits("0101").to_numpy()
+    array([False,  True, False,  True])
+    """
     return _unpacked(self.tobytes(), len(self))
 
 
 def index_to_numpy(self: Any, dtype: Any = None, copy: Optional[bool] = None) -> Any:
-    """The bits as an array of bools."""
+    """The bits as a new array of bools, or of dtype. ValueError for copy=False.
+
+    >>> Index(BitVector.from_bits("0101")).to_numpy()
+    array([False,  True, False,  True])
+    """
     return _as(vector_to_numpy(self[:]), dtype, copy)
 
 
 def sequence_to_numpy(self: Any, dtype: Any = None, copy: Optional[bool] = None) -> Any:
-    """All numbers as an array of uint64."""
+    """All numbers as a new array of uint64, or of dtype. ValueError for copy=False.
+
+    >>> EliasFano([2, 3, 2**64 - 1]).to_numpy()
+    array([                   2,                    3, 18446744073709551615],
+          dtype=uint64)
+    """
     return _as(array_of(_core.sequence_window(self)), dtype, copy)
 
 
@@ -87,19 +96,37 @@ def sequence_to_numpy(self: Any, dtype: Any = None, copy: Optional[bool] = None)
 
 
 def index_over(cls: Any, words: Any, upper: Any, lower: Any, length: Any = None) -> Any:
-    """An index over tables that exist already. They are not checked."""
+    """An index over tables that exist already, in buffers that it holds. ValueError where they are not as long as those of
+    the words; their contents are not looked at: call `check`.
+
+    >>> words = b"\x5a" * 8
+    >>> upper, lower, _ = tables_of(words)
+    >>> Index.over(words, upper, lower).check()
+    True
+    """
     if length is None:
         length = len(words) if isinstance(words, _core.BitVector) else 8 * memoryview(words).nbytes
     return _core.over(cls, (length, 0, 0), (words, upper, lower, b"", b"", b"", b""))
 
 
 def sequence_over(cls: Any, length: Any, width: Any, low: Any, words: Any, upper: Any, lower: Any) -> Any:
-    """A sequence over parts that exist already. They are not checked."""
+    """A sequence over parts that exist already, in buffers that it holds. ValueError where their lengths do not fit
+    together; their contents are not looked at: call `check`.
+
+    >>> numbers = EliasFano([2, 3, 5])
+    >>> EliasFano.over(len(numbers), *numbers.parts) == numbers
+    True
+    """
     return _core.over(cls, (length, width), (low, words, upper, lower))
 
 
 def parts(self: Any) -> Any:
-    """The width and the four parts, as `over` takes them after the length."""
+    """The width and the four parts, as `over` takes them after the length, to be read.
+
+    >>> width, low, words, upper, lower = EliasFano([2, 3, 5]).parts
+    >>> width, len(low), len(words)
+    (0, 0, 1)
+    """
     (_, width), windows = _core.parts(self)
     return (width, *map(memoryview, windows))
 
@@ -108,17 +135,33 @@ def parts(self: Any) -> Any:
 
 
 def vector_reverse(self: Any) -> None:
-    """Reverses the order of the bits."""
+    """Reverses the order of the bits.
+
+    >>> bits = BitVector.from_bits("0011")
+    >>> bits.reverse()
+    >>> bits
+    BitVector('1100')
+    """
     self[:] = self[::-1]
 
 
 def vector_remove(self: Any, bit: Any, /) -> None:
-    """Removes the first such bit; ValueError where there is none."""
+    """Removes the first such bit; ValueError where there is none.
+
+    >>> bits = BitVector.from_bits("0011")
+    >>> bits.remove(1)
+    >>> bits
+    BitVector('001')
+    """
     del self[self.index(bit)]
 
 
 def index_index(self: Any, bit: Any, start: int = 0, stop: Optional[int] = None) -> int:
-    """The position of the first such bit in a range; ValueError where there is none."""
+    """The position of the first such bit in a range; ValueError where there is none.
+
+    >>> Index(BitVector.from_bits("0101101")).index(0, 3)
+    5
+    """
     if bit not in (0, 1):
         raise ValueError(f"a bit is true or false, not {bit!r}")
     found: Optional[int] = (self.next_one if bit else self.next_zero)(start)
@@ -131,8 +174,23 @@ def index_index(self: Any, bit: Any, start: int = 0, stop: Optional[int] = None)
 
 
 def intersection(self: Any, *others: Any) -> "_core.EliasFano":
-    """The numbers that are in this sequence and in each other one, without repetition."""
+    """The numbers that are in this sequence and in each other one, each once, in a new one. Each number of the shortest is
+    looked up in the others.
+
+    >>> list(EliasFano([2, 3, 5]).intersection(EliasFano([3, 4, 5]), EliasFano([5, 5, 6])))
+    [5]
+    """
     return _core.EliasFano(_core.sequence_common(self, *others))
+
+
+def union(self: Any, *others: Any) -> "_core.EliasFano":
+    """The numbers that are in this sequence or in any other one, each once, in a new one. Needs memory for all numbers of
+    all sequences, twice.
+
+    >>> list(EliasFano([2, 3, 5]).union(EliasFano([3, 4, 5]), EliasFano([5, 5, 6])))
+    [2, 3, 4, 5, 6]
+    """
+    return _core.EliasFano(_core.sequence_merged(self, *others))
 
 
 # ---- keys
@@ -179,159 +237,6 @@ def reduce(self: Any, protocol: Any) -> Any:
     return (*made, state) if state else made
 
 
-# ---- files
-
-
-def _pieces(value: Any) -> Tuple[int, List[Piece]]:
-    """The size of the file of a value, and where each piece of it begins. There is one look at the value, and the pieces
-    keep their memory, whoever closes it meanwhile."""
-    numbers, windows = _core.parts(value)
-    if isinstance(value, _core.EliasFano):
-        header, size, (words, upper, lower, low, *_) = _core.sequence_header(*numbers, *map(len, windows))
-        return size, [(0, header), *zip((low, words, upper, lower), windows)]
-    if isinstance(value, _core.Index):
-        return _index_pieces(numbers, windows)
-    header, size, begins = _core.index_header(64 * len(windows[0]), 0, 0, 0, 0)
-    pieces: List[Piece] = [(0, header), *zip(begins, windows[:3])]
-    sizes, prints = windows[3:]
-    for piece in (array.array("Q", [*numbers, len(sizes), len(prints)]), sizes, prints):
-        pieces.append((size, piece))
-        size += 8 * len(piece)
-    return size, pieces
-
-
-def _index_pieces(numbers: Any, windows: Any) -> Tuple[int, List[Piece]]:
-    length, ones_log2, zeros_log2 = numbers
-    if length <= 64 * (len(windows[0]) - 1):  # tables of fewer words are other tables
-        words = memoryview(windows[0])[: -(-length // 64)]
-        numbers, windows = _core.parts(_core.Index(words, length, sample_log2=ones_log2 or zeros_log2 or None))
-        length, ones_log2, zeros_log2 = numbers
-    words, upper, lower, samples, starts, samples0, starts0 = windows
-    header, size, begins = _core.index_header(length, ones_log2, len(samples), zeros_log2, len(samples0))
-    return size, [(0, header), *zip(begins, (words, upper, lower, b"", starts, starts0, samples, samples0))]
-
-
-def _into(write: Callable[[Any], Any], size: int, pieces: List[Piece]) -> None:
-    """Writes the pieces in their order, with zeros between them."""
-    done = 0
-    for at, piece in sorted(pieces, key=lambda it: it[0]):
-        data = memoryview(piece).cast("B") if len(piece) else memoryview(b"")
-        if not data.nbytes:
-            continue
-        if done < at:
-            write(bytes(at - done))
-        done = at + data.nbytes
-        while data.nbytes:
-            count = write(data)
-            if count is None:
-                break  # a buffered file takes all
-            data = data[count:]
-    if done < size:
-        write(bytes(size - done))
-
-
-def save(self: Any, target: Any, /) -> None:
-    """Writes the value into a file, from which `bitm.load` takes it: a path, or a file object with `write`.
-
-    A path is written beside it first, into a new file of an unforeseeable name, synced, and put in its place: a
-    write that fails leaves what stood there. A symbolic link is followed; what is not a regular file is refused; the mode
-    of a file that is replaced stays."""
-    if hasattr(target, "write"):
-        size, pieces = _pieces(self)
-        _into(target.write, size, pieces)
-        return
-    path = os.path.realpath(os.fsencode(target))
-    size, pieces = _pieces(self)
-    try:
-        mode: Optional[int] = os.stat(path).st_mode
-    except FileNotFoundError:
-        mode = None
-    if mode is not None and not stat.S_ISREG(mode):
-        raise OSError(errno.EINVAL, "it is not a regular file: pass an open file to write there", os.fsdecode(path))
-    folder = os.path.dirname(path)
-    beside = os.path.join(folder, b".bitm-" + secrets.token_hex(12).encode())
-    number = os.open(beside, os.O_WRONLY | os.O_CREAT | os.O_EXCL | os.O_CLOEXEC | os.O_NOFOLLOW, 0o666)
-    try:
-        with open(number, "wb", buffering=0) as file:
-            if mode is not None:
-                os.fchmod(number, stat.S_IMODE(mode))
-            _into(file.write, size, pieces)
-            os.fsync(number)
-        os.replace(beside, path)
-    except BaseException:
-        os.unlink(beside)
-        raise
-    _sync_folder(folder)
-
-
-def _sync_folder(folder: bytes) -> None:
-    held = os.open(folder, os.O_RDONLY | os.O_DIRECTORY | os.O_CLOEXEC)
-    try:
-        os.fsync(held)
-    except OSError:
-        pass  # some file systems sync no folder
-    finally:
-        os.close(held)
-
-
-def loads(data: Any, /) -> Stored:
-    """The value in a buffer (bytes, mmap, ..), which is read where it lies, and held. ValueError where it has none."""
-    with memoryview(data) as view:
-        flat = view.cast("B")
-    return _core.stored_load(flat[: flat.nbytes // 8 * 8])
-
-
-_MARK = _core.index_header(0, 0, 0, 0, 0)[0][:8]
-
-
-def _look(head: bytes, size: Optional[int], shown: str) -> None:
-    """A first look at a header, lest much is read in vain. What counts is the library's own, at the whole."""
-    if head[:8] != _MARK or (size is not None and int.from_bytes(head[32:40], "little") > size):
-        raise ValueError(f"{shown} is not a stored index, sequence or hash of this format, or not all of it")
-
-
-def load(source: Union[PathLike, int, BinaryIO], *, mmap: bool = False) -> Stored:
-    """The index, sequence or perfect hash that `save` wrote, from a path, a descriptor or a file object: read into memory,
-    or with `mmap` mapped from the file and read where it lies. Bytes are a path: see `loads`.
-
-    ValueError where it has no header of this format and byte order, or is shorter than its header says: the header is
-    looked at first. The contents of the parts are not checked: call `check`. A mapped file must not be truncated while
-    the value is used."""
-    if hasattr(source, "read"):
-        if mmap:
-            raise ValueError("a file object is read, not mapped: pass its path or its descriptor")
-        return _loaded(_read(source, "the file object"), "the file object")
-    shown = repr(source)
-    with open(source, "rb", closefd=not isinstance(source, int)) as file:
-        status = os.fstat(file.fileno())
-        if not stat.S_ISREG(status.st_mode):
-            return _loaded(_read(file, shown), shown)
-        size = status.st_size // 8 * 8
-        _look(os.pread(file.fileno(), HEADER, 0), size, shown)
-        if mmap:
-            return _loaded(mapped.mmap(file.fileno(), size, access=mapped.ACCESS_READ), shown)
-        data = bytearray(size)
-        file.readinto(data)
-        return _loaded(data, shown)
-
-
-def _read(file: Any, shown: str) -> bytes:
-    head = b""
-    while len(head) < HEADER and (piece := file.read(HEADER - len(head))):
-        if not isinstance(piece, bytes):
-            raise TypeError("the file has to be opened in binary mode")
-        head += piece
-    _look(head, None, shown)
-    return head + b"".join(iter(lambda: file.read(1 << 20) or b"", b""))
-
-
-def _loaded(data: Any, shown: str) -> Stored:
-    try:
-        return loads(memoryview(data).toreadonly())
-    except ValueError as error:
-        raise ValueError(f"{shown}: {error}") from None
-
-
 def _copy(share: Callable[[Any], Any]) -> Callable[[Any], Any]:
     def copy(self: Any) -> Any:
         """Another value over the same memory, which never changes: each is closed by itself."""
@@ -360,4 +265,5 @@ def complete() -> None:
     setattr(_core.Index, "over", classmethod(index_over))
     setattr(_core.EliasFano, "over", classmethod(sequence_over))
     setattr(_core.EliasFano, "intersection", intersection)
+    setattr(_core.EliasFano, "union", union)
     setattr(_core.EliasFano, "parts", property(parts))

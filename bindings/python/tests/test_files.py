@@ -221,6 +221,60 @@ def test_a_save_that_fails_leaves_the_old_file(tmp_path):
         Index(b"\xff").save(Full())
 
 
+def test_a_name_that_others_foretell_is_refused(tmp_path, monkeypatch):
+    victim, path = tmp_path / "victim", tmp_path / "it"
+    victim.write_bytes(b"mine")
+    monkeypatch.setattr("secrets.token_hex", lambda count: "0" * (2 * count))
+    (tmp_path / (".bitm-" + "0" * 24)).symlink_to(victim)
+    with pytest.raises(FileExistsError):
+        Index(b"\xff").save(path)
+    assert victim.read_bytes() == b"mine" and not path.exists()
+
+
+def test_a_file_is_synced_before_it_is_put_in_its_place_and_its_folder_after(tmp_path, monkeypatch):
+    done, sync, replace = [], os.fsync, os.replace
+    monkeypatch.setattr(os, "fsync", lambda number: (done.append("folder" if stat.S_ISDIR(os.fstat(number).st_mode) else "file"), sync(number)))
+    monkeypatch.setattr(os, "replace", lambda one, other: (done.append("replace"), replace(one, other)))
+    Index(b"\xff").save(tmp_path / "it")
+    assert done == ["file", "replace", "folder"]
+
+
+def test_a_file_that_takes_less(tmp_path):
+    index = Index(bytes(1 << 20))
+
+    class Slow(io.BytesIO):
+        def write(self, data):
+            return super().write(bytes(data[:1000]))
+
+    class Silent:
+        data = b""
+
+        def write(self, data):
+            self.data += bytes(data)
+
+    for file, taken in ((Slow(), io.BytesIO.getvalue), (Silent(), lambda it: it.data)):
+        index.save(file)
+        assert bitm.loads(taken(file)) == index
+    for count in (0, -1, 1 << 40):
+        file = Silent()
+        file.write = lambda data, count=count: count
+        with pytest.raises(OSError):
+            index.save(file)
+    read, write = os.pipe()
+    os.set_blocking(write, False)
+    with open(write, "wb", buffering=0) as file, pytest.raises(BlockingIOError):
+        index.save(file)  # which takes 64 KiB, and then nothing
+    os.close(read)
+
+
+def test_a_descriptor_is_read_from_its_start(tmp_path):
+    path, index = tmp_path / "it", Index(b"\xff" * 64)
+    index.save(path)
+    with open(path, "rb") as file:
+        for _ in range(2):
+            assert bitm.load(file.fileno()) == index
+
+
 def test_a_signal_that_saves_to_the_same_path(tmp_path):
     path, index = tmp_path / "it", Index(b"\xff" * 64)
 

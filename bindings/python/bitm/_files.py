@@ -1,0 +1,194 @@
+"""Files: what save writes and load takes."""
+import array
+import errno
+import io
+import mmap as mapped
+import os
+import secrets
+import stat
+from typing import Any, BinaryIO, Callable, List, Optional, Tuple, Union
+
+from . import _core
+
+PathLike = Union[str, bytes, "os.PathLike[str]", "os.PathLike[bytes]"]
+Stored = Union["_core.Index", "_core.EliasFano", "_core.PerfectHash"]
+Piece = Tuple[int, Any]
+HEADER = 192
+
+
+def _pieces(value: Any) -> Tuple[int, List[Piece]]:
+    """The size of the file of a value, and where each piece of it begins. There is one look at the value, and the pieces
+    keep their memory, whoever closes it meanwhile."""
+    numbers, windows = _core.parts(value)
+    if isinstance(value, _core.EliasFano):
+        header, size, (words, upper, lower, low, *_) = _core.sequence_header(*numbers, *map(len, windows))
+        return size, [(0, header), *zip((low, words, upper, lower), windows)]
+    if isinstance(value, _core.Index):
+        return _index_pieces(numbers, windows)
+    header, size, begins = _core.index_header(64 * len(windows[0]), 0, 0, 0, 0)
+    pieces: List[Piece] = [(0, header), *zip(begins, windows[:3])]
+    sizes, prints = windows[3:]
+    for piece in (array.array("Q", [*numbers, len(sizes), len(prints)]), sizes, prints):
+        pieces.append((size, piece))
+        size += 8 * len(piece)
+    return size, pieces
+
+
+def _index_pieces(numbers: Any, windows: Any) -> Tuple[int, List[Piece]]:
+    length, ones_log2, zeros_log2 = numbers
+    if length <= 64 * (len(windows[0]) - 1):  # tables of fewer words are other tables
+        words = memoryview(windows[0])[: -(-length // 64)]
+        numbers, windows = _core.parts(_core.Index(words, length, sample_log2=ones_log2 or zeros_log2 or None))
+        length, ones_log2, zeros_log2 = numbers
+    words, upper, lower, samples, starts, samples0, starts0 = windows
+    header, size, begins = _core.index_header(length, ones_log2, len(samples), zeros_log2, len(samples0))
+    return size, [(0, header), *zip(begins, (words, upper, lower, b"", starts, starts0, samples, samples0))]
+
+
+def _into(write: Callable[[Any], Any], size: int, pieces: List[Piece]) -> None:
+    """Writes the pieces in their order, with zeros between them."""
+    done = 0
+    for at, piece in sorted(pieces, key=lambda it: it[0]):
+        data = memoryview(piece).cast("B") if len(piece) else memoryview(b"")
+        if not data.nbytes:
+            continue
+        if done < at:
+            write(bytes(at - done))
+        done = at + data.nbytes
+        while data.nbytes:
+            data = data[_written(write, data) :]
+    if done < size:
+        write(bytes(size - done))
+
+
+def _written(write: Callable[[Any], Any], data: Any) -> int:
+    """How many bytes a call of `write` took: all where it does not say, unless it is that of a file which does not wait."""
+    count = write(data)
+    if count is None and not isinstance(getattr(write, "__self__", None), io.RawIOBase):
+        return int(data.nbytes)
+    if not count or not 0 < count <= data.nbytes:
+        raise BlockingIOError(errno.EAGAIN, f"write took {count} of {data.nbytes} bytes")
+    return int(count)
+
+
+def save(self: Any, target: Any, /) -> None:
+    """Writes the value into a file, from which `bitm.load` takes it: a path, or a file object with `write`.
+
+    A path is written beside it first, into a new file of an unforeseeable name, synced, and put in its place: a
+    write that fails leaves what stood there. A symbolic link is followed; what is not a regular file is refused; the mode
+    of a file that is replaced stays. OSError where it cannot be written.
+
+    >>> EliasFano([2, 3, 5]).save("numbers")
+    >>> list(load("numbers"))
+    [2, 3, 5]
+    """
+    if hasattr(target, "write"):
+        size, pieces = _pieces(self)
+        _into(target.write, size, pieces)
+    else:
+        path = os.path.realpath(os.fsencode(target))
+        _put(path, *_pieces(self))  # after __fspath__, which may close the value
+
+
+def _put(path: bytes, size: int, pieces: List[Piece]) -> None:
+    """Writes a new file beside a path, and puts it in its place."""
+    try:
+        mode: Optional[int] = os.stat(path).st_mode
+    except FileNotFoundError:
+        mode = None
+    if mode is not None and not stat.S_ISREG(mode):
+        raise OSError(errno.EINVAL, "it is not a regular file: pass an open file to write there", os.fsdecode(path))
+    folder = os.path.dirname(path)
+    beside = os.path.join(folder, b".bitm-" + secrets.token_hex(12).encode())
+    number = os.open(beside, os.O_WRONLY | os.O_CREAT | os.O_EXCL | os.O_CLOEXEC | os.O_NOFOLLOW, 0o666)
+    try:
+        with open(number, "wb", buffering=0) as file:
+            if mode is not None:
+                os.fchmod(number, stat.S_IMODE(mode))
+            _into(file.write, size, pieces)
+            os.fsync(number)
+        os.replace(beside, path)
+    except BaseException:
+        os.unlink(beside)
+        raise
+    _sync_folder(folder)
+
+
+def _sync_folder(folder: bytes) -> None:
+    held = os.open(folder, os.O_RDONLY | os.O_DIRECTORY | os.O_CLOEXEC)
+    try:
+        os.fsync(held)
+    except OSError:
+        pass  # some file systems sync no folder
+    finally:
+        os.close(held)
+
+
+def loads(data: Any, /) -> Stored:
+    """The value in a buffer (bytes, mmap, ..), which is read where it lies, and held. ValueError where it has none.
+
+    >>> EliasFano([2, 3, 5]).save("numbers")
+    >>> with open("numbers", "rb") as file:
+    ...     list(loads(file.read()))
+    [2, 3, 5]
+    """
+    with memoryview(data) as view:
+        flat = view.cast("B")
+    return _core.stored_load(flat[: flat.nbytes // 8 * 8])
+
+
+_MARK = _core.index_header(0, 0, 0, 0, 0)[0][:8]
+
+
+def _look(head: bytes, size: Optional[int], shown: str) -> None:
+    """A first look at a header, lest much is read in vain. What counts is the library's own, at the whole."""
+    if head[:8] != _MARK or (size is not None and int.from_bytes(head[32:40], "little") > size):
+        raise ValueError(f"{shown} is not a stored index, sequence or hash of this format, or not all of it")
+
+
+def load(source: Union[PathLike, int, BinaryIO], *, mmap: bool = False) -> Stored:
+    """The index, sequence or perfect hash that `save` wrote, from a path, a descriptor or a file object: read into memory,
+    or with `mmap` mapped from the file and read where it lies. Bytes are a path: see `loads`.
+
+    ValueError where it has no header of this format and byte order, or is shorter than its header says: the header is
+    looked at first. The contents of the parts are not checked: call `check`. A mapped file must not be truncated while
+    the value is used.
+
+    >>> Index(BitVector.from_bits("0101101")).save("bits")
+    >>> with load("bits", mmap=True) as index:
+    ...     index.rank(4)
+    2
+    """
+    if hasattr(source, "read"):
+        if mmap:
+            raise ValueError("a file object is read, not mapped: pass its path or its descriptor")
+        return _loaded(_read(source, "the file object"), "the file object")
+    shown = repr(source)
+    with open(source, "rb", closefd=not isinstance(source, int)) as file:
+        status = os.fstat(file.fileno())
+        if not stat.S_ISREG(status.st_mode):
+            return _loaded(_read(file, shown), shown)
+        size = status.st_size // 8 * 8
+        _look(os.pread(file.fileno(), HEADER, 0), size, shown)
+        if mmap:
+            return _loaded(mapped.mmap(file.fileno(), size, access=mapped.ACCESS_READ), shown)
+        data = bytearray(size)
+        file.seek(0)  # of a descriptor, which may stand elsewhere
+        return _loaded(memoryview(data)[: file.readinto(data)], shown)  # fewer where it was cut meanwhile
+
+
+def _read(file: Any, shown: str) -> bytes:
+    head = b""
+    while len(head) < HEADER and (piece := file.read(HEADER - len(head))):
+        if not isinstance(piece, bytes):
+            raise TypeError("the file has to be opened in binary mode")
+        head += piece
+    _look(head, None, shown)
+    return head + b"".join(iter(lambda: file.read(1 << 20) or b"", b""))
+
+
+def _loaded(data: Any, shown: str) -> Stored:
+    try:
+        return loads(memoryview(data).toreadonly())
+    except ValueError as error:
+        raise ValueError(f"{shown}: {error}") from None
