@@ -8,8 +8,9 @@ static int out_of_range(PyObject *value, const char *what)
     return -1;
 }
 
-int number(PyObject *value, const char *what, uint64_t *out)
+int number_slowly(PyObject *value, const char *what, uint64_t *out)
 {
+    PyErr_Clear();
     PyObject *index = PyLong_Check(value) ? Py_NewRef(value) : PyNumber_Index(value);
     if (index == NULL)
         return -1;
@@ -18,6 +19,13 @@ int number(PyObject *value, const char *what, uint64_t *out)
     Py_DECREF(index);
     *out = found;
     return status;
+}
+
+int index_slowly(PyObject *key, Py_ssize_t *out)
+{
+    PyErr_Clear();
+    *out = PyNumber_AsSsize_t(key, PyExc_IndexError);
+    return *out == -1 && PyErr_Occurred() ? -1 : 0;
 }
 
 int number_or(PyObject *value, uint64_t other, const char *what, uint64_t *out)
@@ -37,7 +45,7 @@ int bit_sought(PyObject *value)
     return is_one ? 1 : is_zero ? 0 : -1;
 }
 
-int bit_of(PyObject *value)
+int bit_slowly(PyObject *value)
 {
     int bit = bit_sought(value);
     if (bit == -1)
@@ -91,11 +99,17 @@ int pick(const char *call, const char *const *names, int least, int most, PyObje
 
 int inside(Py_ssize_t index, uint64_t len, const char *items, uint64_t *out)
 {
-    *out = index < 0 ? (uint64_t)index + len : (uint64_t)index;
+    *out = from_front(index, len);
     if (*out < len)
         return 0;
-    PyErr_Format(PyExc_IndexError, "index %zd of %llu %s", index, (unsigned long long)len, items);
+    (void)outside(index, len, items);
     return -1;
+}
+
+PyObject *outside(Py_ssize_t index, uint64_t len, const char *items)
+{
+    PyErr_Format(PyExc_IndexError, "index %zd of %llu %s", index, (unsigned long long)len, items);
+    return NULL;
 }
 
 PyObject *past_end(uint64_t position, uint64_t len)
@@ -108,14 +122,4 @@ PyObject *wrong(void)
 {
     PyErr_SetString(WrongTables, "the tables are not those of the words, or the parts not those of a sequence");
     return NULL;
-}
-
-/* By address: the call that writes the answer may be another argument. */
-PyObject *answer_or_none(uint32_t status, const uint64_t *out)
-{
-    if (status == BITM_OK)
-        return PyLong_FromUnsignedLongLong(*out);
-    if (status == BITM_NONE)
-        Py_RETURN_NONE;
-    return wrong();
 }

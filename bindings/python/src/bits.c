@@ -1,19 +1,26 @@
 /* What BitVector and Index share: single bits, slices, comparison, and the positions of their 1 bits and 0 bits. */
 #include "vector.h"
 
-/* The bits of a BitVector or of an Index that is open: valid as long as no Python code runs. -1 and an error. */
-static int bits_of(PyObject *self, Bits *out)
+/* The bits of a BitVector, or of an Index that is open: valid as long as no Python code runs. -1 and an error. */
+static inline int bits_of_vector(PyObject *self, Bits *out)
 {
-    if (PyObject_TypeCheck(self, Vector_Type)) {
-        *out = ((Vector *)self)->bits;
-        return 0;
-    }
+    *out = ((Vector *)self)->bits;
+    return 0;
+}
+
+static inline int bits_of_index(PyObject *self, Bits *out)
+{
     Memory *memory = memory_of(self);
     if (memory == NULL)
         return -1;
     Bits bits = {memory->index.words, memory->index.words_len, memory->index.bits_len};
     *out = bits;
     return 0;
+}
+
+static int bits_of(PyObject *self, Bits *out)
+{
+    return PyObject_TypeCheck(self, Vector_Type) ? bits_of_vector(self, out) : bits_of_index(self, out);
 }
 
 Py_ssize_t bits_len(PyObject *self)
@@ -27,37 +34,46 @@ Py_ssize_t bits_len(PyObject *self)
     return -1;
 }
 
-/* An index that sq_item is given counts from the front already. */
-PyObject *bits_item(PyObject *self, Py_ssize_t index)
+/* ---- bits[key]: one inline function, which the compiler makes one for each type of */
+
+typedef int (*looker)(PyObject *, Bits *);
+
+static PyObject *slice_of(PyObject *self, PyObject *key, looker look)
+{
+    Bits bits;
+    Py_ssize_t start, stop, step;
+    if (PySlice_Unpack(key, &start, &stop, &step) || look(self, &bits))
+        return NULL;
+    Py_ssize_t len = bits.len > (uint64_t)PY_SSIZE_T_MAX ? PY_SSIZE_T_MAX : (Py_ssize_t)bits.len;
+    Py_ssize_t count = PySlice_AdjustIndices(len, &start, &stop, step);
+    return (PyObject *)vector_of_slice(&bits, start, step, count);
+}
+
+static inline PyObject *item_of(PyObject *self, Py_ssize_t index, int from_end, looker look)
 {
     Bits bits;
     uint64_t bit = 0;
-    if (bits_of(self, &bits))
+    if (look(self, &bits))
         return NULL;
-    if (bitm_bits_get(BITS(bits), (uint64_t)index, &bit) == BITM_OK)
-        return PyBool_FromLong((long)bit);
-    return past_end((uint64_t)index, bits.len);
+    uint64_t position = from_end ? from_front(index, bits.len) : (uint64_t)index;
+    if (LIKELY(bitm_bits_get(BITS(bits), position, &bit) == BITM_OK))
+        return boxed_bit(bit);
+    return outside(index, bits.len, "bits");
 }
 
-PyObject *bits_subscript(PyObject *self, PyObject *key)
+static inline PyObject *subscript_of(PyObject *self, PyObject *key, looker look)
 {
-    Bits bits;
-    uint64_t position, bit = 0;
-    Py_ssize_t start, stop, step;
-    if (PySlice_Check(key)) {
-        if (PySlice_Unpack(key, &start, &stop, &step) || bits_of(self, &bits))
-            return NULL;
-        Py_ssize_t len = bits.len > (uint64_t)PY_SSIZE_T_MAX ? PY_SSIZE_T_MAX : (Py_ssize_t)bits.len;
-        Py_ssize_t count = PySlice_AdjustIndices(len, &start, &stop, step);
-        return (PyObject *)vector_of_slice(&bits, start, step, count);
-    }
-    Py_ssize_t index = PyNumber_AsSsize_t(key, PyExc_IndexError);
-    if ((index == -1 && PyErr_Occurred()) || bits_of(self, &bits) || inside(index, bits.len, "bits", &position))
-        return NULL;
-    if (bitm_bits_get(BITS(bits), position, &bit) != BITM_OK)
-        return wrong();
-    return PyBool_FromLong((long)bit);
+    Py_ssize_t index;
+    if (PySlice_Check(key))
+        return slice_of(self, key, look);
+    return index_of(key, &index) ? NULL : item_of(self, index, 1, look);
 }
+
+/* An index that sq_item is given counts from the front already. */
+PyObject *vector_item(PyObject *self, Py_ssize_t index) { return item_of(self, index, 0, bits_of_vector); }
+PyObject *index_item(PyObject *self, Py_ssize_t index) { return item_of(self, index, 0, bits_of_index); }
+PyObject *vector_subscript(PyObject *self, PyObject *key) { return subscript_of(self, key, bits_of_vector); }
+PyObject *index_subscript(PyObject *self, PyObject *key) { return subscript_of(self, key, bits_of_index); }
 
 PyObject *bits_iter(PyObject *self) { return PySeqIter_New(self); }
 
@@ -126,7 +142,7 @@ static PyObject *positions_next(PyObject *self)
     Positions *it = (Positions *)self;
     if (it->at == it->count && (positions_fill(it) || it->count == 0))
         return NULL;
-    return PyLong_FromUnsignedLongLong(it->room[it->at++]);
+    return boxed(it->room[it->at++]);
 }
 
 static PyType_Slot positions_slots[] = {{Py_tp_iternext, positions_next}, WALK_SLOTS, {0, NULL}};

@@ -12,10 +12,14 @@
 #include <structmember.h>
 
 #include <bitm.h>
+#include <limits.h>
 #include <stdio.h>
 #include <stdlib.h>
 #include <string.h>
 
+#include "value_docs.h"
+
+#define LIKELY(it) __builtin_expect(!!(it), 1)
 #define BORROWED(it) ((PyObject *)(it))
 #define KEEP(it) Py_XINCREF(BORROWED(it))
 #define DROP(it) Py_XDECREF(BORROWED(it))
@@ -25,6 +29,10 @@
     {                                                                                                                  \
         name, (PyCFunction)(void (*)(void))(function), flags, DOC(name arguments "\n--\n\n" text)                      \
     }
+/* In a text for help(): a line of Python, one that follows, and what the last one prints. */
+#define EXAMPLE(line) "\n\n>>> " line
+#define THEN(line) "\n>>> " line
+#define PRINTS(text) "\n" text
 #define KEYWORDS(name, function, arguments, text) METHOD(name, function, METH_FASTCALL | METH_KEYWORDS, arguments, text)
 
 extern PyObject *WrongTables;
@@ -37,13 +45,42 @@ extern PyType_Spec memory_spec, window_spec, positions_spec, numbers_spec, vecto
 
 /* A whole number from 0 to 2^64 - 1: -1 and OverflowError for others, TypeError for what is not one. Runs Python code
  * (__index__), so what that may change is looked at afterwards. */
-int number(PyObject *value, const char *what, uint64_t *out);
+int number_slowly(PyObject *value, const char *what, uint64_t *out);
+static inline int number(PyObject *value, const char *what, uint64_t *out)
+{
+    if (LIKELY(Py_IS_TYPE(value, &PyLong_Type))) {
+        *out = PyLong_AsSize_t(value);
+        if (LIKELY(*out != UINT64_MAX))
+            return 0;
+    }
+    return number_slowly(value, what, out); /* also for 2^64 - 1 itself */
+}
+
+/* The index of bits[key], not above PY_SSIZE_T_MAX and below 0 where it counts from the end: -1 and IndexError or
+ * TypeError. Runs Python code. */
+int index_slowly(PyObject *key, Py_ssize_t *out);
+static inline int index_of(PyObject *key, Py_ssize_t *out)
+{
+    if (LIKELY(Py_IS_TYPE(key, &PyLong_Type))) {
+        *out = PyLong_AsSsize_t(key);
+        if (LIKELY(*out != -1))
+            return 0;
+    }
+    return index_slowly(key, out); /* also for -1 itself */
+}
+
+/* The same from the front, for len items; what lies outside may be any number that is no less than len. */
+static inline uint64_t from_front(Py_ssize_t index, uint64_t len)
+{
+    return index < 0 ? (uint64_t)index + len : (uint64_t)index;
+}
 
 /* The same, and another number for None and for an argument that is not given. */
 int number_or(PyObject *value, uint64_t other, const char *what, uint64_t *out);
 
 /* 0 or 1 of what equals 0 or 1: -1 and ValueError for others. Runs Python code (__eq__). */
-int bit_of(PyObject *value);
+int bit_slowly(PyObject *value);
+static inline int bit_of(PyObject *value) { return value == Py_True ? 1 : value == Py_False ? 0 : bit_slowly(value); }
 
 /* The same for `bit in values`: -1 where it is neither, and -2 and an error. */
 int bit_sought(PyObject *value);
@@ -56,12 +93,28 @@ int pick(const char *call, const char *const *names, int least, int most, PyObje
 /* The index into len items of a Python index, from the end where it is negative: -1 and IndexError outside. */
 int inside(Py_ssize_t index, uint64_t len, const char *items, uint64_t *out);
 
-/* An exception for a position past the end; WrongTables; the answer of a query that may have none. */
+/* IndexError for an index of len items, and for a position past the end; WrongTables. */
+PyObject *outside(Py_ssize_t index, uint64_t len, const char *items);
 PyObject *past_end(uint64_t position, uint64_t len);
 PyObject *wrong(void);
-PyObject *answer_or_none(uint32_t status, const uint64_t *out);
 
-/* ---- integers.c: a flat buffer of whole numbers of any width, sign, byte order and stride, or numbers of an iterable */
+/* An answer as a Python number: PyLong_FromLong has a short way for those of one digit, below 2^30. */
+static inline PyObject *boxed(uint64_t answer)
+{
+    return LIKELY(answer <= LONG_MAX) ? PyLong_FromLong((long)answer) : PyLong_FromUnsignedLongLong(answer);
+}
+static inline PyObject *boxed_bit(uint64_t bit) { return Py_NewRef(bit ? Py_True : Py_False); }
+
+/* The answer of a query that may have none. By address: the call that writes it may be another argument. */
+static inline PyObject *answer_or_none(uint32_t status, const uint64_t *out)
+{
+    if (LIKELY(status == BITM_OK))
+        return boxed(*out);
+    return status == BITM_NONE ? Py_NewRef(Py_None) : wrong();
+}
+
+/* ---- integers.c: a flat buffer of whole numbers of any width, sign, byte order and stride, or numbers of an iterable
+ */
 typedef struct {
     Py_buffer held;
     int is_held;
@@ -77,6 +130,9 @@ void integers_drop(Integers *it);
 
 /* Copies count items from index from on, and says how many there are before the first that is below 0. Needs no GIL. */
 size_t integers_load(const Integers *it, size_t from, size_t count, uint64_t *out);
+
+/* Copies all items, for the buffer may change. -1 and an error. */
+int integers_own(Integers *it);
 
 /* OverflowError for the item at an index, which is below 0. */
 void integers_below(const Integers *it, size_t at, const char *what);
@@ -156,8 +212,7 @@ PyObject *value_sizeof(PyObject *self, PyObject *none);
 extern PyMemberDef value_members[];
 
 #define VALUE_METHODS                                                                                                  \
-    METHOD("close", value_close, METH_NOARGS, "($self, /)",                                                            \
-           "Gives the memory back, once the calls that run have ended. Later calls raise ValueError."),                \
+    METHOD("close", value_close, METH_NOARGS, "($self, /)", VALUE_CLOSE),                                              \
         {"__enter__", value_enter, METH_NOARGS, NULL}, {"__exit__", value_exit, METH_VARARGS, NULL},                   \
         {"__copy__", value_copy, METH_NOARGS, NULL},                                                                   \
     {                                                                                                                  \
@@ -171,7 +226,7 @@ extern PyMemberDef value_members[];
 #define VALUE_FLAGS (Py_TPFLAGS_DEFAULT | Py_TPFLAGS_HAVE_GC | Py_TPFLAGS_BASETYPE)
 #define VALUE_CLOSED                                                                                                   \
     {                                                                                                                  \
-        "closed", value_closed, NULL, DOC("Whether it was closed."), NULL                                              \
+        "closed", value_closed, NULL, DOC(VALUE_CLOSED_DOC), NULL                                                      \
     }
 
 /* An iterator over another object. */
@@ -234,8 +289,10 @@ typedef struct {
 } Bits;
 #define BITS(it) (it).words, (it).words_len, (it).len
 
-PyObject *bits_item(PyObject *self, Py_ssize_t index);
-PyObject *bits_subscript(PyObject *self, PyObject *key);
+PyObject *vector_item(PyObject *self, Py_ssize_t index);
+PyObject *vector_subscript(PyObject *self, PyObject *key);
+PyObject *index_item(PyObject *self, Py_ssize_t index);
+PyObject *index_subscript(PyObject *self, PyObject *key);
 PyObject *bits_compare(PyObject *self, PyObject *other, int how);
 int bits_contains(PyObject *self, PyObject *value);
 PyObject *bits_iter(PyObject *self);
@@ -243,7 +300,7 @@ Py_ssize_t bits_len(PyObject *self);
 PyObject *bits_ones(PyObject *self, PyObject *const *args, Py_ssize_t count, PyObject *keywords);
 PyObject *bits_zeros(PyObject *self, PyObject *const *args, Py_ssize_t count, PyObject *keywords);
 
-/* ---- index.c, sequence.c, numbers.c, hash.c, keys.c, stored.c */
+/* ---- index.c, sequence.c, numbers.c, sets.c, hash.c, keys.c, stored.c */
 
 /* A new value over memory whose index (sequence, hash) is filled in, and ValueError where its lengths do not fit
  * together. Takes the reference. */
@@ -252,15 +309,20 @@ PyObject *sequence_over(PyObject *type, Memory *memory);
 PyObject *hash_over(PyObject *type, Memory *memory);
 
 PyObject *numbers_new(PyObject *sequence, uint64_t from, uint64_t stop, int is_reversed);
-PyObject *numbers_from(PyObject *sequence, PyObject *value);
+PyObject *numbers_from(PyObject *sequence, PyObject *const *args, Py_ssize_t count, PyObject *keywords);
 PyObject *numbers_compare(PyObject *self, PyObject *other, int how);
 PyObject *sequence_slice(PyObject *self, PyObject *slice);
 PyObject *sequence_window(PyObject *module, PyObject *self);
 PyObject *sequence_common(PyObject *module, PyObject *args);
+PyObject *sequence_merged(PyObject *module, PyObject *args);
 
-/* The hash and the fingerprint of a key, or of each key of a list of them, one after another. */
+/* Whether it is an EliasFano; TypeError else. */
+int is_sequence(PyObject *it);
+
+/* Whether it can be a key; the hash and the fingerprint of a key, or of each key of a list, one after another. */
 #define MARK_BLAKE 0x687361686d746962u /* "bitmhash": files of version 0.2.0, whose keys are hashed by BLAKE2b */
 #define MARK_SIP 0x327361686d746962u   /* "bitmhas2": by SipHash-1-3 */
+int is_key(PyObject *key);
 int key_hash(PyObject *key, uint64_t mark, uint64_t seed, uint64_t out[2]);
 uint64_t *keys_hash(PyObject *keys, uint64_t mark, uint64_t seed, size_t *count);
 

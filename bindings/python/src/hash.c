@@ -23,7 +23,8 @@ PyObject *hash_over(PyObject *type, Memory *it)
     return NULL;
 }
 
-/* The words of all levels and their index. `both` has the hash and the fingerprint of each key. -1 and an error. */
+/* The words of all levels. `both` has the hash and the fingerprint of each key. -1 and an error; 1 where two hashes are
+ * equal. */
 static int build_levels(Memory *it, const uint64_t *both, uint32_t percent)
 {
     size_t count = it->hash.keys, first = bitm_hash_level_len(count, percent);
@@ -43,8 +44,6 @@ static int build_levels(Memory *it, const uint64_t *both, uint32_t percent)
         status =
             bitm_hash_build(hashes, count, percent, words, most, again, first, sizes, LEVELS, &levels, &used, &left);
         Py_END_ALLOW_THREADS
-        if (status != BITM_OK || left > 0)
-            PyErr_SetString(PyExc_ValueError, "keys are equal, or their hashes are: try another seed");
     }
     free(hashes);
     free(again);
@@ -53,7 +52,7 @@ static int build_levels(Memory *it, const uint64_t *both, uint32_t percent)
     it->hash.index.words = words;
     it->hash.index.words_len = (size_t)used;
     it->hash.index.bits_len = 64 * used;
-    return PyErr_Occurred() ? -1 : 0;
+    return PyErr_Occurred() ? -1 : status != BITM_OK || left > 0;
 }
 
 /* Gives back the room that no level took, and builds the tables and the fingerprints. -1 and an error. */
@@ -106,38 +105,68 @@ static int mark_of(PyObject *hash, uint64_t *mark)
     return -1;
 }
 
-static int hash_init(PyObject *self, PyObject *args, PyObject *keywords)
-{
-    static char *names[] = {"keys", "bits", "percent", "seed", "hash", NULL};
-    PyObject *keys, *given[4] = {NULL, NULL, NULL, NULL};
+typedef struct {
     uint64_t width, percent, seed, mark;
-    size_t count = 0;
-    if (!PyArg_ParseTupleAndKeywords(args, keywords, "O|$OOOO:PerfectHash", names, &keys, &given[0], &given[1],
-                                     &given[2], &given[3]) ||
-        number_or(given[0], 16, "bits", &width) || number_or(given[1], 100, "percent", &percent) ||
-        number_or(given[2], 0, "the seed", &seed) || mark_of(given[3], &mark))
-        return -1;
-    if (width > 64) {
-        PyErr_SetString(PyExc_ValueError, "a fingerprint has at most 64 bits");
-        return -1;
-    }
-    uint64_t *both = keys_hash(keys, mark, seed, &count);
+    int is_any_seed;
+} Settings;
+
+/* The hash of keys by a seed: NULL and an error; NULL alone where two hashes are equal. */
+static Memory *built(PyObject *keys, const Settings *how, uint64_t seed)
+{
+    size_t count;
+    uint64_t *both = keys_hash(keys, how->mark, seed, &count);
     Memory *it = both == NULL ? NULL : memory_new();
     int status = -1;
     if (it != NULL) {
         it->hash.keys = count;
-        it->print_width = width;
+        it->print_width = how->width;
         it->seed = seed;
-        it->mark = mark;
-        status =
-            build_levels(it, both, percent > UINT32_MAX ? UINT32_MAX : (uint32_t)percent) ? -1 : build_tables(it, both);
+        it->mark = how->mark;
+        status = build_levels(it, both, how->percent > UINT32_MAX ? UINT32_MAX : (uint32_t)how->percent);
+        if (status == 0)
+            status = build_tables(it, both);
     }
     free(both);
-    if (status)
-        DROP(it);
-    else
-        value_set(self, it);
-    return status;
+    if (status == 0)
+        return it;
+    DROP(it);
+    return NULL;
+}
+
+static int settings_take(Settings *it, PyObject *keys, PyObject *const given[4])
+{
+    if (number_or(given[0], 16, "bits", &it->width) || number_or(given[1], 100, "percent", &it->percent) ||
+        number_or(given[2], 0, "the seed", &it->seed) || mark_of(given[3], &it->mark))
+        return -1;
+    /* Of an iterator the keys come but once. */
+    it->is_any_seed = (given[2] == NULL || given[2] == Py_None) && !PyIter_Check(keys);
+    if (it->width <= 64)
+        return 0;
+    PyErr_SetString(PyExc_ValueError, "a fingerprint has at most 64 bits");
+    return -1;
+}
+
+static int hash_init(PyObject *self, PyObject *args, PyObject *keywords)
+{
+    static char *names[] = {"keys", "bits", "percent", "seed", "hash", NULL};
+    PyObject *keys, *given[4] = {NULL, NULL, NULL, NULL};
+    Settings how;
+    if (!PyArg_ParseTupleAndKeywords(args, keywords, "O|$OOOO:PerfectHash", names, &keys, &given[0], &given[1],
+                                     &given[2], &given[3]) ||
+        settings_take(&how, keys, given))
+        return -1;
+    Memory *it = built(keys, &how, how.seed);
+    if (it == NULL && !PyErr_Occurred() && how.is_any_seed)
+        it = built(keys, &how, 1);
+    if (it == NULL) {
+        if (!PyErr_Occurred())
+            PyErr_SetString(PyExc_ValueError, how.is_any_seed
+                                                  ? "keys are equal"
+                                                  : "keys are equal, or their hashes are: try another seed");
+        return -1;
+    }
+    value_set(self, it);
+    return 0;
 }
 
 /* ---- queries */
@@ -178,7 +207,7 @@ static PyObject *hash_get(PyObject *self, PyObject *const *args, Py_ssize_t coun
     int is_found = found(self, given[0], &out);
     if (is_found < 0)
         return NULL;
-    return is_found ? PyLong_FromUnsignedLongLong(out) : Py_NewRef(given[1] == NULL ? Py_None : given[1]);
+    return is_found ? boxed(out) : Py_NewRef(given[1] == NULL ? Py_None : given[1]);
 }
 
 static PyObject *hash_subscript(PyObject *self, PyObject *key)
@@ -187,13 +216,13 @@ static PyObject *hash_subscript(PyObject *self, PyObject *key)
     int is_found = found(self, key, &out);
     if (is_found == 0)
         PyErr_SetObject(PyExc_KeyError, key);
-    return is_found > 0 ? PyLong_FromUnsignedLongLong(out) : NULL;
+    return is_found > 0 ? boxed(out) : NULL;
 }
 
 static int hash_contains(PyObject *self, PyObject *key)
 {
     uint64_t out = 0;
-    if (!PyUnicode_Check(key) && !PyBytes_Check(key) && !PyIndex_Check(key))
+    if (!is_key(key))
         return memory_of(self) == NULL ? -1 : 0;
     return found(self, key, &out);
 }
@@ -277,22 +306,39 @@ static PyObject *hash_repr(PyObject *self)
                                 (unsigned long long)it->print_width);
 }
 
-static PyMethodDef methods[] = {
-    KEYWORDS("get", hash_get, "($self, key, default=None)",
-             "The number of a key, or the default where its fingerprint shows that it is not one."),
-    KEYWORDS("get_list", hash_get_list, "($self, keys, *, missing=None)",
-             "The numbers of many keys; missing as in Index.select_list."),
-    METHOD("check", hash_check, METH_NOARGS, "($self, /)",
-           "Whether the tables are those of the words, and there are as many 1 bits as keys."),
-    VALUE_METHODS,
-    {NULL, NULL, 0, NULL}};
-static PyGetSetDef attributes[] = {VALUE_CLOSED, {NULL, NULL, NULL, NULL, NULL}};
+static PyObject *hash_seed(PyObject *self, void *none)
+{
+    const Memory *it = memory_of(self);
+    (void)none;
+    return it == NULL ? NULL : boxed(it->seed);
+}
 
-static PyType_Slot slots[] = {{Py_tp_doc, DOC("PerfectHash(keys, *, bits=16, percent=100, seed=0, "
-                                              "hash='siphash')\n--\n\nA number of its own, below their count, for "
-                                              "each key of a set (str, bytes or int). No key is kept, but a "
-                                              "fingerprint of `bits` bits for each: of others, one "
-                                              "in 2**bits is taken for a key.")},
+static PyObject *hash_bits(PyObject *self, void *none)
+{
+    const Memory *it = memory_of(self);
+    (void)none;
+    return it == NULL ? NULL : boxed(it->print_width);
+}
+
+static PyObject *hash_name(PyObject *self, void *none)
+{
+    const Memory *it = memory_of(self);
+    (void)none;
+    return it == NULL ? NULL : PyUnicode_FromString(it->mark == MARK_SIP ? "siphash" : "blake2b");
+}
+
+static PyMethodDef methods[] = {KEYWORDS("get", hash_get, "($self, key, default=None)", HASH_GET),
+                                KEYWORDS("get_list", hash_get_list, "($self, keys, *, missing=None)", HASH_GET_LIST),
+                                METHOD("check", hash_check, METH_NOARGS, "($self, /)", HASH_CHECK),
+                                VALUE_METHODS,
+                                {NULL, NULL, 0, NULL}};
+static PyGetSetDef attributes[] = {VALUE_CLOSED,
+                                   {"seed", hash_seed, NULL, DOC(HASH_SEED), NULL},
+                                   {"bits", hash_bits, NULL, DOC(HASH_BITS), NULL},
+                                   {"hash", hash_name, NULL, DOC(HASH_HASH), NULL},
+                                   {NULL, NULL, NULL, NULL, NULL}};
+
+static PyType_Slot slots[] = {{Py_tp_doc, DOC(HASH_DOC)},
                               {Py_tp_init, hash_init},
                               {Py_tp_methods, methods},
                               {Py_tp_getset, attributes},

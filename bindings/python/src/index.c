@@ -1,6 +1,7 @@
 /* bitm.Index. A query takes its argument first, since that may run Python code, which may close the index; from then on
  * nothing else runs until the answer is there. */
 #include "core.h"
+#include "index_docs.h"
 
 /* ---- made */
 
@@ -102,7 +103,7 @@ static PyObject *rank(PyObject *self, PyObject *query, bool one)
         return NULL;
     uint32_t status = bitm_index_rank(&it->index, one, position, &out);
     if (status == BITM_OK)
-        return PyLong_FromUnsignedLongLong(out);
+        return boxed(out);
     return status == BITM_NONE ? past_end(position, it->index.bits_len) : wrong();
 }
 
@@ -182,8 +183,7 @@ static PyObject *index_count(PyObject *self, PyObject *const *args, Py_ssize_t c
     Memory *it = bit < 0 ? NULL : memory_of(self);
     if (it == NULL)
         return NULL;
-    return bitm_index_rank(&it->index, bit, it->index.bits_len, &out) == BITM_OK ? PyLong_FromUnsignedLongLong(out)
-                                                                                 : wrong();
+    return bitm_index_rank(&it->index, bit, it->index.bits_len, &out) == BITM_OK ? boxed(out) : wrong();
 }
 
 static PyObject *index_check(PyObject *self, PyObject *none)
@@ -229,52 +229,41 @@ static PyObject *index_words(PyObject *self, void *none)
 #define PLAIN(name, arguments, text) METHOD(#name, index_##name, METH_O, arguments, text)
 #define NAMED(name, arguments, text) KEYWORDS(#name, index_##name, arguments, text)
 static PyMethodDef methods[] = {
-    PLAIN(rank, "($self, position, /)",
-          "How many 1 bits there are before a position, which may be the length. IndexError past it."),
-    PLAIN(rank0, "($self, position, /)", "How many 0 bits there are before a position."),
-    PLAIN(select, "($self, rank, /)", "The position of the 1 bit with that rank, or None."),
-    PLAIN(select0, "($self, rank, /)", "The position of the 0 bit with that rank, or None."),
-    PLAIN(next_one, "($self, position, /)", "The position of the first 1 bit at or after a position, or None."),
-    PLAIN(next_zero, "($self, position, /)", "The position of the first 0 bit at or after a position, or None."),
-    PLAIN(previous_one, "($self, position, /)", "The position of the last 1 bit at or before a position, or None."),
-    PLAIN(previous_zero, "($self, position, /)", "The position of the last 0 bit at or before a position, or None."),
-    NAMED(rank_list, "($self, queries)", "The ranks of many positions: an array for an array of NumPy, else a list."),
-    NAMED(rank0_list, "($self, queries)", "The ranks of many positions, of 0 bits."),
-    NAMED(select_list, "($self, queries, *, missing=None)",
-          "The positions of many ranks: a list with None where there is none, "
-          "or for an array of NumPy a masked array. missing may be 'error', a number that stands there, or 'mask'."),
-    NAMED(select0_list, "($self, queries, *, missing=None)", "The positions of many ranks, of 0 bits; as select_list."),
-    NAMED(count, "($self, bit=1)", "How many 1 bits there are, or with 0 how many 0 bits."),
-    KEYWORDS("ones", bits_ones, "($self, start=0, stop=None, *, reverse=False)",
-             "The positions of the 1 bits in a range, rising or falling."),
-    KEYWORDS("zeros", bits_zeros, "($self, start=0, stop=None, *, reverse=False)",
-             "The positions of the 0 bits in a range, rising or falling."),
-    METHOD("check", index_check, METH_NOARGS, "($self, /)",
-           "Whether the tables, and the samples, are those of the words. Reads each word once."),
+    PLAIN(rank, "($self, position, /)", INDEX_RANK),
+    PLAIN(rank0, "($self, position, /)", INDEX_RANK0),
+    PLAIN(select, "($self, rank, /)", INDEX_SELECT),
+    PLAIN(select0, "($self, rank, /)", INDEX_SELECT0),
+    PLAIN(next_one, "($self, position, /)", INDEX_NEXT_ONE),
+    PLAIN(next_zero, "($self, position, /)", INDEX_NEXT_ZERO),
+    PLAIN(previous_one, "($self, position, /)", INDEX_PREVIOUS_ONE),
+    PLAIN(previous_zero, "($self, position, /)", INDEX_PREVIOUS_ZERO),
+    NAMED(rank_list, "($self, queries)", INDEX_RANK_LIST),
+    NAMED(rank0_list, "($self, queries)", INDEX_RANK0_LIST),
+    NAMED(select_list, "($self, queries, *, missing=None)", INDEX_SELECT_LIST),
+    NAMED(select0_list, "($self, queries, *, missing=None)", INDEX_SELECT0_LIST),
+    NAMED(count, "($self, bit=1)", INDEX_COUNT),
+    KEYWORDS("ones", bits_ones, "($self, start=0, stop=None, *, reverse=False)", INDEX_ONES),
+    KEYWORDS("zeros", bits_zeros, "($self, start=0, stop=None, *, reverse=False)", INDEX_ZEROS),
+    METHOD("check", index_check, METH_NOARGS, "($self, /)", INDEX_CHECK),
     VALUE_METHODS,
     {NULL, NULL, 0, NULL}};
 
 static PyGetSetDef attributes[] = {
-    VALUE_CLOSED, {"words", index_words, NULL, DOC("The words, to be read."), NULL}, {NULL, NULL, NULL, NULL, NULL}};
+    VALUE_CLOSED, {"words", index_words, NULL, DOC(INDEX_WORDS), NULL}, {NULL, NULL, NULL, NULL, NULL}};
 
-static PyType_Slot slots[] = {
-    {Py_tp_doc,
-     DOC("Index(bits, length=None, *, sample_log2=None)\n--\n\nRank and selection over bits, which stay where they "
-         "are: a "
-         "BitVector, or a buffer of 64-bit words or of bytes. They must not change while the index is used; check says "
-         "whether they have. Samples of each 2**sample_log2 bits make selections faster.")},
-    {Py_tp_init, index_init},
-    {Py_tp_methods, methods},
-    {Py_tp_getset, attributes},
-    {Py_tp_repr, index_repr},
-    {Py_tp_richcompare, bits_compare},
-    {Py_tp_hash, PyObject_HashNotImplemented},
-    {Py_tp_iter, bits_iter},
-    {Py_sq_length, bits_len},
-    {Py_sq_item, bits_item},
-    {Py_sq_contains, bits_contains},
-    {Py_mp_length, bits_len},
-    {Py_mp_subscript, bits_subscript},
-    VALUE_SLOTS,
-    {0, NULL}};
+static PyType_Slot slots[] = {{Py_tp_doc, DOC(INDEX_DOC)},
+                              {Py_tp_init, index_init},
+                              {Py_tp_methods, methods},
+                              {Py_tp_getset, attributes},
+                              {Py_tp_repr, index_repr},
+                              {Py_tp_richcompare, bits_compare},
+                              {Py_tp_hash, PyObject_HashNotImplemented},
+                              {Py_tp_iter, bits_iter},
+                              {Py_sq_length, bits_len},
+                              {Py_sq_item, index_item},
+                              {Py_sq_contains, bits_contains},
+                              {Py_mp_length, bits_len},
+                              {Py_mp_subscript, index_subscript},
+                              VALUE_SLOTS,
+                              {0, NULL}};
 PyType_Spec index_spec = {"bitm.Index", sizeof(Value), 0, VALUE_FLAGS, slots};

@@ -158,6 +158,18 @@ size_t integers_load(const Integers *it, size_t from, size_t count, uint64_t *ou
     }
 }
 
+int integers_own(Integers *it)
+{
+    uint64_t *own = room_for(it->len);
+    if (own == NULL)
+        return -1;
+    (void)integers_load(it, 0, it->len, own); /* also those below 0, as numbers of 64 bits with a sign */
+    Integers made = {.own = own, .len = it->len, .stride = 8, .size = 8, .is_signed = it->is_signed};
+    integers_drop(it);
+    *it = made;
+    return 0;
+}
+
 void integers_below(const Integers *it, size_t at, const char *what)
 {
     uint64_t found = 0;

@@ -26,24 +26,44 @@ static inline __attribute__((always_inline)) void rounds(uint64_t v[4], int coun
     }
 }
 
+static inline uint64_t word_at(const char *at)
+{
+    uint64_t word;
+    memcpy(&word, at, 8);
+    return word;
+}
+
+/* The last len % 8 bytes of a text of len bytes, which begin at `at`, as a number: of a text of at least 8 bytes from
+ * the 8 bytes that end with it. */
+static inline uint64_t rest_of(const char *at, size_t len)
+{
+    size_t left = len % 8, done = 0;
+    uint64_t word = 0;
+    if (left == 0)
+        return 0;
+    if (len >= 8)
+        return word_at(at + left - 8) >> (64 - 8 * left);
+    for (; done < (left & 6); done += 2)
+        word |= ((uint64_t)(unsigned char)at[done] | (uint64_t)(unsigned char)at[done + 1] << 8) << 8 * done;
+    return left & 1 ? word | (uint64_t)(unsigned char)at[done] << 8 * done : word;
+}
+
+static inline void absorb(uint64_t v[4], uint64_t word)
+{
+    v[3] ^= word;
+    rounds(v, 1);
+    v[0] ^= word;
+}
+
 /* SipHash-1-3, which hashes Python's own strings, by the key (seed, kind); and a mixture of its answer, of which the
  * fingerprint is (the last steps of MurmurHash3). */
 static void siphash(const char *at, size_t len, uint64_t seed, uint64_t kind, uint64_t out[2])
 {
     uint64_t v[4] = {0x736f6d6570736575u ^ seed, 0x646f72616e646f6du ^ kind, 0x6c7967656e657261u ^ seed,
                      0x7465646279746573u ^ kind};
-    for (size_t left = len;; left -= 8, at += 8) {
-        uint64_t word = (uint64_t)len << 56;
-        if (left >= 8)
-            memcpy(&word, at, 8);
-        for (size_t i = 0; left < 8 && i < left; i++)
-            word |= (uint64_t)(unsigned char)at[i] << 8 * i;
-        v[3] ^= word;
-        rounds(v, 1);
-        v[0] ^= word;
-        if (left < 8)
-            break;
-    }
+    for (size_t left = len; left >= 8; left -= 8, at += 8)
+        absorb(v, word_at(at));
+    absorb(v, (uint64_t)len << 56 | rest_of(at, len));
     v[2] ^= 0xff;
     rounds(v, 3);
     uint64_t mixed = out[0] = v[0] ^ v[1] ^ v[2] ^ v[3];
@@ -121,27 +141,36 @@ static int int_hash(PyObject *key, uint64_t seed, uint64_t out[2])
     return status;
 }
 
-int key_hash(PyObject *key, uint64_t mark, uint64_t seed, uint64_t out[2])
+/* A key of another type than str, int and bytes themselves: of a subclass, or what has __index__. */
+static int other_hash(PyObject *key, uint64_t seed, uint64_t out[2])
 {
-    int is_text = PyUnicode_Check(key), is_int = !is_text && PyLong_Check(key);
-    int is_bytes = !is_text && !is_int && PyBytes_Check(key);
-    if (mark == MARK_SIP && is_text)
+    if (PyUnicode_Check(key))
         return text_hash(key, seed, out);
-    if (mark == MARK_SIP && is_int)
-        return int_hash(key, seed, out);
-    if (mark == MARK_SIP && is_bytes)
+    if (PyBytes_Check(key))
         return bytes_hash(key, seed, BYTES, out);
-    if (!is_text && !is_bytes && !PyIndex_Check(key)) {
-        PyErr_Format(PyExc_TypeError, "a key is a str, bytes or an int, not %R", key);
-        return -1;
-    }
-    if (mark == MARK_BLAKE)
-        return blake_hash(key, seed, out);
     PyObject *whole = PyNumber_Index(key);
     int status = whole == NULL ? -1 : int_hash(whole, seed, out);
     Py_XDECREF(whole);
     return status;
 }
+
+int key_hash(PyObject *key, uint64_t mark, uint64_t seed, uint64_t out[2])
+{
+    if (LIKELY(mark == MARK_SIP)) {
+        if (Py_IS_TYPE(key, &PyUnicode_Type))
+            return text_hash(key, seed, out);
+        if (Py_IS_TYPE(key, &PyLong_Type))
+            return int_hash(key, seed, out);
+        if (Py_IS_TYPE(key, &PyBytes_Type))
+            return bytes_hash(key, seed, BYTES, out);
+    }
+    if (is_key(key))
+        return mark == MARK_SIP ? other_hash(key, seed, out) : blake_hash(key, seed, out);
+    PyErr_Format(PyExc_TypeError, "a key is a str, bytes or an int, not %R", key);
+    return -1;
+}
+
+int is_key(PyObject *key) { return PyUnicode_Check(key) || PyBytes_Check(key) || PyIndex_Check(key); }
 
 /* Of an array of whole numbers, without the GIL. */
 static uint64_t *array_hash(PyObject *keys, uint64_t seed, size_t *count)

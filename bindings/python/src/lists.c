@@ -52,8 +52,7 @@ PyObject *list_of(const uint64_t *items, size_t count, int is_none)
 {
     PyObject *made = PyList_New((Py_ssize_t)count);
     for (size_t i = 0; made != NULL && i < count; i++) {
-        PyObject *item =
-            is_none && items[i] == BITM_NO_ANSWER ? Py_NewRef(Py_None) : PyLong_FromUnsignedLongLong(items[i]);
+        PyObject *item = is_none && items[i] == BITM_NO_ANSWER ? Py_NewRef(Py_None) : boxed(items[i]);
         if (item == NULL || PyList_SetItem(made, (Py_ssize_t)i, item))
             Py_CLEAR(made);
     }

@@ -12,6 +12,7 @@ static PyMethodDef functions[] = {{"stored_load", stored_load, METH_O, NULL},
                                   {"over", parts_over, METH_VARARGS, NULL},
                                   {"sequence_window", sequence_window, METH_O, NULL},
                                   {"sequence_common", sequence_common, METH_VARARGS, NULL},
+                                  {"sequence_merged", sequence_merged, METH_VARARGS, NULL},
                                   {NULL, NULL, 0, NULL}};
 
 /* The name of what the processor lacks of x86-64-v2, for which the library is compiled; NULL where it has all. */
@@ -22,7 +23,8 @@ static const char *missing_feature(void)
     if (!__builtin_cpu_supports(name))                                                                                 \
         return name;
     HAS("popcnt")
-    HAS("sse3") HAS("ssse3") HAS("sse4.1") HAS("sse4.2")
+    HAS("sse3")
+    HAS("ssse3") HAS("sse4.1") HAS("sse4.2")
 #endif
         return NULL;
 }

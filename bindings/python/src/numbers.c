@@ -1,5 +1,6 @@
-/* bitm.EliasFano: many of its numbers: one after another, slices, comparison, intersection. */
+/* bitm.EliasFano: many of its numbers: one after another, slices, comparison. */
 #include "core.h"
+#include "sequence_docs.h"
 
 enum { ROOM = 256 };
 
@@ -46,35 +47,53 @@ static PyObject *numbers_next(PyObject *self)
         return NULL;
     size_t at = it->is_reversed ? it->count - 1 - it->at : it->at;
     it->at++;
-    return PyLong_FromUnsignedLongLong(it->room[at]);
+    return boxed(it->room[at]);
 }
 
-/* Moves on to the first number, of those that are left, that is at least a value. -1 and an error. */
-static int seek(Numbers *it, PyObject *query)
+/* Moves on in room, where the number that is sought lies there: 1; 0 where it lies further on. */
+static int seek_in_room(Numbers *it, uint64_t value)
 {
-    uint64_t value, out = 0;
-    if (number(query, "the value", &value))
-        return -1;
+    if (it->at == it->count)
+        return 0;
     if (it->is_reversed) {
-        PyErr_SetString(PyExc_ValueError, "it goes backwards");
-        return -1;
-    }
-    if (it->at < it->count && it->room[it->count - 1] >= value) {
+        if (it->room[0] > value)
+            return 0;
+        while (it->room[it->count - 1 - it->at] > value)
+            it->at++;
+    } else {
+        if (it->room[it->count - 1] < value)
+            return 0;
         while (it->room[it->at] < value)
             it->at++;
-        return 0;
     }
+    return 1;
+}
+
+/* Moves on to the first number, of those that are left, that is at least a value; backwards, at most. -1 and an error.
+ */
+static int seek(Numbers *it, PyObject *query)
+{
+    uint64_t value, at = 0;
+    if (number(query, "the value", &value))
+        return -1;
+    if (seek_in_room(it, value))
+        return 0;
     it->at = it->count = 0;
     Memory *memory = it->walk.source == NULL ? NULL : memory_of(it->walk.source);
     if (memory == NULL)
         return it->walk.source == NULL ? 0 : -1;
-    uint32_t status = bitm_sequence_first_at_least(&memory->sequence, value, &out);
+    uint32_t status =
+        (it->is_reversed ? bitm_sequence_last_at_most : bitm_sequence_first_at_least)(&memory->sequence, value, &at);
     if (status != BITM_OK && status != BITM_NONE) {
         (void)wrong();
         return -1;
     }
-    out = status == BITM_NONE ? it->stop : out;
-    it->from = out > it->from ? out : it->from;
+    if (status == BITM_NONE)
+        it->from = it->stop; /* none is left */
+    else if (it->is_reversed)
+        it->stop = at < it->stop ? at + 1 : it->stop;
+    else
+        it->from = at > it->from ? at : it->from;
     return 0;
 }
 
@@ -83,18 +102,23 @@ static PyObject *numbers_seek(PyObject *self, PyObject *value)
     return seek((Numbers *)self, value) ? NULL : Py_NewRef(self);
 }
 
-static PyObject *numbers_next_geq(PyObject *self, PyObject *value)
+static PyObject *next_beyond(PyObject *self, PyObject *value, int is_reversed)
 {
+    if (((Numbers *)self)->is_reversed != is_reversed) {
+        PyErr_SetString(PyExc_ValueError, is_reversed ? "it goes forwards" : "it goes backwards");
+        return NULL;
+    }
     PyObject *found = seek((Numbers *)self, value) ? NULL : numbers_next(self);
     return found != NULL || PyErr_Occurred() ? found : Py_NewRef(Py_None);
 }
 
+static PyObject *numbers_next_geq(PyObject *self, PyObject *value) { return next_beyond(self, value, 0); }
+static PyObject *numbers_next_leq(PyObject *self, PyObject *value) { return next_beyond(self, value, 1); }
+
 static PyMethodDef numbers_methods[] = {
-    METHOD("seek", numbers_seek, METH_O, "($self, value, /)",
-           "Moves on to the first number, of those that are left, that is at least value; returns itself."),
-    METHOD("next_geq", numbers_next_geq, METH_O, "($self, value, /)",
-           "The first number, of those that are left, that is at least value, or None. The next one "
-           "follows it."),
+    METHOD("seek", numbers_seek, METH_O, "($self, value, /)", NUMBERS_SEEK),
+    METHOD("next_geq", numbers_next_geq, METH_O, "($self, value, /)", NUMBERS_NEXT_GEQ),
+    METHOD("next_leq", numbers_next_leq, METH_O, "($self, value, /)", NUMBERS_NEXT_LEQ),
     {NULL, NULL, 0, NULL}};
 static PyType_Slot numbers_slots[] = {
     {Py_tp_iternext, numbers_next}, {Py_tp_methods, numbers_methods}, WALK_SLOTS, {0, NULL}};
@@ -116,10 +140,15 @@ PyObject *numbers_new(PyObject *sequence, uint64_t from, uint64_t stop, int is_r
     return (PyObject *)it;
 }
 
-PyObject *numbers_from(PyObject *sequence, PyObject *value)
+PyObject *numbers_from(PyObject *sequence, PyObject *const *args, Py_ssize_t count, PyObject *keywords)
 {
-    PyObject *made = numbers_new(sequence, 0, UINT64_MAX, 0);
-    if (made != NULL && seek((Numbers *)made, value))
+    static const char *const names[] = {"value", "*reverse"};
+    PyObject *given[2];
+    if (pick("from_value", names, 1, 2, args, count, keywords, given))
+        return NULL;
+    int is_reversed = given[1] == NULL ? 0 : PyObject_IsTrue(given[1]);
+    PyObject *made = is_reversed < 0 ? NULL : numbers_new(sequence, 0, UINT64_MAX, is_reversed);
+    if (made != NULL && seek((Numbers *)made, given[0]))
         Py_CLEAR(made);
     return made;
 }
@@ -181,7 +210,7 @@ PyObject *numbers_compare(PyObject *self, PyObject *other, int how)
 
 /* ---- what bitm/_more.py asks */
 
-static int is_sequence(PyObject *self)
+int is_sequence(PyObject *self)
 {
     if (!PyObject_TypeCheck(self, Sequence_Type))
         PyErr_Format(PyExc_TypeError, "an EliasFano is needed, not %R", Py_TYPE(self));
@@ -210,77 +239,4 @@ PyObject *sequence_window(PyObject *module, PyObject *self)
     }
     DROP(it);
     return window;
-}
-
-/* ---- intersection: the numbers of the shortest sequence, block by block, as far as each other one contains them */
-
-enum { BLOCK = 1024 };
-
-/* Keeps those of count numbers that a sequence contains: how many, or SIZE_MAX where its parts are wrong. */
-static size_t keep_contained(const Memory *it, uint64_t *block, size_t count)
-{
-    uint64_t is_in[BLOCK];
-    struct bitm_list_counts counts;
-    size_t kept = 0;
-    if (bitm_sequence_contains_list(&it->sequence, block, count, is_in, count, &counts) != BITM_OK || counts.wrong ||
-        counts.missing)
-        return SIZE_MAX;
-    for (size_t i = 0; i < count; i++)
-        if (is_in[i])
-            block[kept++] = block[i];
-    return kept;
-}
-
-/* Into out, which has room for the numbers of the first: how many, or SIZE_MAX. Needs no GIL. */
-static size_t common(Memory *const *all, size_t count, uint64_t *out)
-{
-    uint64_t block[BLOCK], found;
-    size_t made = 0;
-    for (uint64_t from = 0;; from += found) {
-        if (bitm_sequence_items(&all[0]->sequence, from, block, BLOCK, &found) != BITM_OK)
-            return SIZE_MAX;
-        size_t left = (size_t)found;
-        for (size_t i = 1; i < count && left != SIZE_MAX && left > 0; i++)
-            left = keep_contained(all[i], block, left);
-        if (left == SIZE_MAX)
-            return SIZE_MAX;
-        for (size_t i = 0; i < left && made < all[0]->sequence.len; i++)
-            if (made == 0 || out[made - 1] != block[i])
-                out[made++] = block[i];
-        if (found < BLOCK)
-            return made;
-    }
-}
-
-PyObject *sequence_common(PyObject *module, PyObject *args)
-{
-    size_t count = 0, wanted = (size_t)PyTuple_Size(args), made = SIZE_MAX;
-    Memory **all = calloc(wanted + 1, sizeof *all);
-    uint64_t *out = NULL;
-    PyObject *window = NULL;
-    (void)module;
-    for (; all != NULL && count < wanted; count++) {
-        PyObject *it = PyTuple_GetItem(args, (Py_ssize_t)count);
-        if (!is_sequence(it) || (all[count] = memory_kept(it)) == NULL)
-            break;
-        if (all[count]->sequence.len < all[0]->sequence.len) {
-            Memory *first = all[0];
-            all[0] = all[count];
-            all[count] = first;
-        }
-    }
-    if (count == wanted && count > 0 && (out = room_for(all[0]->sequence.len)) != NULL) {
-        Py_BEGIN_ALLOW_THREADS
-        made = common(all, count, out);
-        Py_END_ALLOW_THREADS
-        uint64_t *room;
-        window = made == SIZE_MAX ? wrong() : window_new(made, &room);
-        if (window != NULL)
-            memcpy(room, out, 8 * made);
-    }
-    for (size_t i = 0; i < count; i++)
-        DROP(all[i]);
-    free(out);
-    free(all);
-    return window != NULL || PyErr_Occurred() ? window : PyErr_NoMemory();
 }

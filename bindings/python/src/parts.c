@@ -75,7 +75,7 @@ PyObject *parts_of(PyObject *module, PyObject *self)
     PyObject *numbers = PyTuple_New(layout.numbers_count),
              *windows = numbers == NULL ? NULL : PyTuple_New(layout.parts_count);
     for (int i = 0; windows != NULL && i < layout.numbers_count; i++) {
-        PyObject *item = PyLong_FromUnsignedLongLong(*layout.numbers[i]);
+        PyObject *item = boxed(*layout.numbers[i]);
         if (item == NULL || PyTuple_SetItem(numbers, i, item))
             Py_CLEAR(windows);
     }

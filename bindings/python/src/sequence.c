@@ -1,5 +1,6 @@
 /* bitm.EliasFano: a monotone integer sequence. */
 #include "core.h"
+#include "sequence_docs.h"
 
 /* ---- made */
 
@@ -111,28 +112,28 @@ static PyObject *sequence_rank(PyObject *self, PyObject *query)
     return it == NULL ? NULL : PyLong_FromSize_t(it->sequence.len);
 }
 
-static PyObject *sequence_item(PyObject *self, Py_ssize_t index)
+static inline PyObject *item_of(PyObject *self, Py_ssize_t index, int from_end)
 {
     Memory *it = memory_of(self);
     uint64_t out = 0;
     if (it == NULL)
         return NULL;
-    uint32_t status = bitm_sequence_get(&it->sequence, (uint64_t)index, &out);
-    if (status == BITM_OK)
-        return PyLong_FromUnsignedLongLong(out);
-    return status == BITM_NONE && inside(index, it->sequence.len, "numbers", &out) ? NULL : wrong();
+    uint64_t at = from_end ? from_front(index, it->sequence.len) : (uint64_t)index;
+    uint32_t status = bitm_sequence_get(&it->sequence, at, &out);
+    if (LIKELY(status == BITM_OK))
+        return boxed(out);
+    return status == BITM_NONE ? outside(index, it->sequence.len, "numbers") : wrong();
 }
+
+/* An index that sq_item is given counts from the front already. */
+static PyObject *sequence_item(PyObject *self, Py_ssize_t index) { return item_of(self, index, 0); }
 
 static PyObject *sequence_subscript(PyObject *self, PyObject *key)
 {
-    uint64_t index;
+    Py_ssize_t index;
     if (PySlice_Check(key))
         return sequence_slice(self, key);
-    Py_ssize_t given = PyNumber_AsSsize_t(key, PyExc_IndexError);
-    Memory *it = given == -1 && PyErr_Occurred() ? NULL : memory_of(self);
-    if (it == NULL || inside(given, it->sequence.len, "numbers", &index))
-        return NULL;
-    return sequence_item(self, (Py_ssize_t)index);
+    return index_of(key, &index) ? NULL : item_of(self, index, 1);
 }
 
 /* What equals a whole number of 64 bits: 1 and the number, 0 where it cannot be one, -1 and an error. */
@@ -193,14 +194,14 @@ static PyObject *sequence_index(PyObject *self, PyObject *value)
     int found = standing(self, value, &first, &last);
     if (found == 0)
         PyErr_Format(PyExc_ValueError, "%R is not in the sequence", value);
-    return found == 1 ? PyLong_FromUnsignedLongLong(first) : NULL;
+    return found == 1 ? boxed(first) : NULL;
 }
 
 static PyObject *sequence_count(PyObject *self, PyObject *value)
 {
     uint64_t first = 0, last = 0;
     int found = standing(self, value, &first, &last);
-    return found < 0 ? NULL : PyLong_FromUnsignedLongLong(found ? last - first + 1 : 0);
+    return found < 0 ? NULL : boxed(found ? last - first + 1 : 0);
 }
 
 /* ---- lists */
@@ -304,32 +305,25 @@ static PyObject *sequence_repr(PyObject *self)
 #define PLAIN(name, function, arguments, text) METHOD(name, function, METH_O, arguments, text)
 #define NAMED(name, arguments, text) KEYWORDS(#name, sequence_##name, arguments, text)
 static PyMethodDef methods[] = {
-    PLAIN("first_at_least", first_at_least, "($self, value, /)",
-          "Successor: the least index whose number is at least value, or None."),
-    PLAIN("last_at_most", last_at_most, "($self, value, /)",
-          "Predecessor: the greatest index whose number is at most value, or None."),
-    PLAIN("rank", sequence_rank, "($self, value, /)", "How many numbers are less than value."),
-    NAMED(get_list, "($self, queries)", "The numbers at many indexes: an array for an array of NumPy, else a list."),
-    NAMED(first_at_least_list, "($self, queries, *, missing=None)",
-          "Successors of many values; missing as in Index.select_list."),
-    NAMED(last_at_most_list, "($self, queries, *, missing=None)",
-          "Predecessors of many values; missing as in Index.select_list."),
-    NAMED(contains_list, "($self, queries)", "Whether each of many values is in the sequence: bools."),
-    NAMED(items, "($self, start=0, stop=None, *, reverse=False)", "The numbers in a range of indexes, rising or falling."),
-    PLAIN("from_value", numbers_from, "($self, value, /)", "The numbers from the first that is at least value on."),
-    PLAIN("index", sequence_index, "($self, value, /)",
-          "The first index of a number; ValueError where it is not in the sequence."),
-    PLAIN("count", sequence_count, "($self, value, /)", "How often a number is in the sequence."),
-    METHOD("check", sequence_check, METH_NOARGS, "($self, /)",
-           "Whether the parts are those of some sequence. Goes over all of them."),
+    PLAIN("first_at_least", first_at_least, "($self, value, /)", SEQUENCE_FIRST_AT_LEAST),
+    PLAIN("last_at_most", last_at_most, "($self, value, /)", SEQUENCE_LAST_AT_MOST),
+    PLAIN("rank", sequence_rank, "($self, value, /)", SEQUENCE_RANK),
+    NAMED(get_list, "($self, queries)", SEQUENCE_GET_LIST),
+    NAMED(first_at_least_list, "($self, queries, *, missing=None)", SEQUENCE_FIRST_AT_LEAST_LIST),
+    NAMED(last_at_most_list, "($self, queries, *, missing=None)", SEQUENCE_LAST_AT_MOST_LIST),
+    NAMED(contains_list, "($self, queries)", SEQUENCE_CONTAINS_LIST),
+    NAMED(items, "($self, start=0, stop=None, *, reverse=False)", SEQUENCE_ITEMS),
+    KEYWORDS("from_value", numbers_from, "($self, value, *, reverse=False)", SEQUENCE_FROM_VALUE),
+    PLAIN("index", sequence_index, "($self, value, /)", SEQUENCE_INDEX),
+    PLAIN("count", sequence_count, "($self, value, /)", SEQUENCE_COUNT),
+    METHOD("check", sequence_check, METH_NOARGS, "($self, /)", SEQUENCE_CHECK),
     {"__reversed__", sequence_reversed, METH_NOARGS, NULL},
     VALUE_METHODS,
     {NULL, NULL, 0, NULL}};
 
 static PyGetSetDef attributes[] = {VALUE_CLOSED, {NULL, NULL, NULL, NULL, NULL}};
 
-static PyType_Slot slots[] = {{Py_tp_doc, DOC("EliasFano(numbers)\n--\n\nA monotone sequence of numbers below 2**64 "
-                                              "(equal ones may follow each other), by Elias-Fano.")},
+static PyType_Slot slots[] = {{Py_tp_doc, DOC(SEQUENCE_DOC)},
                               {Py_tp_init, sequence_init},
                               {Py_tp_methods, methods},
                               {Py_tp_getset, attributes},

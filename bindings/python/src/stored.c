@@ -66,7 +66,7 @@ static PyObject *header_of(uint32_t status, const struct bitm_stored *header)
                                      &header->starts, &header->starts0, &header->samples, &header->samples0};
     PyObject *begins = PyTuple_New(8);
     for (int i = 0; begins != NULL && i < 8; i++) {
-        PyObject *item = PyLong_FromUnsignedLongLong(all[i]->at);
+        PyObject *item = boxed(all[i]->at);
         if (item == NULL || PyTuple_SetItem(begins, i, item))
             Py_CLEAR(begins);
     }

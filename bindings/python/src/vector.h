@@ -37,10 +37,11 @@ int vector_resize(Vector *it, uint64_t len);
 int vector_take(Vector *it, Vector *other);
 int vector_is_used(const Vector *it);
 
-/* vector_make.c */
+/* vector_make.c, vector_list.c */
 PyObject *vector_from_bits(PyObject *type, PyObject *from);
-PyObject *vector_from_indices(PyObject *type, ARGUMENTS);
 PyObject *vector_from_words(PyObject *type, ARGUMENTS);
+PyObject *vector_from_indices(PyObject *type, ARGUMENTS);
+PyObject *vector_set_list(PyObject *self, ARGUMENTS);
 
 /* vector_query.c */
 int range_of(Vector *it, const char *name, int skip, ARGUMENTS, int *bit, uint64_t range[2]);

@@ -85,18 +85,19 @@ int vector_assign(PyObject *self, PyObject *key, PyObject *value)
 {
     static const Bits nothing;
     Vector *it = (Vector *)self;
-    uint64_t position;
+    Py_ssize_t index;
     if (PySlice_Check(key))
         return assign_slice(it, key, value);
-    Py_ssize_t index = PyNumber_AsSsize_t(key, PyExc_IndexError);
-    if (index == -1 && PyErr_Occurred())
+    int bit = index_of(key, &index) ? -1 : value == NULL ? 0 : bit_of(value);
+    if (bit < 0)
         return -1;
-    int bit = value == NULL ? 0 : bit_of(value);
-    if (bit < 0 || inside(index, it->bits.len, "bits", &position))
-        return -1;
-    if (value == NULL)
+    uint64_t position = from_front(index, it->bits.len);
+    if (value == NULL && position < it->bits.len)
         return splice(it, position, position + 1, &nothing);
-    return bitm_bits_set(WRITTEN(it), position, bit) == BITM_OK ? 0 : -1;
+    if (LIKELY(value != NULL && bitm_bits_set(WRITTEN(it), position, bit) == BITM_OK))
+        return 0;
+    (void)outside(index, it->bits.len, "bits");
+    return -1;
 }
 
 /* ---- growth */

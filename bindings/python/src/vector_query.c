@@ -33,7 +33,7 @@ PyObject *vector_count(PyObject *self, ARGUMENTS)
         return NULL;
     if (bitm_bits_count_range(BITS(it->bits), bit, range[0], range[1], &out) != BITM_OK)
         return range_outside(it, range);
-    return PyLong_FromUnsignedLongLong(out);
+    return boxed(out);
 }
 
 typedef uint32_t (*nearest)(const uint64_t *, size_t, uint64_t, bool, uint64_t, uint64_t *);
@@ -73,7 +73,7 @@ PyObject *vector_find(PyObject *self, ARGUMENTS)
 {
     uint64_t out = 0;
     int found = find_in(self, "find", args, count, keywords, &out);
-    return found < 0 ? NULL : found ? PyLong_FromUnsignedLongLong(out) : PyLong_FromLong(-1);
+    return found < 0 ? NULL : found ? boxed(out) : PyLong_FromLong(-1);
 }
 
 PyObject *vector_index(PyObject *self, ARGUMENTS)
@@ -82,7 +82,7 @@ PyObject *vector_index(PyObject *self, ARGUMENTS)
     int found = find_in(self, "index", args, count, keywords, &out);
     if (found == 0)
         PyErr_SetString(PyExc_ValueError, "there is no such bit");
-    return found > 0 ? PyLong_FromUnsignedLongLong(out) : NULL;
+    return found > 0 ? boxed(out) : NULL;
 }
 
 PyObject *vector_any(PyObject *self, PyObject *none)
@@ -136,7 +136,7 @@ PyObject *vector_get_bits(PyObject *self, ARGUMENTS)
         return NULL;
     if (bitm_bits_get_number(BITS(it->bits), found[0], (uint32_t)found[1], &out) != BITM_OK)
         return number_outside(it, "the number from position", found);
-    return PyLong_FromUnsignedLongLong(out);
+    return boxed(out);
 }
 
 PyObject *vector_set_bits(PyObject *self, ARGUMENTS)
@@ -160,7 +160,7 @@ PyObject *vector_get_fragment(PyObject *self, ARGUMENTS)
         return NULL;
     if (bitm_bits_get_fragment(BITS(it->bits), found[0], (uint32_t)found[1], &out) != BITM_OK)
         return number_outside(it, "the number at index", found);
-    return PyLong_FromUnsignedLongLong(out);
+    return boxed(out);
 }
 
 PyObject *vector_set_fragment(PyObject *self, ARGUMENTS)

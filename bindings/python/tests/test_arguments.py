@@ -32,7 +32,7 @@ def single():
 def lists():
     index, sequence, _ = values()
     return [index.rank_list, index.rank0_list, index.select_list, index.select0_list, sequence.get_list,
-            sequence.first_at_least_list, sequence.last_at_most_list, EliasFano, BitVector.from_indices]
+            sequence.first_at_least_list, sequence.last_at_most_list, EliasFano, BitVector.from_indices, values()[2].set_list]
 
 
 @pytest.mark.parametrize("bad, error", [(-1, OverflowError), (2**64, OverflowError), (-(2**70), OverflowError), (1.0, TypeError),
@@ -42,7 +42,7 @@ def test_numbers(bad, error):
         for it in (bad, Number(bad)) if isinstance(bad, int) else (bad,):
             with pytest.raises(error):
                 call(it)
-    for call in single() + [lambda it, f=f: list(f([it])) for f in lists()]:
+    for call in single() + [lambda it, f=f: f([it]) for f in lists()]:
         for good in (3, Number(3), True):
             call(good)
 
@@ -105,8 +105,6 @@ def test_places():
     with pytest.raises(ValueError):
         EliasFano([1, 2]).index(3)
     assert EliasFano([1, 2, 2]).index(2) == 1 and list(sequence.items(1, 3)) == [3, 5] and list(sequence.items(1, reverse=True)) == [7, 5, 3]
-    with pytest.raises(ValueError):
-        sequence.items(reverse=True).seek(3)
     with pytest.raises(OverflowError):
         vector.set_bits(0, 3, 8)
     with pytest.raises(TypeError):

@@ -115,6 +115,21 @@ for call, want in ((copy.copy, None), (lambda h: h.get_list([1, 2]) != [], True)
 gc.set_threshold(700); print(closed + right == 26 * 11, closed > 0)
 """, ["True True"])
 
+    def test_parts_that_their_owner_resizes(self):
+        self.run_program("""
+made = bitm.EliasFano(range(0, 300000, 3)); width, *parts = made.parts
+parts = [array.array("Q", it) for it in parts]
+sequence = bitm.EliasFano.over(100000, width, *parts)
+words = array.array("Q", b"\\xff" * 800); upper, lower, _ = bitm.tables_of(words); index = bitm.Index.over(words, upper, lower)
+refused = 0
+for it in (*parts, words, upper, lower):
+    for cut in (lambda: it.append(1), lambda: it.pop(), lambda: it.extend([1] * 10**6)):
+        try: cut()
+        except BufferError: refused += 1
+print(refused, sequence == made, index.select(6399))
+sequence.close(); index.close(); parts[0].pop(); words.append(1); print("given back")
+""", ["21 True 6399", "given back"])
+
     # 2. close while a save runs
 
     def test_path_that_closes(self):

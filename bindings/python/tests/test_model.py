@@ -2,7 +2,6 @@
 import array
 import bisect
 import copy
-import doctest
 import io
 import os
 import pickle
@@ -305,14 +304,6 @@ def test_bits_are_no_numbers():
         for call in (index.rank_list, index.select_list, sequence.get_list, sequence.contains_list, bitm.EliasFano, bitm.BitVector.from_indices):
             with pytest.raises(TypeError, match="ones"):
                 call(bits)
-
-
-def test_documentation():
-    assert doctest.testmod(bitm).failed == 0
-    for kind in (bitm.BitVector, bitm.Index, bitm.EliasFano, bitm.PerfectHash):
-        for name in dir(kind):
-            if not name.startswith("_"):
-                assert getattr(kind, name).__doc__, (kind, name)
 
 
 def test_array_of_words_is_read_where_it_lies():

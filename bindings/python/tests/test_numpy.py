@@ -41,12 +41,15 @@ def test_each_kind_of_whole_numbers(kind):
                     call(bad)
     assert list(BitVector.from_indices(asked).ones()) == [0, 5, 7, 100, 120]
     assert list(EliasFano(numpy.sort(asked))) == sorted(asked.tolist())
+    vector = BitVector.from_bits("1" * 130)
+    vector.set_list(asked[::2], 0)
+    assert list(vector.zeros()) == [0, 5, 7]
 
 
 def test_other_kinds_are_type_errors():
     for bad in (numpy.array([1.0]), numpy.array([True]), numpy.array(["1"]), numpy.ones((2, 2), "u8"), numpy.array(5), numpy.zeros(1, "u8,u8"),
                 numpy.array([1], dtype="M8[s]"), numpy.array([1j])):
-        for call in calls() + [EliasFano, BitVector.from_indices]:
+        for call in calls() + [EliasFano, BitVector.from_indices, BitVector(200).set_list]:
             with pytest.raises((TypeError, ValueError)):
                 call(bad)
     for bad in (numpy.array([1, 2]), numpy.array([1.0]), numpy.ones((2, 2), "u8"), numpy.arange(8, dtype="u8")[::2], numpy.array([1], ">u8")):

@@ -12,7 +12,8 @@ from fractions import Fraction
 
 import pytest
 
-from bitm import BitVector, EliasFano, Index, PerfectHash
+import bitm
+from bitm import BitVector, EliasFano, Index, PerfectHash, WrongTables
 
 
 def values():
@@ -129,29 +130,56 @@ def test_walks_over_sequences():
             assert walk.next_geq(value) == (left[0] if left else None)
             left = left[1:]
         assert list(walk) == left
-    with pytest.raises(ValueError):
-        sequence.items(reverse=True).seek(3)
-    for kind in (OverflowError, TypeError):
-        with pytest.raises(kind):
-            iter(sequence).next_geq(-1 if kind is OverflowError else 1.5)
+        walk, left = sequence.from_value(4 * count, reverse=True), [it for it in numbers if it <= 4 * count][::-1]
+        for value in sorted((random.randrange(5 * count + 1) for _ in range(40)), reverse=True):
+            left = [it for it in left if it <= value]
+            assert walk.next_leq(value) == (left[0] if left else None)
+            left = left[1:]
+        assert list(walk) == left
+        assert list(reversed(sequence).seek(2 * count)) == [it for it in numbers if it <= 2 * count][::-1]
+        for value in (0, 3, count, 2**64 - 1):
+            assert list(sequence.from_value(value, reverse=True)) == [it for it in numbers if it <= value][::-1]
+            assert list(sequence.items(2, 300).seek(value)) == [it for it in numbers[2:300] if it >= value]
+            assert list(sequence.items(2, 300, reverse=True).seek(value)) == [it for it in numbers[2:300] if it <= value][::-1]
+    for walk, other in ((reversed(sequence), "next_geq"), (iter(sequence), "next_leq")):
+        with pytest.raises(ValueError):
+            getattr(walk, other)(3)
+        for bad, error in ((-1, OverflowError), (2**64, OverflowError), (1.5, TypeError)):
+            with pytest.raises(error):
+                walk.seek(bad)
+    most = EliasFano([0, 2**64 - 1, 2**64 - 1])
+    assert most.from_value(0, reverse=True).next_leq(2**64 - 1) == 0 and list(reversed(most).seek(2**64 - 1)) == [2**64 - 1, 2**64 - 1, 0]
 
 
-def test_intersections():
+def test_intersections_and_unions():
     random.seed(9)
-    for _ in range(60):
-        count = random.randrange(1, 5)
+    for count in [1, 2, 3, 4, 5, 6, 7, 8, 9] * 7:
         lists = [sorted(random.randrange(400) for _ in range(random.choice([0, 1, 50, 3000]))) for _ in range(count)]
         first, *others = map(EliasFano, lists)
-        made = first.intersection(*others)
-        assert type(made) is EliasFano and list(made) == sorted(set.intersection(*map(set, lists)))
-    assert list(EliasFano([2**64 - 1]).intersection(EliasFano([5, 2**64 - 1]))) == [2**64 - 1]
-    with pytest.raises(TypeError):
-        first.intersection([1])
+        for made, call in ((first.intersection(*others), set.intersection), (first.union(*others), set.union)):
+            assert type(made) is EliasFano and list(made) == sorted(call(*map(set, lists)))
+    most = EliasFano([5, 2**64 - 1])
+    assert list(EliasFano([2**64 - 1]).intersection(most)) == [2**64 - 1] and list(EliasFano([2**64 - 1, 2**64 - 1]).union(most)) == [5, 2**64 - 1]
+    assert list(most.union(*[most] * 100)) == [5, 2**64 - 1] == list(most.intersection(*[most] * 100))
     closed = EliasFano([1])
     closed.close()
-    for call in (lambda: first.intersection(closed), lambda: closed.intersection(first)):
-        with pytest.raises(ValueError):
-            call()
+    for call in (EliasFano.intersection, EliasFano.union):
+        with pytest.raises(TypeError):
+            call(first, [1])
+        for one, other in ((first, closed), (closed, first)):
+            with pytest.raises(ValueError):
+                call(one, other)
+
+
+def test_sequences_of_wrong_parts_have_no_union_and_no_intersection():
+    width, low, words, upper, lower = EliasFano(1000 * (at // 8) + at % 8 for at in range(256)).parts
+    falling = bytearray(low)
+    falling[0] |= 7  # of 0, which 1 follows
+    wrong = EliasFano.over(256, width, falling, words, upper, lower)
+    assert width >= 3 and not wrong.check()
+    for call in (wrong.union, wrong.intersection):
+        with pytest.raises(WrongTables):
+            call(wrong)
 
 
 def test_numbers_of_other_types_in_a_sequence():
@@ -209,3 +237,78 @@ def test_fingerprints_let_as_many_others_pass_as_their_bits_say():
         made = PerfectHash([f"key {at}" for at in range(3000)], bits=bits)
         passed = sum(it is not None for it in made.get_list([f"other {at}" for at in range(20000)]))
         assert 0.7 < passed * 2**bits / 20000 < 1.3 or (bits == 0 and passed > 10000)
+
+
+def test_bits_at_many_positions():
+    bits = [0] * 100
+    vector = BitVector(100)
+    for positions, bit in (([3, 99, 3, 0], 1), (range(2, 50, 5), True), ([3, 4], 0), (b"\x07\x09", 1), ([], 0)):
+        vector.set_list(positions, bit)
+        for at in positions:
+            bits[at] = bit
+        assert list(vector) == bits
+    for bad, error in (([1, 100], IndexError), ([1, -1], OverflowError), ([1, 2**64], OverflowError), ([1, 1.5], TypeError), ([1, "2"], TypeError), (vector, TypeError), (5, TypeError)):
+        with pytest.raises(error):
+            vector.set_list(bad)
+        assert list(vector) == bits  # none is set
+    for bad in (2, "1", None):
+        with pytest.raises(ValueError):
+            vector.set_list([1], bad)
+    many = list(range(5000)) + [5000]
+    large = BitVector(5000)
+    with pytest.raises(IndexError, match="5000 of 5000"):
+        large.set_list(many)
+    assert not large.any()
+    large.set_list(many[:-1])
+    assert large.all()
+
+
+def test_positions_that_lie_in_the_words_themselves():
+    for kind in (lambda it: memoryview(it), lambda it: it.words, lambda it: memoryview(it).cast("B")):
+        vector = BitVector.from_words(b"".join(it.to_bytes(8, "little") for it in [*range(64, 3000)]))
+        before = list(kind(vector))
+        wanted = set(vector.ones()) | set(before)
+        vector.set_list(kind(vector))
+        assert set(vector.ones()) == wanted
+
+
+def test_a_vector_that_its_own_positions_cut():
+    vector = BitVector(100)
+
+    class Cut:
+        def __index__(self):
+            vector.clear()
+            return 3
+
+    with pytest.raises(IndexError):
+        vector.set_list([Cut()])
+
+
+def test_seeds(monkeypatch):
+    keys = [f"key {at}" for at in range(1000)]
+    by = {seed: PerfectHash(keys, seed=seed, bits=3) for seed in (None, 0, 1, 2**64 - 1)}
+    assert {seed: it.seed for seed, it in by.items()} == {None: 0, 0: 0, 1: 1, 2**64 - 1: 2**64 - 1}
+    answers = {seed: it.get_list(keys) for seed, it in by.items()}
+    assert answers[None] == answers[0] and all(answers[0] != answers[it] for it in (1, 2**64 - 1))
+    assert (by[1].bits, by[1].hash, PerfectHash([], hash="blake2b").hash) == (3, "siphash", "blake2b")
+    for again in (pickle.loads(pickle.dumps(by[1], 5)), copy.copy(by[1])):
+        assert (again.seed, again.bits, again.hash, again.get_list(keys)) == (1, 3, "siphash", answers[1])
+    for seed, error in ((-1, OverflowError), (2**64, OverflowError), (0.5, TypeError)):
+        with pytest.raises(error):
+            PerfectHash(keys, seed=seed)
+    for seed in (None, 0):
+        for equal in (["a", "a"], iter(["a", "a"])):
+            with pytest.raises(ValueError, match="equal"):
+                PerfectHash(equal, seed=seed)
+    # Keys whose hashes are equal by the seed 0, which nobody can name for SipHash.
+    right = bitm._more.blake
+    monkeypatch.setattr("bitm._more.blake", lambda key, seed: right(key, seed) if seed else (5, 5))
+    made = PerfectHash(keys, hash="blake2b")
+    assert made.seed == 1 and sorted(map(made.get, keys)) == list(range(1000))
+    for refused in (lambda: PerfectHash(keys, hash="blake2b", seed=0), lambda: PerfectHash(iter(keys), hash="blake2b")):
+        with pytest.raises(ValueError, match="another seed"):
+            refused()
+    made.close()
+    for name in ("seed", "bits", "hash"):
+        with pytest.raises(ValueError):
+            getattr(made, name)

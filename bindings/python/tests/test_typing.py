@@ -1,7 +1,9 @@
 """The stubs: every name is there, mypy --strict passes, and no user's line is of an unknown type."""
 import inspect
+import json
 import pathlib
 import re
+import shutil
 import subprocess
 import sys
 
@@ -16,10 +18,11 @@ index, sequence, numbers = bitm.Index(bits), bitm.EliasFano([1, 2]), bitm.Perfec
 array = numpy.array([1, 2], dtype=numpy.int64)
 """
 EXPRESSIONS = """bits[1]; bits[1:]; bits & bits; ~bits; bits << 1; list(bits.ones()); bits.next_one(1); bits.to_numpy(); bits.words; bits.copy()
+bits.set_list([1]); bits.set_list(array, 0); sequence.union(sequence); sequence.items(reverse=True).next_leq(3); numbers.seed; numbers.bits; numbers.hash
 index.rank(3); index.select(3); index.rank_list([1]); index.rank_list(array); index.select_list(range(3)); index.select_list(array); index[1:3]
 index.select_list(array, missing="error"); index.select_list(array, missing=7); index.select_list([1], missing=7); index.to_numpy(); index.words
 sequence[0]; sequence[:1]; list(sequence); iter(sequence).next_geq(3); sequence.intersection(sequence); sequence.get_list(array); sequence.parts
-sequence.contains_list(array); sequence.contains_list([1]); sequence.to_numpy(); sequence.first_at_least_list({1}); sequence.from_value(3)
+sequence.contains_list(array); sequence.contains_list([1]); sequence.to_numpy(); sequence.first_at_least_list({1}); sequence.from_value(3, reverse=True)
 numbers["a"]; numbers.get("b"); numbers.get("b", "x"); numbers.get_list(["a"]); numbers.get_list(array); numbers.get_list(iter(["a"]), missing=5)
 bitm.load("x"); bitm.load("x").check(); bitm.loads(b""); bitm.tables_of(b""); bitm.Index(b"").over(b"", b"", b"")""".replace("\n", "; ").split("; ")
 
@@ -49,6 +52,17 @@ def test_no_type_of_a_user_is_unknown(tmp_path):
     assert len(types) == len(EXPRESSIONS) and "error" not in shown, shown
     for expression, found in zip(EXPRESSIONS, types):
         assert "Any" not in re.sub(r"(ndarray|MaskedArray)\[Any,", r"\1[", found), (expression, found)
+
+
+def test_pyright_finds_nothing(tmp_path):
+    """pyright is no package of Debian: where it is not installed, this is skipped by its name."""
+    if shutil.which("pyright") is None:
+        pytest.skip("pyright is not installed")
+    path = tmp_path / "lines.py"
+    path.write_text("# pyright: strict, reportUnusedExpression=false\n" + LINES + "".join(f"{it}\n" for it in EXPRESSIONS))
+    for files in ([str(path)], ["--verifytypes", "bitm", "--ignoreexternal"]):
+        done = subprocess.run(["pyright", "--outputjson", "--pythonpath", sys.executable, *files], capture_output=True, text=True)
+        assert json.loads(done.stdout)["summary"]["errorCount"] == 0, done.stdout
 
 
 def test_every_name_has_a_stub_and_a_text():

@@ -1,0 +1,64 @@
+/* What help() says of an EliasFano. Each text has an example, which a test runs after `from bitm import *`. */
+#ifndef BITM_SEQUENCE_DOCS_H
+#define BITM_SEQUENCE_DOCS_H
+
+#define SEQUENCE_DOC                                                                                                   \
+    "EliasFano(numbers)\n--\n\n"                                                                                       \
+    "Numbers from 0 to 2**64 - 1 that do not fall (equal ones may follow each other), in about log2(m / n) + 2 bits "  \
+    "each where n of them are below m. It has the calls of a tuple, and successors and predecessors.\n\n"              \
+    "The numbers may be a buffer of whole numbers of any width, or an iterable. ValueError where one is less than "    \
+    "the "                                                                                                             \
+    "one before it. A query of a closed sequence raises ValueError, and over parts that are not those of a sequence "  \
+    "(of a damaged file) WrongTables." EXAMPLE("primes = EliasFano([2, 3, 5, 7, 11, 13])")                             \
+        THEN("primes[4], primes[1:3], 7 in primes") PRINTS("(11, [3, 5], True)")
+
+#define SEQUENCE_FIRST_AT_LEAST                                                                                        \
+    "Successor: the least index whose number is at least value, or None. Costs two selections, and a read for each "   \
+    "binary digit of how many numbers share the high bits of value." EXAMPLE(                                          \
+        "EliasFano([2, 3, 5, 7, 11]).first_at_least(6)") PRINTS("3")
+#define SEQUENCE_LAST_AT_MOST                                                                                          \
+    "Predecessor: the greatest index whose number is at most value, or None. Costs as first_at_least." EXAMPLE(        \
+        "EliasFano([2, 3, 5, 7, 11]).last_at_most(6)") PRINTS("2")
+#define SEQUENCE_RANK                                                                                                  \
+    "How many numbers are less than value." EXAMPLE("EliasFano([2, 3, 5, 7, 11]).rank(100)") PRINTS("5")
+#define SEQUENCE_GET_LIST                                                                                              \
+    "The numbers at many indexes: an array of uint64 for an array of NumPy, else a list. IndexError where there is "   \
+    "none, OverflowError for an index below 0. Other threads run meanwhile." EXAMPLE(                                  \
+        "EliasFano([2, 3, 5, 7, 11]).get_list([4, 0])") PRINTS("[11, 2]")
+#define SEQUENCE_FIRST_AT_LEAST_LIST                                                                                   \
+    "The successors of many values; missing as in Index.select_list." EXAMPLE(                                         \
+        "EliasFano([2, 3, 5, 7, 11]).first_at_least_list([6, 12])") PRINTS("[3, None]")
+#define SEQUENCE_LAST_AT_MOST_LIST                                                                                     \
+    "The predecessors of many values; missing as in Index.select_list." EXAMPLE(                                       \
+        "EliasFano([2, 3, 5, 7, 11]).last_at_most_list([6, 1], missing=9)") PRINTS("[2, 9]")
+#define SEQUENCE_CONTAINS_LIST                                                                                         \
+    "Whether each of many values is in the sequence: an array of bools for an array of NumPy, else a list." EXAMPLE(   \
+        "EliasFano([2, 3, 5, 7, 11]).contains_list([6, 7])") PRINTS("[False, True]")
+#define SEQUENCE_ITEMS                                                                                                 \
+    "The numbers in a range of indexes, rising or falling: an iterator with seek and next_geq, or next_leq." EXAMPLE(  \
+        "list(EliasFano([2, 3, 5, 7, 11]).items(1, 4, reverse=True))") PRINTS("[7, 5, 3]")
+#define SEQUENCE_FROM_VALUE                                                                                            \
+    "The numbers from the first that is at least value on; or backwards from the last that is at most value. An "      \
+    "iterator with seek and next_geq, or next_leq." EXAMPLE("list(EliasFano([2, 3, 5, 7, 11]).from_value(4))")         \
+        PRINTS("[5, 7, 11]") EXAMPLE("list(EliasFano([2, 3, 5, 7, "                                                    \
+                                     "11]).from_value(4, reverse=True))") PRINTS("[3, 2]")
+#define SEQUENCE_INDEX                                                                                                 \
+    "The first index of a number; ValueError where it is not in the sequence." EXAMPLE(                                \
+        "EliasFano([2, 3, 5, 7, 11]).index(5)") PRINTS("2")
+#define SEQUENCE_COUNT "How often a number is in the sequence." EXAMPLE("EliasFano([2, 3, 3, 3]).count(3)") PRINTS("3")
+#define SEQUENCE_CHECK                                                                                                 \
+    "Whether the parts are those of some sequence. Goes over all of them." EXAMPLE("EliasFano([2, 3]).check()")        \
+        PRINTS("True")
+
+#define NUMBERS_SEEK                                                                                                   \
+    "Moves on to the first number, of those that are left, that is at least value, or backwards at most value; "       \
+    "returns itself." EXAMPLE("list(iter(EliasFano([2, 3, 5, 7, 11])).seek(6))") PRINTS("[7, 11]")
+#define NUMBERS_NEXT_GEQ                                                                                               \
+    "The first number, of those that are left, that is at least value, or None. The next one follows it. ValueError "  \
+    "backwards." EXAMPLE("walk = iter(EliasFano([2, 3, 5, 7, 11]))")                                                   \
+        THEN("walk.next_geq(4), walk.next_geq(4), walk.next_geq(12)") PRINTS("(5, 7, None)")
+#define NUMBERS_NEXT_LEQ                                                                                               \
+    "The same backwards: the first number, of those that are left, that is at most value, or None." EXAMPLE(           \
+        "walk = reversed(EliasFano([2, 3, 5, 7, 11]))") THEN("walk.next_leq(6), next(walk)") PRINTS("(5, 3)")
+
+#endif
