@@ -13,6 +13,7 @@ import os
 import subprocess
 import sys
 import tempfile
+import threading
 import time
 
 import bitm
@@ -100,9 +101,12 @@ def changes(rows, vector, some):
     rows.add("from_indices", "Python", len(positions), lambda: bitm.BitVector.from_indices(positions), lambda: positions)
     rows.whole("list(vector.ones())", "Python", len(positions), lambda: list(vector.ones()))
     rows.whole("vector[5:-5]", "Python", len(vector), lambda: [vector[5:-5].count()])
+    rows.add("set_list", "Python", len(positions), lambda: vector.copy().set_list(positions), lambda: positions)
     if numpy is not None:
         flags = vector.to_numpy()
         rows.add("from_bits of bools", "Python", len(flags), lambda: bitm.BitVector.from_bits(flags), lambda: [vector.count()])
+        rows.add("from_bits of bools", "packbits", len(flags), lambda: numpy.packbits(flags, bitorder="little"), lambda: [vector.count()])
+        rows.add("from_indices", "packbits", len(positions), lambda: packed(positions, len(flags)), lambda: positions)
     if bitarray is not None:
         bits = bitarray.bitarray(endian="little")
         bits.frombytes(vector.tobytes())
@@ -111,6 +115,30 @@ def changes(rows, vector, some):
         rows.item("vector[i]", "bitarray", bits, asked)
         rows.add("vector[i] = True", "bitarray", SINGLE, set_each(bits.copy()), lambda: asked)
         rows.whole("vector[5:-5]", "bitarray", len(vector), lambda: [bits[5:-5].count()])
+
+
+def packed(positions, length):
+    """The bits at positions by NumPy's own means."""
+    flags = numpy.zeros(length, dtype=bool)
+    flags[positions] = True
+    return numpy.packbits(flags, bitorder="little")
+
+
+def threads(rows, index, some):
+    """The time on the clock for a query, of one thread and of two that ask at once: half of it where they do not wait."""
+    queries = numpy.array([at % len(index) for at in some] * 8, dtype=numpy.uint64)
+    for count in (1, 2):
+        least = 1 << 62
+        for _ in range(rows.rounds):
+            all_of_them = [threading.Thread(target=index.rank_list, args=(queries,)) for _ in range(count)]
+            start = time.perf_counter_ns()
+            for it in all_of_them:
+                it.start()
+            for it in all_of_them:
+                it.join()
+            least = min(least, time.perf_counter_ns() - start)
+        name = "rank_list of two threads" if count == 2 else "rank_list of one thread"
+        print(f"{name},Python,{rows.log2},even,{least / count / len(queries):.2f},ns,{len(queries)}", flush=True)
 
 
 def sequences(rows, numbers, some):
@@ -177,6 +205,8 @@ def main(log2, rounds):
     rank_and_select(rows, index, some)
     if numpy is not None and "BITM_LIB" in os.environ:
         of_library(rows, index, some)
+    if numpy is not None:
+        threads(rows, index, some)
     vector = bitm.BitVector.from_words(words)
     changes(rows, vector, some)
     sequences(rows, list(vector.ones(0, min(len(vector), 1 << 21))), some)

@@ -36,7 +36,7 @@ ARCHIVE = archive(first("BITM_LIB", HERE / "lib/libbitm_c.a", TOP / "crates/bitm
 INCLUDE = first("BITM_INCLUDE", HERE / "include", TOP / "include")
 TAG = os.environ.get("BITM_TAG")
 FLAGS = os.environ.get("BITM_CFLAGS", "").split()
-COMPILED = ["-std=c11", "-O2", "-g0", "-Wall", "-Wextra", "-fvisibility=hidden", *(["-fno-stack-protector"] if TAG else []), *FLAGS]
+COMPILED = ["-std=c11", "-O2", "-g0", "-Wall", "-Wextra", "-fvisibility=hidden", "-fno-plt", *(["-fno-stack-protector"] if TAG else []), *FLAGS]
 LINKED = ["-Wl,--exclude-libs,ALL", *(it for it in FLAGS if it.startswith("-fsanitize"))]
 
 
