@@ -12,7 +12,7 @@ import struct
 import zlib
 from typing import Any, Callable, Dict, Iterable, Iterator, List, NamedTuple, Optional, Sequence, Tuple, Union
 
-from . import _more, _shard_lists
+from . import _files, _shard_lists
 from ._core import BitVector, EliasFano, Index, parts
 
 MANIFEST, FORMAT, VERSION = "shards.json", "bitm shards", 1
@@ -80,7 +80,7 @@ def build_shard(task: Tuple[str, str, Any, Optional[int], str]) -> Part:
 
 
 def _mapped(path: str) -> Index:
-    found = _more.load(path, mmap=True)
+    found = _files.load(path, mmap=True)
     if not isinstance(found, Index):
         raise ValueError(f"{path} has no index")
     return found
@@ -150,7 +150,7 @@ def _write(folder: str, shards: Sequence[Part]) -> None:
         if os.path.exists(beside):
             os.unlink(beside)
         raise
-    _more._sync_folder(os.fsencode(folder))
+    _files._sync_folder(os.fsencode(folder))
 
 
 # ---- the shards as one
