@@ -54,6 +54,14 @@ function installed() {
     return folder;
 }
 
+/** Runs Node where the repository is hidden by an empty folder, if a namespace of its own can be had. */
+function withoutRepository(cwd, args) {
+    const top = join(root, "../.."), run = { cwd, encoding: "utf8" };
+    if (!existsSync(join(top, "VERSION")) || spawnSync("unshare", ["-rm", "true"]).status !== 0) return execFileSync(process.execPath, args, run);
+    const hidden = `mount -t tmpfs none "$0" && [ ! -e "$0/VERSION" ] && exec "$@"`;
+    return execFileSync("unshare", ["-rm", "sh", "-c", hidden, top, process.execPath, ...args], run);
+}
+
 test("the lines of README.md, against the packed package", { skip: !has("npm") && "npm is not here" }, () => {
     const folder = installed();
     assert.deepEqual(readdirSync(join(folder, "node_modules/bitm")).sort(), ["LICENSE", "README.md", "package.json", "src", "types", "wasm"]);
@@ -66,7 +74,7 @@ test("the lines of README.md, against the packed package", { skip: !has("npm") &
         return `if (shown(${call}) !== shown(${value[1].replace(/^NaN$/, "NaN")})) throw new Error(${JSON.stringify(line)} + ": " + shown(${call})); else count++;`;
     });
     writeFileSync(join(folder, "readme.js"), `let count = 0; ${plain}\n${checked.join("\n")}\nconsole.log(count);`);
-    const got = Number(execFileSync(process.execPath, ["readme.js"], { cwd: folder, encoding: "utf8" }));
+    const got = Number(withoutRepository(folder, ["readme.js"]));
     assert.ok(got >= 20, `${got} lines of README.md were compared`);
 });
 
