@@ -22,7 +22,7 @@ const PRINT: u32 = 256;
 /// A perfect hash with a fingerprint of each key, by which it finds almost all values that are no keys.
 ///
 /// The fingerprint of a key stands at its number, as a fragment of `width` bits. A value that is no key is found only
-/// if its fingerprint is that of the key with its number: where hashes are as good as drawn, one in 2^`width` is.
+/// if its fingerprint is that of the key with its number: if hashes are as good as random, with probability 2^-`width`.
 #[derive(Drop)]
 pub struct Dictionary<H, I: Access = ArrayWithRank101111, P: Placing = Plain> {
     numbers: PerfectHash<H, I, P>,
