@@ -6,3 +6,5 @@ pub(crate) mod bits;
 pub(crate) mod index;
 #[rustfmt::skip]
 pub(crate) mod sequence;
+#[rustfmt::skip]
+pub(crate) mod shards;

@@ -9,6 +9,7 @@ pub(crate) mod memory;
 pub(crate) mod owned;
 pub(crate) mod reads;
 pub(crate) mod sequence;
+pub(crate) mod shards;
 pub(crate) mod stored;
 pub(crate) mod tables;
 pub(crate) mod view;

@@ -1,0 +1,181 @@
+//! Bits in shards: which shard holds a position or a rank, and shards of one process asked as one.
+use crate::errors::WrongTables;
+use crate::ffi::index::bitm_index;
+use crate::ffi::shards::*;
+use crate::sys::view::IndexView;
+use crate::sys::{query, NONE, OK};
+use alloc::vec;
+use alloc::vec::Vec;
+use core::marker::PhantomData;
+
+/// A shard, and a position in it or the rank of a bit there.
+#[derive(Clone, Copy, PartialEq, Eq, Debug)]
+pub struct Place {
+    /// The shard.
+    pub shard: usize,
+    /// The position, or the rank, in the shard.
+    pub within: u64,
+}
+
+/// How many bits, and how many 1 bits, there are before each shard: which shard holds a position, or the bit with a rank,
+/// is answered by these alone, wherever the shards lie.
+///
+/// The position of a bit is `bits_before()[place.shard]` and its position in the shard; the rank of a position likewise is
+/// `ones_before()[place.shard]` and the rank in the shard.
+///
+/// ```
+/// use bitm_proved::{Place, PrefixCounts};
+/// let counts = PrefixCounts::new(&[1000, 0, 700], &[480, 0, 351]).ok_or("2^64 bits or more")?;
+/// assert_eq!(counts.find(1005), Some(Place { shard: 2, within: 5 }));
+/// assert_eq!(counts.find_one(480), Some(Place { shard: 2, within: 0 }));
+/// assert_eq!((counts.find_zero(519), counts.find_one(831)), (Some(Place { shard: 0, within: 519 }), None));
+/// assert_eq!((counts.bits_before(), counts.ones_before()), (&[0, 1000, 1000, 1700][..], &[0, 480, 480, 831][..]));
+/// # Ok::<(), &str>(())
+/// ```
+#[derive(Clone, PartialEq, Eq, Debug)]
+pub struct PrefixCounts {
+    bits: Vec<u64>,
+    ones: Vec<u64>,
+}
+
+/// The sums of the numbers before each; `None` where that of all is 2^64 or more.
+fn sums(numbers: &[u64]) -> Option<Vec<u64>> {
+    let mut out = vec![0; numbers.len() + 1];
+    // SAFETY: a shared and a mutable slice.
+    let status = unsafe { bitm_prefix_sums(numbers.as_ptr(), numbers.len(), out.as_mut_ptr(), out.len()) };
+    (status == OK).then_some(out)
+}
+
+impl PrefixCounts {
+    /// Of the bits and the 1 bits of each shard; `None` where these are not as many, or are 2^64 or more together.
+    pub fn new(bits: &[u64], ones: &[u64]) -> Option<Self> {
+        let (bits, ones) = (sums(bits)?, sums(ones)?);
+        (bits.len() == ones.len()).then_some(PrefixCounts { bits, ones })
+    }
+
+    /// How many bits there are before each shard, and last in all.
+    pub fn bits_before(&self) -> &[u64] {
+        &self.bits
+    }
+
+    /// How many 1 bits there are before each shard, and last in all.
+    pub fn ones_before(&self) -> &[u64] {
+        &self.ones
+    }
+
+    fn raw(&self) -> bitm_prefixes {
+        bitm_prefixes {
+            bits: self.bits.as_ptr(),
+            bits_len: self.bits.len(),
+            ones: self.ones.as_ptr(),
+            ones_len: self.ones.len(),
+        }
+    }
+
+    fn place(&self, kind: u32, number: u64) -> Option<Place> {
+        let mut out = bitm_shard_place { shard: 0, within: 0 };
+        // SAFETY: the counts borrow two vectors, and there is room for one place.
+        match unsafe { bitm_shards_find(&self.raw(), kind, number, &mut out) } {
+            OK => Some(Place { shard: out.shard, within: out.within }),
+            NONE => None,
+            status => unreachable!("status {status} of counts that begin with 0 and are as many"),
+        }
+    }
+
+    /// The shard that holds a position of the joined bits; `None` past the end.
+    pub fn find(&self, position: u64) -> Option<Place> {
+        self.place(BITM_POSITIONS, position)
+    }
+
+    /// The shard that holds the 1 bit with a rank; `None` where there is none.
+    pub fn find_one(&self, rank: u64) -> Option<Place> {
+        self.place(BITM_ONES, rank)
+    }
+
+    /// The shard that holds the 0 bit with a rank; `None` where there is none. Over counts of more 1 bits than bits it may
+    /// name any shard.
+    pub fn find_zero(&self, rank: u64) -> Option<Place> {
+        self.place(BITM_ZEROS, rank)
+    }
+}
+
+/// Indexes of one process, one after the other, asked as one index of the joined bits.
+///
+/// ```
+/// use bitm_proved::{build_tables, IndexView, ShardedIndex};
+/// let (words, mut upper, mut lower) = ([0b1011_0110], [0], [0]);
+/// build_tables(&words, &mut upper, &mut lower);
+/// let shard = IndexView::new(&words, 6, &upper, &lower)?; // 0 1 1 0 1 1
+/// let bits = ShardedIndex::new(&[shard, shard])?;
+/// assert_eq!((bits.rank(9)?, bits.rank0(12)?, bits.rank(13)?), (Some(6), Some(4), None));
+/// assert_eq!((bits.select(4)?, bits.select0(3)?, bits.select(8)?), (Some(7), Some(9), None));
+/// # Ok::<(), bitm_proved::WrongTables>(())
+/// ```
+#[derive(Clone)]
+pub struct ShardedIndex<'a> {
+    shards: Vec<bitm_index>,
+    counts: PrefixCounts,
+    borrows: PhantomData<&'a [u64]>,
+}
+
+// SAFETY: the pointers are those of shared slices, and no call has state.
+unsafe impl Send for ShardedIndex<'_> {}
+// SAFETY: as of `Send`.
+unsafe impl Sync for ShardedIndex<'_> {}
+
+impl<'a> ShardedIndex<'a> {
+    /// Of these indexes, whose 1 bits are counted by their tables; an error where a table turns out to be wrong.
+    pub fn new(shards: &[IndexView<'a>]) -> Result<Self, WrongTables> {
+        let bits: Vec<u64> = shards.iter().map(|it| it.raw().bits_len).collect();
+        let ones: Result<Vec<u64>, WrongTables> = shards.iter().map(ones_of).collect();
+        let counts = PrefixCounts::new(&bits, &ones?).ok_or(WrongTables)?;
+        Ok(ShardedIndex { shards: shards.iter().map(|it| *it.raw()).collect(), counts, borrows: PhantomData })
+    }
+
+    /// How many bits and 1 bits there are before each shard.
+    pub fn counts(&self) -> &PrefixCounts {
+        &self.counts
+    }
+
+    fn call(
+        &self,
+        call: unsafe extern "C" fn(*const bitm_shards, bool, u64, *mut u64) -> u32,
+        one: bool,
+        number: u64,
+    ) -> Result<Option<u64>, WrongTables> {
+        let raw = bitm_shards {
+            counts: self.counts.raw(),
+            shards: self.shards.as_ptr(),
+            shards_len: self.shards.len(),
+            reserved: [0; 2],
+        };
+        // SAFETY: the counts and indexes borrow what they point to, and a call writes the number where it returns OK.
+        unsafe { query(|out| call(&raw, one, number, out)) }
+    }
+
+    /// How many 1 bits there are before a position of the joined bits; `None` past their end.
+    pub fn rank(&self, position: u64) -> Result<Option<u64>, WrongTables> {
+        self.call(bitm_shards_rank, true, position)
+    }
+
+    /// How many 0 bits there are before a position of the joined bits; `None` past their end.
+    pub fn rank0(&self, position: u64) -> Result<Option<u64>, WrongTables> {
+        self.call(bitm_shards_rank, false, position)
+    }
+
+    /// The position, in the joined bits, of the 1 bit with a rank; `None` where there is none.
+    pub fn select(&self, rank: u64) -> Result<Option<u64>, WrongTables> {
+        self.call(bitm_shards_select, true, rank)
+    }
+
+    /// The position, in the joined bits, of the 0 bit with a rank; `None` where there is none.
+    pub fn select0(&self, rank: u64) -> Result<Option<u64>, WrongTables> {
+        self.call(bitm_shards_select, false, rank)
+    }
+}
+
+/// The 1 bits of an index, by its tables.
+fn ones_of(shard: &IndexView<'_>) -> Result<u64, WrongTables> {
+    let all = usize::try_from(shard.raw().bits_len).map_err(|_| WrongTables)?;
+    shard.rank_of(true, all)?.map(|it| it as u64).ok_or(WrongTables)
+}

@@ -1,0 +1,78 @@
+//! Shards as one index of the joined bits, beside plain counting; which shard holds what; counts that are wrong.
+mod common;
+use bitm_proved::{build_tables, table_lens, IndexView, Place, PrefixCounts, ShardedIndex, WrongTables};
+use common::{bits_of, Random};
+
+/// Words with their tables, of which the first bits count.
+struct Shard {
+    words: Vec<u64>,
+    upper: Vec<u64>,
+    lower: Vec<u64>,
+    len: usize,
+}
+
+impl Shard {
+    fn drawn(random: &mut Random) -> Self {
+        let words: Vec<u64> = (0..random.below(9)).map(|_| random.next() & random.next()).collect();
+        let lens = table_lens(words.len());
+        let (mut upper, mut lower) = (vec![0; lens.0], vec![0; lens.1]);
+        build_tables(&words, &mut upper, &mut lower);
+        let len = (64 * words.len()).saturating_sub(random.below(64));
+        Shard { words, upper, lower, len }
+    }
+
+    fn view(&self) -> IndexView<'_> {
+        IndexView::new(&self.words, self.len, &self.upper, &self.lower).unwrap()
+    }
+}
+
+#[test]
+fn shards_are_counted_as_one() {
+    let mut random = Random(7);
+    for count in 0..8 {
+        let shards: Vec<Shard> = (0..count).map(|_| Shard::drawn(&mut random)).collect();
+        let views: Vec<IndexView<'_>> = shards.iter().map(Shard::view).collect();
+        let all = ShardedIndex::new(&views).unwrap();
+        let mut ranks = [0u64; 2];
+        let mut at = 0u64;
+        for (k, shard) in shards.iter().enumerate() {
+            for (i, bit) in bits_of(&shard.words, shard.len).into_iter().enumerate() {
+                let one = usize::from(bit);
+                assert_eq!(all.rank(at), Ok(Some(ranks[1])));
+                assert_eq!(all.rank0(at), Ok(Some(ranks[0])));
+                assert_eq!(if bit { all.select(ranks[1]) } else { all.select0(ranks[0]) }, Ok(Some(at)));
+                assert_eq!(all.counts().find(at), Some(Place { shard: k, within: i as u64 }));
+                let of = if bit { all.counts().find_one(ranks[1]) } else { all.counts().find_zero(ranks[0]) };
+                assert_eq!(of.map(|it| it.shard), Some(k));
+                ranks[one] += 1;
+                at += 1;
+            }
+        }
+        assert_eq!((all.rank(at), all.rank(at + 1), all.rank0(u64::MAX)), (Ok(Some(ranks[1])), Ok(None), Ok(None)));
+        assert_eq!((all.select(ranks[1]), all.select0(ranks[0]), all.counts().find(at)), (Ok(None), Ok(None), None));
+    }
+}
+
+#[test]
+fn counts_that_do_not_fit_are_none() {
+    assert_eq!(PrefixCounts::new(&[1, 2], &[1]), None);
+    assert_eq!(PrefixCounts::new(&[u64::MAX, 1], &[0, 0]), None);
+    assert!(PrefixCounts::new(&[u64::MAX, 0], &[0, 0]).is_some());
+    let strange = PrefixCounts::new(&[1, 2], &[9, 9]).unwrap();
+    assert_eq!((strange.find_one(12), strange.find_zero(0)), (Some(Place { shard: 1, within: 3 }), None));
+}
+
+#[test]
+fn wrong_tables_are_an_error_or_inside() {
+    let (words, upper, lower) = ([u64::MAX; 4], [7], [u64::MAX]);
+    let view = IndexView::new(&words, 256, &upper, &lower).unwrap();
+    match ShardedIndex::new(&[view, view]) {
+        Err(WrongTables) => {}
+        Ok(all) => {
+            for number in [0, 1, 255, 256, 300, 512, 513] {
+                assert!(all.rank(number).map_or(true, |it| it.map_or(number > 512, |rank| rank <= number)));
+                assert!(all.select(number).ok().flatten().iter().all(|position| *position < 512));
+            }
+        }
+    }
+}
