@@ -11,12 +11,10 @@ typedef struct {
 } Outcome;
 
 /* Makes the bits at the positions that are inside equal to `one`: how many are not. */
-static size_t set_block(Vector *to, int one, const uint64_t *positions, size_t count)
+static uint64_t set_block(Vector *to, int one, const uint64_t *positions, size_t count)
 {
-    size_t outside = 0;
-    for (size_t i = 0; i < count; i++)
-        outside += bitm_bits_set(WRITTEN(to), positions[i], one) != BITM_OK;
-    return outside;
+    uint64_t outside = 0;
+    return bitm_bits_set_list(WRITTEN(to), positions, count, one, &outside) == BITM_OK ? outside : count;
 }
 
 /* Whether a position is past the end; the greatest of them and of most. */
