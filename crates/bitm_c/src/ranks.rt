@@ -4,37 +4,16 @@ ghost use Rattle.bitm_c.specs.Queries.{cut_of, RankAnswered};
 
 use crate::answer::{BAD_SIZE, report};
 use crate::view::Index;
-use bitm::U64_PER_L1_ENTRY;
-use bitm_view::WORDS_AT_HAND;
 
-/// What `bitm_index_rank` answers.
-#[inline(always)]
-fn rank_in(index: &Index<'_>, one: bool, position: usize, out: &mut usize) -> u32
-    ensures { RankAnswered one (cut_of index.now) position result out.old out.new }
-{
-    match index.view() {
-        Some(view) => report(view.rank_of(one, position), out),
-        None => BAD_SIZE,
-    }
-}
-
-/// What `bitm_index_rank` answers, for lengths that have no code of their own: they are wrong.
-#[inline(never)]
-fn rank_in_others(index: &Index<'_>, one: bool, position: usize, out: &mut usize) -> u32
-    ensures { RankAnswered one (cut_of index.now) position result out.old out.new }
-{
-    rank_in(index, one, position, out)
-}
-
-/// What `bitm_index_rank` answers, in code of its own for several upper blocks.
+/// What `bitm_index_rank` answers, in code of its own for several upper blocks, and for lengths that are wrong.
 #[inline(never)]
 fn rank_in_blocks(index: &Index<'_>, one: bool, position: usize, out: &mut usize) -> u32
     ensures { RankAnswered one (cut_of index.now) position result out.old out.new }
 {
-    if index.words.len() <= U64_PER_L1_ENTRY {
-        return rank_in_others(index, one, position, out);
+    match index.bare_view() {
+        Some(view) => report(view.rank_of(one, position), out),
+        None => BAD_SIZE,
     }
-    rank_in(index, one, position, out)
 }
 
 /// What `bitm_index_rank` answers, in code of its own for few words.
@@ -42,10 +21,10 @@ fn rank_in_blocks(index: &Index<'_>, one: bool, position: usize, out: &mut usize
 fn rank_in_few(index: &Index<'_>, one: bool, position: usize, out: &mut usize) -> u32
     ensures { RankAnswered one (cut_of index.now) position result out.old out.new }
 {
-    if index.words.len() > WORDS_AT_HAND {
-        return rank_in_blocks(index, one, position, out);
+    match index.few_view() {
+        Some(view) => report(view.rank_of(one, position), out),
+        None => rank_in_blocks(index, one, position, out),
     }
-    rank_in(index, one, position, out)
 }
 
 /// The number of 1 bits, or 0 bits, before a position.

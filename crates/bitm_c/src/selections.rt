@@ -1,17 +1,54 @@
 //! The selection of an index, and the nearest bits of a position. Each kind of bit has code of its own.
 ghost use Rattle.bitm.specs.Count.{as_bit};
+ghost use Rattle.bitm_view.specs.Queries.{SelectsIn};
 ghost use Rattle.bitm_c.specs.Queries.{cut_of, NextAnswered, PreviousAnswered, SelectAnswered};
 
 use crate::answer::{BAD_SIZE, report};
 use crate::view::Index;
+use bitm::Probe;
+use bitm_view::{Answer, ByGuess, IndexView, WORDS_AT_HAND};
 
 /// What `bitm_index_select` answers of 1 bits; of 0 bits where `BIT` is 0.
-#[inline(never)]
+#[inline(always)]
 fn select_in<const BIT: u8>(index: &Index<'_>, rank: usize, out: &mut usize) -> u32
     ensures { SelectAnswered (as_bit BIT) (cut_of index.now) rank result out.old out.new }
 {
-    match index.view() {
-        Some(view) => report(view.select::<BIT>(rank), out),
+    if index.words.len() > WORDS_AT_HAND {
+        return select_in_many::<BIT>(index, rank, out);
+    }
+    select_in_few::<BIT>(index, rank, out)
+}
+
+/// The position with a rank in a view of an index, by the samples of the kind.
+#[inline(always)]
+fn select_by<const BIT: u8>(index: &Index<'_>, view: &IndexView<'_>, rank: usize) -> Answer<usize>
+    ensures { SelectsIn (as_bit BIT) view.now rank result }
+{
+    let by_guess = ByGuess {
+        samples: index.samples::<BIT>(),
+    };
+    let source = &mut view.tables().probe();
+    view.select_on::<BIT, Probe<'_>, ByGuess<'_>>(source, &by_guess, rank)
+}
+
+/// What `select_in` answers, in code of its own for few words, in which the compiler knows that they are few.
+#[inline(never)]
+fn select_in_few<const BIT: u8>(index: &Index<'_>, rank: usize, out: &mut usize) -> u32
+    ensures { SelectAnswered (as_bit BIT) (cut_of index.now) rank result out.old out.new }
+{
+    match index.few_view() {
+        Some(view) => report(select_by::<BIT>(index, &view, rank), out),
+        None => select_in_many::<BIT>(index, rank, out),
+    }
+}
+
+/// The same for any number of words.
+#[inline(never)]
+fn select_in_many<const BIT: u8>(index: &Index<'_>, rank: usize, out: &mut usize) -> u32
+    ensures { SelectAnswered (as_bit BIT) (cut_of index.now) rank result out.old out.new }
+{
+    match index.bare_view() {
+        Some(view) => report(select_by::<BIT>(index, &view, rank), out),
         None => BAD_SIZE,
     }
 }

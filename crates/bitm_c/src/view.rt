@@ -4,7 +4,7 @@ ghost use Rattle.bitm_view.specs.Cut.{IsSizedCut};
 ghost use Rattle.bitm_c.specs.Queries.{cut_of};
 
 use crate::sampled::Samples;
-use bitm_view::{IndexView, Lent};
+use bitm_view::{IndexView, Lent, LentSamples};
 
 /// An index in the caller's memory: words with their two tables, of which the first `bits_len` bits are the bit vector,
 /// and samples of either kind of bit, which may be none. For C each slice is a pointer and a length.
@@ -39,6 +39,17 @@ impl<'a> Index<'a> {
         Some(of_ones.with_samples::<0>(self.zeros.lent()))
     }
 
+    /// The view without samples where there are 1 to 2^18 words; else `None`, as where a length is not right.
+    #[inline(always)]
+    pub(crate) fn few_view(&self) -> Option<IndexView<'a>>
+        ensures { SomeIff result (IsSizedCut (cut_of self.now)
+            × (0 < length self.now.words.now) × (length self.now.words.now ≤ 2 ^ 18))
+            (cut_of self.now) }
+    {
+        let tables = Lent::over_few(self.words, self.upper, self.lower)?;
+        IndexView::over(tables, self.bits_len as usize)
+    }
+
     /// The view without samples, where there are more than 2^18 words and one upper block; else `None`, as where a
     /// length is not right.
     #[inline(always)]
@@ -49,5 +60,24 @@ impl<'a> Index<'a> {
     {
         let tables = Lent::over_large_part(self.words, self.upper, self.lower)?;
         IndexView::over(tables, self.bits_len as usize)
+    }
+
+    /// The view without samples; `None` exactly where a length is not right.
+    #[inline(always)]
+    pub(crate) fn bare_view(&self) -> Option<IndexView<'a>>
+        ensures { SomeIff result (IsSizedCut (cut_of self.now)) (cut_of self.now) }
+    {
+        let tables = Lent::over(self.words, self.upper, self.lower)?;
+        IndexView::over(tables, self.bits_len as usize)
+    }
+
+    /// The samples of the 1 bits; of the 0 bits where `BIT` is 0.
+    #[inline(always)]
+    pub(crate) fn samples<const BIT: u8>(&self) -> LentSamples<'a> {
+        if BIT == 0 {
+            self.zeros.lent()
+        } else {
+            self.ones.lent()
+        }
     }
 }

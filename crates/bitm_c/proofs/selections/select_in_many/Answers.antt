@@ -2,9 +2,9 @@
 use Rattle.bitm.specs.Count.{as_bit}
 use Rattle.bitm_view.specs.Queries.{SelectsIn}
 use Rattle.bitm_c.proofs.ToldLemmas.{told}
-use Rattle.bitm_c.proofs.selections.select_in.Goals as goal
+use Rattle.bitm_c.proofs.selections.select_in_many.Goals as goal
 
 pub returns-in-Some : goal.returns-in-Some
 returns-in-Some g c =
     told (λ l. SelectsIn (as_bit g.row.BIT) l c.args.rank) _ _ c.in-Some.ensures.1 _ c.in-Some.ensures.0 c.report.result c.args.out.now c.report.new.out
-    _ c.report.ensures (record { bit = c.select.ensures.bit; counts = c.select.ensures.counts; absent = c.select.ensures.absent })
+    _ c.report.ensures c.select_by.ensures
