@@ -3,7 +3,7 @@ use Rattle.std.specs.Prelude.{◌≡◌, ℕ, ◌*◌, ◌^◌, ◌<◌, ◌≤�
 use Rattle.std.specs.Option.{option_map}
 use Rattle.bitm.specs.Bits.{bits_of, IsShort}
 use Rattle.bitm.specs.Count.{ones_before}
-use Rattle.perfect_hash.specs.Levels.{fall_in, looked, AreSized, place_from, Collide}
+use Rattle.perfect_hash.specs.Levels.{fall_in, looked, AreChosen, AreSized, place_from, Collide}
 use Rattle.perfect_hash.specs.Perfect.{IsMinimalPerfect}
 use Rattle.perfect_hash.specs.Places.{place_in}
 use Rattle.perfect_hash.specs.declared.error.BuildError.{BuildError}
@@ -69,7 +69,15 @@ CollideBySize {P} taken by (KeysCollide count) hashes =
 CollideBySize taken by TooLarge hashes = ⊤
 CollideBySize taken by OutOfMemory hashes = ⊤
 
--- the same where hashes alone say where they fall
+-- the levels that keys collide in are chosen one after another, each for the hashes that are left before it
+abbrev pub CollideChosen : {P : Type 0} → (P → P → ℕ → List ℕ → ℕ → ℕ → Type 0) → (P → ℕ → ℕ → ℕ → ℕ → ℕ) → P → BuildError → List ℕ → Type 0
+CollideChosen {P} chooses by first (KeysCollide count) hashes =
+    (p : P) × (sizes : List ℕ) × (c : Collide (fall_in (by p) sizes) hashes count)
+    × (c.sizes ≡ sizes) × AreChosen chooses (fall_in (by p) sizes) hashes (bits_of c.words) 0 0 0 sizes first p
+CollideChosen chooses by first TooLarge hashes = ⊤
+CollideChosen chooses by first OutOfMemory hashes = ⊤
+
+-- the same sizes where hashes alone say where they fall
 abbrev pub CollideOfSize : (ℕ → ℕ) → BuildError → List ℕ → Type 0
 CollideOfSize taken (KeysCollide count) hashes =
     (c : Collide place_in hashes count) × AreSized taken place_in hashes (bits_of c.words) 0 0 c.sizes

@@ -2,7 +2,7 @@
 ghost use Rattle.std.specs.Prelude.{◌≡◌, ◌↔◌, ℕ, ◌+◌, ◌^◌, ◌<◌, ◌≤◌, [], length, map, IfOk, IfErr, IsErrOf, OnOk};
 ghost use Rattle.bitm.specs.Bits.{bits_of, IsShort};
 ghost use Rattle.perfect_hash.specs.Levels.{fall_in, AddsLevel, AreChosen, AreSized, LeadTo, Leave};
-ghost use Rattle.perfect_hash.specs.Parts.{number_at, number_of, AreLevels, CollideBySize, CollideOfSize, IfCollide, IfCollideBy};
+ghost use Rattle.perfect_hash.specs.Parts.{number_at, number_of, AreLevels, CollideBySize, CollideChosen, CollideOfSize, IfCollide, IfCollideBy};
 ghost use Rattle.perfect_hash.specs.Perfect.{IsMinimalPerfect};
 ghost use Rattle.perfect_hash.specs.Places.{place_in, words_for};
 
@@ -115,6 +115,8 @@ fn make_levels<P: Placing>(
     ensures collide { IfErr result (λ error. IfCollideBy P.fall error hashes.items) }
     ensures collide_sized { IfErr result (λ error.
         CollideBySize (words_for percent) P.fall error hashes.items) }
+    ensures collide_chosen { IfErr result (λ error.
+        CollideChosen P.chooses P.fall placing error hashes.items) }
     ensures room { IsErrOf result BuildError.TooLarge → ⊥ }
 {
     let mut levels = Levels {
@@ -208,6 +210,8 @@ impl<P: Placing> Levels<P> {
             levels.sizes.items placing levels.placing) }
         ensures collide_sized { IfErr result (λ error. CollideBySize (words_for percent) P.fall
             error (map (H.hash hasher.now) keys.now)) }
+        ensures collide_chosen { IfErr result (λ error. CollideChosen P.chooses P.fall placing
+            error (map (H.hash hasher.now) keys.now)) }
     {
         if level_words(percent, keys.len()) >= TOO_MANY {
             return Err(BuildError::TooLarge);
@@ -286,6 +290,8 @@ pub fn build_by<K, H: KeyHash<K>, P: Placing>(
     ensures collide { IfErr result (λ refused.
         IfCollideBy P.fall refused.error (map (H.hash hasher) keys.now)) }
     ensures collide_sized { IfErr result (λ refused. CollideBySize (words_for percent) P.fall
+        refused.error (map (H.hash hasher) keys.now)) }
+    ensures collide_chosen { IfErr result (λ refused. CollideChosen P.chooses P.fall placing
         refused.error (map (H.hash hasher) keys.now)) }
 {
     let made = match Levels::build_by(alloc, placing, &hasher, keys, percent) {

@@ -111,14 +111,13 @@ collide {K} fall falls keys sizes words left count h levels counted some = recor
           falls_together fall falls keys keys (bits_of words) 0 0 sizes left k (λ t. omega arith) h.lead has,
         )
 
--- and the levels have as many words as they are to have
-pub collide_sized : {K : Type 0} (taken : ℕ → ℕ) (fall : K → ℕ → ℕ → ℕ) (falls : FallsInside fall) (keys : List K) (sizes words : List ℕ) (left : List K)
-    (count : ℕ) → Leave fall keys sizes words left → length sizes ≡ 256 → length left ≡ count → 0 < count
-    → AreSized taken fall keys (bits_of words) 0 0 sizes
-    → (c : Collide fall keys count) × (c.sizes ≡ sizes) × AreSized taken fall keys (bits_of c.words) 0 0 sizes
+-- and what holds of the levels' words holds of those that they collide in
+pub collide_with : {K : Type 0} (H : List ℕ → Type 0) (fall : K → ℕ → ℕ → ℕ) (falls : FallsInside fall) (keys : List K) (sizes words : List ℕ) (left : List K)
+    (count : ℕ) → Leave fall keys sizes words left → length sizes ≡ 256 → length left ≡ count → 0 < count → H words
+    → (c : Collide fall keys count) × (c.sizes ≡ sizes) × H c.words
 unfolding collide
-collide_sized taken fall falls keys sizes words left count h levels some_left some sized =
-    (collide fall falls keys sizes words left count h levels some_left some, refl, sized)
+collide_with H fall falls keys sizes words left count h levels some_left some holds =
+    (collide fall falls keys sizes words left count h levels some_left some, refl, holds)
 
 -- where hashes alone say where they fall, nothing else does
 error_by_hash : (P : Type 0) (taken : ℕ → ℕ) (error : BuildError) (hashes : List ℕ) → CollideBySize {P = P} taken (λ _ _. place_in) error hashes

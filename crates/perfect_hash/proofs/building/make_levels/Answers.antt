@@ -3,10 +3,11 @@ use Rattle.std.proofs.Common.{◌≡◌, ℕ, ◌+◌, length, subst, take, sym,
 use Rattle.std.specs.List.{sum}
 use Rattle.std.proofs.lemmas.Bool.{eqb-false}
 use Rattle.std.specs.Vec.{vec_len}
-use Rattle.perfect_hash.specs.Levels.{fall_in}
+use Rattle.bitm.specs.Bits.{bits_of}
+use Rattle.perfect_hash.specs.Levels.{fall_in, AreChosen, AreSized}
 use Rattle.perfect_hash.specs.Places.{words_for}
 use Rattle.perfect_hash.proofs.lemmas.BuildLemmas.{count_next, no_more}
-use Rattle.perfect_hash.proofs.lemmas.CollideLemmas.{collide, collide_sized}
+use Rattle.perfect_hash.proofs.lemmas.CollideLemmas.{collide, collide_with}
 use Rattle.perfect_hash.proofs.lemmas.PlaceLemmas.{next_short, positive}
 use Rattle.perfect_hash.proofs.lemmas.PlacingLemmas.{AreChosen-next, AreSized-next, Leave-next}
 use Rattle.perfect_hash.proofs.building.make_levels.Goals as goal
@@ -69,13 +70,33 @@ returns-clause-collide_sized g c =
     let counted : length c.loop-level.hashes.items ≡ count = omega (arith, c.len-else-is_empty-2.ensures, c.loop-level.hashes.ok.0) in
     let placing = levels.placing in
     let sizes = levels.sizes.items in
+    let fall : ℕ → ℕ → ℕ → ℕ = fall_in (g.P.Placing.fall placing) sizes in
     let found =
-    collide_sized (words_for c.args.percent) (fall_in (g.P.Placing.fall placing) sizes)
-    (λ hash level w some. g.met.P.Placing.inside placing (sum (take level sizes)) hash level w some) c.args.hashes.items levels.sizes.items levels.words.items c.loop-level.hashes.items count
+    collide_with (λ words. AreSized (words_for c.args.percent) fall c.args.hashes.items (bits_of words) 0 0 sizes) fall
+    (λ hash level w some. g.met.P.Placing.inside placing (sum (take level sizes)) hash level w some) c.args.hashes.items sizes levels.words.items c.loop-level.hashes.items count
     c.loop-level.invariant.leave
     (omega (arith, c.loop-level.invariant.count, c.loop-level-test.false, c.loop-level.auto.level-end))
     counted
     (positive count (λ none. eqb-false (vec_len c.loop-level.hashes) 0 (sym c.is_empty-2.ensures ∙ c.if-is_empty-2.false)
     (omega (arith, none, c.len-else-is_empty-2.ensures))))
     c.loop-level.invariant.sized in
+    (placing, sizes, found.0, found.1, found.2)
+
+pub returns-clause-collide_chosen : goal.returns-clause-collide_chosen
+returns-clause-collide_chosen g c =
+    let levels = c.loop-level.levels in
+    let count = c.len-else-is_empty-2.result in
+    let counted : length c.loop-level.hashes.items ≡ count = omega (arith, c.len-else-is_empty-2.ensures, c.loop-level.hashes.ok.0) in
+    let placing = levels.placing in
+    let sizes = levels.sizes.items in
+    let fall : ℕ → ℕ → ℕ → ℕ = fall_in (g.P.Placing.fall placing) sizes in
+    let found =
+    collide_with (λ words. AreChosen g.P.Placing.chooses fall c.args.hashes.items (bits_of words) 0 0 0 sizes c.args.placing placing) fall
+    (λ hash level w some. g.met.P.Placing.inside placing (sum (take level sizes)) hash level w some) c.args.hashes.items sizes levels.words.items c.loop-level.hashes.items count
+    c.loop-level.invariant.leave
+    (omega (arith, c.loop-level.invariant.count, c.loop-level-test.false, c.loop-level.auto.level-end))
+    counted
+    (positive count (λ none. eqb-false (vec_len c.loop-level.hashes) 0 (sym c.is_empty-2.ensures ∙ c.if-is_empty-2.false)
+    (omega (arith, none, c.len-else-is_empty-2.ensures))))
+    c.loop-level.invariant.chosen in
     (placing, sizes, found.0, found.1, found.2)
