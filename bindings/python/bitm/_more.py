@@ -1,5 +1,5 @@
 """What is not a hot path: pickles, and NumPy where the caller has it. NumPy is imported only by calls that answer in
-arrays, which a caller asks for by their name or by passing an array."""
+arrays: those of that name, and those that are passed an array."""
 import array
 import hashlib
 import pickle

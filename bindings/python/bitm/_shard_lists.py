@@ -1,5 +1,5 @@
 """Lists of queries of shards: each query's shard is its predecessor among the numbers before each; the queries of a shard
-are asked by one call, those of a large array by one for each block of it."""
+go to it in one call, those of a large array in one for each block of it."""
 import operator
 from typing import Any, Callable, Dict, List, Tuple
 

@@ -157,11 +157,10 @@ def _write(folder: str, shards: Sequence[Part]) -> None:
 
 
 class Shards:
-    """The bits of the shards of a folder, one after the other, asked as those of one `Index`.
+    """The bits of the shards of a folder, one after the other, queried as those of one `Index`.
 
-    A folder has a manifest and one stored index a shard. A shard is mapped when it is first asked; before, and for what
-    is asked of other shards, its file need not be there. ShardError where it is not, or is not the one that the manifest
-    names. A value is pickled as its folder.
+    A folder has a manifest and one stored index a shard. A shard is mapped when a query first needs it; until then its
+    file need not be there. ShardError if it is missing then, or is not the one that the manifest names. A value is pickled as its folder.
 
     >>> import bitm, tempfile
     >>> folder = tempfile.mkdtemp()
@@ -247,7 +246,7 @@ class Shards:
         return found
 
     def close(self) -> None:
-        """Gives the mapped files back. A shard that is asked afterwards is mapped again."""
+        """Gives the mapped files back. A shard that a query needs afterwards is mapped again."""
         self._open = {}
 
     # ---- single queries
