@@ -83,6 +83,13 @@ typedef char bitm_sizes_are_64_bits[sizeof(size_t) == 8 && sizeof(void *) == 8 ?
 #endif
 #endif
 
+/* Before inline functions that are seldom called, and so should not be in the place of their calls. */
+#if defined __GNUC__
+#define BITM_SELDOM __attribute__((cold))
+#else
+#define BITM_SELDOM
+#endif
+
 /* The version of the library that is linked, to compare with BITM_VERSION_NUMBER of this header. */
 uint32_t bitm_version(void);
 
@@ -547,8 +554,8 @@ static inline uint64_t bitm_sequence_walk_index(const struct bitm_sequence_walk 
  * Each writes that number. BITM_NONE if there is none: the walk is at its end then, and stays there but for an index.
  * BITM_WRONG if the parts turn out not to be those of a sequence. A call reads what bitm_sequence_items reads for 64
  * numbers, or nothing if the block holds the number; to a value also what bitm_sequence_first_at_least reads. */
-BITM_MUST_USE static inline uint32_t bitm_sequence_walk_from(struct bitm_sequence_walk *walk, uint64_t index,
-                                                             uint64_t *out)
+BITM_MUST_USE BITM_SELDOM static inline uint32_t bitm_sequence_walk_from(struct bitm_sequence_walk *walk,
+                                                                         uint64_t index, uint64_t *out)
 {
     uint64_t written = 0;
     const uint32_t status = bitm_sequence_items(&walk->sequence, index, walk->numbers, 64, &written);
@@ -570,18 +577,22 @@ BITM_MUST_USE static inline uint32_t bitm_sequence_walk_next(struct bitm_sequenc
     if (walk->len == 0) return BITM_NONE;
     return bitm_sequence_walk_from(walk, walk->first + walk->len, out);
 }
-BITM_MUST_USE static inline uint32_t bitm_sequence_walk_to(struct bitm_sequence_walk *walk, uint64_t value,
-                                                           uint64_t *out)
+/* What bitm_sequence_walk_to does past the block. */
+BITM_MUST_USE BITM_SELDOM static inline uint32_t bitm_sequence_walk_search(struct bitm_sequence_walk *walk,
+                                                                           uint64_t value, uint64_t *out)
 {
     uint64_t index = 0;
     const uint64_t end = walk->first + walk->len;
+    const uint32_t status = bitm_sequence_first_at_least(&walk->sequence, value, &index);
+    if (status == BITM_NONE) index = walk->sequence.len;
+    else if (status != BITM_OK) return status;
+    return bitm_sequence_walk_from(walk, index < end ? end : index, out);
+}
+BITM_MUST_USE static inline uint32_t bitm_sequence_walk_to(struct bitm_sequence_walk *walk, uint64_t value,
+                                                           uint64_t *out)
+{
     if (walk->len == 0) return BITM_NONE;
-    if (walk->numbers[walk->len - 1] < value) {
-        const uint32_t status = bitm_sequence_first_at_least(&walk->sequence, value, &index);
-        if (status == BITM_NONE) index = walk->sequence.len;
-        else if (status != BITM_OK) return status;
-        return bitm_sequence_walk_from(walk, index < end ? end : index, out);
-    }
+    if (walk->numbers[walk->len - 1] < value) return bitm_sequence_walk_search(walk, value, out);
     while (walk->numbers[walk->at] < value) walk->at++;
     *out = walk->numbers[walk->at];
     return BITM_OK;

@@ -95,9 +95,8 @@ public:
     std::uint64_t position() const noexcept { return bitm_sequence_walk_index(&walk_); }
     sequence_walk &next()
     {
-        std::uint64_t out = 0;
-        if (BITM_RARELY(done())) detail::outside(position(), walk_.sequence.len);
-        (void)detail::there(bitm_sequence_walk_next(&walk_, &out));
+        if (BITM_RARELY(walk_.at + 1 >= walk_.len)) more();
+        else walk_.at++;
         return *this;
     }
     sequence_walk &operator++() { return next(); }
@@ -111,6 +110,14 @@ public:
     end_mark end() const noexcept { return {}; }
 
 private:
+    // Past the block.
+    BITM_COLD void more()
+    {
+        std::uint64_t out = 0;
+        if (done()) detail::outside(position(), walk_.sequence.len);
+        (void)detail::there(bitm_sequence_walk_next(&walk_, &out));
+    }
+
     bitm_sequence_walk walk_{};
 };
 
