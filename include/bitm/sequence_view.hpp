@@ -59,7 +59,7 @@ public:
         using reference = std::uint64_t;
 
         iterator() noexcept = default;
-        std::uint64_t operator*() const { return of_->walk_.numbers[of_->walk_.at]; }
+        std::uint64_t operator*() const { return of_->found_[of_->at_]; }
         iterator &operator++()
         {
             of_->next();
@@ -78,47 +78,62 @@ public:
     };
 
     sequence_walk() noexcept = default;
-    sequence_walk(const bitm_sequence &of, std::uint64_t from) : walk_{of, 0, 0, 0, {}}
-    {
-        std::uint64_t out = 0;
-        (void)detail::there(bitm_sequence_walk_from(&walk_, from, &out));
-    }
-    bool done() const noexcept { return walk_.len == 0; }
+    sequence_walk(const bitm_sequence &of, std::uint64_t from) : of_(of) { fill(from); }
+    bool done() const noexcept { return count_ == 0; }
     explicit operator bool() const noexcept { return !done(); }
     // The number where it stands, and its index.
     std::uint64_t value() const
     {
-        if (BITM_RARELY(done())) detail::outside(position(), walk_.sequence.len);
-        return walk_.numbers[walk_.at];
+        if (BITM_RARELY(done())) detail::outside(position(), of_.len);
+        return found_[at_];
     }
     std::uint64_t operator*() const { return value(); }
-    std::uint64_t position() const noexcept { return bitm_sequence_walk_index(&walk_); }
+    std::uint64_t position() const noexcept { return first_ + at_; }
     sequence_walk &next()
     {
-        if (BITM_RARELY(walk_.at + 1 >= walk_.len)) more();
-        else walk_.at++;
+        if (BITM_RARELY(++at_ >= count_)) more();
         return *this;
     }
     sequence_walk &operator++() { return next(); }
     // To the first number from here on that is at least a value: whether there is one. It never goes back.
     bool advance_to(std::uint64_t value)
     {
+        if (done() || found_[at_] >= value) return !done();
+        if (found_[count_ - 1] >= value) {
+            while (found_[at_] < value) at_++;
+            return true;
+        }
         std::uint64_t out = 0;
-        return detail::there(bitm_sequence_walk_to(&walk_, value, &out));
+        const std::uint32_t status = bitm_sequence_first_at_least(&of_, value, &out);
+        if (status == BITM_OK) {
+            fill(out < first_ + count_ ? first_ + count_ : out);
+            return !done();
+        }
+        if (BITM_RARELY(status != BITM_NONE)) detail::fail_status(status);
+        first_ = of_.len, at_ = count_ = 0;
+        return false;
     }
     iterator begin() noexcept BITM_LIFETIMEBOUND { return iterator(this); }
     end_mark end() const noexcept { return {}; }
 
 private:
-    // Past the block.
     BITM_COLD void more()
     {
-        std::uint64_t out = 0;
-        if (done()) detail::outside(position(), walk_.sequence.len);
-        (void)detail::there(bitm_sequence_walk_next(&walk_, &out));
+        if (done()) at_ = 0, detail::outside(position(), of_.len);
+        fill(first_ + count_);
+    }
+    void fill(std::uint64_t from)
+    {
+        std::uint64_t written = 0;
+        if (from < of_.len) detail::need(bitm_sequence_items(&of_, from, found_, room, &written));
+        first_ = from, at_ = 0, count_ = static_cast<std::size_t>(written);
+        if (BITM_RARELY(written == 0 && from < of_.len)) fail({errc::wrong});
     }
 
-    bitm_sequence_walk walk_{};
+    static constexpr std::size_t room = 64;
+    bitm_sequence of_{};
+    std::uint64_t found_[room] = {}, first_ = 0;
+    std::size_t at_ = 0, count_ = 0;
 };
 
 namespace detail {
