@@ -1,8 +1,11 @@
-"""Lists of queries of shards: each query's shard is its predecessor among the numbers before each; the queries of a shard
-go to it in one call, those of a large array in one for each block of it."""
+"""Lists of queries of shards: the shard of each query is found by one proved call, and the queries of a shard go to it
+in one call, those of a large array in one for each block of it."""
 import operator
 from typing import Any, Callable, Dict, List, Tuple
 
+from ._core import shards_find
+
+ZEROS, ONES, POSITIONS = range(3)  # what is numbered, as bitm.h has it
 Asked = Callable[[int, Any], Any]
 NO_ANSWER = 2**64 - 1
 BLOCK = 2**17  # queries of an array that are sorted at once: their order stays in a processor's cache
@@ -12,50 +15,55 @@ def _is_array(queries: Any) -> bool:
     return type(queries).__module__.split(".")[0] == "numpy" and hasattr(queries, "dtype")
 
 
-def _in_lists(bounds: Any, starts: List[int], queries: List[int], ask: Asked) -> List[int]:
+def _in_lists(found: Any, starts: List[int], queries: List[int], ask: Asked) -> List[int]:
     groups: Dict[int, List[int]] = {}
-    for at, shard in enumerate(bounds.last_at_most_list(queries, missing="error")):
+    for at, shard in enumerate(found[0]):
         groups.setdefault(shard, []).append(at)
     answers = [NO_ANSWER] * len(queries)
     for shard, places in groups.items():
-        found = ask(shard, [queries[at] - starts[shard] for at in places])
-        for at, answer in zip(places, found):
+        within = [found[1][at] for at in places] if shard < len(starts) - 1 else [queries[at] - starts[-1] for at in places]
+        for at, answer in zip(places, ask(shard, within)):
             answers[at] = answer
     return answers
 
 
-def _in_arrays(bounds: Any, starts: List[int], queries: Any, ask: Asked) -> Any:
+def _in_array(found: Any, starts: List[int], queries: Any, ask: Asked) -> Any:
     import numpy
 
-    if len(queries) <= BLOCK:
-        return _in_block(bounds, starts, queries, ask)
-    return numpy.concatenate([_in_block(bounds, starts, queries[at : at + BLOCK], ask) for at in range(0, len(queries), BLOCK)])
-
-
-def _in_block(bounds: Any, starts: List[int], queries: Any, ask: Asked) -> Any:
-    import numpy
-
-    shards = bounds.last_at_most_list(queries, missing="error")
+    shards, within = (numpy.asarray(it) for it in found)
     small = shards.astype(numpy.uint16 if len(starts) < 2**16 else numpy.uint32)
     order = numpy.argsort(small, kind="stable")  # of 16 bits: by digits, in two passes
-    asked, answers = queries.astype(numpy.uint64, copy=False)[order], numpy.empty(len(queries), dtype=numpy.uint64)
+    asked, answers = within[order], numpy.empty(len(order), dtype=numpy.uint64)
     begin = 0
     for shard, count in enumerate(numpy.bincount(small, minlength=len(starts)).tolist()):
         if count:
             here = slice(begin, begin + count)
-            answers[here] = ask(shard, asked[here] - numpy.uint64(starts[shard]))
+            past = shard == len(starts) - 1
+            answers[here] = ask(shard, queries[order[here]].astype(numpy.uint64) - numpy.uint64(starts[-1]) if past else asked[here])
             begin += count
     made = numpy.empty_like(answers)
     made[order] = answers
     return made
 
 
-def _answers(bounds: Any, starts: List[int], queries: Any, ask: Asked) -> Tuple[Any, Any]:
+def _answers(shards: Any, kind: int, starts: List[int], queries: Any, ask: Asked) -> Tuple[Any, Any]:
     """The queries, which are gone over once, and their answers."""
-    if _is_array(queries):
-        return queries, _in_arrays(bounds, starts, queries, ask)
-    numbers = list(queries)
-    return numbers, _in_lists(bounds, starts, numbers, ask)
+    if not _is_array(queries):
+        numbers = list(queries)
+        return numbers, _in_lists(_found(shards, kind, numbers), starts, numbers, ask)
+    if len(queries) <= BLOCK:
+        return queries, _in_array(_found(shards, kind, queries), starts, queries, ask)
+    import numpy
+
+    blocks = [queries[at : at + BLOCK] for at in range(0, len(queries), BLOCK)]
+    return queries, numpy.concatenate([_in_array(_found(shards, kind, it), starts, it, ask) for it in blocks])
+
+
+def _found(shards: Any, kind: int, queries: Any) -> Tuple[Any, Any]:
+    """The shard of each query and the number there, by proved calls."""
+    bits, ones = shards._counts
+    found, within = shards_find(bits, ones, kind, queries)
+    return memoryview(found), memoryview(within)
 
 
 def _plus(answers: Any, base: int) -> Any:
@@ -73,7 +81,7 @@ def ranks(shards: Any, one: bool, queries: Any) -> Any:
         index = shards.shard(shard)
         return _plus((index.rank_list if one else index.rank0_list)(positions), counts[shard])
 
-    queries, answers = _answers(shards._bits, starts, queries, ask)
+    queries, answers = _answers(shards, POSITIONS, starts, queries, ask)
     past = _first_without(answers)
     if past is not None:
         raise IndexError(f"a position is past the end: {queries[past]}, item {past} of the list")
@@ -97,7 +105,7 @@ def selections(shards: Any, one: bool, queries: Any, missing: Any) -> Any:
         index = shards.shard(shard)
         return _plus((index.select_list if one else index.select0_list)(of_ranks, missing="error"), bits[shard])
 
-    queries, answers = _answers(shards._ones if one else shards._zeros, starts, queries, ask)
+    queries, answers = _answers(shards, ONES if one else ZEROS, starts, queries, ask)
     return _with_missing(answers, missing)
 
 

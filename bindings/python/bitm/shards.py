@@ -1,4 +1,5 @@
 """One bit vector in many files, asked as one: see `Shards`."""
+import array
 import builtins
 import contextlib
 import hashlib
@@ -181,6 +182,7 @@ class Shards:
             raise ValueError("the shards have 2**64 bits or more")
         self._bits, self._ones = EliasFano(bits), EliasFano(ones)
         self._zeros = EliasFano([all_ - one for all_, one in zip(bits, ones)])
+        self._counts = array.array("Q", bits), array.array("Q", ones)
         self._starts = {True: ones, False: [all_ - one for all_, one in zip(bits, ones)], None: bits}
         self._open: Dict[int, Index] = {}
 

@@ -330,6 +330,9 @@ PyObject *stored_load(PyObject *module, PyObject *file);
 PyObject *stored_index_header(PyObject *module, PyObject *args);
 PyObject *stored_sequence_header(PyObject *module, PyObject *args);
 
+/* ---- shards.c */
+PyObject *shards_find(PyObject *module, PyObject *args);
+
 /* ---- parts.c */
 PyObject *parts_of(PyObject *module, PyObject *value);
 PyObject *parts_over(PyObject *module, PyObject *args);
