@@ -228,8 +228,10 @@ public:
         std::uint64_t out = 0;
         const bits_parts of = parts();
         const std::uint32_t status = bitm_bits_count_range(of.words, of.len, of.size, true, from, to, &out);
-        if (BITM_RARELY(status == BITM_NONE)) outside_range(from, to, of.size);
-        need(status, "2^58 words or more");
+        if (BITM_RARELY(status != BITM_OK)) {
+            if (status == BITM_NONE) outside_range(from, to, of.size);
+            fail(error_of(status, 0, 0, "2^58 words or more"));
+        }
         return out;
     }
     bool any() const { return next_one(0).has_value(); }
