@@ -857,9 +857,10 @@ BITM_MUST_USE static inline uint32_t bitm_stored_open_index(const uint64_t *file
  *     if (bitm_shards_find(&prefixes, BITM_ONES, 500, &place) != BITM_OK || place.shard != 1 || place.within != 20)
  *         return 1;
  *
- * The position of that bit is bits_before[1] and its position in the shard; the rank of a position likewise is that of
- * ones_before and the rank in the shard. Both, and that place.within is a rank (a position) which the shard has, are
- * proved for any number of shards, empty ones too, and fewer than 2^64 bits, where the counts are those of the shards. */
+ * The position of that bit is bits_before[place.shard] + its position in the shard; the rank of a position is
+ * ones_before[place.shard] + its rank in the shard. Both, and that place.within is a rank (a position) which the shard
+ * has, are proved for any number of shards, empty ones too, and fewer than 2^64 bits, where the counts are those of the
+ * shards. */
 
 /* What is numbered. */
 #define BITM_ZEROS 0     /* ranks of 0 bits */
