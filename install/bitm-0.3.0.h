@@ -6,6 +6,9 @@
 #define BITM_WRONG_TABLES (UINT64_MAX - 1)
 #define BITM_STORED_INDEX 1
 #define BITM_STORED_SEQUENCE 2
+#define BITM_ZEROS 0
+#define BITM_ONES 1
+#define BITM_POSITIONS 2
 enum bitm_status { BITM_OK = 0, BITM_NONE = 1, BITM_BAD_SIZE = 2, BITM_WRONG = 3, BITM_UNSORTED = 4 };
 struct bitm_list_counts { uint64_t missing; uint64_t wrong; };
 struct bitm_samples { const uint32_t *samples; size_t samples_len; const uint64_t *starts; size_t starts_len; uint32_t log2; uint32_t reserved; };
@@ -15,10 +18,14 @@ struct bitm_sequence_lens { uint64_t width; uint64_t low_len; uint64_t words_len
 struct bitm_hash { struct bitm_index index; const uint64_t *sizes; size_t sizes_len; size_t keys; };
 struct bitm_span { uint64_t at; uint64_t len; };
 struct bitm_stored { uint64_t mark; uint64_t kind; uint64_t len; uint64_t width; uint64_t size; uint64_t ones_log2; uint64_t zeros_log2; struct bitm_span words; struct bitm_span upper; struct bitm_span lower; struct bitm_span low; struct bitm_span starts; struct bitm_span starts0; struct bitm_span samples; struct bitm_span samples0; uint64_t checksum; };
+struct bitm_prefixes { const uint64_t *bits; size_t bits_len; const uint64_t *ones; size_t ones_len; };
+struct bitm_shard_place { size_t shard; uint64_t within; };
+struct bitm_shards { struct bitm_prefixes counts; const struct bitm_index *shards; size_t shards_len; uint64_t reserved[2]; };
 uint32_t bitm_version(void);
 size_t bitm_bits_words_len(uint64_t bits_len);
 uint32_t bitm_bits_get(const uint64_t *words, size_t words_len, uint64_t bits_len, uint64_t position, uint64_t *out);
 uint32_t bitm_bits_set(uint64_t *words, size_t words_len, uint64_t bits_len, uint64_t position, bool value);
+uint32_t bitm_bits_set_list(uint64_t *words, size_t words_len, uint64_t bits_len, const uint64_t *positions, size_t positions_len, bool value, uint64_t *outside);
 uint32_t bitm_bits_get_number(const uint64_t *words, size_t words_len, uint64_t bits_len, uint64_t begin, uint32_t width, uint64_t *out);
 uint32_t bitm_bits_set_number(uint64_t *words, size_t words_len, uint64_t bits_len, uint64_t begin, uint32_t width, uint64_t value);
 uint32_t bitm_bits_xor_number(uint64_t *words, size_t words_len, uint64_t bits_len, uint64_t begin, uint32_t width, uint64_t value);
@@ -40,6 +47,8 @@ uint32_t bitm_bits_and(uint64_t *words, size_t words_len, const uint64_t *other,
 uint32_t bitm_bits_or(uint64_t *words, size_t words_len, const uint64_t *other, size_t other_len);
 uint32_t bitm_bits_xor(uint64_t *words, size_t words_len, const uint64_t *other, size_t other_len);
 uint32_t bitm_bits_and_not(uint64_t *words, size_t words_len, const uint64_t *other, size_t other_len);
+uint32_t bitm_bits_intersects(const uint64_t *words, size_t words_len, const uint64_t *other, size_t other_len, uint64_t bits_len, uint64_t *out);
+uint32_t bitm_bits_is_subset(const uint64_t *words, size_t words_len, const uint64_t *other, size_t other_len, uint64_t bits_len, uint64_t *out);
 uint32_t bitm_bits_select_in_word(uint64_t word, uint32_t rank, uint64_t *out);
 uint32_t bitm_bits_to_store(uint64_t value);
 uint32_t bitm_bytes_get57(const uint8_t *bytes, size_t bytes_len, uint64_t first_bit, uint64_t *out);
@@ -82,5 +91,12 @@ uint32_t bitm_hash_build(uint64_t *hashes, size_t hashes_len, uint32_t percent, 
 uint32_t bitm_hash_get(const struct bitm_hash *hash, uint64_t key_hash, uint64_t *out);
 uint32_t bitm_hash_get_list(const struct bitm_hash *hash, const uint64_t *key_hashes, size_t key_hashes_len, uint64_t *out, size_t out_len, struct bitm_list_counts *counts);
 uint32_t bitm_stored_index(uint64_t bits_len, uint32_t ones_log2, uint64_t ones_len, uint32_t zeros_log2, uint64_t zeros_len, struct bitm_stored *out);
+uint32_t bitm_stored_index_room(uint64_t bits_len, uint32_t ones_log2, uint32_t zeros_log2, struct bitm_stored *out);
+uint32_t bitm_stored_build(const uint64_t *words, size_t words_len, uint64_t bits_len, uint32_t ones_log2, uint32_t zeros_log2, uint64_t *to, size_t to_len, uint64_t *upper, size_t upper_len, uint64_t *lower, size_t lower_len, uint64_t *starts, size_t starts_len, uint64_t *starts0, size_t starts0_len, uint32_t *samples, size_t samples_len, struct bitm_stored *out);
 uint32_t bitm_stored_sequence(uint64_t len, const struct bitm_sequence_lens *lens, struct bitm_stored *out);
 uint32_t bitm_stored_read(const uint64_t *file, size_t file_len, struct bitm_stored *out);
+uint32_t bitm_prefix_sums(const uint64_t *numbers, size_t numbers_len, uint64_t *out, size_t out_len);
+uint32_t bitm_prefix_sums_check(const uint64_t *numbers, size_t numbers_len, const uint64_t *sums, size_t sums_len);
+uint32_t bitm_shards_find(const struct bitm_prefixes *counts, uint32_t kind, uint64_t number, struct bitm_shard_place *out);
+uint32_t bitm_shards_rank(const struct bitm_shards *shards, bool one, uint64_t position, uint64_t *out);
+uint32_t bitm_shards_select(const struct bitm_shards *shards, bool one, uint64_t rank, uint64_t *out);
