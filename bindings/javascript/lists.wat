@@ -59,20 +59,6 @@
       (local.set $from (i64.add (local.get $from) (i64.const 8)))
       (br $next))))
 
-  ;; Makes the bits at a list of positions 1, by bitm_bits_set. Returns how many positions there were before the first
-  ;; that is bits_len or more: n if there is none.
-  (func (export "set_positions") (param $words f64) (param $words_len f64) (param $bits_len f64) (param $list f64) (param $n f64)
-    (result f64) (local $p i64) (local $end i64)
-    (local.set $p (i64.trunc_f64_u (local.get $list)))
-    (local.set $end (i64.add (local.get $p) (i64.shl (i64.trunc_f64_u (local.get $n)) (i64.const 3))))
-    (block $done (loop $next
-      (br_if $done (i64.ge_u (local.get $p) (local.get $end)))
-      (br_if $done (call $bitm_bits_set (i64.trunc_f64_u (local.get $words)) (i64.trunc_f64_u (local.get $words_len))
-        (i64.trunc_f64_u (local.get $bits_len)) (i64.load (local.get $p)) (i32.const 1)))
-      (local.set $p (i64.add (local.get $p) (i64.const 8)))
-      (br $next)))
-    (f64.sub (local.get $n) (f64.convert_i64_u (i64.shr_u (i64.sub (local.get $end) (local.get $p)) (i64.const 3)))))
-
   ;; Copies those of n values whose flag, of 64 bits too, is not 0 behind the first k of `to`, leaving out what equals the
   ;; one before. Returns how many `to` has then.
   (func (export "keep") (param $values f64) (param $flags f64) (param $n f64) (param $to f64) (param $k f64) (result f64)

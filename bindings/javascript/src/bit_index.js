@@ -1,9 +1,9 @@
 import { bytesAt, calls, wasm } from "./core.js";
-import { BitVector } from "./bit_vector.js";
+import { BitVector, wordsOf } from "./bit_vector.js";
 import { answers, chunks } from "./lists.js";
 import { Block, dispose, freed } from "./memory.js";
 import { orNone, orThrow, place } from "./numbers.js";
-import { BEFORE, indexHeader, putHeader, putIndex } from "./stored.js";
+import { BEFORE, buildIndex, indexRoom, putIndex } from "./stored.js";
 
 /** Bits that do not change, with tables to count and find them at once. */
 export class Index {
@@ -19,38 +19,14 @@ export class Index {
         }
         if (!(bits instanceof BitVector)) throw new TypeError("bitm: an index is made of a BitVector");
         const log2 = options.sampleLog2 === undefined ? 0 : sampleLog2(options.sampleLog2);
-        const words = calls.bitm_bits_words_len(bits.length), most = log2 ? calls.bitm_index_samples_len(words, log2) : 0;
-        this.#header = indexHeader(bits.length, log2, most, log2, most);
-        this.#block = new Block(BEFORE + this.#header.size).heldBy(this, at => this.#build(at, bits, log2, most));
+        const room = indexRoom(bits.length, log2);
+        this.#block = new Block(BEFORE + room.size).heldBy(this, at => {
+            this.#header = buildIndex(at, wordsOf(bits), room);
+        });
     }
 
     static fromPositions(positions, length, options) { return indexOf(BitVector.fromPositions(positions, length), options); }
     static fromBooleans(booleans, options) { return indexOf(BitVector.fromBooleans(booleans), options); }
-
-    #build(at, bits, log2, most) {
-        const file = at + BEFORE, it = this.#header, of = name => [file + it[`${name}_at`], it[`${name}_len`]];
-        bytesAt(file, it.size).fill(0);
-        const bytes = bits.toBytes();
-        bytesAt(file + it.words_at, bytes.length).set(bytes);
-        orThrow(calls.bitm_index_build(...of("words"), ...of("upper"), ...of("lower")), "the index", it.len);
-        putIndex(at, it);
-        if (log2) this.#sample(at, log2, most);
-        indexHeader(this.#header.len, log2, this.#header.samples_len, log2, this.#header.samples0_len);
-        putHeader(file);
-    }
-
-    /** Builds the samples in their place; those of 0 bits stand behind those that there are of 1 bits. */
-    #sample(at, log2, most) {
-        const made = (one, zero) => {
-            const it = this.#header, of = name => [at + BEFORE + it[`${name}${zero}_at`], it[`${name}${zero}_len`]];
-            return orThrow(calls.bitm_index_build_samples(at, one, log2, ...of("samples"), ...of("starts")), "samples", log2);
-        };
-        const ones = made(1, "");
-        this.#header = indexHeader(this.#header.len, log2, ones, log2, most);
-        const zeros = made(0, "0");
-        this.#header = indexHeader(this.#header.len, log2, ones, log2, zeros);
-        putIndex(at, this.#header);
-    }
 
     #live() {
         const at = this.#block.at;

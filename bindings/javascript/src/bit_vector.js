@@ -5,11 +5,16 @@ import { big, must, orNone, orThrow, place, refused, upTo } from "./numbers.js";
 
 const MOST_BITS = 2 ** 50;
 
+/** Where the words of a vector stand, and how many there are: for the other values of this package. */
+export let wordsOf;
+
 /** A fixed number of bits, each 0 or 1. Bit i is bit i % 64, lowest first, of word i / 64. */
 export class BitVector {
     #block;
     #words;
     #length;
+
+    static { wordsOf = it => [it.#live(), it.#words]; }
 
     /** All bits are 0. */
     constructor(length) {
@@ -26,9 +31,10 @@ export class BitVector {
             copyIn(items, list, "positions");
             let bits = length;
             if (bits === undefined) bits = items.reduce((most, it) => (it >= most ? Number(it) + 1 : most), 0);
-            const made = new BitVector(bits), set = calls.set_positions(made.#live(), made.#words, made.#length, list, n);
-            if (set < n) throw new RangeError(`bitm: position ${items[set]} is past the end of ${made.#length} bits`);
-            return made;
+            const made = new BitVector(bits), outside = calls.bitm_bits_set_list(made.#live(), made.#words, made.#length, list, n, 1);
+            if (orThrow(outside, "positions", n) === 0) return made;
+            made.free();
+            throw new RangeError(`bitm: position ${items.find(it => it >= made.#length)} is past the end of ${made.#length} bits`);
         });
     }
 
@@ -207,10 +213,15 @@ export class BitVector {
     andNot(other) { return this.#combine("bitm_bits_and_not", other); }
     not() { return this.flip(0, this.#length); }
 
-    #combine(name, other) {
+    /** The other, if it is a vector of as many bits. */
+    #alike(other) {
         if (!(other instanceof BitVector)) throw new TypeError("bitm: the other must be a BitVector");
         if (other.#length !== this.#length) throw new RangeError(`bitm: ${other.#length} bits are not ${this.#length}`);
-        const from = other === this ? other.clone() : other;
+        return other;
+    }
+
+    #combine(name, other) {
+        const from = this.#alike(other) === this ? other.clone() : other;
         must(calls[name](this.#live(), this.#words, from.#live(), from.#words), "the other");
         if (from !== other) from.free();
         return this;
@@ -222,9 +233,16 @@ export class BitVector {
     symmetricDifference(other) { return this.clone().xor(other); }
     difference(other) { return this.clone().andNot(other); }
     complement() { return this.clone().not(); }
-    isSubsetOf(other) { return none(this.difference(other)); }
-    isSupersetOf(other) { return none(other.difference(this)); }
-    isDisjointFrom(other) { return none(this.intersection(other)); }
+
+    /** Whether each 1 bit is one of other too; each of other is one of these; no position has a 1 bit in both. */
+    isSubsetOf(other) { return this.#asks("bitm_bits_is_subset", this.#alike(other)); }
+    isSupersetOf(other) { return this.#alike(other).#asks("bitm_bits_is_subset", this); }
+    isDisjointFrom(other) { return !this.#asks("bitm_bits_intersects", this.#alike(other)); }
+
+    #asks(name, other) {
+        const got = calls[name](this.#live(), this.#words, other.#live(), other.#words, this.#length);
+        return orThrow(got, "the other", this.#length) === 1;
+    }
 
     /** Gives the memory back at once. */
     free() { this.#block.free(); }
@@ -241,10 +259,4 @@ function widthOf(width) {
     if (typeof width !== "number" || !Number.isInteger(width) || width < 0 || width > 64)
         throw new RangeError(`bitm: a width is 0 to 64, and not ${String(width)}`);
     return width;
-}
-
-function none(made) {
-    const found = made.next(0) === undefined;
-    made.free();
-    return found;
 }

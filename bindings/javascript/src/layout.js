@@ -55,6 +55,23 @@ export const BITM_SEQUENCE_LENS = {
     upper_len: 24,
     lower_len: 32,
 };
+export const BITM_SEQUENCE_WALK = {
+    bytes: 632,
+    sequence_len: 0,
+    sequence_width: 8,
+    sequence_low: 16,
+    sequence_low_len: 24,
+    sequence_words: 32,
+    sequence_words_len: 40,
+    sequence_upper: 48,
+    sequence_upper_len: 56,
+    sequence_lower: 64,
+    sequence_lower_len: 72,
+    first: 96,
+    at: 104,
+    len: 112,
+    numbers: 120,
+};
 export const BITM_HASH = {
     bytes: 176,
     index_words: 0,
@@ -109,4 +126,25 @@ export const BITM_STORED = {
     samples0_at: 168,
     samples0_len: 176,
     checksum: 184,
+};
+export const BITM_PREFIXES = {
+    bytes: 32,
+    bits: 0,
+    bits_len: 8,
+    ones: 16,
+    ones_len: 24,
+};
+export const BITM_SHARD_PLACE = {
+    bytes: 16,
+    shard: 0,
+    within: 8,
+};
+export const BITM_SHARDS = {
+    bytes: 64,
+    counts_bits: 0,
+    counts_bits_len: 8,
+    counts_ones: 16,
+    counts_ones_len: 24,
+    shards: 32,
+    shards_len: 40,
 };

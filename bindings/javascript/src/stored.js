@@ -15,13 +15,28 @@ export function headerAt(at = BESIDE) {
     return it;
 }
 
-/** The header of an index, or of a sequence whose lengths stand at `lens`. */
-export function indexHeader(length, onesLog2, ones, zerosLog2, zeros) {
-    const got = calls.bitm_stored_index(length, onesLog2, ones, zerosLog2, zeros, BESIDE);
+/** The header of an index with as many samples as there can be, the same log2 for 1 bits and 0 bits, or 0 for none. */
+export function indexRoom(length, log2) {
+    const got = calls.bitm_stored_index_room(length, log2, log2, BESIDE);
     if (got !== 0) throw refused(got, "the index", length);
     return headerAt();
 }
 
+/** Builds the index of words and its struct in a block of that room: its header. */
+export function buildIndex(at, words, room) {
+    const file = at + BEFORE, of = name => [file + room[`${name}_at`], room[`${name}_len`]];
+    bytesAt(file, room.size).fill(0);
+    const parts = ["words", "upper", "lower", "starts", "starts0"].flatMap(of);
+    const samples = [file + room.samples_at, (room.size - room.samples_at) / 4];
+    const got = calls.bitm_stored_build(...words, room.len, room.ones_log2, room.zeros_log2, ...parts, ...samples, BESIDE);
+    if (got !== 0) throw refused(got, "the index", room.len);
+    const header = headerAt();
+    putHeader(file);
+    putIndex(at, header);
+    return header;
+}
+
+/** The header of a sequence whose lengths stand at `lens`. */
 export function sequenceHeader(length, lens) {
     const got = calls.bitm_stored_sequence(length, lens, BESIDE);
     if (got !== 0) throw refused(got, "the sequence", length);

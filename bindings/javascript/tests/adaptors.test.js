@@ -57,16 +57,66 @@ function prepare(spoilt) {
     return parts;
 }
 
-const SMALL = { index: 70, first: 30, second: 30, ones_log2: 14, zeros_log2: 14, width: 66, rank: 70, log2: 40, percent: 300, level: 9, most: 40, len: 100, largest: 100, count: 90, left: 400 };
+const SMALL = { index: 70, first: 30, second: 30, ones_log2: 14, zeros_log2: 14, width: 66, rank: 70, log2: 40, percent: 300, level: 9, most: 40, len: 100, largest: 100, count: 90, left: 400, kind: 4, number: 6000, first_bit: 300 };
 // Which parts of the arena a pointer of this name has; others are free slots, one for each parameter.
 const WHERE = { index: slot(3), sequence: slot(8), hash: slot(9) };
+
+/** Two shards, both the index in slot 3, with their counts, of which one may be wrong: the struct. */
+function shards(spoilt) {
+    const index = structs.get("bitm_index").size, both = slot(17), bits = slot(20), ones = slot(21), at = slot(22);
+    for (let k = 0; k < 2; k++) arena().copyWithin(both - START + k * index, slot(3) - START, slot(3) - START + index);
+    assert.equal(library.bitm_index_count(BigInt(slot(3)), 1, BigInt(ANSWER)), 0);
+    const count = words(ANSWER, 1)[0];
+    words(bits, 3).set([0n, BigInt(BITS), BigInt(2 * BITS)]);
+    words(ones, 3).set([0n, count, 2n * count]);
+    if (spoilt) words(r() % 2 ? bits : ones, 3)[r() % 3] = BigInt(r() % 9000);
+    put(at, "bitm_prefixes", { bits, bits_len: 3, ones, ones_len: r() % 7 ? 3 : 2 });
+    put(at, "bitm_shards", { shards: both, shards_len: r() % 7 ? 2 : 1 });
+    return at;
+}
+
+/** Sums of the first numbers in slot 10, of which one may be wrong, in slot 16: of how many numbers. */
+function sums(spoilt) {
+    const n = r() % N;
+    assert.equal(library.bitm_prefix_sums(BigInt(slot(10)), BigInt(n), BigInt(slot(16)), BigInt(n + 1)), 0);
+    if (spoilt) words(slot(16), n + 1)[r() % (n + 1)] += 1n;
+    return n;
+}
+
+const someLog2 = () => (r() % 5 ? [0, 7 + (r() % 8)][r() % 2] : r() % 40);
+// By export: arguments that have to fit together, by name.
+const FITTING = {
+    bitm_bits_set_list: () => ({ positions: slot(11) }),
+    bitm_bits_intersects: () => ({ other: slot([0, 10][r() % 2]) }),
+    bitm_bits_is_subset: () => ({ other: slot([0, 10][r() % 2]) }),
+    bitm_stored_build() {
+        const ones_log2 = someLog2(), zeros_log2 = someLog2(), wrong = () => (r() % 20 ? 0 : 1);
+        return {
+            ones_log2, zeros_log2, words_len: N, to_len: N, upper_len: 1 + wrong(), lower_len: 2 - wrong(),
+            starts_len: Math.sign(ones_log2) - (ones_log2 ? wrong() : 0), starts0_len: Math.sign(zeros_log2) + wrong(), samples_len: r() % 9 ? 64 : r() % 40,
+        };
+    },
+    bitm_prefix_sums() {
+        const n = r() % N;
+        return { numbers_len: n, out_len: n + (r() % 7 ? 1 : 0) };
+    },
+    bitm_prefix_sums_check() {
+        const n = sums(r() % 3 === 0);
+        return { numbers_len: n, sums: slot(16), sums_len: n + (r() % 7 ? 1 : 0) };
+    },
+    bitm_shards_find: () => ({ counts: shards(r() % 3 === 0) }),
+    bitm_shards_rank: () => ({ shards: shards(r() % 3 === 0), position: r() % (2 * BITS + 60) }),
+    bitm_shards_select: () => ({ shards: shards(r() % 3 === 0), rank: r() % (2 * BITS) }),
+};
 
 /** Arguments that keep the duties of the header: lengths are those of the memory, or wrong ones that are refused. */
 function argumentsOf(call, parts) {
     const building = call.name === "bitm_sequence_build", ofIndex = call.name === "bitm_index_build";
+    const fitting = FITTING[call.name]?.() ?? {};
     let free = 16;
     if (call.name === "bitm_stored_read" && r() % 3) library.bitm_stored_sequence(60n, BigInt(slot(15)), BigInt(slot(10)));
     return call.parameters.map(({ type, name }, k) => {
+        if (name in fitting) return fitting[name];
         if (name in WHERE && type.endsWith("*")) return WHERE[name];
         if (building && k >= 2 && k < 10) return parts[k - 2];
         if (building && name === "items") return slot(14);
@@ -104,13 +154,13 @@ function both(call, parts) {
 }
 
 test("each adaptor does what its export does", () => {
-    assert.equal(exported.length, 69);
+    assert.equal(exported.length, 79);
     for (const call of exported) {
         let answered = 0;
         for (let round = 0; round < 60; round++) answered += both(call, prepare(round % 4 === 3));
         assert.ok(answered >= 5, `${call.name} answered ${answered} times of 60`);
     }
-    tally.atLeast(69 * 60);
+    tally.atLeast(79 * 60);
 });
 
 test("each adaptor refuses what is no whole number of its range", () => {
@@ -141,6 +191,14 @@ const LEFT_OUT = {
     bitm_bytes_set25: "as bitm_bytes_get57",
     bitm_index_count: "a rank at the length gives the same number with fewer reads",
     bitm_hash_level: "bitm_hash_build builds all levels",
+    bitm_stored_index: "bitm_stored_build writes the header of an index",
+    bitm_index_build_samples: "bitm_stored_build writes the samples too",
+    bitm_index_samples_len: "bitm_stored_index_room says how long all parts are",
+    bitm_prefix_sums: "there are no shards here yet",
+    bitm_prefix_sums_check: "as bitm_prefix_sums",
+    bitm_shards_find: "as bitm_prefix_sums",
+    bitm_shards_rank: "as bitm_prefix_sums",
+    bitm_shards_select: "as bitm_prefix_sums",
 };
 
 test("each export is reached, or listed with its reason", () => {
