@@ -67,7 +67,12 @@ public:
     template <class It> static bits of_positions(It first, It last, std::uint64_t size)
     {
         bits made(size);
-        for (; first != last; ++first) made.set(static_cast<std::uint64_t>(*first));
+        std::uint64_t room[256];
+        while (first != last) {
+            std::size_t len = 0;
+            for (; len < 256 && first != last; ++first) room[len++] = static_cast<std::uint64_t>(*first);
+            made.set_list({room, len});
+        }
         return made;
     }
     template <class Positions, class = decltype(std::begin(std::declval<const Positions &>()))>
@@ -331,6 +336,13 @@ private:
     {
         detail::need(status);
         return *this;
+    }
+    void set_list(words_in positions)
+    {
+        std::uint64_t past = 0;
+        done(bitm_bits_set_list(block_.data(), len_, size_, positions.data(), positions.size(), true, &past));
+        if (BITM_RARELY(past > 0))
+            for (const std::uint64_t at : positions) test(at); // fails at the first that is past the end
     }
     // Whether a view lies in the memory of this owner.
     bool mine(const bits_view &other) const noexcept

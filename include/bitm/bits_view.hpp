@@ -261,7 +261,7 @@ public:
     // Whether each 1 bit is a 1 bit of the other; whether some position has a 1 bit in both. Both have the same size.
     template <class Other> bool is_subset_of(const bits_calls<Other> &other) const
     {
-        return !some(other, [](std::uint64_t a, std::uint64_t b) { return (a & ~b) != 0; });
+        return asked(bitm_bits_is_subset, other);
     }
     template <class Other> bool is_proper_subset_of(const bits_calls<Other> &other) const
     {
@@ -269,7 +269,7 @@ public:
     }
     template <class Other> bool intersects(const bits_calls<Other> &other) const
     {
-        return some(other, [](std::uint64_t a, std::uint64_t b) { return (a & b) != 0; });
+        return asked(bitm_bits_intersects, other);
     }
 
     template <class Other> friend bool operator==(const bits_calls &a, const bits_calls<Other> &b)
@@ -319,15 +319,14 @@ private:
         need(bitm_bits_equal_range(a.words, a.len, 0, b.words, b.len, 0, a.size, &equal));
         return equal != 0;
     }
-    // Whether `test` holds of some 64 bits of both, or of the last fewer.
-    template <class Other, class Test> bool some(const bits_calls<Other> &other, Test test) const
+    // What a call says of these bits and others of the same size.
+    template <class Call, class Other> bool asked(Call call, const bits_calls<Other> &other) const
     {
-        if (BITM_RARELY(size() != other.size())) fail(bad_size("the other bits have another size"));
-        for (std::uint64_t at = 0; at < size(); at += 64) {
-            const std::uint32_t len = static_cast<std::uint32_t>(lesser(64, size() - at));
-            if (test(get_bits(at, len), other.get_bits(at, len))) return true;
-        }
-        return false;
+        std::uint64_t answer = 0;
+        const bits_parts a = parts(), b = other.parts();
+        if (BITM_RARELY(a.size != b.size)) fail(bad_size("the other bits have another size"));
+        need(call(a.words, a.len, b.words, b.len, a.size, &answer));
+        return answer != 0;
     }
 };
 

@@ -226,10 +226,12 @@ class BITM_OWNER rank_index : public detail::index_calls<rank_index>, public det
 public:
     rank_index() noexcept = default;
     explicit rank_index(bits_view of, sampling how = {})
-        : rank_index(build(of.size(), how, [&](words_out to) {
-              if (of.words_len()) std::memcpy(to.data(), of.words_data(), 8 * of.words_len());
-          }))
     {
+        bitm_stored header = roomed(of.size(), how);
+        const std::uint64_t *const words = of.words_data();
+        detail::need(bitm_stored_write_index(words, of.words_len(), of.size(), how.ones, how.zeros, block_.data(),
+                                             block_.size(), &header));
+        keep(header);
     }
     explicit rank_index(const bits &of, sampling how = {}) : rank_index(of.view(), how) {}
     explicit rank_index(words_in words, maybe_position size = {}, sampling how = {})
@@ -243,19 +245,13 @@ public:
     // An index of `size` bits, which `fill` writes into words of zeros: without a copy.
     template <class Fill> static rank_index build(std::uint64_t size, sampling how, Fill &&fill)
     {
-        const auto most = [&](std::uint32_t log2) {
-            return log2 ? bitm_index_samples_len(bitm_bits_words_len(size), log2) : 0;
-        };
-        bitm_stored header;
-        detail::need(bitm_stored_index(size, how.ones, most(how.ones), how.zeros, most(how.zeros), &header),
-                     detail::fault_of(how));
         rank_index made;
-        made.block_ = detail::block(header.size / 8);
+        bitm_stored header = made.roomed(size, how);
         std::uint64_t *const file = made.block_.data();
         std::uint64_t *const words = bitm_stored_room(file, header.words);
         fill(words_out(words, header.words.len));
         detail::need(bitm_bits_clear_from(words, header.words.len, size));
-        std::uint64_t ones = 0, used[2] = {most(how.ones), most(how.zeros)};
+        std::uint64_t ones = 0, used[2] = {header.samples.len, header.samples0.len};
         detail::need(bitm_index_build(words, header.words.len, bitm_stored_room(file, header.upper), header.upper.len,
                                       bitm_stored_room(file, header.lower), header.lower.len, &ones));
         // Samples of 1 bits first: those of 0 bits begin where they end, which the header says once they are made.
@@ -269,8 +265,7 @@ public:
             detail::need(bitm_stored_index(size, how.ones, used[0], how.zeros, used[1], &header));
         }
         std::memcpy(file, &header, sizeof header);
-        made.used_ = header.size / 8;
-        made.raw_ = bitm_stored_index_of(file, &header);
+        made.keep(header);
         return made;
     }
 
@@ -324,6 +319,19 @@ public:
 private:
     friend class detail::index_calls<rank_index>;
     friend class detail::stored_calls<rank_index>;
+    // Takes memory for the file of any such index: the header with as many samples as there can be.
+    bitm_stored roomed(std::uint64_t size, sampling how)
+    {
+        bitm_stored header;
+        detail::need(bitm_stored_index_room(size, how.ones, how.zeros, &header), detail::fault_of(how));
+        block_ = detail::block(header.size / 8);
+        return header;
+    }
+    void keep(const bitm_stored &header) noexcept
+    {
+        used_ = header.size / 8;
+        raw_ = bitm_stored_index_of(block_.data(), &header);
+    }
     // Builds samples in their place in the file: how many there are.
     static std::uint64_t sampled(const bitm_index &over, bool one, std::uint32_t log2, std::uint64_t *file,
                                  bitm_span samples, bitm_span starts)
