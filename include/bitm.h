@@ -374,7 +374,7 @@ BITM_MUST_USE uint32_t bitm_index_build_samples(const struct bitm_index *index, 
  * those of the words: BITM_OK or BITM_WRONG; over other tables either of these. BITM_BAD_SIZE as for all. */
 BITM_MUST_USE uint32_t bitm_index_check_samples(const struct bitm_index *index, bool one);
 
-/* How many 1 bits, or 0 bits, there are before a position; position bits_len asks for all. At most position. BITM_NONE
+/* How many 1 bits, or 0 bits, there are before a position; for position bits_len, of all. At most position. BITM_NONE
  * exactly if position is above bits_len; BITM_WRONG if the tables turn out not to be those of the words. Reads at most
  * one upper entry, one lower entry and eight words. */
 BITM_MUST_USE uint32_t bitm_index_rank(const struct bitm_index *index, bool one, uint64_t position, uint64_t *out);
@@ -716,13 +716,14 @@ struct bitm_stored {
 BITM_MUST_USE uint32_t bitm_stored_index(uint64_t bits_len, uint32_t ones_log2, uint64_t ones_len, uint32_t zeros_log2,
                                          uint64_t zeros_len, struct bitm_stored *out);
 
-/* The same with the greatest numbers of samples that so many bits can have: s.size bytes hold each such index. */
+/* As bitm_stored_index, with the greatest numbers of samples that bits_len bits can have: out->size bytes hold every index
+ * of that many bits. */
 BITM_MUST_USE uint32_t bitm_stored_index_room(uint64_t bits_len, uint32_t ones_log2, uint32_t zeros_log2,
                                               struct bitm_stored *out);
 
 /* Copies the first bits_len bits of words to an index in the caller's memory, 0 bits after them; writes its tables, the
  * samples of 1 bits and of 0 bits, each with a log2 of 7 to 31, or 0 and none, and to out the header of such a file. The
- * samples of 0 bits begin at the first multiple of 16 behind the others. BITM_BAD_SIZE if words has fewer bits, to,
+ * samples of 0 bits begin at the first multiple of 16 after the others. BITM_BAD_SIZE if words has fewer bits, to,
  * upper, lower, starts or starts0 is not as long as bitm_stored_index_room says, samples has not room for the greatest
  * number of each kind, or for other log2. Nothing that is passed may overlap. Reads the words twice. */
 BITM_MUST_USE uint32_t bitm_stored_build(const uint64_t *words, size_t words_len, uint64_t bits_len, uint32_t ones_log2,
