@@ -33,7 +33,7 @@ fn source() -> Vec<(String, String)> {
 /// Whether a line begins an item that somebody else sees.
 fn begins(line: &str, in_trait: bool, in_enum: bool) -> bool {
     let is_seen = line.starts_with("pub ") && !line.starts_with("pub use crate::sys");
-    let is_impl = line.starts_with("impl") || line.starts_with("answers") || line.starts_with("combines!");
+    let is_impl = ["impl", "answers", "combines!", "compares!"].iter().any(|it| line.starts_with(it));
     let is_method = in_trait && ["fn ", "unsafe fn ", "type "].iter().any(|it| line.starts_with(it));
     let is_variant = in_enum && line.starts_with(char::is_uppercase);
     is_seen || is_impl || is_method || is_variant

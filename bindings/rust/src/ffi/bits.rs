@@ -20,6 +20,17 @@ extern "C" {
     pub fn bitm_bits_set(words: *mut u64, words_len: usize, bits_len: u64, position: u64, value: bool) -> u32;
 }
 extern "C" {
+    pub fn bitm_bits_set_list(
+        words: *mut u64,
+        words_len: usize,
+        bits_len: u64,
+        positions: *const u64,
+        positions_len: usize,
+        value: bool,
+        outside: *mut u64,
+    ) -> u32;
+}
+extern "C" {
     pub fn bitm_bits_get_number(
         words: *const u64,
         words_len: usize,
@@ -185,6 +196,26 @@ extern "C" {
 }
 extern "C" {
     pub fn bitm_bits_and_not(words: *mut u64, words_len: usize, other: *const u64, other_len: usize) -> u32;
+}
+extern "C" {
+    pub fn bitm_bits_intersects(
+        words: *const u64,
+        words_len: usize,
+        other: *const u64,
+        other_len: usize,
+        bits_len: u64,
+        out: *mut u64,
+    ) -> u32;
+}
+extern "C" {
+    pub fn bitm_bits_is_subset(
+        words: *const u64,
+        words_len: usize,
+        other: *const u64,
+        other_len: usize,
+        bits_len: u64,
+        out: *mut u64,
+    ) -> u32;
 }
 extern "C" {
     pub fn bitm_bits_select_in_word(word: u64, rank: u32, out: *mut u64) -> u32;

@@ -156,6 +156,31 @@ extern "C" {
     ) -> u32;
 }
 extern "C" {
+    pub fn bitm_stored_index_room(bits_len: u64, ones_log2: u32, zeros_log2: u32, out: *mut bitm_stored) -> u32;
+}
+extern "C" {
+    pub fn bitm_stored_build(
+        words: *const u64,
+        words_len: usize,
+        bits_len: u64,
+        ones_log2: u32,
+        zeros_log2: u32,
+        to: *mut u64,
+        to_len: usize,
+        upper: *mut u64,
+        upper_len: usize,
+        lower: *mut u64,
+        lower_len: usize,
+        starts: *mut u64,
+        starts_len: usize,
+        starts0: *mut u64,
+        starts0_len: usize,
+        samples: *mut u32,
+        samples_len: usize,
+        out: *mut bitm_stored,
+    ) -> u32;
+}
+extern "C" {
     pub fn bitm_stored_sequence(len: u64, lens: *const bitm_sequence_lens, out: *mut bitm_stored) -> u32;
 }
 extern "C" {

@@ -140,6 +140,38 @@ pub fn equal_range(a: &[u64], a_begin: usize, b: &[u64], b_begin: usize, count: 
     (status == BITM_OK).then_some(out == 1)
 }
 
+macro_rules! compares {
+    ($(#[$doc:meta])* $name:ident, $call:ident) => {
+        $(#[$doc])*
+        #[track_caller]
+        pub fn $name(words: &[u64], other: &[u64], bits_len: usize) -> bool {
+            let (at, len, from, from_len, mut out) = (words.as_ptr(), words.len(), other.as_ptr(), other.len(), 0);
+            // SAFETY: two slices, and room for one number.
+            let status = unsafe { $call(at, len, from, from_len, bits_len as u64, &mut out) };
+            found(status, out, bits_len, len.min(from_len)) == Some(1)
+        }
+    };
+}
+compares! {
+    /// Whether a position among the first `bits_len` has a 1 bit in both: up to the first word that decides.
+    ///
+    /// ```
+    /// use bitm_proved::words;
+    /// assert_eq!((words::intersects(&[0b110], &[0b1100], 4), words::intersects(&[0b110], &[0b1100], 2)), (true, false));
+    /// ```
+    intersects, bitm_bits_intersects
+}
+compares! {
+    /// Whether each 1 bit of the words among the first `bits_len` is a 1 bit of the other words: up to the first word
+    /// that decides.
+    ///
+    /// ```
+    /// use bitm_proved::words;
+    /// assert_eq!((words::is_subset(&[0b100], &[0b1100], 4), words::is_subset(&[0b110], &[0b1100], 4)), (true, false));
+    /// ```
+    is_subset, bitm_bits_is_subset
+}
+
 /// The position of the 1 bit of a word with a rank; `None` exactly where there is none.
 ///
 /// ```

@@ -18,6 +18,23 @@ pub fn set(words: &mut [u64], bits_len: usize, position: usize, value: bool) -> 
     found(status, 0, bits_len, len).map(|_| ())
 }
 
+/// Makes the bits at a list of positions the value. Returns how many of the positions are `bits_len` or more: these
+/// change nothing.
+///
+/// ```
+/// use bitm_proved::words;
+/// let mut bits = [0];
+/// assert_eq!((words::set_list(&mut bits, 5, &[4, 0, 9, 4], true), bits), (1, [0b1_0001]));
+/// ```
+#[track_caller]
+pub fn set_list(words: &mut [u64], bits_len: usize, positions: &[usize], value: bool) -> usize {
+    let (at, len, mut outside) = (words.as_mut_ptr(), words.len(), 0);
+    let (bits, list) = (bits_len as u64, super::memory::as_u64(positions));
+    // SAFETY: a mutable slice and a shared one, which do not overlap, and room for one number.
+    let status = unsafe { bitm_bits_set_list(at, len, bits, list.as_ptr(), list.len(), value, &mut outside) };
+    found(status, outside, bits_len, len).unwrap_or(0) as usize
+}
+
 /// Replaces `width` bits from `begin` on by the lowest bits of a number; `None`, and nothing is written, exactly where
 /// they do not all end by `bits_len`.
 ///
