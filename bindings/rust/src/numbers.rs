@@ -213,7 +213,7 @@ impl<'a> Numbers<'a> {
         Numbers { view, range, front: Block::NONE, back: Block::NONE }
     }
 
-    /// The index of the number that is next from the front.
+    /// The index of the number that is next from the start.
     pub fn index(&self) -> usize {
         self.range.start
     }
