@@ -1,9 +1,13 @@
 // Bits in shards: which shard holds a position or a rank, and the shards of one process asked as one.
 //
-//     bitm::prefix_counts counts(bits_of_each, ones_of_each);     // two lists of numbers, one for each shard
-//     counts.find_one(17);                                        // the shard of that 1 bit, and its rank there
-//     bitm::sharded_index x({a.view(), b.view(), c.view()});      // counts them; the indexes stay the caller's
-//     x.rank(70), x.select(3);                                    // as one index of the joined bits
+//     bitm::bits first(100), second(200);
+//     first.set(7);
+//     second.set(30);
+//     bitm::prefix_counts counts({100, 200}, {1, 1});            // the bits and the 1 bits of each shard
+//     std::cout << counts.find_one(1)->shard << '\n';             // 1
+//     bitm::rank_index a(first), b(second);
+//     bitm::sharded_index joined({a.view(), b.view()});          // counts them; the indexes stay the caller's
+//     std::cout << joined.rank(110) << ' ' << *joined.select(1) << '\n'; // 1 130
 //
 // Where the counts are those of the shards, and each shard's tables those of its words, the answers are those of counting.
 #ifndef BITM_SHARDS_HPP
