@@ -10,6 +10,12 @@ macro_rules! answers {
     ($kind:ty, $self:ident, $view:expr, $($generic:tt)*) => {
         impl $($generic)* $kind {
             /// The number at an index; `None` exactly where there is none. One proved call.
+            ///
+            /// ```
+            /// let primes = bitm_proved::EliasFano::build(&[2, 3, 5, 7])?;
+            /// assert_eq!((primes.get(0), primes.get(3), primes.get(4)), (Some(2), Some(7), None));
+            /// # Ok::<(), bitm_proved::BuildError>(())
+            /// ```
             #[inline]
             #[track_caller]
             pub fn get(&$self, index: usize) -> Option<u64> {
@@ -18,6 +24,13 @@ macro_rules! answers {
 
             /// The successor: the least index whose number is at least `value`; `None` exactly where each number is
             /// less. One proved call.
+            ///
+            /// ```
+            /// let primes = bitm_proved::EliasFano::build(&[2, 3, 5, 7])?;
+            /// assert_eq!((primes.first_at_least(0), primes.first_at_least(4)), (Some(0), Some(2))); // of 2 and of 5
+            /// assert_eq!((primes.first_at_least(7), primes.first_at_least(8)), (Some(3), None));
+            /// # Ok::<(), bitm_proved::BuildError>(())
+            /// ```
             #[inline]
             #[track_caller]
             pub fn first_at_least(&$self, value: u64) -> Option<usize> {
@@ -26,6 +39,13 @@ macro_rules! answers {
 
             /// The predecessor: the greatest index whose number is at most `value`; `None` exactly where each number is
             /// greater. One proved call.
+            ///
+            /// ```
+            /// let primes = bitm_proved::EliasFano::build(&[2, 3, 5, 7])?;
+            /// assert_eq!((primes.last_at_most(4), primes.last_at_most(9)), (Some(1), Some(3))); // of 3 and of 7
+            /// assert_eq!((primes.last_at_most(2), primes.last_at_most(1)), (Some(0), None));
+            /// # Ok::<(), bitm_proved::BuildError>(())
+            /// ```
             #[inline]
             #[track_caller]
             pub fn last_at_most(&$self, value: u64) -> Option<usize> {
@@ -33,6 +53,12 @@ macro_rules! answers {
             }
 
             /// Whether a number is there. One proved call.
+            ///
+            /// ```
+            /// let primes = bitm_proved::EliasFano::build(&[2, 3, 5, 7])?;
+            /// assert!(primes.contains(5) && !primes.contains(4) && !primes.contains(8));
+            /// # Ok::<(), bitm_proved::BuildError>(())
+            /// ```
             #[inline]
             #[track_caller]
             pub fn contains(&$self, value: u64) -> bool {
@@ -40,11 +66,25 @@ macro_rules! answers {
             }
 
             /// The numbers, from either end.
+            ///
+            /// ```
+            /// let primes = bitm_proved::EliasFano::build(&[2, 3, 5, 7])?;
+            /// assert!(primes.iter().eq([2, 3, 5, 7]) && primes.iter().rev().eq([7, 5, 3, 2]));
+            /// assert_eq!((primes.iter().len(), primes.iter().sum::<u64>()), (4, 17));
+            /// # Ok::<(), bitm_proved::BuildError>(())
+            /// ```
             pub fn iter(&$self) -> Numbers<'_> {
                 Numbers::new(*$view, 0..$view.len())
             }
 
             /// The numbers whose indexes are in a range. Panics where it ends past the end.
+            ///
+            /// ```
+            /// let primes = bitm_proved::EliasFano::build(&[2, 3, 5, 7])?;
+            /// assert!(primes.range(1..3).eq([3, 5]) && primes.range(2..4).rev().eq([7, 5]));
+            /// assert_eq!(primes.range(4..4).next(), None);
+            /// # Ok::<(), bitm_proved::BuildError>(())
+            /// ```
             #[track_caller]
             pub fn range(&$self, range: Range<usize>) -> Numbers<'_> {
                 let len = $view.len();
@@ -53,11 +93,25 @@ macro_rules! answers {
             }
 
             /// As `range`; `None` where it ends past the end.
+            ///
+            /// ```
+            /// let primes = bitm_proved::EliasFano::build(&[2, 3, 5, 7])?;
+            /// assert!(primes.try_range(1..4).is_some_and(|it| it.eq([3, 5, 7])));
+            /// assert!(primes.try_range(1..5).is_none());
+            /// # Ok::<(), bitm_proved::BuildError>(())
+            /// ```
             pub fn try_range(&$self, range: Range<usize>) -> Option<Numbers<'_>> {
                 (range.end <= $view.len()).then(|| Numbers::new(*$view, range))
             }
 
             /// The numbers that are at least `value`, from either end.
+            ///
+            /// ```
+            /// let primes = bitm_proved::EliasFano::build(&[2, 3, 5, 7])?;
+            /// assert!(primes.iter_from(4).eq([5, 7]) && primes.iter_from(3).rev().eq([7, 5, 3]));
+            /// assert_eq!(primes.iter_from(8).next(), None);
+            /// # Ok::<(), bitm_proved::BuildError>(())
+            /// ```
             #[track_caller]
             pub fn iter_from(&$self, value: u64) -> Numbers<'_> {
                 let (len, first) = ($view.len(), $self.first_at_least(value));
@@ -71,23 +125,48 @@ answers!(Sequence<O>, self, self.view(), <O>);
 
 impl<O> Sequence<O> {
     /// How many numbers there are.
+    ///
+    /// ```
+    /// assert_eq!(bitm_proved::EliasFano::build(&[2, 3, 3, 7])?.len(), 4);
+    /// # Ok::<(), bitm_proved::BuildError>(())
+    /// ```
     #[inline]
     pub fn len(&self) -> usize {
         self.view().len()
     }
 
     /// Whether there are none.
+    ///
+    /// ```
+    /// use bitm_proved::EliasFano;
+    /// assert!(EliasFano::build(&[])?.is_empty() && !EliasFano::build(&[0])?.is_empty());
+    /// # Ok::<(), bitm_proved::BuildError>(())
+    /// ```
     #[inline]
     pub fn is_empty(&self) -> bool {
         self.len() == 0
     }
 
     /// Whether the parts are those of some sequence.
+    ///
+    /// ```
+    /// use bitm_proved::{EliasFano, Sequence};
+    /// let file = EliasFano::build(&[2, 3, 5, 7])?.to_stored()?;
+    /// assert!(Sequence::from_words(&file)?.check());
+    /// # Ok::<(), Box<dyn std::error::Error>>(())
+    /// ```
     pub fn check(&self) -> bool {
         self.view().check()
     }
 
     /// The words of a file of this sequence.
+    ///
+    /// ```
+    /// use bitm_proved::{EliasFano, Sequence};
+    /// let file: Vec<u64> = EliasFano::build(&[2, 3, 5, 7])?.to_stored()?;
+    /// assert!(Sequence::from_words(&file)?.iter().eq([2, 3, 5, 7]));
+    /// # Ok::<(), Box<dyn std::error::Error>>(())
+    /// ```
     pub fn to_stored(&self) -> Result<Vec<u64>, StoredError> {
         self.view().to_words()
     }
@@ -214,11 +293,27 @@ impl<'a> Numbers<'a> {
     }
 
     /// The index of the number that is next from the start.
+    ///
+    /// ```
+    /// let primes = bitm_proved::EliasFano::build(&[2, 3, 5, 7])?;
+    /// let mut numbers = primes.range(1..4);
+    /// assert_eq!((numbers.index(), numbers.next(), numbers.index()), (1, Some(3), 2));
+    /// assert_eq!((numbers.next_back(), numbers.index()), (Some(7), 2));
+    /// # Ok::<(), bitm_proved::BuildError>(())
+    /// ```
     pub fn index(&self) -> usize {
         self.range.start
     }
 
     /// Moves on to the first number that is still to come and is at least `value`, and takes it.
+    ///
+    /// ```
+    /// let primes = bitm_proved::EliasFano::build(&[2, 3, 5, 7])?;
+    /// let mut numbers = primes.iter();
+    /// assert_eq!((numbers.next_geq(3), numbers.next_geq(3)), (Some(3), Some(5))); // 3 is taken
+    /// assert_eq!((numbers.next_geq(8), numbers.next()), (None, None));
+    /// # Ok::<(), bitm_proved::BuildError>(())
+    /// ```
     #[track_caller]
     pub fn next_geq(&mut self, value: u64) -> Option<u64> {
         if self.front.at(self.range.start).is_some() {

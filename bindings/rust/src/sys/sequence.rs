@@ -39,6 +39,16 @@ unsafe impl Sync for SequenceView<'_> {}
 impl<'a> SequenceView<'a> {
     /// Of `len` numbers with `width` low bits: low bits, words of the high bits, and the two tables of these words. An
     /// error where a length does not fit.
+    ///
+    /// ```
+    /// use bitm_proved::{EliasFano, SequenceView, WrongTables};
+    /// let primes = EliasFano::build(&[2, 3, 5, 7])?;
+    /// let (width, [low, words, upper, lower]) = (primes.view().width(), primes.view().parts());
+    /// let view = SequenceView::new(4, width, [low, words, upper, lower])?;
+    /// assert!(view.iter().eq([2, 3, 5, 7]));
+    /// assert_eq!(SequenceView::new(4, width, [low, &[], upper, lower]).err(), Some(WrongTables));
+    /// # Ok::<(), Box<dyn std::error::Error>>(())
+    /// ```
     pub fn new(len: usize, width: u64, parts: [&'a [u64]; 4]) -> Result<Self, WrongTables> {
         let [low, words, upper, lower] = parts;
         let raw = bitm_sequence {
@@ -67,23 +77,50 @@ impl<'a> SequenceView<'a> {
     }
 
     /// How many numbers there are.
+    ///
+    /// ```
+    /// assert_eq!(bitm_proved::EliasFano::build(&[2, 3, 3, 7])?.view().len(), 4);
+    /// # Ok::<(), bitm_proved::BuildError>(())
+    /// ```
     #[inline]
     pub fn len(&self) -> usize {
         self.raw.len
     }
 
     /// Whether there are none.
+    ///
+    /// ```
+    /// use bitm_proved::EliasFano;
+    /// let (none, zero) = (EliasFano::build(&[])?, EliasFano::build(&[0])?);
+    /// assert!(none.view().is_empty() && !zero.view().is_empty());
+    /// # Ok::<(), bitm_proved::BuildError>(())
+    /// ```
     #[inline]
     pub fn is_empty(&self) -> bool {
         self.len() == 0
     }
 
     /// How many low bits each number has.
+    ///
+    /// ```
+    /// use bitm_proved::EliasFano;
+    /// let (dense, sparse) = (EliasFano::build(&[0, 1, 2, 3])?, EliasFano::build(&[0, 9, 20, 32])?);
+    /// assert_eq!((dense.view().width(), sparse.view().width()), (0, 3)); // 32 / 4 is 2^3
+    /// # Ok::<(), bitm_proved::BuildError>(())
+    /// ```
     pub fn width(&self) -> u64 {
         self.raw.width
     }
 
     /// Low bits, words of the high bits, and the two tables of these words.
+    ///
+    /// ```
+    /// let sequence = bitm_proved::EliasFano::build(&[0, 9, 20, 32])?;
+    /// let [low, words, ..] = sequence.view().parts();
+    /// assert_eq!(low[0], 0b000_100_001_000); // 3 low bits of each number, the first number's at the right
+    /// assert_eq!(words[0], 1 << 0 | 1 << (1 + 1) | 1 << (2 + 2) | 1 << (4 + 3)); // number / 8 + index
+    /// # Ok::<(), bitm_proved::BuildError>(())
+    /// ```
     pub fn parts(&self) -> [&'a [u64]; 4] {
         let raw = &self.raw;
         [(raw.low, raw.low_len), (raw.words, raw.words_len), (raw.upper, raw.upper_len), (raw.lower, raw.lower_len)]
@@ -92,36 +129,84 @@ impl<'a> SequenceView<'a> {
     }
 
     /// Whether the parts are those of some sequence.
+    ///
+    /// ```
+    /// use bitm_proved::{EliasFano, SequenceView};
+    /// let primes = EliasFano::build(&[2, 3, 5, 7])?;
+    /// let (width, [low, words, upper, lower]) = (primes.view().width(), primes.view().parts());
+    /// let zeros = vec![0; words.len()]; // the length fits, but no number is there
+    /// let wrong = SequenceView::new(4, width, [low, &zeros, upper, lower])?;
+    /// assert!(primes.view().check() && !wrong.check());
+    /// # Ok::<(), Box<dyn std::error::Error>>(())
+    /// ```
     pub fn check(&self) -> bool {
         // SAFETY: a view, which borrows its slices.
         unsafe { bitm_sequence_check(&self.raw) == OK }
     }
 
     /// The number at an index; `None` exactly where there is none.
+    ///
+    /// ```
+    /// let primes = bitm_proved::EliasFano::build(&[2, 3, 5, 7])?;
+    /// let view = primes.view();
+    /// assert_eq!((view.checked_get(3), view.checked_get(4)), (Ok(Some(7)), Ok(None)));
+    /// # Ok::<(), bitm_proved::BuildError>(())
+    /// ```
     #[inline]
     pub fn checked_get(&self, index: usize) -> Result<Option<u64>, WrongTables> {
         self.call(bitm_sequence_get, index as u64)
     }
 
     /// The successor: the least index whose number is at least `value`; `None` exactly where each number is less.
+    ///
+    /// ```
+    /// let primes = bitm_proved::EliasFano::build(&[2, 3, 5, 7])?;
+    /// let view = primes.view();
+    /// assert_eq!(view.checked_first_at_least(4), Ok(Some(2))); // of 5
+    /// assert_eq!(view.checked_first_at_least(8), Ok(None));
+    /// # Ok::<(), bitm_proved::BuildError>(())
+    /// ```
     #[inline]
     pub fn checked_first_at_least(&self, value: u64) -> Result<Option<usize>, WrongTables> {
         Ok(self.call(bitm_sequence_first_at_least, value)?.map(|it| it as usize))
     }
 
     /// The predecessor: the greatest index whose number is at most `value`; `None` exactly where each is greater.
+    ///
+    /// ```
+    /// let primes = bitm_proved::EliasFano::build(&[2, 3, 5, 7])?;
+    /// let view = primes.view();
+    /// assert_eq!(view.checked_last_at_most(4), Ok(Some(1))); // of 3
+    /// assert_eq!(view.checked_last_at_most(1), Ok(None));
+    /// # Ok::<(), bitm_proved::BuildError>(())
+    /// ```
     #[inline]
     pub fn checked_last_at_most(&self, value: u64) -> Result<Option<usize>, WrongTables> {
         Ok(self.call(bitm_sequence_last_at_most, value)?.map(|it| it as usize))
     }
 
     /// Whether a number is there.
+    ///
+    /// ```
+    /// let primes = bitm_proved::EliasFano::build(&[2, 3, 5, 7])?;
+    /// let view = primes.view();
+    /// assert_eq!((view.checked_contains(5), view.checked_contains(4)), (Ok(true), Ok(false)));
+    /// # Ok::<(), bitm_proved::BuildError>(())
+    /// ```
     #[inline]
     pub fn checked_contains(&self, value: u64) -> Result<bool, WrongTables> {
         Ok(self.call(bitm_sequence_contains, value)? == Some(1))
     }
 
     /// The numbers from an index on, until there is no more room; fewer only where the parts are wrong.
+    ///
+    /// ```
+    /// let primes = bitm_proved::EliasFano::build(&[2, 3, 5, 7])?;
+    /// let view = primes.view();
+    /// assert_eq!(view.items(1, &mut [0; 2]), [3, 5]);
+    /// assert_eq!(view.items(0, &mut [0; 4]), [2, 3, 5, 7]);
+    /// # Ok::<(), bitm_proved::BuildError>(())
+    /// ```
     pub fn items<'b>(&self, from: usize, out: &'b mut [u64]) -> &'b [u64] {
         let (to, room, mut written) = (out.as_mut_ptr(), out.len(), 0);
         // SAFETY: a view, a mutable slice, and room for one number.
@@ -130,6 +215,13 @@ impl<'a> SequenceView<'a> {
     }
 
     /// The numbers at a list of indexes, up to the first that has none.
+    ///
+    /// ```
+    /// let primes = bitm_proved::EliasFano::build(&[2, 3, 5, 7])?;
+    /// let view = primes.view();
+    /// assert_eq!(view.get_list(&[3, 0, 4, 1], &mut [0; 4]), Ok(&[7, 2][..])); // no number is at 4
+    /// # Ok::<(), bitm_proved::BuildError>(())
+    /// ```
     pub fn get_list<'b>(&self, indexes: &[usize], out: &'b mut [u64]) -> Result<&'b [u64], ListError> {
         let (from, len, room, mut written) = (as_u64(indexes), indexes.len(), out.len(), 0);
         // SAFETY: a view, a shared and a mutable slice, which do not overlap, and room for one number.
@@ -153,16 +245,39 @@ impl<'a> SequenceView<'a> {
     }
 
     /// The successors of a list of values; how many have none, which `NO_ANSWER` stands for.
+    ///
+    /// ```
+    /// use bitm_proved::{EliasFano, NO_ANSWER};
+    /// let (primes, mut out) = (EliasFano::build(&[2, 3, 5, 7])?, [0; 3]);
+    /// assert_eq!(primes.view().first_at_least_list(&[4, 8, 0], &mut out), Ok(1));
+    /// assert_eq!(out, [2, NO_ANSWER, 0]);
+    /// # Ok::<(), bitm_proved::BuildError>(())
+    /// ```
     pub fn first_at_least_list(&self, values: &[u64], out: &mut [usize]) -> Result<usize, ListError> {
         self.list(bitm_sequence_first_at_least_list, values, as_u64_mut(out))
     }
 
     /// The predecessors of a list of values; how many have none, which `NO_ANSWER` stands for.
+    ///
+    /// ```
+    /// use bitm_proved::{EliasFano, NO_ANSWER};
+    /// let (primes, mut out) = (EliasFano::build(&[2, 3, 5, 7])?, [0; 3]);
+    /// assert_eq!(primes.view().last_at_most_list(&[4, 1, 9], &mut out), Ok(1));
+    /// assert_eq!(out, [1, NO_ANSWER, 3]);
+    /// # Ok::<(), bitm_proved::BuildError>(())
+    /// ```
     pub fn last_at_most_list(&self, values: &[u64], out: &mut [usize]) -> Result<usize, ListError> {
         self.list(bitm_sequence_last_at_most_list, values, as_u64_mut(out))
     }
 
     /// Which of a list of values are there: 1 where one is, else 0.
+    ///
+    /// ```
+    /// let (primes, mut out) = (bitm_proved::EliasFano::build(&[2, 3, 5, 7])?, [9; 3]);
+    /// assert_eq!(primes.view().contains_list(&[4, 5, 8], &mut out), Ok(()));
+    /// assert_eq!(out, [0, 1, 0]);
+    /// # Ok::<(), bitm_proved::BuildError>(())
+    /// ```
     pub fn contains_list(&self, values: &[u64], out: &mut [u64]) -> Result<(), ListError> {
         self.list(bitm_sequence_contains_list, values, out).map(|_| ())
     }
