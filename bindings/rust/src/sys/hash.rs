@@ -60,6 +60,13 @@ fn raw(words: &[u64], tables: &Tables, sizes: &[u64], keys: usize) -> bitm_hash 
 
 impl PerfectHash {
     /// Of the hashes of keys, in the space that takes least memory.
+    ///
+    /// ```
+    /// use bitm_proved::{BuildError, PerfectHash};
+    /// assert_eq!(PerfectHash::build(vec![5, 7, 9])?.len(), 3);
+    /// assert!(matches!(PerfectHash::build(vec![5, 7, 5]), Err(BuildError::EqualHashes { .. })));
+    /// # Ok::<(), BuildError>(())
+    /// ```
     pub fn build(hashes: Vec<u64>) -> Result<Self, BuildError> {
         Self::build_with(hashes, 100)
     }
@@ -119,11 +126,22 @@ impl PerfectHash {
     }
 
     /// How many keys there are.
+    ///
+    /// ```
+    /// assert_eq!(bitm_proved::PerfectHash::build(vec![5, 7, 9])?.len(), 3);
+    /// # Ok::<(), bitm_proved::BuildError>(())
+    /// ```
     pub fn len(&self) -> usize {
         self.raw.keys
     }
 
     /// Whether there are none.
+    ///
+    /// ```
+    /// use bitm_proved::PerfectHash;
+    /// assert!(PerfectHash::build(vec![])?.is_empty() && !PerfectHash::build(vec![5])?.is_empty());
+    /// # Ok::<(), bitm_proved::BuildError>(())
+    /// ```
     pub fn is_empty(&self) -> bool {
         self.len() == 0
     }
@@ -140,12 +158,26 @@ impl PerfectHash {
     }
 
     /// The number of a hash; `None` where it is of no key for certain.
+    ///
+    /// ```
+    /// let numbers = bitm_proved::PerfectHash::build(vec![5, 7, 9])?;
+    /// let mut found = [5, 7, 9].map(|hash| numbers.get(hash));
+    /// found.sort();
+    /// assert_eq!(found, [Some(0), Some(1), Some(2)]);
+    /// # Ok::<(), bitm_proved::BuildError>(())
+    /// ```
     #[track_caller]
     pub fn get(&self, hash: u64) -> Option<usize> {
         sure(self.checked_get(hash))
     }
 
     /// As `get`, with an error where the tables turn out to be wrong.
+    ///
+    /// ```
+    /// let numbers = bitm_proved::PerfectHash::build(vec![5])?;
+    /// assert_eq!(numbers.checked_get(5), Ok(Some(0))); // the only number below 1
+    /// # Ok::<(), bitm_proved::BuildError>(())
+    /// ```
     pub fn checked_get(&self, hash: u64) -> Result<Option<usize>, WrongTables> {
         // SAFETY: borrowed slices, and room for the number that the call writes where it returns OK.
         let found = unsafe { query(|out| bitm_hash_get(&self.raw, hash, out)) };
@@ -153,6 +185,15 @@ impl PerfectHash {
     }
 
     /// The numbers of a list of hashes; how many have none, which `NO_ANSWER` stands for.
+    ///
+    /// ```
+    /// use bitm_proved::{ListError, PerfectHash};
+    /// let (numbers, mut out) = (PerfectHash::build(vec![5, 7])?, [9; 2]);
+    /// assert_eq!(numbers.get_list(&[5, 7], &mut out), Ok(0));
+    /// assert!(out == [0, 1] || out == [1, 0]);
+    /// assert_eq!(numbers.get_list(&[5], &mut out), Err(ListError::Lengths { queries: 1, room: 2 }));
+    /// # Ok::<(), bitm_proved::BuildError>(())
+    /// ```
     pub fn get_list(&self, hashes: &[u64], out: &mut [usize]) -> Result<usize, ListError> {
         let (len, room) = (hashes.len(), out.len());
         let (from, to) = (hashes.as_ptr(), as_u64_mut(out).as_mut_ptr());

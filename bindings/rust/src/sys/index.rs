@@ -43,6 +43,12 @@ pub struct Sampling {
 
 impl<O: AsRef<[u64]>> Index<O> {
     /// An index over all bits of the words, without samples. Panics where memory cannot be had.
+    ///
+    /// ```
+    /// use bitm_proved::{Index, Rank, Select};
+    /// let index = Index::build([0b1011u64, 7]); // 1 bits at 0, 1, 3, 64, 65 and 66
+    /// assert_eq!((index.rank(65), index.select(5)), (4, 66));
+    /// ```
     #[track_caller]
     pub fn build(owner: O) -> Self {
         let bits_len = 64 * owner.as_ref().len();
@@ -50,6 +56,15 @@ impl<O: AsRef<[u64]>> Index<O> {
     }
 
     /// An index over the first `bits_len` bits of the words.
+    ///
+    /// ```
+    /// use bitm_proved::{BuildError, Index, Rank, Sampling};
+    /// let index = Index::try_build([0b1011u64], 3, Sampling::default())?; // of 64 bits the first 3
+    /// assert_eq!((index.rank(3), index.try_rank(4)), (2, None));
+    /// let longer = Index::try_build([0b1011u64], 65, Sampling::default());
+    /// assert!(matches!(longer, Err(BuildError::TooLong { len: 65 })));
+    /// # Ok::<(), BuildError>(())
+    /// ```
     pub fn try_build(owner: O, bits_len: usize, sampling: Sampling) -> Result<Self, BuildError> {
         let held = Held::new(owner)?;
         // SAFETY: `Index` hands it out only for as long as it is borrowed itself.
@@ -126,6 +141,10 @@ unsafe fn stays(numbers: &[u64]) -> &'static [u64] {
 
 impl<O> Index<O> {
     /// The owner.
+    ///
+    /// ```
+    /// assert_eq!(bitm_proved::Index::build(vec![7u64]).owner(), &[7]);
+    /// ```
     pub fn owner(&self) -> &O {
         self.held.owner()
     }
@@ -140,6 +159,16 @@ impl<O> Index<O> {
     }
 
     /// Whether tables and samples are those of the words.
+    ///
+    /// ```
+    /// use bitm_proved::{Index, Queries};
+    /// let mut file = Index::build(vec![u64::MAX; 9]).to_stored(64)?;
+    /// assert!(Index::from_words(&file[..])?.check());
+    /// let first = file.iter().position(|it| *it == u64::MAX).unwrap();
+    /// file[first] = 0; // 64 bits fewer than the tables count
+    /// assert!(!Index::from_words(&file[..])?.check());
+    /// # Ok::<(), bitm_proved::StoredError>(())
+    /// ```
     pub fn check(&self) -> bool {
         self.view.check()
     }

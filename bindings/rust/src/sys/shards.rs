@@ -9,6 +9,15 @@ use alloc::vec::Vec;
 use core::marker::PhantomData;
 
 /// A shard, and a position in it or the rank of a bit there.
+///
+/// ```
+/// use bitm_proved::{Place, PrefixCounts};
+/// let counts = PrefixCounts::new(&[10, 0, 7], &[4, 0, 2]).ok_or("2^64 bits or more")?;
+/// let place = counts.find(12).ok_or("past the end")?;
+/// assert_eq!(place, Place { shard: 2, within: 2 });
+/// assert_eq!(counts.bits_before()[place.shard] + place.within, 12);
+/// # Ok::<(), &str>(())
+/// ```
 #[derive(Clone, Copy, PartialEq, Eq, Debug)]
 pub struct Place {
     /// The shard.
@@ -48,17 +57,38 @@ fn sums(numbers: &[u64]) -> Option<Vec<u64>> {
 
 impl PrefixCounts {
     /// Of the bits and the 1 bits of each shard; `None` where these are not as many, or are 2^64 or more together.
+    ///
+    /// ```
+    /// use bitm_proved::PrefixCounts;
+    /// assert!(PrefixCounts::new(&[10, 0, 7], &[4, 0, 2]).is_some());
+    /// assert!(PrefixCounts::new(&[10, 0, 7], &[4, 0]).is_none()); // not as many
+    /// assert!(PrefixCounts::new(&[u64::MAX, 1], &[0, 0]).is_none()); // 2^64 bits
+    /// ```
     pub fn new(bits: &[u64], ones: &[u64]) -> Option<Self> {
         let (bits, ones) = (sums(bits)?, sums(ones)?);
         (bits.len() == ones.len()).then_some(PrefixCounts { bits, ones })
     }
 
     /// How many bits there are before each shard, and last in all.
+    ///
+    /// ```
+    /// use bitm_proved::PrefixCounts;
+    /// let counts = PrefixCounts::new(&[10, 0, 7], &[4, 0, 2]).ok_or("2^64 bits or more")?;
+    /// assert_eq!(counts.bits_before(), [0, 10, 10, 17]);
+    /// # Ok::<(), &str>(())
+    /// ```
     pub fn bits_before(&self) -> &[u64] {
         &self.bits
     }
 
     /// How many 1 bits there are before each shard, and last in all.
+    ///
+    /// ```
+    /// use bitm_proved::PrefixCounts;
+    /// let counts = PrefixCounts::new(&[10, 0, 7], &[4, 0, 2]).ok_or("2^64 bits or more")?;
+    /// assert_eq!(counts.ones_before(), [0, 4, 4, 6]);
+    /// # Ok::<(), &str>(())
+    /// ```
     pub fn ones_before(&self) -> &[u64] {
         &self.ones
     }
@@ -83,17 +113,45 @@ impl PrefixCounts {
     }
 
     /// The shard that holds a position of the joined bits; `None` past the end.
+    ///
+    /// ```
+    /// use bitm_proved::{Place, PrefixCounts};
+    /// let counts = PrefixCounts::new(&[10, 0, 7], &[4, 0, 2]).ok_or("2^64 bits or more")?;
+    /// assert_eq!(counts.find(9), Some(Place { shard: 0, within: 9 }));
+    /// assert_eq!(counts.find(10), Some(Place { shard: 2, within: 0 }));
+    /// assert_eq!(counts.find(17), None);
+    /// # Ok::<(), &str>(())
+    /// ```
     pub fn find(&self, position: u64) -> Option<Place> {
         self.place(BITM_POSITIONS, position)
     }
 
     /// The shard that holds the 1 bit with a rank; `None` where there is none.
+    ///
+    /// ```
+    /// use bitm_proved::{Place, PrefixCounts};
+    /// let counts = PrefixCounts::new(&[10, 0, 7], &[4, 0, 2]).ok_or("2^64 bits or more")?;
+    /// assert_eq!(counts.find_one(3), Some(Place { shard: 0, within: 3 }));
+    /// assert_eq!(counts.find_one(5), Some(Place { shard: 2, within: 1 }));
+    /// assert_eq!(counts.find_one(6), None);
+    /// # Ok::<(), &str>(())
+    /// ```
     pub fn find_one(&self, rank: u64) -> Option<Place> {
         self.place(BITM_ONES, rank)
     }
 
     /// The shard that holds the 0 bit with a rank; `None` where there is none. Over counts of more 1 bits than bits it may
     /// name any shard.
+    ///
+    /// ```
+    /// use bitm_proved::{Place, PrefixCounts};
+    /// let counts = PrefixCounts::new(&[10, 0, 7], &[4, 0, 2]).ok_or("2^64 bits or more")?;
+    /// // Of 0 bits the shards have 6, none and 5.
+    /// assert_eq!(counts.find_zero(5), Some(Place { shard: 0, within: 5 }));
+    /// assert_eq!(counts.find_zero(6), Some(Place { shard: 2, within: 0 }));
+    /// assert_eq!(counts.find_zero(11), None);
+    /// # Ok::<(), &str>(())
+    /// ```
     pub fn find_zero(&self, rank: u64) -> Option<Place> {
         self.place(BITM_ZEROS, rank)
     }
@@ -125,6 +183,14 @@ unsafe impl Sync for ShardedIndex<'_> {}
 
 impl<'a> ShardedIndex<'a> {
     /// Of these indexes, whose 1 bits are counted by their tables; an error where a table turns out to be wrong.
+    ///
+    /// ```
+    /// use bitm_proved::{Index, Queries, ShardedIndex};
+    /// let (one, two) = (Index::build([7u64]), Index::build([1u64, 0]));
+    /// let bits = ShardedIndex::new(&[one.view(), two.view()])?;
+    /// assert_eq!((bits.rank(192)?, bits.select(3)?), (Some(4), Some(64)));
+    /// # Ok::<(), bitm_proved::WrongTables>(())
+    /// ```
     pub fn new(shards: &[IndexView<'a>]) -> Result<Self, WrongTables> {
         let bits: Vec<u64> = shards.iter().map(|it| it.raw().bits_len).collect();
         let ones: Result<Vec<u64>, WrongTables> = shards.iter().map(ones_of).collect();
@@ -133,6 +199,15 @@ impl<'a> ShardedIndex<'a> {
     }
 
     /// How many bits and 1 bits there are before each shard.
+    ///
+    /// ```
+    /// use bitm_proved::{Index, Queries, ShardedIndex};
+    /// let shard = Index::build([7u64]); // 3 bits of 1, then 61 of 0
+    /// let bits = ShardedIndex::new(&[shard.view(), shard.view()])?;
+    /// assert_eq!(bits.counts().bits_before(), [0, 64, 128]);
+    /// assert_eq!(bits.counts().ones_before(), [0, 3, 6]);
+    /// # Ok::<(), bitm_proved::WrongTables>(())
+    /// ```
     pub fn counts(&self) -> &PrefixCounts {
         &self.counts
     }
@@ -154,21 +229,53 @@ impl<'a> ShardedIndex<'a> {
     }
 
     /// How many 1 bits there are before a position of the joined bits; `None` past their end.
+    ///
+    /// ```
+    /// use bitm_proved::{Index, Queries, ShardedIndex};
+    /// let shard = Index::build([7u64]); // 3 bits of 1, then 61 of 0
+    /// let bits = ShardedIndex::new(&[shard.view(), shard.view()])?;
+    /// assert_eq!((bits.rank(66)?, bits.rank(128)?, bits.rank(129)?), (Some(5), Some(6), None));
+    /// # Ok::<(), bitm_proved::WrongTables>(())
+    /// ```
     pub fn rank(&self, position: u64) -> Result<Option<u64>, WrongTables> {
         self.call(bitm_shards_rank, true, position)
     }
 
     /// How many 0 bits there are before a position of the joined bits; `None` past their end.
+    ///
+    /// ```
+    /// use bitm_proved::{Index, Queries, ShardedIndex};
+    /// let shard = Index::build([7u64]); // 3 bits of 1, then 61 of 0
+    /// let bits = ShardedIndex::new(&[shard.view(), shard.view()])?;
+    /// assert_eq!((bits.rank0(66)?, bits.rank0(128)?, bits.rank0(129)?), (Some(61), Some(122), None));
+    /// # Ok::<(), bitm_proved::WrongTables>(())
+    /// ```
     pub fn rank0(&self, position: u64) -> Result<Option<u64>, WrongTables> {
         self.call(bitm_shards_rank, false, position)
     }
 
     /// The position, in the joined bits, of the 1 bit with a rank; `None` where there is none.
+    ///
+    /// ```
+    /// use bitm_proved::{Index, Queries, ShardedIndex};
+    /// let shard = Index::build([7u64]); // 3 bits of 1, then 61 of 0
+    /// let bits = ShardedIndex::new(&[shard.view(), shard.view()])?;
+    /// assert_eq!((bits.select(2)?, bits.select(3)?, bits.select(6)?), (Some(2), Some(64), None));
+    /// # Ok::<(), bitm_proved::WrongTables>(())
+    /// ```
     pub fn select(&self, rank: u64) -> Result<Option<u64>, WrongTables> {
         self.call(bitm_shards_select, true, rank)
     }
 
     /// The position, in the joined bits, of the 0 bit with a rank; `None` where there is none.
+    ///
+    /// ```
+    /// use bitm_proved::{Index, Queries, ShardedIndex};
+    /// let shard = Index::build([7u64]); // 3 bits of 1, then 61 of 0
+    /// let bits = ShardedIndex::new(&[shard.view(), shard.view()])?;
+    /// assert_eq!((bits.select0(60)?, bits.select0(61)?, bits.select0(122)?), (Some(63), Some(67), None));
+    /// # Ok::<(), bitm_proved::WrongTables>(())
+    /// ```
     pub fn select0(&self, rank: u64) -> Result<Option<u64>, WrongTables> {
         self.call(bitm_shards_select, false, rank)
     }

@@ -7,6 +7,14 @@ use core::mem::MaybeUninit;
 use core::{fmt, ptr, slice};
 
 /// Borrowed samples of one kind of bits. They may hold anything: no answer depends on them.
+///
+/// ```
+/// use bitm_proved::{Index, Queries, Sampling};
+/// let index = Index::try_build(vec![u64::MAX; 40], 2560, Sampling { ones: Some(7), zeros: None })?;
+/// let samples = index.view().samples(true).unwrap();
+/// assert_eq!((samples.samples.len(), samples.starts[0], samples.log2), (20, 0, 7)); // 2560 / 2^7
+/// # Ok::<(), bitm_proved::BuildError>(())
+/// ```
 #[derive(Clone, Copy, PartialEq, Eq, Debug)]
 pub struct Samples<'a> {
     /// The samples.
@@ -57,6 +65,16 @@ const NO_SAMPLES: bitm_samples =
 impl<'a> IndexView<'a> {
     /// The first `bits_len` bits of words with their tables; an error where there are fewer bits, or a table is not as
     /// long as that of the words.
+    ///
+    /// ```
+    /// use bitm_proved::{build_tables, IndexView, Rank};
+    /// let (words, mut upper, mut lower) = ([0b1011], [0], [0]);
+    /// build_tables(&words, &mut upper, &mut lower);
+    /// assert_eq!(IndexView::new(&words, 64, &upper, &lower)?.rank(64), 3);
+    /// assert!(IndexView::new(&words, 65, &upper, &lower).is_err()); // fewer bits
+    /// assert!(IndexView::new(&words, 64, &upper, &[]).is_err()); // a table that is too short
+    /// # Ok::<(), bitm_proved::WrongTables>(())
+    /// ```
     pub fn new(words: &'a [u64], bits_len: usize, upper: &'a [u64], lower: &'a [u64]) -> Result<Self, WrongTables> {
         let view = Self::over(words, bits_len, upper, lower);
         // No position is that large, so an error is one of the lengths.
@@ -177,18 +195,35 @@ impl<'a> IndexView<'a> {
     }
 
     /// The number of bits.
+    ///
+    /// ```
+    /// use bitm_proved::{Index, Queries};
+    /// assert_eq!(Index::build([7u64, 0]).view().len(), 128);
+    /// ```
     #[inline]
     pub fn len(&self) -> usize {
         self.raw.bits_len as usize
     }
 
     /// Whether there are none.
+    ///
+    /// ```
+    /// use bitm_proved::{Index, Queries};
+    /// assert!(Index::build(vec![]).view().is_empty() && !Index::build([0u64]).view().is_empty());
+    /// ```
     #[inline]
     pub fn is_empty(&self) -> bool {
         self.len() == 0
     }
 
     /// The bit at a position; `None` exactly where there is none. Tested, not proved.
+    ///
+    /// ```
+    /// use bitm_proved::{Index, Queries};
+    /// let index = Index::build([0b1011u64]);
+    /// let bits = index.view();
+    /// assert_eq!((bits.get(1), bits.get(2), bits.get(64)), (Some(true), Some(false), None));
+    /// ```
     #[inline]
     pub fn get(&self, position: usize) -> Option<bool> {
         let bit = crate::inline::bit(self.words(), position)?;
@@ -196,6 +231,11 @@ impl<'a> IndexView<'a> {
     }
 
     /// The words.
+    ///
+    /// ```
+    /// use bitm_proved::{Index, Queries};
+    /// assert_eq!(Index::build([7u64, 9]).view().words(), [7, 9]);
+    /// ```
     #[inline(always)]
     pub fn words(&self) -> &'a [u64] {
         // SAFETY: the slice that `over` was given.
@@ -203,18 +243,36 @@ impl<'a> IndexView<'a> {
     }
 
     /// The upper table: how many 1 bits are before each upper block of 2^32 bits.
+    ///
+    /// ```
+    /// use bitm_proved::{Index, Queries};
+    /// assert_eq!(Index::build([7u64, 9]).view().upper(), [0]); // one block, before which there are no bits
+    /// ```
     pub fn upper(&self) -> &'a [u64] {
         // SAFETY: the slice that `over` was given.
         unsafe { slice::from_raw_parts(self.raw.upper, self.raw.upper_len) }
     }
 
     /// The lower table: one number for each lower block of 2048 bits.
+    ///
+    /// ```
+    /// use bitm_proved::{Index, Queries};
+    /// assert_eq!(Index::build(vec![7u64; 40]).view().lower().len(), 2); // 2560 bits are two blocks
+    /// ```
     pub fn lower(&self) -> &'a [u64] {
         // SAFETY: the slice that `over` was given.
         unsafe { slice::from_raw_parts(self.raw.lower, self.raw.lower_len) }
     }
 
     /// The samples of the 1 bits, or of the 0 bits where `one` is false.
+    ///
+    /// ```
+    /// use bitm_proved::{Index, Queries, Sampling};
+    /// let index = Index::try_build([7u64], 64, Sampling { ones: None, zeros: Some(9) })?;
+    /// let bits = index.view();
+    /// assert_eq!((bits.samples(true), bits.samples(false).map(|it| it.log2)), (None, Some(9)));
+    /// # Ok::<(), bitm_proved::BuildError>(())
+    /// ```
     pub fn samples(&self, one: bool) -> Option<Samples<'a>> {
         let raw = if one { &self.raw.ones } else { &self.raw.zeros };
         if raw.samples.is_null() {
@@ -228,6 +286,16 @@ impl<'a> IndexView<'a> {
     }
 
     /// Whether the tables are those of the words, and the samples too, where there are some.
+    ///
+    /// ```
+    /// use bitm_proved::{Index, IndexView, Queries};
+    /// let index = Index::build([7u64]);
+    /// let bits = index.view();
+    /// assert!(bits.check());
+    /// let wrong = IndexView::new(bits.words(), 64, &[1], bits.lower())?; // no 1 bit is before the first block
+    /// assert!(!wrong.check());
+    /// # Ok::<(), bitm_proved::WrongTables>(())
+    /// ```
     pub fn check(&self) -> bool {
         // SAFETY: a view, which borrows its slices.
         let right = unsafe { bitm_index_check(&self.raw) } == OK;
