@@ -2,6 +2,13 @@
 use core::{error::Error, fmt};
 
 /// Memory could not be had.
+///
+/// ```
+/// use bitm_proved::{BuildError, NoMemory};
+/// let why = NoMemory { bytes: 16 };
+/// assert_eq!(why.to_string(), "16 bytes of memory could not be had");
+/// assert_eq!(BuildError::from(why), BuildError::NoMemory(why));
+/// ```
 #[derive(Clone, Copy, PartialEq, Eq, Debug)]
 pub struct NoMemory {
     /// The number of bytes that were requested.
@@ -37,6 +44,13 @@ impl fmt::Display for WrongTables {
 impl Error for WrongTables {}
 
 /// Why an index, a sequence or a hash was not built.
+///
+/// ```
+/// use bitm_proved::{BuildError, EliasFano};
+/// let why = EliasFano::build(&[2, 5, 3]).unwrap_err();
+/// assert_eq!(why, BuildError::NotSorted { index: 2 });
+/// assert_eq!(why.to_string(), "number 2 is less than the one before it");
+/// ```
 #[derive(Clone, Copy, PartialEq, Eq, Debug)]
 #[non_exhaustive]
 pub enum BuildError {
@@ -81,6 +95,14 @@ impl From<NoMemory> for BuildError {
 }
 
 /// Why words or bytes are not taken as a file, or something is not stored.
+///
+/// ```
+/// use bitm_proved::{EliasFano, IndexView, SequenceView, StoredError};
+/// let file = EliasFano::build(&[2, 3, 5])?.to_stored()?;
+/// assert_eq!(IndexView::from_words(&file).err(), Some(StoredError::OtherKind));
+/// assert_eq!(SequenceView::from_words(&file[..4]).err(), Some(StoredError::NotWhole));
+/// # Ok::<(), Box<dyn std::error::Error>>(())
+/// ```
 #[derive(Clone, Copy, PartialEq, Eq, Debug)]
 #[non_exhaustive]
 pub enum StoredError {
@@ -117,6 +139,14 @@ impl From<NoMemory> for StoredError {
 }
 
 /// Why a list of queries has no answers, or not all.
+///
+/// ```
+/// use bitm_proved::{ArrayWithRank101111, ListError, Queries};
+/// let bits: ArrayWithRank101111 = vec![0b1011].into_boxed_slice().into();
+/// let why = bits.rank_list(&[1, 2], &mut [0; 3]).unwrap_err();
+/// assert_eq!(why, ListError::Lengths { queries: 2, room: 3 });
+/// assert_eq!(why.to_string(), "there is room for 3 answers to 2 queries");
+/// ```
 #[derive(Clone, Copy, PartialEq, Eq, Debug)]
 #[non_exhaustive]
 pub enum ListError {

@@ -36,6 +36,18 @@ pub type SequenceFile = Sequence<Mapped>;
 
 impl IndexFile {
     /// The index in a file. The contents of its parts are not tested: `check` does that. The file has to stay as it is.
+    ///
+    /// ```
+    /// use bitm_proved::{bytes_of, Index, IndexFile, OpenError, Queries, Rank};
+    /// # fn main() -> Result<(), Box<dyn std::error::Error>> {
+    /// let path = std::env::temp_dir().join(format!("bitm-index-open-{}", std::process::id()));
+    /// assert!(matches!(IndexFile::open(&path), Err(OpenError::System(_)))); // there is no such file
+    /// std::fs::write(&path, bytes_of(&Index::build(vec![0b1011u64]).to_stored(64)?))?;
+    /// assert_eq!(IndexFile::open(&path)?.rank(3), 2);
+    /// # std::fs::remove_file(&path)?;
+    /// # Ok(())
+    /// # }
+    /// ```
     pub fn open(path: impl AsRef<Path>) -> Result<Self, OpenError> {
         Ok(Index::from_bytes(Mapped::open(path)?)?)
     }
@@ -44,6 +56,18 @@ impl IndexFile {
 impl SequenceFile {
     /// The sequence in a file. The contents of its parts are not tested: `check` does that. The file has to stay as it
     /// is.
+    ///
+    /// ```
+    /// use bitm_proved::{bytes_of, EliasFano, SequenceFile};
+    /// # fn main() -> Result<(), Box<dyn std::error::Error>> {
+    /// let path = std::env::temp_dir().join(format!("bitm-sequence-open-{}", std::process::id()));
+    /// std::fs::write(&path, bytes_of(&EliasFano::build(&[2, 3, 5])?.to_stored()?))?;
+    /// let primes = SequenceFile::open(&path)?;
+    /// assert!(primes.check() && primes.len() == 3 && primes.get(0) == Some(2));
+    /// # std::fs::remove_file(&path)?;
+    /// # Ok(())
+    /// # }
+    /// ```
     pub fn open(path: impl AsRef<Path>) -> Result<Self, OpenError> {
         Ok(Sequence::from_bytes(Mapped::open(path)?)?)
     }

@@ -36,6 +36,12 @@ pub type BitZerosIterator<'a> = BitBIterator<'a, false>;
 
 impl<'a, const B: bool> BitBIterator<'a, B> {
     /// Over all words of a slice.
+    ///
+    /// ```
+    /// use bitm_proved::{BitOnesIterator, BitZerosIterator};
+    /// assert!(BitOnesIterator::new(&[0b101, 1]).eq([0, 2, 64]));
+    /// assert_eq!(BitZerosIterator::new(&[0b101, 1]).next(), Some(1));
+    /// ```
     #[inline]
     pub fn new(slice: &'a [u64]) -> Self {
         BitBIterator {
@@ -48,6 +54,14 @@ impl<'a, const B: bool> BitBIterator<'a, B> {
     }
 
     /// Those in a range. Panics where it ends past the end; a range that ends before it begins has none.
+    ///
+    /// ```
+    /// use bitm_proved::{BitOnesIterator, BitZerosIterator};
+    /// let words = [0b1011, 1];
+    /// assert!(BitOnesIterator::with_range(&words, 1..65).eq([1, 3, 64]));
+    /// assert!(BitZerosIterator::with_range(&words, 0..5).eq([2, 4]));
+    /// assert_eq!(BitOnesIterator::with_range(&words, 3..3).next(), None);
+    /// ```
     #[inline]
     #[track_caller]
     pub fn with_range(slice: &'a [u64], range: Range<usize>) -> Self {
@@ -224,6 +238,12 @@ pub struct BitIterator<'bv> {
 
 impl<'bv> BitIterator<'bv> {
     /// All bits.
+    ///
+    /// ```
+    /// let bits = bitm_proved::BitIterator::new(&[0b1011]);
+    /// assert_eq!(bits.len(), 64);
+    /// assert!(bits.take(5).eq([true, true, false, true, false]));
+    /// ```
     #[inline]
     pub fn new(bit_vec: &'bv [u64]) -> Self {
         Self::with_range(bit_vec, 0..64 * bit_vec.len())
@@ -244,6 +264,12 @@ impl<'bv> BitIterator<'bv> {
     }
 
     /// The bits of a range. Panics where it ends past the end.
+    ///
+    /// ```
+    /// use bitm_proved::BitIterator;
+    /// assert!(BitIterator::with_range(&[0b1011], 1..4).eq([true, false, true]));
+    /// assert!(BitIterator::with_range(&[0b1011], 0..3).rev().eq([false, true, true]));
+    /// ```
     #[inline]
     #[track_caller]
     pub fn with_range(bit_vec: &'bv [u64], bit_range: Range<usize>) -> Self {
@@ -265,12 +291,24 @@ impl<'bv> BitIterator<'bv> {
     }
 
     /// The range that is still to come.
+    ///
+    /// ```
+    /// let mut bits = bitm_proved::BitIterator::with_range(&[0b1011], 10..20);
+    /// assert_eq!((bits.next(), bits.next_back()), (Some(false), Some(false)));
+    /// assert_eq!(bits.bit_range(), &(11..19));
+    /// ```
     #[inline]
     pub fn bit_range(&self) -> &Range<usize> {
         &self.bit_range
     }
 
     /// The words.
+    ///
+    /// ```
+    /// let bits = bitm_proved::BitIterator::with_range(&[7, 1], 3..9);
+    /// assert_eq!(bits.bit_vec(), [7, 1]);
+    /// assert_eq!(bits.len(), 6);
+    /// ```
     #[inline]
     pub fn bit_vec(&self) -> &'bv [u64] {
         self.bit_vec

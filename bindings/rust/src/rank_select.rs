@@ -63,6 +63,12 @@ impl<S: fmt::Debug, S0: fmt::Debug, BV: Deref<Target = [u64]>> fmt::Debug for Ra
 
 impl<S, S0, BV> RankSelect101111<S, S0, BV> {
     /// What selects 1 bits.
+    ///
+    /// ```
+    /// use bitm_proved::{ArrayWithRank101111, BinaryRankSearch};
+    /// let bits: ArrayWithRank101111 = vec![7].into_boxed_slice().into();
+    /// assert_eq!(bits.select_support(), &BinaryRankSearch);
+    /// ```
     #[inline]
     pub fn select_support(&self) -> &S {
         &self.select
@@ -83,6 +89,12 @@ impl<S, S0, BV> RankSelect101111<S, S0, BV> {
 
 impl<S: SelectForRank101111, S0: Select0ForRank101111, BV: Deref<Target = [u64]>> RankSelect101111<S, S0, BV> {
     /// An index over the bit vector, and its number of 1 bits. Panics where memory cannot be had.
+    ///
+    /// ```
+    /// use bitm_proved::{ArrayWithRank101111, Rank, Select};
+    /// let (bits, ones) = ArrayWithRank101111::build(vec![0b1011, 7].into_boxed_slice());
+    /// assert_eq!((ones, bits.rank(64), bits.select(5)), (6, 3, 66));
+    /// ```
     #[track_caller]
     pub fn build(content: BV) -> (Self, usize) {
         made(Self::try_build(content))
@@ -223,6 +235,11 @@ impl<BV: Deref<Target = [u64]>> fmt::Debug for RankSimple<BV> {
 
 impl<BV: Deref<Target = [u64]>> RankSimple<BV> {
     /// The structure, and the number of 1 bits. Panics where memory cannot be had, or there are 2^32 1 bits or more.
+    ///
+    /// ```
+    /// let (bits, ones) = bitm_proved::RankSimple::build(vec![0b1011u64, 7]);
+    /// assert_eq!((ones, bits.rank(65)), (6, 4));
+    /// ```
     #[track_caller]
     pub fn build(content: BV) -> (Self, u32) {
         made(Self::try_build(content))
@@ -241,6 +258,12 @@ impl<BV: Deref<Target = [u64]>> RankSimple<BV> {
     }
 
     /// As `Rank::try_rank`.
+    ///
+    /// ```
+    /// let (bits, _) = bitm_proved::RankSimple::build(vec![0b1011u64]);
+    /// assert_eq!((bits.try_rank(3), bits.try_rank(63)), (Some(2), Some(3)));
+    /// assert_eq!(bits.try_rank(65), None);
+    /// ```
     #[inline]
     #[track_caller]
     pub fn try_rank(&self, index: usize) -> Option<u32> {
@@ -248,6 +271,11 @@ impl<BV: Deref<Target = [u64]>> RankSimple<BV> {
     }
 
     /// As `Rank::rank`.
+    ///
+    /// ```
+    /// let (bits, _) = bitm_proved::RankSimple::build(vec![0b1011u64]);
+    /// assert_eq!((bits.rank(0), bits.rank(1), bits.rank(4)), (0, 1, 3));
+    /// ```
     #[inline]
     #[track_caller]
     pub fn rank(&self, index: usize) -> u32 {

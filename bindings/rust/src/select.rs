@@ -93,6 +93,13 @@ mod sealed {
 }
 
 /// The strategies of this crate, whose samples a view and a file have.
+///
+/// ```
+/// use bitm_proved::{CombinedSampling, RankSelect101111, SelectionStrategy};
+/// let (bits, _) = RankSelect101111::<CombinedSampling>::build(vec![7].into_boxed_slice());
+/// assert!(bits.select_support().samples().is_some());
+/// assert!(bits.select0_support().samples().is_none()); // by binary search
+/// ```
 pub trait SelectionStrategy: sealed::Sealed {
     /// The samples, where there are some.
     ///

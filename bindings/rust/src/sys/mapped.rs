@@ -43,6 +43,16 @@ unsafe impl Sync for Mapped {}
 
 impl Mapped {
     /// The bytes of a file.
+    ///
+    /// ```
+    /// # fn main() -> std::io::Result<()> {
+    /// let path = std::env::temp_dir().join(format!("bitm-mapped-open-{}", std::process::id()));
+    /// assert!(bitm_proved::Mapped::open(&path).is_err()); // there is no such file
+    /// std::fs::write(&path, "")?;
+    /// assert!(bitm_proved::Mapped::open(&path)?.as_ref().is_empty());
+    /// # std::fs::remove_file(&path)
+    /// # }
+    /// ```
     pub fn open(path: impl AsRef<Path>) -> Result<Self> {
         let file = File::open(path)?;
         let len = usize::try_from(file.metadata()?.len())

@@ -27,6 +27,14 @@ pub type EliasFano = Sequence<Vec<u64>>;
 
 impl EliasFano {
     /// The sequence of the numbers, each of which is at least the one before it.
+    ///
+    /// ```
+    /// use bitm_proved::{BuildError, EliasFano};
+    /// let squares = EliasFano::build(&[0, 1, 4, 4, 9])?;
+    /// assert_eq!((squares.get(3), squares.get(4), squares.get(5)), (Some(4), Some(9), None));
+    /// assert_eq!(EliasFano::build(&[3, 2]).err(), Some(BuildError::NotSorted { index: 1 }));
+    /// # Ok::<(), BuildError>(())
+    /// ```
     pub fn build(items: &[u64]) -> Result<Self, BuildError> {
         let (all, width, lens) = build(items)?;
         let made = Self::over(all, items.len(), width, lens);
@@ -113,6 +121,12 @@ impl<O: AsRef<[u8]>> Sequence<O> {
 
 impl<O> Sequence<O> {
     /// A view of the parts.
+    ///
+    /// ```
+    /// let primes = bitm_proved::EliasFano::build(&[2, 3, 5])?;
+    /// assert_eq!((primes.view().len(), primes.view().get(1)), (3, Some(3)));
+    /// # Ok::<(), bitm_proved::BuildError>(())
+    /// ```
     #[inline(always)]
     pub fn view(&self) -> &SequenceView<'_> {
         &self.view

@@ -135,6 +135,15 @@ impl<'a> IndexView<'a> {
     }
 
     /// The words of a file of this index, with its samples.
+    ///
+    /// ```
+    /// use bitm_proved::{ArrayWithRank101111, IndexView, Queries, Select};
+    /// let index: ArrayWithRank101111 = vec![0b1011, 7].into_boxed_slice().into();
+    /// let file = index.view().to_words()?;
+    /// assert_eq!(file, index.to_stored(128)?);
+    /// assert_eq!(IndexView::from_words(&file)?.select(5), 66);
+    /// # Ok::<(), bitm_proved::StoredError>(())
+    /// ```
     pub fn to_words(&self) -> Result<Vec<u64>, StoredError> {
         let used = self.len().div_ceil(64);
         if used < self.words().len() {
@@ -190,6 +199,14 @@ impl OwnSamples {
 
 impl<'a> SequenceView<'a> {
     /// Of the words of a file. The contents of its parts are not tested: `check` does that.
+    ///
+    /// ```
+    /// use bitm_proved::{EliasFano, SequenceView};
+    /// let file = EliasFano::build(&[2, 3, 5])?.to_stored()?;
+    /// let read = SequenceView::from_words(&file)?;
+    /// assert_eq!((read.len(), read.get(2), read.get(3)), (3, Some(5), None));
+    /// # Ok::<(), Box<dyn std::error::Error>>(())
+    /// ```
     pub fn from_words(file: &'a [u64]) -> Result<Self, StoredError> {
         let of = header(file, BITM_STORED_SEQUENCE)?;
         let (low, words) = (part(file, of.low)?, part(file, of.words)?);
@@ -198,11 +215,27 @@ impl<'a> SequenceView<'a> {
     }
 
     /// Of the bytes of a file, which begin at a multiple of 8.
+    ///
+    /// ```
+    /// use bitm_proved::{bytes_of, EliasFano, SequenceView, StoredError};
+    /// let file = EliasFano::build(&[2, 3, 5])?.to_stored()?;
+    /// assert_eq!(SequenceView::from_bytes(bytes_of(&file))?.get(1), Some(3));
+    /// assert_eq!(SequenceView::from_bytes(&bytes_of(&file)[1..]).err(), Some(StoredError::Misaligned));
+    /// # Ok::<(), Box<dyn std::error::Error>>(())
+    /// ```
     pub fn from_bytes(bytes: &'a [u8]) -> Result<Self, StoredError> {
         Self::from_words(words_of(bytes).ok_or(StoredError::Misaligned)?)
     }
 
     /// The words of a file of this sequence.
+    ///
+    /// ```
+    /// use bitm_proved::{EliasFano, SequenceView};
+    /// let file = EliasFano::build(&[2, 3, 5])?.view().to_words()?;
+    /// assert_eq!(SequenceView::from_words(&file)?.get(0), Some(2));
+    /// assert_eq!(SequenceView::from_words(&file)?.to_words()?, file);
+    /// # Ok::<(), Box<dyn std::error::Error>>(())
+    /// ```
     pub fn to_words(&self) -> Result<Vec<u64>, StoredError> {
         let parts = self.parts();
         let [low_len, words_len, upper_len, lower_len] = parts.map(|it| it.len() as u64);
