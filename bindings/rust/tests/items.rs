@@ -1,4 +1,4 @@
-//! The list of public items, `api.txt`, is that of the source; each has an example that is run; `unsafe` stands in one
+//! The list of public items, `api.txt`, is that of the source; examples are run; files are short; `unsafe` stands in one
 //! module. BITM_WRITE_API=1 writes the list.
 use std::collections::BTreeSet;
 use std::fs;

@@ -3,7 +3,6 @@ use crate::errors::{ListError, WrongTables};
 use crate::ffi::index::*;
 use crate::sys::{found, memory, query, OK};
 use core::marker::PhantomData;
-use core::mem::MaybeUninit;
 use core::{fmt, ptr, slice};
 
 /// Borrowed samples of one kind of bits. They may hold anything: no answer depends on them.
@@ -309,8 +308,7 @@ impl<'a> IndexView<'a> {
     }
 }
 
-/// A rank of all bits of words with tables, whose lengths may be any. The call reads neither samples nor what is reserved,
-/// so these are not written.
+/// A rank of all bits of words with tables, whose lengths may be any.
 #[inline(always)]
 pub(crate) fn rank_of(
     words: &[u64],
@@ -318,20 +316,20 @@ pub(crate) fn rank_of(
     one: bool,
     position: usize,
 ) -> Result<Option<usize>, WrongTables> {
-    let mut view = MaybeUninit::<bitm_index>::uninit();
-    let at = view.as_mut_ptr();
-    // SAFETY: fields of memory of its own.
-    unsafe {
-        (&raw mut (*at).words).write(words.as_ptr());
-        (&raw mut (*at).words_len).write(words.len());
-        (&raw mut (*at).upper).write(upper.as_ptr());
-        (&raw mut (*at).upper_len).write(upper.len());
-        (&raw mut (*at).lower).write(lower.as_ptr());
-        (&raw mut (*at).lower_len).write(lower.len());
-        (&raw mut (*at).bits_len).write((words.len() as u64).wrapping_mul(64));
-    }
+    let view = bitm_index {
+        words: words.as_ptr(),
+        words_len: words.len(),
+        upper: upper.as_ptr(),
+        upper_len: upper.len(),
+        lower: lower.as_ptr(),
+        lower_len: lower.len(),
+        bits_len: (words.len() as u64).wrapping_mul(64),
+        ones: NO_SAMPLES,
+        zeros: NO_SAMPLES,
+        reserved: [0; 2],
+    };
     // SAFETY: borrowed slices, and room for the number that the call writes where it returns OK.
-    let found = unsafe { query(|out| bitm_index_rank(at, one, position as u64, out)) };
+    let found = unsafe { query(|out| bitm_index_rank(&view, one, position as u64, out)) };
     Ok(found?.map(|it| it as usize))
 }
 
