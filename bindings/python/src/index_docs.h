@@ -19,7 +19,7 @@
     "How many 0 bits there are before a position, as rank." EXAMPLE("Index(BitVector.from_bits('0101101')).rank0(4)")  \
         PRINTS("2")
 #define INDEX_SELECT                                                                                                   \
-    "The position of the 1 bit with that rank, that is with so many 1 bits before it, or None. Searches the tables, "  \
+    "The position of the 1 bit that has rank 1 bits before it, or None. Searches the tables, "                         \
     "and reads eight words at most." EXAMPLE("Index(BitVector.from_bits('0101101')).select(2)") PRINTS("4")
 #define INDEX_SELECT0                                                                                                  \
     "The position of the 0 bit with that rank, or None, as select." EXAMPLE(                                           \

@@ -21,7 +21,7 @@
         PRINTS("BitVector('0101101')")
 #define VECTOR_FROM_WORDS                                                                                              \
     "A copy of the bits of a buffer of 64-bit words or of bytes, lowest bit first: of all, or of the first. "          \
-    "ValueError where there are not so many, TypeError for a buffer of other items." EXAMPLE(                          \
+    "ValueError if the buffer has fewer, TypeError for a buffer of other items." EXAMPLE(                              \
         "BitVector.from_words(b'\\x5a', 7)") PRINTS("BitVector('0101101')")
 #define VECTOR_SET_LIST                                                                                                \
     "Makes the bits at many positions 1, or with 0 makes them 0. IndexError where one is past the end, and "           \
