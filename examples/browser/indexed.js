@@ -1,5 +1,5 @@
 // What a text or a list of numbers becomes: an index of bitm, the same as a plain array, and the queries of both.
-import { BitVector, EliasFano, Index } from "../../bindings/javascript/src/web.js";
+import { BitVector, EliasFano, Index } from "../../bindings/javascript/page/bitm.js";
 
 const CAP = 5_000_000;
 

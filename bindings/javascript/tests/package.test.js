@@ -7,6 +7,7 @@ import { tmpdir } from "node:os";
 import { join } from "node:path";
 import { fileURLToPath } from "node:url";
 import { after, test } from "node:test";
+import { banner, write } from "../one_file.mjs";
 import { bitm } from "./plain.js";
 
 const root = fileURLToPath(new URL("..", import.meta.url)), room = mkdtempSync(join(tmpdir(), "bitm-package-"));
@@ -19,6 +20,15 @@ test("the modules have the sums that stand beside them, and import nothing", () 
     assert.deepEqual(lines.map(it => it[1]), ["bitm32.wasm", "bitm64.wasm", "calls32.wasm", "calls64.wasm"]);
     for (const [sum, name] of lines) assert.equal(createHash("sha256").update(readFileSync(join(root, "wasm", name))).digest("hex"), sum, name);
     assert.deepEqual(WebAssembly.Module.imports(new WebAssembly.Module(readFileSync(join(root, "wasm/bitm32.wasm")))), []);
+});
+
+test("the file for pages is made of these sources", () => {
+    assert.equal(read("page/bitm.js").split("\n", 1)[0], banner(), "run npm run page");
+});
+
+test("the file for pages, made again, has the same bytes", { skip: !has("esbuild") && "esbuild is not here" }, () => {
+    write(join(room, "bitm.js"));
+    assert.equal(read("page/bitm.js"), readFileSync(join(room, "bitm.js"), "utf8"));
 });
 
 test("package.json names files that are there, and nothing is left out", () => {
@@ -64,7 +74,7 @@ function withoutRepository(cwd, args) {
 
 test("the lines of README.md, against the packed package", { skip: !has("npm") && "npm is not here" }, () => {
     const folder = installed();
-    assert.deepEqual(readdirSync(join(folder, "node_modules/bitm")).sort(), ["LICENSE", "README.md", "package.json", "src", "types", "wasm"]);
+    assert.deepEqual(readdirSync(join(folder, "node_modules/bitm")).sort(), ["LICENSE", "README.md", "package.json", "page", "src", "types", "wasm"]);
     const lines = [...read("README.md").matchAll(/```js\n([^]*?)```/g)].map(it => it[1]).join("\n").split("\n");
     const plain = 'const shown = it => JSON.stringify(it, (_, x) => typeof x === "bigint" ? `${x}n` : x === undefined ? "undefined" : Number.isNaN(x) ? "NaN" : ArrayBuffer.isView(x) ? Array.from(x) : x);';
     const checked = lines.map(line => {

@@ -1,0 +1,22 @@
+// node one_file.mjs [FILE]: writes all of src/web.js as one file (else page/bitm.js), by esbuild (Debian has it), so that a
+// page without a bundler fetches one script in place of fifteen. The first line has the sum of the sources.
+import { execFileSync } from "node:child_process";
+import { createHash } from "node:crypto";
+import { readFileSync, readdirSync } from "node:fs";
+import { fileURLToPath } from "node:url";
+
+const root = fileURLToPath(new URL(".", import.meta.url));
+
+/** The first line of the file: made of which sources. */
+export function banner() {
+    const sum = createHash("sha256");
+    for (const name of readdirSync(`${root}src`).sort()) if (name !== "node.js") sum.update(readFileSync(`${root}src/${name}`));
+    return `// src/web.js and all that it imports, in one file: made by one_file.mjs. sha256 of the sources: ${sum.digest("hex")}`;
+}
+
+export function write(to = `${root}page/bitm.js`) {
+    execFileSync("esbuild", ["src/web.js", "--bundle", "--format=esm", "--target=es2022", "--log-level=warning", `--banner:js=${banner()}`,
+        `--outfile=${to}`], { cwd: root, stdio: "inherit" });
+}
+
+if (process.argv[1] === fileURLToPath(import.meta.url)) write(process.argv[2]);
