@@ -1,4 +1,4 @@
--- An index whose lists lie in memory of the caller's, made in one call.
+-- An index whose lists lie in the caller's memory, built in one call.
 use Rattle.std.specs.Prelude.{◌≡◌, ◌≢◌, ℕ, zero, suc, ◌+◌, ◌-◌, ◌*◌, ◌^◌, ◌<◌, ◌≤◌, Bool, true, false, List, length, take, drop}
 use Rattle.std.specs.Int.{div_ceil}
 use Rattle.bit_lists.specs.Bits.{bits_of, item}
@@ -7,7 +7,7 @@ use Rattle.bitm_select.specs.Tables.{HasTables}
 use Rattle.bitm_view.specs.Samples.{enough_samples, AreSamples}
 use Rattle.bitm_view.specs.Sizes.{lists_of}
 
--- the most samples of one kind of so many words, at a logarithm, where 0 says that there are none
+-- the room for samples of one kind of the given number of words at a logarithm, where 0 stands for no samples
 abbrev pub sample_room : ℕ → ℕ → ℕ
 sample_room words zero = 0
 sample_room words (suc log) = enough_samples words (suc log)
@@ -17,8 +17,8 @@ abbrev pub starts_of : ℕ → ℕ → ℕ
 starts_of zero upper = 0
 starts_of (suc log) upper = upper
 
--- the item from which the samples of 0 bits are, after so many of 1 bits: samples have four bytes, and stand at
--- multiples of 64
+-- the index of the first sample of 0 bits after the given number of samples of 1 bits: samples have four bytes, and
+-- each kind starts at a multiple of 64 bytes
 abbrev pub zeros_from : ℕ → ℕ
 zeros_from ones = div_ceil ones 16 * 16
 
@@ -27,7 +27,7 @@ pub record AreFirst (b : List Bool) (n : ℕ) (new : List Bool) : Type 0 where
   pub first : (i : ℕ) → i < n → item new i ≡ item b i
   pub past : (i : ℕ) → n ≤ i → item new i ≡ false
 
--- the words have n bits, and the lists are as long as an index of these wants them
+-- the words have n bits, and the lists have the lengths that an index of these needs
 pub record HasBlockRoom (words : List ℕ) (n log log0 : ℕ) (to upper lower starts starts0 samples : List ℕ) : Type 0 where
   pub source : n ≤ 64 * length words
   pub short : n ≤ 2 ^ 64 - 64
@@ -38,7 +38,7 @@ pub record HasBlockRoom (words : List ℕ) (n log log0 : ℕ) (to upper lower st
   pub starts0_len : length starts0 ≡ starts_of log0 (length upper)
   pub samples_len : zeros_from (sample_room (length to) log) + sample_room (length to) log0 ≤ length samples
 
--- the lists are the first n bits of the words, their tables, and so many samples of 1 bits and of 0 bits
+-- the lists are the first n bits of the words, their tables, and the given numbers of samples of 1 bits and of 0 bits
 pub record IsBlock (words : List ℕ) (n log log0 : ℕ) (to upper lower starts starts0 samples : List ℕ) (ones zeros : ℕ) : Type 0 where
   pub bits : AreFirst (bits_of words) n (bits_of to)
   pub tables : HasTables (lists_of to upper lower)

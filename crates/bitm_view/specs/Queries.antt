@@ -1,4 +1,5 @@
--- What a query answers over tables that may hold anything: among all bits of the words, and among the first ones.
+-- What a query answers over tables that may hold anything: of all bits of the words, and of the bit vector that starts
+-- them.
 use Rattle.std.specs.Prelude.{◌≡◌, ℕ, ◌+◌, ◌-◌, ◌^◌, ◌<◌, ◌≤◌, Bool, not, List, length, min, if◌then◌else◌, nat_eq}
 use Rattle.bit_lists.specs.Bits.{item}
 use Rattle.bit_lists.specs.Count.{IsFirstFrom, IsLastTo}
@@ -10,8 +11,8 @@ use Rattle.bitm.specs.Answer.TheVariants.{Found, Absent, Wrong}
 use Rattle.bitm_view.specs.Cut.{Cut, bits_of_cut, TellsNoneOf}
 use Rattle.bitm_view.specs.Ranks.{IsCountWithin, IsRanked}
 
--- of a selection among the bits b of one that is v, by rank: a place has the bit, whatever the tables hold; where they
--- are right the answer is counting, and Wrong is none; and where Absent is answered, none holds
+-- the answer of a selection of the bit v with a rank in b: a position that is found has the bit, whatever the tables
+-- hold; where they are right, the answer is that of counting and never Wrong; where it is Absent, `none` holds
 pub record IsSelection (b : List Bool) (v : Bool) (right none : Type 0) (rank : ℕ) (answer : Answer ℕ) : Type 0 where
   pub bit : HasBit b v answer
   pub counts : right → IsSelected b v rank answer
@@ -25,8 +26,9 @@ Selects v lists rank = IsSelection (bits_in lists) v (HasTables lists) (TellsNon
 abbrev pub SelectsIn : Bool → Cut → ℕ → Answer ℕ → Type 0
 SelectsIn v c rank = IsSelection (bits_of_cut c) v (HasTables c.lists) (TellsNoneOf v c rank) rank
 
--- of a rank of the first index of so many bits b: a count is at most index, and Absent is answered exactly where there
--- are fewer bits, whatever the tables hold; where they are right the answer is counting, and Wrong is none
+-- the answer of a rank, the number of bits v among the first `index` of the `len` bits b: whatever the tables hold, a
+-- count is at most index, and the answer is Absent exactly where there are fewer bits; where they are right, the answer
+-- is that of counting and never Wrong
 pub record IsCounting (b : List Bool) (len : ℕ) (v : Bool) (right : Type 0) (index : ℕ) (answer : Answer ℕ) : Type 0 where
   pub within : IsCountWithin len index answer
   pub counts : right → IsRanked b v index answer
@@ -51,20 +53,21 @@ IsPrevious b v s (Found p) = IsLastTo b v (min s (length b - 1)) p
 IsPrevious b v s Absent = (p : ℕ) → p ≤ s → p < length b → item b p ≡ not v
 IsPrevious b v s Wrong = ⊥
 
--- of the next bit v from a position on: whatever the tables hold, a position is from there on and before the end, and has
--- the bit; where they are right the answer is the least one
+-- the answer of a search for the next bit v from a position on: whatever the tables hold, a position that is found is
+-- from there on and before the end, and has the bit; where they are right, it is the least such position
 pub record NextIn (v : Bool) (c : Cut) (s : ℕ) (answer : Answer ℕ) : Type 0 where
   pub bit : HasBit (bits_of_cut c) v answer
   pub from : IsFoundFrom s c.len answer
   pub counts : HasTables c.lists → IsNext (bits_of_cut c) v s answer
 
--- of the previous bit v up to a position, likewise
+-- the answer of a search for the previous bit v up to a position: whatever the tables hold, a position that is found is
+-- at most that one, and has the bit; where they are right, it is the greatest such position
 pub record PreviousIn (v : Bool) (c : Cut) (s : ℕ) (answer : Answer ℕ) : Type 0 where
   pub bit : HasBit (bits_of_cut c) v answer
   pub to : IsFoundFrom 0 (s + 1) answer
   pub counts : HasTables c.lists → IsPrevious (bits_of_cut c) v s answer
 
--- what a number of a list says of the answer: the two greatest ones stand for Absent and Wrong
+-- the answer that a number of a list codes: the two greatest numbers stand for Absent and Wrong
 abbrev pub selected_by : ℕ → Answer ℕ
 selected_by n = if nat_eq n (2 ^ 64 - 1) then Absent else if nat_eq n (2 ^ 64 - 2) then Wrong else Found n
 

@@ -4,14 +4,14 @@ use Rattle.bit_lists.specs.Count.{count_before}
 use Rattle.bitm.specs.Answer.{Answer}
 use Rattle.bitm.specs.Answer.TheVariants.{Found, Absent, Wrong}
 
--- of the first i of so many bits: no more than i are counted, and Absent is answered exactly where there
--- are not so many
+-- of the first i of `len` bits at most i are counted, and the answer is Absent exactly where there are fewer than i
+-- bits
 abbrev pub IsCountWithin : ℕ → ℕ → Answer ℕ → Type 0
 IsCountWithin len i (Found n) = (i ≤ len) × (n ≤ i)
 IsCountWithin len i Absent = len < i
 IsCountWithin len i Wrong = i ≤ len
 
--- how many of the first i bits are v, and Absent exactly where there are not so many bits
+-- how many of the first i bits are v, and Absent exactly where there are fewer bits
 abbrev pub IsRanked : List Bool → Bool → ℕ → Answer ℕ → Type 0
 IsRanked b v i (Found n) = (i ≤ length b) × (n ≡ count_before b v i)
 IsRanked b v i Absent = length b < i

@@ -1,4 +1,4 @@
-//! Words, tables and samples of an index, made in one call into memory of the caller's.
+//! Words, tables and samples of an index, built in one call in the caller's memory.
 ghost use Rattle.std.specs.Prelude.{◌≡◌, ◌≢◌, ◌*◌, ◌≤◌, ◌↔◌, IfSome, IsNone, IsSome, IsTrue, length, take};
 ghost use Rattle.std.specs.Int.{div_ceil};
 ghost use Rattle.bit_lists.specs.Bits.{bits_of};
@@ -25,7 +25,7 @@ fn copy_first(words: &[u64], len: usize, to: &mut [u64])
     clear_from(to, len);
 }
 
-/// The most samples at a logarithm, where 0 says that there are none.
+/// The room that samples at a logarithm need, in samples; 0 where the logarithm is 0, which stands for no samples.
 #[inline(always)]
 fn samples_room(words: usize, log2: u8) -> usize
     ensures { result ≡ sample_room words log2 }
@@ -37,7 +37,8 @@ fn samples_room(words: usize, log2: u8) -> usize
     }
 }
 
-/// How many starts there are with samples of that logarithm.
+/// The length of the list of starts beside samples of that logarithm: one for each upper block, and none where the
+/// logarithm is 0.
 #[inline(always)]
 pub fn starts_len(upper: usize, log2: u8) -> usize
     ensures { result ≡ starts_of log2 upper }
@@ -45,7 +46,7 @@ pub fn starts_len(upper: usize, log2: u8) -> usize
     if log2 == 0 { 0 } else { upper }
 }
 
-/// As `Lent::build_samples`, where `log2` is not 0; else there are none.
+/// Builds samples as `Lent::build_samples` does and returns their number; builds none and returns 0 where `log2` is 0.
 fn sample<const BIT: u8>(
     tables: &Lent<'_>,
     log2: u8,
@@ -67,7 +68,7 @@ fn sample<const BIT: u8>(
     }
 }
 
-/// Whether the words have `len` bits, and the lists are as long as an index of these wants them.
+/// Whether the words have `len` bits and each list has the length that `build_block` requires.
 #[inline(always)]
 pub fn has_block_room(
     words: &[u64],
@@ -94,14 +95,14 @@ pub fn has_block_room(
             <= samples.len()
 }
 
-/// Copies the first `len` bits of the words, and writes their tables and the samples of 1 bits and of 0 bits, each at
-/// its logarithm, or none where that is 0. Answers how many samples of each kind there are; those of 0 bits begin at the
-/// first multiple of 16 behind the others.
+/// Copies the first `len` bits of the words and builds their tables, and samples of 1 bits and of 0 bits at the two
+/// logarithms; a logarithm of 0 stands for no samples. Returns the number of samples of either kind. Those of 0 bits
+/// start at the first multiple of 16 that is not below the number of the others.
 ///
 /// # Conditions
-/// The lists are as long as `has_block_room` says.
+/// `has_block_room` holds of the lists.
 /// # Cost
-/// The words are read twice, and what `Lent::build_samples` reads.
+/// Two passes over the words, and what `Lent::build_samples` reads.
 pub fn build_block(
     words: &[u64],
     len: usize,

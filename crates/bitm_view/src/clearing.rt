@@ -1,10 +1,10 @@
-//! Words and bits that are made zeros.
+//! Clearing words and bits.
 ghost use Rattle.std.specs.Prelude.{◌≡◌, ◌%◌, ◌<◌, ◌≤◌, ℕ, false, length, replicate, slice_index};
 ghost use Rattle.bit_lists.specs.Bits.{bits_of, item};
 
 use bitm::words;
 
-/// Makes every second word from word `first` on a zero.
+/// Clears every second word, from word `first` on.
 #[inline(always)]
 fn clear_half(words: &mut [u64], first: usize)
     ensures zeros { (j : ℕ) → first ≤ j → j % 2 ≡ first % 2 → slice_index words.new j ≡ 0 }
@@ -18,7 +18,7 @@ fn clear_half(words: &mut [u64], first: usize)
     }
 }
 
-/// Makes the words from word `first` on zeros.
+/// Clears the words from word `first` on.
 #[inline(always)]
 fn clear_words(words: &mut [u64], first: usize)
     requires { first ≤ length words.old }
@@ -31,17 +31,17 @@ fn clear_words(words: &mut [u64], first: usize)
     clear_half(words, first + 1);
 }
 
-/// Makes all words zeros.
+/// Clears all words.
 pub fn clear(words: &mut [u64])
     ensures { words.new ≡ replicate (length words.old) 0 }
 {
     clear_words(words, 0);
 }
 
-/// Makes the bits from place `bit` on zeros; nothing is changed where there are not so many bits.
+/// Clears the bits from position `bit` on; changes nothing where the words end before that position.
 ///
 /// # Cost
-/// Each word from that place on is written once, and one is read.
+/// Each word from that position on is written once, and one is read.
 pub fn clear_from(words: &mut [u64], bit: usize)
     ensures len { length words.new ≡ length words.old }
     ensures before { (i : ℕ) → i < bit

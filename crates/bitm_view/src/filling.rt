@@ -1,4 +1,4 @@
-//! The two tables, made into memory that is lent, in one pass over the words.
+//! The two tables, written into the caller's memory in one pass over the words.
 ghost use Rattle.std.specs.Prelude.{◌≡◌, ◌+◌, ◌*◌, ◌^◌, ◌<◌, length, min, IsNone, IfSome, SomeIff};
 ghost use Rattle.std.specs.Int.{div_ceil};
 ghost use Rattle.bit_lists.specs.Bits.{bits_of, IsShort};
@@ -11,7 +11,7 @@ use crate::lent::has_sizes;
 use bitm_select::levels::L2_ENTRIES_PER_L1_ENTRY;
 use bitm_select::tables::make_entry;
 
-/// Writes the lower entries of a part, and answers the number of ones in it.
+/// Writes the lower entries of an upper block and returns the number of its 1 bits.
 fn fill_part(words: &[u64], part: usize, lower: &mut [u64]) -> usize
     requires short { IsShort words.now }
     requires begun { part * 2 ^ 26 < length words.now }
@@ -34,7 +34,7 @@ fn fill_part(words: &[u64], part: usize, lower: &mut [u64]) -> usize
     in_part
 }
 
-/// Writes both tables of the words, and answers the number of ones.
+/// Writes both tables of the words and returns the number of 1 bits.
 fn fill(words: &[u64], upper: &mut [usize], lower: &mut [u64]) -> usize
     requires { HasSizes (lists_of words.now upper.old lower.old) }
     ensures sizes { HasSizes (lists_of words.now upper.new lower.new) }
@@ -49,8 +49,8 @@ fn fill(words: &[u64], upper: &mut [usize], lower: &mut [u64]) -> usize
     ones
 }
 
-/// Writes both tables of the words, and answers the number of ones; `None` exactly where there are 2^58 words or
-/// more, or a table has another length, and nothing is written then.
+/// Writes both tables of the words and returns the number of 1 bits. Returns `None`, and writes nothing, exactly where
+/// there are 2^58 words or more, or a table has another length than `upper_len` or `lower_len` of the words.
 ///
 /// # Cost
 /// Each word is read once. What was in the tables' memory is not read.

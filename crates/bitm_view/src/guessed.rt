@@ -1,5 +1,5 @@
-//! The entry of a rank by a guess between two samples, over a source with any tables and samples: it is sought
-//! near the guess, entry by entry or in a window. Where it is not there, it is found as `sampled` finds it.
+//! Interpolation between two samples, over a source with any tables and samples: the search for the lower block of a
+//! rank first looks near the guess, entry by entry or in a window, and then searches as `sampled` does.
 ghost use Rattle.std.specs.Prelude.{◌≡◌, ◌+◌, ◌*◌, ◌^◌, ◌<◌, ◌≤◌, length, IfSome};
 ghost use Rattle.bit_lists.specs.Count.{as_bit};
 ghost use Rattle.bitm_select.specs.Entry.{before_in_part};
@@ -17,39 +17,40 @@ use bitm_select::search::entries::{last_entry, sought_entry};
 use bitm_select::search::selecting::FindsEntry;
 use bitm_select::source::TableSource;
 
-/// So many entries on either side of a guess are asked one after another.
+/// The number of entries on either side of a guess that are read one after another.
 const STEPS: usize = 4;
 
-/// Entries of a window round a guess.
+/// Entries in a window around a guess.
 const WINDOW: usize = 8;
 
-/// So many of them stand before the guess.
+/// The number of them before the guess.
 const BEFORE: usize = 3;
 
-/// Where fewer entries lie between two samples a guess is right most often, and steps from it are the fastest way: the
-/// processor knows before it has read the entries which one it will be.
+/// With fewer entries than this between two samples most guesses are right, and steps from the guess are fastest: the
+/// processor predicts the entry before it has read it.
 const DENSE: usize = 16;
 
-/// Where so many entries lie between two samples a guess is wrong too often.
+/// With this number of entries or more between two samples a guess is wrong too often to pay.
 const SPARSE: usize = 512;
 
-/// Finds entries by a guess between two samples; by the tables alone where there are none.
+/// Finds entries by interpolation between two samples; by the tables alone where there are no samples.
 #[derive(Clone, Copy)]
 pub struct ByGuess<'a> {
     /// The samples. They may hold anything.
     pub samples: LentSamples<'a>,
 }
 
-/// Where the entry of a rank is sought first.
+/// Where the search for the entry of a rank starts.
 #[derive(Clone, Copy)]
 struct Guess {
-    /// An entry of a part that is near where the items lie evenly between two samples of the words; else any number.
+    /// The guessed entry, by number in its upper block: near the right one where the bits lie evenly between two
+    /// samples and the samples are those of the words; any number otherwise.
     at: usize,
-    /// How many entries lie between the two samples, if they are those of the words; else any number.
+    /// The number of entries between the two samples, if these are those of the words; any number otherwise.
     between: usize,
 }
 
-/// The guess for item `rank` of a part.
+/// The guess for the bit with rank `rank` in an upper block.
 #[inline(always)]
 fn guess_of(lent: &LentSamples<'_>, part: usize, rank: usize) -> Guess
     requires { part < 2 ^ 60 }
@@ -65,7 +66,7 @@ fn guess_of(lent: &LentSamples<'_>, part: usize, rank: usize) -> Guess
     let low = (*sample & 0x1F_FFFF) as usize;
     let between = match lent.samples.get(begin.wrapping_add(1)) {
         Some(next) => ((*next & 0x1F_FFFF) as usize).wrapping_sub(low),
-        // The sample tells how many entries half its interval has.
+        // The sample holds how many entries later the bit in the middle of its interval is.
         None => 2 * (*sample >> 21) as usize,
     };
     let interval = 1usize << log2;
@@ -77,8 +78,9 @@ fn guess_of(lent: &LentSamples<'_>, part: usize, rank: usize) -> Guess
     }
 }
 
-/// The last entry of a part with no more than `rank` of the kind before it in the part, where the tables are those of
-/// the words and entry `at`, which packs `packed`, has no more before it; `None` where it is more than four entries on.
+/// The last entry of an upper block with at most `rank` bits of the kind before it there, and what it packs: the right
+/// one where the tables are those of the words. The search starts at entry `at`, which packs `packed` and has at most
+/// `rank` before it. `None` where the right entry is neither `at` nor one of the three after it.
 #[inline(always)]
 fn steps_on<const BIT: u8, T: TableSource>(
     source: &mut T,
@@ -114,8 +116,9 @@ fn steps_on<const BIT: u8, T: TableSource>(
     None
 }
 
-/// The last entry of a part with no more than `rank` of the kind before it in the part, where the tables are those of
-/// the words and entry `at` has more before it; `None` where it is more than four entries back.
+/// The last entry of an upper block with at most `rank` bits of the kind before it there, and what it packs: the right
+/// one where the tables are those of the words. The search starts at entry `at`, which has more than `rank` before it.
+/// `None` where the right entry is not one of the four before it.
 #[inline(always)]
 fn steps_back<const BIT: u8, T: TableSource>(
     source: &mut T,
@@ -146,8 +149,9 @@ fn steps_back<const BIT: u8, T: TableSource>(
     None
 }
 
-/// The last entry of a part with no more than `rank` of the kind before it in the part, where the tables are those of
-/// the words, and what it packs; `None` where it is more than four entries from entry `about`.
+/// The last entry of an upper block with at most `rank` bits of the kind before it there, and what it packs: the right
+/// one where the tables are those of the words. The search looks at entry `about` and at most four entries before or
+/// after it, and returns `None` where this does not find it.
 #[inline(always)]
 fn entry_by_steps<const BIT: u8, T: TableSource>(
     source: &mut T,
@@ -171,8 +175,8 @@ fn entry_by_steps<const BIT: u8, T: TableSource>(
     }
 }
 
-/// The same, `None` where it is not among the eight entries round entry `about`: by three halvings, without a branch on
-/// where it is.
+/// Like `entry_by_steps`, by three halvings of the eight entries around entry `about`, without a branch on where the
+/// entry is. `None` where it is not among these.
 #[inline(always)]
 fn entry_in_window<const BIT: u8, T: TableSource>(
     source: &mut T,
@@ -198,9 +202,10 @@ fn entry_in_window<const BIT: u8, T: TableSource>(
     entry_between::<BIT, T>(source, part, bounds, rank)
 }
 
-/// The last entry of a part with no more than `rank` of the kind before it in the part, where the tables are those of
-/// the words, and what it packs; `None` where it is not near the guess. Where `SIDE_BY_SIDE` is 0 the fastest way for
-/// one query is taken, else that for many: without a branch on where the entry is.
+/// The last entry of an upper block with at most `rank` bits of the kind before it there, and what it packs: the right
+/// one where the tables are those of the words. `None` where it is not near the guess. A `SIDE_BY_SIDE` of 0 takes the
+/// way that is fastest for one query, any other the one that is fastest for many: without a branch on where the entry
+/// is.
 #[inline(always)]
 fn guessed_entry<const BIT: u8, const SIDE_BY_SIDE: u8, T: TableSource>(
     source: &mut T,
@@ -225,9 +230,9 @@ fn guessed_entry<const BIT: u8, const SIDE_BY_SIDE: u8, T: TableSource>(
     }
 }
 
-/// The last entry of a part with no more than `rank` of the kind before it in the part, where the tables are those of
-/// the words, and what it packs; else some entry of the part. Where it is not near the guess, it is sought between the
-/// samples, and where these do not lead to it, without them.
+/// The last entry of an upper block with at most `rank` bits of the kind before it there, and what it packs: the right
+/// one where the tables are those of the words, some entry of the upper block otherwise. The search looks near the
+/// guess first, then between the samples, and last without them.
 #[inline(always)]
 pub(crate) fn entry_by_guess<const BIT: u8, const SIDE_BY_SIDE: u8, T: TableSource>(
     source: &mut T,
@@ -250,7 +255,7 @@ pub(crate) fn entry_by_guess<const BIT: u8, const SIDE_BY_SIDE: u8, T: TableSour
     }
 }
 
-/// `entry_by_samples`, where the guess was wrong: a call of its own, so that the guess stands where it is asked.
+/// Calls `entry_by_samples` after a wrong guess. Not inlined, so that the code of the guess stays small enough to be.
 #[inline(never)]
 fn entry_far_off<const BIT: u8, T: TableSource>(
     source: &mut T,

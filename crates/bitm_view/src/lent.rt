@@ -1,4 +1,4 @@
-//! Words and tables that are lent, and how long the tables are.
+//! Borrowed words and tables, and how long the tables are.
 ghost use Rattle.std.specs.Prelude.{◌≡◌, ◌^◌, ◌↔◌, ◌<◌, ◌≤◌, IsTrue, MatchOption, length, SomeIff, true};
 ghost use Rattle.std.specs.Int.{div_ceil};
 ghost use Rattle.bit_lists.specs.Bits.{bits_of, IsShort};
@@ -22,7 +22,7 @@ use bitm_select::search::selecting::total_select_on;
 use bitm_select::source::Probe;
 use std::marker::Model;
 
-/// How many upper entries so many words have: one for each begun 2^26 words.
+/// The number of upper entries of the given number of words: ceil(words / 2^26).
 #[inline(always)]
 pub fn upper_len(words: usize) -> usize
     ensures { result ≡ div_ceil words (2 ^ 26) }
@@ -30,7 +30,7 @@ pub fn upper_len(words: usize) -> usize
     words.div_ceil(U64_PER_L1_ENTRY)
 }
 
-/// How many lower entries so many words have: one for each begun 32 words.
+/// The number of lower entries of the given number of words: ceil(words / 32).
 #[inline(always)]
 pub fn lower_len(words: usize) -> usize
     ensures { result ≡ div_ceil words 32 }
@@ -38,7 +38,7 @@ pub fn lower_len(words: usize) -> usize
     words.div_ceil(U64_PER_L2_ENTRY)
 }
 
-/// Whether `BIT` asks for 1 bits: 0 asks for 0 bits.
+/// Whether `BIT` stands for 1 bits; only 0 stands for 0 bits.
 #[inline(always)]
 pub(crate) fn is_one<const BIT: u8>() -> bool
     ensures { result ≡ as_bit BIT }
@@ -57,10 +57,10 @@ pub(crate) fn has_sizes(words: &[u64], upper: &[usize], lower: &[u64]) -> bool
         && lower.len() == (words.len() + (U64_PER_L2_ENTRY - 1)) / U64_PER_L2_ENTRY
 }
 
-/// Words and two tables, all lent, of which the lengths are right.
+/// Borrowed words and their two tables, whose lengths are right.
 ///
-/// Contracts see the three lists. The tables may hold anything: a call says what it answers where they are those
-/// of the words, and what it answers else.
+/// Contracts see the three lists. The tables may hold anything: each call says what it answers where they are those of
+/// the words, and what it answers otherwise.
 #[derive(Drop)]
 pub struct Lent<'a> {
     words: &'a [u64],
@@ -80,8 +80,8 @@ impl<'a> Model for Lent<'a> {
 }
 
 impl<'a> Lent<'a> {
-    /// The words and their tables; `None` exactly where there are 2^58 words or more, or a table is not as long as
-    /// theirs.
+    /// Borrows words and their tables. `None` exactly where there are 2^58 words or more, or a table has another length
+    /// than `upper_len` or `lower_len` of the words.
     #[inline(always)]
     pub fn over(words: &'a [u64], upper: &'a [usize], lower: &'a [u64]) -> Option<Lent<'a>>
         ensures { SomeIff result (HasSizes (lists_of words.now upper.now lower.now))
@@ -98,8 +98,8 @@ impl<'a> Lent<'a> {
         }
     }
 
-    /// The words and their tables where there is a word and there are no more than `WORDS_AT_HAND`; else `None`, as where a
-    /// length is not right. For a call that has a form of its own for these: fewer tests than `over`.
+    /// Like `over`, for at least one word and at most `WORDS_AT_HAND` words; `None` for any other number of words too.
+    /// For a call that treats these apart: fewer tests than `over`.
     #[inline(always)]
     pub fn over_few(words: &'a [u64], upper: &'a [usize], lower: &'a [u64]) -> Option<Lent<'a>>
         ensures { SomeIff result (HasSizes (lists_of words.now upper.now lower.now)
@@ -110,8 +110,8 @@ impl<'a> Lent<'a> {
         Lent::over_part(few, words, upper, lower)
     }
 
-    /// The words and their tables where there are more than `WORDS_AT_HAND` words and one upper block; else `None`, as
-    /// where a length is not right. For a call that has a form of its own for these: fewer tests than `over`.
+    /// Like `over`, for more than `WORDS_AT_HAND` words in one upper block; `None` for any other number of words too.
+    /// For a call that treats these apart: fewer tests than `over`.
     #[inline(always)]
     pub fn over_large_part(
         words: &'a [u64],
@@ -126,7 +126,7 @@ impl<'a> Lent<'a> {
         Lent::over_part(large, words, upper, lower)
     }
 
-    /// The words and their tables, if they are `asked` for; else `None`, as where a length is not right.
+    /// Like `over`, for words of one upper block; `None` where `asked` is false too.
     #[inline(always)]
     fn over_part(
         asked: bool,
@@ -161,7 +161,7 @@ impl<'a> Lent<'a> {
         self.words
     }
 
-    /// A source over the words and tables, with no reads counted yet: for calls over any source.
+    /// A source over the words and tables whose reads are counted from 0, for calls over any source.
     #[inline(always)]
     pub fn probe(&self) -> Probe<'_>
         ensures lists { result.lists ≡ self.now }
@@ -171,17 +171,17 @@ impl<'a> Lent<'a> {
         Probe::new(self.words, self.upper, self.lower)
     }
 
-    /// Whether the tables are those of the words: one pass over the words, which stops at the first wrong entry.
+    /// Whether the tables are those of the words. One pass over the words, which stops at the first wrong entry.
     pub fn check(&self) -> bool
         ensures { IsTrue result ↔ HasTables self.now }
     {
         are_tables(self.words, self.upper, self.lower)
     }
 
-    /// How many of the first `index` bits are ones; zeros in place of ones where `BIT` is 0.
+    /// The number of 1 bits among the first `index` bits; of 0 bits where `BIT` is 0.
     ///
-    /// Whatever the tables hold, `Absent` is answered exactly where there are fewer bits, and a count is at most
-    /// `index`. Where they are those of the words it is the right one, and `Wrong` is never answered.
+    /// Whatever the tables hold, the answer is `Absent` exactly where there are fewer than `index` bits, and a count is
+    /// at most `index`. Where they are those of the words, the count is right and the answer is never `Wrong`.
     ///
     /// # Cost
     /// At most one upper entry, one lower entry and eight words are read.
@@ -193,8 +193,8 @@ impl<'a> Lent<'a> {
         ranked_on(&mut self.probe(), is_one::<BIT>(), index)
     }
 
-    /// How many of the first `index` bits are ones, where the tables are those of the words, else any number; `None`
-    /// exactly where there are fewer bits.
+    /// The number of 1 bits among the first `index` bits where the tables are those of the words, any number otherwise.
+    /// `None` exactly where there are fewer than `index` bits.
     #[inline(always)]
     fn told_ones(&self, index: usize) -> Option<usize>
         ensures sized { HasSizes self.now }
@@ -205,14 +205,16 @@ impl<'a> Lent<'a> {
         total_rank_on(&mut self.probe(), index)
     }
 
-    /// The place of the one with exactly `rank` ones before it; zeros in place of ones where `BIT` is 0.
+    /// The position of the 1 bit with exactly `rank` 1 bits before it; of the 0 bit with `rank` 0 bits before it where
+    /// `BIT` is 0.
     ///
-    /// Whatever the tables hold, a place that is found is inside and has such a bit. Where they are those of the words
-    /// it is the right one, `Absent` is answered exactly where there is none, and `Wrong` never.
+    /// Whatever the tables hold, a position that is found is in the words and has such a bit. Where they are those of
+    /// the words, it is the right position, the answer is `Absent` exactly where there is no such bit, and it is never
+    /// `Wrong`.
     ///
     /// # Cost
-    /// At most as many upper entries as their number has binary digits and one more, 23 lower entries and eight words
-    /// are read, whatever the tables hold.
+    /// With u upper entries, a query reads at most one more of them than u has binary digits, 23 lower entries and
+    /// eight words, whatever the tables hold.
     #[inline(always)]
     pub fn select<const BIT: u8>(&self, rank: usize) -> Answer<usize>
         ensures bit { HasBit (bits_in self.now) (as_bit BIT) result }

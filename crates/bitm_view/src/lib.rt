@@ -2,7 +2,7 @@
 //! has a condition on what the tables hold.
 //!
 //! With the tables of the words the answers are plain counting. If the tables are stale or hostile, every call still
-//! terminates within its read bound, a rank is at most its place, and any place that is returned is inside and
+//! terminates within its read bound, a rank is at most its index, and any position that is returned is in the words and
 //! holds the requested bit.
 //!
 //! ```

@@ -11,7 +11,7 @@ use bitm_select::search::selecting::total_select_on;
 use bitm_select::source::{Probe, TableSource};
 
 /// The position with a rank, by the codes of lists. Not inlined: the loop that calls it where there are no words would
-/// become a call of the C library, and the archive needs none.
+/// become a call of the C library, which the archive does without.
 #[inline(never)]
 fn code_on<const BIT: u8, T: TableSource>(source: &mut T, rank: usize) -> usize
     requires { HasSizes (T.lists source.old) }
@@ -21,9 +21,9 @@ fn code_on<const BIT: u8, T: TableSource>(source: &mut T, rank: usize) -> usize
     told(total_select_on::<BIT, T>(source, rank))
 }
 
-/// Writes the position with each rank, by searches side by side where there is a word, of which `finder` finds the
-/// entries: `NO_ANSWER` for `Absent` and `WRONG_TABLES` for `Wrong`. Answers false exactly where there is not room
-/// for as many answers as ranks, and nothing is written then.
+/// Writes the position with each rank, or `NO_ANSWER` for `Absent` and `WRONG_TABLES` for `Wrong`. Where there is a
+/// word the searches run side by side, and `finder` finds their entries. Returns false, and writes nothing, exactly
+/// where `out` is not as long as `ranks`.
 pub(crate) fn select_list_on<const BIT: u8, T: TableSource, F: FindsEntries<BIT, T>>(
     source: &mut T,
     finder: &F,
@@ -49,10 +49,9 @@ pub(crate) fn select_list_on<const BIT: u8, T: TableSource, F: FindsEntries<BIT,
 }
 
 impl<'a> Lent<'a> {
-    /// Writes the position with each rank, as `select` answers it where the tables are those of the words; in others it
-    /// may be another position with such a bit. `NO_ANSWER` is written for `Absent` and `WRONG_TABLES` for
-    /// `Wrong`; answers false exactly where there is not room for as many answers as ranks, and nothing is written
-    /// then.
+    /// Writes the position with each rank, or `NO_ANSWER` for `Absent` and `WRONG_TABLES` for `Wrong`: what `select`
+    /// answers where the tables are those of the words, and possibly another position with such a bit in other tables.
+    /// Returns false, and writes nothing, exactly where `out` is not as long as `ranks`.
     pub fn select_list<const BIT: u8>(&self, ranks: &[usize], out: &mut [usize]) -> bool
         ensures room { IsTrue result ↔ length out.old ≡ length ranks.now }
         ensures told { IsTrue result → ToldEach (as_bit BIT) self.now ranks.now out.new }

@@ -1,12 +1,12 @@
-//! The positions of 1 bits, written into memory that is lent.
+//! The positions of 1 bits, written into the caller's memory.
 ghost use Rattle.std.specs.Prelude.{◌≡◌, ◌+◌, ◌-◌, ◌<◌, ◌≤◌, ℕ, length, min, slice_index, true};
 ghost use Rattle.bit_lists.specs.Bits.{bits_of, IsShort};
 ghost use Rattle.bit_lists.specs.Count.{ones_before, ones_of, Picks};
 
 use bit_slices::positions_in;
 
-/// Writes the positions of the 1 bits from position `from` on, rising, as many as there is room for, and answers how
-/// many; what stands behind them stays.
+/// Writes the positions of the 1 bits from position `from` on in rising order until `out` is full, and returns their
+/// number. The rest of `out` keeps its values.
 ///
 /// # Conditions
 /// There are fewer than 2^58 words.

@@ -8,8 +8,7 @@ use bitm_select::answer::Answer;
 use bitm_select::search::ranking::total_rank_on;
 use bitm_select::source::TableSource;
 
-/// The number of 1 bits, or 0 bits, among the first `index` bits of a source's words. The kind is chosen once, after the
-/// 1 bits were counted.
+/// The number of 1 bits, or of 0 bits where `one` is false, among the first `index` bits of a source's words.
 ///
 /// # Conditions
 /// There are fewer than 2^58 words, and the tables have the right lengths. They may hold anything.

@@ -1,6 +1,6 @@
-//! Selection that starts at samples, over a source with any tables and samples: the samples say between which entries
-//! of a part the rank is, two entries are asked whether that is so, and a search by halves finds the entry. Where it is
-//! not so, the search goes without samples, so that these make no answer another.
+//! Selection from samples, over a source with any tables and samples. The samples bound the entries of an upper block
+//! that can hold the rank, a read at either end tests the bounds, and a binary search finds the entry between them.
+//! Where the test fails, the search does without samples, so that they never change an answer.
 ghost use Rattle.std.specs.Prelude.{◌≡◌, ℕ, ◌+◌, ◌-◌, ◌*◌, ◌%◌, ◌^◌, ◌<◌, ◌≤◌, ◌↔◌, Bool, List, length, slice_index, IfSome, IsSome, IsSomeAnd, IsTrue, MatchOption};
 ghost use Rattle.std.specs.Int.{div_ceil};
 ghost use Rattle.bit_lists.specs.Bits.{digit_count};
@@ -25,7 +25,7 @@ use bitm_select::search::entries::{EntryRange, last_entry, last_in_range, sought
 use bitm_select::search::selecting::search_on;
 use bitm_select::source::TableSource;
 
-/// How many samples there are before a part, or in all where there is no such part.
+/// The number of samples before an upper block; of all samples where there is no such upper block.
 #[inline(always)]
 pub(crate) fn samples_to(lent: &LentSamples<'_>, part: usize) -> usize
     ensures few { result ≤ length lent.now.samples.now }
@@ -39,7 +39,7 @@ pub(crate) fn samples_to(lent: &LentSamples<'_>, part: usize) -> usize
     }
 }
 
-/// The entry behind that of the first item of the interval that sample `at` begins.
+/// The entry after that of the bit which sample `at` stands for.
 ///
 /// # Conditions
 /// There is such a sample.
@@ -51,14 +51,14 @@ fn entry_behind(lent: &LentSamples<'_>, at: usize) -> usize
     (lent.samples[at] & 0x1F_FFFF) as usize + 1
 }
 
-/// Entries of a part: from `low` on and before `end`.
+/// Entries of an upper block, from `low` on and before `end`.
 #[derive(Clone, Copy)]
 pub(crate) struct Bounds {
     pub low: usize,
     pub end: usize,
 }
 
-/// Between which entries of a part the one is that has item `rank` of the part, if the samples are those of the words;
+/// Bounds of the entry that has the bit with rank `rank` in an upper block, if the samples are those of the words;
 /// `None` only where they are not.
 #[inline(always)]
 fn bounds_of(lent: &LentSamples<'_>, part: usize, entries: usize, rank: usize) -> Option<Bounds>
@@ -95,8 +95,8 @@ fn bounds_of(lent: &LentSamples<'_>, part: usize, entries: usize, rank: usize) -
     Some(Bounds { low, end })
 }
 
-/// What entry `low` of a part packs, 0 for the first, which need not be read; `None` where more than `rank` of the kind
-/// stand before it in the part.
+/// What entry `low` of an upper block packs, or 0 for the first entry, which is not read; `None` where the table claims
+/// more than `rank` bits of the kind before it in the upper block.
 #[inline(always)]
 fn begun_by<const BIT: u8, T: TableSource>(
     source: &mut T,
@@ -128,7 +128,8 @@ fn begun_by<const BIT: u8, T: TableSource>(
     }
 }
 
-/// Whether more than `rank` of the kind stand before entry `end` of a part in the part, if it has such an entry.
+/// Whether the table claims more than `rank` bits of the kind before entry `end` of an upper block, counted there; true
+/// where the upper block has no such entry.
 #[inline(always)]
 fn is_behind<const BIT: u8, T: TableSource>(
     source: &mut T,
@@ -152,8 +153,8 @@ fn is_behind<const BIT: u8, T: TableSource>(
     rank < ones_to_entry(packed)
 }
 
-/// The last entry of a part with no more than `rank` of the kind before it in the part, where the tables are those of
-/// the words, and what it packs; `None` only where it is not between these bounds.
+/// The last entry of an upper block with at most `rank` bits of the kind before it there, and what it packs: the right
+/// one where the tables are those of the words. With these, `None` only where the entry is not within the bounds.
 #[inline(always)]
 pub(crate) fn entry_between<const BIT: u8, T: TableSource>(
     source: &mut T,
@@ -192,8 +193,8 @@ pub(crate) fn entry_between<const BIT: u8, T: TableSource>(
     Some(last_in_range::<BIT, T>(source, part, range, rank))
 }
 
-/// The last entry of a part with no more than `rank` of the kind before it in the part, where the tables are those of
-/// the words, and what it packs; `None` only where it is not where the samples say.
+/// The last entry of an upper block with at most `rank` bits of the kind before it there, and what it packs: the right
+/// one where the tables are those of the words. `None` only where tables or samples are not those of the words.
 #[inline(always)]
 fn sampled_entry<const BIT: u8, T: TableSource>(
     source: &mut T,
@@ -217,9 +218,9 @@ fn sampled_entry<const BIT: u8, T: TableSource>(
     entry_between::<BIT, T>(source, part, bounds, rank)
 }
 
-/// The last entry of a part with no more than `rank` of the kind before it in the part, where the tables are those of
-/// the words, and what it packs; else some entry of the part. Where the samples do not lead to it, it is sought without
-/// them.
+/// The last entry of an upper block with at most `rank` bits of the kind before it there, and what it packs: the right
+/// one where the tables are those of the words, some entry of the upper block otherwise. Where the samples do not lead
+/// to it, the search does without them.
 #[inline(always)]
 pub(crate) fn entry_by_samples<const BIT: u8, T: TableSource>(
     source: &mut T,
@@ -242,16 +243,16 @@ pub(crate) fn entry_by_samples<const BIT: u8, T: TableSource>(
     }
 }
 
-/// What `total_select_on` answers, by samples of the ones; of the zeros where `BIT` is 0. Samples make it no other
-/// answer, whatever they hold: a rank that they do not lead to is sought without them.
+/// Selects as `total_select_on` does, from samples of 1 bits; of 0 bits where `BIT` is 0. The samples never change an
+/// answer, whatever they hold: where they do not lead to a rank, the search does without them.
 ///
 /// # Conditions
-/// Those of `total_select_on`. Nothing is asked of the samples.
+/// Those of `total_select_on`. The samples have none.
 /// # Cost
-/// At most as many upper entries as their number has binary digits and one more, 51 lower entries and eight words are
-/// read, whatever the tables and samples hold; and a few numbers of the samples. Where these are those of the words, 28
-/// lower entries: five near a guess, and where it was wrong two more, and one for each halving from the sample to the
-/// next.
+/// With u upper entries, a query reads at most one more of them than u has binary digits, 51 lower entries and eight
+/// words, whatever the tables and samples hold, and a few numbers of the samples. Where tables and samples are those of
+/// the words, it reads at most 28 lower entries: five near a guess and, after a wrong guess, two more and one for each
+/// halving from the sample to the next.
 pub fn sampled_select_on<const BIT: u8, T: TableSource>(
     source: &mut T,
     lent: &LentSamples<'_>,

@@ -1,4 +1,4 @@
-//! Selections by samples side by side, over a source with any tables and samples.
+//! Selections from samples, side by side, over a source with any tables and samples.
 ghost use Rattle.std.specs.Prelude.{◌≡◌, ◌+◌, ◌<◌, length};
 ghost use Rattle.bit_lists.specs.Bits.{digit_count};
 ghost use Rattle.bit_lists.specs.Count.{as_bit};
@@ -14,7 +14,7 @@ use bitm_select::search::query::Query;
 use bitm_select::search::selecting::part_of_rank;
 use bitm_select::source::TableSource;
 
-/// The query of a rank, whose entry is found, where the tables are those of the words; else with some entry.
+/// The query of a rank with its entry: the right one where the tables are those of the words, some entry otherwise.
 #[inline(always)]
 fn begin<const BIT: u8, T: TableSource>(
     source: &mut T,

@@ -1,9 +1,9 @@
-//! Samples that are lent, and how many there are at most.
+//! Borrowed samples, and the room that they need.
 ghost use Rattle.std.specs.Prelude.{◌≡◌, ◌≤◌};
 ghost use Rattle.bitm.specs.Density.{clamped_log};
 ghost use Rattle.bitm_view.specs.Samples.{enough_samples};
 
-/// The logarithm that is used for a caller's: 7 to 31.
+/// A caller's logarithm, clamped to 7 to 31.
 #[inline(always)]
 pub(crate) fn clamped_log(log2: u8) -> u8
     ensures value { result ≡ clamped_log log2 }
@@ -13,23 +13,23 @@ pub(crate) fn clamped_log(log2: u8) -> u8
     log2.clamp(7, 31)
 }
 
-/// Samples of one kind of bits, all lent: one for each 2^`log2` ones, or zeros, of a part of 2^32 bits.
+/// Borrowed samples of 1 bits or of 0 bits: one for each 2^`log2` such bits of an upper block, which has 2^32 bits.
 ///
-/// They may hold anything, and be any number: a call says what it answers where they are those of the words,
-/// and what it answers else.
+/// They may hold anything, and there may be any number of them: each call says what it answers where they are those of
+/// the words, and what it answers otherwise.
 #[derive(Clone, Copy)]
 pub struct LentSamples<'a> {
-    /// The samples, part after part, and nothing behind them.
+    /// The samples of all upper blocks in turn, and nothing after them.
     pub samples: &'a [u32],
-    /// How many samples there are before each part.
+    /// The number of samples before each upper block.
     pub starts: &'a [usize],
-    /// The logarithm of how many items one sample stands for; it is clamped to 7 to 31.
+    /// The logarithm of the number of bits that share a sample; it is clamped to 7 to 31.
     pub log2: u8,
 }
 
-/// How many samples of one kind so many words have at most: one for each begun 2^(`log2` - 6) words. The logarithm is
-/// clamped to 7 to 31. The exact number is a sum over the parts, which `build_samples` answers: memory
-/// can be taken before, and the rest given back.
+/// The room for samples of one kind of the given number of words: ceil(words / 2^(`log2` - 6)) samples. The logarithm
+/// is clamped to 7 to 31. `build_samples` returns the exact number, which is never greater: a caller can take memory
+/// for this number and give back the rest.
 #[inline(always)]
 pub fn samples_len(words: usize, log2: u8) -> usize
     ensures { result ≡ enough_samples words log2 }

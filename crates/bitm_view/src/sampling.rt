@@ -1,4 +1,4 @@
-//! Samples of tables that may hold anything, written into memory that is lent.
+//! Samples of tables that may hold anything, written into the caller's memory.
 ghost use Rattle.std.specs.Prelude.{◌≡◌, ℕ, ◌+◌, ◌*◌, ◌^◌, ◌<◌, ◌≤◌, Bool, List, length, slice_index, slice_set, take};
 ghost use Rattle.bit_lists.specs.Count.{as_bit};
 ghost use Rattle.bitm.specs.Samples.{IsSized, IsSummaryOf, sample_count_before};
@@ -7,10 +7,10 @@ ghost use Rattle.bitm_view.specs.Sizes.{IsFilled};
 
 use bitm::samples::{Summary, items_in, sample_from};
 
-/// Writes the sample at place `at`.
+/// Writes a sample at index `at`.
 ///
-/// The place is tested once more where it is written: if the tables change meanwhile, as no caller may let them, since
-/// they overlap the samples or another thread writes them, nothing is written outside.
+/// The index is tested again right before the write: even if the tables change meanwhile, because a caller breaks the
+/// rules and lets them overlap the samples or lets another thread write them, nothing is written outside the list.
 #[inline(always)]
 fn put(samples: &mut [u32], at: usize, sample: u32)
     requires { at < length samples.old }
@@ -21,7 +21,7 @@ fn put(samples: &mut [u32], at: usize, sample: u32)
     }
 }
 
-/// Writes the samples of a part from place `first` on, and answers how many.
+/// Writes the samples of an upper block from index `first` on, and returns their number.
 fn fill_samples<const BIT: u8>(
     summary: &Summary<'_>,
     part: usize,
@@ -60,7 +60,7 @@ fn fill_samples<const BIT: u8>(
     count
 }
 
-/// Writes the samples of all parts, and how many there are before each, and answers how many there are.
+/// Writes the samples of all upper blocks and the number of samples before each, and returns the number of samples.
 pub(crate) fn fill_all<const BIT: u8>(
     summary: &Summary<'_>,
     log2: u8,

@@ -1,4 +1,4 @@
-//! The view of an index that is lent: all that is asked of it.
+//! The view of an index in borrowed memory, and its queries.
 ghost use Rattle.std.specs.Prelude.{◌≡◌, ◌+◌, ◌-◌, ◌<◌, ◌≤◌, ◌↔◌, ℕ, Bool, IsTrue, MatchOption, length, min, slice_index};
 ghost use Rattle.std.specs.Prelude.{true, false};
 ghost use Rattle.bit_lists.specs.Bits.{digit_count};
@@ -27,7 +27,7 @@ use bitm_select::search::selecting::{FindsEntry, search_on};
 use bitm_select::source::{Probe, TableSource};
 use std::marker::Model;
 
-/// A place that was found, where it is before place `len`.
+/// The answer of a selection, with `Absent` in place of a position at or after `len`.
 #[inline(always)]
 fn cut(selected: Answer<usize>, len: usize) -> Answer<usize>
     ensures { (v : Bool) (c : Cut) (r : ℕ) → c.len ≡ len → IsWithin c
@@ -46,11 +46,11 @@ fn cut(selected: Answer<usize>, len: usize) -> Answer<usize>
     }
 }
 
-/// An index that is lent: words with their two tables, of which the first `len` bits are the content, and samples of
-/// either kind.
+/// A borrowed index: words with their two tables, whose first `len` bits are the bit vector, and samples of either
+/// kind.
 ///
-/// Contracts see the three lists and the length. What stands behind the content may be anything: answers are those of
-/// the first `len` bits alone. Samples make no answer another, whatever they hold, so contracts do not see them.
+/// Contracts see the three lists and the length. The bits after the bit vector may be anything: answers are those of
+/// the first `len` bits alone. Samples never change an answer, whatever they hold, so contracts do not see them.
 #[derive(Drop)]
 pub struct IndexView<'a> {
     tables: Lent<'a>,
@@ -80,7 +80,7 @@ fn no_samples<'a>() -> LentSamples<'a> {
 }
 
 impl<'a> IndexView<'a> {
-    /// The first `len` bits; `None` exactly where there are fewer.
+    /// A view of the first `len` bits, without samples; `None` exactly where there are fewer bits.
     #[inline(always)]
     #[tactic(auto, using(bitm::proofs::BitLaws::bits_are_counted))]
     pub fn over(tables: Lent<'a>, len: usize) -> Option<IndexView<'a>>
@@ -98,7 +98,7 @@ impl<'a> IndexView<'a> {
         })
     }
 
-    /// The same content, with these samples of ones; of zeros where `BIT` is 0.
+    /// The same view with these samples of 1 bits; of 0 bits where `BIT` is 0.
     #[inline(always)]
     pub fn with_samples<const BIT: u8>(self, samples: LentSamples<'a>) -> IndexView<'a>
         ensures { result ≡ self.entry }
@@ -165,9 +165,9 @@ impl<'a> IndexView<'a> {
     /// the entry: `ByTables`, or `ByGuess` by samples. Of the 0 bit where `BIT` is 0.
     ///
     /// # Cost
-    /// At most as many upper entries as their number has binary digits and one more, the lower entries that the finder
-    /// reads and eight words are read, whatever the tables hold: 23 lower entries by the tables, 51 by samples, and 28 by
-    /// those of the words.
+    /// With u upper entries, a query reads at most one more of them than u has binary digits, the lower entries that
+    /// the finder reads, and eight words, whatever the tables hold. `ByTables` reads at most 23 lower entries;
+    /// `ByGuess` at most 51, and at most 28 where tables and samples are those of the words.
     #[inline(always)]
     pub fn select_on<const BIT: u8, T: TableSource, F: FindsEntry<BIT, T>>(
         &self,
@@ -190,11 +190,11 @@ impl<'a> IndexView<'a> {
     /// The position of the 1 bit with rank `rank`, as `Lent::select`: bits after the bit vector are not found. Of the 0
     /// bit where `BIT` is 0.
     ///
-    /// Whatever the tables hold, `Absent` is answered only where tables and words claim no more than `rank` such bits,
-    /// or the words have one after the bit vector.
+    /// Whatever the tables hold, the answer is `Absent` only where tables and words claim at most `rank` such bits, or
+    /// the words have such a bit after the bit vector.
     ///
     /// # Cost
-    /// That of `select_on` by the samples of the kind, and by the tables where there are none.
+    /// That of `select_on` with `ByGuess`, or with `ByTables` where there are no samples of the kind.
     #[inline(always)]
     pub fn select<const BIT: u8>(&self, rank: usize) -> Answer<usize>
         ensures bit { HasBit (bits_of_cut self.now) (as_bit BIT) result }
@@ -209,9 +209,9 @@ impl<'a> IndexView<'a> {
         self.select_on::<BIT, Probe<'_>, ByGuess<'_>>(source, &ByGuess { samples }, rank)
     }
 
-    /// Writes the rank of each position, as `rank` answers it, by the codes of lists: of many side by side where the
-    /// words do not stay in a processor's caches. Answers false exactly where there is not room for as many answers as
-    /// positions, and nothing is written then.
+    /// Writes the rank of each position as `rank` answers it, by the codes of lists; queries run side by side where the
+    /// words do not fit a processor's caches. Returns false, and writes nothing, exactly where `out` is not as long as
+    /// `positions`.
     pub fn rank_each<const BIT: u8>(&self, positions: &[usize], out: &mut [usize]) -> bool
         ensures room { IsTrue result ↔ length out.old ≡ length positions.now }
         ensures ranks { IsTrue result → (j : ℕ) → j < length positions.now → RanksIn (as_bit BIT)
@@ -226,7 +226,7 @@ impl<'a> IndexView<'a> {
         true
     }
 
-    /// Cuts the ranks of some positions that were counted in all the words.
+    /// Puts `NO_ANSWER` in place of each rank whose position is past the end of the bit vector.
     fn cut_ranks<const BIT: u8>(&self, positions: &[usize], out: &mut [usize])
         requires same_length { length out.old ≡ length positions.now }
         requires told { RanksTold (as_bit BIT) self.now.lists positions.now out.old }
@@ -239,7 +239,7 @@ impl<'a> IndexView<'a> {
         }
     }
 
-    /// The code of a rank, cut.
+    /// The code of a rank, or `NO_ANSWER` where its position is past the end of the bit vector.
     #[inline(always)]
     fn cut_rank(&self, position: usize, code: usize) -> usize
         ensures { (v : Bool) (i : ℕ) → i ≡ position → RankTold v self.now.lists i code
@@ -248,9 +248,9 @@ impl<'a> IndexView<'a> {
         if position > self.len { NO_ANSWER } else { code }
     }
 
-    /// Writes the position with each rank, as `select` answers it where the tables are those of the words, by the codes
-    /// of lists; in other tables it may be another position with such a bit. Answers false exactly where there is not
-    /// room for as many answers as ranks, and nothing is written then.
+    /// Writes the position with each rank by the codes of lists: what `select` answers where the tables are those of
+    /// the words, and possibly another position with such a bit in other tables. Returns false, and writes nothing,
+    /// exactly where `out` is not as long as `ranks`.
     pub fn select_each<const BIT: u8>(&self, ranks: &[usize], out: &mut [usize]) -> bool
         ensures room { IsTrue result ↔ length out.old ≡ length ranks.now }
         ensures selects { IsTrue result → (j : ℕ) → j < length ranks.now → SelectsIn (as_bit BIT)
@@ -270,7 +270,7 @@ impl<'a> IndexView<'a> {
         done
     }
 
-    /// Cuts the positions with some ranks that were found in all the words.
+    /// Puts `NO_ANSWER` in place of each position after the bit vector.
     fn cut_each<const BIT: u8>(&self, ranks: &[usize], out: &mut [usize])
         requires same_length { length out.old ≡ length ranks.now }
         requires told { ToldEach (as_bit BIT) self.now.lists ranks.now out.old }
@@ -283,7 +283,7 @@ impl<'a> IndexView<'a> {
         }
     }
 
-    /// The code of a selection, cut.
+    /// The code of a selection, or `NO_ANSWER` where its position is after the bit vector.
     #[inline(always)]
     fn cut_code(&self, code: usize) -> usize
         ensures { (v : Bool) (r : ℕ) → SelectTold v self.now.lists r code
@@ -306,8 +306,8 @@ impl<'a> IndexView<'a> {
         &self.tables
     }
 
-    /// How many bits of the bit vector are 1 bits, counted in the words alone: right whatever the tables hold. The 0
-    /// bits where `BIT` is 0.
+    /// The number of 1 bits in the bit vector; of 0 bits where `BIT` is 0. Counted in the words alone, so it is right
+    /// whatever the tables hold.
     ///
     /// # Cost
     /// Each word of the bit vector is read once.
@@ -318,16 +318,16 @@ impl<'a> IndexView<'a> {
         if BIT == 0 { self.len - ones } else { ones }
     }
 
-    /// How many bits of the bit vector are 1 bits, counted in the words.
+    /// The number of 1 bits in the bit vector, counted in the words.
     fn ones(&self) -> usize
         ensures { result ≡ count_of (bits_of_cut self.now) true }
     {
         words::count_range(self.tables.words(), 0, self.len)
     }
 
-    /// Writes the places of the content's ones from place `from` on, rising, as many as there is room for, and answers
-    /// how many; what stands behind them stays. Zeros in place of ones where `BIT` is 0. The tables are not read, so
-    /// all is right whatever they hold.
+    /// Writes the positions of the 1 bits from position `from` on in rising order until `out` is full, and returns
+    /// their number; of the 0 bits where `BIT` is 0. The rest of `out` keeps its values. The tables are not read, so
+    /// the positions are right whatever they hold.
     ///
     /// # Cost
     /// That of `bit_slices::positions_in`.

@@ -1,4 +1,4 @@
-//! Samples of lent words, and selection by them.
+//! Samples of borrowed words, and selection from them.
 ghost use Rattle.std.specs.Prelude.{◌≡◌, ◌<◌, ◌≤◌, ℕ, length, slice_index, take, IfSome, IsNone, MatchOption};
 ghost use Rattle.bit_lists.specs.Count.{as_bit};
 ghost use Rattle.bitm.specs.Density.{clamped_log};
@@ -16,16 +16,15 @@ use bitm_select::answer::Answer;
 use bitm_select::source::Probe;
 
 impl<'a> Lent<'a> {
-    /// Writes the samples of ones, one for each 2^`log2` of a part, and how many there are before each part, and
-    /// answers how many there are: what stands behind these stays. Where the tables are those of the words the samples
-    /// are the words' own; else they are some numbers. Zeros in place of ones where `BIT` is 0.
+    /// Writes the samples of 1 bits, one for each 2^`log2` of them in an upper block, and the number of samples before
+    /// each upper block, and returns the number of samples; of 0 bits where `BIT` is 0. The rest of `samples` keeps its
+    /// values. Where the tables are those of the words, so are the samples; otherwise they are some numbers.
     ///
-    /// `None` exactly where there are fewer than `samples_len` places for samples, or not as many starts as the upper
-    /// table has entries, and nothing is written then. The logarithm is clamped to 7 to 31.
+    /// Returns `None`, and writes nothing, exactly where `samples` is shorter than `samples_len`, or `starts` is not as
+    /// long as the upper table. The logarithm is clamped to 7 to 31.
     ///
     /// # Cost
-    /// Each lower entry is read once, and up to two are read again for each sample; of the words at most eight are
-    /// read.
+    /// Each lower entry is read once, up to two are read again for each sample, and at most eight words are read.
     pub fn build_samples<const BIT: u8>(
         &self,
         log2: u8,
@@ -60,14 +59,14 @@ impl<'a> Lent<'a> {
         Some(fill_all::<BIT>(&summary, log2, samples, starts))
     }
 
-    /// What `select` answers, by samples of the ones; of the zeros where `BIT` is 0. Samples make it no other answer,
-    /// whatever they hold.
+    /// Selects as `select` does, from samples of 1 bits; of 0 bits where `BIT` is 0. The samples never change an
+    /// answer, whatever they hold.
     ///
     /// # Cost
-    /// At most as many upper entries as their number has binary digits and one more, 51 lower entries and eight words
-    /// are read, whatever the tables and samples hold. Where these are those of the words, the lower entries are five
-    /// near a guess between the rank's sample and the next, and where it was wrong two more, and one for each halving
-    /// from the one to the other: 28 at most.
+    /// With u upper entries, a query reads at most one more of them than u has binary digits, 51 lower entries and
+    /// eight words, whatever the tables and samples hold. Where tables and samples are those of the words, it reads at
+    /// most 28 lower entries: five near a guess between the rank's sample and the next and, after a wrong guess, two
+    /// more and one for each halving between the two samples.
     #[inline(always)]
     pub fn sampled_select<const BIT: u8>(
         &self,

@@ -1,4 +1,4 @@
-//! Whether lent samples are those of the words.
+//! Whether borrowed samples are those of the words.
 ghost use Rattle.std.specs.Prelude.{IsTrue, ◌↔◌};
 ghost use Rattle.bit_lists.specs.Count.{as_bit};
 ghost use Rattle.bitm_select.specs.Tables.{HasTables, bits_in};
@@ -10,13 +10,12 @@ use crate::samples::{LentSamples, clamped_log};
 use bitm::samples::Summary;
 
 impl<'a> Lent<'a> {
-    /// Whether the samples of ones, and how many there are before each part, are those that `build_samples` writes,
-    /// where the tables are those of the words, as `check` says; else either is answered. Zeros in place of ones where
-    /// `BIT` is 0.
+    /// Whether the samples of 1 bits and their starts are those that `build_samples` writes; of 0 bits where `BIT` is
+    /// 0. Where the tables are not those of the words, which `check` finds out, the answer may be either.
     ///
     /// # Cost
-    /// Each lower entry is read at most once, and up to two are read again for each sample; of the words at most eight
-    /// are read.
+    /// Each lower entry is read at most once, up to two are read again for each sample, and at most eight words are
+    /// read.
     pub fn check_samples<const BIT: u8>(&self, samples: &LentSamples<'_>) -> bool
         ensures { HasTables self.now
             → IsTrue result ↔ AreSamplesOf (bits_in self.now) (as_bit BIT) samples.now }
