@@ -1,4 +1,4 @@
--- What calls over tables that may hold anything answer: of any tables, and of those of the words.
+-- What calls over tables that may hold anything answer: over any tables, and over those of the words.
 use Rattle.std.specs.Prelude.{◌≡◌, ◌↔◌, ⊤, ℕ, ◌+◌, ◌-◌, ◌*◌, ◌^◌, ◌<◌, ◌≤◌, Bool, List, Option, Some, None, length, slice_index}
 use Rattle.bit_lists.specs.Bits.{bits_of, item}
 use Rattle.bit_lists.specs.Count.{ones_before, count_before, count_of, Picks}
@@ -8,64 +8,64 @@ use Rattle.bitm_select.specs.Told.{TellsNone}
 use Rattle.bitm_tables.specs.declared.answer.Answer.{Answer}
 use Rattle.bitm_tables.specs.declared.answer.Answer.TheVariants.{Found, Absent, Wrong}
 
--- a place that is found is inside, and bit v stands there
+-- a position that is found is in the words, and its bit is v
 abbrev pub HasBit : List Bool → Bool → Answer ℕ → Type 0
 HasBit b v (Found p) = (p < length b) × (item b p ≡ v)
 HasBit b v Absent = ⊤
 HasBit b v Wrong = ⊤
 
--- a place that is found is from place i on and before place j
+-- a position that is found is from position i on and before position j
 abbrev pub IsFoundFrom : ℕ → ℕ → Answer ℕ → Type 0
 IsFoundFrom i j (Found p) = (i ≤ p) × (p < j)
 IsFoundFrom i j Absent = ⊤
 IsFoundFrom i j Wrong = ⊤
 
--- the place that is found, if one is
+-- the position that is found, if one is
 abbrev pub place_in : Answer ℕ → Option ℕ
 place_in (Found p) = Some p
 place_in Absent = None
 place_in Wrong = None
 
--- what a list of answers says of it
+-- its code in a list of answers
 abbrev pub told_in : Answer ℕ → ℕ
 told_in (Found p) = p
 told_in Absent = 2 ^ 64 - 1
 told_in Wrong = 2 ^ 64 - 2
 
--- the place with bit v and r such bits before it, and Absent exactly where there are no more than r of them
+-- the position of the bit v with r such bits before it, and Absent exactly where there are at most r of them
 abbrev pub IsSelected : List Bool → Bool → ℕ → Answer ℕ → Type 0
 IsSelected b v r (Found p) = Picks b v r p
 IsSelected b v r Absent = count_of b v ≤ r
 IsSelected b v r Wrong = ⊥
 
--- the same by rank r among the eight words from word k on, of which some may miss: Wrong where more words follow
--- and no more than r bits v stand before them
+-- the position of the bit v with rank r, sought among the eight words from word k on, or those of them that exist;
+-- Wrong where more words follow and at most r bits v come before these
 abbrev pub IsSelectedFrom : List ℕ → Bool → ℕ → ℕ → Answer ℕ → Type 0
 IsSelectedFrom words v k r (Found p) = Picks (bits_of words) v r p
 IsSelectedFrom words v k r Absent = count_of (bits_of words) v ≤ r
 IsSelectedFrom words v k r Wrong = (k + 8 < length words) × (ones_before (sought_bits v (bits_of words)) (64 * (k + 8)) ≤ r)
 
--- n tells the place with bit v and r such bits before it. Whatever the tables hold, below 2^64 - 2 it is a place with
--- bit v, and it is 2^64 - 1 only where tables and words tell no more than r of them; where they are right it is
--- 2^64 - 1 where there is none
+-- n codes the position of the bit v with r such bits before it. Whatever the tables hold, below 2^64 - 2 it is a
+-- position with bit v, and it is 2^64 - 1 only where tables and words claim at most r such bits; where the tables are
+-- right, it is the right position, or 2^64 - 1 where there is none
 pub record SelectTold (v : Bool) (lists : Lists) (r n : ℕ) : Type 0 where
   pub bit : n < 2 ^ 64 - 2 → (n < length (bits_in lists)) × (item (bits_in lists) n ≡ v)
   pub absent : n ≡ 2 ^ 64 - 1 → TellsNone v lists r
   pub some : HasTables lists → r < count_of (bits_in lists) v → Picks (bits_in lists) v r n
   pub none : HasTables lists → count_of (bits_in lists) v ≤ r → n ≡ 2 ^ 64 - 1
 
--- n tells how many of the first i bits are v: it is 2^64 - 1 exactly where there are not so many bits, and below
--- 2^64 - 2 no more than i, whatever the tables hold; where they are those of the words it is that number, which is
--- neither 2^64 - 1 nor 2^64 - 2
+-- n codes how many of the first i bits are v: it is 2^64 - 1 exactly where there are fewer bits, and below 2^64 - 2 at
+-- most i, whatever the tables hold; where they are those of the words and there are i bits, it is the right number,
+-- which is neither 2^64 - 1 nor 2^64 - 2
 pub record RankTold (v : Bool) (lists : Lists) (i n : ℕ) : Type 0 where
   pub none : (n ≡ 2 ^ 64 - 1) ↔ (length (bits_in lists) < i)
   pub most : n < 2 ^ 64 - 2 → n ≤ i
   pub count : HasTables lists → i ≤ length (bits_in lists) → (n < 2 ^ 64 - 2) × (n ≡ count_before (bits_in lists) v i)
 
--- number k tells the rank of index k
+-- number k codes the rank of index k
 abbrev pub RanksTold : Bool → Lists → List ℕ → List ℕ → Type 0
 RanksTold v lists indices ranks = (k : ℕ) → k < length indices → RankTold v lists (slice_index indices k) (slice_index ranks k)
 
--- number k tells the place with rank k
+-- number k codes the position with rank k
 abbrev pub ToldEach : Bool → Lists → List ℕ → List ℕ → Type 0
 ToldEach v lists ranks places = (k : ℕ) → k < length ranks → SelectTold v lists (slice_index ranks k) (slice_index places k)

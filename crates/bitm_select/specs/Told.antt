@@ -1,4 +1,5 @@
--- What tables tell, whatever they hold: the numbers that a search reads, and when they tell that there is no such bit.
+-- What tables claim, whatever they hold: the numbers that a search reads, and when they claim that there is no such
+-- bit.
 use Rattle.std.specs.Prelude.{◌≡◌, ⊤, ℕ, ◌+◌, ◌-◌, ◌*◌, ◌^◌, ◌%◌, ◌<◌, ◌≤◌, Bool, true, false, length, slice_index}
 use Rattle.bit_lists.specs.Count.{count_before, count_of}
 use Rattle.bitm_tables.specs.Entry.{field_0, greatest_entry, record_field}
@@ -7,23 +8,23 @@ use Rattle.bitm_tables.specs.Tables.{Lists, bits_in}
 use Rattle.bitm_tables.specs.declared.answer.Answer.{Answer}
 use Rattle.bitm_tables.specs.declared.answer.Answer.TheVariants.{Found, Absent, Wrong}
 
--- how many bits v the upper table tells before a part
+-- how many bits v the upper table claims before an upper block
 abbrev pub told_part : Bool → Lists → ℕ → ℕ
 told_part true lists part = slice_index lists.upper part
 told_part false lists part = less (part * 2 ^ 32) (slice_index lists.upper part)
 
--- the lower entry of the bits v that the lower table tells: for zeros, each greatest field less the field
+-- the lower entry of the bits v by the lower table: for 0 bits, the greatest value of each field less the field
 abbrev pub told_entry : Bool → Lists → ℕ → ℕ
 told_entry true lists at = slice_index lists.lower at
 told_entry false lists at = less (greatest_entry at) (slice_index lists.lower at)
 
--- rest is what the upper table tells to be left in a part of a rank, and no more than the rank
+-- rest is what the upper table claims to be left of a rank in an upper block, and it is at most the rank
 pub record IsLeftOf (v : Bool) (lists : Lists) (rank part rest : ℕ) : Type 0 where
   pub fits : told_part v lists part < 2 ^ 64
   pub is : rest ≡ less rank (told_part v lists part)
   pub within : rest ≤ rank
 
--- how many bits v an entry that packs e tells from the start of its part to record k of it
+-- how many bits v an entry that packs e claims from the start of its upper block to its basic block k
 abbrev pub told_to : ℕ → ℕ → ℕ
 told_to e k = field_0 e + record_field e k
 
@@ -31,16 +32,16 @@ told_to e k = field_0 e + record_field e k
 abbrev pub count_from_word : Lists → Bool → ℕ → ℕ
 count_from_word lists v k = count_of (bits_in lists) v - count_before (bits_in lists) v (64 * k)
 
--- an entry that packs e tells no more than r bits v to the end: to one of its records, behind which no word stands, and
--- in the words from there on
+-- an entry that packs e claims at most r bits v to the end: those before one of its basic blocks, after which there is
+-- no word, and those of the words from there on
 pub record EntryTellsNone (v : Bool) (lists : Lists) (at e r : ℕ) : Type 0 where
   pub k : ℕ
   pub inside : k < 4
   pub last : length lists.words ≤ 32 * at + 8 * k + 8
   pub count : told_to e k + count_from_word lists v (32 * at + 8 * k) ≤ r
 
--- tables and words tell no more than r bits v in all, as numbers of 64 bits: before the last part, in it to a record of
--- its last entry, behind which no word stands, and in the words from there on
+-- tables and words claim at most r bits v in all, as numbers of 64 bits: before the last upper block, in it before a
+-- basic block of its last entry, after which there is no word, and in the words from there on
 pub record TellsNone (v : Bool) (lists : Lists) (r : ℕ) : Type 0 where
   pub k : ℕ
   pub inside : k < 4

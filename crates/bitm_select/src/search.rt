@@ -1,4 +1,4 @@
-//! Rank and selection over a source of words and tables, with a bound on the reads of each.
+//! Rank and selection over a source of words and tables, each with a bound on its reads.
 
 pub mod entries;
 pub mod loaded;

@@ -1,5 +1,5 @@
-//! The search for an entry of a part, in tables that may hold anything: by a guess where there are many entries, and by
-//! halves. Where the tables are not those of the words the search ends as well, with some entry of the part.
+//! The search for an entry of an upper block, in tables that may hold anything: binary search, and a guess first where
+//! there are many entries. It ends with some entry of the upper block where the tables are not those of the words.
 ghost use Rattle.std.specs.Prelude.{◌≡◌, ◌+◌, ◌-◌, ◌*◌, ◌/◌, ◌^◌, ◌<◌, ◌≤◌, ◌⊎◌, length};
 ghost use Rattle.bit_lists.specs.Bits.{digit_count};
 ghost use Rattle.bit_lists.specs.Count.{as_bit};
@@ -14,19 +14,20 @@ use bitm_tables::entry::{complement_entry, entries_of_part, ones_to_entry};
 use bitm_tables::levels::L2_ENTRIES_PER_L1_ENTRY;
 use bitm_tables::source::TableSource;
 
-/// A search over so many entries is by halving alone: the first caches hold them.
+/// Up to this number of entries a search is binary alone: the first caches hold them.
 const FEW: usize = 1 << 13;
 
-/// So many halvings are the last ones.
+/// The number of halvings that are unrolled at the end of a search.
 const LAST: u32 = 8;
 
-/// Entries of a window round a guess: five lines of a cache at most.
+/// Entries in a window around a guess: at most five cache lines.
 const WINDOW: usize = 32;
 
-/// Lower entry `at` of the bits in which ones are sought, where the tables are those of the words.
+/// Lower entry `at` of the kind of bit that is sought, where the tables are those of the words: complemented where
+/// `BIT` is 0.
 ///
 /// # Conditions
-/// There is such an entry. Nothing is asked of what it holds.
+/// There is such an entry. It may hold anything.
 #[inline(always)]
 pub fn sought_entry<const BIT: u8, T: TableSource>(source: &mut T, at: usize) -> u64
     requires { at < length (T.lists source.old).lower }
@@ -44,23 +45,23 @@ pub fn sought_entry<const BIT: u8, T: TableSource>(source: &mut T, at: usize) ->
     }
 }
 
-/// Where the last entry is sought: among `left` entries of a part from entry `low` on, which packs `packed` (0 for the
-/// first of the part, which need not be read), before entry `low + left`, which has `above` items before it (0: not
-/// known). Contracts say of it `IsRange`.
+/// The entries among which a search goes on: `left` entries of an upper block from entry `low` on. Entry `low` packs
+/// `packed`, or 0 for the first entry of the upper block, which is not read; `above` bits of the kind come before entry
+/// `low + left`, or 0 where that is not known. Contracts say of it `IsRange`.
 #[derive(Clone, Copy, PartialEq, Eq, Debug)]
 pub struct EntryRange {
-    /// The first entry of the range, counted in its part.
+    /// The first entry of the range, by number in its upper block.
     pub low: usize,
-    /// How many entries the range has.
+    /// The number of entries in the range.
     pub left: usize,
-    /// What entry `low` packs, unless it is the first of the part.
+    /// What entry `low` packs, unless it is the first of the upper block.
     pub packed: u64,
-    /// How many items stand in the part before the range's end, or 0.
+    /// The number of bits of the kind in the upper block before the end of the range, or 0.
     pub above: usize,
 }
 
-/// The side of entry `cut` of a range on which the last entry is with no more than `rank` of the kind before it, where
-/// the tables are those of the words.
+/// The side of entry `cut` of a range that has the last entry with at most `rank` bits of the kind before it, where the
+/// tables are those of the words.
 #[inline(always)]
 fn side_of<const BIT: u8, T: TableSource>(
     source: &mut T,
@@ -105,7 +106,7 @@ fn side_of<const BIT: u8, T: TableSource>(
     }
 }
 
-/// A place in a range that is near the last entry where the items lie evenly; any other would serve too.
+/// An index in a range that is near the right entry where the bits lie evenly; any other index in the range would do.
 #[inline(always)]
 fn guess(range: EntryRange, rank: usize) -> usize
     requires { 34 ≤ range.left }
@@ -124,8 +125,8 @@ fn guess(range: EntryRange, rank: usize) -> usize
         .clamp(1, range.left - WINDOW - 1)
 }
 
-/// What is left of a large part's entries after two halvings, whose entries stay in the caches, and a window round a
-/// guess.
+/// Narrows the entries of a large upper block by two halvings, whose entries stay in the caches, and by a window around
+/// a guess.
 #[inline(always)]
 fn narrow_by_guess<const BIT: u8, T: TableSource>(
     source: &mut T,
@@ -159,17 +160,18 @@ fn narrow_by_guess<const BIT: u8, T: TableSource>(
     side_of::<BIT, T>(source, part, near, WINDOW, rank)
 }
 
-/// The last entry of a range of a part with no more than `rank` of the kind before it in the part, where the tables are
-/// those of the words and it is in the range; else some entry of the range: its place in the part, and what it packs.
+/// The last entry of a range with at most `rank` bits of the kind before it in its upper block, where the tables are
+/// those of the words and the range has that entry; some entry of the range otherwise. Returns its number in the upper
+/// block and what it packs.
 ///
 /// # Conditions
-/// The tables are as long as those of the words, and the range has an entry and lies in the part.
+/// The tables are as long as those of the words, and the range is a non-empty part of the upper block's entries.
 /// # Cost
-/// At most as many lower entries are read as one less than the range's entries has binary digits, and one more where
-/// the range begins with the part's first entry; whatever the tables hold.
-// It halves with the same rounds for every rank, so only the comparison depends on what was read; the entry is
-// kept beside its place, and the compiler moves both by the comparison without a branch
-// (docs/performance-log.md has the times).
+/// For n entries in the range, at most as many lower entries are read as n - 1 has binary digits, and one more where
+/// the range starts with the upper block's first entry, whatever the tables hold.
+// The number of rounds is the same for every rank, so only the comparison depends on what was read; the entry is kept
+// beside its index, and the compiler selects both by the comparison, without a branch (docs/performance-log.md has the
+// times).
 #[inline(always)]
 pub fn last_in_range<const BIT: u8, T: TableSource>(
     source: &mut T,
@@ -205,7 +207,7 @@ pub fn last_in_range<const BIT: u8, T: TableSource>(
     while left > 1 {
         let half = left / 2;
         let next = sought_entry::<BIT, T>(source, first + low + half);
-        // The entry is kept with its place: then both are moved by the compare, and no branch is taken on it.
+        // The entry is kept with its index, so that the compiler selects both without a branch.
         if ones_to_entry(next) <= rank {
             low += half;
             packed = next;
@@ -218,8 +220,8 @@ pub fn last_in_range<const BIT: u8, T: TableSource>(
     (low, packed)
 }
 
-/// What `last_entry` answers where there are more entries: by halving what a guess leaves. It is a call of its own, so that
-/// the search of few entries stands where it is asked.
+/// `last_entry` for many entries: binary search in what a guess leaves. Not inlined, so that the search over few
+/// entries is.
 #[inline(never)]
 fn last_of_many<const BIT: u8, T: TableSource>(
     source: &mut T,
@@ -243,8 +245,8 @@ fn last_of_many<const BIT: u8, T: TableSource>(
     last_in_range::<BIT, T>(source, part, range, rank)
 }
 
-/// Entry `low` + 2^`size` of a part where no more than `rank` of the kind stand before it in the part, else entry `low`:
-/// by a sum that has no branch on the count.
+/// Entry `low` + 2^`size` of an upper block where at most `rank` bits of the kind come before it there, else entry
+/// `low`: a sum without a branch on the count.
 #[inline(always)]
 fn step<const BIT: u8, T: TableSource>(
     source: &mut T,
@@ -268,7 +270,7 @@ fn step<const BIT: u8, T: TableSource>(
     low + (is_at_most(count, rank) << size)
 }
 
-/// The first of the 2^`to` entries that halving leaves of the 2^`from` from entry `begin` on.
+/// The first of the 2^`to` entries that halving leaves of the 2^`from` entries from entry `begin` on.
 #[inline(always)]
 fn halve<const BIT: u8, T: TableSource>(
     source: &mut T,
@@ -298,8 +300,8 @@ fn halve<const BIT: u8, T: TableSource>(
     low
 }
 
-/// The entry that halving leaves of the 2^`size` from entry `begin` on. The last halvings are always the same, so that no
-/// loop is left of them.
+/// The entry that halving leaves of the 2^`size` entries from entry `begin` on. The last halvings are the same in every
+/// search, so that the compiler unrolls them.
 #[inline(always)]
 fn halve_all<const BIT: u8, T: TableSource>(
     source: &mut T,
@@ -325,7 +327,7 @@ fn halve_all<const BIT: u8, T: TableSource>(
     halve::<BIT, T>(source, part, near, LAST, 0, rank)
 }
 
-/// The greatest number whose power of two is at most so many entries.
+/// The greatest exponent whose power of two is at most the given number of entries.
 #[inline(always)]
 fn whole_halvings(entries: usize) -> u32
     requires some { 0 < entries }
@@ -337,8 +339,8 @@ fn whole_halvings(entries: usize) -> u32
     entries.ilog2()
 }
 
-/// Where 2^`size` of a part's entries begin that have the last entry of this rank: they are its last or its first ones,
-/// and some are among both.
+/// The first of 2^`size` entries of an upper block that have the entry of this rank among them: its last 2^`size`
+/// entries or its first, which may overlap.
 #[inline(always)]
 fn first_half<const BIT: u8, T: TableSource>(
     source: &mut T,
@@ -367,7 +369,7 @@ fn first_half<const BIT: u8, T: TableSource>(
     }
 }
 
-/// What `last_entry` answers, by halving alone.
+/// `last_entry` by binary search alone.
 #[inline(always)]
 fn last_of_few<const BIT: u8, T: TableSource>(
     source: &mut T,
@@ -391,13 +393,13 @@ fn last_of_few<const BIT: u8, T: TableSource>(
     )
 }
 
-/// The last entry of a part with no more than `rank` of the kind before it in the part, where the tables are those of
-/// the words; else some entry of the part: its place in the part, and what it packs.
+/// The last entry of an upper block with at most `rank` bits of the kind before it there, where the tables are those of
+/// the words; some entry of the upper block otherwise. Returns its number in the upper block and what it packs.
 ///
 /// # Conditions
-/// There is such a part, and the tables are as long as those of the words. They may hold anything.
+/// There is such an upper block, and the tables are as long as those of the words. They may hold anything.
 /// # Cost
-/// At most 23 lower entries are read, whatever they hold.
+/// At most 23 lower entries are read, whatever the tables hold.
 #[inline(always)]
 pub fn last_entry<const BIT: u8, T: TableSource>(
     source: &mut T,

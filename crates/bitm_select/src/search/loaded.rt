@@ -1,4 +1,5 @@
-//! Queries of a block whose entries are found: the record of each, whose first word is read at once, and what is told.
+//! The second half of a group of selections, whose entries are found: the basic block of each, whose first word is read
+//! ahead, and the code that is written to the list of answers.
 ghost use Rattle.std.specs.Prelude.{◌≡◌, ◌+◌, ◌-◌, ◌*◌, ◌^◌, ◌<◌, ◌≤◌, ℕ, length, MatchOption};
 ghost use Rattle.bit_lists.specs.Bits.{IsShort};
 ghost use Rattle.bit_lists.specs.Count.{as_bit, ones_before, Picks};
@@ -18,26 +19,26 @@ use bitm_tables::entry::ones_to_entry;
 use bitm_tables::levels::{U64_PER_L2_ENTRY, U64_PER_L2_RECORDS};
 use bitm_tables::source::TableSource;
 
-/// A query whose record is found. Contracts say of it `IsInRecord`.
+/// A query whose basic block is found. Contracts say of it `IsInRecord`.
 #[derive(Clone, Copy, PartialEq, Eq, Debug)]
 pub struct InRecord {
-    /// How many items are left of the rank in the record, where the tables are those of the words.
+    /// The rank within the basic block, where the tables are those of the words.
     pub rest: usize,
-    /// The place of the record's first word.
+    /// The index of the basic block's first word.
     pub first: usize,
-    /// That word of the bits in which ones are sought, if there is one.
+    /// That word, if there is one; negated where 0 bits are sought.
     pub word: u64,
 }
 
-/// What stands in a block before its records are found. Its numbers differ, as those of `NO_QUERY`.
+/// What fills the array before basic blocks are found. Its numbers differ for the reason that those of `NO_QUERY` do.
 const NO_RECORD: InRecord = InRecord {
     rest: 0,
     first: 1,
     word: 0,
 };
 
-/// The record of an entry that has the item of a rank, if the tables are those of the words: its first word is
-/// read at once, so that the records of all queries are waited for side by side.
+/// The basic block with the bit of a rank in its entry, if the tables are those of the words. Its first word is read
+/// ahead, so that the cache misses of all queries overlap.
 #[inline(always)]
 fn load<const BIT: u8, T: TableSource>(source: &mut T, rest: usize, entry: usize) -> InRecord
     requires sized { HasSizes (T.lists source.old) }
@@ -64,7 +65,7 @@ fn load<const BIT: u8, T: TableSource>(source: &mut T, rest: usize, entry: usize
     }
 }
 
-/// How many items word `at` has.
+/// The number of bits of the sought kind in word `at`.
 #[inline(always)]
 fn items_of_word<const BIT: u8, T: TableSource>(source: &mut T, at: usize) -> usize
     requires at { at < length (T.lists source.old).words }
@@ -77,10 +78,10 @@ fn items_of_word<const BIT: u8, T: TableSource>(source: &mut T, at: usize) -> us
     sought_word::<BIT, T>(source, at).count_ones() as usize
 }
 
-/// Where one is after so many words, and what is left of `rest`, where these have no more than `rest` items; else
-/// where one was.
+/// One step of a search in a basic block: `words` words on, with `count` less than `rest` left, where `count` is at
+/// most `rest`; else no step.
 ///
-/// The sums have no branch on the count.
+/// Sums, without a branch on the count.
 #[inline(always)]
 fn pass(at: usize, rest: usize, words: usize, count: usize) -> (usize, usize)
     requires at { at < 2 ^ 60 }
@@ -92,7 +93,8 @@ fn pass(at: usize, rest: usize, words: usize, count: usize) -> (usize, usize)
     (at + moves * words, rest - moves * count)
 }
 
-/// Selection among the eight words of a record whose first was read, by halves; the rank counts from there.
+/// Selection among the eight words of a basic block whose first was read, by binary search. `rest` is the rank within
+/// the basic block.
 #[inline(always)]
 fn in_whole<const BIT: u8, T: TableSource>(
     source: &mut T,
@@ -126,7 +128,8 @@ fn in_whole<const BIT: u8, T: TableSource>(
     }
 }
 
-/// Selection in the last record that has words, of which one was read; the rank counts from there.
+/// Selection in the last basic block of the words, whose first word was read. `rest` is the rank within the basic
+/// block.
 #[inline(always)]
 fn in_last<const BIT: u8, T: TableSource>(
     source: &mut T,
@@ -158,7 +161,7 @@ fn in_last<const BIT: u8, T: TableSource>(
     }
 }
 
-/// Selection in a record whose first word was read; the rank counts from there.
+/// Selection in a basic block whose first word was read. `rest` is the rank within the basic block.
 #[inline(always)]
 fn finish<const BIT: u8, T: TableSource>(
     source: &mut T,
@@ -185,7 +188,7 @@ fn finish<const BIT: u8, T: TableSource>(
     }
 }
 
-/// Loads the first word of each query's record.
+/// Loads the first word of each query's basic block.
 #[inline(always)]
 fn load_each<const BIT: u8, T: TableSource>(
     source: &mut T,
@@ -207,8 +210,8 @@ fn load_each<const BIT: u8, T: TableSource>(
     }
 }
 
-/// `selected`, but `Wrong` in place of `Absent` where what is left of the rank wrapped: by the tables more stand
-/// before the record.
+/// `selected`, with `Wrong` in place of `Absent` where the subtraction that made `rest` of `rank` wrapped: the tables
+/// then claim more than `rank` such bits before the basic block.
 #[inline(always)]
 fn unless_wrapped(selected: Answer<usize>, rest: usize, rank: usize) -> Answer<usize>
     ensures kept { rest ≤ rank → result ≡ selected }
@@ -220,7 +223,7 @@ fn unless_wrapped(selected: Answer<usize>, rest: usize, rank: usize) -> Answer<u
     }
 }
 
-/// Selects in each rank's record, and tells what was found.
+/// Selects in the basic block of each rank and writes the code of what it found.
 #[inline(always)]
 fn finish_each<const BIT: u8, T: TableSource>(
     source: &mut T,
@@ -243,12 +246,12 @@ fn finish_each<const BIT: u8, T: TableSource>(
     }
 }
 
-/// What is told of queries whose entries are found.
+/// Writes the code of each answer, for queries whose entries are found.
 ///
 /// # Conditions
-/// There are no more ranks than go side by side.
+/// There are at most `SIDE_BY_SIDE` ranks.
 /// # Cost
-/// For each rank one lower entry and at most eight words are read.
+/// For each rank, one lower entry and at most eight words are read.
 #[inline(always)]
 pub fn tell_entries<const BIT: u8, T: TableSource>(
     source: &mut T,

@@ -1,4 +1,4 @@
-//! Many queries at once over a source: selections side by side, so that one waits for the memory while the others do.
+//! Many queries at once over a source, side by side, so that their waits for memory overlap.
 ghost use Rattle.std.specs.Prelude.{◌≡◌, ◌+◌, ◌*◌, ◌<◌, ◌≤◌, ℕ, All, length};
 ghost use Rattle.bit_lists.specs.Bits.{digit_count};
 ghost use Rattle.bit_lists.specs.Count.{count_of, as_bit};
@@ -13,21 +13,21 @@ use crate::search::query::{NO_QUERY, Query, find_by_halves};
 use crate::search::ranks::{FEWEST, tell_blocks, tell_each};
 use bitm_tables::source::TableSource;
 
-/// So many words, 256 KiB, are sooner read than a block of ranks is made ready.
+/// Up to this number of words, 256 KiB, it takes longer to set up a group of ranks than to answer them one by one.
 const WORDS_NEAR: usize = 1 << 15;
 
-/// For each index how many of the first so many bits of the source's words are ones, or `NO_ANSWER` exactly where there
-/// are fewer bits; zeros in place of ones where `BIT` is 0.
+/// Writes for each index the number of 1 bits among that many first bits of the source's words, or `NO_ANSWER` exactly
+/// where there are fewer bits; of 0 bits where `BIT` is 0.
 ///
-/// Whatever the tables hold, a number that is told is at most the index, or `WRONG_TABLES`. Where they are those of the
-/// words it is the right one, and `WRONG_TABLES` is never told. Where there are more than 256 KiB of words and no fewer than
-/// 16 indices, what 32 ranks wait for is read at once, so that the misses of one overlap with those of the others.
+/// Whatever the tables hold, any other number written is `WRONG_TABLES` or at most the index. Where they are those of
+/// the words, it is the right count, and `WRONG_TABLES` is never written. With more than 256 KiB of words and at least
+/// 16 indices, the reads of 32 ranks are started together, so that their cache misses overlap.
 ///
 /// # Conditions
-/// There are fewer than 2^58 words, and the tables have the right lengths. Nothing is asked of what they hold. There are
-/// as many `ranks` as `indices`.
+/// There are fewer than 2^58 words, and the tables have the right lengths; they may hold anything. `ranks` is as long
+/// as `indices`.
 /// # Cost
-/// For each index at most one upper entry, one lower entry and eight words are read.
+/// For each index, at most one upper entry, one lower entry and eight words are read.
 pub fn total_rank_many_on<const BIT: u8, T: TableSource>(
     source: &mut T,
     indices: &[usize],
@@ -39,7 +39,7 @@ pub fn total_rank_many_on<const BIT: u8, T: TableSource>(
     ensures reads { OnlyReads T.lists T.reads source.old source.new
         (length indices.now) (length indices.now) (8 * length indices.now) }
 {
-    // Two branches that read alike: the compiler makes a loop of its own for few words.
+    // Two branches of the same text: the compiler gives few words a loop of their own.
     if source.words_len() <= WORDS_NEAR {
         tell_each::<BIT, T>(source, indices, ranks);
     } else if indices.len() < FEWEST {
@@ -49,13 +49,13 @@ pub fn total_rank_many_on<const BIT: u8, T: TableSource>(
     }
 }
 
-/// For each index how many of the first so many bits of the source's words are ones.
+/// Writes for each index the number of 1 bits among that many first bits of the source's words.
 ///
 /// # Conditions
-/// The source's tables are those of its words, of fewer than 2^58 words. There are as many `ranks` as `indices`, and no
-/// index is greater than the number of bits.
+/// The source's tables are those of its words, which are fewer than 2^58. `ranks` is as long as `indices`, and no index
+/// is greater than the number of bits.
 /// # Cost
-/// For each index at most one upper entry, one lower entry and eight words are read.
+/// For each index, at most one upper entry, one lower entry and eight words are read.
 #[inline]
 pub fn rank_many_on<T: TableSource>(source: &mut T, indices: &[usize], ranks: &mut [usize])
     requires indexed { IsIndexed (T.lists source.old) }
@@ -68,17 +68,17 @@ pub fn rank_many_on<T: TableSource>(source: &mut T, indices: &[usize], ranks: &m
     total_rank_many_on::<1, T>(source, indices, ranks);
 }
 
-/// How the entries of a block of queries are found: by halves, or by samples.
+/// How the entries of a group of queries are found: by binary search, or from samples.
 pub trait FindsEntries<const BIT: u8, T: TableSource> {
-    /// At most so many lower entries are read for each query.
+    /// The most lower entries that a query reads.
     ghost lowers: { ℕ };
 
-    /// The entry of each rank, and how many are left of it in its part, where the tables are those of the words; else
-    /// some entry.
+    /// Writes the entry of each rank and the rank within its upper block, where the tables are those of the words; some
+    /// entry otherwise.
     ///
     /// # Conditions
-    /// There are fewer than 2^58 words and at least one, and the tables have the right lengths. There is a rank, and
-    /// there are no more than go side by side.
+    /// There is at least one word and there are fewer than 2^58, and the tables have the right lengths. There is at
+    /// least one rank and there are at most `SIDE_BY_SIDE`, which is the length of `queries`.
     fn find(&self, source: &mut T, ranks: &[usize], queries: &mut [Query])
         requires sized { HasSizes (T.lists source.old) }
         requires part { 0 < length (T.lists source.old).upper }
@@ -105,7 +105,7 @@ impl<const BIT: u8, T: TableSource> FindsEntries<BIT, T> for ByTables {
     }
 }
 
-/// Selections of no more ranks than go side by side.
+/// Selections of at least one rank and at most `SIDE_BY_SIDE`.
 fn select_block<const BIT: u8, T: TableSource, F: FindsEntries<BIT, T>>(
     source: &mut T,
     finder: &F,
@@ -128,13 +128,13 @@ fn select_block<const BIT: u8, T: TableSource, F: FindsEntries<BIT, T>>(
     tell_entries::<BIT, T>(source, ranks, &queries, places);
 }
 
-/// For each rank what `total_select_many_on` tells, with the entries found by `finder`.
+/// Writes for each rank what `total_select_many_on` writes; `finder` finds the entries.
 ///
 /// # Conditions
 /// Those of `total_select_many_on`.
 /// # Cost
-/// For each rank at most as many upper entries as their number has binary digits and one more, one lower entry more
-/// than `finder` reads, and eight words are read, whatever the tables hold.
+/// With u upper entries, each rank reads at most one more of them than u has binary digits, one lower entry more than
+/// `finder` reads, and eight words, whatever the tables hold.
 #[inline(always)]
 pub fn tell_many_on<const BIT: u8, T: TableSource, F: FindsEntries<BIT, T>>(
     source: &mut T,
@@ -158,20 +158,20 @@ pub fn tell_many_on<const BIT: u8, T: TableSource, F: FindsEntries<BIT, T>>(
     }
 }
 
-/// For each rank the place of the one of the source's words with so many ones before it, or `NO_ANSWER`; zeros in place
-/// of ones where `BIT` is 0.
+/// Writes for each rank the position of the 1 bit of the source's words with that many 1 bits before it, or
+/// `NO_ANSWER`; of the 0 bit with that many 0 bits before it where `BIT` is 0.
 ///
-/// Whatever the tables hold, a place is inside and has such a bit. Where they are those of the words it is the right
-/// one, `NO_ANSWER` is told exactly where there is none, and `WRONG_TABLES` never. Sixteen searches go side by side, so
-/// that the misses of one overlap with those of the others: by halves, and from a guess on where the entries are
-/// neither few nor many.
+/// Whatever the tables hold, a position is in the words and has such a bit. Where they are those of the words, it is
+/// the right position, `NO_ANSWER` is written exactly where there is no such bit, and `WRONG_TABLES` never. Sixteen
+/// searches run side by side, so that their cache misses overlap: binary searches, which start from a guess where the
+/// entries are neither few nor many.
 ///
 /// # Conditions
-/// There are fewer than 2^58 words and at least one, and the tables have the right lengths. Nothing is asked of what
-/// they hold. There are as many `places` as `ranks`.
+/// There is at least one word and there are fewer than 2^58, and the tables have the right lengths; they may hold
+/// anything. `places` is as long as `ranks`.
 /// # Cost
-/// For each rank at most as many upper entries as their number has binary digits and one more, 22 lower entries and
-/// eight words are read, whatever the tables hold.
+/// With u upper entries, each rank reads at most one more of them than u has binary digits, 22 lower entries and eight
+/// words, whatever the tables hold.
 pub fn total_select_many_on<const BIT: u8, T: TableSource>(
     source: &mut T,
     ranks: &[usize],
@@ -188,15 +188,15 @@ pub fn total_select_many_on<const BIT: u8, T: TableSource>(
     tell_many_on::<BIT, T, ByTables>(source, &ByTables, ranks, places);
 }
 
-/// For each rank the place of the one of the source's words with so many ones before it; zeros in place of ones where
-/// `BIT` is 0.
+/// Writes for each rank the position of the 1 bit of the source's words with that many 1 bits before it; of the 0 bit
+/// with that many 0 bits before it where `BIT` is 0.
 ///
 /// # Conditions
-/// The source's tables are those of its words, of fewer than 2^58 words. There are as many `places` as `ranks`, and
-/// more ones than each rank.
+/// The source's tables are those of its words, which are fewer than 2^58. `places` is as long as `ranks`, and the words
+/// have more such bits than each rank.
 /// # Cost
-/// For each rank at most as many upper entries as their number has binary digits and one more, 22 lower entries and
-/// eight words are read.
+/// With u upper entries, each rank reads at most one more of them than u has binary digits, 22 lower entries and eight
+/// words.
 #[inline]
 pub fn select_many_on<const BIT: u8, T: TableSource>(
     source: &mut T,

@@ -1,5 +1,5 @@
-//! Queries of a block under way side by side: the entry of each is sought by halves, near a guess where there are
-//! neither few entries nor many.
+//! The first half of a group of selections side by side: binary search for the entry of each, which starts near a guess
+//! where there are neither few entries nor many.
 ghost use Rattle.std.specs.Prelude.{◌≡◌, ◌+◌, ◌*◌, ◌^◌, ◌<◌, ◌≤◌, ℕ, IfSome, IsTrue, length};
 ghost use Rattle.bit_lists.specs.Bits.{digit_count};
 ghost use Rattle.bitm_select.specs.Many.{AreInside, AreSearches, IsInside, IsSearch};
@@ -13,34 +13,34 @@ use bitm_tables::entry::ones_to_entry;
 use bitm_tables::levels::L2_ENTRIES_PER_L1_ENTRY;
 use bitm_tables::source::TableSource;
 
-/// So many selections are under way side by side: more than a processor waits for at once.
+/// The number of selections that run side by side: more than the cache misses that a processor has in flight at once.
 pub const SIDE_BY_SIDE: usize = 16;
 
-/// A guess is made where there are so many entries: in fewer, halving alone is as fast.
+/// The fewest entries for which a guess pays; with fewer, binary search alone is as fast.
 const FEWEST_TO_GUESS: usize = 1 << 9;
 
-/// No guess is made where there are more entries: with one that is wrong and all halvings more of them would be
-/// read than is promised.
+/// The most entries for which a guess is made; with more, a wrong guess and all halvings would read more entries than
+/// the contract allows.
 const MOST_TO_GUESS: usize = 1 << 18;
 
-/// The entry is sought among so many after a guess, as a logarithm.
+/// The logarithm of the number of entries that a search goes on with after a guess.
 const NEAR: u32 = 5;
 
 /// A query under way. Contracts say of it `IsSearch`.
 #[derive(Clone, Copy, PartialEq, Eq, Debug)]
 pub struct Query {
-    /// How many items are left of the rank in the part, where the tables are those of the words.
+    /// The rank within the upper block, where the tables are those of the words.
     pub rest: usize,
-    /// The first of the entries among which that of the rank is sought.
+    /// The first of the entries among which the search goes on.
     pub entry: usize,
 }
 
-/// What stands in a block before its queries begin. Its numbers differ: a block of zeros would be made by `memset`,
-/// which the archive for C does not have.
+/// What fills the array before queries begin. Its numbers differ: the compiler would fill an array of zeros by
+/// `memset`, which the archive for C does without.
 pub(crate) const NO_QUERY: Query = Query { rest: 0, entry: 1 };
 
-/// A query whose entry is sought in all of the last part with no more than `rank` of the kind before it, where the
-/// tables are those of the words; else in some part.
+/// The query of a rank over all entries of its upper block: of the last with at most `rank` bits of the kind before it,
+/// where the tables are those of the words; of some upper block otherwise.
 #[inline(always)]
 fn begin<const BIT: u8, T: TableSource>(source: &mut T, rank: usize) -> Query
     requires sized { HasSizes (T.lists source.old) }
@@ -57,10 +57,10 @@ fn begin<const BIT: u8, T: TableSource>(source: &mut T, rank: usize) -> Query
     }
 }
 
-/// The query at the entry 2^`size` after its own, where no more than its rest of the kind stand before that in the
-/// part, else as it is.
+/// Moves a query 2^`size` entries on, where at most `rest` bits of the kind come before that entry in the upper block;
+/// else leaves it as it is.
 ///
-/// The sum has no branch on the count.
+/// A sum, without a branch on the count.
 #[inline(always)]
 fn step<const BIT: u8, T: TableSource>(source: &mut T, query: Query, size: u32) -> Query
     requires sized { HasSizes (T.lists source.old) }
@@ -80,7 +80,7 @@ fn step<const BIT: u8, T: TableSource>(source: &mut T, query: Query, size: u32) 
     }
 }
 
-/// The same where there may be no such entry.
+/// Like `step`, and leaves the query as it is where there is no such entry.
 #[inline(always)]
 fn halve<const BIT: u8, T: TableSource>(source: &mut T, query: Query, size: u32) -> Query
     requires sized { HasSizes (T.lists source.old) }
@@ -154,7 +154,7 @@ fn step_each<const BIT: u8, T: TableSource>(
     }
 }
 
-/// So many halvings leave one entry of a part, where there are so many entries in all.
+/// The number of halvings that leave one entry of an upper block, of the given number of entries in all.
 #[inline(always)]
 fn halvings(entries: usize) -> u32
     ensures most { result ≤ 21 }
@@ -168,7 +168,7 @@ fn halvings(entries: usize) -> u32
     size
 }
 
-/// In how many entries an item lies, times 2^32, where the items lie evenly in one part; any number would serve.
+/// Entries per bit of the kind, times 2^32, where the bits lie evenly in one upper block; any number would do.
 #[inline(always)]
 fn entries_per_item<const BIT: u8, T: TableSource>(source: &mut T) -> usize
     requires some { 0 < length (T.lists source.old).lower }
@@ -181,8 +181,8 @@ fn entries_per_item<const BIT: u8, T: TableSource>(source: &mut T) -> usize
     (last << 32) / items.max(1)
 }
 
-/// The query with its entry brought near the one that is sought, by a guess and two entries that are asked whether it
-/// is right; `None` where it is not: the entry is not among the 2^`NEAR` from there on.
+/// Moves a query near its entry by a guess, which two reads test; `None` where the entry is not among the 2^`NEAR`
+/// entries from the guess on.
 #[inline(always)]
 fn guess<const BIT: u8, T: TableSource>(
     source: &mut T,
@@ -211,8 +211,8 @@ fn guess<const BIT: u8, T: TableSource>(
     }
 }
 
-/// Writes each query, brought near its entry by a guess, and answers whether every guess was right. Where one was not,
-/// `queries` may hold anything.
+/// Moves each query near its entry by a guess, and returns whether every guess was right. Where one was not, `queries`
+/// may hold anything.
 #[inline(always)]
 fn guess_each<const BIT: u8, T: TableSource>(
     source: &mut T,
@@ -241,7 +241,7 @@ fn guess_each<const BIT: u8, T: TableSource>(
     true
 }
 
-/// Whether guesses are made: in one part, of neither few entries nor many.
+/// Whether guesses are made: in one upper block with neither few entries nor many.
 #[inline(always)]
 fn guesses<T: TableSource>(source: &T) -> bool
     ensures { IsTrue result → (length (T.lists source.now).upper ≡ 1)
@@ -252,7 +252,7 @@ fn guesses<T: TableSource>(source: &T) -> bool
     source.upper_len() == 1 && entries >= FEWEST_TO_GUESS && entries <= MOST_TO_GUESS
 }
 
-/// Finds the entries of queries that are near them: the entries that are asked are there, so no test asks whether.
+/// Finds the entries of queries that are near them. All entries that this reads exist, so it does without that test.
 #[inline(always)]
 fn close_each<const BIT: u8, T: TableSource>(source: &mut T, ranks: &[usize], queries: &mut [Query])
     requires sized { HasSizes (T.lists source.old) }
@@ -269,7 +269,7 @@ fn close_each<const BIT: u8, T: TableSource>(source: &mut T, ranks: &[usize], qu
     }
 }
 
-/// Finds the entries of queries that were begun, by all halvings.
+/// Finds the entries of new queries by all halvings.
 #[inline(always)]
 fn halve_all<const BIT: u8, T: TableSource>(source: &mut T, ranks: &[usize], queries: &mut [Query])
     requires sized { HasSizes (T.lists source.old) }
@@ -288,8 +288,8 @@ fn halve_all<const BIT: u8, T: TableSource>(source: &mut T, ranks: &[usize], que
     }
 }
 
-/// Makes the queries those that were begun, number by number: a copy of whole queries would be made by `memcpy`, which
-/// the archive for C does not have.
+/// Copies the queries number by number: the compiler would copy whole queries by `memcpy`, which the archive for C does
+/// without.
 #[inline(always)]
 fn copy_each(begun: &[Query], queries: &mut [Query])
     requires { length begun.now ≡ length queries.old }
@@ -301,15 +301,15 @@ fn copy_each(begun: &[Query], queries: &mut [Query])
     }
 }
 
-/// Finds the entry of each rank, sixteen searches at once: near a guess where there are neither few entries nor many
-/// and every guess is right, else by halves of all.
+/// Finds the entry of each rank by sixteen searches side by side: near a guess where there are neither few entries nor
+/// many and every guess is right, and by binary search over all entries otherwise.
 ///
 /// # Conditions
-/// There is a rank, and there are no more than sixteen; there is room for sixteen queries. Nothing is asked of what the
-/// tables hold.
+/// There is at least one word and there are fewer than 2^58, and the tables have the right lengths; they may hold
+/// anything. There is at least one rank and there are at most sixteen, and `queries` has length 16.
 /// # Cost
-/// For each rank at most as many upper entries as their number has binary digits and one more, and 21 lower entries are
-/// read, whatever the tables hold.
+/// With u upper entries, each rank reads at most one more of them than u has binary digits, and 21 lower entries,
+/// whatever the tables hold.
 #[inline(always)]
 pub fn find_by_halves<const BIT: u8, T: TableSource>(
     source: &mut T,

@@ -1,4 +1,4 @@
-//! Ranks of a block side by side: what each waits for in the memory is read for all of them, and then the rest is counted.
+//! A group of ranks side by side: first the reads of all that may miss the caches, then the counting.
 ghost use Rattle.std.specs.Prelude.{◌≡◌, ◌+◌, ◌*◌, ◌/◌, ◌^◌, ◌<◌, ◌≤◌, ℕ, length, slice_index};
 ghost use Rattle.bit_lists.specs.Bits.{bits_of, IsShort};
 ghost use Rattle.bit_lists.specs.Count.{as_bit, ones_before};
@@ -14,38 +14,38 @@ use bitm_tables::ranking::{halved_ones, ones_of_word, ones_to_part, total_rank_o
 use bitm_tables::source::TableSource;
 use broadword::ones_through;
 
-/// Bits of one record.
+/// Bits of one basic block.
 const RECORD_BITS: usize = 64 * U64_PER_L2_RECORDS;
 
-/// Records of one lower entry.
+/// Basic blocks of one lower entry.
 const RECORDS_PER_L2_ENTRY: usize = U64_PER_L2_ENTRY / U64_PER_L2_RECORDS;
 
-/// So many ranks are under way side by side: more than a processor waits for at once.
+/// The number of ranks that run side by side: more than the cache misses that a processor has in flight at once.
 const BLOCK: usize = 32;
 
-/// Fewer ranks are told each by itself: a block costs more to make ready than they wait.
+/// The fewest ranks that run side by side: with fewer, setting up a group costs more than it saves.
 pub(crate) const FEWEST: usize = 16;
 
-/// A rank under way: an entry and two words, one where the record of the last bit that counts begins and one where that
-/// bit is. A record may lie across two lines of a cache, so both are read. Contracts say of it `IsBegun`.
+/// A rank under way: an entry and two words, of which one starts the basic block of the last bit that counts and one
+/// has that bit. A basic block may lie across two cache lines, so both words are read. Contracts say of it `IsBegun`.
 #[derive(Clone, Copy, PartialEq, Eq, Debug)]
 pub struct Begun {
     /// The lower entry of the last bit that counts.
     pub entry: u64,
-    /// The first word of its record.
+    /// The first word of its basic block.
     pub first: u64,
-    /// The word that has it.
+    /// The word with that bit.
     pub word: u64,
 }
 
-/// What stands in a block before its ranks begin. Its numbers differ, as those of `NO_QUERY`.
+/// What fills the array before ranks begin. Its numbers differ for the reason that those of `NO_QUERY` do.
 const NOT_BEGUN: Begun = Begun {
     entry: 0,
     first: 1,
     word: 0,
 };
 
-/// Reads what the rank of `index` waits for. Where there is no bit that counts, or fewer bits, nothing is read.
+/// Starts the rank of `index` by its reads. Nothing is read where `index` is 0 or there are fewer bits.
 #[inline(always)]
 fn begin<T: TableSource>(source: &mut T, index: usize) -> Begun
     requires sized { HasSizes (T.lists source.old) }
@@ -63,7 +63,7 @@ fn begin<T: TableSource>(source: &mut T, index: usize) -> Begun
     Begun { entry, first, word }
 }
 
-/// What `halved_ones` answers, of a record of which words may miss.
+/// Like `halved_ones`, for a basic block with fewer than eight words too.
 #[inline(always)]
 fn tested_ones<T: TableSource>(source: &mut T, first: usize, len: usize, word: u64) -> usize
     requires len { len < 8 }
@@ -89,7 +89,7 @@ fn tested_ones<T: TableSource>(source: &mut T, first: usize, len: usize, word: u
     ones
 }
 
-/// How many ones stand in a record before word `len` of it, where `word` is its first.
+/// The number of 1 bits in the first `len` words of a basic block, whose first word is `word`.
 #[inline(always)]
 fn ones_to_word<T: TableSource>(source: &mut T, first: usize, len: usize, word: u64) -> usize
     requires len { len < 8 }
@@ -109,7 +109,7 @@ fn ones_to_word<T: TableSource>(source: &mut T, first: usize, len: usize, word: 
     }
 }
 
-/// How many of the bits to bit `last` are ones, it too, where the tables are those of the words; else any number.
+/// The number of 1 bits up to and including bit `last`, where the tables are those of the words; any number otherwise.
 ///
 /// # Conditions
 /// There is such a bit.
@@ -137,7 +137,7 @@ fn finish<T: TableSource>(source: &mut T, last: usize, begun: Begun) -> usize
     to_part.wrapping_add(to_record + in_record + in_word)
 }
 
-/// What a list of answers says of the rank of an index, before which so many ones were told; zeros where `BIT` is 0.
+/// The code of the rank of an index, before which the tables and words claim `ones` 1 bits; of 0 bits where `BIT` is 0.
 #[inline(always)]
 fn told_rank<const BIT: u8>(index: usize, ones: usize) -> usize
     ensures { (lists : Lists) → IsShort lists.words → index ≤ length (bits_in lists)
@@ -150,7 +150,7 @@ fn told_rank<const BIT: u8>(index: usize, ones: usize) -> usize
     }
 }
 
-/// What is told of a rank that was begun.
+/// The code of a rank whose reads are done.
 #[inline(always)]
 fn tell_begun<const BIT: u8, T: TableSource>(source: &mut T, index: usize, begun: Begun) -> usize
     requires sized { HasSizes (T.lists source.old) }
@@ -166,7 +166,7 @@ fn tell_begun<const BIT: u8, T: TableSource>(source: &mut T, index: usize, begun
     told_rank::<BIT>(index, finish(source, last, begun))
 }
 
-/// What is told of a rank by itself.
+/// The code of one rank.
 #[inline(always)]
 fn tell_rank<const BIT: u8, T: TableSource>(source: &mut T, index: usize) -> usize
     requires sized { HasSizes (T.lists source.old) }
@@ -179,7 +179,7 @@ fn tell_rank<const BIT: u8, T: TableSource>(source: &mut T, index: usize) -> usi
     }
 }
 
-/// Begins each rank.
+/// Starts each rank.
 #[inline(always)]
 fn begin_each<T: TableSource>(source: &mut T, indices: &[usize], begun: &mut [Begun])
     requires sized { HasSizes (T.lists source.old) }
@@ -194,7 +194,7 @@ fn begin_each<T: TableSource>(source: &mut T, indices: &[usize], begun: &mut [Be
     }
 }
 
-/// Tells each rank that was begun.
+/// Writes the code of each rank whose reads are done.
 #[inline(always)]
 fn finish_each<const BIT: u8, T: TableSource>(
     source: &mut T,
@@ -216,7 +216,7 @@ fn finish_each<const BIT: u8, T: TableSource>(
     }
 }
 
-/// Tells the ranks of no more indices than a block has.
+/// Writes the codes of the ranks of one group.
 #[inline(always)]
 fn tell_block<const BIT: u8, T: TableSource>(
     source: &mut T,
@@ -236,7 +236,7 @@ fn tell_block<const BIT: u8, T: TableSource>(
     finish_each::<BIT, T>(source, indices, begun, ranks);
 }
 
-/// Tells each rank, by blocks.
+/// Writes the code of each rank, group by group.
 #[inline(always)]
 pub(crate) fn tell_blocks<const BIT: u8, T: TableSource>(
     source: &mut T,
@@ -258,7 +258,7 @@ pub(crate) fn tell_blocks<const BIT: u8, T: TableSource>(
     }
 }
 
-/// Tells each rank by itself.
+/// Writes the code of each rank, one by one.
 #[inline(always)]
 pub(crate) fn tell_each<const BIT: u8, T: TableSource>(
     source: &mut T,

@@ -1,5 +1,5 @@
-//! Selection in an entry that was found: the record of the entry, the word of the record, the bit of the word. The
-//! entry may be any: where it is not that of the rank, the words decide.
+//! Selection in the lower block of an entry that was found: the basic block, its word, the bit of the word. The entry
+//! may be any: where it is not that of the rank, the words decide.
 ghost use Rattle.std.specs.Prelude.{◌≡◌, ◌+◌, ◌-◌, ◌*◌, ◌/◌, ◌%◌, ◌^◌, ◌<◌, ◌≤◌, ◌≢◌};
 ghost use Rattle.std.specs.Prelude.{length, count_ones, slice_index, IfSome, MatchOption};
 ghost use Rattle.bit_lists.specs.Bits.{bits_of, IsShort};
@@ -20,10 +20,10 @@ use bitm_tables::ranking::WORDS_IN_CACHE;
 use bitm_tables::source::TableSource;
 use broadword::select64;
 
-/// Stands for how many of the kind there are before the next entry, where nobody has read it.
+/// Stands for the number of bits of the kind before the next entry, where that entry was not read.
 pub const NOT_READ: usize = 1 << 62;
 
-/// 1 where no more than `rank` were counted, else 0.
+/// 1 where `count` is at most `rank`, else 0.
 #[inline(always)]
 pub fn is_at_most(count: usize, rank: usize) -> usize
     ensures yes { count ≤ rank → result ≡ 1 }
@@ -32,10 +32,11 @@ pub fn is_at_most(count: usize, rank: usize) -> usize
     (count <= rank) as usize
 }
 
-/// The record of an entry that has the one with this rank, and the ones of the entry before that record: by three
-/// comparisons, and no branch.
+/// The basic block of an entry that has the 1 bit with this rank in the entry, and the number of 1 bits of the entry
+/// before it: three comparisons and no branch.
 ///
-/// Where the entry's counts fall from record to record, as in no entry of a right table, it is some record of it.
+/// Where the entry's counts fall from one basic block to the next, as in no entry of a right table, it is some basic
+/// block of the entry.
 #[inline(always)]
 pub fn record_of(entry: u64, rank: usize) -> (usize, usize)
     ensures inside { result.0 < 4 }
@@ -52,10 +53,10 @@ pub fn record_of(entry: u64, rank: usize) -> (usize, usize)
     (place, ones_to_record(entry, place))
 }
 
-/// The place of the one in a word with so many ones before it.
+/// The position in a word of the 1 bit with `rank` 1 bits before it.
 ///
 /// # Conditions
-/// The word has more than `rank` ones.
+/// The word has more than `rank` 1 bits.
 #[inline(always)]
 pub fn select_in_word(word: u64, rank: usize) -> usize
     requires { rank < count_ones word }
@@ -66,10 +67,10 @@ pub fn select_in_word(word: u64, rank: usize) -> usize
     select64(word, rank as u8) as usize
 }
 
-/// Word `at` of the bits in which ones are sought: negated where `BIT` is 0.
+/// Word `at`, negated where `BIT` is 0: its 1 bits are those of the sought kind.
 ///
 /// # Conditions
-/// There is such a word. Nothing is asked of the tables.
+/// There is such a word. The tables may hold anything.
 #[inline(always)]
 pub fn sought_word<const BIT: u8, T: TableSource>(source: &mut T, at: usize) -> u64
     requires { at < length (T.lists source.old).words }
@@ -81,7 +82,7 @@ pub fn sought_word<const BIT: u8, T: TableSource>(source: &mut T, at: usize) -> 
     if BIT == 0 { !word } else { word }
 }
 
-/// Selection among `count` words from `first` on; the rank counts from there.
+/// Selection among `count` words from `first` on. The rank counts from the first of these.
 #[inline(always)]
 pub fn among<const BIT: u8, T: TableSource>(
     source: &mut T,
@@ -113,7 +114,7 @@ pub fn among<const BIT: u8, T: TableSource>(
     None
 }
 
-/// How many ones stand before each word of a record, counted from the record's first bit.
+/// The number of bits of the sought kind in a basic block before each of its words.
 ///
 /// # Conditions
 /// The source has the eight words from `first` on.
@@ -133,10 +134,10 @@ fn ones_to_words<const BIT: u8, T: TableSource>(source: &mut T, first: usize) ->
     counts
 }
 
-/// The last of eight counts that is no more than `rank`: by seven comparisons, and no branch.
+/// The index of the last of eight counts that is at most `rank`: seven comparisons and no branch.
 ///
 /// # Conditions
-/// The first is no more than `rank`, and they do not fall.
+/// The first count is at most `rank`, and the counts do not fall.
 #[inline(always)]
 fn last_at_most(counts: &[usize; 8], rank: usize) -> usize
     requires some { slice_index counts.now 0 ≤ rank }
@@ -150,8 +151,8 @@ fn last_at_most(counts: &[usize; 8], rank: usize) -> usize
     last
 }
 
-/// Selection among the eight words from `first` on, all of which there are: `among` without a branch for each word, since
-/// the processor would guess wrongly at which of them the rank is.
+/// Selection among the eight words from `first` on, all of which exist: `among` without a branch for each word, which
+/// the processor would often predict wrongly.
 #[inline(always)]
 fn among_all<const BIT: u8, T: TableSource>(
     source: &mut T,
@@ -179,8 +180,8 @@ fn among_all<const BIT: u8, T: TableSource>(
     }
 }
 
-/// Selection among the eight words from `first` on, all of which there are: without a branch for each word in a small
-/// content, and in a large one up to the word alone that has the rank, since that leaves fewer instructions.
+/// Selection among the eight words from `first` on, all of which exist: without a branch for each word among few words,
+/// and with one among many, where stopping at the right word saves more than a branch costs.
 #[inline(always)]
 fn among_eight<const BIT: u8, T: TableSource>(
     source: &mut T,
@@ -200,12 +201,13 @@ fn among_eight<const BIT: u8, T: TableSource>(
     if source.words_len() <= WORDS_IN_CACHE {
         among_all::<BIT, T>(source, first, rank)
     } else {
-        // The number of words is fixed here, so that no loop is left.
+        // The number of words is fixed here, so that the compiler unrolls the loop.
         among::<BIT, T>(source, first, U64_PER_L2_RECORDS, rank)
     }
 }
 
-/// Selection among the eight words from `first` on, of which some may miss; the rank counts from there.
+/// Selection among the eight words from `first` on, or among those of them that exist. The rank counts from the first
+/// of these.
 #[inline(always)]
 fn in_record<const BIT: u8, T: TableSource>(
     source: &mut T,
@@ -234,8 +236,8 @@ fn in_record<const BIT: u8, T: TableSource>(
     }
 }
 
-/// Selection among the eight words from `first` on, all of which there are, from their end: the one with `rest` ones of
-/// theirs from it on, itself among them.
+/// Selection among the eight words from `first` on, all of which exist, from their end: the bit from which on they have
+/// `rest` bits of the sought kind, itself included.
 #[inline(always)]
 fn among_last<const BIT: u8, T: TableSource>(
     source: &mut T,
@@ -266,10 +268,11 @@ fn among_last<const BIT: u8, T: TableSource>(
     None
 }
 
-/// What `in_record` answers where the record has `total` of the kind, or words miss: in a large content its words are
-/// counted from the nearer end, which leaves half of them to count.
+/// Like `in_record`, for a basic block that has `total` bits of the kind or fewer than eight words: among many words it
+/// counts from the nearer end of the basic block, which halves the words to count.
 ///
-/// Where it has another number of them, a place that is found has such a bit, and `Absent` is as true.
+/// Where the basic block has another number of such bits, a position that is found still has such a bit, and `Absent`
+/// is still right.
 #[inline(always)]
 fn from_nearer_end<const BIT: u8, T: TableSource>(
     source: &mut T,
@@ -293,7 +296,7 @@ fn from_nearer_end<const BIT: u8, T: TableSource>(
 {
     let len = source.words_len();
     let rest = total.wrapping_sub(rank);
-    // One comparison for two: where no more are left than were counted the difference wraps.
+    // One comparison for two: the difference wraps where `rest` is 0.
     if len > WORDS_IN_CACHE
         && first + U64_PER_L2_RECORDS < len
         && rest.wrapping_sub(1) < total / 2
@@ -306,8 +309,8 @@ fn from_nearer_end<const BIT: u8, T: TableSource>(
     in_record::<BIT, T>(source, first, rank)
 }
 
-/// How many of the kind an entry has up to the end of its record `place`, by what it packs and by how many stand in its
-/// part before the next entry: any number where that was not read.
+/// The number of bits of the kind in an entry up to the end of its basic block `place`, from what it packs and from the
+/// number before the next entry in its upper block; any number where that entry was not read.
 #[inline(always)]
 fn ones_to_end(packed: u64, place: usize, above: usize) -> usize
     requires { place < 4 }
@@ -319,9 +322,9 @@ fn ones_to_end(packed: u64, place: usize, above: usize) -> usize
     if place < 3 { inner } else { last }
 }
 
-/// Selection in entry `entry` of a part, which packs `packed`: the last one with no more than `rank` of the kind
-/// before it in the part, if the tables are right. `above` is how many stand in the part before the next entry, or
-/// `NOT_READ`. `TESTS` as in `search_on`.
+/// Selection in entry `entry` of an upper block, which packs `packed`: the last with at most `rank` bits of the kind
+/// before it there, if the tables are right. `above` is the number of such bits in the upper block before the next
+/// entry, or `NOT_READ`. `TESTS` has the meaning that it has in `search_on`.
 #[inline(always)]
 pub fn in_packed<const BIT: u8, const TESTS: u8, T: TableSource>(
     source: &mut T,

@@ -1,10 +1,10 @@
-//! What a selection answers, as a value and as a number in a list of answers.
+//! The answer of a selection, as a value and as a code in a list of answers.
 ghost use Rattle.std.specs.Prelude.{◌≡◌};
 ghost use Rattle.bitm_select.specs.Answers.{place_in, told_in};
 
 use bitm_tables::answer::Answer;
 
-/// The place that a selection found, if one was.
+/// The position that a selection found, if it found one.
 #[inline(always)]
 pub fn found(selected: Answer<usize>) -> Option<usize>
     ensures { result ≡ place_in selected }
@@ -15,13 +15,13 @@ pub fn found(selected: Answer<usize>) -> Option<usize>
     }
 }
 
-/// In a list of answers: there is no such place or bit.
+/// In a list of answers: there is no such position or bit.
 pub const NO_ANSWER: usize = usize::MAX;
 
 /// In a list of answers: the tables are not those of the words.
 pub const WRONG_TABLES: usize = usize::MAX - 1;
 
-/// What a list of answers says of a selection: the place, `NO_ANSWER` or `WRONG_TABLES`.
+/// The code of a selection's answer: the position, `NO_ANSWER` or `WRONG_TABLES`.
 #[inline(always)]
 pub fn told(selected: Answer<usize>) -> usize
     ensures { result ≡ told_in selected }

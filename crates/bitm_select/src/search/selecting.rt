@@ -1,7 +1,8 @@
-//! Selection over a source, with a bound on its reads: the part, the entry, and what stands in it.
+//! Selection over a source, with a bound on its reads: first the upper block, then its entry, then the words of the
+//! entry.
 //!
-//! The part and the entry are sought in tables that may hold anything: where they are not those of the words, the
-//! search ends as well, with some part and some entry.
+//! The tables may hold anything: where they are not those of the words, the search ends with some upper block and some
+//! entry.
 ghost use Rattle.std.specs.Prelude.{◌≡◌, ⊤, ℕ, ◌+◌, ◌-◌, ◌*◌, ◌/◌, ◌^◌, ◌<◌, ◌≤◌, ◌≢◌, length};
 ghost use Rattle.bit_lists.specs.Bits.{digit_count};
 ghost use Rattle.bit_lists.specs.Count.{ones_before, as_bit, IsSelect};
@@ -19,22 +20,22 @@ use crate::search::selected::found;
 use bitm_tables::answer::Answer;
 use bitm_tables::source::TableSource;
 
-/// How the entry of a rank is found in a part: by halves, or by samples.
+/// How the entry of a rank is found in an upper block: by binary search, or from samples.
 pub trait FindsEntry<const BIT: u8, T: TableSource> {
-    /// At most so many lower entries are read.
+    /// The most lower entries that a search reads.
     ghost lowers: { ℕ };
 
-    /// Where the value leads to the entry, in these tables: so many lower entries are enough then.
+    /// Whether the value leads to the entry in these tables, so that `lowers_led` reads are enough.
     ghost leads: { Self → Lists → Type 0 };
 
-    /// At most so many lower entries are read where the value leads to the entry.
+    /// The most lower entries that a search reads where the value leads to the entry.
     ghost lowers_led: { ℕ };
 
-    /// The last entry of a part with no more than `rank` of the kind before it in the part, where the tables are those
-    /// of the words, and what it packs; else some entry of the part.
+    /// The last entry of an upper block with at most `rank` bits of the kind before it there, and what it packs: the
+    /// right one where the tables are those of the words, some entry of the upper block otherwise.
     ///
     /// # Conditions
-    /// There is such a part, and the tables are as long as those of the words. They may hold anything.
+    /// There is such an upper block, and the tables are as long as those of the words. They may hold anything.
     fn entry(&self, source: &mut T, part: usize, rank: usize) -> (usize, u64)
         requires sized { HasSizes (T.lists source.old) }
         requires inside { part < length (T.lists source.old).upper }
@@ -58,17 +59,17 @@ impl<const BIT: u8, T: TableSource> FindsEntry<BIT, T> for ByTables {
     }
 }
 
-/// The place of the one of the source's words with exactly `rank` ones before it; zeros in place of ones where `BIT`
-/// is 0.
+/// The position of the 1 bit of the source's words with exactly `rank` 1 bits before it; of the 0 bit with `rank` 0
+/// bits before it where `BIT` is 0.
 ///
-/// Whatever the tables hold, a place that is found is inside and has such a bit. Where they are those of the words it
-/// is the right one, `Absent` is answered exactly where there is none, and `Wrong` never.
+/// Whatever the tables hold, a position that is found is in the words and has such a bit. Where they are those of the
+/// words, it is the right position, the answer is `Absent` exactly where there is no such bit, and it is never `Wrong`.
 ///
 /// # Conditions
 /// There are fewer than 2^58 words, and the tables have the right lengths. They may hold anything.
 /// # Cost
-/// At most as many upper entries as their number has binary digits and one more, 23 lower entries and eight words are
-/// read, whatever the tables hold.
+/// With u upper entries, a query reads at most one more of them than u has binary digits, 23 lower entries and eight
+/// words, whatever the tables hold.
 pub fn total_select_on<const BIT: u8, T: TableSource>(source: &mut T, rank: usize) -> Answer<usize>
     requires { HasSizes (T.lists source.old) }
     ensures bit { HasBit (bits_in (T.lists source.old)) (as_bit BIT) result }
@@ -81,14 +82,14 @@ pub fn total_select_on<const BIT: u8, T: TableSource>(source: &mut T, rank: usiz
     search_on::<BIT, 1, T, ByTables>(source, &ByTables, rank)
 }
 
-/// The place of the one of the source's words with exactly `rank` ones before it, and `None` exactly where there is
-/// none; zeros in place of ones where `BIT` is 0.
+/// The position of the 1 bit of the source's words with exactly `rank` 1 bits before it, and `None` exactly where there
+/// is no such bit; of the 0 bit with `rank` 0 bits before it where `BIT` is 0.
 ///
 /// # Conditions
-/// The source's tables are those of its words, of fewer than 2^58 words.
+/// The source's tables are those of its words, which are fewer than 2^58.
 /// # Cost
-/// At most as many upper entries as their number has binary digits and one more, 23 lower entries and eight words are
-/// read, also where the answer is `None`.
+/// With u upper entries, a query reads at most one more of them than u has binary digits, 23 lower entries and eight
+/// words, also where the answer is `None`.
 /// # Source
 /// The levels are those of Zhou, Andersen and Kaminsky, 'Space-efficient, high-performance rank and select structures
 /// on uncompressed bit sequences' (SEA 2013).
@@ -101,13 +102,14 @@ pub fn binary_select_on<const BIT: u8, T: TableSource>(source: &mut T, rank: usi
     found(search_on::<BIT, 0, T, ByTables>(source, &ByTables, rank))
 }
 
-/// What `total_select_on` answers. Where `TESTS` is 0 no test looks for a difference that wrapped: a rank that did is
-/// in no record, so the words decide, and `Absent` may be answered in place of `Wrong`.
+/// Selects as `total_select_on` does, with entries that `finder` finds. Where `TESTS` is 0, no test looks for a
+/// difference that wrapped: such a rank is in no basic block, so the words decide, and the answer may be `Absent` where
+/// it would be `Wrong`.
 ///
 /// # Conditions
 /// Those of `total_select_on`.
 /// # Cost
-/// That of `total_select_on`.
+/// That of `total_select_on`, with the lower entries that `finder` reads in place of 23.
 #[inline(always)]
 pub fn search_on<const BIT: u8, const TESTS: u8, T: TableSource, F: FindsEntry<BIT, T>>(
     source: &mut T,
@@ -137,7 +139,7 @@ pub fn search_on<const BIT: u8, const TESTS: u8, T: TableSource, F: FindsEntry<B
     in_packed::<BIT, TESTS, T>(source, part, entry, packed, NOT_READ, in_part)
 }
 
-/// How many ones, or zeros where `BIT` is 0, stand before a part, where the tables are those of the words.
+/// The number of 1 bits before an upper block, or of 0 bits where `BIT` is 0, where the tables are those of the words.
 #[inline(always)]
 pub fn before_part<const BIT: u8, T: TableSource>(source: &mut T, part: usize) -> usize
     requires { part < length (T.lists source.old).upper }
@@ -155,13 +157,13 @@ pub fn before_part<const BIT: u8, T: TableSource>(source: &mut T, part: usize) -
     }
 }
 
-/// The last part with no more than `rank` of the kind before it, where the tables are those of the words; else some
-/// part.
+/// The last upper block with at most `rank` bits of the kind before it, where the tables are those of the words; some
+/// upper block otherwise.
 ///
 /// # Conditions
-/// There is a part. The tables may hold anything.
+/// There is an upper block. The tables may hold anything.
 /// # Cost
-/// At most as many upper entries as their number has binary digits are read, whatever they hold.
+/// With u upper entries, at most as many of them are read as u has binary digits, whatever they hold.
 pub fn last_part<const BIT: u8, T: TableSource>(source: &mut T, rank: usize) -> usize
     requires { 0 < length (T.lists source.old).upper }
     ensures inside { result < length (T.lists source.old).upper }
@@ -184,11 +186,12 @@ pub fn last_part<const BIT: u8, T: TableSource>(source: &mut T, rank: usize) -> 
     low
 }
 
-/// The last part with no more than `rank` of the kind before it, and how many of them are left there, where the tables
-/// are those of the words; else some part. In wrong tables the difference may wrap: no record has a bit of such a rank.
+/// The last upper block with at most `rank` bits of the kind before it and the rank within it, where the tables are
+/// those of the words; some upper block otherwise. In wrong tables the difference may wrap: no basic block has a bit of
+/// such a rank.
 ///
 /// # Conditions
-/// There is a part. The tables may hold anything.
+/// There is an upper block. The tables may hold anything.
 #[inline(always)]
 pub fn part_of_rank<const BIT: u8, T: TableSource>(source: &mut T, rank: usize) -> (usize, usize)
     requires { 0 < length (T.lists source.old).upper }
