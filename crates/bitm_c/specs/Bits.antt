@@ -24,7 +24,7 @@ pub record IsStatus (sized inside : Type 0) (status : ℕ) : Type 0 where
   pub none : (status ≡ 1) ↔ (sized × (¬ inside))
   pub known : (status ≡ 0) ⊎ (status ≡ 1) ⊎ (status ≡ 2)
 
--- of the first bit v from a position on: the status, and the position before and after the call
+-- the first bit v from a position on: the status, and the position before and after the call
 pub record NextAnswered (v : Bool) (words : List ℕ) (bits_len from status old new : ℕ) : Type 0 where
   pub unchanged : status ≢ 0 → new ≡ old
   pub bad : ¬ (HasCountedBits words bits_len) → status ≡ 2
@@ -32,7 +32,7 @@ pub record NextAnswered (v : Bool) (words : List ℕ) (bits_len from status old 
   pub found : status ≡ 0 → IsFirstFrom (first_bits words bits_len) v from new
   pub none : status ≡ 1 → (p : ℕ) → from ≤ p → p < length (first_bits words bits_len) → item (first_bits words bits_len) p ≡ not v
 
--- of the last bit v up to a position, which may be past the end
+-- the last bit v up to a position, which may be past the end: the status, and the position before and after the call
 pub record PreviousAnswered (v : Bool) (words : List ℕ) (bits_len from status old new : ℕ) : Type 0 where
   pub unchanged : status ≢ 0 → new ≡ old
   pub bad : ¬ (HasCountedBits words bits_len) → status ≡ 2

@@ -18,11 +18,12 @@ hash_lists h = lists_of h.index.words.now h.index.upper.now h.index.lower.now
 abbrev pub CanBeLevel : List ℕ → List ℕ → Type 0
 CanBeLevel ones again = (0 < length ones) × (length ones < 2 ^ 58) × (length again ≡ length ones)
 
--- what was made, as the library says it
+-- what a build made, as the library says it
 abbrev pub made_of : ℕ → ℕ → ℕ → Made
 made_of levels words left = record { levels = levels; words = words; left = left }
 
--- the number of a hash, below the count of keys; where the sizes are those of levels with no more ones, it is the right one
+-- the number of a hash, below the number of keys; where the sizes are those of levels with at most that number of 1
+-- bits, it is the right number
 pub record IsHashNumber (sizes : List ℕ) (keys hash : ℕ) (lists : Lists) (answer : Answer ℕ) : Type 0 where
   pub below : IsBelow keys answer
   pub counts : HasTables lists → AreSizes sizes (bits_in lists) → ones_of (bits_in lists) ≤ keys

@@ -26,8 +26,8 @@ NextAnswered v c from = Exported (IsSizedCut c) (NextIn v c from)
 abbrev pub PreviousAnswered : Bool → Cut → ℕ → ℕ → ℕ → ℕ → Type 0
 PreviousAnswered v c from = Exported (IsSizedCut c) (PreviousIn v c from)
 
--- of the places of the bits v from a place on: the list before and after the call, and how many were written, as many
--- as there is room for; the rest stays
+-- the positions of the bits v from a position on, as many as the list has room for: the list before and after the call,
+-- whose rest keeps its values, and how many were written
 pub record PlacesWritten (v : Bool) (b : List Bool) (from : ℕ) (old new : List ℕ) (written : ℕ) : Type 0 where
   pub number : written ≡ min (length old) (count_of b v - count_before b v from)
   pub places : (j : ℕ) → j < written → Picks b v (count_before b v from + j) (slice_index new j)

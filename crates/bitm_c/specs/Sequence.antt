@@ -15,8 +15,8 @@ use Rattle.bitm_c.specs.Status.{Exported}
 use Rattle.bitm_c.specs.declared.sequence.SequenceLens.{SequenceLens}
 use Rattle.bitm_c.specs.declared.sequence.Sequence.{Sequence}
 
--- A status is 0 where the answer was written, 1 where there is no such number, 2 where a length is not as it has to be,
--- 3 where the parts are not those of a sequence, and 4 where a number is less than the one before it.
+-- A status is 0 where the answer was written, 1 where there is no such number, 2 where a length is wrong, 3 where the
+-- parts are not those of a sequence, and 4 where a number is less than the number before it.
 
 -- the lengths as C sees them
 abbrev pub sizes_in_c : Sizes → SequenceLens
@@ -35,7 +35,7 @@ pub record IsSized (sequence : Sequence) : Type 0 where
 abbrev pub sought_by : ℕ → Answer ℕ
 sought_by = selected_by
 
--- how far a list of n places was answered, as a status, and the number before and after
+-- how far a list of n indices was answered: a status, and the number before and after the call
 abbrev pub IsListTold : ListAnswer → ℕ → ℕ → ℕ → ℕ → Type 0
 IsListTold WrongLength n status old new = (status ≡ 2) × (new ≡ old)
 IsListTold l n status old new = (status ≡ 0) × (new ≡ written_count n l)
@@ -48,8 +48,8 @@ pub record IsNumber (index : ℕ) (parts : LentParts) (answer : Answer ℕ) : Ty
 abbrev pub ItemAnswered : Sequence → ℕ → ℕ → ℕ → ℕ → Type 0
 ItemAnswered sequence index = Exported (IsSized sequence) (IsNumber index (lent_parts sequence))
 
--- the place of the first number that is at least value; whatever the parts hold, they tell that all before the place are
--- less, or all where there is none
+-- the successor of value: the index of the first number that is at least value; whatever the parts hold, they claim
+-- that all numbers before that index are less, or all numbers where the answer is that there is none
 pub record IsSuccessor (value : ℕ) (parts : LentParts) (answer : Answer ℕ) : Type 0 where
   pub inside : IsPlaceOf parts.len answer
   pub less : IfPlace parts.len answer (TellsLess parts value)

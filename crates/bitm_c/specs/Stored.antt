@@ -1,4 +1,4 @@
--- What a stored index or sequence begins with, and where each of its parts stands.
+-- The header of a stored index or sequence, and where each of its parts is.
 use Rattle.std.specs.Prelude.{◌≡◌, ◌≢◌, ℕ, ◌+◌, ◌-◌, ◌*◌, ◌/◌, ◌%◌, ◌^◌, ◌<◌, ◌≤◌, ◌⊎◌, List, length, slice_index}
 use Rattle.std.specs.Int.{div_ceil}
 use Rattle.bitm_view.specs.Block.{sample_room, starts_of}
@@ -10,19 +10,19 @@ use Rattle.bitm_c.specs.declared.sequence.SequenceLens.{SequenceLens}
 abbrev pub aligned : ℕ → ℕ
 aligned n = (n + 63) / 64 * 64
 
--- so many items from there on
+-- a part of the given number of items from there on
 abbrev pub span_from : ℕ → ℕ → Span
 span_from n len = record { at = aligned n; len = len }
 
--- the first byte behind items of so many bytes
+-- the first byte after the items of a part, of the given size each
 abbrev pub end_of : Span → ℕ → ℕ
 end_of span bytes = span.at + span.len * bytes
 
--- one more number is mixed into a checksum
+-- a checksum with one more number mixed in
 unfoldable pub mixed : ℕ → ℕ → ℕ
 mixed sum n = (sum * 0x9e37_79b9_7f4a_7c15 % 2 ^ 64 + n) % 2 ^ 64
 
--- the two numbers of a span
+-- a checksum with the two numbers of a part mixed in
 abbrev pub span_mixed : ℕ → Span → ℕ
 span_mixed sum span = mixed (mixed sum span.at) span.len
 
@@ -33,8 +33,8 @@ checksum_of h =
     let vectors = span_mixed (span_mixed (span_mixed (span_mixed numbers h.words) h.upper) h.lower) h.low in
     span_mixed (span_mixed (span_mixed (span_mixed vectors h.starts) h.starts0) h.samples) h.samples0
 
--- each part stands at the first multiple of 64 bytes behind the one before it, the words behind the 192 bytes of the
--- header, and is as long as the words, the low digits and the samples want it
+-- each part starts at the first multiple of 64 bytes after the part before it, the words after the 192 bytes of the
+-- header, and has the length that the words, the low bits and the samples give it
 pub record IsLaidOut (h : Stored) : Type 0 where
   pub mark : h.mark ≡ 0x0262_6174_6d74_6962
   pub words : h.words.at ≡ 192
@@ -48,13 +48,13 @@ pub record IsLaidOut (h : Stored) : Type 0 where
   pub size : h.size ≡ aligned (end_of h.samples0 4)
   pub checksum : h.checksum ≡ checksum_of h
 
--- a logarithm and so many samples of one kind of so many words, or neither
+-- a logarithm and samples of one kind that the given number of words can have, or neither
 pub record HasSampleLens (words log n : ℕ) : Type 0 where
   pub low : log ≢ 0 → 7 ≤ log
   pub high : log ≤ 31
   pub room : n ≤ sample_room words log
 
--- of an index of so many bits, with samples of either kind
+-- a header with the lengths of an index
 pub record IsIndex (h : Stored) : Type 0 where
   pub kind : h.kind ≡ 1
   pub short : h.len ≤ 2 ^ 64 - 64
@@ -64,7 +64,7 @@ pub record IsIndex (h : Stored) : Type 0 where
   pub ones : HasSampleLens h.words.len h.ones_log2 h.samples.len
   pub zeros : HasSampleLens h.words.len h.zeros_log2 h.samples0.len
 
--- of a sequence of so many numbers, which has no samples
+-- a header with the lengths of a sequence, which has no samples
 pub record IsSequence (h : Stored) : Type 0 where
   pub kind : h.kind ≡ 2
   pub short : h.len < 2 ^ 56
@@ -76,19 +76,19 @@ pub record IsSequence (h : Stored) : Type 0 where
   pub zeros_log2 : h.zeros_log2 ≡ 0
   pub zeros : h.samples0.len ≡ 0
 
--- it is the header of an index or a sequence
+-- the header of an index or a sequence
 pub record IsStored (h : Stored) : Type 0 where
   pub laid_out : IsLaidOut h
   pub shape : IsIndex h ⊎ IsSequence h
 
--- no part is so long that a place would not fit 64 bits
+-- the parts are so short that each offset fits 64 bits
 pub record IsBounded (h : Stored) : Type 0 where
   pub words : h.words.len < 2 ^ 58
   pub low : h.low.len ≤ 2 ^ 58
   pub samples : h.samples.len ≤ 2 ^ 58
   pub samples0 : h.samples0.len ≤ 2 ^ 58
 
--- the numbers that say the others are those of k
+-- the numbers from which all others follow are those of k
 pub record IsAlike (h k : Stored) : Type 0 where
   pub kind : h.kind ≡ k.kind
   pub len : h.len ≡ k.len
@@ -100,7 +100,7 @@ pub record IsAlike (h k : Stored) : Type 0 where
   pub samples : h.samples.len ≡ k.samples.len
   pub samples0 : h.samples0.len ≡ k.samples0.len
 
--- the parts follow one another behind the header, and the last ends before so many bytes do
+-- the parts follow one another after the header, and the last ends within the given number of bytes
 pub record LiesWithin (h : Stored) (bytes : ℕ) : Type 0 where
   pub words : 192 ≤ h.words.at
   pub upper : end_of h.words 8 ≤ h.upper.at
@@ -112,11 +112,11 @@ pub record LiesWithin (h : Stored) (bytes : ℕ) : Type 0 where
   pub samples0 : end_of h.samples 4 ≤ h.samples0.at
   pub end : end_of h.samples0 4 ≤ bytes
 
--- two numbers of a list
+-- the part that two numbers of a list describe
 abbrev pub span_in : List ℕ → ℕ → Span
 span_in xs i = record { at = slice_index xs i; len = slice_index xs (i + 1) }
 
--- the header that a list of words begins with
+-- the header that the first words of a list hold
 abbrev pub header_in : List ℕ → Stored
 header_in xs = record {
   mark = slice_index xs 0;
@@ -137,13 +137,13 @@ header_in xs = record {
   checksum = slice_index xs 23;
 }
 
--- a file of 64-bit words begins with a header, and is as long as that says
+-- a file of 64-bit words starts with a header, and is as long as that claims
 pub record IsHeaded (file : List ℕ) : Type 0 where
   pub long : 24 ≤ length file
   pub stored : IsStored (header_in file)
   pub whole : (header_in file).size ≤ 8 * length file
 
--- an index of so many bits, and so many samples of ones and of zeros with their logarithms
+-- an index of the given number of bits, with the given numbers of samples of 1 bits and of 0 bits and their logarithms
 pub record IsIndexOf (bits log n log0 n0 : ℕ) (h : Stored) : Type 0 where
   pub kind : h.kind ≡ 1
   pub len : h.len ≡ bits
@@ -155,7 +155,7 @@ pub record IsIndexOf (bits log n log0 n0 : ℕ) (h : Stored) : Type 0 where
   pub zeros_log2 : h.zeros_log2 ≡ log0
   pub samples0 : h.samples0.len ≡ n0
 
--- a sequence of so many numbers, and vectors of such lengths
+-- a sequence of the given number of numbers, with vectors of the given lengths
 pub record IsSequenceOf (n : ℕ) (lens : SequenceLens) (h : Stored) : Type 0 where
   pub kind : h.kind ≡ 2
   pub len : h.len ≡ n
@@ -167,18 +167,19 @@ pub record IsSequenceOf (n : ℕ) (lens : SequenceLens) (h : Stored) : Type 0 wh
   pub zeros_log2 : h.zeros_log2 ≡ 0
   pub samples0 : h.samples0.len ≡ 0
 
--- a logarithm of samples, or 0 for none
+-- a logarithm of samples, or 0 for no samples
 pub record IsLog (log : ℕ) : Type 0 where
   pub low : log ≢ 0 → 7 ≤ log
   pub high : log ≤ 31
 
--- so many bits have an index, and can have so many samples
+-- an index can have the given number of bits, with the given numbers of samples
 pub record HasIndexLens (bits log n log0 n0 : ℕ) : Type 0 where
   pub short : bits ≤ 2 ^ 64 - 64
   pub ones : HasSampleLens (div_ceil bits 64) log n
   pub zeros : HasSampleLens (div_ceil bits 64) log0 n0
 
--- the vectors of a sequence of so many numbers can be so long, and the tables are as long as theirs
+-- the vectors of a sequence of the given number of numbers can have the given lengths, and the tables have the lengths
+-- of theirs
 pub record HasSequenceLens (n : ℕ) (lens : SequenceLens) : Type 0 where
   pub short : n < 2 ^ 56
   pub width : lens.width ≤ 63

@@ -1,4 +1,4 @@
-//! How an answer is reported: by a status, and a number that is written only where the status is `OK`.
+//! How an export reports an answer: by a status, and by a number that is written only where the status is `OK`.
 ghost use Rattle.std.specs.Prelude.{◌≡◌, MatchOption};
 ghost use Rattle.bitm_c.specs.Status.{IsReported};
 
@@ -7,10 +7,10 @@ use bitm_view::Answer;
 /// The answer was written.
 pub(crate) const OK: u32 = 0;
 
-/// There is no such place or bit; nothing was written.
+/// There is no such position, bit or number; nothing was written.
 pub(crate) const NONE: u32 = 1;
 
-/// A length is not as it has to be; nothing was written.
+/// A length is wrong; nothing was written.
 pub(crate) const BAD_SIZE: u32 = 2;
 
 /// The tables are not those of the words; nothing was written.
@@ -19,7 +19,7 @@ pub(crate) const WRONG: u32 = 3;
 /// A number is less than the one before it; nothing was written.
 pub(crate) const UNSORTED: u32 = 4;
 
-/// Writes the number that was found.
+/// Writes the number that was found, if one was.
 #[inline(always)]
 pub(crate) fn tell<T: Copy>(found: Option<T>, out: &mut T) -> u32
     ensures { MatchOption found ((result ≡ 1) × (out.new ≡ out.old))
@@ -34,7 +34,7 @@ pub(crate) fn tell<T: Copy>(found: Option<T>, out: &mut T) -> u32
     }
 }
 
-/// Reports an answer: by a status, and by the number where it was found.
+/// Reports an answer by its status, and writes the number that was found.
 #[inline(always)]
 pub(crate) fn report<T: Copy>(answer: Answer<T>, out: &mut T) -> u32
     ensures { IsReported answer result out.old out.new }

@@ -1,4 +1,4 @@
-//! Bits of words of the caller's, and numbers in them, where the content may end inside a word.
+//! Single bits and numbers in the caller's words. A bit vector may end inside a word.
 ghost use Rattle.std.specs.Prelude.{◌≡◌, ◌≢◌, ◌+◌, ◌*◌, ◌%◌, ◌^◌, ◌<◌, ◌≤◌, ◌↔◌, IsTrue, length, if◌then◌else◌};
 ghost use Rattle.bitm.specs.Bits.{bits_of, item};
 ghost use Rattle.bitm.specs.Number.{number_at, with_number};
@@ -48,7 +48,7 @@ pub extern "C" fn bitm_bits_get(
     OK
 }
 
-/// Makes the bit at `position` equal to `value`.
+/// Sets the bit at `position` to `value`.
 #[unsafe(no_mangle)]
 pub extern "C" fn bitm_bits_set(
     words: &mut [u64],
@@ -92,7 +92,7 @@ pub extern "C" fn bitm_bits_get_number(
     tell(number_in(words, bits_len, begin, width), out)
 }
 
-/// Replaces the `width` bits from `begin` on by the lowest ones of `value`, lowest first; 0 to 64 bits.
+/// Replaces the `width` bits from `begin` on by the lowest bits of `value`, lowest first; 0 to 64 bits.
 #[unsafe(no_mangle)]
 pub extern "C" fn bitm_bits_set_number(
     words: &mut [u64],
@@ -155,7 +155,7 @@ pub extern "C" fn bitm_bits_set_fragment(
     done(set_fragment_in(words, bits_len, index, width, value))
 }
 
-/// The status of a write that was made, or of none.
+/// The status of a call by whether it wrote.
 #[inline(always)]
 pub(crate) fn done(is_done: bool) -> u32
     ensures { result ≡ (if is_done then 0 else 1) }

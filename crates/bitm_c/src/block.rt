@@ -1,4 +1,4 @@
-//! Whole stored indexes: how large they are, and their parts written in one call.
+//! Whole stored indexes: how large they are, and the call that writes all their parts.
 ghost use Rattle.std.specs.Prelude.{◌≡◌, ◌≢◌, ◌+◌, ◌*◌, ◌↔◌, IsTrue};
 ghost use Rattle.std.specs.Int.{div_ceil};
 ghost use Rattle.bitm_view.specs.Block.{sample_room, zeros_from, HasBlockRoom, IsBlock};
@@ -10,7 +10,8 @@ use crate::sampled::bitm_index_samples_len;
 use crate::stored::{bitm_stored_index, index_of};
 use bitm_view::{build_block, has_block_room};
 
-/// The most samples of one kind that so many words can have, and none where the logarithm is 0.
+/// The room that samples of one kind of the given number of words need; 0 where the logarithm is 0, which stands for no
+/// samples.
 #[inline(always)]
 fn most_samples(words: u64, log2: u32) -> u64
     ensures { result ≡ sample_room words log2 }
@@ -21,7 +22,7 @@ fn most_samples(words: u64, log2: u32) -> u64
     bitm_index_samples_len(words as usize, log2) as u64
 }
 
-/// Whether it is a logarithm of samples, or 0 for none.
+/// Whether `log2` is a logarithm of samples, or 0 for no samples.
 #[inline(always)]
 fn is_log(log2: u32) -> bool
     ensures { IsTrue result ↔ IsLog log2 }
@@ -29,7 +30,7 @@ fn is_log(log2: u32) -> bool
     log2 == 0 || log2 >= 7 && log2 <= 31
 }
 
-/// Writes the header of an index of `bits_len` bits with the greatest numbers of samples that these can have.
+/// Writes the header of an index of `bits_len` bits with the room that its samples need at most.
 #[unsafe(no_mangle)]
 pub extern "C" fn bitm_stored_index_room(
     bits_len: u64,
@@ -50,7 +51,8 @@ pub extern "C" fn bitm_stored_index_room(
     bitm_stored_index(bits_len, ones_log2, ones, zeros_log2, zeros, out)
 }
 
-/// Writes the words, tables and samples of an index of the first `bits_len` bits of words, and the header of its file.
+/// Writes the words, tables and samples of an index of the first `bits_len` bits of the words, and the header of its
+/// file.
 #[unsafe(no_mangle)]
 pub extern "C" fn bitm_stored_build(
     words: &[u64],

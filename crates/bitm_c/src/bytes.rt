@@ -1,4 +1,4 @@
-//! A few bits that begin anywhere in bytes of the caller's, read and written by one little-endian word.
+//! A few bits that begin anywhere in the caller's bytes, read and written by one little-endian word.
 ghost use Rattle.std.specs.Prelude.{◌≡◌, ◌≢◌, ◌+◌, ◌/◌, ◌≤◌, ◌↔◌, length, IsTrue};
 ghost use Rattle.bitm.specs.Bytes.{byte_bits_of, byte_window, with_window};
 ghost use Rattle.bitm.specs.Number.{number_of_bits};
@@ -28,7 +28,7 @@ pub extern "C" fn bitm_bytes_get57(bytes: &[u8], first_bit: usize, out: &mut u64
     OK
 }
 
-/// Makes each of those bits at whose place `value` has a 1 bit a 1 bit.
+/// Sets each of those bits where `value` has a 1 bit, lowest first.
 #[unsafe(no_mangle)]
 pub extern "C" fn bitm_bytes_init57(bytes: &mut [u8], first_bit: usize, value: u64) -> u32
     ensures ok { (result ≡ 0) ↔ (first_bit / 8 + 8 ≤ length bytes.old) }
@@ -43,7 +43,8 @@ pub extern "C" fn bitm_bytes_init57(bytes: &mut [u8], first_bit: usize, value: u
     OK
 }
 
-/// Makes those bits at whose places `len_mask` has 1 bits the bits of `value`, and does the others as `bitm_bytes_init57`.
+/// Replaces those bits by the bits of `value` where `len_mask` has 1 bits, and treats the others as `bitm_bytes_init57`
+/// does.
 #[unsafe(no_mangle)]
 pub extern "C" fn bitm_bytes_set57(
     bytes: &mut [u8],
@@ -63,7 +64,7 @@ pub extern "C" fn bitm_bytes_set57(
     OK
 }
 
-/// As `bitm_bytes_get57`, of four bytes.
+/// Like `bitm_bytes_get57`, with four bytes.
 #[unsafe(no_mangle)]
 pub extern "C" fn bitm_bytes_get25(bytes: &[u8], first_bit: usize, out: &mut u32) -> u32
     ensures ok { (result ≡ 0) ↔ (first_bit / 8 + 4 ≤ length bytes.now) }
@@ -78,7 +79,7 @@ pub extern "C" fn bitm_bytes_get25(bytes: &[u8], first_bit: usize, out: &mut u32
     OK
 }
 
-/// As `bitm_bytes_init57`, of four bytes.
+/// Like `bitm_bytes_init57`, with four bytes.
 #[unsafe(no_mangle)]
 pub extern "C" fn bitm_bytes_init25(bytes: &mut [u8], first_bit: usize, value: u32) -> u32
     ensures ok { (result ≡ 0) ↔ (first_bit / 8 + 4 ≤ length bytes.old) }
@@ -93,7 +94,7 @@ pub extern "C" fn bitm_bytes_init25(bytes: &mut [u8], first_bit: usize, value: u
     OK
 }
 
-/// As `bitm_bytes_set57`, of four bytes.
+/// Like `bitm_bytes_set57`, with four bytes.
 #[unsafe(no_mangle)]
 pub extern "C" fn bitm_bytes_set25(
     bytes: &mut [u8],

@@ -1,4 +1,4 @@
-//! Ranges of bits of words of the caller's that are copied or compared.
+//! Copies and comparisons of ranges of bits in the caller's words.
 ghost use Rattle.std.specs.Prelude.{◌≡◌, ◌≢◌, ◌≤◌, ◌↔◌, IsTrue};
 ghost use Rattle.bitm.specs.Bits.{bits_of};
 ghost use Rattle.bit_slices.specs.Copied.{AreSame, IsCopied};

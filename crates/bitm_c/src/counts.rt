@@ -1,9 +1,9 @@
-//! How many items of a list of answers are codes.
+//! The number of codes in a list of answers.
 ghost use Rattle.bitm_c.specs.Lists.{AreCounted};
 
 use bitm_view::{NO_ANSWER, WRONG_TABLES};
 
-/// How many items of a list of answers are codes.
+/// The number of codes in a list of answers.
 #[repr(C)]
 #[derive(Clone, Copy)]
 pub struct ListCounts {

@@ -1,5 +1,4 @@
-//! Numbers in bits of words of the caller's that are negated, exchanged or all made the same, and how many words bits
-//! take.
+//! Numbers in the bits of the caller's words: negated, exchanged or filled. How many words a bit vector takes.
 ghost use Rattle.std.specs.Prelude.{◌≡◌, ◌≢◌, ℕ, ◌+◌, ◌*◌, ◌%◌, ◌^◌, ◌<◌, ◌≤◌, bit_xor};
 ghost use Rattle.std.specs.Int.{div_ceil};
 ghost use Rattle.bitm.specs.Bits.{bits_of, item};
@@ -10,7 +9,7 @@ use crate::answer::BAD_SIZE;
 use crate::bits::{done, has_bits};
 use bit_slices::{fill_fragments_in, swap_fragments_in, xor_number_in};
 
-/// How many words hold `bits_len` bits.
+/// The number of words that hold `bits_len` bits.
 #[unsafe(no_mangle)]
 pub extern "C" fn bitm_bits_words_len(bits_len: u64) -> usize
     ensures { result ≡ div_ceil bits_len 64 }
@@ -18,7 +17,7 @@ pub extern "C" fn bitm_bits_words_len(bits_len: u64) -> usize
     bits_len.div_ceil(64) as usize
 }
 
-/// Negates each of the `width` bits from `begin` on at whose place `value` has a 1 bit, lowest first; 0 to 64 bits.
+/// Negates each of the `width` bits from `begin` on where `value` has a 1 bit, lowest first; 0 to 64 bits.
 #[unsafe(no_mangle)]
 pub extern "C" fn bitm_bits_xor_number(
     words: &mut [u64],
@@ -60,7 +59,7 @@ pub extern "C" fn bitm_bits_swap_fragments(
     done(swap_fragments_in(words, bits_len, first, second, width))
 }
 
-/// Makes the first `count` numbers of an array of numbers of `width` bits the lowest bits of `value`; 0 to 64 bits.
+/// Sets the first `count` numbers of an array of numbers of `width` bits to the lowest bits of `value`; 0 to 64 bits.
 #[unsafe(no_mangle)]
 pub extern "C" fn bitm_bits_fill_fragments(
     words: &mut [u64],

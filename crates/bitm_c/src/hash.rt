@@ -1,5 +1,5 @@
-//! Minimal perfect hashes in the caller's memory: levels made one after another or all in one call, and the number of a
-//! hash, by the index over the words of all levels. The caller hashes the keys.
+//! Minimal perfect hashes in the caller's memory: their levels, built one by one or in one call, and the number of a
+//! hash by the index over the words of all levels. The caller hashes the keys.
 ghost use Rattle.std.specs.Prelude.{◌≡◌, ◌≢◌, ℕ, ◌-◌, ◌<◌, ◌≤◌, ◌^◌, ◌↔◌, length, min, slice_index, take, SomeIff};
 ghost use Rattle.bitm.specs.Bits.{bits_of, IsShort};
 ghost use Rattle.bitm.specs.Count.{ones_of};
@@ -21,8 +21,8 @@ use perfect_hash::{build_in_place, level_len, split_level, total_number_on};
 /// At most this many levels are queried.
 const LEVELS: usize = 256;
 
-/// A perfect hash in the caller's memory: the words of all levels with their tables, of which length and samples are
-/// not read, the words of each level, and the number of keys.
+/// A perfect hash in the caller's memory: the index over the words of all levels, whose `bits_len` and samples are not
+/// read, the number of words of each level, and the number of keys.
 #[repr(C)]
 #[derive(Clone, Copy)]
 pub struct Hash<'a> {
@@ -48,8 +48,8 @@ impl<'a> Hash<'a> {
     }
 }
 
-/// How many words the next level for `left` hashes has: `percent` bits for each 100 hashes, no fewer than 50, and at
-/// least one word; at most 2^64 - 1.
+/// The number of words of the next level for `left` hashes: `percent` bits for each 100 hashes, where less than 50
+/// counts as 50; at least one word and at most 2^64 - 1.
 #[unsafe(no_mangle)]
 pub extern "C" fn bitm_hash_level_len(left: usize, percent: u32) -> usize
     ensures { result ≡ min (words_for percent left) (2 ^ 64 - 1) }
@@ -57,7 +57,7 @@ pub extern "C" fn bitm_hash_level_len(left: usize, percent: u32) -> usize
     level_len(percent, left)
 }
 
-/// Makes a level of the hashes, and moves those that are left to the front.
+/// Builds a level of the hashes, and moves the hashes that it leaves to the start of their list.
 #[tactic(auto, using(bitm::proofs::BitLaws::zeros_have_no_ones))]
 #[unsafe(no_mangle)]
 pub extern "C" fn bitm_hash_level(
@@ -85,9 +85,9 @@ pub extern "C" fn bitm_hash_level(
     OK
 }
 
-/// Makes all levels of the hashes, one behind another in `words`, until none is left or there is no room for the next;
-/// writes their sizes, their number, the number of words that they take and how many hashes are left, which go to the
-/// front.
+/// Builds the levels of the hashes one after another in `words`, until no hash is left or the next level has no room.
+/// Writes the size of each level, their number, the number of words that they take, and the number of hashes that are
+/// left, which it moves to the start of their list.
 #[unsafe(no_mangle)]
 pub extern "C" fn bitm_hash_build(
     hashes: &mut [u64],
@@ -184,7 +184,7 @@ fn number_code(lent: &Lent<'_>, sizes: &[usize], keys: usize, hash: u64) -> usiz
     requires { length sizes.now ≤ 256 }
     ensures { IsHashNumber sizes.now keys hash lent.now (ranked_by result) }
 {
-    // No number of a hash is a code, whatever the number of keys.
+    // A number is no code, whatever the number of keys.
     match total_number_on(&mut lent.probe(), sizes, keys.min(WRONG_TABLES), hash) {
         Answer::Found(number) => number,
         Answer::Absent => NO_ANSWER,

@@ -11,7 +11,7 @@ ghost use Rattle.bitm_c.specs.Queries.{cut_of};
 use crate::answer::{BAD_SIZE, OK, WRONG};
 use crate::view::Index;
 
-/// The length of the upper table of `words_len` words: one number for each 2^26 words, rounded up.
+/// The length of the upper table of `words_len` words: ceil(words_len / 2^26) numbers.
 #[unsafe(no_mangle)]
 pub extern "C" fn bitm_index_upper_len(words_len: usize) -> usize
     ensures { result ≡ div_ceil words_len (2 ^ 26) }
@@ -19,7 +19,7 @@ pub extern "C" fn bitm_index_upper_len(words_len: usize) -> usize
     bitm_view::upper_len(words_len)
 }
 
-/// The length of the lower table of `words_len` words: one number for each 32 words, rounded up.
+/// The length of the lower table of `words_len` words: ceil(words_len / 32) numbers.
 #[unsafe(no_mangle)]
 pub extern "C" fn bitm_index_lower_len(words_len: usize) -> usize
     ensures { result ≡ div_ceil words_len 32 }

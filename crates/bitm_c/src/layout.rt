@@ -1,4 +1,4 @@
-//! Where the parts of a stored index or sequence stand.
+//! Where each part of a stored index or sequence is in its file.
 ghost use Rattle.std.specs.Prelude.{◌≡◌, ◌+◌, ◌*◌, ◌^◌, ◌<◌, ◌≤◌, ◌↔◌, IsTrue};
 ghost use Rattle.bitm_view.specs.Block.{starts_of};
 ghost use Rattle.bitm_c.specs.Stored.{checksum_of, mixed, span_from, span_mixed};
@@ -6,55 +6,55 @@ ghost use Rattle.bitm_c.specs.Stored.{IsAlike, IsBounded, IsLaidOut};
 
 use bitm_view::{lower_len, upper_len};
 
-/// The letters `bitm` and `tab`, and version 2: another number where the bytes stand in the other order.
+/// The letters `bitm` and `tab`, and version 2. A processor with the other byte order reads another number.
 const MARK: u64 = 0x0262_6174_6d74_6962;
 
-/// How many bytes the header has.
+/// The size of the header in bytes.
 const HEADER_SIZE: u64 = 192;
 
-/// Items that stand in a file.
+/// A part of a file.
 #[repr(C)]
 #[derive(Clone, Copy)]
 pub struct Span {
-    /// How many bytes there are before the first.
+    /// The offset of its first item in bytes.
     pub at: u64,
-    /// How many items there are.
+    /// The number of its items.
     pub len: u64,
 }
 
-/// What a stored index or sequence begins with.
+/// The header of a stored index or sequence.
 #[repr(C)]
 #[derive(Clone, Copy)]
 pub struct Stored {
-    /// Which format and version this is, in this processor's order of bytes.
+    /// The format and its version, in the byte order of this processor.
     pub mark: u64,
     /// 1 for an index, 2 for a sequence.
     pub kind: u64,
-    /// How many bits an index has, or numbers a sequence.
+    /// The length of an index in bits, or the number of numbers of a sequence.
     pub len: u64,
-    /// How many digits of each number of a sequence are low ones; 0 for an index.
+    /// The number of low bits of each number of a sequence; 0 for an index.
     pub width: u64,
-    /// How many bytes there are in all.
+    /// The size of the file in bytes.
     pub size: u64,
-    /// The logarithm of the samples of ones, 0 if there are none.
+    /// The logarithm of the samples of 1 bits, 0 if there are none.
     pub ones_log2: u64,
-    /// The logarithm of the samples of zeros, 0 if there are none.
+    /// The logarithm of the samples of 0 bits, 0 if there are none.
     pub zeros_log2: u64,
-    /// The words.
+    /// The words of the bit vector, or those of the high bits of a sequence.
     pub words: Span,
     /// Their upper table.
     pub upper: Span,
     /// Their lower table.
     pub lower: Span,
-    /// The low digits of a sequence.
+    /// The low bits of a sequence.
     pub low: Span,
-    /// How many samples of ones there are before each part.
+    /// The number of samples of 1 bits before each upper block.
     pub starts: Span,
-    /// How many samples of zeros there are before each part.
+    /// The number of samples of 0 bits before each upper block.
     pub starts0: Span,
-    /// The samples of ones.
+    /// The samples of 1 bits.
     pub samples: Span,
-    /// The samples of zeros.
+    /// The samples of 0 bits.
     pub samples0: Span,
     /// The checksum of all numbers before it.
     pub checksum: u64,
@@ -69,7 +69,7 @@ fn mix(sum: u64, number: u64) -> u64
 }
 
 impl Span {
-    /// So many items behind so many bytes.
+    /// The part of `len` items that starts at the first multiple of 64 from offset `bytes` on.
     #[inline(always)]
     pub(crate) fn from(bytes: u64, len: u64) -> Span
         requires { bytes + 63 < 2 ^ 64 }
@@ -81,7 +81,7 @@ impl Span {
         }
     }
 
-    /// Whether both numbers are those of the other.
+    /// Whether both numbers equal those of `other`.
     #[inline(always)]
     #[tactic(auto, using(crate::proofs::StoredLemmas::same_span))]
     fn is(self, other: Span) -> bool
@@ -99,7 +99,8 @@ impl Span {
     }
 }
 
-/// How many starts there are with samples of that logarithm.
+/// The length of the list of starts beside samples of that logarithm: one for each upper block, and none where the
+/// logarithm is 0.
 #[inline(always)]
 fn starts_len(log2: u64, upper: u64) -> u64
     ensures value { result ≡ starts_of log2 upper }
@@ -109,7 +110,7 @@ fn starts_len(log2: u64, upper: u64) -> u64
 }
 
 impl Stored {
-    /// Whether all numbers are those of the other.
+    /// Whether all numbers equal those of `other`.
     #[inline(always)]
     #[tactic(auto, using(crate::proofs::StoredLemmas::same_stored))]
     pub(crate) fn is(&self, other: &Stored) -> bool
@@ -146,7 +147,7 @@ impl Stored {
         self.samples0.mix_into(self.samples.mix_into(sum))
     }
 
-    /// The same with each part at its place.
+    /// The header of these lengths with the offset of each part, the size of the file and the checksum.
     #[inline(always)]
     pub(crate) fn laid_out(&self) -> Stored
         requires { IsBounded self.now }

@@ -8,7 +8,7 @@ use crate::answer::{BAD_SIZE, OK};
 use crate::bits::has_bits;
 use bit_slices::set_listed_in;
 
-/// Makes the bits at those of the positions that are below `bits_len` equal to `value`, and writes how many are not.
+/// Sets the bits at those positions that are below `bits_len` to `value`, and writes how many positions are not.
 #[unsafe(no_mangle)]
 pub extern "C" fn bitm_bits_set_list(
     words: &mut [u64],

@@ -1,5 +1,5 @@
-//! More questions of a sequence: the last number that is at most a value, whether a value is one of the numbers, and
-//! the numbers in order.
+//! More queries of a sequence: the predecessor of a value, whether a value is one of the numbers, and the numbers in
+//! order.
 ghost use Rattle.std.specs.Prelude.{◌≡◌, ◌≢◌, ◌-◌, ◌≤◌, ◌↔◌, ℕ, List, length, min};
 ghost use Rattle.elias_fano_view.specs.LentParts.{Holds};
 ghost use Rattle.elias_fano_view.specs.Lists.{AreItemsFrom, IsKeptFrom};
@@ -41,7 +41,7 @@ pub extern "C" fn bitm_sequence_contains(sequence: &Sequence<'_>, value: u64, ou
     }
 }
 
-/// Writes the numbers from number `from` on, as many as there are and there is room for, and how many these are.
+/// Writes the numbers from number `from` on until none is left or `out` is full, and how many were written.
 #[unsafe(no_mangle)]
 pub extern "C" fn bitm_sequence_items(
     sequence: &Sequence<'_>,

@@ -10,7 +10,7 @@ use crate::answer::{BAD_SIZE, OK};
 use crate::counts::{ListCounts, codes_in};
 use crate::view::Index;
 
-/// The ranks of a list of positions, and how many of these are codes.
+/// Writes the rank of each position of a list, and how many of the ranks are codes.
 #[unsafe(no_mangle)]
 pub extern "C" fn bitm_index_rank_list(
     index: &Index<'_>,
@@ -42,7 +42,7 @@ pub extern "C" fn bitm_index_rank_list(
     OK
 }
 
-/// The positions of the bits with a list of ranks, and how many of these are codes.
+/// Writes the position of the bit with each rank of a list, and how many of the positions are codes.
 #[unsafe(no_mangle)]
 pub extern "C" fn bitm_index_select_list(
     index: &Index<'_>,
@@ -74,7 +74,7 @@ pub extern "C" fn bitm_index_select_list(
     OK
 }
 
-/// The number of 1 bits, or 0 bits, of the bit vector, counted in the words alone.
+/// The number of 1 bits, or of 0 bits, in the bit vector, counted in the words alone.
 #[unsafe(no_mangle)]
 pub extern "C" fn bitm_index_count(index: &Index<'_>, one: bool, out: &mut usize) -> u32
     ensures ok { (result ≡ 0) ↔ IsSizedCut (cut_of index.now) }
@@ -92,8 +92,8 @@ pub extern "C" fn bitm_index_count(index: &Index<'_>, one: bool, out: &mut usize
     OK
 }
 
-/// Writes the positions of the bit vector's 1 bits, or 0 bits, from position `from` on, rising, as many as there is
-/// room for, and how many these are.
+/// Writes the positions of the bit vector's 1 bits, or 0 bits, from `from` on, in rising order, until none is left or
+/// `out` is full, and how many were written.
 #[unsafe(no_mangle)]
 pub extern "C" fn bitm_index_positions(
     index: &Index<'_>,

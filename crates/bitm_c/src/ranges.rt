@@ -1,5 +1,4 @@
-//! Counts, the nearest bit of a kind, positions and writes over ranges of the first bits of words of the caller's, with
-//! no tables.
+//! Counts, nearest bits, positions and writes over ranges of a bit vector in the caller's words, without tables.
 ghost use Rattle.std.specs.Prelude.{◌≡◌, ◌≢◌, ℕ, ◌+◌, ◌-◌, ◌<◌, ◌≤◌, ◌↔◌, ◌⊎◌, not, false};
 ghost use Rattle.std.specs.Prelude.{length, min, slice_index};
 ghost use Rattle.bitm.specs.Bits.{bits_of, item};
@@ -13,7 +12,7 @@ use bit_slices::{count_in, count_range_in, next_in, positions_in, previous_in};
 use bitm::words;
 use bitm_view::clear_from;
 
-/// How many of the first `bits_len` bits are 1 bits, or 0 bits.
+/// The number of 1 bits, or of 0 bits, among the first `bits_len` bits.
 #[unsafe(no_mangle)]
 pub extern "C" fn bitm_bits_count(words: &[u64], bits_len: usize, one: bool, out: &mut usize) -> u32
     ensures ok { (result ≡ 0) ↔ HasCountedBits words.now bits_len }
@@ -27,7 +26,7 @@ pub extern "C" fn bitm_bits_count(words: &[u64], bits_len: usize, one: bool, out
     OK
 }
 
-/// How many of the bits from `from` on and before `to` are 1 bits, or 0 bits.
+/// The number of 1 bits, or of 0 bits, from `from` on and before `to`.
 #[unsafe(no_mangle)]
 pub extern "C" fn bitm_bits_count_range(
     words: &[u64],
@@ -116,7 +115,7 @@ pub extern "C" fn bitm_bits_positions(
     OK
 }
 
-/// Makes every bit from `bits_len` on a 0 bit; nothing is changed where there are not so many bits.
+/// Clears every bit from `bits_len` on; changes nothing where there are fewer bits.
 #[unsafe(no_mangle)]
 pub extern "C" fn bitm_bits_clear_from(words: &mut [u64], bits_len: usize) -> u32
     ensures ok { result ≡ 0 }
@@ -128,7 +127,7 @@ pub extern "C" fn bitm_bits_clear_from(words: &mut [u64], bits_len: usize) -> u3
     OK
 }
 
-/// Makes the bits from `from` on and before `to` equal to `value`.
+/// Sets the bits from `from` on and before `to` to `value`.
 #[unsafe(no_mangle)]
 pub extern "C" fn bitm_bits_fill_range(
     words: &mut [u64],

@@ -1,11 +1,11 @@
-//! The rank of an index. Each size has code of its own, in which the compiler knows it: no register is saved, and none of
-//! the tests of another size is left. More ranks wait for their words side by side if each takes fewer instructions.
+//! The rank of an index. Each size of index has its own code, which saves no register and has no test for another size.
+//! The fewer instructions a rank takes, the more ranks a processor overlaps while they wait for their words.
 ghost use Rattle.bitm_c.specs.Queries.{cut_of, RankAnswered};
 
 use crate::answer::{BAD_SIZE, report};
 use crate::view::Index;
 
-/// What `bitm_index_rank` answers, in code of its own for several upper blocks, and for lengths that are wrong.
+/// `bitm_index_rank` for more than one upper block, and for wrong lengths.
 #[inline(never)]
 fn rank_in_blocks(index: &Index<'_>, one: bool, position: usize, out: &mut usize) -> u32
     ensures { RankAnswered one (cut_of index.now) position result out.old out.new }
@@ -16,7 +16,7 @@ fn rank_in_blocks(index: &Index<'_>, one: bool, position: usize, out: &mut usize
     }
 }
 
-/// What `bitm_index_rank` answers, in code of its own for few words.
+/// `bitm_index_rank` for few words.
 #[inline(never)]
 fn rank_in_few(index: &Index<'_>, one: bool, position: usize, out: &mut usize) -> u32
     ensures { RankAnswered one (cut_of index.now) position result out.old out.new }

@@ -1,4 +1,4 @@
-//! Samples that lie in the caller's memory: made, and compared with those of the words.
+//! Samples in the caller's memory: how to build and how to check them.
 ghost use Rattle.std.specs.Prelude.{◌≡◌, ◌≢◌, ◌≤◌, ◌↔◌, ◌⊎◌, ℕ, length, min, slice_index, take, true, false};
 ghost use Rattle.bitm.specs.Density.{clamped_log};
 ghost use Rattle.bitm.specs.Tables.{HasTables, bits_in};
@@ -25,7 +25,7 @@ pub struct Samples<'a> {
     pub reserved: u32,
 }
 
-/// A logarithm as the library takes it, where each one above 31 is 31.
+/// A logarithm as the library takes it: 31 in place of any above 31.
 #[inline(always)]
 fn narrow_log2(log2: u32) -> u8
     ensures { result ≡ min log2 31 }
@@ -47,7 +47,7 @@ impl<'a> Samples<'a> {
     }
 }
 
-/// The greatest number of samples of one kind that words can have: one for each 2^(log2 - 6) words, rounded up.
+/// The room for samples of one kind of `words_len` words: ceil(words_len / 2^(log2 - 6)) samples.
 #[unsafe(no_mangle)]
 pub extern "C" fn bitm_index_samples_len(words_len: usize, log2: u32) -> usize
     ensures { result ≡ enough_samples words_len log2 }

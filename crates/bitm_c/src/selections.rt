@@ -1,4 +1,4 @@
-//! The selection of an index, and the nearest bits of a position. Each kind of bit has code of its own.
+//! The selection of an index, and the nearest bits of a position. Each kind of bit has its own code.
 ghost use Rattle.bitm.specs.Count.{as_bit};
 ghost use Rattle.bitm_view.specs.Queries.{SelectsIn};
 ghost use Rattle.bitm_c.specs.Queries.{cut_of, NextAnswered, PreviousAnswered, SelectAnswered};
@@ -8,7 +8,7 @@ use crate::view::Index;
 use bitm::Probe;
 use bitm_view::{Answer, ByGuess, IndexView, WORDS_AT_HAND};
 
-/// What `bitm_index_select` answers of 1 bits; of 0 bits where `BIT` is 0.
+/// `bitm_index_select` of 1 bits; of 0 bits where `BIT` is 0.
 #[inline(always)]
 fn select_in<const BIT: u8>(index: &Index<'_>, rank: usize, out: &mut usize) -> u32
     ensures { SelectAnswered (as_bit BIT) (cut_of index.now) rank result out.old out.new }
@@ -19,7 +19,7 @@ fn select_in<const BIT: u8>(index: &Index<'_>, rank: usize, out: &mut usize) -> 
     select_in_few::<BIT>(index, rank, out)
 }
 
-/// The position with a rank in a view of an index, by the samples of the kind.
+/// The position of the bit with a rank in an index, from the samples of its kind.
 #[inline(always)]
 fn select_by<const BIT: u8>(index: &Index<'_>, view: &IndexView<'_>, rank: usize) -> Answer<usize>
     ensures { SelectsIn (as_bit BIT) view.now rank result }
@@ -31,7 +31,7 @@ fn select_by<const BIT: u8>(index: &Index<'_>, view: &IndexView<'_>, rank: usize
     view.select_on::<BIT, Probe<'_>, ByGuess<'_>>(source, &by_guess, rank)
 }
 
-/// What `select_in` answers, in code of its own for few words, in which the compiler knows that they are few.
+/// `select_in` for few words.
 #[inline(never)]
 fn select_in_few<const BIT: u8>(index: &Index<'_>, rank: usize, out: &mut usize) -> u32
     ensures { SelectAnswered (as_bit BIT) (cut_of index.now) rank result out.old out.new }
@@ -42,7 +42,7 @@ fn select_in_few<const BIT: u8>(index: &Index<'_>, rank: usize, out: &mut usize)
     }
 }
 
-/// The same for any number of words.
+/// `select_in` for any number of words.
 #[inline(never)]
 fn select_in_many<const BIT: u8>(index: &Index<'_>, rank: usize, out: &mut usize) -> u32
     ensures { SelectAnswered (as_bit BIT) (cut_of index.now) rank result out.old out.new }
@@ -70,7 +70,7 @@ pub extern "C" fn bitm_index_select(
     }
 }
 
-/// What `bitm_index_next` answers of 1 bits; of 0 bits where `BIT` is 0.
+/// `bitm_index_next` of 1 bits; of 0 bits where `BIT` is 0.
 #[inline(never)]
 fn next_in<const BIT: u8>(index: &Index<'_>, from: usize, out: &mut usize) -> u32
     ensures { NextAnswered (as_bit BIT) (cut_of index.now) from result out.old out.new }
@@ -93,7 +93,7 @@ pub extern "C" fn bitm_index_next(index: &Index<'_>, one: bool, from: usize, out
     }
 }
 
-/// What `bitm_index_previous` answers of 1 bits; of 0 bits where `BIT` is 0.
+/// `bitm_index_previous` of 1 bits; of 0 bits where `BIT` is 0.
 #[inline(never)]
 fn previous_in<const BIT: u8>(index: &Index<'_>, from: usize, out: &mut usize) -> u32
     ensures { PreviousAnswered (as_bit BIT) (cut_of index.now) from result out.old out.new }

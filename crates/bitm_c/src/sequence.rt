@@ -1,4 +1,4 @@
-//! Monotone integer sequences (Elias-Fano), whose parts lie in the caller's memory.
+//! Monotone integer sequences (Elias-Fano) whose parts lie in the caller's memory.
 ghost use Rattle.std.specs.Prelude.{◌≡◌, ◌≢◌, ◌<◌, ◌≤◌, ◌↔◌, ◌⊎◌, ℕ, List, length, slice_index, SomeIff};
 ghost use Rattle.bitm_view.specs.Sizes.{lists_of};
 ghost use Rattle.elias_fano.specs.Parts.{width_of};
@@ -34,24 +34,24 @@ pub struct Sequence<'a> {
     pub reserved: [u64; 2],
 }
 
-/// How long the parts of a sequence are.
+/// The lengths of the parts of a sequence.
 #[repr(C)]
 #[derive(Clone, Copy)]
 pub struct SequenceLens {
-    /// How many digits of each number are low ones.
+    /// The number of low bits of each number.
     pub width: u64,
-    /// How many words hold the low digits.
+    /// The number of words of the low bits.
     pub low_len: u64,
-    /// How many words the upper vector has.
+    /// The number of words of the high bits.
     pub words_len: u64,
-    /// How many numbers the upper table has.
+    /// The length of the upper table.
     pub upper_len: u64,
-    /// How many numbers the lower table has.
+    /// The length of the lower table.
     pub lower_len: u64,
 }
 
 impl<'a> Sequence<'a> {
-    /// The parts as the library asks them; `None` exactly where a length is not right.
+    /// The parts as the library queries them; `None` exactly where a length is not right.
     #[inline(always)]
     pub(crate) fn lent(&self) -> Option<LentSequence<'a>>
         ensures { SomeIff result (IsSized self.now) (lent_parts self.now) }
@@ -64,7 +64,7 @@ impl<'a> Sequence<'a> {
     }
 }
 
-/// How long the parts of `len` numbers are of which the last and largest is `largest`.
+/// Writes the lengths of the parts of a sequence of `len` numbers whose last and largest is `largest`.
 #[unsafe(no_mangle)]
 pub extern "C" fn bitm_sequence_sizes(len: usize, largest: u64, out: &mut SequenceLens) -> u32
     ensures ok { (result ≡ 0) ↔ IsLargest len largest }
@@ -86,7 +86,7 @@ pub extern "C" fn bitm_sequence_sizes(len: usize, largest: u64, out: &mut Sequen
     }
 }
 
-/// Writes the parts of a sequence of the numbers, and how many low digits each has.
+/// Writes the parts of the sequence of the given numbers, and how many low bits each number has.
 #[unsafe(no_mangle)]
 pub extern "C" fn bitm_sequence_build(
     items: &[u64],
@@ -117,8 +117,8 @@ pub extern "C" fn bitm_sequence_build(
     }
 }
 
-/// Whether the parts are those of some sequence: one pass over the upper words for their tables, and one more for the
-/// numbers.
+/// Whether the parts are those of some sequence: one pass over the words of the high bits for their tables, and one
+/// more for the numbers.
 #[unsafe(no_mangle)]
 pub extern "C" fn bitm_sequence_check(sequence: &Sequence<'_>) -> u32
     ensures ok { (result ≡ 0) ↔ (IsSized sequence.now × AreParts (lent_parts sequence.now)) }
@@ -157,7 +157,7 @@ pub extern "C" fn bitm_sequence_first_at_least(
     }
 }
 
-/// The numbers at a list of indices, up to the first that is not found, and how many these are.
+/// Writes the numbers at a list of indices, up to the first that is not found, and how many were written.
 #[unsafe(no_mangle)]
 pub extern "C" fn bitm_sequence_get_list(
     sequence: &Sequence<'_>,
@@ -184,7 +184,7 @@ pub extern "C" fn bitm_sequence_get_list(
     }
 }
 
-/// Writes how many numbers of a list were written.
+/// Reports how many numbers of a list were written.
 #[inline(always)]
 fn tell_list(answer: ListAnswer, len: usize, written: &mut usize) -> u32
     ensures { IsListTold answer len result written.old written.new }

@@ -1,4 +1,4 @@
-//! Lists of queries of a sequence: each item is answered as the single call answers it, by the codes of lists.
+//! Lists of queries of a sequence. Each answer is that of the single call, by the codes of lists.
 ghost use Rattle.std.specs.Prelude.{◌≡◌, ◌≢◌, ◌<◌, ◌^◌, ◌-◌, ◌↔◌, ℕ, length, slice_index};
 ghost use Rattle.elias_fano_view.specs.Answers.{IsPlaceOf};
 ghost use Rattle.elias_fano_view.specs.Lists.{PlaceTold};
@@ -12,7 +12,8 @@ use crate::sequence::Sequence;
 use bitm_view::{NO_ANSWER, WRONG_TABLES};
 use elias_fano_view::{Answer, LentSequence};
 
-/// The successor of each value: the least index whose number is at least the value; and how many of these are codes.
+/// Writes the successor of each value, which is the least index whose number is at least the value, and how many of the
+/// answers are codes.
 #[unsafe(no_mangle)]
 pub extern "C" fn bitm_sequence_first_at_least_list(
     sequence: &Sequence<'_>,
@@ -37,8 +38,8 @@ pub extern "C" fn bitm_sequence_first_at_least_list(
     OK
 }
 
-/// The predecessor of each value: the greatest index whose number is at most the value; and how many of these are
-/// codes.
+/// Writes the predecessor of each value, which is the greatest index whose number is at most the value, and how many of
+/// the answers are codes.
 #[unsafe(no_mangle)]
 pub extern "C" fn bitm_sequence_last_at_most_list(
     sequence: &Sequence<'_>,
@@ -65,7 +66,7 @@ pub extern "C" fn bitm_sequence_last_at_most_list(
     OK
 }
 
-/// Whether each value is one of the numbers, as 0 or 1; and how many of these are codes.
+/// Writes whether each value is one of the numbers, as 0 or 1, and how many of the answers are codes.
 #[unsafe(no_mangle)]
 pub extern "C" fn bitm_sequence_contains_list(
     sequence: &Sequence<'_>,

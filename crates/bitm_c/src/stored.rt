@@ -1,4 +1,4 @@
-//! What a file of an index or a sequence begins with: which parts it has, and where each of them stands.
+//! The header of a file with an index or a sequence: which parts it has, and where each of them is.
 ghost use Rattle.std.specs.Prelude.{◌≡◌, ◌≢◌, ◌+◌, ◌*◌, ◌<◌, ◌≤◌, ◌↔◌, ◌⊎◌, IsTrue, length};
 ghost use Rattle.bitm_c.specs.Stored.{header_in, span_in, HasSampleLens, IsBounded, IsHeaded};
 ghost use Rattle.bitm_c.specs.Stored.{IsIndex, IsIndexOf, IsLaidOut, IsSequence, IsSequenceOf, IsStored, LiesWithin};
@@ -9,10 +9,10 @@ use crate::layout::{Span, Stored};
 use crate::sequence::SequenceLens;
 use bitm_view::{lower_len, samples_len, upper_len};
 
-/// How many words the header has.
+/// The size of the header in words.
 const HEADER_WORDS: usize = 24;
 
-/// Whether so many words can have so many samples of that logarithm, where 0 says that there are none.
+/// Whether the given number of words can have `len` samples of that logarithm; 0 stands for no samples.
 #[inline(always)]
 fn has_sample_lens(words: u64, log2: u64, len: u64) -> bool
     ensures { IsTrue result ↔ HasSampleLens words log2 len }
@@ -24,7 +24,7 @@ fn has_sample_lens(words: u64, log2: u64, len: u64) -> bool
 }
 
 impl Stored {
-    /// Whether an index has such lengths.
+    /// Whether an index can have these lengths.
     #[inline(always)]
     fn is_index(&self) -> bool
         ensures { IsTrue result ↔ IsIndex self.now }
@@ -38,7 +38,7 @@ impl Stored {
             && has_sample_lens(self.words.len, self.zeros_log2, self.samples0.len)
     }
 
-    /// Whether a sequence has such lengths.
+    /// Whether a sequence can have these lengths.
     #[inline(always)]
     fn is_sequence(&self) -> bool
         ensures { IsTrue result ↔ IsSequence self.now }
@@ -54,7 +54,7 @@ impl Stored {
             && self.samples0.len == 0
     }
 
-    /// Whether an index or a sequence has such lengths.
+    /// Whether an index or a sequence can have these lengths.
     #[inline(always)]
     fn has_shape(&self) -> bool
         ensures shape { IsTrue result ↔ (IsIndex self.now ⊎ IsSequence self.now) }
@@ -63,7 +63,7 @@ impl Stored {
         self.is_index() || self.is_sequence()
     }
 
-    /// Whether each part is at its place, and the checksum is right.
+    /// Whether the offset of each part, the size of the file and the checksum are right.
     #[inline(always)]
     #[tactic(auto, using(crate::proofs::StoredLemmas::moved, crate::proofs::StoredLemmas::same_layout))]
     fn is_laid_out(&self) -> bool
@@ -74,7 +74,7 @@ impl Stored {
     }
 }
 
-/// Two words of a file.
+/// The part that two words of a file describe.
 #[inline(always)]
 fn span_at(file: &[u64], at: usize) -> Span
     requires { at + 1 < length file.now }
@@ -86,7 +86,7 @@ fn span_at(file: &[u64], at: usize) -> Span
     }
 }
 
-/// The words that a file begins with.
+/// The header that the first words of a file hold, right or wrong.
 #[inline(always)]
 fn header_at(file: &[u64]) -> Stored
     requires { 24 ≤ length file.now }
@@ -112,7 +112,7 @@ fn header_at(file: &[u64]) -> Stored
     }
 }
 
-/// Items of which the place is still to be told.
+/// A part of `len` items, without its offset.
 #[inline(always)]
 fn items(len: u64) -> Span
     ensures { result ≡ record { at = 0; len = len } }
@@ -120,7 +120,7 @@ fn items(len: u64) -> Span
     Span { at: 0, len }
 }
 
-/// The lengths of an index, with no places.
+/// The header of an index with the lengths alone.
 #[inline(always)]
 pub(crate) fn index_of(len: u64, ones_log2: u32, ones: u64, zeros_log2: u32, zeros: u64) -> Stored
     ensures { IsIndexOf len ones_log2 ones zeros_log2 zeros result }
@@ -145,7 +145,7 @@ pub(crate) fn index_of(len: u64, ones_log2: u32, ones: u64, zeros_log2: u32, zer
     }
 }
 
-/// The lengths of a sequence, with no places.
+/// The header of a sequence with the lengths alone.
 #[inline(always)]
 fn sequence_of(len: u64, lens: &SequenceLens) -> Stored
     ensures { IsSequenceOf len lens.now result }
@@ -159,8 +159,8 @@ fn sequence_of(len: u64, lens: &SequenceLens) -> Stored
     }
 }
 
-/// Writes the header of an index of so many bits, with samples of ones and zeros, each with its logarithm, or 0 and no
-/// samples.
+/// Writes the header of an index of `bits_len` bits with the given numbers of samples of 1 bits and of 0 bits; a
+/// logarithm of 0 goes with no samples.
 #[unsafe(no_mangle)]
 pub extern "C" fn bitm_stored_index(
     bits_len: u64,
@@ -183,7 +183,7 @@ pub extern "C" fn bitm_stored_index(
     OK
 }
 
-/// Writes the header of a sequence of so many numbers, whose parts have such lengths.
+/// Writes the header of a sequence of `len` numbers whose parts have the given lengths.
 #[unsafe(no_mangle)]
 pub extern "C" fn bitm_stored_sequence(len: u64, lens: &SequenceLens, out: &mut Stored) -> u32
     ensures ok { (result ≡ 0) ↔ HasSequenceLens len lens.now }
@@ -211,7 +211,7 @@ pub extern "C" fn bitm_stored_sequence(len: u64, lens: &SequenceLens, out: &mut 
     OK
 }
 
-/// The header that a file begins with, of which the whole lies in the file.
+/// Reads the header of a file that has all the parts of which the header speaks.
 #[tactic(auto, using(crate::proofs::StoredLemmas::lies_within, crate::proofs::StoredLemmas::whole))]
 #[unsafe(no_mangle)]
 pub extern "C" fn bitm_stored_read(file: &[u64], out: &mut Stored) -> u32

@@ -39,7 +39,8 @@ impl<'a> Index<'a> {
         Some(of_ones.with_samples::<0>(self.zeros.lent()))
     }
 
-    /// The view without samples where there are 1 to 2^18 words; else `None`, as where a length is not right.
+    /// The view without samples of 1 to 2^18 words; `None` for any other number of words, and where a length is not
+    /// right.
     #[inline(always)]
     pub(crate) fn few_view(&self) -> Option<IndexView<'a>>
         ensures { SomeIff result (IsSizedCut (cut_of self.now)
@@ -50,8 +51,8 @@ impl<'a> Index<'a> {
         IndexView::over(tables, self.bits_len as usize)
     }
 
-    /// The view without samples, where there are more than 2^18 words and one upper block; else `None`, as where a
-    /// length is not right.
+    /// The view without samples of more than 2^18 words in one upper block; `None` for any other number of words, and
+    /// where a length is not right.
     #[inline(always)]
     pub(crate) fn large_view(&self) -> Option<IndexView<'a>>
         ensures { SomeIff result (IsSizedCut (cut_of self.now)

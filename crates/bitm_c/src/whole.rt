@@ -1,4 +1,4 @@
-//! Bitwise operations of two contents of the caller's, word by word.
+//! Bitwise operations on two bit vectors of the caller, word by word.
 ghost use Rattle.std.specs.Prelude.{◌≡◌, ◌≢◌, ℕ, ◌*◌, ◌<◌, ◌≤◌, ◌↔◌, ◌&&◌, ◌||◌, not, if◌then◌else◌, length};
 ghost use Rattle.bitm.specs.Bits.{bits_of, item};
 ghost use Rattle.bit_slices.specs.Where.{AreDisjoint, IsSubset};
@@ -9,7 +9,7 @@ use crate::bits::has_bits;
 use bit_slices::has_where;
 use bitm::words;
 
-/// Keeps a 1 bit exactly where `other` has one too.
+/// Keeps each 1 bit where `other` has a 1 bit too, and clears all others.
 #[unsafe(no_mangle)]
 pub extern "C" fn bitm_bits_and(words: &mut [u64], other: &[u64]) -> u32
     ensures ok { (result ≡ 0) ↔ (length words.old ≡ length other.now) }
@@ -24,7 +24,7 @@ pub extern "C" fn bitm_bits_and(words: &mut [u64], other: &[u64]) -> u32
     OK
 }
 
-/// Makes a bit a 1 bit where `other` has one.
+/// Sets each bit where `other` has a 1 bit.
 #[unsafe(no_mangle)]
 pub extern "C" fn bitm_bits_or(words: &mut [u64], other: &[u64]) -> u32
     ensures ok { (result ≡ 0) ↔ (length words.old ≡ length other.now) }
@@ -39,7 +39,7 @@ pub extern "C" fn bitm_bits_or(words: &mut [u64], other: &[u64]) -> u32
     OK
 }
 
-/// Negates a bit where `other` has a 1 bit.
+/// Negates each bit where `other` has a 1 bit.
 #[unsafe(no_mangle)]
 pub extern "C" fn bitm_bits_xor(words: &mut [u64], other: &[u64]) -> u32
     ensures ok { (result ≡ 0) ↔ (length words.old ≡ length other.now) }
@@ -55,7 +55,7 @@ pub extern "C" fn bitm_bits_xor(words: &mut [u64], other: &[u64]) -> u32
     OK
 }
 
-/// Makes a bit a 0 bit where `other` has a 1 bit.
+/// Clears each bit where `other` has a 1 bit.
 #[unsafe(no_mangle)]
 pub extern "C" fn bitm_bits_and_not(words: &mut [u64], other: &[u64]) -> u32
     ensures ok { (result ≡ 0) ↔ (length words.old ≡ length other.now) }

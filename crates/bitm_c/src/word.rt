@@ -1,4 +1,4 @@
-//! Selection in a word, and numbers by which structures are laid out.
+//! Selection in a word, and the numbers that the layout of a structure depends on.
 ghost use Rattle.std.specs.Prelude.{◌≡◌, ◌≢◌, ◌<◌, ◌↔◌, true};
 ghost use Rattle.bitm.specs.Bits.{digit_count, low_digits};
 ghost use Rattle.bitm.specs.Count.{ones_before, Picks};
@@ -21,7 +21,7 @@ pub extern "C" fn bitm_bits_select_in_word(word: u64, rank: u32, out: &mut u64) 
     OK
 }
 
-/// How many binary digits `value` has, none for 0: the width that stores it.
+/// The number of binary digits of `value`, 0 for 0: the width that stores it.
 #[unsafe(no_mangle)]
 pub extern "C" fn bitm_bits_to_store(value: u64) -> u32
     ensures { result ≡ digit_count value }
@@ -29,8 +29,8 @@ pub extern "C" fn bitm_bits_to_store(value: u64) -> u32
     bitm::bits_to_store(value) as u32
 }
 
-/// The logarithm of a density of samples for `items` of `bits_len` bits: 7 up to `most`, which counts as 7 where it is
-/// less, and as 31 where it is more.
+/// The logarithm of the density of samples for `items` bits of one kind among `bits_len` bits: from 7 to `most`, which
+/// is clamped to 7 to 31.
 #[unsafe(no_mangle)]
 pub extern "C" fn bitm_optimal_log2(items: usize, bits_len: usize, most: u32) -> u32
     ensures { result ≡ optimal_log items bits_len (clamped_log most) }
