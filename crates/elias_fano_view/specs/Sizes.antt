@@ -1,16 +1,16 @@
--- How long the parts of a sequence are.
+-- The lengths of the parts of a sequence.
 use Rattle.std.specs.Prelude.{◌≡◌, ℕ, ◌+◌, ◌*◌, ◌/◌, ◌^◌, ◌<◌, List, length}
 use Rattle.std.specs.Int.{div_ceil}
 use Rattle.elias_fano.specs.Parts.{width_at}
 use Rattle.elias_fano.specs.Sequence.{largest}
 use Rattle.elias_fano_view.specs.declared.sizes.Sizes.{Sizes}
 
--- few enough items for a sequence, of which u may be the largest: no items have 0
+-- few enough items for a sequence, of which u may be the largest: 0 where there are none
 pub record IsLargest (n u : ℕ) : Type 0 where
   pub short : n < 2 ^ 56
   pub none : n ≡ 0 → u ≡ 0
 
--- how many words the upper vector of n items with l low digits has, the largest of them u
+-- the number of words of the high bits of n items with l low bits, the largest of them u
 abbrev pub upper_words_at : ℕ → ℕ → ℕ → ℕ
 upper_words_at n u l = div_ceil (n + u / 2 ^ l + 1) 64
 
@@ -24,7 +24,7 @@ sizes_of n u = record {
   lower = div_ceil (upper_words_at n u (width_at n u)) 32;
 }
 
--- few enough items, and lists as long as their parts and the tables of these
+-- few enough items, and lists with the lengths of their parts and tables
 pub record HasRoom (xs low words upper lower : List ℕ) : Type 0 where
   pub short : length xs < 2 ^ 56
   pub low_len : length low ≡ (sizes_of (length xs) (largest xs)).low

@@ -1,5 +1,5 @@
-//! The first number that reaches a value, of which lists of selections tell the ends of the bucket: the numbers with
-//! the value's upper digits.
+//! The successor of a value, from the ends of its bucket, which lists of selections code. The bucket is the numbers
+//! with the high bits of the value.
 ghost use Rattle.std.specs.Prelude.{◌≡◌, ◌-◌, ◌/◌, ◌^◌, ◌<◌, ◌≤◌, ℕ, List, length, slice_index, false, IsSomeAnd};
 ghost use Rattle.std.specs.Prelude.{IfSome};
 ghost use Rattle.bitm.specs.Answers.{SelectTold};
@@ -17,7 +17,7 @@ use bitm_view::{NO_ANSWER, WRONG_TABLES};
 use elias_fano::building::{count_at_zero, place_in_bucket};
 use elias_fano::{Answer, LowDigits};
 
-/// Writes what each value says above its low digits, `less` below that, and 0 where that is less.
+/// Writes the high bits of each value less `less`, or 0 where that is negative.
 #[inline(always)]
 pub(crate) fn rank_each(values: &[u64], width: u8, less: usize, ranks: &mut [usize])
     requires width { width ≤ 63 }
@@ -31,8 +31,8 @@ pub(crate) fn rank_each(values: &[u64], width: u8, less: usize, ranks: &mut [usi
     }
 }
 
-/// How many items have a number at most `above` above their low digits, where a list of selections tells the zero of
-/// that number; `None` only where the parts are wrong.
+/// The number of items whose high bits are at most `above`, from the code `told` of the 0 bit that ends their bucket;
+/// `None` only where the parts are wrong.
 #[inline(always)]
 fn count_to(told: usize, above: usize, n: usize) -> Option<usize>
     ensures within { IfSome result (λ c. c ≤ n) }
@@ -51,7 +51,7 @@ fn count_to(told: usize, above: usize, n: usize) -> Option<usize>
     count_at_zero(told, above, n)
 }
 
-/// How many items have a number below `above` above their low digits, as `count_to`.
+/// The number of items whose high bits are less than `above`, as `count_to` finds it.
 #[inline(always)]
 fn count_below(told: usize, above: usize, n: usize) -> Option<usize>
     ensures within { IfSome result (λ c. c ≤ n) }
@@ -68,8 +68,8 @@ fn count_below(told: usize, above: usize, n: usize) -> Option<usize>
     count_to(told, above - 1, n)
 }
 
-/// The least place whose number is at least `v`, of `n` numbers, of which lists of selections tell the zeros at the
-/// ends of its bucket. It reads as many fragments of the low digits as `place_in_bucket`.
+/// The successor of `v` among `n` numbers: the least index whose number is at least `v`. `begin` and `end` code the 0
+/// bits at the ends of its bucket. Reads the low bits of as many numbers as `place_in_bucket` does.
 #[inline(always)]
 pub(crate) fn place_of(
     low: &mut LowDigits<'_>,

@@ -13,7 +13,7 @@ use bitm::words;
 use elias_fano::LowDigits;
 use elias_fano::building::join_digits;
 
-/// Number `at`, whose one stands at `place`, if it is below 2^64.
+/// Number `at`, whose 1 bit is at position `place`, if it is below 2^64.
 #[inline(always)]
 fn number_of(place: usize, low: &mut LowDigits<'_>, at: usize) -> Option<u64>
     requires fragment { HasFragment low.old.words at low.old.width }
@@ -30,8 +30,8 @@ fn number_of(place: usize, low: &mut LowDigits<'_>, at: usize) -> Option<u64>
     Some(join_digits(above, low, at))
 }
 
-/// The last of `n` numbers, 0 where there is none, if the ones of the words and the low digits are those of `n` numbers
-/// that never decrease: at most one fragment of the low digits for each number.
+/// The last of `n` numbers, 0 where there is none, if the 1 bits of the words and the low bits are those of `n` numbers
+/// that never decrease. Reads the low bits of each number at most once.
 #[tactic(auto, using(bitm::proofs::BitLaws::ones_and_zeros, bitm::proofs::BitLaws::bits_are_counted))]
 fn last_of(words: &[u64], low: &mut LowDigits<'_>, n: usize) -> Option<u64>
     requires short { IsShort words.now }
@@ -65,7 +65,7 @@ fn last_of(words: &[u64], low: &mut LowDigits<'_>, n: usize) -> Option<u64>
     }
 }
 
-/// Whether these are the parts of some sequence: one pass over the upper words.
+/// Whether these are the parts of some sequence. One pass over the words of the high bits.
 pub(crate) fn are_parts(words: &[u64], low: &[u64], width: u8, n: usize) -> bool
     requires short { IsShort words.now }
     requires some { HasFragments (unread low.now width) n }

@@ -3,12 +3,12 @@
 use std::error::Error;
 use std::fmt;
 
-/// Why numbers were not written as a sequence; nothing was written then.
+/// Why `build` refused numbers; nothing was written then.
 #[derive(Clone, Copy, Debug, PartialEq, Eq)]
 pub enum BuildError {
-    /// There are 2^56 numbers or more, or some part has not the length that `Sizes` says.
+    /// There are 2^56 numbers or more, or some part does not have its length of `Sizes`.
     WrongLength,
-    /// Some number is less than the one before it.
+    /// Some number is less than the number before it.
     NotSorted,
 }
 

@@ -1,4 +1,4 @@
-//! The parts of a sequence, made into memory that is lent.
+//! The parts of a sequence, written into the caller's memory.
 ghost use Rattle.std.specs.Prelude.{◌≡◌, ◌^◌, ◌<◌, ◌≤◌, ◌↔◌, IsErrOf, IfOk, IsErr, IsTrue, SomeIff, length};
 ghost use Rattle.std.specs.Prelude.{replicate};
 ghost use Rattle.bitm_view.specs.Sizes.{lists_of};
@@ -14,11 +14,11 @@ use bitm::words::set_bit;
 use bitm_view::clear;
 use elias_fano::building::{is_rising, largest_of, write_low};
 
-/// Writes a one for each number, after as many zeros as it says without its `width` low digits, where all bits are
-/// zeros. Answers whether each had its place, as each has.
+/// Sets a 1 bit for each number after as many 0 bits as its high bits say, in words that are all 0. Returns whether
+/// each position was in the words, which holds.
 ///
-/// Each number is read once, and its place is tested before it is written: where another thread changes the numbers
-/// meanwhile, as no caller may let it, nothing is written outside.
+/// Each number is read once, and its position is tested before the write: even if another thread changes the numbers
+/// meanwhile, which no caller may allow, nothing is written outside the words.
 ///
 /// # Conditions
 /// Those of `write_upper` of `elias_fano`.
@@ -40,7 +40,7 @@ fn write_tested(words: &mut [u64], items: &[u64], width: u8) -> bool
     true
 }
 
-/// How many low digits each of the numbers has, if the parts have the lengths that theirs have.
+/// The number of low bits of each number, if the parts have the lengths that the numbers need.
 fn width_if_room(
     items: &[u64],
     low: &[u64],
@@ -61,16 +61,16 @@ fn width_if_room(
     Some(sizes.width)
 }
 
-/// Writes the parts of a sequence of the numbers, and answers how many low digits each has: the words of the low
-/// digits, the upper words, and the two tables of these.
+/// Writes the parts of the sequence of the given numbers, which are the low bits, the words of the high bits and the
+/// two tables of these words, and returns how many low bits each number has.
 ///
 /// # Errors
-/// `WrongLength` exactly where there are 2^56 numbers or more, or a part has not the length that `Sizes::of` says of
-/// the number of the numbers and the last of them; else `NotSorted` exactly where some number is less than the one
+/// `WrongLength` exactly where there are 2^56 numbers or more, or a part does not have its length of `Sizes::of` for
+/// the number of numbers and the last of them; otherwise `NotSorted` exactly where some number is less than the number
 /// before it. Nothing is written then.
 /// # Cost
-/// One pass over the numbers for each of the two vectors, and one over the upper words for their tables. What was in
-/// the parts' memory is not read.
+/// One pass over the numbers for each of the two vectors, and one over the words of the high bits for their tables. The
+/// previous values of the parts are not read.
 pub fn build(
     items: &[u64],
     low: &mut [u64],

@@ -1,9 +1,9 @@
 //! Monotone integer sequences (Elias-Fano) over borrowed memory, such as a mapped file: nothing is allocated or copied,
 //! and no call has a condition on what the memory holds.
 //!
-//! The parts are those of `elias_fano`, word by word: the low digits of each number, the upper vector, and the two
-//! tables of its index. With what `build` wrote the answers are those of the numbers. If the parts are stale or
-//! hostile, every call still terminates within its read bound.
+//! The parts are those of `elias_fano`, word by word: the low bits of each number, the words of the high bits, and the
+//! two tables of these words. With the parts that `build` wrote the answers are those of the numbers. If the parts are
+//! stale or hostile, every call still terminates within its read bound.
 //!
 //! ```
 //! let numbers = [2u64, 3, 5, 7, 11, 13, 24];

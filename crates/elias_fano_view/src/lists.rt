@@ -1,4 +1,4 @@
-//! The numbers of a list of places.
+//! Lists of queries: the numbers at a list of indices, and the successors of a list of values.
 ghost use Rattle.std.specs.Prelude.{◌≡◌, ◌<◌, ◌↔◌, ℕ, IsTrue, List, length, slice_index, false};
 ghost use Rattle.elias_fano_view.specs.LentParts.{Holds};
 ghost use Rattle.elias_fano_view.specs.Lists.{written_count, AreItems, EndsTold, IsKeptFrom, IsListed, IsNeverWrong};
@@ -9,23 +9,23 @@ use bitm_select::search::many::SIDE_BY_SIDE;
 use bitm_view::{NO_ANSWER, WRONG_TABLES};
 use elias_fano::Answer;
 
-/// How far a list of places was answered.
+/// How far a list of indices was answered.
 #[derive(Clone, Copy, PartialEq, Eq, Debug)]
 pub enum ListAnswer {
     /// All numbers were written.
     All,
-    /// At this place of the list stands one at which there is no number; the numbers before it were written.
+    /// There is no number at the index that is this item of the list; the numbers of the items before it were written.
     AbsentAt(usize),
-    /// At this place of the list the parts turned out not to be those of a sequence; the numbers before it were
-    /// written.
+    /// At this item of the list the parts turned out not to be those of a sequence; the numbers of the items before it
+    /// were written.
     WrongAt(usize),
-    /// There is not room for as many numbers as places; nothing was written.
+    /// `out` is not as long as the list of indices; nothing was written.
     WrongLength,
 }
 
 impl<'a> LentSequence<'a> {
-    /// Writes the number at each place of the list, as `get` answers it where the parts are those of a sequence, up to
-    /// the first that is not found. In other parts a number may be another than `get` finds.
+    /// Writes the number at each index of the list, up to the first that is not found: what `get` answers where the
+    /// parts are those of a sequence. In other parts a number may differ from that of `get`.
     pub fn get_list(&self, places: &[usize], out: &mut [u64]) -> ListAnswer
         ensures listed { IsListed self.now.len places.now (length out.old) result }
         ensures told { (xs : List ℕ) → Holds xs self.now
@@ -48,10 +48,9 @@ impl<'a> LentSequence<'a> {
         ListAnswer::All
     }
 
-    /// Writes the place of the first number that is at least each value, as `first_at_least` answers it where the parts
-    /// are those of a sequence, `NO_ANSWER` for `Absent` and `WRONG_TABLES` for `Wrong`. In other parts it may be
-    /// another place than `first_at_least` finds. Answers false exactly where there is not room for as many places as
-    /// values, and nothing is written then.
+    /// Writes the successor of each value, or `NO_ANSWER` for `Absent` and `WRONG_TABLES` for `Wrong`: what
+    /// `first_at_least` answers where the parts are those of a sequence. In other parts an index may differ from that
+    /// of `first_at_least`. Returns false, and writes nothing, exactly where `out` is not as long as `values`.
     pub fn first_at_least_list(&self, values: &[u64], out: &mut [usize]) -> bool
         ensures room { IsTrue result ↔ length out.old ≡ length values.now }
         ensures told { IsTrue result → (j : ℕ) → j < length values.now
@@ -72,8 +71,8 @@ impl<'a> LentSequence<'a> {
         true
     }
 
-    /// The place of the first number that is at least `v`, `NO_ANSWER` or `WRONG_TABLES`, of which lists of selections
-    /// tell the ends of the bucket.
+    /// The code of the successor of `v`, from the codes of the 0 bits at the ends of its bucket: an index, `NO_ANSWER`
+    /// or `WRONG_TABLES`.
     #[inline(always)]
     fn first_told(&self, v: u64, begin: usize, end: usize) -> usize
         requires { EndsTold self.now v begin end }

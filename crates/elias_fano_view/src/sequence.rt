@@ -1,4 +1,4 @@
-//! A sequence whose parts are lent.
+//! A sequence whose parts are borrowed.
 ghost use Rattle.std.specs.Prelude.{◌≡◌, ◌+◌, ◌*◌, ◌/◌, ◌^◌, ◌<◌, ◌≤◌, ◌↔◌, ℕ, SomeIff};
 ghost use Rattle.std.specs.Prelude.{IsTrue, List, length, slice_index, true};
 ghost use Rattle.bitm.specs.Answers.{SelectTold};
@@ -21,7 +21,7 @@ use elias_fano::building::item_at_one;
 use elias_fano::{Answer, LowDigits, total_first_at_least_on, total_item_on};
 use std::marker::Model;
 
-/// Number `place` of `n`, of which a list of selections tells the one: at most one fragment of the low digits.
+/// Number `place` of `n`, from the code `one` of the position of its 1 bit. Reads the low bits of at most one number.
 #[inline(always)]
 fn item_of(low: &mut LowDigits<'_>, n: usize, place: usize, one: usize) -> Answer<u64>
     requires { place < n → HasFragment low.old.words place low.old.width }
@@ -39,11 +39,11 @@ fn item_of(low: &mut LowDigits<'_>, n: usize, place: usize, one: usize) -> Answe
     Answer::Found(item_at_one(one, low, place))
 }
 
-/// The parts of a sequence, all lent, of which the lengths are right.
+/// The borrowed parts of a sequence, whose lengths are right.
 ///
-/// Contracts see how many numbers there are, how many of their digits are low ones, and the lists. The lists may hold
-/// anything: a call says what it answers where they are the parts of a sequence, and what it answers else. The width
-/// is kept, and no largest number, since to find the width each call would divide anew.
+/// Contracts see the number of numbers, the number of low bits of each, and the lists. The lists may hold anything:
+/// each call says what it answers where they are the parts of a sequence, and what it answers otherwise. A view keeps
+/// the number of low bits and not the largest number, from which each call would have to compute it by a division.
 #[derive(Drop)]
 pub struct LentSequence<'a> {
     len: usize,
@@ -63,8 +63,9 @@ impl<'a> Model for LentSequence<'a> {
 }
 
 impl<'a> LentSequence<'a> {
-    /// `len` numbers with `width` low digits of each in `low`, and the upper words with their tables; `None` exactly
-    /// where there are 2^56 numbers or more, more than 63 low digits, or not as many low words as these take.
+    /// Borrows the parts of `len` numbers: `width` low bits of each in `low`, and the words of the high bits with their
+    /// tables in `upper`. `None` exactly where there are 2^56 numbers or more, more than 63 low bits of each, or where
+    /// `low` is not as long as the low bits need.
     #[inline(always)]
     pub fn over(len: usize, width: u8, low: &'a [u64], upper: Lent<'a>) -> Option<LentSequence<'a>>
         ensures { SomeIff result (HasLengths (parts_of len width low.now upper.entry))
@@ -84,7 +85,7 @@ impl<'a> LentSequence<'a> {
         })
     }
 
-    /// How many numbers there are: fewer than 2^56.
+    /// The number of numbers, less than 2^56.
     #[inline(always)]
     pub fn len(&self) -> usize
         ensures len { result ≡ self.now.len }
@@ -93,15 +94,15 @@ impl<'a> LentSequence<'a> {
         self.len
     }
 
-    /// Whether the parts are those of some sequence, with the tables of its upper words: one pass over the upper words
-    /// for the tables, and one more for the numbers, with a fragment of the low words for each.
+    /// Whether the parts are those of some sequence, tables included. One pass over the words of the high bits for the
+    /// tables, and one more for the numbers, which reads the low bits of each.
     pub fn check(&self) -> bool
         ensures { IsTrue result ↔ AreParts self.now }
     {
         self.upper.check() && are_parts(self.upper.words(), self.low, self.width, self.len)
     }
 
-    /// The low digits, with no reads counted yet.
+    /// The low bits, whose reads are counted from 0.
     #[inline(always)]
     fn low_digits(&self) -> LowDigits<'_>
         ensures { result ≡ unread self.now.low self.now.width }
@@ -109,7 +110,7 @@ impl<'a> LentSequence<'a> {
         LowDigits::new(self.low, self.width)
     }
 
-    /// At the first place of each sixteen, selects the ones of them all, side by side.
+    /// At each sixteenth index of the list, selects the 1 bits of the next sixteen numbers side by side.
     #[inline(always)]
     pub(crate) fn select_ahead(&self, places: &[usize], at: usize, ones: &mut [usize])
         requires at { at < length places.now }
@@ -126,8 +127,8 @@ impl<'a> LentSequence<'a> {
             .select_list::<1>(&places[at..at + count], &mut ones[0..count]);
     }
 
-    /// At the first place of each sixteen, selects the zeros before the buckets of them all side by side, where `less`
-    /// is 1, and those after them where it is 0.
+    /// At each sixteenth value of the list, selects the 0 bits of the buckets of the next sixteen side by side: the 0
+    /// bits before the buckets where `less` is 1, and those after them where it is 0.
     #[inline(always)]
     pub(crate) fn zeros_ahead(&self, values: &[u64], at: usize, less: usize, zeros: &mut [usize])
         requires at { at < length values.now }
@@ -143,7 +144,7 @@ impl<'a> LentSequence<'a> {
         self.select_zeros(&values[at..at + count], less, &mut zeros[0..count]);
     }
 
-    /// The zeros after the buckets, as `zeros_ahead`; none where there are no low digits.
+    /// Selects the 0 bits after the buckets as `zeros_ahead` does; selects none where numbers have no low bits.
     #[inline(always)]
     pub(crate) fn ends_ahead(&self, values: &[u64], at: usize, ends: &mut [usize])
         requires at { at < length values.now }
@@ -159,7 +160,7 @@ impl<'a> LentSequence<'a> {
         }
     }
 
-    /// Selects the zero before the bucket of each value, where `less` is 1, and the one after it where it is 0.
+    /// Selects the 0 bit before the bucket of each value where `less` is 1, and the 0 bit after it where `less` is 0.
     fn select_zeros(&self, values: &[u64], less: usize, zeros: &mut [usize])
         requires few { length values.now ≤ 16 }
         requires room { length zeros.old ≡ length values.now }
@@ -172,7 +173,7 @@ impl<'a> LentSequence<'a> {
         self.upper.select_list::<0>(&ranks[0..values.len()], zeros);
     }
 
-    /// Number `place`, of which a list of selections tells the one.
+    /// Number `place`, from the code `one` of the position of its 1 bit.
     #[inline(always)]
     pub(crate) fn item_told(&self, place: usize, one: usize) -> Answer<u64>
         requires { SelectTold true self.now.upper place one }
@@ -182,7 +183,7 @@ impl<'a> LentSequence<'a> {
         item_of(&mut self.low_digits(), self.len, place, one)
     }
 
-    /// The least place whose number is at least `v`, of which lists of selections tell the ends of the bucket.
+    /// The successor of `v`, from the codes of the 0 bits at the ends of its bucket.
     #[inline(always)]
     pub(crate) fn place_told(&self, v: u64, begin: usize, end: usize) -> Answer<usize>
         requires { EndsTold self.now v begin end }
@@ -193,10 +194,11 @@ impl<'a> LentSequence<'a> {
         place_of(&mut self.low_digits(), self.len, v, begin, end)
     }
 
-    /// Number `i`, where the parts are those of a sequence; `Absent` exactly where there is none, whatever they hold.
+    /// Number `i` where the parts are those of a sequence. Whatever they hold, the answer is `Absent` exactly where
+    /// there is no such number.
     ///
     /// # Cost
-    /// That of `total_item_on`: one selection, and at most one fragment of the low digits.
+    /// That of `total_item_on`: one selection, and the low bits of at most one number.
     #[inline(always)]
     pub fn get(&self, i: usize) -> Answer<u64>
         ensures inside { IsOfPlace self.now.len i result }
@@ -205,9 +207,9 @@ impl<'a> LentSequence<'a> {
         total_item_on(&mut self.upper.probe(), &mut self.low_digits(), self.len, i)
     }
 
-    /// The least place whose number is at least `v`, where the parts are those of a sequence, and `Absent` exactly
-    /// where each number is less. Whatever they hold, `Wrong` is answered, or the parts tell that so many numbers
-    /// are less than `v`: those before the place, or all for `Absent`.
+    /// The successor of `v`: the least index whose number is at least `v`, and `Absent` exactly where each number is
+    /// less, where the parts are those of a sequence. Whatever they hold, the answer is `Wrong`, or the parts claim
+    /// that all numbers before the index are less than `v`, or all numbers for `Absent`.
     ///
     /// # Cost
     /// That of `total_first_at_least_on`.

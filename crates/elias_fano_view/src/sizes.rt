@@ -1,28 +1,28 @@
-//! How long the parts of a sequence are.
+//! The lengths of the parts of a sequence.
 ghost use Rattle.std.specs.Prelude.{◌≡◌, ◌+◌, ◌*◌, ◌≤◌, IfSome, SomeIff};
 ghost use Rattle.elias_fano_view.specs.Sizes.{sizes_of, IsLargest};
 
 use bitm_view::{lower_len, upper_len};
 use elias_fano::building::low_width;
 
-/// How many low digits each number has, and how many items each part.
+/// The number of low bits of each number, and the length of each part.
 #[derive(Clone, Copy, PartialEq, Eq, Debug)]
 pub struct Sizes {
-    /// How many digits of each number are low ones, 0 to 63.
+    /// The number of low bits of each number, 0 to 63.
     pub width: u8,
-    /// How many words hold the low digits.
+    /// The number of words of the low bits.
     pub low: usize,
-    /// How many words the upper vector has.
+    /// The number of words of the high bits.
     pub words: usize,
-    /// How many entries the upper table of these words has.
+    /// The number of entries of the upper table of these words.
     pub upper: usize,
-    /// How many entries the lower table of these words has.
+    /// The number of entries of the lower table of these words.
     pub lower: usize,
 }
 
 impl Sizes {
-    /// Those of `len` numbers of which the last is `largest`, which is 0 of no numbers. `None` exactly where there are
-    /// 2^56 numbers or more, or no numbers have another largest one than 0.
+    /// The sizes for `len` numbers whose last and largest is `largest`; 0 where there are no numbers. `None` exactly
+    /// where there are 2^56 numbers or more, or where `len` is 0 and `largest` is not.
     ///
     /// Both vectors together have at most `len * (width + 3) + 126` bits.
     #[inline]

@@ -1,4 +1,4 @@
-//! The last number that is at most a value, and whether a value is one of the numbers.
+//! The predecessor of a value, and whether a value is one of the numbers.
 ghost use Rattle.std.specs.Prelude.{◌≡◌, ◌↔◌, ℕ, false, IfSome, IsTrue, List, IsSomeAnd};
 ghost use Rattle.std.specs.List.{Contains};
 ghost use Rattle.elias_fano_view.specs.Answers.{IsLast, IsPlaceOf};
@@ -9,12 +9,12 @@ use crate::sequence::LentSequence;
 use elias_fano::{Answer, total_contains_on, total_last_at_most_on};
 
 impl<'a> LentSequence<'a> {
-    /// The greatest place whose number is at most `v`, where the parts are those of a sequence, and `Absent` exactly
-    /// where each number is more. Whatever they hold, `Wrong` is answered, or the parts tell that so many numbers
-    /// are at most `v`: those up to the place, or none for `Absent`.
+    /// The predecessor of `v`: the greatest index whose number is at most `v`, and `Absent` exactly where each number
+    /// is greater, where the parts are those of a sequence. Whatever they hold, the answer is `Wrong`, or the parts
+    /// claim that all numbers up to the index are at most `v`, or that none is for `Absent`.
     ///
     /// # Cost
-    /// That of `total_last_at_most_on`: as `first_at_least` of `v + 1`.
+    /// That of `total_last_at_most_on`: the cost of `first_at_least` of `v + 1`.
     #[inline]
     pub fn last_at_most(&self, v: u64) -> Answer<usize>
         ensures inside { IsPlaceOf self.now.len result }
@@ -24,11 +24,12 @@ impl<'a> LentSequence<'a> {
         total_last_at_most_on(&mut self.upper.probe(), &mut self.low_digits(), self.len, v)
     }
 
-    /// Whether `v` is one of the numbers, where the parts are those of a sequence; else either, or `None`. Whatever
-    /// they hold, with an answer they tell how many numbers are less than `v`; it is false where that are all.
+    /// Whether `v` is one of the numbers, where the parts are those of a sequence; in other parts the answer may be
+    /// either, or `None`. Whatever they hold, with an answer they claim how many numbers are less than `v`, and the
+    /// answer is false where that is all of them.
     ///
     /// # Cost
-    /// That of `total_contains_on`: as `first_at_least`, and as `get` where a place is found.
+    /// That of `total_contains_on`: the cost of `first_at_least`, and that of `get` where it finds an index.
     #[inline]
     pub fn contains(&self, v: u64) -> Option<bool>
         ensures answer { (xs : List ℕ) → Holds xs self.now

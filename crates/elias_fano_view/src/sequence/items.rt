@@ -1,4 +1,4 @@
-//! The numbers from a place on, by one walk over the upper words.
+//! The numbers from an index on, by one walk over the words of the high bits.
 ghost use Rattle.std.specs.Prelude.{◌≡◌, ◌+◌, ◌-◌, ◌*◌, ◌/◌, ◌^◌, ◌<◌, ◌≤◌, ℕ, List, true, false, length, min, slice_index, IfSome, MatchOption};
 ghost use Rattle.bitm.specs.Bits.{item, IsShort};
 ghost use Rattle.bitm.specs.Count.{ones_before, ones_of, IsFirstFrom, Picks};
@@ -15,13 +15,14 @@ use bitm_view::Answer;
 use elias_fano::LowDigits;
 use elias_fano::building::item_at_one;
 
-/// The first one from `from` on, and the word that has it; `None` exactly where there is none.
+/// The position of the first 1 bit from position `from` on, and the word that has it; `None` exactly where there is
+/// none.
 ///
 /// # Conditions
-/// `word` is word `at` of the source, and `from` is the place of one of its bits or of that after them; there are fewer
-/// than 2^58 words.
+/// `word` is word `at` of the source, and `from` is the position of one of its bits or of the bit after them; there are
+/// fewer than 2^58 words.
 /// # Cost
-/// The words after word `at` up to that of the one, or to the last.
+/// Reads the words after word `at` up to the word with that 1 bit, or to the last.
 #[inline(always)]
 fn next_one_on<T: TableSource>(
     source: &mut T,
@@ -56,12 +57,12 @@ fn next_one_on<T: TableSource>(
     None
 }
 
-/// Writes the `most` numbers from number `from` on, whose ones begin at bit `first` of the source's words, or those up
-/// to where the ones end, and answers how many.
+/// Writes the `most` numbers from number `from` on, whose 1 bits start at bit `first` of the source's words, or fewer
+/// where these have no more 1 bits, and returns how many.
 ///
 /// # Cost
-/// Each word from that of the first one on is read once, up to that of the last number, and one fragment of the low
-/// digits for each number.
+/// Reads each word from that of the first number's 1 bit to that of the last number's once, and the low bits of each
+/// number.
 fn write_items_on<T: TableSource>(
     source: &mut T,
     low: &mut LowDigits<'_>,
@@ -106,12 +107,12 @@ fn write_items_on<T: TableSource>(
 }
 
 impl<'a> LentSequence<'a> {
-    /// Writes the numbers from number `from` on, as many as there are and there is room for, and answers how many; what
-    /// stands behind them stays. In parts that are not those of a sequence these are some numbers, and may be fewer.
+    /// Writes the numbers from number `from` on until none is left or `out` is full, and returns how many. The rest of
+    /// `out` keeps its values. In parts that are not those of a sequence these are some numbers, and may be fewer.
     ///
     /// # Cost
-    /// One selection, and none where no number is asked for; then each upper word from the first number's one on is
-    /// read once, up to that of the last, and for each number a fragment of the low digits.
+    /// One selection; then each word of the high bits is read once, from that of the first number to that of the last,
+    /// and the low bits of each number. Nothing is read where there is no number to write.
     pub fn items_from(&self, from: usize, out: &mut [u64]) -> usize
         ensures most { result ≤ min (length out.old) (self.now.len - from) }
         ensures all { (xs : List ℕ) → Holds xs self.now
