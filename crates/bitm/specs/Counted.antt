@@ -1,7 +1,7 @@
--- A value that has rank and selection, and how many of them were made in it.
+-- A value that has rank and selection, and the number of ranks and selections that were made in it.
 use Rattle.std.specs.Prelude.{◌≡◌, ℕ, ◌+◌, ◌≤◌}
 
--- the value, and how many ranks and selections were made in it
+-- the value, and the number of ranks and selections that were made in it
 pub record Queries (I : Type 0) : Type 0 where
   pub value : I
   pub ranks : ℕ

@@ -5,14 +5,14 @@ use Rattle.bit_lists.specs.Count.{ones_before}
 use Rattle.bitm_select.specs.Entry.{FieldsFit, lower_entry}
 use Rattle.bitm_select.specs.Tables.{HasSizes, HasTables, Lists}
 
--- an entry of a lower table fits the fields' greatest numbers
+-- no field of an entry of a lower table exceeds its greatest value
 abbrev pub EntriesFit : Type 0
 EntriesFit = (b : List Bool) (j : ℕ) → FieldsFit (lower_entry b j) j
 
--- tables of few enough words are as long as theirs
+-- the tables of words that an index can have have the right lengths
 abbrev pub TablesHaveSizes : Type 0
 TablesHaveSizes = (l : Lists) → HasTables l → IsShort l.words → HasSizes l
 
--- the ones that a processor counts in a word are those among its 64 bits
+-- the 1 bits that a processor counts in a word are those among its 64 bits
 abbrev pub OnesOfWord : Type 0
 OnesOfWord = (w : ℕ) → w < 2 ^ 64 → ones_before (low_digits 64 w) 64 ≡ count_ones w

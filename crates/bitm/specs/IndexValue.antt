@@ -1,6 +1,6 @@
--- What a caller sees of an index. Its tables are those of the content's bits, so they are no part of it.
+-- What a caller sees of an index. Its tables follow from the bits of the bit vector, so they are no part of it.
 
--- a content and the two strategies that support it
+-- a bit vector and the two strategies that support it
 pub record IndexValue (BV S S0 : Type 0) : Type 0 where
   pub content : BV
   pub select : S

@@ -1,5 +1,4 @@
-//! A value that has rank and selection, whose ranks and selections are counted: a body over it makes no more of them than
-//! its clause says.
+//! A value whose ranks and selections are counted: a body over it makes no more of them than its clause says.
 ghost use Rattle.std.specs.Prelude.{◌≡◌, ◌+◌, ◌<◌, ◌≤◌, length, true, false};
 ghost use Rattle.bit_lists.specs.Count.{ones_before, zeros_before, ones_of, zeros_of, IsSelect, Picks};
 ghost use Rattle.bitm.specs.Counted.{one_more_rank, one_more_selection, no_queries};
@@ -53,7 +52,7 @@ impl<'a, I> Counted<'a, I> {
 }
 
 impl<'a, I: HasBits> Counted<'a, I> {
-    /// How many bits there are.
+    /// The number of bits.
     #[inline(always)]
     pub(crate) fn len(&self) -> usize
         ensures { result ≡ length (I.bits self.now.value) }
@@ -63,7 +62,7 @@ impl<'a, I: HasBits> Counted<'a, I> {
 }
 
 impl<'a, I: Rank> Counted<'a, I> {
-    /// How many of the first `index` bits are ones; one more rank is made.
+    /// The number of 1 bits among the first `index` bits; one more rank is made.
     ///
     /// # Conditions
     /// There are at least `index` bits.
@@ -77,7 +76,7 @@ impl<'a, I: Rank> Counted<'a, I> {
         self.value.rank(index)
     }
 
-    /// How many of the first `index` bits are zeros; one more rank is made.
+    /// The number of 0 bits among the first `index` bits; one more rank is made.
     ///
     /// # Conditions
     /// There are at least `index` bits.

@@ -1,4 +1,4 @@
-//! The index over a content, generic in the content and in the two strategies that select.
+//! The index over a bit vector, generic in the type of the bit vector and in the two strategies that select.
 ghost use Rattle.std.specs.Prelude.{◌≡◌, ◌+◌, ◌*◌, ◌^◌, length, IfOk, IfErr};
 ghost use Rattle.std.specs.Box.{boxed_slice_items};
 ghost use Rattle.std.specs.Int.{div_ceil};
@@ -21,36 +21,36 @@ use std::boxed::BoxedSlice;
 use std::convert::AsSlice;
 use std::marker::Model;
 
-/// A content that lends words, with two tables of counts and a strategy for each kind of bit: rank reads one entry of
-/// each table and at most eight words, and selection is what the strategies make of the tables.
+/// A bit vector with two tables of counts and a strategy for each kind of bit. A rank reads one entry of each table and
+/// at most eight words; the strategies select from the tables.
 ///
-/// The upper table has one number for each begun part (superblock) of 2^32 bits: the ones before it. The lower table
-/// has one packed entry for each begun 2048 bits (32 words), which are four records of 512 bits (8 words, one cache
-/// line). `docs/layout.svg` shows all levels; an entry is
+/// The upper table has one number for each upper block of 2^32 bits: the number of 1 bits before it. The lower table
+/// has one packed entry for each lower block of 2048 bits (32 words), which is four basic blocks of 512 bits (8 words,
+/// one cache line). The last block of each level may be partial. `docs/layout.svg` shows all levels; an entry is
 ///
 /// ```text
 ///  63        54 53         43 42         32 31                    0
 /// +------------+-------------+-------------+-----------------------+
 /// |  r1 : 10   |   r2 : 11   |   r3 : 11   |        r0 : 32        |
 /// +------------+-------------+-------------+-----------------------+
-///  r0  ones from the start of the entry's part to the entry, at most 2^32 - 2048
-///  r1  ones in the first record of the entry, at most 512
-///  r2  ones in the first two records, at most 1024
-///  r3  ones in the first three records, at most 1536
+///  r0  1 bits from the start of the upper block to the entry, at most 2^32 - 2048
+///  r1  1 bits in the first basic block of the entry, at most 512
+///  r2  1 bits in the first two basic blocks, at most 1024
+///  r3  1 bits in the first three basic blocks, at most 1536
 /// ```
 ///
-/// The ones before record `k` (0 to 3) in the entry are the entry shifted down by `11 * (3 - k)`, then by 32, and the
-/// low 11 bits of that: r3, r2, r1, and 0 for record 0, without a branch. In a partial last entry a missing record
-/// adds nothing, so the last sum repeats: the content `[0b1101]` has 3, 3, 3, and its entry is
-/// `0x00C0_1803_0000_0000`. The entry of the negated bits is one subtraction away (`complement_entry`).
+/// The number of 1 bits before basic block `k` (0 to 3) in its lower block is the entry shifted right by `11 * (3 -
+/// k)`, then by 32, and the low 11 bits of that: r3, r2, r1, and 0 for block 0, without a branch. A basic block that a
+/// partial lower block lacks adds nothing, so the last sum repeats: the words `[0b1101]` have 3, 3, 3, and their entry
+/// is `0x00C0_1803_0000_0000`. One subtraction gives the entry of the negated bits (`complement_entry`).
 /// `proofs/Examples.antt` computes these numbers.
 ///
-/// So the lower table takes 64 bits for each 2048, the upper one 64 bits for each 2^32. A contract sees an index as
-/// its content and its two strategies; the tables are those of the content.
+/// So the lower table takes 64 bits for each 2048, the upper table 64 bits for each 2^32. A contract sees an index as
+/// its bit vector and its two strategies; the tables are those of the bit vector.
 ///
 /// # Source
 /// Zhou, Andersen and Kaminsky, 'Space-efficient, high-performance rank and select structures on uncompressed bit
-/// sequences' (SEA 2013), with the fields of an entry turned round so that rank needs no branch.
+/// sequences' (SEA 2013), with the fields of an entry in the opposite order, so that rank needs no branch.
 #[derive(Drop)]
 pub struct RankSelect101111<S: SelectForRank101111, S0: Select0ForRank101111, BV: AsSlice<u64>> {
     content: BV,
@@ -77,7 +77,7 @@ impl<S: SelectForRank101111, S0: Select0ForRank101111, BV: AsSlice<u64>> Model
         × S0.supports0 i.select0 (BV.items i.content) };
 }
 
-/// What an index keeps beside its content, and the number of ones.
+/// What an index owns beside its bit vector, and the number of 1 bits.
 struct Made<S, S0> {
     tables: Tables,
     select: S,
@@ -85,7 +85,7 @@ struct Made<S, S0> {
     ones: usize,
 }
 
-/// The tables of the words, and two strategies that support them.
+/// Builds the tables of the words and two strategies that support them.
 fn make<S: SelectForRank101111, S0: Select0ForRank101111>(
     alloc: Global,
     words: &[u64],
@@ -115,14 +115,14 @@ impl<S: SelectForRank101111, S0: Select0ForRank101111, BV: AsSlice<u64>> RankSel
     S0,
     BV,
 > {
-    /// An index over the content, and the number of ones.
+    /// Builds an index over a bit vector, and returns it with the number of 1 bits.
     ///
     /// # Conditions
-    /// The content has fewer than 2^58 words.
+    /// The bit vector has fewer than 2^58 words.
     /// # Errors
-    /// The content itself, if memory for a table or a strategy was refused; nothing else is left.
+    /// The bit vector itself, if memory for a table or a strategy was refused; all other memory was freed.
     /// # Cost
-    /// The tables are made in one pass over the words; then each strategy makes what it keeps.
+    /// One pass over the words for the tables, and what each strategy takes to build.
     pub fn build(alloc: Global, content: BV) -> Result<(Self, usize), BV>
         requires { IsShort (BV.items content) }
         ensures kept { IfOk result (λ pair. pair.0.content ≡ content) }
@@ -150,7 +150,7 @@ impl<S: SelectForRank101111, S0: Select0ForRank101111, BV: AsSlice<u64>> RankSel
         }
     }
 
-    /// The content; it has fewer than 2^58 words.
+    /// The bit vector, which has fewer than 2^58 words.
     #[inline(always)]
     pub fn content(&self) -> &BV
         ensures value { result.now ≡ self.now.content }
@@ -159,7 +159,7 @@ impl<S: SelectForRank101111, S0: Select0ForRank101111, BV: AsSlice<u64>> RankSel
         &self.content
     }
 
-    /// The upper table: how many ones stand before each begun part of 2^32 bits.
+    /// The upper table: the number of 1 bits before each upper block of 2^32 bits, of which the last may be partial.
     #[inline(always)]
     pub fn l1ranks(&self) -> &[usize]
         ensures { result.now ≡ upper_of (bits_of (BV.items self.now.content)) }
@@ -167,7 +167,7 @@ impl<S: SelectForRank101111, S0: Select0ForRank101111, BV: AsSlice<u64>> RankSel
         self.tables.l1ranks.as_slice()
     }
 
-    /// The lower table: one packed entry for each begun 2048 bits.
+    /// The lower table: one packed entry for each lower block of 2048 bits, of which the last may be partial.
     #[inline(always)]
     pub fn l2ranks(&self) -> &[u64]
         ensures { result.now ≡ lower_of (bits_of (BV.items self.now.content)) }
@@ -175,7 +175,7 @@ impl<S: SelectForRank101111, S0: Select0ForRank101111, BV: AsSlice<u64>> RankSel
         self.tables.l2ranks.as_slice()
     }
 
-    /// The strategy that selects ones; it supports the content.
+    /// The strategy that selects 1 bits; it supports the bit vector.
     #[inline(always)]
     pub fn select_support(&self) -> &S
         ensures value { result.now ≡ self.now.select }
@@ -184,7 +184,7 @@ impl<S: SelectForRank101111, S0: Select0ForRank101111, BV: AsSlice<u64>> RankSel
         &self.select
     }
 
-    /// The strategy that selects zeros; it supports the content.
+    /// The strategy that selects 0 bits; it supports the bit vector.
     #[inline(always)]
     pub fn select0_support(&self) -> &S0
         ensures value { result.now ≡ self.now.select0 }
@@ -193,7 +193,7 @@ impl<S: SelectForRank101111, S0: Select0ForRank101111, BV: AsSlice<u64>> RankSel
         &self.select0
     }
 
-    /// A source over the words and the tables, with no reads counted yet.
+    /// A source over the words and the tables, whose reads are counted from 0.
     #[inline(always)]
     pub fn probe(&self) -> Probe<'_>
         ensures words { result.lists.words ≡ BV.items self.now.content }
@@ -222,7 +222,8 @@ impl<S: SelectForRank101111, S0: Select0ForRank101111, BV: AsSlice<u64>> Rank
         rank_on(&mut self.probe(), index)
     }
 
-    // The trait's body once more, here and below: what a trait says of inlining does not reach its impls.
+    // Here and below the body of the trait's default is repeated: its `inline` does not carry over to an impl that uses
+    // it.
     #[inline(always)]
     fn rank(&self, index: usize) -> usize {
         match self.try_rank(index) {
@@ -299,7 +300,7 @@ impl<
     S0: Select0ForRank101111 + GetSize,
     BV: AsSlice<u64> + GetSize,
 > GetSize for RankSelect101111<S, S0, BV> {
-    // the content, eight bytes for each begun part and each begun 32 words, and the two strategies
+    // the bit vector, eight bytes for each upper block and each lower block, and the two strategies
     ghost dyn_bytes = { λ i. let words = length (BV.items i.content) in saturated_size
         (BV.dyn_bytes i.content + 8 * div_ceil words (2 ^ 26) + 8 * div_ceil words 32
         + S.dyn_bytes i.select + S0.dyn_bytes i.select0) };
@@ -317,10 +318,10 @@ impl<
 }
 
 impl<S: SelectForRank101111, S0: Select0ForRank101111, BV: CloneWords> RankSelect101111<S, S0, BV> {
-    /// An index over the same words, with tables and strategies of its own.
+    /// Builds an index over a copy of the words, with its own tables and strategies.
     ///
     /// # Errors
-    /// `AllocError` if memory was refused; this value is as it was.
+    /// `AllocError` if memory was refused; this index is unchanged.
     pub fn try_clone(&self, alloc: Global) -> Result<Self, AllocError>
         ensures { IfOk result (λ copy. BV.items copy.content ≡ BV.items self.now.content) }
     {
@@ -332,7 +333,7 @@ impl<S: SelectForRank101111, S0: Select0ForRank101111, BV: CloneWords> RankSelec
     }
 }
 
-/// An index over words that it owns, which selects ones and zeros by binary search.
+/// An index over words that it owns, which selects 1 bits and 0 bits by binary search.
 pub type ArrayWithRank101111 = RankSelect101111<
     BinaryRankSearch,
     BinaryRankSearch,

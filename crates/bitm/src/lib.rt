@@ -1,6 +1,6 @@
 //! Rank and select over slices of `u64`, and the bits and fragments of `bitm_bits` under the same names.
 //!
-//! Contracts see a content as the list of its bits, and rank as plain counting in that list.
+//! Contracts see a bit vector as the list of its bits, and rank as plain counting in that list.
 //!
 //! ```
 //! let mut content = BoxedSlice::with_zeroed_bits(alloc, 2048)?;
@@ -10,7 +10,8 @@
 //! bits.try_select(0);     // Some(100)
 //! ```
 //!
-//! The crate `uses` proves this and more of a caller's code; `CALLING.md` says which call tells what.
+//! The crate `example_callers` proves this and more about a caller's code; `CALLING.md` says which call establishes
+//! which fact.
 #![tactic(auto)]
 
 mod counted;

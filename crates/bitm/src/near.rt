@@ -8,12 +8,13 @@ ghost use Rattle.bitm_select.specs.Tables.{bits_in};
 use bitm_bits::words;
 use bitm_select::source::TableSource;
 
-/// The first 0 bit from `from` on, in its word or those after it, `WORDS` in all; `None` where they have none.
+/// The position of the first 0 bit from `from` on among `WORDS` words, of which the first has position `from`; `None`
+/// where these have no such bit.
 ///
 /// # Conditions
 /// There are fewer than 2^58 words.
 /// # Cost
-/// The words up to that of the bit, `WORDS` at most.
+/// Reads the words up to that of the bit, at most `WORDS`.
 #[inline(always)]
 pub fn near_zero_on<const WORDS: usize, T: TableSource>(
     source: &mut T,

@@ -1,4 +1,4 @@
-//! The queries of a value's bits: how many of a kind stand before a place, and where the one of a rank is.
+//! The queries of a value's bits: rank, access and selection.
 ghost use Rattle.std.specs.Prelude.{◌≡◌, ◌<◌, ◌≤◌, List, Bool, length, SomeIff, true, false};
 ghost use Rattle.bit_lists.specs.Bits.{item};
 ghost use Rattle.bit_lists.specs.Count.{ones_before, zeros_before, ones_of, zeros_of};
@@ -9,18 +9,18 @@ pub trait HasBits {
     /// The bits of the value.
     ghost bits: { Self → List Bool };
 
-    /// How many bits there are. They fit `usize`, so a place that is inside has a next one, `place + 1`.
+    /// The number of bits. It fits `usize`, so `place + 1` does for each position `place` of a bit.
     fn len(&self) -> usize
         ensures { result ≡ length (Self.bits self.now) };
 }
 
-/// Answers how many ones, and how many zeros, stand before a place of a value's bits, or before their end.
+/// Rank: the number of 1 bits, and of 0 bits, before a position or before the end.
 pub trait Rank: HasBits {
-    /// How many of the first `index` bits are ones; `None` exactly where there are fewer bits.
+    /// The number of 1 bits among the first `index` bits; `None` exactly where there are fewer bits.
     fn try_rank(&self, index: usize) -> Option<usize>
         ensures { IsRank (Self.bits self.now) index result };
 
-    /// How many of the first `index` bits are ones.
+    /// The number of 1 bits among the first `index` bits.
     ///
     /// # Conditions
     /// There are at least `index` bits.
@@ -35,7 +35,7 @@ pub trait Rank: HasBits {
         }
     }
 
-    /// How many of the first `index` bits are ones, as `rank`.
+    /// The number of 1 bits among the first `index` bits, like `rank`.
     ///
     /// # Conditions
     /// There are at least `index` bits.
@@ -47,7 +47,7 @@ pub trait Rank: HasBits {
         self.rank(index)
     }
 
-    /// How many of the first `index` bits are zeros; `None` exactly where there are fewer bits.
+    /// The number of 0 bits among the first `index` bits; `None` exactly where there are fewer bits.
     #[inline(always)]
     fn try_rank0(&self, index: usize) -> Option<usize>
         ensures { IsRank0 (Self.bits self.now) index result }
@@ -58,7 +58,7 @@ pub trait Rank: HasBits {
         }
     }
 
-    /// How many of the first `index` bits are zeros.
+    /// The number of 0 bits among the first `index` bits.
     ///
     /// # Conditions
     /// There are at least `index` bits.
@@ -70,7 +70,7 @@ pub trait Rank: HasBits {
         index - self.rank(index)
     }
 
-    /// How many of the first `index` bits are zeros, as `rank0`.
+    /// The number of 0 bits among the first `index` bits, like `rank0`.
     ///
     /// # Conditions
     /// There are at least `index` bits.
@@ -82,22 +82,22 @@ pub trait Rank: HasBits {
         self.rank0(index)
     }
 
-    /// Does nothing; in the original a hint to load what `rank(index)` reads.
+    /// Does nothing; in the original, a hint to load what `rank(index)` reads.
     #[inline(always)]
     fn prefetch(&self, _index: usize) {}
 }
 
-/// Answers what a bit is, alone or with its rank: access, which succinct structures need beside rank and selection.
+/// Access: the value of a bit, alone or with its rank. Succinct structures need it beside rank and selection.
 pub trait Access: Rank {
-    /// The bit at `place`; `None` exactly where the place is past the end.
+    /// The bit at position `place`; `None` exactly where there is no such bit.
     fn try_get_bit(&self, place: usize) -> Option<bool>
         ensures { SomeIff result (place < length (Self.bits self.now))
             (item (Self.bits self.now) place) };
 
-    /// The bit at `place`.
+    /// The bit at position `place`.
     ///
     /// # Conditions
-    /// The place is inside.
+    /// There is such a bit.
     #[inline(always)]
     fn get_bit(&self, place: usize) -> bool
         requires { place < length (Self.bits self.now) }
@@ -109,10 +109,10 @@ pub trait Access: Rank {
         }
     }
 
-    /// The bit at `place`, and how many ones stand before it.
+    /// The bit at position `place`, and the number of 1 bits before it.
     ///
     /// # Conditions
-    /// The place is inside.
+    /// There is such a bit.
     #[inline(always)]
     fn bit_and_rank(&self, place: usize) -> (bool, usize)
         requires { place < length (Self.bits self.now) }
@@ -122,10 +122,10 @@ pub trait Access: Rank {
         (self.get_bit(place), self.rank(place))
     }
 
-    /// How many of the first `from` bits are ones, and how many of the first `to`.
+    /// The number of 1 bits among the first `from` bits, and among the first `to` bits.
     ///
     /// # Conditions
-    /// There are at least `from` bits, and at least `to`.
+    /// There are at least `from` bits, and at least `to` bits.
     #[inline(always)]
     fn rank_pair(&self, from: usize, to: usize) -> (usize, usize)
         requires from { from ≤ length (Self.bits self.now) }
@@ -137,16 +137,16 @@ pub trait Access: Rank {
     }
 }
 
-/// Answers where the one of a rank stands in a value's bits.
+/// Selection: the position of the 1 bit with a rank.
 pub trait Select: HasBits {
-    /// The place of the one with exactly `rank` ones before it; `None` exactly where there is none.
+    /// The position of the 1 bit with exactly `rank` 1 bits before it; `None` exactly where there is none.
     fn try_select(&self, rank: usize) -> Option<usize>
         ensures { IsSelect (Self.bits self.now) true rank result };
 
-    /// The place of the one with exactly `rank` ones before it.
+    /// The position of the 1 bit with exactly `rank` 1 bits before it.
     ///
     /// # Conditions
-    /// There is one: there are more than `rank` ones.
+    /// There are more than `rank` 1 bits.
     #[inline(always)]
     fn select(&self, rank: usize) -> usize
         requires { rank < ones_of (Self.bits self.now) }
@@ -158,10 +158,10 @@ pub trait Select: HasBits {
         }
     }
 
-    /// The place of the one with exactly `rank` ones before it, as `select`.
+    /// The position of the 1 bit with exactly `rank` 1 bits before it, like `select`.
     ///
     /// # Conditions
-    /// There is one: there are more than `rank` ones.
+    /// There are more than `rank` 1 bits.
     #[inline(always)]
     fn select_unchecked(&self, rank: usize) -> usize
         requires { rank < ones_of (Self.bits self.now) }
@@ -171,16 +171,16 @@ pub trait Select: HasBits {
     }
 }
 
-/// Answers where the zero of a rank stands in a value's bits.
+/// Selection of 0 bits: the position of the 0 bit with a rank.
 pub trait Select0: HasBits {
-    /// The place of the zero with exactly `rank` zeros before it; `None` exactly where there is none.
+    /// The position of the 0 bit with exactly `rank` 0 bits before it; `None` exactly where there is none.
     fn try_select0(&self, rank: usize) -> Option<usize>
         ensures { IsSelect (Self.bits self.now) false rank result };
 
-    /// The place of the zero with exactly `rank` zeros before it.
+    /// The position of the 0 bit with exactly `rank` 0 bits before it.
     ///
     /// # Conditions
-    /// There is one: there are more than `rank` zeros.
+    /// There are more than `rank` 0 bits.
     #[inline(always)]
     fn select0(&self, rank: usize) -> usize
         requires { rank < zeros_of (Self.bits self.now) }
@@ -192,10 +192,10 @@ pub trait Select0: HasBits {
         }
     }
 
-    /// The place of the zero with exactly `rank` zeros before it, as `select0`.
+    /// The position of the 0 bit with exactly `rank` 0 bits before it, like `select0`.
     ///
     /// # Conditions
-    /// There is one: there are more than `rank` zeros.
+    /// There are more than `rank` 0 bits.
     #[inline(always)]
     fn select0_unchecked(&self, rank: usize) -> usize
         requires { rank < zeros_of (Self.bits self.now) }

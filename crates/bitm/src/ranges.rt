@@ -1,5 +1,5 @@
-//! What follows from rank and selection, for any value that has them: counts of a stretch, the neighbours of a place,
-//! and selection from a place on.
+//! Queries made of ranks and selections, for any value that has them: counts in a range, the nearest bits of a
+//! position, and selection from a position on.
 ghost use Rattle.std.specs.Prelude.{◌≡◌, ◌+◌, ◌<◌, ◌≤◌, length, true, false};
 ghost use Rattle.bit_lists.specs.Count.{ones_before, zeros_before};
 ghost use Rattle.bitm.specs.Counted.{QueriesAtMost};
@@ -8,7 +8,7 @@ ghost use Rattle.bit_lists.specs.Count.{IsSelectFrom, MatchesFirstOne, MatchesFi
 use crate::counted::Counted;
 use crate::queries::{Rank, Select, Select0};
 
-/// What `ones_between` answers, by two ranks in a value that counts them.
+/// `ones_between`, by two ranks in a value that counts them.
 #[tactic(auto, using(bitm_bits::proofs::Callers::ones_grow))]
 #[inline(always)]
 fn ones_between_in<I: Rank>(counted: &mut Counted<'_, I>, start: usize, end: usize) -> usize
@@ -21,10 +21,10 @@ fn ones_between_in<I: Rank>(counted: &mut Counted<'_, I>, start: usize, end: usi
     to_end - counted.rank(start)
 }
 
-/// How many of the bits from `start` up to `end` are ones.
+/// The number of 1 bits from position `start` on and before position `end`.
 ///
 /// # Conditions
-/// `start` is no more than `end`, and there are at least `end` bits.
+/// `start` is at most `end`, and there are at least `end` bits.
 /// # Cost
 /// Two ranks.
 #[inline(always)]
@@ -36,7 +36,7 @@ pub fn ones_between<I: Rank>(index: &I, start: usize, end: usize) -> usize
     ones_between_in(&mut Counted::new(index), start, end)
 }
 
-/// What `zeros_between` answers, by two ranks in a value that counts them.
+/// `zeros_between`, by two ranks in a value that counts them.
 #[tactic(auto, using(bitm_bits::proofs::Callers::zeros_grow))]
 #[inline(always)]
 fn zeros_between_in<I: Rank>(counted: &mut Counted<'_, I>, start: usize, end: usize) -> usize
@@ -49,10 +49,10 @@ fn zeros_between_in<I: Rank>(counted: &mut Counted<'_, I>, start: usize, end: us
     to_end - counted.rank0(start)
 }
 
-/// How many of the bits from `start` up to `end` are zeros.
+/// The number of 0 bits from position `start` on and before position `end`.
 ///
 /// # Conditions
-/// `start` is no more than `end`, and there are at least `end` bits.
+/// `start` is at most `end`, and there are at least `end` bits.
 /// # Cost
 /// Two ranks.
 #[inline(always)]
@@ -64,7 +64,7 @@ pub fn zeros_between<I: Rank>(index: &I, start: usize, end: usize) -> usize
     zeros_between_in(&mut Counted::new(index), start, end)
 }
 
-/// What `next_one` answers, by one rank and one selection in a value that counts them.
+/// `next_one`, by one rank and one selection in a value that counts them.
 #[tactic(auto, using(bit_lists::proofs::BitLaws::next_one_is_selected))]
 #[inline(always)]
 fn next_one_in<I: Rank + Select>(counted: &mut Counted<'_, I>, place: usize) -> Option<usize>
@@ -76,7 +76,7 @@ fn next_one_in<I: Rank + Select>(counted: &mut Counted<'_, I>, place: usize) -> 
     counted.try_select(rank)
 }
 
-/// The first one at `place` or after it; `None` exactly where there is none.
+/// The position of the first 1 bit at `place` or after it; `None` exactly where there is none.
 ///
 /// # Conditions
 /// There are at least `place` bits.
@@ -90,7 +90,7 @@ pub fn next_one<I: Rank + Select>(index: &I, place: usize) -> Option<usize>
     next_one_in(&mut Counted::new(index), place)
 }
 
-/// What `next_zero` answers, by one rank and one selection in a value that counts them.
+/// `next_zero`, by one rank and one selection in a value that counts them.
 #[tactic(auto, using(bitm_bits::proofs::Callers::next_zero))]
 #[inline(always)]
 fn next_zero_in<I: Rank + Select0>(counted: &mut Counted<'_, I>, place: usize) -> Option<usize>
@@ -102,7 +102,7 @@ fn next_zero_in<I: Rank + Select0>(counted: &mut Counted<'_, I>, place: usize) -
     counted.try_select0(rank)
 }
 
-/// The first zero at `place` or after it; `None` exactly where there is none.
+/// The position of the first 0 bit at `place` or after it; `None` exactly where there is none.
 ///
 /// # Conditions
 /// There are at least `place` bits.
@@ -116,7 +116,7 @@ pub fn next_zero<I: Rank + Select0>(index: &I, place: usize) -> Option<usize>
     next_zero_in(&mut Counted::new(index), place)
 }
 
-/// What `previous_one` answers, by one rank and one selection in a value that counts them.
+/// `previous_one`, by one rank and one selection in a value that counts them.
 #[tactic(auto, using(bitm_bits::proofs::Callers::last_one, bitm_bits::proofs::Callers::no_one_to, bitm_bits::proofs::Callers::ones_grow))]
 #[inline(always)]
 fn previous_one_in<I: Rank + Select>(counted: &mut Counted<'_, I>, place: usize) -> Option<usize>
@@ -124,7 +124,7 @@ fn previous_one_in<I: Rank + Select>(counted: &mut Counted<'_, I>, place: usize)
     ensures answer { MatchesLast (I.bits counted.old.value) true place result }
     ensures queries { QueriesAtMost counted.old counted.new 1 1 }
 {
-    // The number of bits fits, so the place after this one does.
+    // The number of bits fits `usize`, so `place + 1` does.
     let _len = counted.len();
     let count = counted.rank(place + 1);
     if count == 0 {
@@ -134,7 +134,7 @@ fn previous_one_in<I: Rank + Select>(counted: &mut Counted<'_, I>, place: usize)
     }
 }
 
-/// The last one at `place` or before it; `None` exactly where there is none.
+/// The position of the last 1 bit at `place` or before it; `None` exactly where there is none.
 ///
 /// # Conditions
 /// There are more than `place` bits.
@@ -148,7 +148,7 @@ pub fn previous_one<I: Rank + Select>(index: &I, place: usize) -> Option<usize>
     previous_one_in(&mut Counted::new(index), place)
 }
 
-/// What `previous_zero` answers, by one rank and one selection in a value that counts them.
+/// `previous_zero`, by one rank and one selection in a value that counts them.
 #[tactic(auto, using(bitm_bits::proofs::Callers::last_zero, bitm_bits::proofs::Callers::no_zero_to, bitm_bits::proofs::Callers::zeros_grow))]
 #[inline(always)]
 fn previous_zero_in<I: Rank + Select0>(counted: &mut Counted<'_, I>, place: usize) -> Option<usize>
@@ -156,7 +156,7 @@ fn previous_zero_in<I: Rank + Select0>(counted: &mut Counted<'_, I>, place: usiz
     ensures answer { MatchesLast (I.bits counted.old.value) false place result }
     ensures queries { QueriesAtMost counted.old counted.new 1 1 }
 {
-    // The number of bits fits, so the place after this one does.
+    // The number of bits fits `usize`, so `place + 1` does.
     let _len = counted.len();
     let count = counted.rank0(place + 1);
     if count == 0 {
@@ -166,7 +166,7 @@ fn previous_zero_in<I: Rank + Select0>(counted: &mut Counted<'_, I>, place: usiz
     }
 }
 
-/// The last zero at `place` or before it; `None` exactly where there is none.
+/// The position of the last 0 bit at `place` or before it; `None` exactly where there is none.
 ///
 /// # Conditions
 /// There are more than `place` bits.
@@ -180,7 +180,7 @@ pub fn previous_zero<I: Rank + Select0>(index: &I, place: usize) -> Option<usize
     previous_zero_in(&mut Counted::new(index), place)
 }
 
-/// What `select_from` answers, by one rank and one selection in a value that counts them.
+/// `select_from`, by one rank and one selection in a value that counts them.
 #[tactic(auto, using(bitm_bits::proofs::Callers::one_from, bitm_bits::proofs::Callers::ones_are_bits))]
 #[inline(always)]
 fn select_from_in<I: Rank + Select>(
@@ -192,7 +192,7 @@ fn select_from_in<I: Rank + Select>(
     ensures answer { IsSelectFrom (I.bits counted.old.value) true place k result }
     ensures queries { QueriesAtMost counted.old counted.new 1 1 }
 {
-    // Where the sum does not fit there are not so many bits, whose number does.
+    // The number of bits fits `usize`, so a sum that does not is greater than it.
     let _len = counted.len();
     match counted.rank(place).checked_add(k) {
         Some(rank) => counted.try_select(rank),
@@ -200,7 +200,8 @@ fn select_from_in<I: Rank + Select>(
     }
 }
 
-/// The one from `place` on with exactly `k` ones between `place` and it; `None` exactly where there are not so many.
+/// The position of the 1 bit from `place` on with exactly `k` 1 bits between `place` and it; `None` exactly where there
+/// is none.
 ///
 /// # Conditions
 /// There are at least `place` bits.
@@ -214,7 +215,7 @@ pub fn select_from<I: Rank + Select>(index: &I, place: usize, k: usize) -> Optio
     select_from_in(&mut Counted::new(index), place, k)
 }
 
-/// What `select0_from` answers, by one rank and one selection in a value that counts them.
+/// `select0_from`, by one rank and one selection in a value that counts them.
 #[tactic(auto, using(bitm_bits::proofs::Callers::zero_from, bitm_bits::proofs::Callers::zeros_are_bits))]
 #[inline(always)]
 fn select0_from_in<I: Rank + Select0>(
@@ -226,7 +227,7 @@ fn select0_from_in<I: Rank + Select0>(
     ensures answer { IsSelectFrom (I.bits counted.old.value) false place k result }
     ensures queries { QueriesAtMost counted.old counted.new 1 1 }
 {
-    // Where the sum does not fit there are not so many bits, whose number does.
+    // The number of bits fits `usize`, so a sum that does not is greater than it.
     let _len = counted.len();
     match counted.rank0(place).checked_add(k) {
         Some(rank) => counted.try_select0(rank),
@@ -234,8 +235,8 @@ fn select0_from_in<I: Rank + Select0>(
     }
 }
 
-/// The zero from `place` on with exactly `k` zeros between `place` and it; `None` exactly where there are not so
-/// many.
+/// The position of the 0 bit from `place` on with exactly `k` 0 bits between `place` and it; `None` exactly where there
+/// is none.
 ///
 /// # Conditions
 /// There are at least `place` bits.

@@ -1,4 +1,4 @@
-//! Rank by one number for each begun run of eight words.
+//! Rank by one number for each run of eight words.
 ghost use Rattle.std.specs.Prelude.{◌≡◌, ◌<◌, ◌≤◌, ◌+◌, ◌*◌, ◌/◌, ◌^◌, List, ℕ, length, slice_index, IfOk, IfErr, ◌-◌};
 ghost use Rattle.std.specs.Box.{boxed_slice_items};
 ghost use Rattle.std.specs.Int.{div_ceil};
@@ -17,15 +17,16 @@ use std::boxed::BoxedSlice;
 use std::convert::AsSlice;
 use std::marker::Model;
 
-/// Words of one run: the ones before its first bit are kept.
+/// Words of one run, before which the table has the number of 1 bits.
 const WORDS_PER_RUN: usize = 8;
 
 /// Bits of one run.
 const BITS_PER_RUN: usize = 512;
 
-/// A content that lends words, with the number of ones before each begun run of eight words: 32 bits for each 512.
+/// A bit vector with the number of 1 bits before each run of eight words, of which the last may be partial: 32 bits for
+/// each 512.
 ///
-/// A contract sees it as the content that it was built over.
+/// A contract sees it as the bit vector that it was built over.
 #[derive(Drop)]
 pub struct RankSimple<BV: AsSlice<u64>> {
     content: BV,
@@ -50,7 +51,7 @@ impl<BV: AsSlice<u64>> Model for RankSimple<BV> {
         × (boxed_slice_items s.ranks ≡ simple_table_of (bits_of (BV.items s.content))) };
 }
 
-/// The table of the words, and the number of ones.
+/// The table of the words, and the number of 1 bits.
 fn make(alloc: Global, words: &[u64]) -> Result<(BoxedSlice<u32, Global>, u32), AllocError>
     requires short { IsShort words.now }
     requires few { HasFewOnes words.now }
@@ -69,7 +70,7 @@ fn make(alloc: Global, words: &[u64]) -> Result<(BoxedSlice<u32, Global>, u32), 
     Ok((ranks.into_boxed_slice(), total))
 }
 
-/// How many ones a run has.
+/// The number of 1 bits in a run.
 #[inline(always)]
 fn ones_of_run(words: &[u64], run: usize) -> u32
     requires short { IsShort words.now }
@@ -80,7 +81,7 @@ fn ones_of_run(words: &[u64], run: usize) -> u32
     ones_of_record(words, run * WORDS_PER_RUN) as u32
 }
 
-/// How many ones there are up to place `last`, that one included, where `before` stand before its run.
+/// The number of 1 bits up to and including position `last`, of which `before` come before its run.
 #[inline(always)]
 fn rank_from(words: &[u64], before: u32, last: usize) -> u32
     requires inside { last < 64 * length words.now }
@@ -96,12 +97,12 @@ fn rank_from(words: &[u64], before: u32, last: usize) -> u32
 }
 
 impl<BV: AsSlice<u64>> RankSimple<BV> {
-    /// A simple rank over the content, and the number of ones.
+    /// Builds a simple rank over a bit vector, and returns it with the number of 1 bits.
     ///
     /// # Conditions
-    /// The content has fewer than 2^58 words and fewer than 2^32 ones (`count_bit_ones` tells).
+    /// The bit vector has fewer than 2^58 words and fewer than 2^32 1 bits, which `count_bit_ones` counts.
     /// # Errors
-    /// The content itself, if memory for the table was refused; nothing else is left.
+    /// The bit vector itself, if memory for the table was refused.
     pub fn build(alloc: Global, content: BV) -> Result<(Self, u32), BV>
         requires short { IsShort (BV.items content) }
         requires few { HasFewOnes (BV.items content) }
@@ -115,7 +116,7 @@ impl<BV: AsSlice<u64>> RankSimple<BV> {
         }
     }
 
-    /// How many ones there are up to place `last`, that one included.
+    /// The number of 1 bits up to and including position `last`.
     #[inline(always)]
     fn ones_through(&self, last: usize) -> u32
         requires { last < length (bits_of (BV.items self.now)) }
@@ -125,12 +126,13 @@ impl<BV: AsSlice<u64>> RankSimple<BV> {
         rank_from(self.content.as_slice(), before, last)
     }
 
-    /// How many of the first `index` bits are ones; `None` exactly where there are fewer bits.
+    /// The number of 1 bits among the first `index` bits; `None` exactly where there are fewer bits.
     #[inline(always)]
     pub fn try_rank(&self, index: usize) -> Option<u32>
         ensures { IsRank (bits_of (BV.items self.now)) index result }
     {
-        // The last bit that counts. Where none does this is above every place, so one test tells both.
+        // The last bit that counts. Where none does, this wraps to a number past every position, so one test covers
+        // both cases.
         let last = index.wrapping_sub(1);
         if last / 64 < self.content.as_slice().len() {
             Some(self.ones_through(last))
@@ -141,7 +143,7 @@ impl<BV: AsSlice<u64>> RankSimple<BV> {
         }
     }
 
-    /// How many of the first `index` bits are ones.
+    /// The number of 1 bits among the first `index` bits.
     ///
     /// # Conditions
     /// There are at least `index` bits.
@@ -195,7 +197,7 @@ impl<BV: AsSlice<u64>> AsSlice<u64> for RankSimple<BV> {
 }
 
 impl<BV: AsSlice<u64> + GetSize> GetSize for RankSimple<BV> {
-    // the content, and four bytes for each begun run of eight words
+    // the bit vector, and four bytes for each run of eight words
     ghost dyn_bytes = { λ s. saturated_size
         (BV.dyn_bytes s + 4 * div_ceil (length (BV.items s)) 8) };
 
@@ -209,10 +211,10 @@ impl<BV: AsSlice<u64> + GetSize> GetSize for RankSimple<BV> {
 }
 
 impl<BV: CloneWords> RankSimple<BV> {
-    /// A simple rank over the same words, with a table of its own.
+    /// Builds a simple rank over a copy of the words, with its own table.
     ///
     /// # Errors
-    /// `AllocError` if memory was refused; this value is as it was.
+    /// `AllocError` if memory was refused; this value is unchanged.
     pub fn try_clone(&self, alloc: Global) -> Result<Self, AllocError>
         ensures { IfOk result (λ copy. BV.items copy ≡ BV.items self.now) }
     {

@@ -14,12 +14,12 @@ impl<S: SelectForRank101111, S0: Select0ForRank101111, BV: AsSlice<u64>> RankSel
     S0,
     BV,
 > {
-    /// For each index how many of the first so many bits are ones; they go to `ranks` in the order of the indices.
+    /// Writes for each index the number of 1 bits among that many first bits, in the order of the indices.
     ///
     /// # Conditions
-    /// There are as many `ranks` as `indices`, and no fewer bits than each index.
+    /// `ranks` is as long as `indices`, and no index is greater than the number of bits.
     /// # Cost
-    /// For each index what `rank` reads: one entry of each table and at most eight words.
+    /// Each index reads what `rank` reads: at most one entry of each table and eight words.
     #[inline]
     pub fn rank_many(&self, indices: &[usize], ranks: &mut [usize])
         requires same_length { length indices.now ≡ length ranks.old }
@@ -29,17 +29,17 @@ impl<S: SelectForRank101111, S0: Select0ForRank101111, BV: AsSlice<u64>> RankSel
         rank_many_on(&mut self.probe(), indices, ranks)
     }
 
-    /// For each rank the place of the one with exactly so many ones before it; they go to `places` in the order of the
+    /// Writes for each rank the position of the 1 bit with exactly that many 1 bits before it, in the order of the
     /// ranks.
     ///
-    /// Sixteen searches of the two tables go side by side, so that each waits for the memory while the others do: on
-    /// large contents a fraction of the time of single selections. The strategies are not asked.
+    /// Sixteen searches of the two tables run side by side, so that their waits for memory overlap: for large bit
+    /// vectors this takes a fraction of the time of single selections. It does without the strategies.
     ///
     /// # Conditions
-    /// There are as many `places` as `ranks`, and more ones than each rank.
+    /// `places` is as long as `ranks`, and there are more 1 bits than each rank.
     /// # Cost
-    /// For each rank at most as many upper entries as their number has binary digits and one more, 22 lower entries and
-    /// eight words are read.
+    /// With u upper entries, each rank reads at most one more of them than u has binary digits, 22 lower entries and
+    /// eight words.
     #[inline]
     pub fn select_many(&self, ranks: &[usize], places: &mut [usize])
         requires same_length { length ranks.now ≡ length places.old }
@@ -49,10 +49,11 @@ impl<S: SelectForRank101111, S0: Select0ForRank101111, BV: AsSlice<u64>> RankSel
         select_many_on::<1, _>(&mut self.probe(), ranks, places)
     }
 
-    /// For each rank the place of the zero with exactly so many zeros before it, as `select_many`.
+    /// Writes for each rank the position of the 0 bit with exactly that many 0 bits before it, as `select_many` does
+    /// for 1 bits.
     ///
     /// # Conditions
-    /// There are as many `places` as `ranks`, and more zeros than each rank.
+    /// `places` is as long as `ranks`, and there are more 0 bits than each rank.
     /// # Cost
     /// What `select_many` reads.
     #[inline]
