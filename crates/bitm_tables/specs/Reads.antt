@@ -1,4 +1,4 @@
--- What was read of a source: one for each call that reads, by kind.
+-- What was read of a source: one for each call that reads, by the kind of item.
 use Rattle.std.specs.Prelude.{◌≡◌, ℕ, ◌+◌, ◌≤◌}
 use Rattle.bitm_tables.specs.Tables.{Lists}
 use Rattle.bitm_tables.specs.declared.source.counts.ReadCounts.{ReadCounts}
@@ -19,7 +19,8 @@ upper_read reads = record reads { upper = reads.upper + 1 }
 abbrev pub lower_read : ReadCounts → ReadCounts
 lower_read reads = record reads { lower = reads.lower + 1 }
 
--- between early and late at most so many upper entries, lower entries and words were read, and no count fell
+-- between early and late at most the given numbers of upper entries, lower entries and words were read, and no count
+-- fell
 pub record ReadsAtMost (early late : ReadCounts) (uppers lowers words_read : ℕ) : Type 0 where
   pub upper : late.upper ≤ early.upper + uppers
   pub lower : late.lower ≤ early.lower + lowers
@@ -28,7 +29,8 @@ pub record ReadsAtMost (early late : ReadCounts) (uppers lowers words_read : ℕ
   pub lower_kept : early.lower ≤ late.lower
   pub words_kept : early.words ≤ late.words
 
--- a call only read: at most so many upper entries, lower entries and words, and the source has the same lists
+-- a call only read: at most the given numbers of upper entries, lower entries and words, and the lists of the source
+-- are unchanged
 pub record OnlyReads {S : Type 0} (lists_of : S → Lists) (reads_of : S → ReadCounts) (old new : S) (uppers lowers words_read : ℕ)
     : Type 0 where
   pub at_most : ReadsAtMost (reads_of old) (reads_of new) uppers lowers words_read

@@ -5,10 +5,10 @@ ghost use Rattle.bitm_tables.specs.Entry.{zeros_before_in_part, entries_from, ne
 
 use crate::levels::L2_ENTRIES_PER_L1_ENTRY;
 
-/// How many of so many lower entries a part has.
+/// How many of the given number of lower entries belong to upper block `part`.
 ///
 /// # Conditions
-/// The parts before it are full.
+/// The upper blocks before it are full.
 #[inline(always)]
 pub fn entries_of_part(entries: usize, part: usize) -> usize
     requires { part * 2 ^ 21 ≤ entries }
@@ -17,7 +17,7 @@ pub fn entries_of_part(entries: usize, part: usize) -> usize
     (entries - part * L2_ENTRIES_PER_L1_ENTRY).min(L2_ENTRIES_PER_L1_ENTRY)
 }
 
-/// How many ones stand before an entry in its part.
+/// The number of 1 bits before an entry in its upper block.
 #[inline(always)]
 pub fn ones_to_entry(entry: u64) -> usize
     ensures { result ≡ field_0 entry }
@@ -25,12 +25,12 @@ pub fn ones_to_entry(entry: u64) -> usize
     (entry & 0xFFFF_FFFF) as usize
 }
 
-/// By so much the upper half of an entry is multiplied, so that the field of a record begins at bit 32; nothing is left of
-/// it for the first record.
+/// Factors of the upper half of an entry that bring the field of a basic block to bit 32; 0 for the first block, which
+/// has no field.
 const SCALES: [u64; 4] = [0, 1 << 10, 1 << 21, 1 << 32];
 
-/// How many ones stand in an entry before one of its four records: by a product, since a shift by a number that is not
-/// known takes more of a processor, and no branch for the first record.
+/// The number of 1 bits in an entry before one of its four basic blocks. A product, which is cheaper than a shift by a
+/// variable number and needs no branch for the first block.
 ///
 /// # Conditions
 /// `place` is below 4.
@@ -42,13 +42,13 @@ pub fn ones_to_record(entry: u64, place: usize) -> usize
     ((entry >> 32) * SCALES[place] >> 32 & 0x7FF) as usize
 }
 
-/// Lower entry `at` of the negated bits, from that of the bits: each field's greatest number less the field. One
+/// Lower entry `at` of the negated bits, from that of the bits: the greatest value of each field less the field. One
 /// subtraction does all four.
 ///
-/// The four fields count the ones before the entry in its part of 2^32 bits, and in its first record, first two and
-/// first three records of 512 bits. Bits that miss in the last entry count as zeros. No field of an entry of a lower
-/// table exceeds its greatest number (`index_laws::entries_fit`), so none borrows from the next; of any other number the
-/// difference wraps.
+/// The four fields count the 1 bits before the entry in its upper block of 2^32 bits, and in its first basic block,
+/// first two and first three basic blocks of 512 bits. Bits that the last entry lacks count as 0 bits. No field of an
+/// entry of a lower table exceeds its greatest value (`index_laws::entries_fit`), so none borrows from the next; for
+/// any other number the difference wraps.
 #[inline(always)]
 pub fn complement_entry(entry: u64, at: usize) -> u64
     ensures value { FieldsFit entry at → result ≡ greatest_entry at - entry }

@@ -1,7 +1,6 @@
-//! What an index is made of: the levels of its tables, their entries, the making of them, sources that count their
-//! reads, and rank over a source. No table is kept: the index of `bitm` asks its own, and `bitm_view` those that it
-//! is lent. So most functions ask nothing of what the tables hold, and say what they answer where the tables are
-//! those of the words.
+//! What an index is made of: the levels of its tables, their entries, how they are built, sources that count their
+//! reads, and rank over a source. Nothing here owns a table: the index of `bitm` owns its tables, and `bitm_view`
+//! borrows them. So most functions accept any tables, and say what they answer where these are those of the words.
 #![tactic(auto)]
 
 pub mod answer;

@@ -1,10 +1,11 @@
-//! Rank by a third table, which has for each record the ones before it and before its quarters: then a rank reads no
-//! lower entry, and counts two words in place of eight. The table takes 64 bits for a record of 512. No index keeps it:
-//! `make_quarters` makes it for whoever wants faster ranks.
+//! Rank by a third table, which has for each basic block the number of 1 bits before it and before each of its
+//! quarters: a rank then reads no lower entry, and counts two words in place of eight. The table takes 64 bits for each
+//! basic block of 512. No index has it: `make_quarters` builds it for callers that want faster ranks.
 //!
 //! # Source
-//! One number with the ones before a block and in its parts is that of Vigna, 'Broadword implementation of rank/select
-//! queries' (WEA 2008); here its parts have two words, and it takes half the space.
+//! To pack the counts before a block and within it into one number is due to Vigna, 'Broadword implementation of
+//! rank/select queries' (WEA 2008); here the counts within a block are for every two words, and the table takes half
+//! the space.
 ghost use Rattle.std.specs.Prelude.{◌≡◌, ◌+◌, ◌*◌, ◌/◌, ◌^◌, ◌<◌, ◌≤◌, ℕ, length, slice_index, IfOk};
 ghost use Rattle.std.specs.Box.{boxed_slice_items};
 ghost use Rattle.bit_lists.specs.Bits.{bits_of, item, IsShort};
@@ -21,10 +22,10 @@ use broadword::ones_through;
 use std::alloc::{AllocError, Global};
 use std::boxed::BoxedSlice;
 
-/// Words of one quarter of a record.
+/// Words of one quarter of a basic block.
 const QUARTER_WORDS: usize = U64_PER_L2_RECORDS / 4;
 
-/// How many ones the quarter that begins at word `first` has, where it is whole; else any number up to 128.
+/// The number of 1 bits in the quarter from word `first` on, where it is whole; otherwise any number up to 128.
 #[inline(always)]
 fn ones_of_quarter<T: TableSource>(source: &mut T, first: usize) -> u64
     requires { first < 2 ^ 63 }
@@ -40,8 +41,8 @@ fn ones_of_quarter<T: TableSource>(source: &mut T, first: usize) -> u64
     }
 }
 
-/// The number of record `at`: the ones before it in its part, and above these the ones that it has before its second,
-/// third and fourth quarter, the fourth's lowest.
+/// The packed number of basic block `at`: the number of 1 bits before it in its upper block, and above that the numbers
+/// of its 1 bits before its second, third and fourth quarter, of which the last is lowest.
 #[inline(always)]
 fn number_of_record<T: TableSource>(source: &mut T, at: usize) -> u64
     requires indexed { IsIndexed (T.lists source.old) }
@@ -60,14 +61,14 @@ fn number_of_record<T: TableSource>(source: &mut T, at: usize) -> u64
     before as u64 + (three << 32) + (two << 42) + (one << 52)
 }
 
-/// The quarters of a source's words.
+/// Builds the quarters of a source's words.
 ///
 /// # Conditions
-/// The source's tables are those of its words, of fewer than 2^58 words.
+/// The source's tables are those of its words, which are fewer than 2^58.
 /// # Errors
-/// `AllocError` if memory was refused; nothing is left.
+/// `AllocError` if memory was refused; nothing is leaked.
 /// # Cost
-/// Read in the code: for each record one lower entry and six words.
+/// By its code, and in no clause: one lower entry and six words for each basic block.
 pub fn make_quarters<T: TableSource>(
     alloc: Global,
     source: &mut T,
@@ -85,7 +86,8 @@ pub fn make_quarters<T: TableSource>(
     Ok(quarters.into_boxed_slice())
 }
 
-/// How many ones a record has before a quarter, by the record's number: by one shift, and no branch for the first.
+/// The number of 1 bits in a basic block before a quarter, from the block's number: one shift, and no branch for the
+/// first quarter.
 #[inline(always)]
 fn ones_to_quarter(number: u64, quarter: usize) -> usize
     requires { quarter < 4 }
@@ -94,7 +96,7 @@ fn ones_to_quarter(number: u64, quarter: usize) -> usize
     (number >> (62 - 10 * quarter) & 0x3FF) as usize
 }
 
-/// The word that has bit `last`, and how many of the bits to that one are ones, it too.
+/// The word that has bit `last`, and the number of 1 bits up to and including that bit.
 ///
 /// # Conditions
 /// There is such a bit.
@@ -111,7 +113,7 @@ fn word_and_ones<T: TableSource>(source: &mut T, quarters: &[u64], last: usize) 
     let number = quarters[last / RECORD_BITS];
     let to_record = ones_to_entry(number);
     let to_quarter = ones_to_quarter(number, at / QUARTER_WORDS % 4);
-    // The quarter's first word counts where it is not the bit's own. A product takes no branch.
+    // The quarter's first word counts unless it has the bit. A product needs no branch.
     let first = source.word(at - at % QUARTER_WORDS);
     let in_first = first.count_ones() as usize * (at % QUARTER_WORDS);
     let word = source.word(at);
@@ -123,12 +125,14 @@ fn word_and_ones<T: TableSource>(source: &mut T, quarters: &[u64], last: usize) 
     )
 }
 
-/// How many of the first `index` bits of the source's words are ones.
+/// The number of 1 bits among the first `index` bits of the source's words.
 ///
 /// # Conditions
-/// There are so many bits, the source's tables are those of its words, of fewer than 2^58 words, and the quarters too.
+/// There are at least `index` bits, the words are fewer than 2^58, and the source's tables and the quarters are those
+/// of the words.
 /// # Cost
-/// At most one upper entry, no lower entry and two words are read; read in the code: one number of the quarters.
+/// At most one upper entry, no lower entry and two words are read; by its code, and in no clause, one number of the
+/// quarters.
 #[inline(always)]
 pub fn rank_by_quarters_on<T: TableSource>(source: &mut T, quarters: &[u64], index: usize) -> usize
     requires indexed { IsIndexed (T.lists source.old) }
@@ -143,10 +147,10 @@ pub fn rank_by_quarters_on<T: TableSource>(source: &mut T, quarters: &[u64], ind
     word_and_ones(source, quarters, index - 1).1
 }
 
-/// The bit at `place` of the source's words, and how many ones stand before it.
+/// The bit at position `place` of the source's words, and the number of 1 bits before it.
 ///
 /// # Conditions
-/// Those of `rank_by_quarters_on`, and there is such a bit.
+/// There is such a bit, the words are fewer than 2^58, and the source's tables and the quarters are those of the words.
 /// # Cost
 /// That of `rank_by_quarters_on`.
 #[inline(always)]

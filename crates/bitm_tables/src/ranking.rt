@@ -13,14 +13,14 @@ use crate::levels::{
 use crate::source::{Probe, TableSource};
 use broadword::ones_through;
 
-/// So many words, 4 MiB, stay in a processor's caches. Past that a query waits for its words, and more queries wait
-/// side by side if each takes no more instructions than it needs.
+/// The number of words, 4 MiB, that stay in a processor's caches. Past that a query waits for its words, and the fewer
+/// instructions it takes, the more queries a processor overlaps.
 pub const WORDS_IN_CACHE: usize = 1 << 19;
 
-/// So many words, 2 MiB, are at hand so soon that a rank counts them in a straight line.
+/// The number of words, 2 MiB, that arrive so fast that a rank counts all words of a basic block without branches.
 pub const WORDS_AT_HAND: usize = 1 << 18;
 
-/// How many ones word `at` has; one more word is read.
+/// The number of 1 bits in word `at`; one more word is read.
 #[inline(always)]
 pub fn ones_of_word<T: TableSource>(source: &mut T, at: usize) -> usize
     requires at { at < length (T.lists source.old).words }
@@ -33,7 +33,7 @@ pub fn ones_of_word<T: TableSource>(source: &mut T, at: usize) -> usize
     source.word(at).count_ones() as usize
 }
 
-/// The count where `times` is 1, and 0 where it is 0: without a branch.
+/// `count` where `times` is 1, and 0 where it is 0, without a branch.
 #[inline(always)]
 fn counted(times: usize, count: usize) -> usize
     requires { times < 2 }
@@ -43,10 +43,10 @@ fn counted(times: usize, count: usize) -> usize
     times * count
 }
 
-/// How many ones stand in a record that the content has in full, before word `len` of it, where `word` is its first.
+/// The number of 1 bits in the first `len` words of a whole basic block, whose first word is `word`.
 ///
-/// Half the words, a quarter and an eighth are counted where that many count: no branch asks how many, and of the lines
-/// of a cache none is read that has neither the first word nor word `len`.
+/// Half of the block, a quarter and an eighth are counted where they are part of these words, without a branch on
+/// `len`, and from no cache line other than those of the first word and of word `len`.
 ///
 /// # Cost
 /// Six words are read.
@@ -72,7 +72,7 @@ pub fn halved_ones<T: TableSource>(source: &mut T, first: usize, len: usize, wor
     counted(len / 4, four) + counted(len / 2 % 2, two) + counted(len % 2, one)
 }
 
-/// What `added_ones` answers, with a test before each of its words.
+/// `added_ones` with a test before each word.
 #[inline(always)]
 fn tested_ones<T: TableSource>(source: &mut T, first: usize, len: usize, before: usize) -> usize
     requires near { len < 8 }
@@ -94,11 +94,10 @@ fn tested_ones<T: TableSource>(source: &mut T, first: usize, len: usize, before:
     ones
 }
 
-/// How many ones stand in the record that begins at word `first`, before word `len` of it; they are added to `before`.
+/// `before` and the number of 1 bits in the first `len` words of the basic block from word `first` on.
 ///
-/// In a small content seven words are counted in a straight line, since the processor would guess wrongly at which of
-/// them a test ends the count. In a large one there are these tests, since they leave fewer instructions and wait for
-/// fewer words.
+/// Among few words it counts seven words without a branch, since a processor would often predict wrongly where the
+/// count ends. Among many words it tests before each, which takes fewer instructions and waits for fewer words.
 #[inline(always)]
 fn added_ones<T: TableSource>(source: &mut T, first: usize, len: usize, before: usize) -> usize
     requires near { len < 8 }
@@ -119,10 +118,10 @@ fn added_ones<T: TableSource>(source: &mut T, first: usize, len: usize, before: 
     }
 }
 
-/// How many ones stand in the record that begins at word `first`, before word `end` of it.
+/// The number of 1 bits in the basic block from word `first` on, before word `end`.
 ///
 /// # Conditions
-/// There is a word `end`, and it is among the eight from `first` on. Nothing is asked of the tables.
+/// There is a word `end`, and it is among the eight from `first` on. The tables may hold anything.
 /// # Cost
 /// At most seven words are read.
 #[inline(always)]
@@ -139,7 +138,7 @@ pub fn ones_in_record<T: TableSource>(source: &mut T, first: usize, end: usize) 
     added_ones(source, first, end - first, 0)
 }
 
-/// What `ones_in_record` answers, of words that have no tables.
+/// `ones_in_record` for words without tables.
 ///
 /// # Conditions
 /// Those of `ones_in_record`.
@@ -156,11 +155,11 @@ pub fn ones_of_words(words: &[u64], first: usize, end: usize) -> usize
     ones_in_record(&mut source, first, end)
 }
 
-/// How many ones stand before a part, where the tables are those of the words. Where there is one part none do, and its
-/// entry is not read: the test takes fewer instructions than the read.
+/// The number of 1 bits before an upper block, where the tables are those of the words. A single upper block has none
+/// before it, and its entry is not read: the test takes fewer instructions than the read.
 ///
 /// # Conditions
-/// There is such a part. The tables may hold anything.
+/// There is such an upper block. The tables may hold anything.
 /// # Cost
 /// At most one upper entry is read.
 #[inline(always)]
@@ -178,7 +177,8 @@ pub fn ones_to_part<T: TableSource>(source: &mut T, part: usize) -> usize
     }
 }
 
-/// The bit at `place` of the source's words; `None` exactly where the place is past the end, whatever the tables hold.
+/// The bit at position `place` of the source's words; `None` exactly where there is no such bit. The tables may hold
+/// anything.
 ///
 /// # Cost
 /// At most one word is read.
@@ -195,16 +195,16 @@ pub fn bit_on<T: TableSource>(source: &mut T, place: usize) -> Option<bool>
     Some(source.word(place / 64) & (1u64 << (place % 64)) != 0)
 }
 
-/// How many of the first `index` bits of the source's words are ones; `None` exactly where there are fewer bits.
+/// The number of 1 bits among the first `index` bits of the source's words; `None` exactly where there are fewer bits.
 ///
 /// # Conditions
-/// The source's tables are those of its words, of fewer than 2^58 words.
+/// The source's tables are those of its words, which are fewer than 2^58.
 /// # Cost
 /// At most one upper entry, one lower entry and eight words are read: those of the last bit that counts.
 /// # Source
 /// The three levels are those of Zhou, Andersen and Kaminsky, 'Space-efficient, high-performance rank and select
-/// structures on uncompressed bit sequences' (SEA 2013), with the fields of an entry turned round so that rank needs no
-/// branch.
+/// structures on uncompressed bit sequences' (SEA 2013), with the fields of an entry in the opposite order, so that
+/// rank needs no branch.
 #[inline(always)]
 pub fn rank_on<T: TableSource>(source: &mut T, index: usize) -> Option<usize>
     requires { IsIndexed (T.lists source.old) }
@@ -214,8 +214,8 @@ pub fn rank_on<T: TableSource>(source: &mut T, index: usize) -> Option<usize>
     total_rank_on(source, index)
 }
 
-/// How many of the first `index` bits of the source's words are ones, where its tables are those of its words; `None`
-/// exactly where there are fewer bits, whatever the tables hold.
+/// The number of 1 bits among the first `index` bits of the source's words, where its tables are those of the words;
+/// `None` exactly where there are fewer bits, whatever the tables hold.
 ///
 /// # Conditions
 /// There are fewer than 2^58 words, and the tables have the right lengths. They may hold anything.
@@ -230,8 +230,9 @@ pub fn total_rank_on<T: TableSource>(source: &mut T, index: usize) -> Option<usi
         → IsRank (bits_in (T.lists source.old)) index result }
     ensures reads { OnlyReads T.lists T.reads source.old source.new 1 1 8 }
 {
-    // The last bit that counts: at the exact length too it has a word, a record and an entry of each table, which the
-    // place itself may lack. Where no bit counts this is above every place, so one test tells both.
+    // The last bit that counts: at the exact length too it has a word, a basic block and an entry of each table, which
+    // `index` itself may lack. Where no bit counts, this wraps to a number past every position, so one test covers both
+    // cases.
     let last = index.wrapping_sub(1);
     if last / 64 >= source.words_len() {
         return if index == 0 { Some(0) } else { None };
@@ -239,8 +240,8 @@ pub fn total_rank_on<T: TableSource>(source: &mut T, index: usize) -> Option<usi
     Some(word_and_ones(source, last).1)
 }
 
-/// The word that has bit `last`, and how many of the bits to that one are ones, it too, where the tables are those of
-/// the words; else any number.
+/// The word that has bit `last`, and the number of 1 bits up to and including that bit where the tables are those of
+/// the words; any number otherwise.
 ///
 /// # Conditions
 /// There is such a bit.
@@ -254,8 +255,8 @@ fn word_and_ones<T: TableSource>(source: &mut T, last: usize) -> (u64, usize)
     ensures reads { OnlyReads T.lists T.reads source.old source.new 1 1 8 }
 {
     let record = last / RECORD_BITS;
-    // The entry and the last word first: then both come from memory while the words between are counted. These are added
-    // to what is known already, so that no register is saved for it.
+    // The entry and the last word are read first, so that both arrive from memory while the words between are counted.
+    // The count is added to a running sum, so that no register has to be saved for it.
     let entry = source.lower(last / BITS_PER_L2_ENTRY);
     let word = source.word(last / 64);
     let in_word = ones_through(word, last % 64) as usize;
@@ -271,13 +272,13 @@ fn word_and_ones<T: TableSource>(source: &mut T, last: usize) -> (u64, usize)
     (word, to_part.wrapping_add(in_part))
 }
 
-/// The bit at `place` of the source's words, and how many ones stand before it; `None` exactly where the place is past
-/// the end.
+/// The bit at position `place` of the source's words, and the number of 1 bits before it; `None` exactly where there is
+/// no such bit.
 ///
 /// # Conditions
-/// The source's tables are those of its words, of fewer than 2^58 words.
+/// The source's tables are those of its words, which are fewer than 2^58.
 /// # Cost
-/// At most one upper entry, one lower entry and eight words are read: the record that has the bit.
+/// At most one upper entry, one lower entry and the eight words of the bit's basic block are read.
 #[tactic(auto, using(bit_lists::proofs::BitLaws::bits_are_counted, bit_lists::proofs::lemmas::BitsLemmas::item_tested))]
 #[inline(always)]
 pub fn bit_and_rank_on<T: TableSource>(source: &mut T, place: usize) -> Option<(bool, usize)>
@@ -294,8 +295,8 @@ pub fn bit_and_rank_on<T: TableSource>(source: &mut T, place: usize) -> Option<(
     Some(bit_and_ones_before(word, ones, place))
 }
 
-/// The bit at `place`, and how many ones stand before it, by the word that has it and the ones to the bit, it too; of
-/// another word and number any.
+/// The bit at position `place` and the number of 1 bits before it, from the word that has it and the number of 1 bits
+/// up to and including it; from any other word and number, any answer.
 #[tactic(auto, using(bit_lists::proofs::lemmas::BitsLemmas::item_tested))]
 #[inline(always)]
 pub(crate) fn bit_and_ones_before(word: u64, ones: usize, place: usize) -> (bool, usize)

@@ -9,7 +9,7 @@ pub mod counts;
 use crate::source::counts::ReadCounts;
 use std::marker::Model;
 
-/// A content and its two tables. An item is read by a call that counts, and by no other.
+/// Words and two tables, whose items are read by calls that count, and by no others.
 pub trait TableSource {
     /// The words and the two tables.
     ghost lists: { Self → Lists };
@@ -47,15 +47,15 @@ pub trait TableSource {
         ensures counted { reads self.new ≡ lower_read (reads self.old) }
         ensures same { lists self.new ≡ lists self.old };
 
-    /// How many words there are.
+    /// The number of words.
     fn words_len(&self) -> usize
         ensures { result ≡ length (lists self.now).words };
 
-    /// How many upper entries there are.
+    /// The number of upper entries.
     fn upper_len(&self) -> usize
         ensures { result ≡ length (lists self.now).upper };
 
-    /// How many lower entries there are.
+    /// The number of lower entries.
     fn lower_len(&self) -> usize
         ensures { result ≡ length (lists self.now).lower };
 }
@@ -81,7 +81,7 @@ impl<'a> Model for Probe<'a> {
 }
 
 impl<'a> Probe<'a> {
-    /// A source over a content and two tables, with no reads counted yet.
+    /// A source over words and two tables, whose reads are counted from 0.
     #[inline(always)]
     pub fn new(content: &'a [u64], l1ranks: &'a [usize], l2ranks: &'a [u64]) -> Probe<'a>
         ensures lists { result.lists

@@ -1,4 +1,4 @@
-//! The two tables of an index, made in one pass over the words.
+//! The two tables of an index, built in one pass over the words.
 ghost use Rattle.std.specs.Prelude.{◌≡◌, ◌+◌, ◌*◌, ◌^◌, ◌<◌, ◌≤◌, length, map, min, IfOk};
 ghost use Rattle.std.specs.Box.{boxed_slice_items};
 ghost use Rattle.std.specs.Int.{div_ceil};
@@ -15,17 +15,17 @@ use broadword::count_bit_ones;
 use std::alloc::{AllocError, Global};
 use std::boxed::BoxedSlice;
 
-/// The two tables of a content.
+/// The two tables of a bit vector.
 #[derive(Drop)]
 pub struct Tables {
-    /// The ones before each part.
+    /// The number of 1 bits before each upper block.
     pub l1ranks: BoxedSlice<usize, Global>,
-    /// The packed entries.
+    /// The packed entry of each lower block.
     pub l2ranks: BoxedSlice<u64, Global>,
 }
 
-/// Four counts in one number, as `RankSelect101111` shows them: the ones before an entry in its part, and those in its
-/// first one, two and three records.
+/// Four counts in one number, as `RankSelect101111` shows them: the number of 1 bits before an entry in its upper
+/// block, and those in its first one, two and three basic blocks.
 #[inline(always)]
 fn pack(before: usize, one: usize, two: usize, three: usize) -> u64
     requires before { before < 2 ^ 32 }
@@ -37,8 +37,8 @@ fn pack(before: usize, one: usize, two: usize, three: usize) -> u64
     before as u64 + ((three as u64) << 32) + ((two as u64) << 43) + ((one as u64) << 54)
 }
 
-/// How many ones stand in what is left of the record of eight words from word `first` on, which the words' end cuts
-/// off. It is called for the last entry alone, and apart, so that the other records need no bounds kept for it.
+/// The number of 1 bits in the basic block from word `first` on, which the end of the words cuts off. Called for the
+/// last entry alone, and not inlined, so that the other basic blocks are counted without its bounds.
 #[cold]
 #[inline(never)]
 fn ones_of_cut_record(words: &[u64], first: usize) -> usize
@@ -51,7 +51,7 @@ fn ones_of_cut_record(words: &[u64], first: usize) -> usize
     count_bit_ones(&words[words.len().min(first)..])
 }
 
-/// How many ones stand in the record of eight words from word `first` on, or in what is left of it.
+/// The number of 1 bits in the basic block from word `first` on, or in those of its eight words that exist.
 #[inline(always)]
 pub fn ones_of_record(words: &[u64], first: usize) -> usize
     requires short { IsShort words.now }
@@ -68,10 +68,10 @@ pub fn ones_of_record(words: &[u64], first: usize) -> usize
     }
 }
 
-/// Lower entry `at`, where `before` ones stand before it in its part, and the number of ones in it.
+/// Lower entry `at`, before which its upper block has `before` 1 bits, and the number of 1 bits in its lower block.
 ///
 /// # Conditions
-/// The entry begins within the words, of which there are fewer than 2^58.
+/// The lower block starts within the words, which are fewer than 2^58.
 /// # Cost
 /// Each of its 32 words is read once.
 #[inline(always)]
@@ -91,7 +91,7 @@ pub fn make_entry(words: &[u64], at: usize, before: usize) -> (u64, usize)
     (pack(before, one, two, three), ones)
 }
 
-/// Pushes the lower entries of a part, in order, and answers the number of ones in it.
+/// Pushes the lower entries of an upper block in order, and returns the number of its 1 bits.
 fn push_entries(words: &[u64], part: usize, l2ranks: &mut Vec<u64>) -> Result<usize, AllocError>
     requires short { IsShort words.now }
     requires begun { part * 2 ^ 26 < length words.now }
@@ -116,10 +116,10 @@ fn push_entries(words: &[u64], part: usize, l2ranks: &mut Vec<u64>) -> Result<us
     Ok(in_part)
 }
 
-/// The tables of the words and the number of ones.
+/// Builds the tables of the words, and returns them with the number of 1 bits.
 ///
 /// # Errors
-/// `AllocError` if no memory was found for a table; nothing is left.
+/// `AllocError` if memory for a table was refused; nothing is leaked.
 pub fn make(alloc: Global, words: &[u64]) -> Result<(Tables, usize), AllocError>
     requires { IsShort words.now }
     ensures tables { IfOk result (λ pair. AreTablesOf (bits_of words.now)

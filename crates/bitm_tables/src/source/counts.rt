@@ -7,7 +7,7 @@ use std::mem::size_of;
 
 /// How often each list of a source was read: words, upper entries and lower entries.
 ///
-/// The numbers have no greatest one. They take no bytes at run time; only clauses see them.
+/// The numbers are unbounded. They take no bytes at run time; only clauses see them.
 #[derive(Drop)]
 pub struct ReadCounts {
     /// How many words were read.
