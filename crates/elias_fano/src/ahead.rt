@@ -24,7 +24,7 @@ impl Ahead {
     }
 }
 
-// A word has three fragments of so many digits. To read two at once costs more than it saves.
+// A word has three fragments of this width. To read two at once costs more than it saves.
 const WIDEST: u8 = 21;
 
 /// Of how many numbers the low bits are read at once, `width` of each; 0 where it does not pay.

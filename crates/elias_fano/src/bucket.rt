@@ -1,4 +1,4 @@
-//! The bucket of a value, from where it begins, and the search for the first number that reaches the value there.
+//! The bucket of a value, from where it starts, and the search for the successor of the value there.
 ghost use Rattle.std.specs.Prelude.{◌≡◌, ◌+◌, ◌*◌, ◌/◌, ◌^◌, ◌<◌, ◌≤◌, ℕ, List, length, IfSome, MatchOption};
 ghost use Rattle.std.specs.Prelude.{IsSomeAnd};
 ghost use Rattle.bitm.specs.Bits.{digit_count};
@@ -18,11 +18,11 @@ use bitm::{Answer, TableSource, index_laws, near_zero_on};
 // In how many words the end of a bucket is looked for before it is selected.
 const NEAR: usize = 8;
 
-/// How many of `n` numbers have at most `above` above their low digits, where `begin` is the first place with so many
-/// zeros before it; `None` only where the parts are wrong.
+/// How many of `n` numbers have high bits of at most `above`, where `begin` is the first position with `above` 0 bits
+/// before it; `None` only where the parts are wrong.
 ///
 /// # Cost
-/// Eight words at most, and a selection where these have no zero from `begin` on.
+/// At most eight words, and a selection where these have no 0 bit from `begin` on.
 #[inline(always)]
 fn end_on<T: TableSource>(source: &mut T, n: usize, above: usize, begin: usize) -> Option<usize>
     requires sized { HasSizes (T.lists source.old) }
@@ -40,11 +40,11 @@ fn end_on<T: TableSource>(source: &mut T, n: usize, above: usize, begin: usize) 
     }
 }
 
-/// Where the numbers with the upper digits of `v` begin and end, of `n` numbers; where these have no low digits, any
-/// place may stand for the end. `None` only where the parts are wrong.
+/// Where the numbers with the high bits of `v` start and end, of `n` numbers; the end may be any index where numbers
+/// have no low bits. `None` only where the parts are wrong.
 ///
 /// # Cost
-/// That of `end_on`, and nothing where there are no low digits.
+/// That of `end_on`, and nothing where numbers have no low bits.
 #[inline(always)]
 fn ends_on<T: TableSource>(
     source: &mut T,
@@ -74,17 +74,17 @@ fn ends_on<T: TableSource>(
     }
 }
 
-/// The least place of a sequence whose number is at least `v`, where `begin` is the first place of the upper vector
-/// with as many zeros before it as `v` says above its low digits, if there is one; `None` exactly where each number is
-/// less.
+/// The successor of `v` in a sequence: the least index whose number is at least `v`, and `None` exactly where each
+/// number is less. `begin` is the first position in the words of the high bits with as many 0 bits before it as the
+/// high bits of `v` say, if there is one.
 ///
-/// `Sequence::first_at_least` is this, over its own parts, behind the selection that finds `begin`.
+/// `Sequence::first_at_least` is this over its own parts, after the selection that finds `begin`.
 ///
 /// # Conditions
 /// The parts are those of one sequence; the source's tables are those of its words.
 /// # Cost
-/// Eight words at most, and where the bucket of `v` does not end in these a selection; then at most one fragment of the
-/// low digits for each binary digit of how many numbers share the upper digits of `v`.
+/// At most eight words, and a selection where the bucket of `v` does not end in these; then the low bits of at most one
+/// number for each binary digit of how many numbers share the high bits of `v`.
 #[inline(always)]
 pub(crate) fn first_from_on<T: TableSource>(
     source: &mut T,

@@ -309,7 +309,8 @@ impl<S: SelectForRank101111, S0: Select0ForRank101111> Sequence<S, S0> {
 
 impl<S: SelectForRank101111 + GetSize, S0: Select0ForRank101111 + GetSize> GetSize
     for Sequence<S, S0> {
-    // both vectors, eight bytes for each begun 2^32 bits and each begun 2048 bits of the upper one, and the strategies
+    // both vectors, eight bytes for each upper block and each lower block of the words of the high bits, and the
+    // strategies
     ghost dyn_bytes = { λ e. let l = width_of e.items in let words = upper_words_of e.items l in
         saturated_size (8 * low_words_of e.items l + 8 * words + 8 * div_ceil words (2 ^ 26)
         + 8 * div_ceil words 32 + S.dyn_bytes e.select + S0.dyn_bytes e.select0) };
