@@ -6,7 +6,7 @@ ghost use Rattle.bitm.specs.Count.{ones_of, IsRank, Picks};
 
 use bitm::{Rank, select64};
 
-/// How many of so many bits from the front are ones, as `rank` answers it; `None` exactly where there are fewer bits.
+/// The number of 1 bits among the first `place` bits, as `rank` answers it; `None` exactly where there are fewer bits.
 pub fn rank_if_inside<I: Rank>(index: &I, place: usize) -> Option<usize>
     ensures { IsRank (I.bits index.now) place result }
 {

@@ -1,5 +1,5 @@
-//! A bit and how many ones stand before it: what a perfect hash and a wavelet matrix ask of an index, over any index
-//! that has both; and the same over a source, with what it reads.
+//! A bit and the number of 1 bits before it, the query that a perfect hash and a wavelet matrix make: over any index
+//! that has access and rank, and over a source, with a bound on its reads.
 ghost use Rattle.std.specs.Prelude.{◌≡◌, ◌+◌, ◌<◌, ◌≤◌, SomeIff, IsNone, length, true};
 ghost use Rattle.bitm.specs.Bits.{item};
 ghost use Rattle.bitm.specs.Count.{ones_before, zeros_of};
@@ -8,7 +8,7 @@ ghost use Rattle.bitm.specs.Tables.{IsIndexed, bits_in};
 
 use bitm::{Access, TableSource, bit_on, rank_on};
 
-/// The number of a member of a set of places, which is how many members are less; `None` exactly where `place` is no
+/// The number of a member of a set of positions, which is how many members are less; `None` exactly where `place` is no
 /// member.
 pub fn number_if_member<I: Access>(set: &I, place: usize) -> Option<usize>
     ensures { let bits = I.bits set.now in
@@ -23,8 +23,8 @@ pub fn number_if_member<I: Access>(set: &I, place: usize) -> Option<usize>
     }
 }
 
-/// Where the ones among the places from `from` up to `to` stand after a level of a wavelet matrix was sorted: all its
-/// zeros come first, and then its ones.
+/// Where the 1 bits from position `from` on and before position `to` are in the next level of a wavelet matrix: its 0
+/// bits come first, and then its 1 bits.
 ///
 /// # Conditions
 /// There are at least `from` bits, and at least `to`.
@@ -40,12 +40,12 @@ pub fn ones_after_sorting<I: Access>(level: &I, from: usize, to: usize) -> (usiz
     (zeros + before, zeros + up_to)
 }
 
-/// The number of a member, as `number_if_member` says, over any source: a word for the bit, and of a member its rank.
+/// `number_if_member` over any source: a word for the bit, and the rank of a member.
 ///
 /// # Conditions
 /// The source's tables are those of its words, of fewer than 2^58 words.
 /// # Cost
-/// At most one upper entry, one lower entry and nine words are read, and of a place that is no member one word.
+/// At most one upper entry, one lower entry and nine words are read; one word alone where the position is no member.
 pub fn number_on<T: TableSource>(source: &mut T, place: usize) -> Option<usize>
     requires { IsIndexed (T.lists source.old) }
     ensures number { let bits = bits_in (T.lists source.old) in

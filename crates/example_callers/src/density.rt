@@ -5,8 +5,8 @@ ghost use Rattle.bitm.specs.Density.{clamped_log};
 
 use bitm::CombinedSamplingDensity;
 
-/// One sample for each 2^7 items of a content below 1024 bits, and for twice as many items with each further 1024 bits,
-/// up to 2^31.
+/// One sample for each 2^7 bits of the kind in a bit vector of fewer than 1024 bits, and for twice as many with each
+/// further 1024 bits, up to 2^31.
 #[derive(Clone, Copy)]
 pub struct ByLength;
 

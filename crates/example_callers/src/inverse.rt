@@ -63,7 +63,7 @@ pub fn ranks_add_up<I: Rank>(bits: &I, index: usize) -> usize
     bits.rank(index) + bits.rank0(index)
 }
 
-/// How many ones there are from the place of the one of this rank on.
+/// The number of 1 bits from that of this rank on, itself included.
 ///
 /// # Conditions
 /// There are more than `rank` ones.

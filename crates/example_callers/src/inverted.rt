@@ -1,14 +1,13 @@
 //! Sequences as inverted lists: the numbers that two of them share.
 //!
-//! Each list is asked for the first number that is at least one of the other's, so what lies between is passed over
-//! without being read.
+//! Each list finds the successor of a number of the other list, so that the numbers between are skipped and never read.
 ghost use Rattle.std.specs.Prelude.{ℕ, ◌<◌, ◌≤◌, length, slice_index, IfOk};
 ghost use Rattle.example_callers.specs.Inverted.{AreCommon};
 
 use elias_fano::{EliasFano, laws};
 use std::alloc::{AllocError, Global};
 
-/// The place from which on numbers are at least `number`, which may be the one after all.
+/// The index from which on numbers are at least `number`, or the length of the list where all are less.
 fn place_from(list: &EliasFano, number: u64) -> usize
     ensures bound { result ≤ length list.now.items }
     ensures less { (k : ℕ) → k < result → slice_index list.now.items k < number }
@@ -22,7 +21,7 @@ fn place_from(list: &EliasFano, number: u64) -> usize
     }
 }
 
-/// The numbers that stand in both lists, in order; one that stands twice in the first comes twice.
+/// The numbers that are in both lists, in order; a number that is twice in the first list comes twice.
 ///
 /// # Errors
 /// `AllocError` if no memory was found.

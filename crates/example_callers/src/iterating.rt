@@ -26,7 +26,7 @@ pub fn ones_by_their_places(words: &[u64]) -> usize
     count
 }
 
-/// The places of the ones, in a vector.
+/// The positions of the 1 bits, in a vector.
 ///
 /// # Conditions
 /// There are fewer than 2^58 words.

@@ -22,8 +22,8 @@ pub fn repair(words: &[u64], upper: &mut [usize], lower: &mut [u64]) -> bool
     build(words, upper, lower).is_some()
 }
 
-/// The place of the one with `rank` ones before it, by tables that may be wrong, and are right afterwards; `None` where
-/// there is none, or the lengths of the tables are not right.
+/// The position of the 1 bit with `rank` 1 bits before it, by tables that may be wrong, and are right afterwards;
+/// `None` where there is no such bit, or the lengths of the tables are wrong.
 pub fn select(words: &[u64], upper: &mut [usize], lower: &mut [u64], rank: usize) -> Option<usize>
     ensures answer { HasSizes (lists_of words.now upper.old lower.old)
         → IsSelect (bits_of words.now) true rank result }

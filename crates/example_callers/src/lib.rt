@@ -2,10 +2,10 @@
 //!
 //! | To do | File |
 //! |---|---|
-//! | build an index over words of one's own and ask it | `readme` |
+//! | build an index over your words and query it | `readme` |
 //! | write bits of an array, a boxed slice, a vector, and read them; append words | `writing` |
 //! | make words in code that is generic over the vector, or piece by piece | `owned` |
-//! | go over the places of ones, or over bits, in a `for` | `iterating` |
+//! | iterate over the positions of 1 bits, or over bits, in a `for` | `iterating` |
 //! | add to a set of numbers, and combine several, word by word | `sets` |
 //! | clear bits in a loop, and keep a set of numbers | `sieve` |
 //! | relate rank and selection in code that is generic over the index | `inverse` |
@@ -13,21 +13,21 @@
 //! | number the members of a set densely, and find a member by its number | `dense` |
 //! | keep values by the numbers of a perfect hash | `numbered` |
 //! | find them over levels that came from elsewhere and may be wrong | `numbered_lent` |
-//! | keep several vectors in one content, under one index | `stretches` |
+//! | store several bit vectors in one, under one index | `stretches` |
 //! | test a condition and then call | `asking` |
 //! | test a bit and rank it, in code that is generic over the index or the source | `bits_and_ranks` |
-//! | find the run of ones round a place, and a member of a range | `neighbours` |
-//! | ask for many places at once | `many` |
+//! | find the run of 1 bits around a position, and a member of a range | `neighbours` |
+//! | run many queries at once | `many` |
 //! | take the median of a range | `median` |
 //! | go up and down a tree | `family` |
 //! | know what a call reads | `counted` |
-//! | rank and select over tables of one's own | `source` |
-//! | ask tables that came with the words and may be wrong | `lent` |
-//! | index an array of one's own by ranks of such tables | `ranked` |
-//! | ask the parts of a sequence that came from elsewhere and may be wrong | `lent_sequence` |
-//! | select by samples that may be stale | `sampled` |
-//! | select by a strategy of one's own | `strategies` |
-//! | sample by a density of one's own | `density` |
+//! | rank and select over your own tables | `source` |
+//! | query tables that came with the words and may be wrong | `lent` |
+//! | index your own array by ranks of such tables | `ranked` |
+//! | query the parts of a sequence that came from elsewhere and may be wrong | `lent_sequence` |
+//! | select from samples that may be stale | `sampled` |
+//! | select by your own strategy | `strategies` |
+//! | sample by your own density | `density` |
 #![tactic(auto)]
 
 pub mod asking;

@@ -18,8 +18,8 @@ pub fn all_below(ranks: &[usize], ones: usize) -> bool
     true
 }
 
-/// Writes the places of the ones with these ranks, and says whether each of them has one; where one has none, `places`
-/// stays as it is.
+/// Writes the positions of the 1 bits with these ranks, and returns whether each rank has such a bit; where some rank
+/// has none, `places` keeps its values.
 #[tactic(auto, using(bitm::proofs::BitLaws::bits_are_counted))]
 pub fn try_select_many<S: SelectForRank101111, S0: Select0ForRank101111>(
     index: &RankSelect101111<S, S0, &[u64]>,
@@ -38,8 +38,8 @@ pub fn try_select_many<S: SelectForRank101111, S0: Select0ForRank101111>(
     all
 }
 
-/// Writes the places of the zeros with these ranks, and says whether each of them has one; where one has none, `places`
-/// stays as it is.
+/// Writes the positions of the 0 bits with these ranks, and returns whether each rank has such a bit; where some rank
+/// has none, `places` keeps its values.
 #[tactic(auto, using(bitm::proofs::BitLaws::bits_are_counted))]
 pub fn try_select0_many<S: SelectForRank101111, S0: Select0ForRank101111>(
     index: &RankSelect101111<S, S0, &[u64]>,
@@ -58,8 +58,8 @@ pub fn try_select0_many<S: SelectForRank101111, S0: Select0ForRank101111>(
     each
 }
 
-/// Writes how many of the first so many bits are ones, for each index, and says whether there are so many bits for each
-/// of them; where there are not for one, `ranks` stays as it is.
+/// Writes for each index the number of 1 bits among that many first bits, and returns whether there are that many bits
+/// for each index; where there are fewer for some index, `ranks` keeps its values.
 #[tactic(auto, using(bitm::proofs::BitLaws::bits_are_counted))]
 pub fn try_rank_many<S: SelectForRank101111, S0: Select0ForRank101111>(
     index: &RankSelect101111<S, S0, &[u64]>,

@@ -1,11 +1,11 @@
-//! The neighbours of a place, and the members of a range, by what follows from rank and selection.
+//! The run of 1 bits around a position, and the members of a range, from rank and selection.
 ghost use Rattle.std.specs.Prelude.{◌≡◌, ℕ, ◌+◌, ◌<◌, ◌≤◌, MatchOption, length, true};
 ghost use Rattle.bitm.specs.Bits.{item};
 ghost use Rattle.bitm.specs.Count.{ones_before};
 
 use bitm::{Rank, Select, Select0, ranges};
 
-/// The run of ones that `place` is in: its first place, and the place after its last.
+/// The run of 1 bits that has position `place`: its first position, and the position after its last.
 ///
 /// # Conditions
 /// There is a one at `place`.

@@ -1,5 +1,5 @@
-//! Words that are made: by code that is generic over the vector, where what `BitVec` makes is what `AsSlice` lends, and
-//! piece by piece.
+//! Building words: in code that is generic over the vector, where `AsSlice` borrows what `BitVec` made, and piece by
+//! piece.
 ghost use Rattle.std.specs.Prelude.{◌≡◌, ◌<◌, ◌*◌, ◌^◌, ◌∷◌, ℕ, true, false, IfOk};
 ghost use Rattle.bitm.specs.Bits.{bits_of, low_digits};
 ghost use Rattle.bitm.specs.Number.{number_at};
@@ -10,7 +10,7 @@ use std::alloc::{AllocError, Global};
 /// Whether bit `place` of a new vector of `len` zeros is one: it never is.
 ///
 /// # Conditions
-/// The place is below the length.
+/// The position is below the length.
 /// # Errors
 /// `AllocError` if no memory was found.
 #[tactic(auto, using(bitm::proofs::BitLaws::zeros_have_no_ones))]
@@ -41,7 +41,7 @@ pub fn copies<V: BitVec>(alloc: V::Alloc, number: u64, count: usize) -> Result<V
     V::with_bitwords(alloc, number, 3, count)
 }
 
-/// A content that is written piece by piece: a one, and then the ten lowest digits of a number.
+/// A bit vector that is written piece by piece: a 1 bit, and then the ten lowest bits of a number.
 ///
 /// # Errors
 /// `AllocError` if memory was refused.

@@ -1,12 +1,12 @@
-//! Ranks by tables that may be wrong as places of an array of one's own: none is outside, whatever the tables hold.
+//! Ranks by tables that may be wrong as indices of your own array: none is out of bounds, whatever the tables hold.
 ghost use Rattle.std.specs.Prelude.{◌≡◌, ◌<◌, ◌≤◌, Some, None, length, slice_index};
 ghost use Rattle.bitm.specs.Count.{ones_before};
 ghost use Rattle.bitm.specs.Tables.{HasTables, bits_in};
 
 use bitm_view::{Answer, Lent};
 
-/// The item of an array of one's own at the rank of a place, by tables that may be wrong; the array has an item for
-/// each bit and one more. `None` where there are fewer bits, or the tables are wrong.
+/// The item of your array at the rank of `place`, by tables that may be wrong; the array has one item more than there
+/// are bits. `None` where there are fewer bits, or the tables are wrong.
 pub fn item_at_rank(lent: &Lent<'_>, place: usize, items: &[u64]) -> Option<u64>
     requires { length (bits_in lent.now) < length items.now }
     ensures item { HasTables lent.now → place ≤ length (bits_in lent.now)
@@ -14,7 +14,7 @@ pub fn item_at_rank(lent: &Lent<'_>, place: usize, items: &[u64]) -> Option<u64>
     ensures none { length (bits_in lent.now) < place → result ≡ None }
 {
     match lent.rank::<1>(place) {
-        // No count is above its place, whatever the tables hold.
+        // No count is above its index, whatever the tables hold.
         Answer::Found(count) => Some(items[count]),
         Answer::Absent | Answer::Wrong => None,
     }

@@ -12,7 +12,7 @@ use std::boxed::BoxedSlice;
 /// Makes a bit of the vector one.
 ///
 /// # Conditions
-/// The place is inside.
+/// There is such a bit.
 pub fn mark(content: &mut BoxedSlice<u64, Global>, place: usize)
     requires { place < 64 * length (boxed_slice_items content.old) }
     ensures len { length (boxed_slice_items content.new)
@@ -23,8 +23,8 @@ pub fn mark(content: &mut BoxedSlice<u64, Global>, place: usize)
     words::set_bit(content.as_mut_slice(), place);
 }
 
-/// Of 2048 bits of which bit 100 is one: how many of the first `index` are ones, and the place of the one with `rank`
-/// ones before it.
+/// Of 2048 bits of which bit 100 alone is a 1 bit: the number of 1 bits among the first `index`, and the position of
+/// the 1 bit with `rank` 1 bits before it.
 ///
 /// # Errors
 /// `AllocError` if no memory was found.

@@ -7,7 +7,7 @@ ghost use Rattle.bitm_view.specs.Samples.{HasRoom};
 
 use bitm_view::{Answer, Lent, LentSamples};
 
-/// The place of the one with `rank` ones before it, by samples of whatever words: they make it no other place.
+/// The position of the 1 bit with `rank` 1 bits before it, from samples of whatever words: they never change it.
 pub fn select(lent: &Lent<'_>, samples: &LentSamples<'_>, rank: usize) -> Option<usize>
     requires { HasTables lent.now }
     ensures { IsSelect (bits_in lent.now) true rank result }

@@ -92,7 +92,7 @@ pub fn rank_in(kept: &mut Kept, index: usize) -> Option<usize>
     rank_on(kept, index)
 }
 
-/// The place of the zero with exactly `rank` zeros before it; `None` exactly where there is none.
+/// The position of the 0 bit with exactly `rank` 0 bits before it; `None` exactly where there is none.
 ///
 /// # Conditions
 /// The tables are those of the words, of which there are fewer than 2^58.

@@ -35,7 +35,7 @@ pub fn rank_in<I: Access>(index: &I, begin: usize, len: usize, i: usize) -> usiz
     up_to - before
 }
 
-/// The place, in the vector of `len` bits that begins at bit `begin`, of its one with `rank` ones of it before.
+/// The position, in the bit vector of `len` bits from bit `begin` on, of its 1 bit with rank `rank`.
 ///
 /// # Conditions
 /// The vector is inside, and has more than `rank` ones.

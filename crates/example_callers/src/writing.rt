@@ -66,7 +66,7 @@ pub fn in_a_slice(slice: &mut [u64])
     words::set_bit(slice, 127);
 }
 
-/// A vector that is lent once for both writes: it holds what they made.
+/// A vector that is borrowed once for both writes, and has what they wrote.
 ///
 /// # Conditions
 /// There are two words.

@@ -1,5 +1,5 @@
 //! A concordance of a text: its words become numbers, in the order of a dictionary, and a wavelet matrix of these
-//! numbers tells how often a word is there, where, and which words are the most frequent.
+//! numbers answers how often a word occurs, where, and which words are the most frequent.
 #![tactic(auto)]
 
 use std::alloc::{AllocError, Global};

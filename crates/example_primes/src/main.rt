@@ -23,7 +23,7 @@ fn mark(content: &mut [u64], text: &str)
     }
 }
 
-/// The first number from a place on, and the last one before it, if there are both.
+/// The first number from `place` on, and the last number before it, if there are both.
 fn beside<I: Rank + Select>(index: &I, place: usize) -> Option<(usize, usize)> {
     if place == 0 || place >= index.len() {
         return None;

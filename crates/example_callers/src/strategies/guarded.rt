@@ -1,4 +1,4 @@
-//! Selection by another strategy, which is asked only where there is an answer, with a count of the questions.
+//! Selection by another strategy, which is called only where there is an answer, with a count of the calls.
 ghost use Rattle.std.specs.Prelude.{◌≡◌, length};
 ghost use Rattle.bitm.specs.Bits.{bits_of};
 ghost use Rattle.bitm.specs.Count.{ones_before, zeros_before};
@@ -8,7 +8,8 @@ use std::alloc::{AllocError, Global};
 use std::cell::Cell;
 use std::marker::Model;
 
-/// Selects by the strategy inside, which it asks only for a rank below the number of items, and counts its own calls.
+/// Selects by the strategy inside, which it calls only for a rank below the number of bits of the kind, and counts its
+/// own calls.
 #[derive(Drop)]
 pub struct Guarded<S> {
     inner: S,
@@ -26,7 +27,7 @@ impl<S> Model for Guarded<S> {
 }
 
 impl<S> Guarded<S> {
-    /// How many times this value was asked to select, up to the greatest `usize` and then from 0 on.
+    /// The number of selections by this value, up to the greatest `usize` and then from 0 on.
     pub fn calls(&self) -> usize {
         self.calls.get()
     }

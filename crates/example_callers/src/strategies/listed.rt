@@ -8,13 +8,13 @@ use std::alloc::{AllocError, Global};
 use std::iter::Iterator;
 use std::marker::Model;
 
-/// Selects by a look into the list of the places, which it keeps.
+/// Selects by a look into the list of positions, which it owns.
 #[derive(Drop)]
 pub struct Listed {
     places: Vec<usize>,
 }
 
-/// The places of the bits of the kind, in one allocation of just their size.
+/// The positions of the bits of the kind, in one allocation of exactly their size.
 fn places_of<const BIT: u8>(alloc: Global, content: &[u64]) -> Result<Vec<usize>, AllocError>
     requires { IsShort content.now }
     ensures { IfOk result (λ list. list.items ≡ places (as_bit BIT) 0 (bits_of content.now)) }
@@ -34,7 +34,7 @@ impl Model for Listed {
 }
 
 impl Listed {
-    /// Item `rank` of the list: where it has the places of a kind of bit, what that rank picks.
+    /// Item `rank` of the list: where it has the positions of a kind of bit, the position of the bit with that rank.
     fn look_up(&self, rank: usize) -> Option<usize>
         ensures { (b : List Bool) (v : Bool) → self.now ≡ places v 0 b
             → IsSelect b v rank result }

@@ -1,4 +1,4 @@
-//! Selection by a walk over the content.
+//! Selection by a walk over the bits.
 ghost use Rattle.std.specs.Prelude.{true, false};
 ghost use Rattle.bitm.specs.Bits.{bits_of, IsShort};
 ghost use Rattle.bitm.specs.Count.{as_bit, IsSelect};
@@ -7,11 +7,11 @@ use bitm::{BitBIterator, Select0ForRank101111, SelectForRank101111};
 use std::alloc::{AllocError, Global};
 use std::iter::Iterator;
 
-/// Selects by a walk over the places of the content, and keeps nothing.
+/// Selects by a walk over the bits, and stores nothing.
 #[derive(Clone, Copy)]
 pub struct Scan;
 
-/// The place of the bit of the kind with exactly `rank` such bits before it; `None` exactly where there is none.
+/// The position of the bit of the kind with exactly `rank` such bits before it; `None` exactly where there is none.
 fn walk_to<const BIT: u8>(content: &[u64], rank: usize) -> Option<usize>
     requires { IsShort content.now }
     ensures { IsSelect (bits_of content.now) (as_bit BIT) rank result }
