@@ -11,7 +11,7 @@ ghost use Rattle.test_bitm.specs.Computed.{lists_of};
 use bitm::{Probe, ReadCounts, TableSource};
 use std::marker::Model;
 
-/// So many words, and what was read of them.
+/// Words that are computed where they are read: their number, and what was read of them.
 #[derive(Drop)]
 pub struct Computed {
     len: usize,

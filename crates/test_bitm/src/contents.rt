@@ -1,14 +1,14 @@
-//! Rank and selection over small contents, lent and owned, by each strategy. The rows are worked out by hand, so that
-//! they test the definitions of rank and selection.
+//! Rank and selection over small bit vectors, borrowed and owned, by each strategy. The rows are worked out by hand, so
+//! that they test the definitions of rank and selection.
 use crate::walk::{Sampled, index_over, one_agrees, owned, rank_agrees, zero_agrees};
 use bitm::{BinaryRankSearch, Rank, Select, Select0, Select0ForRank101111, SelectForRank101111};
 use std::alloc::{AllocError, Global};
 use std::test::Fail;
 
-/// A number that is asked, with the answer.
+/// A query, with its answer.
 type Row = (usize, Option<usize>);
 
-/// A content, with rows of `try_rank`, of `try_select` and of `try_select0`.
+/// Words, with rows of `try_rank`, of `try_select` and of `try_select0`.
 #[derive(Clone, Copy)]
 struct Case<'a> {
     words: &'a [u64],
@@ -140,7 +140,7 @@ fn rows_agree<I: Rank + Select + Select0>(index: &I, case: &Case<'_>) -> bool {
     agrees
 }
 
-/// Whether an index over the words, which are lent, does.
+/// Whether an index over borrowed words does.
 fn lent_agrees<S: SelectForRank101111, S0: Select0ForRank101111>(
     alloc: Global,
     case: &Case<'_>,

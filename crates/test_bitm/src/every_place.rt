@@ -1,5 +1,5 @@
-//! Every place and every rank, to past the end, of contents that end inside an entry, at its end or behind it:
-//! compared with a walk over the bits. A slip at a border would show here, were it in a definition, the compiler or the
+//! Every position and every rank, to past the end, of bit vectors that end in a lower block, at its end or after it:
+//! compared with a walk over the bits. A slip at a border would show here, be it in a definition, the compiler or the
 //! toolchain.
 use crate::walk::{Sampled, all_agree, borders_agree};
 use bitm::{BinaryRankSearch, Select0ForRank101111, SelectForRank101111};

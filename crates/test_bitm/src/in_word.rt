@@ -7,7 +7,7 @@ use example_callers::asking::selected_in_word;
 /// Ones at 2, 7, 15, 25, 33, 47, 60 and 61.
 const EIGHT_ONES: u64 = 0x3000_8002_0200_8084;
 
-/// The place of the one with `rank` ones before it, found bit by bit.
+/// The position of the 1 bit with `rank` 1 bits before it, found bit by bit.
 fn found(n: u64, rank: u8) -> Option<u8> {
     let mut left = rank;
     for place in 0..64u8 {

@@ -1,6 +1,6 @@
-//! A content of 2^20 words with ones at the even places, asked at each step of 256 bits. By hand: half of the bits
-//! before an even place are ones, and each two places have one bit of each kind. So the compiled code runs over
-//! tables of many entries.
+//! A bit vector of 2^20 words with 1 bits at the even positions, queried at each step of 256 bits. By hand: half of the
+//! bits before an even position are 1 bits, and each two positions have one bit of each kind. So the compiled code runs
+//! over tables of many entries.
 use crate::walk::Sampled;
 use bitm::{
     BinaryRankSearch, BitVec, Rank, RankSelect101111, RankSimple, Select, Select0,
@@ -17,7 +17,7 @@ fn even_ones(alloc: Global) -> Result<Words, AllocError> {
     Words::with_64bit_segments(alloc, 0x5555_5555_5555_5555, 0x10_0000)
 }
 
-/// Half of the bits before each place are ones.
+/// Half of the bits before each position are 1 bits.
 fn expect_ranks<I: Rank>(rt: &impl Abort, index: &I) {
     for k in 0..0x4_0000usize {
         assert!(rt; index.try_rank(256 * k) == Some(128 * k));
@@ -32,7 +32,7 @@ fn expect_places<I: Select + Select0>(rt: &impl Abort, index: &I) {
     }
 }
 
-/// Builds an index by these strategies, and asks it.
+/// Builds an index with these strategies, and queries it.
 fn expect_answers<S: SelectForRank101111, S0: Select0ForRank101111>(
     rt: &impl Abort,
     alloc: Global,

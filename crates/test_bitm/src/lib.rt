@@ -8,10 +8,10 @@
 //!   out by hand or taken from tests of the original crate, and never from an answer of our own;
 //! - that the compiler and the toolchain make of the proved code a program that does the same: so it is the compiled
 //!   code that answers;
-//! - what no clause says: that `build` finds memory where there is some, which strategy an index asks, which types
-//!   keep bytes on the heap.
+//! - what no clause says: that `build` finds memory where there is some, which strategy an index calls, which types
+//!   have bytes on the heap.
 //!
-//! The hosts compare the compiled library with plain lists, by hundreds of thousands of calls.
+//! The language bindings compare the compiled library with plain lists, by hundreds of thousands of calls.
 #![tactic(auto)]
 
 #[cfg(test)]

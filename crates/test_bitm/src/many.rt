@@ -1,12 +1,12 @@
-//! Many queries of an index at once, of few words and of so many that the searches begin at a guess. By hand: of words
-//! with their lowest bit alone set, the one of rank r is at 64 r and the zero of rank r at r + r / 63 + 1, and the ones
-//! before place p are p / 64, rounded up; of empty words before full ones, the one of rank r is r after the empty ones,
-//! and the zero of rank r is at r. Full words at the end mislead a guess.
+//! Many queries of an index at once, of few words and of enough words for the searches to start from a guess. By hand:
+//! in words with their lowest bit alone set, the 1 bit of rank r is at 64 r and the 0 bit of rank r at r + r / 63 + 1,
+//! and there are p / 64, rounded up, 1 bits before position p; in empty words before full words, the 1 bit of rank r is
+//! r after the end of the empty words, and the 0 bit of rank r is at r. Full words at the end mislead a guess.
 use bitm::{BinaryRankSearch, RankSelect101111};
 use example_callers::many::{try_rank_many, try_select_many, try_select0_many};
 use std::alloc::{AllocError, Global};
 
-/// An index over words that are lent.
+/// An index over borrowed words.
 type Index<'a> = RankSelect101111<BinaryRankSearch, BinaryRankSearch, &'a [u64]>;
 
 /// The three calls.
@@ -17,7 +17,8 @@ enum Call {
     Select0,
 }
 
-/// A content: so many empty words before so many full ones, or, with none empty, so many with their lowest bit set.
+/// Words: a number of empty words before a number of full words or, with no empty words, words with their lowest bit
+/// set.
 #[derive(Clone, Copy)]
 struct Content {
     empty: usize,
@@ -64,7 +65,7 @@ impl Content {
     }
 }
 
-/// Asks one of the calls; says whether each query has an answer.
+/// Makes one of the calls; returns whether each query has an answer.
 fn ask(index: &Index<'_>, call: Call, queries: &[usize], answers: &mut [usize]) -> bool {
     if queries.len() != answers.len() {
         return false;
@@ -76,7 +77,8 @@ fn ask(index: &Index<'_>, call: Call, queries: &[usize], answers: &mut [usize]) 
     }
 }
 
-/// Whether so many queries below the limit, far apart, are answered, and with the limit beside them none is.
+/// Whether the given number of queries below the limit, far apart, are answered rightly, and whether the same queries
+/// and one at the limit are refused together.
 fn agrees(
     alloc: Global,
     index: &Index<'_>,

@@ -2,7 +2,7 @@
 use example_callers::readme::ask;
 use std::test::Fail;
 
-/// A place and a rank that are asked, and the answers to both.
+/// A position and a rank, and the answers to both queries.
 type Row = (usize, usize, Option<usize>, Option<usize>);
 
 /// The rows of the README.

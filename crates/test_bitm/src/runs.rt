@@ -10,7 +10,7 @@ use std::rt::Files;
 use std::test::Fail;
 use std::{env, fs, io};
 
-/// A writer over memory of which the writes fail once so many succeeded, and the flush at will.
+/// A writer over memory whose writes fail after the given number of successes, and whose flush fails at will.
 #[derive(Drop)]
 struct Failing {
     written: Vec<u8>,

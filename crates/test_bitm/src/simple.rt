@@ -6,7 +6,7 @@ use std::boxed::BoxedSlice;
 use std::convert::AsSlice;
 use std::process::Abort;
 
-/// A place with the ones before it, where it is inside.
+/// An index with the number of 1 bits before it, where there are that many bits.
 type Row = (usize, Option<usize>);
 
 /// Compares what the calls of the trait answer with the rows.
@@ -17,7 +17,7 @@ fn expect_ranks<R: Rank>(rt: &impl Abort, index: &R, rows: &[Row]) {
     }
 }
 
-/// Compares the type's own calls, which answer 32 bits, with the ones before a place that is inside.
+/// Compares the type's own calls, whose answers have 32 bits, with the number of 1 bits before an index.
 fn expect_narrow(rt: &impl Abort, index: &ArrayWithRankSimple, place: usize, ones: u32) {
     match index.try_rank(place) {
         Some(count) => assert!(rt; (count, index.rank(place)) == (ones, ones)),

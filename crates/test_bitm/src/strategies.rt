@@ -1,5 +1,5 @@
-//! The index with strategies and a density that a user wrote: the places of sixty words that have ones at 0, 2 and 3,
-//! worked out by hand; and which strategy is asked, which no clause says.
+//! The index with strategies and a density that a user wrote: the positions in sixty words that have 1 bits at 0, 2 and
+//! 3, worked out by hand; and which strategy is called, which no clause says.
 use crate::walk::Sampled;
 use bitm::{
     BinaryRankSearch, CombinedSampling, RankSelect101111, Select, Select0, Select0ForRank101111,
@@ -60,7 +60,7 @@ fn an_index_asks_the_strategy_of_its_kind_once_a_call(rt: HostRuntime) -> Result
     }
 }
 
-/// Stops where it answers otherwise than by hand, or asks more or fewer times.
+/// Stops where an answer differs from that by hand, or where there are more or fewer calls.
 fn expect_calls(rt: &impl Abort, index: &Counting<'_>) {
     for (rank, place, rank0, place0) in [(0, 0, 0, 1), (2, 3, 60, 63), (4, 66, 61, 64)] {
         let found = (index.try_select(rank), index.try_select0(rank0));

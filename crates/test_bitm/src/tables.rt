@@ -12,7 +12,7 @@ use std::convert::AsSlice;
 use std::process::Abort;
 use std::test::Fail;
 
-/// An index over words that are lent.
+/// An index over borrowed words.
 type Lent<'a> = RankSelect101111<BinaryRankSearch, BinaryRankSearch, &'a [u64]>;
 
 /// Words, and what an index over them keeps: the ones, the upper table and the lower one.
@@ -44,7 +44,7 @@ fn lent<'a>(alloc: Global, words: &'a [u64]) -> Result<(Lent<'a>, usize), AllocE
     index_over::<BinaryRankSearch, BinaryRankSearch>(alloc, words)
 }
 
-/// Whether an index over lent words keeps what it should.
+/// Whether an index over borrowed words has the tables that it should.
 fn lent_keeps(alloc: Global, (words, total, upper, lower): Kept<'_>) -> Result<bool, AllocError> {
     let (index, ones) = lent(alloc, words)?;
     Ok((ones, index.l1ranks(), index.l2ranks()) == (total, upper, lower))

@@ -11,7 +11,7 @@ use std::process::Abort;
 /// The words of a part and of half a part, which have 2^32 + 2^31 = 6442450944 bits.
 const WORDS: usize = 100_663_296;
 
-/// Writes the places of the ones with these ranks, and says whether each rank has one.
+/// Writes the positions of the 1 bits with these ranks, and returns whether each rank has such a bit.
 fn select_each(ranks: &[usize], places: &mut [usize]) -> bool
     requires { length ranks.now ≡ length places.old }
 {
@@ -23,7 +23,7 @@ fn select_each(ranks: &[usize], places: &mut [usize]) -> bool
     each
 }
 
-/// Writes the places of the zeros with these ranks, and says whether each rank has one.
+/// Writes the positions of the 0 bits with these ranks, and returns whether each rank has such a bit.
 fn select0_each(ranks: &[usize], places: &mut [usize]) -> bool
     requires { length ranks.now ≡ length places.old }
 {
@@ -35,7 +35,7 @@ fn select0_each(ranks: &[usize], places: &mut [usize]) -> bool
     each
 }
 
-/// Writes the ranks of these places, and says whether each place is inside or the end.
+/// Writes the ranks of these indices, and returns whether there are that many bits for each index.
 #[tactic(auto, using(bitm::proofs::BitLaws::bits_are_counted))]
 fn rank_each(indices: &[usize], ranks: &mut [usize]) -> bool
     requires { length indices.now ≡ length ranks.old }

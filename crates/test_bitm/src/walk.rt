@@ -16,7 +16,8 @@ pub type Sampled = CombinedSampling<AdaptiveCombinedSamplingDensity<13>>;
 /// More words than any test has.
 const TOO_MANY_WORDS: usize = 1_000_000;
 
-/// What one walk over the bits finds: the places of each kind, and the ones before each place and before the end.
+/// What one walk over the bits finds: the positions of each kind, and the number of 1 bits before each position and
+/// before the end.
 #[derive(Drop)]
 struct Found {
     ones: Vec<usize>,
@@ -56,7 +57,8 @@ pub fn words_of(alloc: Global, runs: &[(u64, usize)]) -> Result<Vec<u64>, AllocE
     Ok(words)
 }
 
-/// An index over the words, which are lent, and the number of ones; refused where there is no memory or are too many.
+/// An index over borrowed words, and the number of 1 bits; refused where there is no memory or there are too many
+/// words.
 pub fn index_over<'a, S: SelectForRank101111, S0: Select0ForRank101111>(
     alloc: Global,
     words: &'a [u64],
@@ -96,7 +98,7 @@ pub fn rank_agrees<I: Rank>(index: &I, place: usize, ones: Option<usize>) -> boo
     (Some(plain.0), Some(plain.1)) == (ones, zeros) && unchecked == plain
 }
 
-/// Whether the calls of select at one rank give the place of that one.
+/// Whether the calls of select at one rank answer the position of that 1 bit.
 #[tactic(auto, using(bitm::proofs::Callers::one_below))]
 pub fn one_agrees<I: Select>(index: &I, rank: usize, place: Option<usize>) -> bool {
     let found = index.try_select(rank);
@@ -107,7 +109,7 @@ pub fn one_agrees<I: Select>(index: &I, rank: usize, place: Option<usize>) -> bo
     found == place && plain == (place, place)
 }
 
-/// Whether the calls of select0 at one rank give the place of that zero.
+/// Whether the calls of select0 at one rank answer the position of that 0 bit.
 #[tactic(auto, using(bitm::proofs::Callers::zero_below))]
 pub fn zero_agrees<I: Select0>(index: &I, rank: usize, place: Option<usize>) -> bool {
     let found = index.try_select0(rank);
@@ -134,7 +136,7 @@ fn all_found<I: Rank + Select + Select0>(index: &I, found: &Found) -> bool {
     true
 }
 
-/// Whether all answers over lent words, and the number of ones, are those of a walk.
+/// Whether all answers over borrowed words, and the number of 1 bits, are those of a walk.
 pub fn all_agree<S: SelectForRank101111, S0: Select0ForRank101111>(
     alloc: Global,
     words: &[u64],
@@ -144,7 +146,7 @@ pub fn all_agree<S: SelectForRank101111, S0: Select0ForRank101111>(
     Ok(total == found.ones.len() && all_found(&index, &found))
 }
 
-/// Whether all answers over so many words agree: all zeros, all ones, and with the last bit alone set.
+/// Whether all answers over the given number of words agree: all 0 bits, all 1 bits, and with the last bit alone set.
 fn forms_agree<S: SelectForRank101111, S0: Select0ForRank101111>(
     alloc: Global,
     len: usize,

@@ -71,7 +71,7 @@ fn a_word_of_ones_has_no_zeros(rt: HostRuntime) {
     assert!(rt; (ones.len(), ones.size_hint()) == (64, (64, Some(64))));
 }
 
-/// Whether of the bits that come exactly those at the places are ones.
+/// Whether, of the bits that come, exactly those at the given positions are 1 bits.
 fn has_ones_at(bits: BitIterator<'_>, ones: &[usize]) -> bool {
     let range = bits.bit_range();
     let places = range.start..range.end;

@@ -63,7 +63,7 @@ fn write_array<const N: usize>(array: &mut [u64; N])
     lent.0.set_bits(62, 5, 3);
 }
 
-/// Any value that lends words.
+/// Any value whose words can be borrowed.
 fn write_any<B: BitAccessMut>(bits: &mut B)
     requires { 2 ≤ length (B.words bits.old) }
     ensures same { B.lender bits.new ≡ B.lender bits.old }

@@ -27,7 +27,7 @@ fn n_lowest_bits_are_so_many_ones_at_the_bottom(rt: HostRuntime) {
     assert!(rt; n_lowest_bits(0) == 0);
 }
 
-/// What `try_get_bit` answers at the places, for any value that lends words.
+/// The answers of `try_get_bit` at the positions, for any value whose words can be borrowed.
 fn tried<B: BitAccess>(bits: &B, places: [usize; 4]) -> [Option<bool>; 4] {
     places.map(|place| bits.try_get_bit(place))
 }

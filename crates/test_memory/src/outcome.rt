@@ -1,7 +1,7 @@
 //! What is handed to the calls, and how they end.
 
-/// The content that is handed to the calls. Each word has ones at 0, 2 and 3, so there are 390. A table
-/// has five entries for them, a simple rank 17, and at 128 ones to a sample there are four samples.
+/// The words that the calls get. Each word has 1 bits at 0, 2 and 3, so there are 390. A table has five entries for
+/// them, a simple rank 17, and at 128 1 bits for each sample there are four samples.
 pub const WORDS: [u64; 130] = [13; 130];
 
 /// How a call ended.

@@ -17,7 +17,7 @@ use example_callers::strategies::listed::Listed;
 /// Samples that each stand for 128 bits of the kind.
 type Samples = CombinedSampling<AdaptiveCombinedSamplingDensity<7>>;
 
-/// An index over words that are lent.
+/// An index over borrowed words.
 type LentIndex<'a> = RankSelect101111<BinaryRankSearch, BinaryRankSearch, &'a [u64]>;
 
 /// An index over words that it owns.
@@ -57,8 +57,7 @@ pub fn ended(alloc: Global) -> [Ended; 12] {
     ]
 }
 
-/// An index over the content, which has the words of `WORDS`, with the strategy for both kinds of
-/// bit.
+/// An index over a bit vector with the words of `WORDS`, with the strategy for both kinds of bit.
 fn over<S: SelectForRank101111 + Select0ForRank101111, BV: AsSlice<u64> + Drop>(
     alloc: Global,
     content: BV,
@@ -72,7 +71,7 @@ fn over<S: SelectForRank101111 + Select0ForRank101111, BV: AsSlice<u64> + Drop>(
     }
 }
 
-/// Over words that are lent.
+/// Over borrowed words.
 fn lent<S: SelectForRank101111 + Select0ForRank101111>(alloc: Global) -> Outcome {
     over::<S, &[u64]>(alloc, WORDS.as_slice())
 }
@@ -99,7 +98,7 @@ fn cloned<S: SelectForRank101111 + Select0ForRank101111>(alloc: Global) -> Outco
     }
 }
 
-/// A clone of one over a content of which there are no copies.
+/// A clone of an index over a bit vector that cannot be copied.
 fn uncopied(alloc: Global) -> Outcome {
     type Index<'a> = RankSelect101111<BinaryRankSearch, BinaryRankSearch, Uncopied<'a>>;
     let words = WORDS.as_slice();

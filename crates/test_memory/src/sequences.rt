@@ -21,7 +21,7 @@ pub fn ended(alloc: Global) -> [Ended; 3] {
     ]
 }
 
-/// A sequence. Numbers that fall are told before memory is asked for.
+/// A sequence. Numbers that fall are refused before memory is allocated.
 fn built(alloc: Global) -> Outcome {
     let falls = EliasFano::build(alloc, [3u64, 2].as_slice()).err() == Some(EfError::NotSorted);
     let numbers = NUMBERS;

@@ -22,7 +22,7 @@ pub fn ended(alloc: Global) -> [Ended; 4] {
     ]
 }
 
-/// A simple rank over the content, which has the words of `WORDS`.
+/// A simple rank over a bit vector with the words of `WORDS`.
 #[tactic(auto, using(bitm::proofs::Callers::few_ones))]
 fn over<BV: AsSlice<u64> + Drop>(alloc: Global, content: BV) -> Outcome {
     if content.as_slice().len() != WORDS.len() {
@@ -57,7 +57,7 @@ fn cloned(alloc: Global) -> Outcome {
     }
 }
 
-/// A clone of one over a content of which there are no copies.
+/// A clone of a simple rank over a bit vector that cannot be copied.
 #[tactic(auto, using(bitm::proofs::Callers::few_ones))]
 fn uncopied(alloc: Global) -> Outcome {
     let words = WORDS.as_slice();

@@ -1,4 +1,4 @@
-//! A content as a user writes it, of which no copy can be made.
+//! A bit vector as a user writes it, which cannot be copied.
 use bitm::CloneWords;
 use std::alloc::{AllocError, Global};
 use std::convert::AsSlice;

@@ -116,7 +116,7 @@ fn writer(alloc: Global) -> Outcome {
     }
 }
 
-/// A copy of so many words.
+/// A copy of the given number of words.
 fn try_same(alloc: Global, count: usize) -> Outcome {
     let Ok(words) = Words::with_64bit_segments(alloc, 13, count) else {
         return Outcome::Unready;

@@ -1,4 +1,4 @@
-//! The content and the bytes that the lines speak of.
+//! The words and the bytes that the lines are about.
 ghost use Rattle.std.specs.Prelude.{IfOk};
 ghost use Rattle.bitm.specs.Bits.{IsShort};
 
@@ -8,7 +8,7 @@ use crate::text;
 use crate::text::Base;
 use std::alloc::Global;
 
-/// A content under its name, and the number of its ones, once a line says it.
+/// Words under a name, and the number of their 1 bits, once a line has it.
 #[derive(Drop)]
 struct Content<'a> {
     name: &'a str,
@@ -16,7 +16,7 @@ struct Content<'a> {
     ones: Option<u64>,
 }
 
-/// How many bits a content has, and how many of them are ones, or zeros.
+/// The number of bits, and how many of them are 1 bits, or 0 bits.
 #[derive(Clone, Copy)]
 pub struct Totals {
     pub len: usize,
@@ -25,7 +25,7 @@ pub struct Totals {
     pub of_ones: bool,
 }
 
-/// A call on the content as a line writes it: its text, the words that it is on, its arguments, and what came of it.
+/// A call as a line writes it: its text, the words that it is on, its arguments, and its outcome.
 #[derive(Clone, Copy)]
 pub struct Call<'s, 'a> {
     pub text: &'a str,
@@ -50,7 +50,7 @@ impl<'a> State<'a> {
         }
     }
 
-    /// Takes the content of a line; none is left where that fails.
+    /// Takes the words of a line; there are none where that fails.
     pub fn set_content(
         &mut self,
         alloc: Global,
@@ -70,7 +70,7 @@ impl<'a> State<'a> {
         Ok(())
     }
 
-    /// Takes the number of ones of a line, which has to name the content.
+    /// Takes the number of 1 bits of a line, which has to name the words.
     pub fn set_ones(&mut self, line: &'a str) -> Result<(), Fault> {
         let (_, total) = self.content(line)?;
         let ones = text::number(total, Base::Decimal)?;
@@ -80,7 +80,7 @@ impl<'a> State<'a> {
         Ok(())
     }
 
-    /// How many bits the content has, and how many of them are ones, as a line says it.
+    /// The number of bits, and the number of 1 bits that a line says.
     pub fn ones(&self) -> Result<Totals, Fault> {
         match &self.content {
             Some(content) => Ok(Totals {
@@ -92,7 +92,7 @@ impl<'a> State<'a> {
         }
     }
 
-    /// How many bits the content has, and how many of them are zeros.
+    /// The number of bits, and how many of them are 0 bits.
     pub fn zeros(&self) -> Result<Totals, Fault> {
         let Totals { len, items, .. } = self.ones()?;
         Ok(Totals {
@@ -109,7 +109,7 @@ impl<'a> State<'a> {
         Ok(())
     }
 
-    /// The words of the content that the first word of a line names, and what follows it.
+    /// The words of the name that a line starts with, and the rest of the line.
     pub fn content(&self, line: &'a str) -> Result<(&[u64], &'a str), Fault>
         ensures { IfOk result (λ found. IsShort found.0.now) }
     {

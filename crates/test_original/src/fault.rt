@@ -6,9 +6,9 @@ use std::alloc::{AllocError, AllocFailed};
 pub enum Fault {
     /// Its words are not those of its kind.
     Malformed,
-    /// It names a content that is not the last one.
+    /// It names words other than the last ones.
     OtherContent,
-    /// No line says how many ones the content has.
+    /// No line says how many 1 bits the words have.
     NoTotal,
     /// The condition of a call does not hold.
     Condition,

@@ -5,8 +5,8 @@ use crate::text;
 use crate::text::{Base, PlacePair};
 use std::alloc::Global;
 
-/// What an answer of ours that is not theirs was asked, or nothing where a line could not be replayed, and why it counts
-/// as a difference.
+/// The query whose answer differs from that of the original, or nothing where a line could not be replayed, and why it
+/// counts as a difference.
 #[derive(Clone, Copy)]
 pub struct Difference<'a> {
     pub argument: &'a str,
@@ -27,7 +27,7 @@ impl Count {
         differ: 0,
     };
 
-    /// Adds so many more.
+    /// Adds the given number.
     pub fn add(&mut self, more: Count) {
         self.answers = self.answers.saturating_add(more.answers);
         self.differ = self.differ.saturating_add(more.differ);
@@ -114,7 +114,7 @@ impl<'a> Found<'a> {
         Ok(())
     }
 
-    /// Compares what a call answers at the places of pairs with the answers there.
+    /// Compares the answers of a call at the positions of pairs with the answers of the pairs.
     pub fn compare_places<F: Fn(usize) -> Option<usize>>(
         &mut self,
         pairs: &'a str,

@@ -1,4 +1,4 @@
-//! The index over a content, by which tables, selection and samples are replayed.
+//! The index over words, by which tables, selection and samples are replayed.
 ghost use Rattle.std.specs.Prelude.{◌≡◌, IfOk};
 ghost use Rattle.bitm.specs.Bits.{bits_of, IsShort};
 ghost use Rattle.bitm.specs.Count.{ones_of};

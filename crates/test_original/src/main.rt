@@ -12,15 +12,17 @@
 //!
 //! | Line | What it says |
 //! |---|---|
-//! | `content ID COUNT WORDS` | a content and its words, COUNT of them |
+//! | `content ID COUNT WORDS` | a name and its words, COUNT of them |
 //! | `ones ID TOTAL` | the number of ones |
 //! | `rank ID I:V..`, `rank0 ID I:V..` | ones or zeros before place I, by `try_rank` and `try_rank0` |
-//! | `select ID R:V..`, `select0 ID R:V..` | the place of the one or zero of rank R, by `try_select` and `try_select0` |
+//! | `select ID R:V..`, `select0 ID R:V..` | the position of the 1 bit or 0 bit of rank R, by `try_select` and
+//! `try_select0` |
 //! | `simple ID N..` | the ones before each run of 512 bits that is begun |
 //! | `l1 ID N..`, `l2 ID WORDS` | the upper and the lower table of an index |
 //! | `l2at ID J:WORD..` | entries of the lower table at places J, where it is long |
 //! | `samples ID KIND B D BEGINS / WORDS` | the samples of the ones (B is 1) or the zeros (B is 0): where those of each part begin, and the samples |
-//! | `samplesat ID KIND B D COUNT BEGINS / J:WORD..` | the same of many samples: their number, and some of them by their place J |
+//! | `samplesat ID KIND B D COUNT BEGINS / J:WORD..` | the same of many samples: their number, and some of them by
+//! their index J |
 //! | `ocs LEN N V..` | `optimal_combined_sampling(N, LEN, M)` where M is 7, 8, 13, 14, 15 and 31 |
 //! | `bits ID S,L:V..`, `raw ID S,L:V..` | the number that L bits from S on are, V hexadecimal, by `try_get_bits` and `try_get_bits_unmasked` |
 //! | `find ID S:V..`, `rfind ID S:V..` | the nearest one from S on, and up to S |
@@ -29,7 +31,7 @@
 //! | `xor ID S L V / WORDS` | the words after `xor_bits(S, V, L)` |
 //! | `init S L V / WORDS` | the words after `init_bits(S, V, L)` on as many zero words |
 //! | `swap ID I J L / WORDS` | the words after `swap_fragments(I, J, L)` |
-//! | `sel64 WORD P..` | the places of the ones of a word, by `select64` at each rank |
+//! | `sel64 WORD P..` | the positions of the 1 bits of a word, by `select64` at each rank |
 //! | `ceil N D V` | N divided by D, rounded up |
 //! | `store N V` | `bits_to_store(N)` |
 //! | `bytes BYTES` | the bytes of the lines below it |

@@ -30,7 +30,7 @@ fn found_in<'a>(alloc: Global, state: &mut State<'a>, kind: &str, line: &'a str)
     found
 }
 
-/// Replays what follows the kind of a line: here the kinds of an index over a content.
+/// Replays what follows the kind of a line: here the kinds of an index over words.
 fn replay_line<'a>(
     alloc: Global,
     state: &mut State<'a>,
@@ -54,7 +54,7 @@ fn replay_line<'a>(
     }
 }
 
-/// Replays what follows the kind of a line: here the other kinds that set or name a content.
+/// Replays what follows the kind of a line: here the other kinds that set or name words.
 fn replay_content<'a>(
     alloc: Global,
     state: &mut State<'a>,
@@ -76,7 +76,7 @@ fn replay_content<'a>(
     }
 }
 
-/// Replays what follows the kind of a line: here the kinds that have nothing to do with a content.
+/// Replays what follows the kind of a line: here the kinds that name no words.
 fn replay_apart<'a>(
     alloc: Global,
     state: &mut State<'a>,

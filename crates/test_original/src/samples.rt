@@ -18,7 +18,7 @@ use std::alloc::Global;
 enum Claimed<'a> {
     /// All of them.
     All(&'a str),
-    /// How many there are, and some of them by their place.
+    /// How many there are, and some of them by their index.
     Some { count: u64, pairs: &'a str },
 }
 

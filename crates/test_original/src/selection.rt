@@ -14,7 +14,7 @@ use std::alloc::Global;
 /// Selection by samples, with a density for the share of items.
 type Sampled = CombinedSampling<AdaptiveCombinedSamplingDensity<13>>;
 
-/// Compares the places of ones or zeros of ranks, by an index of one strategy.
+/// Compares the positions of 1 bits or 0 bits of ranks, by an index of one strategy.
 fn compare_by<'a, S: SelectForRank101111 + Select0ForRank101111>(
     alloc: Global,
     words: &[u64],
@@ -34,7 +34,7 @@ fn compare_by<'a, S: SelectForRank101111 + Select0ForRank101111>(
     })
 }
 
-/// Compares the places of ones of ranks, by binary search and by samples.
+/// Compares the positions of 1 bits of ranks, by binary search and by samples.
 pub fn select<'a>(
     alloc: Global,
     state: &State<'a>,
@@ -46,7 +46,7 @@ pub fn select<'a>(
     compare_by::<Sampled>(alloc, words, pairs, true, found)
 }
 
-/// Compares the places of zeros of ranks, by binary search and by samples.
+/// Compares the positions of 0 bits of ranks, by binary search and by samples.
 pub fn select0<'a>(
     alloc: Global,
     state: &State<'a>,

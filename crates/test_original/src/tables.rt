@@ -31,7 +31,7 @@ pub fn l2<'a>(
     found.compare_list(alloc, line, Base::Hexadecimal, index.l2ranks(), theirs)
 }
 
-/// Compares entries of the lower table at their places.
+/// Compares entries of the lower table at their indices.
 pub fn l2at<'a>(
     alloc: Global,
     state: &State<'a>,

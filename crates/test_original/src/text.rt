@@ -32,7 +32,7 @@ pub fn pair(text: &str) -> Result<(&str, &str), Fault> {
     text.split_once(':').ok_or(Fault::Malformed)
 }
 
-/// The argument of a pair, the place that it writes, and the answer.
+/// The argument of a pair, the number that it writes, and the answer.
 #[derive(Clone, Copy)]
 pub struct PlacePair<'a> {
     pub argument: &'a str,
@@ -40,7 +40,7 @@ pub struct PlacePair<'a> {
     pub theirs: &'a str,
 }
 
-/// A pair whose argument is a place.
+/// A pair whose argument is a position or an index.
 pub fn place_pair(text: &str) -> Result<PlacePair<'_>, Fault> {
     let (argument, theirs) = pair(text)?;
     Ok(PlacePair {
@@ -67,7 +67,7 @@ pub fn answer(text: &str, base: Base) -> Result<Option<u64>, Fault> {
     Ok(Some(number(text, base)?))
 }
 
-/// The place or index that a word writes.
+/// The position or index that a word writes.
 pub fn place(text: &str) -> Result<usize, Fault> {
     Ok(number(text, Base::Decimal)? as usize)
 }

@@ -25,7 +25,7 @@ pub fn store<'a>(line: &'a str, found: &mut Found<'a>) -> Result<(), Fault> {
     found.compare(number, Base::Decimal, Some(u64::from(ours)), theirs)
 }
 
-/// The places of the ones of a word, rising.
+/// The positions of the 1 bits of a word, rising.
 fn places(alloc: Global, n: u64) -> Result<Vec<u64>, AllocError> {
     let mut places = Vec::new(alloc);
     for rank in 0..n.count_ones() as u8 {
@@ -34,7 +34,7 @@ fn places(alloc: Global, n: u64) -> Result<Vec<u64>, AllocError> {
     Ok(places)
 }
 
-/// Compares the places of the ones of a word.
+/// Compares the positions of the 1 bits of a word.
 pub fn sel64<'a>(alloc: Global, line: &'a str, found: &mut Found<'a>) -> Result<(), Fault> {
     let (word, theirs) = text::first_word(line);
     let n = text::number(word, Base::Hexadecimal)?;

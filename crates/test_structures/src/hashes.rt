@@ -8,7 +8,7 @@ use std::alloc::{AllocError, Global};
 use std::process::Abort;
 use std::test::Fail;
 
-/// So many keys, no two of them the same.
+/// The given number of keys, no two of them the same.
 fn keys_of(alloc: Global, count: u64) -> Result<Vec<u64>, AllocError> {
     let mut keys = Vec::new(alloc);
     for i in 0..count {
@@ -56,7 +56,8 @@ fn agree<P: Placing>(
     Ok(differ(numbers, keys, seen.as_mut_slice()) && many_agree(numbers, keys, many.as_mut_slice()))
 }
 
-/// Each of so many keys has a number of its own below their count. How many bytes the perfect hash keeps.
+/// Whether each of the given number of keys has its own number below their count, and how many bytes the perfect hash
+/// takes.
 fn are_numbered<P: Placing + GetSize>(
     alloc: Global,
     placing: P,
@@ -111,7 +112,7 @@ fn by_seeds_equal_keys_collide(rt: HostRuntime) -> Result<(), Fail> {
     Ok(())
 }
 
-/// Tells no keys apart.
+/// Gives all keys one hash.
 #[derive(Drop)]
 struct Same;
 

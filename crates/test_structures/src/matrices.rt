@@ -55,7 +55,7 @@ fn counts_agree(matrix: &BinaryWaveletMatrix, list: &[u64]) -> bool {
     agrees
 }
 
-/// Whether what is asked of a range by a bound agrees with a walk over it.
+/// Whether the queries of a range by a bound agree with a walk over it.
 fn bound_agrees(matrix: &BinaryWaveletMatrix, list: &[u64], start: usize, bound: u64) -> bool {
     let mut less = 0usize;
     let mut next: Option<u64> = None;
@@ -122,7 +122,7 @@ fn tallies_agree(
     Ok(agrees)
 }
 
-/// Whether what is asked of a range by its order agrees with it sorted.
+/// Whether the queries of a range by its order agree with the sorted range.
 fn sorted_agrees(
     alloc: Global,
     matrix: &BinaryWaveletMatrix,
@@ -135,7 +135,7 @@ fn sorted_agrees(
     Ok(order_agrees(matrix, sorted, start) && tallies_agree(alloc, matrix, sorted, start)?)
 }
 
-/// Whether all answers of a matrix of so many numbers, of so many digits, compact or not, agree with plain loops.
+/// Whether all answers of a matrix of the given number and width of numbers, compact or not, agree with plain loops.
 fn all_agrees(alloc: Global, len: usize, width: u8, compact: bool) -> Result<bool, Fail> {
     let list = draw(alloc, len, width)?;
     let list = list.as_slice();

@@ -136,7 +136,7 @@ fn all_trees_of_up_to_seven_nodes_agree_with_the_definition(rt: HostRuntime) {
     }
 }
 
-/// The degrees of a tree of so many nodes, each of which has so many children while there are nodes left.
+/// The degrees of a tree of `len` nodes, each of which has `width` children while there are nodes left.
 fn wide(alloc: Global, len: usize, width: usize) -> Result<Vec<usize>, AllocError> {
     let mut degrees = Vec::new(alloc);
     let mut known = 1usize;

@@ -30,7 +30,7 @@ impl Compared {
     }
 }
 
-/// Asks a matrix of 16 digits for each number by its place, for how many like it stand before, and for its place.
+/// Queries a matrix of 16 bits for each number by its index, for how many equal numbers come before, and for its index.
 fn compare_numbers(
     alloc: Global,
     matrix: &WaveletMatrix<Sampled, Sampled>,
@@ -64,7 +64,7 @@ pub(crate) fn of_numbers(alloc: Global, log2: u32) -> Result<Compared, AllocErro
     compare_numbers(alloc, &matrix, list)
 }
 
-/// Asks a tree for child `k` of a node, which is to be `child`, and the child for its parent and for `k`.
+/// Queries a tree for child `k` of a node, which has to be `child`, and for the parent of the child and for `k`.
 fn compare_child(
     tree: &SampledLouds,
     compared: &mut Compared,
@@ -79,7 +79,7 @@ fn compare_child(
     }
 }
 
-/// Asks a tree for the degree of each node, and for each of its children.
+/// Queries a tree for the degree of each node, and for each of its children.
 fn compare_nodes(tree: &SampledLouds, degrees: &[usize]) -> Compared {
     let mut compared = Compared::nothing();
     let mut next = 1usize;

@@ -16,7 +16,7 @@ pub(crate) struct Bench<'a> {
 }
 
 impl<'a> Bench<'a> {
-    /// Rows of contents or keys that are called so, of so many rounds each.
+    /// Rows of bit vectors or keys of the given name, of `rounds` rounds each.
     pub(crate) fn new(rt: &'a HostRuntime, of: &'a str, rounds: u32) -> Bench<'a> {
         Bench {
             rt,
@@ -47,7 +47,7 @@ impl<'a> Bench<'a> {
         }
     }
 
-    /// Prints a row: so much for so many, in a unit, and a sum of the answers.
+    /// Prints a row: a total for a number of items, in a unit, and a sum of the answers.
     fn add(&mut self, label: Label<'a>, (total, many, unit): (u64, usize, &str), check: usize) {
         let thousandths = total.saturating_mul(1000) / many.max(1) as u64;
         let (whole, part) = (thousandths / 1000, thousandths % 1000);
@@ -56,18 +56,18 @@ impl<'a> Bench<'a> {
         self.lost |= printed.is_err();
     }
 
-    /// Adds the row of what took so long for so many items, with a sum of the answers.
+    /// Adds the row of what took the given time for the given number of items, with a sum of the answers.
     pub(crate) fn add_time(&mut self, label: Label<'a>, nanos: u64, many: usize, check: usize) {
         self.add(label, (nanos, many, "ns"), check);
     }
 
-    /// Adds the row of what was begun at a time and has made so many items.
+    /// Adds the row of what began at a time and has made the given number of items.
     pub(crate) fn add_since(&mut self, begun: u64, label: Label<'a>, items: usize) {
         let took = self.used().saturating_sub(begun);
         self.add_time(label, took, items, items);
     }
 
-    /// Adds the row of how many bits so many bytes are for each of the items.
+    /// Adds the row of how many bits for each item the given number of bytes are.
     pub(crate) fn add_space(&mut self, label: Label<'a>, bytes: usize, items: usize) {
         self.add(
             label,
@@ -90,7 +90,7 @@ impl<'a> Bench<'a> {
         self.add_time(label, least, calls, check);
     }
 
-    /// Times a call at each of what is asked, and adds its row.
+    /// Times a call for each query, and adds its row.
     pub(crate) fn each<T: Copy, F: Fn(T) -> Option<usize>>(
         &mut self,
         label: Label<'a>,
@@ -120,8 +120,7 @@ impl<'a> Bench<'a> {
     }
 }
 
-/// Adds up what a call answers at each of what is asked. It is a function of its own, so that nothing but the calls is
-/// timed.
+/// Adds up the answers of a call for each query. Not inlined, so that nothing but the calls is timed.
 #[inline(never)]
 fn sum<T: Copy, F: Fn(T) -> Option<usize>>(asked: &[T], call: &F) -> usize
     requires { F.IsAlwaysCallable call.now }

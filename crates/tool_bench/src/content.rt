@@ -3,7 +3,7 @@ ghost use Rattle.std.specs.Prelude.{◌<◌};
 
 use std::alloc::{AllocError, Global};
 
-/// How the ones of a content lie.
+/// How the 1 bits of a bit vector lie.
 #[derive(Clone, Copy)]
 pub(crate) enum Kind {
     /// One bit in 64, drawn.
@@ -14,7 +14,7 @@ pub(crate) enum Kind {
     Dense,
     /// All in the last sixteenth.
     End,
-    /// Ones and zeros by turns, 2^16 words of each.
+    /// 1 bits and 0 bits by turns, 2^16 words of each.
     Blocks,
     /// Ever more of them, drawn.
     Ramp,
@@ -52,7 +52,7 @@ pub(crate) fn draw(state: &mut u64) -> u64 {
     n.wrapping_mul(0x2545_F491_4F6C_DD1D)
 }
 
-/// Word `at` of a content of `len` words.
+/// Word `at` of a bit vector of `len` words.
 fn word(kind: Kind, at: usize, len: usize, state: &mut u64) -> u64 {
     let (a, b, c) = (draw(state), draw(state), draw(state));
     match kind {
@@ -72,7 +72,7 @@ fn word(kind: Kind, at: usize, len: usize, state: &mut u64) -> u64 {
     }
 }
 
-/// A content of `len` words.
+/// A bit vector of `len` words.
 pub(crate) fn content(alloc: Global, kind: Kind, len: usize) -> Result<Vec<u64>, AllocError> {
     let mut state = 88_172_645_463_325_252;
     let mut words = Vec::with_capacity(alloc, len)?;
@@ -82,7 +82,7 @@ pub(crate) fn content(alloc: Global, kind: Kind, len: usize) -> Result<Vec<u64>,
     Ok(words)
 }
 
-/// So many numbers below a limit, drawn evenly.
+/// Numbers below a limit, drawn evenly.
 pub(crate) fn queries(alloc: Global, limit: usize) -> Result<Vec<usize>, AllocError> {
     let mut state = 2_463_534_242_088_117;
     let mut drawn = Vec::with_capacity(alloc, 1 << 17)?;

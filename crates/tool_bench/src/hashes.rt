@@ -6,10 +6,10 @@ use std::alloc::{AllocError, Global};
 
 type Hash<P> = PerfectHash<Seeded, ArrayWithRank101111, P>;
 
-/// Keys that are asked at once.
+/// Keys that one call looks up.
 const AT_ONCE: usize = 4096;
 
-/// So many keys of 64 bits, each of its own: the generator has each number once.
+/// The given number of keys of 64 bits, no two of them the same: the generator has each number once.
 fn keys(alloc: Global, count: usize) -> Result<Vec<u64>, AllocError> {
     let mut key = 88_172_645_463_325_252u64;
     let mut keys = Vec::with_capacity(alloc, count)?;
@@ -22,7 +22,7 @@ fn keys(alloc: Global, count: usize) -> Result<Vec<u64>, AllocError> {
     Ok(keys)
 }
 
-/// Adds up the numbers of the keys, so many of which are asked at once.
+/// Adds up the numbers of the keys, `AT_ONCE` of which one call looks up.
 #[inline(never)]
 fn sum_of_many<P: Placing>(made: &Hash<P>, keys: &[u64]) -> usize {
     let mut numbers = [0usize; AT_ONCE];
@@ -66,8 +66,8 @@ fn add_form<'a, P: Placing + GetSize>(
     Ok(())
 }
 
-/// Adds the rows of so many keys: with levels of as many bits as the keys that are left, of twice as many, and with
-/// seeds.
+/// Adds the rows of the given number of keys: with levels of as many bits as the keys that are left, of twice as many,
+/// and with seeds.
 pub(crate) fn add_rows(bench: &mut Bench<'_>, count: usize) -> Result<(), AllocError> {
     let kept = keys(bench.alloc(), count)?;
     let keys = kept.as_slice();

@@ -13,7 +13,7 @@ use std::alloc::AllocError;
 /// Samples of the density that the documents speak of.
 pub(crate) type Sampled = CombinedSampling<AdaptiveCombinedSamplingDensity<13>>;
 
-/// What is asked of an index: places to be ranked, and ranks of ones and of zeros.
+/// The queries of an index: indices to be ranked, and ranks of 1 bits and of 0 bits.
 #[derive(Clone, Copy)]
 pub(crate) struct Asked<'a> {
     pub(crate) places: &'a [usize],

@@ -6,13 +6,13 @@
 //! bench answers LOG2
 //! ```
 //!
-//! The content has 2^LOG2 bits, 10 to 33. KIND is `sparse`, `even` or `dense` (ones drawn one in 64, one in two and
-//! seven in eight), or one that misleads a guess: `end` (ones in the last sixteenth alone), `blocks` (ones and zeros by
-//! turns, 2^16 words of each) or `ramp` (ever more ones). A value is the least of the rounds, of the thread's processor
-//! time; a row is `row,by,log2,kind,value,unit,check`, where the check is a sum of the answers, or the number of what
-//! was made. The second form times perfect hashes of so many keys, with rows `row,by,keys,value,unit,check`. The third
-//! compares answers of matrices and trees with plain counts, and prints how many were wrong. With other arguments the
-//! program prints its usage.
+//! The bit vector has 2^LOG2 bits, 10 to 33. KIND is `sparse`, `even` or `dense` (each 64th, second or seven of eight
+//! bits is a 1 bit, on average), or one that misleads a guess: `end` (1 bits in the last sixteenth alone), `blocks` (1
+//! bits and 0 bits by turns, 2^16 words of each) or `ramp` (ever more 1 bits). A value is the least of the rounds, of
+//! the thread's processor time; a row is `row,by,log2,kind,value,unit,check`, where the check is a sum of the answers,
+//! or the number of what was made. The second form times perfect hashes of the given number of keys, with rows
+//! `row,by,keys,value,unit,check`. The third compares answers of matrices and trees with plain counts, and prints how
+//! many were wrong. With other arguments the program prints its usage.
 #![tactic(auto)]
 
 ghost use Rattle.std.specs.Prelude.{◌<◌};
@@ -41,7 +41,7 @@ use wavelet_matrix::all_fit;
 const USAGE: &str =
     "usage: bench LOG2 sparse|even|dense|end|blocks|ramp ROUNDS | bench keys COUNT ROUNDS | bench answers LOG2";
 
-/// Adds the rows of numbers of so many digits, by either strategy.
+/// Adds the rows of numbers of `width` bits, by either strategy.
 fn add_numbers(bench: &mut Bench<'_>, count: usize, width: u8) -> Result<(), AllocError>
     requires some { 0 < width }
     requires few { width < 17 }
@@ -56,7 +56,7 @@ fn add_numbers(bench: &mut Bench<'_>, count: usize, width: u8) -> Result<(), All
     Ok(())
 }
 
-/// Adds the rows of words and indexes over a content.
+/// Adds the rows of words and indexes over a bit vector.
 fn add_content(bench: &mut Bench<'_>, kind: Kind, len: usize) -> Result<(), AllocError> {
     let kept = content(bench.alloc(), kind, len)?;
     let content = kept.as_slice();
@@ -81,7 +81,7 @@ fn add_content(bench: &mut Bench<'_>, kind: Kind, len: usize) -> Result<(), Allo
     index::add_rows::<Sampled, Sampled>(bench, "sampled", content, asked)
 }
 
-/// Adds the rows of a content of 2^log2 bits, and of sequences, trees and numbers of its size, where it is an even one.
+/// Adds the rows of a bit vector of 2^log2 bits, and, for the kind `even`, of sequences, trees and numbers of its size.
 fn add_rows(bench: &mut Bench<'_>, log2: u32, kind: Kind) -> Result<(), AllocError>
     requires { log2 < 40 }
 {
@@ -96,7 +96,7 @@ fn add_rows(bench: &mut Bench<'_>, log2: u32, kind: Kind) -> Result<(), AllocErr
     Ok(())
 }
 
-/// Adds the rows that two words ask for; `false` where they are none of the forms.
+/// Adds the rows that two arguments name; `false` where they are none of the forms.
 fn add_asked(bench: &mut Bench<'_>, size: &str, what: &str) -> Result<bool, AllocError> {
     if size == "keys" {
         let Ok(count) = what.parse::<usize>() else {
@@ -123,7 +123,7 @@ fn name_of(alloc: Global, size: &str, what: &str) -> io::Result<String> {
     }
 }
 
-/// Prints the rows that are asked for, or the usage.
+/// Prints the rows that the arguments name, or the usage.
 fn answer(rt: &HostRuntime, size: &str, what: &str, rounds: &str) -> io::Result<()> {
     let of = name_of(rt.alloc(), size, what)?;
     let mut bench = Bench::new(rt, of.as_str(), rounds.parse::<u32>().unwrap_or(1));

@@ -1,4 +1,4 @@
-//! Rows of queries that are asked at once.
+//! Rows of calls of many queries at once.
 ghost use Rattle.std.specs.Prelude.{◌<◌, All, IsTrue};
 
 use crate::bench::{Bench, Label};
@@ -6,7 +6,7 @@ use crate::index::Asked;
 use bitm::{Rank, RankSelect101111, Select0ForRank101111, SelectForRank101111};
 use std::alloc::AllocError;
 
-/// What is asked at once.
+/// A call of many queries at once.
 #[derive(Clone, Copy)]
 enum Call {
     Rank,
@@ -35,8 +35,8 @@ fn sum(answers: &[usize]) -> usize {
     sum
 }
 
-/// Asks all queries of an index, and adds up their answers; 0 where some of them has none. The numbers are tested
-/// first, and the time of that is the calls' too.
+/// Makes all queries of an index, and adds up their answers; 0 where some query has none. The numbers are tested first,
+/// within the measured time.
 #[inline(never)]
 #[tactic(auto, using(bitm::proofs::BitLaws::bits_are_counted))]
 fn ask<S: SelectForRank101111, S0: Select0ForRank101111>(
@@ -80,7 +80,7 @@ fn add_call<S: SelectForRank101111, S0: Select0ForRank101111>(
     bench.add_time(Label(name, "binary"), least, queries.len(), check);
 }
 
-/// Times the calls that are asked at once, and adds their rows.
+/// Times the calls of many queries at once, and adds their rows.
 pub(crate) fn add_many<S: SelectForRank101111, S0: Select0ForRank101111>(
     bench: &mut Bench<'_>,
     index: &RankSelect101111<S, S0, &[u64]>,

@@ -1,5 +1,5 @@
-//! Rows of wavelet matrices of 8 and of 16 digits: numbers by their places, ranks and selections of numbers, by samples
-//! and by binary search, and of compact ones, by samples.
+//! Rows of wavelet matrices of 8 and of 16 bits: numbers by their indices, ranks and selections of numbers, by samples
+//! and by binary search, and of compact matrices, by samples.
 ghost use Rattle.std.specs.Prelude.{◌^◌, ◌<◌, ◌≤◌, All, length};
 
 use crate::bench::{Bench, Label};
@@ -27,7 +27,7 @@ const OF_16: Names = [
     "numbers16_select",
 ];
 
-/// So many numbers of so many digits, drawn evenly.
+/// `count` numbers of `width` bits, drawn evenly.
 pub(crate) fn numbers(alloc: Global, count: usize, width: u8) -> Result<Vec<u64>, AllocError>
     requires { width < 64 }
 {
@@ -39,10 +39,10 @@ pub(crate) fn numbers(alloc: Global, count: usize, width: u8) -> Result<Vec<u64>
     Ok(numbers)
 }
 
-/// A number and a place before which it is counted, or with how many like it stand before the one that is sought.
+/// A number, with an index before which it is counted or with the rank among equal numbers that is sought.
 type Pair = (u64, usize);
 
-/// For each place the number of another with that place.
+/// Pairs each index with the number at another index.
 fn ranked<S: SelectForRank101111, S0: Select0ForRank101111>(
     alloc: Global,
     matrix: &WaveletMatrix<S, S0>,
@@ -56,7 +56,7 @@ fn ranked<S: SelectForRank101111, S0: Select0ForRank101111>(
     Ok(ranked)
 }
 
-/// For each place the number there, with how many like it stand before.
+/// Pairs the number at each index with how many equal numbers come before.
 fn selected<S: SelectForRank101111, S0: Select0ForRank101111>(
     alloc: Global,
     matrix: &WaveletMatrix<S, S0>,
@@ -70,7 +70,7 @@ fn selected<S: SelectForRank101111, S0: Select0ForRank101111>(
     Ok(selected)
 }
 
-/// Adds the row of numbers by their places.
+/// Adds the row of numbers by their indices.
 fn add_get<'a, S: SelectForRank101111, S0: Select0ForRank101111>(
     bench: &mut Bench<'a>,
     label: Label<'a>,

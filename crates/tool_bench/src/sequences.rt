@@ -6,7 +6,7 @@ use bitm::{BinaryRankSearch, Select0ForRank101111, SelectForRank101111};
 use elias_fano::Sequence;
 use std::alloc::{AllocError, Global};
 
-/// So many numbers, each by less than 1000 greater than the one before it.
+/// `count` numbers, each greater than the number before it by less than 1000.
 fn numbers(alloc: Global, count: usize) -> Result<Vec<u64>, AllocError> {
     let mut state = 88_172_645_463_325_252;
     let mut last = 0u64;
@@ -28,7 +28,7 @@ fn in_order<S: SelectForRank101111, S0: Select0ForRank101111>(sequence: &Sequenc
     sum
 }
 
-/// The place of the first of rising numbers that is at least the value, by halves.
+/// The index of the first of rising numbers that is at least the value, by binary search.
 #[inline(always)]
 fn halves(numbers: &[u64], value: u64) -> usize {
     let mut place = 0usize;
@@ -52,14 +52,14 @@ fn halves(numbers: &[u64], value: u64) -> usize {
     place
 }
 
-/// What is asked of numbers: places, and values whose successors are sought.
+/// The queries of a sequence: indices, and values whose successors are sought.
 #[derive(Drop)]
 struct Asked {
     places: Vec<usize>,
     values: Vec<usize>,
 }
 
-/// What is asked of so many numbers up to the last.
+/// Draws the queries of `count` numbers up to the last.
 fn draw_asked(alloc: Global, count: usize, last: usize) -> Result<Asked, AllocError> {
     let places = queries(alloc, count)?;
     Ok(Asked {
@@ -122,7 +122,7 @@ fn add_array(bench: &mut Bench<'_>, list: &[u64], values: &[usize]) {
     );
 }
 
-/// Adds the rows of so many numbers.
+/// Adds the rows of `count` numbers.
 pub(crate) fn add_rows(bench: &mut Bench<'_>, count: usize) -> Result<(), AllocError> {
     let drawn = numbers(bench.alloc(), count)?;
     let list = drawn.as_slice();

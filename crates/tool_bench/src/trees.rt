@@ -1,5 +1,5 @@
 //! Rows of trees: parents, children and degrees by samples and by binary search, from numbers and from nodes that carry
-//! their places, and the building.
+//! their positions, and the building.
 ghost use Rattle.std.specs.Prelude.{All, IfOk};
 ghost use Rattle.louds.specs.Node.{IsNode};
 
@@ -9,8 +9,8 @@ use bitm::{GetSize, Select0ForRank101111, SelectForRank101111};
 use louds::{BinaryLouds, Louds, Node, SampledLouds};
 use std::alloc::{AllocError, Global};
 
-/// The degrees of a tree of so many nodes: each is drawn from 0 to 3, but that no node is left without a parent, and
-/// none is too many.
+/// The degrees of a tree of `count` nodes: each is drawn from 0 to 3, and changed where a node would be left without a
+/// parent or there would be too many nodes.
 pub(crate) fn degrees(alloc: Global, count: usize) -> Result<Vec<usize>, AllocError> {
     let mut state = 88_172_645_463_325_252;
     let mut known = 1usize;
@@ -56,7 +56,7 @@ fn add_tree<'a, S: SelectForRank101111 + GetSize, S0: Select0ForRank101111 + Get
     });
 }
 
-/// The nodes of these numbers, with their places.
+/// The nodes of these numbers, with their positions.
 fn nodes_of(alloc: Global, tree: &SampledLouds, numbers: &[usize]) -> Result<Vec<Node>, AllocError>
     ensures { IfOk result (λ nodes. All (λ n. IsNode tree.now.degrees n) nodes.items) }
 {
@@ -122,7 +122,7 @@ fn sum_of_degrees(tree: &SampledLouds, nodes: &[Node]) -> usize
     sum
 }
 
-/// Adds the rows of nodes that carry their places.
+/// Adds the rows of nodes that carry their positions.
 fn add_walks(
     bench: &mut Bench<'_>,
     tree: &SampledLouds,
@@ -139,7 +139,7 @@ fn add_walks(
     Ok(())
 }
 
-/// Adds the rows of a tree of so many nodes.
+/// Adds the rows of a tree of `count` nodes.
 pub(crate) fn add_rows(bench: &mut Bench<'_>, count: usize) -> Result<(), AllocError> {
     let drawn = degrees(bench.alloc(), count)?;
     let nodes = queries(bench.alloc(), count)?;

@@ -4,7 +4,7 @@ ghost use Rattle.bitm.specs.Bits.{IsShort};
 use crate::bench::{Bench, Label};
 use bitm::{select64, words};
 
-/// The place of the one of a word with this rank, 0 where it has none.
+/// The position of the 1 bit of a word with this rank, 0 where it has none.
 #[inline(always)]
 #[tactic(auto, using(bitm::proofs::Callers::ones_of_word))]
 fn place_in_word(word: u64, rank: u8) -> usize {
