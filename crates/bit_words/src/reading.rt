@@ -1,5 +1,6 @@
 //! Reads of bits of words.
-ghost use Rattle.std.specs.Prelude.{◌≡◌, ◌+◌, ◌-◌, ◌*◌, ◌/◌, ◌%◌, ◌^◌, ◌<◌, ◌≤◌, ◌↔◌, ℕ, IsTrue, MatchOption, bit_and, length, SomeIff};
+ghost use Rattle.std.specs.Prelude.{◌≡◌, ◌+◌, ◌-◌, ◌*◌, ◌/◌, ◌%◌, ◌^◌, ◌<◌, ◌≤◌, ◌↔◌, ℕ, IsTrue, MatchOption, bit_and};
+ghost use Rattle.std.specs.Prelude.{length, SomeIff};
 ghost use Rattle.bit_lists.specs.Bits.{bits_of, item};
 ghost use Rattle.bit_lists.specs.Number.{number_at, IsInRange};
 ghost use Rattle.bit_lists.specs.Window.{reach_of};

@@ -14,7 +14,8 @@ use crate::queries::{Rank, Select, Select0};
 fn ones_between_in<I: Rank>(counted: &mut Counted<'_, I>, start: usize, end: usize) -> usize
     requires order { start ≤ end }
     requires inside { end ≤ length (I.bits counted.old.value) }
-    ensures answer { ones_before (I.bits counted.old.value) start + result ≡ ones_before (I.bits counted.old.value) end }
+    ensures answer { ones_before (I.bits counted.old.value) start + result
+        ≡ ones_before (I.bits counted.old.value) end }
     ensures queries { QueriesAtMost counted.old counted.new 2 0 }
 {
     let to_end = counted.rank(end);
@@ -42,7 +43,8 @@ pub fn ones_between<I: Rank>(index: &I, start: usize, end: usize) -> usize
 fn zeros_between_in<I: Rank>(counted: &mut Counted<'_, I>, start: usize, end: usize) -> usize
     requires order { start ≤ end }
     requires inside { end ≤ length (I.bits counted.old.value) }
-    ensures answer { zeros_before (I.bits counted.old.value) start + result ≡ zeros_before (I.bits counted.old.value) end }
+    ensures answer { zeros_before (I.bits counted.old.value) start + result
+        ≡ zeros_before (I.bits counted.old.value) end }
     ensures queries { QueriesAtMost counted.old counted.new 2 0 }
 {
     let to_end = counted.rank0(end);

@@ -1,5 +1,6 @@
 //! The type of a tree, and its queries.
-ghost use Rattle.std.specs.Prelude.{◌≡◌, ◌==◌, ◌+◌, ◌*◌, ◌^◌, ◌<◌, ◌≤◌, ◌↔◌, ℕ, IfOk, IfSome, IsErrOf, length, slice_index};
+ghost use Rattle.std.specs.Prelude.{◌≡◌, ◌==◌, ◌+◌, ◌*◌, ◌^◌, ◌<◌, ◌≤◌, ◌↔◌, ℕ, IfOk, IfSome, IsErrOf, length};
+ghost use Rattle.std.specs.Prelude.{slice_index};
 ghost use Rattle.std.specs.Int.{div_ceil};
 ghost use Rattle.bitm.specs.Reads.{none_read};
 ghost use Rattle.bitm.specs.Size.{saturated_size};

@@ -2,7 +2,8 @@
 ghost use Rattle.std.specs.Prelude.{◌≡◌, ◌↔◌, ℕ, ◌+◌, ◌^◌, ◌<◌, ◌≤◌, [], length, map, IfOk, IfErr, IsErrOf, OnOk};
 ghost use Rattle.bitm.specs.Bits.{bits_of, IsShort};
 ghost use Rattle.perfect_hash.specs.Levels.{fall_in, AddsLevel, AreChosen, AreSized, LeadTo, Leave};
-ghost use Rattle.perfect_hash.specs.Parts.{number_at, number_of, AreLevels, CollideBySize, CollideChosen, CollideOfSize, IfCollide, IfCollideBy};
+ghost use Rattle.perfect_hash.specs.Parts.{number_at, number_of, AreLevels, CollideBySize, CollideChosen};
+ghost use Rattle.perfect_hash.specs.Parts.{CollideOfSize, IfCollide, IfCollideBy};
 ghost use Rattle.perfect_hash.specs.Perfect.{IsMinimalPerfect};
 ghost use Rattle.perfect_hash.specs.Places.{place_in, words_for};
 

@@ -1,5 +1,6 @@
 //! The type of a matrix: its numbers by index and by value.
-ghost use Rattle.std.specs.Prelude.{◌≡◌, ◌==◌, ◌+◌, ◌*◌, ◌^◌, ◌<◌, ◌≤◌, true, false, All, IfOk, SomeIff, length, slice_index};
+ghost use Rattle.std.specs.Prelude.{◌≡◌, ◌==◌, ◌+◌, ◌*◌, ◌^◌, ◌<◌, ◌≤◌, true, false, All, IfOk, SomeIff, length};
+ghost use Rattle.std.specs.Prelude.{slice_index};
 ghost use Rattle.std.specs.Int.{div_ceil};
 ghost use Rattle.bitm.specs.Reads.{none_read};
 ghost use Rattle.bitm.specs.Size.{saturated_size};

@@ -1,5 +1,6 @@
 //! Queries of the numbers of a range, over any source: how many are less than a number, and the k-th smallest.
-ghost use Rattle.std.specs.Prelude.{◌≡◌, ◌*◌, ◌-◌, ◌<◌, ◌≤◌, true, false, is_some, if◌then◌else◌, take, count_by, slice_range};
+ghost use Rattle.std.specs.Prelude.{◌≡◌, ◌*◌, ◌-◌, ◌<◌, ◌≤◌, true, false, is_some, if◌then◌else◌, take, count_by};
+ghost use Rattle.std.specs.Prelude.{slice_range};
 ghost use Rattle.wavelet_matrix.specs.Distinct.{count_equal};
 ghost use Rattle.wavelet_matrix.specs.Levels.{has_digit, partition_place};
 ghost use Rattle.wavelet_matrix.specs.Matrix.{IsMatrix, OnlyRanks, digit_place, level_in, numbers_in};

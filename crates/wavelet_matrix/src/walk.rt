@@ -1,12 +1,14 @@
 //! The levels of a matrix among the bits of a source, and the step from one level to the next.
-ghost use Rattle.std.specs.Prelude.{◌≡◌, ◌+◌, ◌*◌, ◌-◌, ◌<◌, ◌≤◌, ◌^◌, ℕ, true, length, ◌∷◌, [], take, count_by, slice_index, IfErr, IfOk};
+ghost use Rattle.std.specs.Prelude.{◌≡◌, ◌+◌, ◌*◌, ◌-◌, ◌<◌, ◌≤◌, ◌^◌, ℕ, true, length, ◌∷◌, [], take, count_by};
+ghost use Rattle.std.specs.Prelude.{slice_index, IfErr, IfOk};
 ghost use Rattle.std.specs.Box.{boxed_slice_items};
 ghost use Rattle.bitm.specs.Bits.{digit};
 ghost use Rattle.bitm.specs.Count.{ones_before, zeros_before};
 ghost use Rattle.bitm.specs.Size.{saturated_size};
 ghost use Rattle.bitm.specs.Tables.{bits_in};
 ghost use Rattle.wavelet_matrix.specs.Levels.{has_digit, level_place, partition_place};
-ghost use Rattle.wavelet_matrix.specs.Matrix.{IsBitOf, IsMatrix, IsMatrixOf, OnlyRanks, digit_place, level_in, numbers_in};
+ghost use Rattle.wavelet_matrix.specs.Matrix.{IsBitOf, IsMatrix, IsMatrixOf, OnlyRanks, digit_place, level_in};
+ghost use Rattle.wavelet_matrix.specs.Matrix.{numbers_in};
 ghost use Rattle.wavelet_matrix.specs.Numbers.{PicksItem};
 
 use crate::digits::{digit_of, without_lowest};

@@ -1,5 +1,6 @@
 //! The numbers from an index on, by one walk over the words of the high bits.
-ghost use Rattle.std.specs.Prelude.{◌≡◌, ◌+◌, ◌-◌, ◌*◌, ◌/◌, ◌^◌, ◌<◌, ◌≤◌, ℕ, List, true, false, length, min, slice_index, IfSome, MatchOption};
+ghost use Rattle.std.specs.Prelude.{◌≡◌, ◌+◌, ◌-◌, ◌*◌, ◌/◌, ◌^◌, ◌<◌, ◌≤◌, ℕ, List, true, false, length, min};
+ghost use Rattle.std.specs.Prelude.{slice_index, IfSome, MatchOption};
 ghost use Rattle.bitm.specs.Bits.{item, IsShort};
 ghost use Rattle.bitm.specs.Count.{ones_before, ones_of, IsFirstFrom, Picks};
 ghost use Rattle.bitm.specs.Reads.{OnlyReads, ReadsAtMost};
