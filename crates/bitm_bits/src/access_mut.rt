@@ -23,7 +23,7 @@ use crate::access::BitAccess;
 /// | a parameter `slice: &mut [u64]` | `let mut lent = std::convert::identity(slice);`, then `lent.set_bit(3)` |
 /// | a boxed slice, a vector, an array | `let slice = owner.as_mut_slice();` and `let lent = &mut (&mut *slice,);`, then `lent.0.set_bit(3)` |
 /// | any of these | the functions of `words` on the slice, as `words::set_bit(slice, 3)` |
-/// | a `B: BitAccessMut` | the methods, where the caller's own contract says that `B.lender` and the number of words stay |
+/// | a `B: BitAccessMut` | the methods, where the caller's contract says that `B.lender` and the length stay |
 ///
 /// After a method on a local slice, as `slice.set_bit(3)`, it knows what `slice` gives out as long as `slice` is used,
 /// and of the owner no more than the number of words.

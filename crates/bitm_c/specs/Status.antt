@@ -3,8 +3,8 @@ use Rattle.std.specs.Prelude.{◌≡◌, ◌≢◌, ℕ, ◌⊎◌, if◌then◌
 use Rattle.bitm.specs.Answer.{Answer}
 use Rattle.bitm.specs.Answer.TheVariants.{Found, Absent, Wrong}
 
--- A status is 0 where the answer was written, 1 where there is no such position, bit or number, 2 where a length is wrong,
--- and 3 where the tables are not those of the words, or the parts not those of a sequence.
+-- A status is 0 where the answer was written, 1 where there is no such position, bit or number, 2 where a length is
+-- wrong, and 3 where the tables are not those of the words, or the parts not those of a sequence.
 
 -- the answer that a status and the number that was written report
 abbrev pub answer_of : {T : Type 0} → ℕ → T → Answer T

@@ -37,8 +37,8 @@ AreSized taken fall keys b level begin (words ∷ sizes) =
     (words ≡ taken (length keys))
     × AreSized taken fall (left_of fall keys b level begin words) b (level + 1) (begin + 64 * words) sizes
 
--- levels of these sizes are chosen one after another, each for the hashes that are left before it, by which p becomes q;
--- the first begins at word `first`, which is bit `begin`
+-- levels of these sizes are chosen one after another, each for the hashes that are left before it, by which p becomes
+-- q; the first begins at word `first`, which is bit `begin`
 abbrev pub AreChosen : {P : Type 0} → (P → P → ℕ → List ℕ → ℕ → ℕ → Type 0) → (ℕ → ℕ → ℕ → ℕ) → List ℕ → List Bool → ℕ → ℕ → ℕ → List ℕ → P → P → Type 0
 AreChosen chooses fall hashes b level first begin [] p q = p ≡ q
 AreChosen {P} chooses fall hashes b level first begin (words ∷ sizes) p q =

@@ -25,7 +25,8 @@ pub record IsLookedUp (fall : ℕ → ℕ → ℕ) (b : List Bool) (sizes : List
   pub goes_on : place ≡ 2 ^ 64 - 1 → GoesOn fall b sizes level begin
   pub found : place ≢ 2 ^ 64 - 1 → place_from fall b 0 0 sizes ≡ Some place
 
--- before a level, each look-up has found its place, or its hash is among the first `count` that wait, and all these go on
+-- before a level, each look-up has found its place, or its hash is among the first `count` that wait, and all these go
+-- on
 pub record AreLookedUp (fall : ℕ → ℕ → ℕ → ℕ) (b : List Bool) (sizes : List ℕ) (level begin : ℕ) (hashes places waiting : List ℕ) (count : ℕ) : Type 0 where
   pub room : count ≤ length waiting
   pub inside : (a : ℕ) → a < count → slice_index waiting a < length hashes

@@ -1,7 +1,7 @@
 //! Sequences, by rows that are worked out by hand. Of the first one, 2, 3, 5, 7, 11, 13 and 24, each number keeps one
-//! low bit (0, 1, 1, 1, 1, 1, 0), and its 1 bit in the upper vector stands at its half, rounded down, plus its index: 1,
-//! 1 + 1, 2 + 2, 3 + 3, 5 + 4, 6 + 5 and 12 + 6. The upper vectors of the five rows have 20, 1, 9, 3 and 3 bits, so one
-//! word each.
+//! low bit (0, 1, 1, 1, 1, 1, 0), and its 1 bit in the upper vector stands at its half, rounded down, plus its index:
+//! 1, 1 + 1, 2 + 2, 3 + 3, 5 + 4, 6 + 5 and 12 + 6. The upper vectors of the five rows have 20, 1, 9, 3 and 3 bits, so
+//! one word each.
 use bitm::BitAccess;
 use elias_fano::{EfError, EliasFano};
 use std::alloc::{AllocError, Global};

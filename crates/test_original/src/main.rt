@@ -8,25 +8,24 @@
 //! words and bytes hexadecimal; V is decimal but where a line below says hexadecimal. `-` stands for `None`. A list has
 //! items X, runs X*COUNT (COUNT items X), and runs X+STEP*COUNT (COUNT items X, X+STEP, X+2*STEP, ..). ID is the name
 //! of the last `content` above. A:V is an argument and its answer; a line may have several. KIND is the density of
-//! samples: cM is the same for each content, aM adapts to it; D is its logarithm.
+//! samples: cM is the same for all words, aM adapts to them; D is its logarithm.
 //!
 //! | Line | What it says |
 //! |---|---|
 //! | `content ID COUNT WORDS` | a name and its words, COUNT of them |
-//! | `ones ID TOTAL` | the number of ones |
-//! | `rank ID I:V..`, `rank0 ID I:V..` | ones or zeros before place I, by `try_rank` and `try_rank0` |
-//! | `select ID R:V..`, `select0 ID R:V..` | the position of the 1 bit or 0 bit of rank R, by `try_select` and
-//! `try_select0` |
-//! | `simple ID N..` | the ones before each run of 512 bits that is begun |
+//! | `ones ID TOTAL` | the number of 1 bits |
+//! | `rank ID I:V..`, `rank0 ID I:V..` | 1 bits or 0 bits before position I, by `try_rank` and `try_rank0` |
+//! | `select ID R:V..`, `select0 ID R:V..` | the 1 bit or 0 bit with rank R, by `try_select` and `try_select0` |
+//! | `simple ID N..` | the 1 bits before each run of 512 bits, of which the last may be partial |
 //! | `l1 ID N..`, `l2 ID WORDS` | the upper and the lower table of an index |
-//! | `l2at ID J:WORD..` | entries of the lower table at places J, where it is long |
-//! | `samples ID KIND B D BEGINS / WORDS` | the samples of the ones (B is 1) or the zeros (B is 0): where those of each part begin, and the samples |
-//! | `samplesat ID KIND B D COUNT BEGINS / J:WORD..` | the same of many samples: their number, and some of them by
-//! their index J |
+//! | `l2at ID J:WORD..` | entries J of the lower table, where it is long |
+//! | `samples ID KIND B D BEGINS / WORDS` | where the samples of bits B of each upper block start, and the samples |
+//! | `samplesat ID KIND B D COUNT BEGINS / J:WORD..` | `samples` for long lists: their number, and samples J |
 //! | `ocs LEN N V..` | `optimal_combined_sampling(N, LEN, M)` where M is 7, 8, 13, 14, 15 and 31 |
-//! | `bits ID S,L:V..`, `raw ID S,L:V..` | the number that L bits from S on are, V hexadecimal, by `try_get_bits` and `try_get_bits_unmasked` |
-//! | `find ID S:V..`, `rfind ID S:V..` | the nearest one from S on, and up to S |
-//! | `trail ID V` | the number of zeros before the first one |
+//! | `bits ID S,L:V..` | the number that L bits from S on are, V hexadecimal, by `try_get_bits` |
+//! | `raw ID S,L:V..` | the same by `try_get_bits_unmasked` |
+//! | `find ID S:V..`, `rfind ID S:V..` | the nearest 1 bit from S on, and up to S |
+//! | `trail ID V` | the number of 0 bits before the first 1 bit |
 //! | `set ID S L V / WORDS` | the words after `set_bits(S, V, L)`, V hexadecimal here and in the next lines |
 //! | `xor ID S L V / WORDS` | the words after `xor_bits(S, V, L)` |
 //! | `init S L V / WORDS` | the words after `init_bits(S, V, L)` on as many zero words |
@@ -36,8 +35,8 @@
 //! | `store N V` | `bits_to_store(N)` |
 //! | `bytes BYTES` | the bytes of the lines below it |
 //! | `get57 K V`, `get25 K V` | a read of eight or four of those bytes at first bit K, V hexadecimal |
-//! | `init57 K V / BYTES`, `init25 K V / BYTES` | the bytes after such a write of V, hexadecimal, to as many zero bytes |
-//! | `set57 K V MASK / BYTES`, `set25 K V MASK / BYTES` | those bytes after such a write of V under a mask, both hexadecimal |
+//! | `init57 K V / BYTES`, `init25 K V / BYTES` | the bytes after such a write of V, hexadecimal, to zero bytes |
+//! | `set57 K V MASK / BYTES`, `set25 K V MASK / BYTES` | the same under a mask, hexadecimal too |
 //!
 //! At the exact length that crate answers no rank, and `bitm` the total. So where a pair of `rank` or `rank0` has the
 //! exact length and `-`, the total is expected, which the line `ones` before it says (zeros are the other bits). These
