@@ -104,8 +104,8 @@ impl<'a> PrefixCounts<'a> {
         self.before(of, self.shards())
     }
 
-    /// The last shard before which the numbers claim no more of a kind than `number`, as far as those of the next shard
-    /// tell; or how many shards there are, where they claim no more in all.
+    /// The last shard before which the numbers claim at most `number` of a kind, judged by the numbers of the next
+    /// shard; or the number of shards, where they claim at most that in all.
     ///
     /// # Conditions
     /// They claim no more before the first shard.
