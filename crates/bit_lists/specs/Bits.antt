@@ -1,4 +1,4 @@
--- A content as the list of its bits.
+-- Words as the list of their bits.
 use Rattle.std.specs.Prelude.{ℕ, ◌*◌, ◌/◌, ◌%◌, ◌^◌, ◌<◌, Bool, false, ◌==◌, List, map, length, slice_index, slice_index_or}
 use Rattle.std.specs.Int.{bit_at}
 use Rattle.std.specs.Int.Digits.{digits_of}
@@ -12,11 +12,11 @@ digit v j = bit_at v j == 1
 unfoldable pub low_digits : ℕ → ℕ → List Bool
 low_digits n v = map (digit v) (range_with_len 0 n)
 
--- bit i of a content: digit i mod 64 of word i / 64
+-- bit i of words: digit i mod 64 of word i / 64
 abbrev pub bit_of : List ℕ → ℕ → Bool
 bit_of words i = digit (slice_index words (i / 64)) (i % 64)
 
--- the bits of a content
+-- the bits of words
 unfoldable pub bits_of : List ℕ → List Bool
 bits_of words = map (bit_of words) (range_with_len 0 (64 * length words))
 

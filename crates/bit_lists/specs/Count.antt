@@ -37,11 +37,11 @@ pub record Picks (b : List Bool) (v : Bool) (r p : ℕ) : Type 0 where
 abbrev pub IsSelect : List Bool → Bool → ℕ → Option ℕ → Type 0
 IsSelect b v r o = MatchOption o (count_of b v ≤ r) (Picks b v r)
 
--- how many of the first i items are ones, and None exactly where there are not so many items
+-- how many of the first i items are 1 bits, and None exactly where there are fewer items
 abbrev pub IsRank : List Bool → ℕ → Option ℕ → Type 0
 IsRank b i o = MatchOption o (length b < i) (λ n. (i ≤ length b) × (n ≡ ones_before b i))
 
--- how many of the first i items are zeros, and None exactly where there are not so many items
+-- how many of the first i items are 0 bits, and None exactly where there are fewer items
 abbrev pub IsRank0 : List Bool → ℕ → Option ℕ → Type 0
 IsRank0 b i o = MatchOption o (length b < i) (λ n. (i ≤ length b) × (n ≡ zeros_before b i))
 
@@ -108,7 +108,7 @@ IsLastOneTo b s p = IsLastTo b true s p
 abbrev pub MatchesLast : List Bool → Bool → ℕ → Option ℕ → Type 0
 MatchesLast b v s o = MatchOption o ((p : ℕ) → p ≤ s → item b p ≡ not v) (IsLastTo b v s)
 
--- the place from s on with bit v and k such bits between s and it, and None exactly where there are not so many
+-- the position from s on with bit v and k such bits between s and it, and None exactly where there is none
 abbrev pub IsSelectFrom : List Bool → Bool → ℕ → ℕ → Option ℕ → Type 0
 IsSelectFrom b v s k o =
     MatchOption o (count_of b v ≤ count_before b v s + k) (λ p. (s ≤ p) × Picks b v (count_before b v s + k) p)

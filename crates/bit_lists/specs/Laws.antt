@@ -38,7 +38,7 @@ DigitsBoundPowers = (n k : ℕ) → (digit_count n ≤ k) ↔ (n < 2 ^ k)
 abbrev pub OnesAndZeros : Type 0
 OnesAndZeros = (b : List Bool) (i : ℕ) → i ≤ length b → ones_before b i + zeros_before b i ≡ i
 
--- each bit of a content is a one or a zero
+-- each bit of words is a 1 bit or a 0 bit
 abbrev pub OnesAndZerosOfContent : Type 0
 OnesAndZerosOfContent =
     (words : List ℕ)

@@ -1,5 +1,5 @@
--- What the definitions say of a stretch of items, of two contents one behind the other, of equal items, and of lists
--- that agree. Each law is the contract of a function of `laws`.
+-- What the definitions say of a range of items, of words after words, of equal items, and of lists that agree. Each law
+-- is the contract of a function of `laws`.
 use Rattle.std.specs.Prelude.{◌≡◌, ◌≢◌, ℕ, ◌+◌, ◌*◌, ◌/◌, ◌%◌, ◌<◌, ◌≤◌, ◌↔◌, Bool, not, List, ◌++◌, length, take, drop, count_by, slice_index}
 use Rattle.bit_lists.specs.Bits.{bits_of, digit, item}
 use Rattle.bit_lists.specs.Count.{count_before, is_same, Picks}
@@ -53,7 +53,7 @@ CountsAgree =
     (b c : List Bool) (v : Bool) (k : ℕ) → k ≤ length b → k ≤ length c → ((i : ℕ) → i < k → item b i ≡ item c i)
     → count_before b v k ≡ count_before c v k
 
--- the bits of two contents one behind the other
+-- the bits of words after words
 abbrev pub BitsAreJoined : Type 0
 BitsAreJoined = (first second : List ℕ) → bits_of (first ++ second) ≡ bits_of first ++ bits_of second
 

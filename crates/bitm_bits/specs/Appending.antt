@@ -1,4 +1,4 @@
--- Bits that are written one behind the other.
+-- Bits that are written one after another.
 use Rattle.std.specs.Prelude.{◌≡◌, ℕ, ◌+◌, ◌≤◌, false, List, length, take}
 use Rattle.std.specs.Int.{div_ceil}
 use Rattle.bit_lists.specs.Bits.{bits_of, item}

@@ -4,7 +4,7 @@ use Rattle.bit_lists.specs.Bits.{bits_of}
 use Rattle.bit_lists.specs.Number.{with_number, with_number_if}
 use Rattle.bit_lists.specs.Window.{with_flips}
 
--- the same slice is lent, and it has as many words
+-- the same slice is borrowed, and it has as many words
 abbrev pub LendsSame : {A : Type 0} → (A → ℕ) → (A → List ℕ) → A → A → Type 0
 LendsSame lender words old new = (lender new ≡ lender old) × (length (words new) ≡ length (words old))
 

@@ -1,4 +1,4 @@
--- The samples of a content, where selection by them begins, and what it reads.
+-- The samples of a bit vector, where selection from them starts, and what it reads.
 use Rattle.std.specs.Prelude.{◌≡◌, ℕ, ◌+◌, ◌-◌, ◌*◌, ◌/◌, ◌%◌, ◌^◌, ◌<◌, ◌≤◌, Bool, List, map, flat_map, sum_by, length, take, drop, min, slice_index_or, Option, MatchOption, if◌then◌else◌, nat_lt}
 use Rattle.std.specs.Int.{div_ceil}
 use Rattle.std.specs.List.{range_with_len}
@@ -13,7 +13,7 @@ use Rattle.bitm_strategies.specs.declared.samples.Summary.{Summary}
 
 -- ---- parts
 
--- how many parts of 2^32 bits the list has, a begun one included
+-- the number of upper blocks of the list, of which the last may be partial
 abbrev pub parts : List Bool → ℕ
 parts b = div_ceil (length b) (2 ^ 32)
 
@@ -35,7 +35,7 @@ entry_at p = p % 2 ^ 32 / 2048
 
 -- ---- samples of one part c
 
--- the place of item v number t, or the length where there are no so many
+-- the position of the bit v with rank t, or the length where there is none
 unfoldable pub place : List Bool → Bool → ℕ → ℕ
 place c v t = slice_index_or (places v 0 c) t (length c)
 
@@ -52,11 +52,11 @@ distance c v t q = if nat_lt q (count_of c v) then min 2047 (entry_of c v q - en
 abbrev pub sample : List Bool → Bool → ℕ → ℕ → ℕ
 sample c v d t = entry_of c v t + distance c v t (t + 2 ^ (d - 1)) * 2 ^ 21
 
--- how many intervals of 2^d items are begun
+-- the number of intervals of 2^d items, of which the last may be partial
 abbrev pub intervals : List Bool → Bool → ℕ → ℕ
 intervals c v d = div_ceil (count_of c v) (2 ^ d)
 
--- one sample for each begun interval
+-- one sample for each interval
 abbrev pub part_samples : List Bool → Bool → ℕ → List ℕ
 part_samples c v d = map (λ i. sample c v d (i * 2 ^ d)) (range_with_len 0 (intervals c v d))
 
@@ -93,7 +93,7 @@ sample_count_of b v d = sample_count_before b v d (parts b)
 abbrev pub sample_starts_of : List Bool → Bool → ℕ → List ℕ
 sample_starts_of b v d = map (sample_count_before b v d) (range_with_len 0 (parts b))
 
--- how many samples of items v a content has at logarithm d, exactly and at most
+-- the number of samples of the bits v at logarithm d, and a bound on it
 pub record IsSampleCount (b : List Bool) (v : Bool) (d count : ℕ) : Type 0 where
   pub total : count ≡ sample_count_of b v d
   pub bound : (m : ℕ) → count_of b v * 2 ^ (m + 1) ≤ 3 * length b * 2 ^ d → count * 2 ^ (m + 1) ≤ 3 * length b + parts b * 2 ^ (m + 1)
@@ -110,7 +110,7 @@ pub record Summarizes (b : List Bool) (upper lower : List ℕ) (total len : ℕ)
 abbrev pub IsSummaryOf : List Bool → Summary → Type 0
 IsSummaryOf b summary = Summarizes b summary.upper.now summary.lower.now summary.total summary.len
 
--- the tables are as long as those of so many bits: nothing is said of what they hold
+-- the tables have the lengths of those of the given number of bits, and may hold anything
 pub record IsSized (summary : Summary) : Type 0 where
   pub upper_len : length summary.upper.now ≡ div_ceil summary.len (2 ^ 32)
   pub lower_len : length summary.lower.now ≡ div_ceil summary.len 2048
@@ -130,7 +130,7 @@ pub record Supported {S : Type 0} (log : S → ℕ) (chosen : ℕ → ℕ → S)
 
 -- ---- reads of selection by samples
 
--- a walk from the start for rank r to entry e of the part c, after so many reads of upper entries
+-- a walk from the start for rank r to entry e of the upper block c, after the given number of reads of upper entries
 pub record WalkedTo (c : List Bool) (v : Bool) (d r e uppers : ℕ) (early late : ReadCounts) : Type 0 where
   pub order : walk_start c v d r ≤ e
   pub reads : ReadsAtMost early late uppers (e - walk_start c v d r + 2) 8
@@ -150,8 +150,8 @@ SampledReads b v d rank result early late =
     (WalkedOut (part_of b last) v d (rank_in b v rank last) uppers early late)
     (λ p. WalkedTo (part_of b (part_at p)) v d (rank_in b v rank (part_at p)) (entry_at p) uppers early late)
 
--- of the samples xs of the words, one for 2^d items, and of the items so many stand before the part; it is the last
--- part with no more than r items before it
+-- the start of the samples of an upper block in xs, one for 2^d items, and the number of items before the upper block,
+-- which is the last with at most r items before it
 pub record IsSampledPart (bit : ℕ) (lists : Lists) (xs : List ℕ) (d : ℕ) (begin : PartBegin) (r : ℕ) : Type 0 where
   pub low : 7 ≤ d
   pub high : d ≤ 31

@@ -1,11 +1,11 @@
--- What is answered over parts that are lent: of any parts, and of those of a sequence.
+-- The answers over borrowed parts: over any parts, and over those of a sequence.
 use Rattle.std.specs.Prelude.{◌≡◌, ⊤, ℕ, ◌<◌, ◌≤◌, List, length, slice_index}
 use Rattle.std.specs.List.{All}
 use Rattle.elias_fano.specs.Sequence.{Reaches, StaysWithin}
 use Rattle.bitm.specs.Answer.{Answer}
 use Rattle.bitm.specs.Answer.TheVariants.{Found, Absent, Wrong}
 
--- Absent exactly where item i of n is none
+-- Absent exactly where n items have no item i
 abbrev pub IsOfPlace : ℕ → ℕ → Answer ℕ → Type 0
 IsOfPlace n i (Found x) = i < n
 IsOfPlace n i Absent = n ≤ i
@@ -17,19 +17,19 @@ IsItem xs i (Found x) = (i < length xs) × (x ≡ slice_index xs i)
 IsItem xs i Absent = length xs ≤ i
 IsItem xs i Wrong = ⊥
 
--- a place that is found is one of n
+-- an index that is found is one of n
 abbrev pub IsPlaceOf : ℕ → Answer ℕ → Type 0
 IsPlaceOf n (Found p) = p < n
 IsPlaceOf n Absent = ⊤
 IsPlaceOf n Wrong = ⊤
 
--- the least place whose item is at least v, and Absent exactly where each item is less
+-- the successor of v: the least index whose item is at least v, and Absent exactly where each item is less
 abbrev pub IsFirst : List ℕ → ℕ → Answer ℕ → Type 0
 IsFirst xs v (Found p) = Reaches xs v p
 IsFirst xs v Absent = All (λ x. x < v) xs
 IsFirst xs v Wrong = ⊥
 
--- the greatest place whose item is at most v, and Absent exactly where each item is more
+-- the predecessor of v: the greatest index whose item is at most v, and Absent exactly where each item is greater
 abbrev pub IsLast : List ℕ → ℕ → Answer ℕ → Type 0
 IsLast xs v (Found p) = StaysWithin xs v p
 IsLast xs v Absent = All (λ x. v < x) xs

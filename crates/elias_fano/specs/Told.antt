@@ -1,4 +1,4 @@
--- What parts tell of how many numbers are less than a value, whatever they hold.
+-- What parts claim of how many numbers are less than a value, whatever they hold.
 use Rattle.std.specs.Prelude.{◌≡◌, ⊤, ℕ, ◌+◌, ◌-◌, ◌/◌, ◌%◌, ◌^◌, ◌<◌, ◌≤◌, ◌⊎◌, false, length}
 use Rattle.bitm.specs.Bits.{item}
 use Rattle.bitm.specs.Tables.{Lists, bits_in}
@@ -8,25 +8,25 @@ use Rattle.elias_fano.specs.Low.{fragment, unread}
 use Rattle.bitm.specs.Answer.{Answer}
 use Rattle.bitm.specs.Answer.TheVariants.{Found, Absent, Wrong}
 
--- a zero of the words stands c places after z, as numbers of 64 bits
+-- a 0 bit of the words is c positions after z, as numbers of 64 bits
 pub record HasZeroAfter (lists : Lists) (z c : ℕ) : Type 0 where
   pub place : ℕ
   pub inside : place < length (bits_in lists)
   pub zero : item (bits_in lists) place ≡ false
   pub count : c ≡ less place z
 
--- the words tell that c of n numbers have at most z above their low digits: by the zero of z, or all, where words and
--- tables tell no more than z zeros
+-- the words claim that c of n numbers have high bits of at most z: by the 0 bit of z, or all, where words and tables
+-- claim at most z 0 bits
 abbrev pub TellsTo : Lists → ℕ → ℕ → ℕ → Type 0
 TellsTo lists n z c = HasZeroAfter lists z c ⊎ ((c ≡ n) × TellsNone false lists z)
 
--- the words tell that c of n numbers have less than h there; none where h is 0
+-- the words claim that c of n numbers have high bits less than h; none where h is 0
 pub record TellsBelow (lists : Lists) (n h c : ℕ) : Type 0 where
   pub none : h ≡ 0 → c ≡ 0
   pub some : 0 < h → TellsTo lists n (h - 1) c
 
--- place p parts low digits from first on to end: the one before it is below rest, and its own is not; the first place
--- where there are no low digits
+-- index p parts the low bits from first on and before end: those right before it are below rest, and its own are not;
+-- it is first where there are no low bits
 pub record PartsAt (lows : ℕ → ℕ) (width first end rest p : ℕ) : Type 0 where
   pub from : first ≤ p
   pub to : p ≤ end
@@ -34,8 +34,8 @@ pub record PartsAt (lows : ℕ → ℕ) (width first end rest p : ℕ) : Type 0 
   pub less : first < p → lows (p - 1) < rest
   pub at_least : p < end → rest ≤ lows p
 
--- the parts tell that p of their numbers are less than v: the words, where the numbers with the upper digits of v begin
--- and end, and the low digits, where these part
+-- the parts claim that p of their numbers are less than v: the words, where the numbers with the high bits of v start
+-- and end, and the low bits, where these part
 pub record TellsLess (parts : LentParts) (v p : ℕ) : Type 0 where
   pub first : ℕ
   pub end : ℕ
@@ -44,18 +44,18 @@ pub record TellsLess (parts : LentParts) (v p : ℕ) : Type 0 where
   pub within : end ≤ parts.len
   pub parting : PartsAt (fragment (unread parts.low parts.width)) parts.width first end (v % 2 ^ parts.width) p
 
--- the parts tell that p of their numbers are at most v: all, where v is the greatest number of 64 bits
+-- the parts claim that p of their numbers are at most v: all, where v is the greatest number of 64 bits
 pub record TellsAtMost (parts : LentParts) (v p : ℕ) : Type 0 where
   pub next : v + 1 < 2 ^ 64 → TellsLess parts (v + 1) p
   pub greatest : 2 ^ 64 ≤ v + 1 → p ≡ parts.len
 
--- what is told of the place that is found, and of place n where Absent is answered
+-- P of the index that is found, and of n where the answer is Absent
 abbrev pub IfPlace : ℕ → Answer ℕ → (ℕ → Type 0) → Type 0
 IfPlace n (Found p) P = P p
 IfPlace n Absent P = P n
 IfPlace n Wrong P = ⊤
 
--- what is told of how many there are up to the place that is found, and of 0 where Absent is answered
+-- P of the number of items up to the index that is found, and of 0 where the answer is Absent
 abbrev pub IfLast : Answer ℕ → (ℕ → Type 0) → Type 0
 IfLast (Found p) P = P (p + 1)
 IfLast Absent P = P 0

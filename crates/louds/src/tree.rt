@@ -358,7 +358,7 @@ impl<S: SelectForRank101111, S0: Select0ForRank101111> Louds<S, S0> {
 
 impl<S: SelectForRank101111 + GetSize, S0: Select0ForRank101111 + GetSize> GetSize
     for Louds<S, S0> {
-    // the bits, eight bytes for each begun 2^32 and each begun 2048 of them, and the two strategies
+    // the bits, eight bytes for each upper block and each lower block of them, and the two strategies
     ghost dyn_bytes = { λ t. let words = words_of (length t.degrees) in saturated_size
         (8 * words + 8 * div_ceil words (2 ^ 26) + 8 * div_ceil words 32
         + S.dyn_bytes t.select + S0.dyn_bytes t.select0) };

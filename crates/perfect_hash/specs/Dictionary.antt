@@ -24,7 +24,7 @@ kept_if test (Some v) = if test v then Some v else None
 abbrev pub found_by : (ℕ → Option ℕ) → List ℕ → ℕ → ℕ → Option ℕ
 found_by number prints width hash = kept_if (λ v. print_at prints width v == print_of width hash) (number hash)
 
--- a perfect hash, and fingerprints of so many bits
+-- a perfect hash, and fingerprints of the given number of bits
 pub record Entries (H I P : Type 0) : Type 0 where
   pub numbers : Parts H I P
   pub prints : List ℕ
@@ -34,7 +34,7 @@ pub record Entries (H I P : Type 0) : Type 0 where
 abbrev pub found_of : {H I P K : Type 0} → (P → ℕ → ℕ → ℕ → ℕ → ℕ) → (H → K → ℕ) → Entries H I P → K → Option ℕ
 found_of by hash e key = found_by (number_from by e.numbers) e.prints e.width (hash e.numbers.hasher key)
 
--- there is a fragment of so many bits for each one
+-- there is a fragment of the given number of bits for each 1 bit
 pub record HasRoom (b : List Bool) (prints : List ℕ) (width : ℕ) : Type 0 where
   pub some : 0 < width
   pub few : width ≤ 32

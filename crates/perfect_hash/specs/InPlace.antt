@@ -1,4 +1,4 @@
--- Levels that were made in memory that was lent.
+-- Levels that were built in borrowed memory.
 use Rattle.std.specs.Prelude.{◌≡◌, ℕ, ◌-◌, ◌<◌, ◌≤◌, ◌⊎◌, List, min, take}
 use Rattle.perfect_hash.specs.Places.{words_for}
 use Rattle.perfect_hash.specs.declared.in_place.Made.{Made}

@@ -1,9 +1,9 @@
 -- Keys that fall on bits, level by level. A key is seen by where it falls: `fall key level words` is its bit of a level
--- of so many words.
+-- of the given number of words.
 use Rattle.std.specs.Prelude.{◌≡◌, ℕ, ◌+◌, ◌*◌, ◌<◌, ◌≤◌, ◌==◌, Bool, not, if◌then◌else◌, List, [], ◌∷◌, ◌++◌, All, Contains, length, filter, count_by, Option, Some, None, sum, take, drop}
 use Rattle.bitm.specs.Bits.{bits_of, item}
 
--- how many keys fall on bit p of a level of so many words
+-- how many keys fall on bit p of a level of the given number of words
 abbrev pub hits : {K : Type 0} → (K → ℕ → ℕ → ℕ) → List K → ℕ → ℕ → ℕ → ℕ
 hits fall keys level words p = count_by (λ k. fall k level words == p) keys
 
@@ -30,7 +30,7 @@ place_from fall b level begin (words ∷ sizes) =
     let place = begin + fall level words in
     if item b place then Some place else place_from fall b (level + 1) (begin + 64 * words) sizes
 
--- each of these levels has as many words as are taken for so many keys as are left before it
+-- each of these levels has as many words as are taken for the number of keys that are left before it
 abbrev pub AreSized : {K : Type 0} → (ℕ → ℕ) → (K → ℕ → ℕ → ℕ) → List K → List Bool → ℕ → ℕ → List ℕ → Type 0
 AreSized taken fall keys b level begin [] = Unit {0}
 AreSized taken fall keys b level begin (words ∷ sizes) =
@@ -51,7 +51,7 @@ looked fall b level begin [] = 0
 looked fall b level begin (words ∷ sizes) =
     if item b (begin + fall level words) then 1 else 1 + looked fall b (level + 1) (begin + 64 * words) sizes
 
--- a count is no less than another, and at most so many more
+-- a count is at least another, and exceeds it by at most the given number
 pub record IsWithin (more low count : ℕ) : Type 0 where
   pub least : low ≤ count
   pub most : count ≤ low + more
@@ -87,7 +87,8 @@ FallsTogether fall keys level [] k = Unit {0}
 FallsTogether fall keys level (words ∷ sizes) k =
     (2 ≤ hits fall keys level words (fall k level words)) × FallsTogether fall keys (level + 1) sizes k
 
--- after 256 levels of some sizes so many of the keys are left, each of which fell together with another one at each
+-- after 256 levels of some sizes the given number of keys are left, each of which fell together with another one at
+-- each
 pub record Collide {K : Type 0} (fall : K → ℕ → ℕ → ℕ) (keys : List K) (count : ℕ) : Type 0 where
   pub sizes : List ℕ
   pub words : List ℕ

@@ -49,7 +49,7 @@ levels_looked by hash parts key =
 abbrev pub number_of : {H I P K : Type 0} → (H → K → ℕ) → Parts H I P → K → Option ℕ
 number_of = number_at (λ _ _. place_in)
 
--- where keys collide, so many of these hashes are left after all levels
+-- where keys collide, the given number of hashes are left after all levels
 abbrev pub IfCollide : BuildError → List ℕ → Type 0
 IfCollide (KeysCollide count) hashes = Collide place_in hashes count
 IfCollide TooLarge hashes = ⊤

@@ -21,7 +21,7 @@ WhereWrong (Found p) known = ⊤
 WhereWrong Absent known = ⊤
 WhereWrong Wrong known = known
 
--- levels of these sizes, each of which has a word, stand in so many words
+-- levels of these sizes, each of at least one word, fit the given number of words
 pub record FitIn (words : ℕ) (sizes : List ℕ) : Type 0 where
   pub some : All (λ size. 0 < size) sizes
   pub within : sum sizes ≤ words

@@ -1,7 +1,7 @@
 -- Where a hash falls in a level.
 use Rattle.std.specs.Prelude.{ℕ, ◌+◌, ◌*◌, ◌/◌, ◌%◌, ◌^◌, bit_xor, max, List, slice_index}
 
--- x, its higher half folded down by so many digits, times a number
+-- x, its higher half folded down by the given number of bits, times a number
 abbrev pub folded : ℕ → ℕ → ℕ → ℕ
 folded by times x = bit_xor x (x / 2 ^ by) * times % 2 ^ 64
 
@@ -12,7 +12,8 @@ spread hash level =
     let z = folded 27 0x94D049BB133111EB (folded 30 0xBF58476D1CE4E5B9 start) in
     bit_xor z (z / 2 ^ 31)
 
--- the bit of a level of so many words that a hash falls on: the spread number, as a fraction of 2^64, of the bits
+-- the bit of a level of the given number of words that a hash falls on: the spread number, as a fraction of 2^64, of
+-- the bits
 unfoldable pub place_in : ℕ → ℕ → ℕ → ℕ
 place_in hash level words = spread hash level % 2 ^ 64 * (64 * words) / 2 ^ 64
 
@@ -20,7 +21,7 @@ place_in hash level words = spread hash level % 2 ^ 64 * (64 * words) / 2 ^ 64
 unfoldable pub bit_by : ℕ → ℕ → ℕ
 bit_by seed x = folded 32 0xBF58476D1CE4E5B9 ((x + seed * 0x9E3779B97F4A7C15 % 2 ^ 64) % 2 ^ 64) / 2 ^ 58
 
--- the word of a level of so many words that a hash falls in
+-- the word of a level of the given number of words that a hash falls in
 abbrev pub word_of : ℕ → ℕ → ℕ → ℕ
 word_of level words hash = spread hash level % 2 ^ 64 * words / 2 ^ 64
 

@@ -11,7 +11,7 @@ falls_on seed group p = count_by (λ x. bit_by seed x == p) group
 unfoldable pub alone : List ℕ → ℕ → ℕ
 alone group seed = count_by (λ p. falls_on seed group p == 1) (range_with_len 0 64)
 
--- of so many seeds the first by which most of them stand alone
+-- the first of the given number of seeds by which most of them fall on a bit alone
 pub record IsBest (group : List ℕ) (tries seed : ℕ) : Type 0 where
   pub inside : 0 < tries → seed < tries
   pub most : (other : ℕ) → other < tries → alone group other ≤ alone group seed
@@ -30,7 +30,7 @@ count_in level words hashes word = count_by (λ hash. word_of level words hash =
 abbrev pub count_to : ℕ → ℕ → List ℕ → ℕ → ℕ
 count_to level words hashes word = count_by (λ hash. nat_lt (word_of level words hash) word) hashes
 
--- the hashes of each of so many words stand one behind another
+-- the hashes of each of the given number of words follow one another
 abbrev pub AreGrouped : ℕ → ℕ → List ℕ → List ℕ → Type 0
 AreGrouped level words hashes sorted =
     (word k : ℕ) → word < words → k < count_in level words hashes word
@@ -47,7 +47,7 @@ abbrev pub AreBest : ℕ → List ℕ → ℕ → List ℕ → Type 0
 AreBest level hashes tries seeds =
     (word : ℕ) → word < length seeds → IsBest (group_of level (length seeds) hashes word) tries (slice_index seeds word)
 
--- the words of a level that is added after so many words have the seeds that are best for their hashes
+-- the words of a level that is added after the given number of words have the seeds that are best for their hashes
 pub record HasBest (old new : Seeds) (begin : ℕ) (hashes : List ℕ) (level words : ℕ) : Type 0 where
   pub tries : new.tries ≡ old.tries
   pub len : length new.seeds ≡ begin + words

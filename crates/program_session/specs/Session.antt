@@ -38,7 +38,7 @@ abbrev pub range_answer : List Bool → ℕ → ℕ → Answer
 range_answer bits begin len =
     if nat_lt begin (length bits) && nat_le (begin + len) (length bits) then Number (number_at bits begin len) else Absent
 
--- the place of the bit of the kind with so many of them before it, or none where there is none
+-- the position of the bit of the kind with the given number of them before it, or none where there is none
 abbrev pub IsPlaced : List Bool → Bool → ℕ → Answer → Type 0
 IsPlaced bits v rank (Number place) = Picks bits v rank place
 IsPlaced bits v rank Absent = count_before bits v (length bits) ≤ rank
@@ -106,16 +106,17 @@ Answers old (line ∷ lines) (answer ∷ answers) new = (mid : State) × Step ol
 Answers old [] (answer ∷ answers) new = ⊥
 Answers old (line ∷ lines) [] new = ⊥
 
--- From old, a session answered a line and went on to new, and it was written: the writer's bytes, where it tells them,
--- went from before to after by just the answer and a line feed, and good says that it was not `bad command`.
+-- From old, a session answered a line and went on to new, and it was written: the writer's bytes, where the writer
+-- shows them, went from before to after by just the answer and a line feed, and good says that it was not `bad
+-- command`.
 pub record WroteAnswer (line : List ℕ) (old new : State) (before after : Option (List ℕ)) (good : Bool) : Type 0 where
   pub answer : Answer
   pub step : Step old (request_of line) answer new
   pub written : Appends before after (answer_text answer ++ 10 ∷ [])
   pub told : good ≡ is_good answer
 
--- A session over these lines ends in this state, and it was written: the writer's bytes, where it tells them, went from
--- before to after by just its answers, and good says that none was `bad command`.
+-- A session over these lines ends in this state, and it was written: the writer's bytes, where the writer shows them,
+-- went from before to after by just its answers, and good says that none was `bad command`.
 pub record Wrote (lines : List (List ℕ)) (end : State) (before after : Option (List ℕ)) (good : Bool) : Type 0 where
   pub answers : List Answer
   pub session : Answers start lines answers end

@@ -17,7 +17,7 @@ pub record AreDistinct (xs : List ℕ) (pairs : List (ℕ × ℕ)) : Type 0 wher
   pub counts : All (λ p. Contains xs p.0 × (p.1 ≡ count_equal xs p.0)) pairs
   pub all : All (λ x. Contains pairs (tally xs x)) xs
 
--- whether v is in the list, and at least so many items are less
+-- whether v is in the list, and at least the given number of items are less
 abbrev pub is_coming : List ℕ → ℕ → ℕ → Bool
 is_coming xs less v = nat_lt 0 (count_equal xs v) && nat_le less (count_less xs v)
 
@@ -25,7 +25,8 @@ is_coming xs less v = nat_lt 0 (count_equal xs v) && nat_le less (count_less xs 
 unfoldable pub coming_tallies : List ℕ → ℕ → ℕ → List (ℕ × ℕ)
 coming_tallies xs n less = map (tally xs) (filter (is_coming xs less) (range_with_len 0 n))
 
--- all items are below n, and so many are those that are less than some number: with one item all that are equal to it
+-- all items are below n, and the given number is that of the items less than some number, so that equal items are
+-- counted together
 pub record StandsBetween (xs : List ℕ) (n less : ℕ) : Type 0 where
   pub fit : All (λ x. x < n) xs
   pub whole : (v : ℕ) → count_less xs v < less → count_less xs (v + 1) ≤ less

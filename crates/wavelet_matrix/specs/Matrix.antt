@@ -105,7 +105,7 @@ pub record OnlyRanks {S : Type 0} (l : LevelTables) (lists_of : S → Lists) (re
 abbrev pub words_of : ℕ → ℕ → ℕ
 words_of n w = div_ceil (w * n) 64
 
--- how many numbers of quarters so many words have: one for each begun eight of them, and a compact matrix none
+-- the number of quarters' numbers for the given number of words: ceil(words / 8), and none in a compact matrix
 abbrev pub quarters_for : Bool → ℕ → ℕ
 quarters_for compact words = if compact then 0 else div_ceil words 8
 

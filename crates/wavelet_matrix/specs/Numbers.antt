@@ -11,7 +11,7 @@ pub record PicksItem (xs : List ℕ) (v k p : ℕ) : Type 0 where
   pub item : slice_index xs p ≡ v
   pub before : count_before xs v p ≡ k
 
--- how many of the first i items are v, and None exactly where there are not so many items
+-- how many of the first i items are v, and None exactly where there are fewer items
 abbrev pub IsItemRank : List ℕ → ℕ → ℕ → Option ℕ → Type 0
 IsItemRank xs v i o = MatchOption o (length xs < i) (λ n. (i ≤ length xs) × (n ≡ count_before xs v i))
 

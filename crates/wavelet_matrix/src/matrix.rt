@@ -341,8 +341,8 @@ impl<S: SelectForRank101111, S0: Select0ForRank101111> WaveletMatrix<S, S0> {
 
 impl<S: SelectForRank101111 + GetSize, S0: Select0ForRank101111 + GetSize> GetSize
     for WaveletMatrix<S, S0> {
-    // the words, eight bytes for each begun 2^26 and each begun 32 of them, and unless it is compact for each begun
-    // eight, the two strategies, sixteen bytes for each level, and eight for each number of the known digits
+    // the words, eight bytes for each 2^26 of them, each 32 and, unless it is compact, each eight, all rounded up, the
+    // two strategies, sixteen bytes for each level, and eight for each number of the known digits
     ghost dyn_bytes = { λ m. let n = length m.items in let words = words_of n m.width in
         saturated_size (8 * words + 8 * div_ceil words (2 ^ 26) + 8 * div_ceil words 32
         + 8 * quarters_for m.compact words + S.dyn_bytes m.select + S0.dyn_bytes m.select0
