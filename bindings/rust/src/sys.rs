@@ -7,6 +7,7 @@ pub(crate) mod index;
 pub(crate) mod mapped;
 pub(crate) mod memory;
 pub(crate) mod owned;
+pub(crate) mod parts;
 pub(crate) mod reads;
 pub(crate) mod sequence;
 pub(crate) mod shards;

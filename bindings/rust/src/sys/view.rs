@@ -58,7 +58,7 @@ unsafe impl Send for IndexView<'_> {}
 unsafe impl Sync for IndexView<'_> {}
 
 /// No samples.
-const NO_SAMPLES: bitm_samples =
+pub(crate) const NO_SAMPLES: bitm_samples =
     bitm_samples { samples: ptr::null(), samples_len: 0, starts: ptr::null(), starts_len: 0, log2: 0, reserved: 0 };
 
 impl<'a> IndexView<'a> {
@@ -306,31 +306,6 @@ impl<'a> IndexView<'a> {
         // SAFETY: a view, which borrows its slices.
         self.samples(one).is_none() || unsafe { bitm_index_check_samples(&self.raw, one) } == OK
     }
-}
-
-/// A rank of all bits of words with tables, whose lengths may be any.
-#[inline(always)]
-pub(crate) fn rank_of(
-    words: &[u64],
-    (upper, lower): (&[u64], &[u64]),
-    one: bool,
-    position: usize,
-) -> Result<Option<usize>, WrongTables> {
-    let view = bitm_index {
-        words: words.as_ptr(),
-        words_len: words.len(),
-        upper: upper.as_ptr(),
-        upper_len: upper.len(),
-        lower: lower.as_ptr(),
-        lower_len: lower.len(),
-        bits_len: (words.len() as u64).wrapping_mul(64),
-        ones: NO_SAMPLES,
-        zeros: NO_SAMPLES,
-        reserved: [0; 2],
-    };
-    // SAFETY: borrowed slices, and room for the number that the call writes where it returns OK.
-    let found = unsafe { query(|out| bitm_index_rank(&view, one, position as u64, out)) };
-    Ok(found?.map(|it| it as usize))
 }
 
 /// The answer of a list of queries.
