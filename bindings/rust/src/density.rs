@@ -41,27 +41,58 @@ pub const fn optimal_combined_sampling(n: usize, len: usize, max_result: u8) -> 
 /// }
 /// let bits: RankSelect101111<CombinedSampling<Eight>> = vec![0b1011].into_boxed_slice().into();
 /// assert_eq!(bits.select(2), 3);
-/// assert_eq!((Eight::items_per_sample(()), Eight::divide(700, ())), (256, 2));
-/// assert!(Eight::is_in_second_half(700, ()));
 /// ```
 pub trait CombinedSamplingDensity: Copy {
     /// The choice, as it is stored.
+    ///
+    /// ```
+    /// use bitm_proved::{CombinedSamplingDensity, ConstCombinedSamplingDensity};
+    /// type Stored = <ConstCombinedSamplingDensity<10> as CombinedSamplingDensity>::SamplingDensity;
+    /// assert_eq!(size_of::<Stored>(), 0); // the type has the choice
+    /// ```
     type SamplingDensity: Copy;
     /// The choice for the given number of items of `len` bits.
+    ///
+    /// ```
+    /// use bitm_proved::{AdaptiveCombinedSamplingDensity, CombinedSamplingDensity};
+    /// assert_eq!(AdaptiveCombinedSamplingDensity::<13>::density_for(1000, 1000), 13); // the limit, for 1 bits alone
+    /// ```
     fn density_for(number_of_items: usize, len: usize) -> Self::SamplingDensity;
     /// The logarithm.
+    ///
+    /// ```
+    /// use bitm_proved::{CombinedSamplingDensity, ConstCombinedSamplingDensity};
+    /// assert_eq!(ConstCombinedSamplingDensity::<9>::items_per_sample_log2(()), 9);
+    /// ```
     fn items_per_sample_log2(density: Self::SamplingDensity) -> u8;
     /// How many items one sample stands for. Tested, not proved.
+    ///
+    /// ```
+    /// use bitm_proved::{CombinedSamplingDensity, ConstCombinedSamplingDensity};
+    /// assert_eq!(ConstCombinedSamplingDensity::<9>::items_per_sample(()), 512);
+    /// ```
     #[inline]
     fn items_per_sample(density: Self::SamplingDensity) -> u32 {
         1 << Self::items_per_sample_log2(density)
     }
     /// The sample of an item. Tested, not proved.
+    ///
+    /// ```
+    /// use bitm_proved::{CombinedSamplingDensity, ConstCombinedSamplingDensity};
+    /// type Density = ConstCombinedSamplingDensity<9>; // a sample for each 512 items
+    /// assert_eq!([511, 512, 1024].map(|index| Density::divide(index, ())), [0, 1, 2]);
+    /// ```
     #[inline]
     fn divide(index: usize, density: Self::SamplingDensity) -> usize {
         index >> Self::items_per_sample_log2(density)
     }
     /// Whether an item is in the second half of those of its sample. Tested, not proved.
+    ///
+    /// ```
+    /// use bitm_proved::{CombinedSamplingDensity, ConstCombinedSamplingDensity};
+    /// type Density = ConstCombinedSamplingDensity<9>; // a sample for each 512 items
+    /// assert_eq!([255, 256, 512].map(|index| Density::is_in_second_half(index, ())), [false, true, false]);
+    /// ```
     #[inline]
     fn is_in_second_half(index: usize, density: Self::SamplingDensity) -> bool {
         index >> (Self::items_per_sample_log2(density) - 1) & 1 == 1

@@ -12,6 +12,12 @@ use core::{error::Error, fmt};
 #[derive(Clone, Copy, PartialEq, Eq, Debug)]
 pub struct NoMemory {
     /// The number of bytes that were requested.
+    ///
+    /// ```
+    /// use bitm_proved::BitVec;
+    /// let refused = Box::<[u64]>::try_with_zeroed_bits(1 << 62).unwrap_err();
+    /// assert_eq!(refused.bytes, 1 << 59); // 2^62 bits
+    /// ```
     pub bytes: usize,
 }
 
@@ -55,21 +61,43 @@ impl Error for WrongTables {}
 #[non_exhaustive]
 pub enum BuildError {
     /// There are more words, bits or numbers than there may be.
+    ///
+    /// ```
+    /// use bitm_proved::{BuildError, Index, Sampling};
+    /// let longer = Index::try_build([0u64], 65, Sampling::default()); // 65 bits of 64
+    /// assert_eq!(longer.err(), Some(BuildError::TooLong { len: 65 }));
+    /// ```
     TooLong {
         /// How many there are.
         len: usize,
     },
     /// The number at an index is less than the one before it.
+    ///
+    /// ```
+    /// use bitm_proved::{BuildError, EliasFano};
+    /// assert_eq!(EliasFano::build(&[2, 5, 3]).err(), Some(BuildError::NotSorted { index: 2 }));
+    /// ```
     NotSorted {
         /// That index.
         index: usize,
     },
     /// Hashes of keys are equal.
+    ///
+    /// ```
+    /// use bitm_proved::{BuildError, PerfectHash};
+    /// assert_eq!(PerfectHash::build(vec![5, 7, 5]).err(), Some(BuildError::EqualHashes { left: 2 }));
+    /// ```
     EqualHashes {
         /// How many hashes got no number.
         left: usize,
     },
     /// Memory could not be had.
+    ///
+    /// ```
+    /// use bitm_proved::{BitVec, BuildError};
+    /// let build = || Ok(Box::<[u64]>::try_with_zeroed_bits(1 << 62)?);
+    /// assert!(matches!(build(), Err(BuildError::NoMemory(_))));
+    /// ```
     NoMemory(NoMemory),
 }
 
@@ -107,14 +135,44 @@ impl From<NoMemory> for BuildError {
 #[non_exhaustive]
 pub enum StoredError {
     /// The bytes do not begin at a multiple of 8.
+    ///
+    /// ```
+    /// use bitm_proved::{Index, StoredError};
+    /// let bytes = [0u64; 9];
+    /// let inside = &bitm_proved::bytes_of(&bytes)[4..]; // begins at a multiple of 8, and 4
+    /// assert_eq!(Index::from_bytes(inside).err(), Some(StoredError::Misaligned));
+    /// ```
     Misaligned,
     /// They have no header of this format, version and byte order, or are fewer than it says.
+    ///
+    /// ```
+    /// use bitm_proved::{Index, StoredError};
+    /// assert_eq!(Index::from_words([0u64; 40]).err(), Some(StoredError::NotWhole)); // no header
+    /// ```
     NotWhole,
     /// They are a sequence where an index is expected, or an index where a sequence is.
+    ///
+    /// ```
+    /// use bitm_proved::{EliasFano, Index, StoredError};
+    /// let sequence = EliasFano::build(&[2, 3, 5])?.to_stored()?;
+    /// assert_eq!(Index::from_words(sequence).err(), Some(StoredError::OtherKind));
+    /// # Ok::<(), Box<dyn std::error::Error>>(())
+    /// ```
     OtherKind,
     /// A part is not as long as that of the words.
+    ///
+    /// ```
+    /// use bitm_proved::{Index, Queries, StoredError};
+    /// assert_eq!(Index::build([7u64]).to_stored(65).err(), Some(StoredError::WrongLength)); // 65 bits of 64
+    /// ```
     WrongLength,
     /// Memory could not be had.
+    ///
+    /// ```
+    /// use bitm_proved::{BitVec, StoredError};
+    /// let read = || Ok(Box::<[u64]>::try_with_zeroed_bits(1 << 62)?);
+    /// assert!(matches!(read(), Err(StoredError::NoMemory(_))));
+    /// ```
     NoMemory(NoMemory),
 }
 
@@ -151,6 +209,12 @@ impl From<NoMemory> for StoredError {
 #[non_exhaustive]
 pub enum ListError {
     /// There is not room for one answer to each query; nothing was written.
+    ///
+    /// ```
+    /// use bitm_proved::{Index, ListError, Queries};
+    /// let refused = Index::build([7u64]).rank_list(&[1, 2], &mut [0]);
+    /// assert_eq!(refused, Err(ListError::Lengths { queries: 2, room: 1 }));
+    /// ```
     Lengths {
         /// How many queries there are.
         queries: usize,
@@ -158,6 +222,13 @@ pub enum ListError {
         room: usize,
     },
     /// The tables are not those of the words; `WRONG_TABLES` stands for the answers that it shows in.
+    ///
+    /// ```
+    /// use bitm_proved::{IndexView, ListError, Queries};
+    /// let view = IndexView::new(&[7], 64, &[u64::MAX], &[u64::MAX])?; // no words have such tables
+    /// assert_eq!(view.rank_list(&[64], &mut [0]), Err(ListError::WrongTables { wrong: 1 }));
+    /// # Ok::<(), bitm_proved::WrongTables>(())
+    /// ```
     WrongTables {
         /// How many.
         wrong: usize,
@@ -189,8 +260,20 @@ impl Error for ListError {}
 #[non_exhaustive]
 pub enum OpenError {
     /// The system says why.
+    ///
+    /// ```
+    /// use bitm_proved::OpenError;
+    /// let none = std::fs::read("/there/is/no/such/file").map_err(OpenError::from);
+    /// assert!(matches!(none, Err(OpenError::System(_))));
+    /// ```
     System(std::io::Error),
     /// The file is none of this format, or of the other kind.
+    ///
+    /// ```
+    /// use bitm_proved::{OpenError, StoredError};
+    /// let why = OpenError::from(StoredError::OtherKind);
+    /// assert!(matches!(why, OpenError::Stored(StoredError::OtherKind)));
+    /// ```
     Stored(StoredError),
 }
 

@@ -29,9 +29,19 @@ pub struct BitBIterator<'a, const B: bool> {
 }
 
 /// The positions of the 1 bits, in increasing order. Tested, not proved.
+///
+/// ```
+/// use bitm_proved::BitOnesIterator;
+/// assert!(BitOnesIterator::new(&[0b1011]).rev().eq([3, 1, 0]));
+/// ```
 pub type BitOnesIterator<'a> = BitBIterator<'a, true>;
 
 /// The positions of the 0 bits, in increasing order. Tested, not proved.
+///
+/// ```
+/// use bitm_proved::BitZerosIterator;
+/// assert_eq!(BitZerosIterator::new(&[0b1011]).next(), Some(2));
+/// ```
 pub type BitZerosIterator<'a> = BitBIterator<'a, false>;
 
 impl<'a, const B: bool> BitBIterator<'a, B> {

@@ -1,18 +1,19 @@
-//! The queries of every index beside rank and selection, and the traits of the original for views and owners.
+//! The queries of every index beside rank and selection.
 use crate::errors::{sure, ListError, StoredError, WrongTables};
 use crate::iterators::{past_the_end, BitIterator, BitOnesIterator, BitZerosIterator};
-use crate::rank::{Rank, Select, Select0};
-use crate::rank_select::RankSelect101111;
-use crate::select::SelectionStrategy;
-use crate::sys::index::Index;
-use crate::sys::memory::prefetch;
 use crate::sys::view::IndexView;
-use alloc::boxed::Box;
-use alloc::sync::Arc;
 use alloc::vec::Vec;
-use core::ops::{Deref, Range};
+use core::ops::Range;
 
 /// In a list of answers: there is no such position or number.
+///
+/// ```
+/// use bitm_proved::{Index, Queries, NO_ANSWER};
+/// let mut out = [0; 2];
+/// Index::build([0b111u64]).select_list(&[2, 3], &mut out)?; // there is no fourth 1 bit
+/// assert_eq!(out, [2, NO_ANSWER]);
+/// # Ok::<(), bitm_proved::ListError>(())
+/// ```
 pub const NO_ANSWER: usize = usize::MAX;
 
 /// In a list of answers: the tables are not those of the words.
@@ -32,29 +33,20 @@ pub const WRONG_TABLES: usize = usize::MAX - 1;
 /// A `checked_` form returns an error where the tables turn out not to be those of the words; the others panic then.
 ///
 /// ```
-/// use bitm_proved::{ArrayWithRank101111, ListError, Queries, NO_ANSWER};
-/// let bits: ArrayWithRank101111 = vec![0b1011_0100, 1].into_boxed_slice().into();
-/// assert_eq!((bits.checked_rank(6), bits.checked_rank(129)), (Ok(Some(3)), Ok(None)));
-/// assert_eq!(bits.checked_rank0(6), Ok(Some(3)));
-/// assert_eq!((bits.checked_select(4), bits.checked_select0(2)), (Ok(Some(64)), Ok(Some(3))));
-/// assert_eq!((bits.next_one(3), bits.next_zero(2), bits.next_one(65)), (Some(4), Some(3), None));
-/// assert_eq!((bits.previous_one(63), bits.previous_zero(5), bits.previous_one(1)), (Some(7), Some(3), None));
-/// assert_eq!((bits.checked_next(true, 3), bits.checked_previous(false, 5)), (Ok(Some(4)), Ok(Some(3))));
-/// assert_eq!((bits.count_ones(), bits.count_zeros()), (5, 123));
-/// let mut out = [0; 3];
-/// assert_eq!((bits.rank_list(&[6, 128, 129], &mut out), out), (Ok(1), [3, 5, NO_ANSWER]));
-/// assert_eq!((bits.rank0_list(&[6, 128, 1], &mut out), out), (Ok(0), [3, 123, 1]));
-/// assert_eq!((bits.select_list(&[0, 4, 5], &mut out), out), (Ok(1), [2, 64, NO_ANSWER]));
-/// assert_eq!((bits.select0_list(&[0, 1, 2], &mut out), out), (Ok(0), [0, 1, 3]));
-/// assert_eq!(bits.rank_list(&[6], &mut out), Err(ListError::Lengths { queries: 1, room: 3 }));
-/// assert!(bits.ones().eq([2, 4, 5, 7, 64]) && bits.zeros().rev().take(2).eq([127, 126]));
-/// assert!(bits.try_ones_in(0..129).is_none() && bits.try_zeros_in(0..129).is_none());
-/// assert!(bits.ones_in(5..64).eq([5, 7]) && bits.zeros_in(0..4).eq([0, 1, 3]) && bits.bits().len() == 128);
-/// assert_eq!((bits.view().len(), bits.to_stored(128)?.len()), (128, 48));
-/// # Ok::<(), bitm_proved::StoredError>(())
+/// use bitm_proved::{Index, Queries};
+/// let bits = Index::build(vec![0b1011_0100u64, 1]); // 1 bits at 2, 4, 5, 7 and 64
+/// assert_eq!((bits.count_ones(), bits.next_one(3), bits.previous_zero(5)), (5, Some(4), Some(3)));
+/// assert!(bits.ones_in(5..100).eq([5, 7, 64]));
 /// ```
 pub trait Queries {
     /// A view of words, tables and samples.
+    ///
+    /// ```
+    /// use bitm_proved::{ArrayWithRank101111, Queries, Rank};
+    /// let bits: ArrayWithRank101111 = vec![0b1011, 7].into_boxed_slice().into();
+    /// let view = bits.view(); // once, for many queries
+    /// assert_eq!([2, 64, 128].map(|position| view.rank(position)), [2, 3, 6]);
+    /// ```
     fn view(&self) -> IndexView<'_>;
 
     #[doc(hidden)]
@@ -64,42 +56,84 @@ pub trait Queries {
     }
 
     /// How many of the first `position` bits are 1; `None` exactly where there are fewer bits.
+    ///
+    /// ```
+    /// use bitm_proved::{Index, Queries};
+    /// let bits = Index::build([0b1011u64]);
+    /// assert_eq!((bits.checked_rank(3), bits.checked_rank(65)), (Ok(Some(2)), Ok(None)));
+    /// ```
     #[inline]
     fn checked_rank(&self, position: usize) -> Result<Option<usize>, WrongTables> {
         self.query(|view| view.rank_of(true, position))
     }
 
     /// How many of the first `position` bits are 0; `None` exactly where there are fewer bits.
+    ///
+    /// ```
+    /// use bitm_proved::{Index, Queries};
+    /// let bits = Index::build([0b1011u64]);
+    /// assert_eq!((bits.checked_rank0(3), bits.checked_rank0(65)), (Ok(Some(1)), Ok(None)));
+    /// ```
     #[inline]
     fn checked_rank0(&self, position: usize) -> Result<Option<usize>, WrongTables> {
         self.query(|view| view.rank_of(false, position))
     }
 
     /// The position of the 1 bit with a rank; `None` where there is none.
+    ///
+    /// ```
+    /// use bitm_proved::{Index, Queries};
+    /// let bits = Index::build([0b1011u64]);
+    /// assert_eq!((bits.checked_select(2), bits.checked_select(3)), (Ok(Some(3)), Ok(None)));
+    /// ```
     #[inline]
     fn checked_select(&self, rank: usize) -> Result<Option<usize>, WrongTables> {
         self.query(|view| view.select_of(true, rank))
     }
 
     /// The position of the 0 bit with a rank; `None` where there is none.
+    ///
+    /// ```
+    /// use bitm_proved::{Index, Queries};
+    /// let bits = Index::build([0b1011u64]);
+    /// assert_eq!((bits.checked_select0(1), bits.checked_select0(61)), (Ok(Some(4)), Ok(None)));
+    /// ```
     #[inline]
     fn checked_select0(&self, rank: usize) -> Result<Option<usize>, WrongTables> {
         self.query(|view| view.select_of(false, rank))
     }
 
     /// The position of the first 1 bit, or 0 bit, at or after `from`; `None` where there is none.
+    ///
+    /// ```
+    /// use bitm_proved::{Index, Queries};
+    /// let bits = Index::build([0b1011u64]);
+    /// assert_eq!((bits.checked_next(true, 2), bits.checked_next(false, 3)), (Ok(Some(3)), Ok(Some(4))));
+    /// ```
     #[inline]
     fn checked_next(&self, one: bool, from: usize) -> Result<Option<usize>, WrongTables> {
         self.query(|view| view.next_of(one, from))
     }
 
     /// The position of the last 1 bit, or 0 bit, at or before `from`; `None` where there is none.
+    ///
+    /// ```
+    /// use bitm_proved::{Index, Queries};
+    /// let bits = Index::build([0b1011u64]);
+    /// assert_eq!((bits.checked_previous(true, 9), bits.checked_previous(false, 1)), (Ok(Some(3)), Ok(None)));
+    /// ```
     #[inline]
     fn checked_previous(&self, one: bool, from: usize) -> Result<Option<usize>, WrongTables> {
         self.query(|view| view.previous_of(one, from))
     }
 
     /// The position of the first 1 bit at or after `from`; `None` where there is none.
+    ///
+    /// ```
+    /// use bitm_proved::{Index, Queries};
+    /// let bits = Index::build([0b1011u64]);
+    /// assert_eq!([1, 2, 4].map(|from| bits.next_one(from)), [Some(1), Some(3), None]);
+    /// ```
     #[inline]
     #[track_caller]
     fn next_one(&self, from: usize) -> Option<usize> {
@@ -107,6 +141,12 @@ pub trait Queries {
     }
 
     /// The position of the first 0 bit at or after `from`; `None` where there is none.
+    ///
+    /// ```
+    /// use bitm_proved::{Index, Queries};
+    /// let bits = Index::build([0b1011u64]);
+    /// assert_eq!([0, 3, 64].map(|from| bits.next_zero(from)), [Some(2), Some(4), None]);
+    /// ```
     #[inline]
     #[track_caller]
     fn next_zero(&self, from: usize) -> Option<usize> {
@@ -114,6 +154,12 @@ pub trait Queries {
     }
 
     /// The position of the last 1 bit at or before `from`, which may be past the end; `None` where there is none.
+    ///
+    /// ```
+    /// use bitm_proved::{Index, Queries};
+    /// let bits = Index::build([0b1010u64]);
+    /// assert_eq!([0, 2, 999].map(|from| bits.previous_one(from)), [None, Some(1), Some(3)]);
+    /// ```
     #[inline]
     #[track_caller]
     fn previous_one(&self, from: usize) -> Option<usize> {
@@ -121,6 +167,12 @@ pub trait Queries {
     }
 
     /// The position of the last 0 bit at or before `from`, which may be past the end; `None` where there is none.
+    ///
+    /// ```
+    /// use bitm_proved::{Index, Queries};
+    /// let bits = Index::build([0b1011u64]);
+    /// assert_eq!([1, 3, 999].map(|from| bits.previous_zero(from)), [None, Some(2), Some(63)]);
+    /// ```
     #[inline]
     #[track_caller]
     fn previous_zero(&self, from: usize) -> Option<usize> {
@@ -128,48 +180,102 @@ pub trait Queries {
     }
 
     /// How many 1 bits there are. The tables are not read.
+    ///
+    /// ```
+    /// use bitm_proved::{Index, Queries};
+    /// assert_eq!(Index::build([0b1011u64, 1]).count_ones(), 4);
+    /// ```
     fn count_ones(&self) -> usize {
         self.query(|view| view.count_of(true))
     }
 
     /// How many 0 bits there are. The tables are not read.
+    ///
+    /// ```
+    /// use bitm_proved::{Index, Queries};
+    /// assert_eq!(Index::build([0b1011u64, 1]).count_zeros(), 124); // of 128 bits
+    /// ```
     fn count_zeros(&self) -> usize {
         self.query(|view| view.count_of(false))
     }
 
     /// Ranks of a list of positions; how many have none, which `NO_ANSWER` stands for.
+    ///
+    /// ```
+    /// use bitm_proved::{Index, Queries, NO_ANSWER};
+    /// let (bits, mut ranks) = (Index::build([0b1011u64]), [0; 3]);
+    /// assert_eq!(bits.rank_list(&[2, 64, 65], &mut ranks), Ok(1));
+    /// assert_eq!(ranks, [2, 3, NO_ANSWER]);
+    /// ```
     fn rank_list(&self, positions: &[usize], out: &mut [usize]) -> Result<usize, ListError> {
         self.query(|view| view.list(false, true, positions, out))
     }
 
     /// As `rank_list`, of 0 bits.
+    ///
+    /// ```
+    /// use bitm_proved::{Index, Queries};
+    /// let (bits, mut ranks) = (Index::build([0b1011u64]), [0; 2]);
+    /// assert_eq!(bits.rank0_list(&[3, 64], &mut ranks), Ok(0));
+    /// assert_eq!(ranks, [1, 61]);
+    /// ```
     fn rank0_list(&self, positions: &[usize], out: &mut [usize]) -> Result<usize, ListError> {
         self.query(|view| view.list(false, false, positions, out))
     }
 
     /// Positions of the 1 bits with the ranks of a list; how many have none, which `NO_ANSWER` stands for.
+    ///
+    /// ```
+    /// use bitm_proved::{Index, Queries, NO_ANSWER};
+    /// let (bits, mut positions) = (Index::build([0b1011u64]), [0; 3]);
+    /// assert_eq!(bits.select_list(&[2, 0, 3], &mut positions), Ok(1));
+    /// assert_eq!(positions, [3, 0, NO_ANSWER]);
+    /// ```
     fn select_list(&self, ranks: &[usize], out: &mut [usize]) -> Result<usize, ListError> {
         self.query(|view| view.list(true, true, ranks, out))
     }
 
     /// As `select_list`, of 0 bits.
+    ///
+    /// ```
+    /// use bitm_proved::{Index, Queries};
+    /// let (bits, mut positions) = (Index::build([0b1011u64]), [0; 2]);
+    /// assert_eq!(bits.select0_list(&[0, 1], &mut positions), Ok(0));
+    /// assert_eq!(positions, [2, 4]);
+    /// ```
     fn select0_list(&self, ranks: &[usize], out: &mut [usize]) -> Result<usize, ListError> {
         self.query(|view| view.list(true, false, ranks, out))
     }
 
     /// The positions of the 1 bits, from either end.
+    ///
+    /// ```
+    /// use bitm_proved::{Index, Queries};
+    /// let bits = Index::build([0b1011u64]);
+    /// assert!(bits.ones().eq([0, 1, 3]) && bits.ones().rev().eq([3, 1, 0]));
+    /// ```
     fn ones(&self) -> BitOnesIterator<'_> {
         let view = self.view();
         BitOnesIterator::with_range(view.words(), 0..view.len())
     }
 
     /// The positions of the 0 bits, from either end.
+    ///
+    /// ```
+    /// use bitm_proved::{Index, Queries};
+    /// assert_eq!(Index::build([0b1011u64]).zeros().take(3).collect::<Vec<_>>(), [2, 4, 5]);
+    /// ```
     fn zeros(&self) -> BitZerosIterator<'_> {
         let view = self.view();
         BitZerosIterator::with_range(view.words(), 0..view.len())
     }
 
     /// The positions of the 1 bits in a range. Panics where it ends past the end.
+    ///
+    /// ```
+    /// use bitm_proved::{Index, Queries};
+    /// assert!(Index::build([0b1011u64]).ones_in(1..4).eq([1, 3]));
+    /// ```
     #[track_caller]
     fn ones_in(&self, range: Range<usize>) -> BitOnesIterator<'_> {
         match self.try_ones_in(range.clone()) {
@@ -179,12 +285,23 @@ pub trait Queries {
     }
 
     /// As `ones_in`; `None` where the range ends past the end.
+    ///
+    /// ```
+    /// use bitm_proved::{Index, Queries};
+    /// let bits = Index::build([0b1011u64]);
+    /// assert!(bits.try_ones_in(2..64).is_some_and(|ones| ones.eq([3])) && bits.try_ones_in(2..65).is_none());
+    /// ```
     fn try_ones_in(&self, range: Range<usize>) -> Option<BitOnesIterator<'_>> {
         let view = self.view();
         (range.end <= view.len()).then(|| BitOnesIterator::with_range(view.words(), range))
     }
 
     /// The positions of the 0 bits in a range. Panics where it ends past the end.
+    ///
+    /// ```
+    /// use bitm_proved::{Index, Queries};
+    /// assert!(Index::build([0b1011u64]).zeros_in(0..6).eq([2, 4, 5]));
+    /// ```
     #[track_caller]
     fn zeros_in(&self, range: Range<usize>) -> BitZerosIterator<'_> {
         match self.try_zeros_in(range.clone()) {
@@ -194,12 +311,25 @@ pub trait Queries {
     }
 
     /// As `zeros_in`; `None` where the range ends past the end.
+    ///
+    /// ```
+    /// use bitm_proved::{Index, Queries};
+    /// let bits = Index::build([0b1011u64]);
+    /// assert!(bits.try_zeros_in(0..64).is_some() && bits.try_zeros_in(0..65).is_none());
+    /// ```
     fn try_zeros_in(&self, range: Range<usize>) -> Option<BitZerosIterator<'_>> {
         let view = self.view();
         (range.end <= view.len()).then(|| BitZerosIterator::with_range(view.words(), range))
     }
 
     /// The bits, from either end.
+    ///
+    /// ```
+    /// use bitm_proved::{Index, Queries};
+    /// let index = Index::build([0b1011u64]);
+    /// assert_eq!(index.bits().len(), 64);
+    /// assert!(index.bits().take(4).eq([true, true, false, true]));
+    /// ```
     fn bits(&self) -> BitIterator<'_> {
         let view = self.view();
         BitIterator::with_range(view.words(), 0..view.len())
@@ -207,6 +337,15 @@ pub trait Queries {
 
     /// The words of a file of the first `bits_len` bits, with its samples. `WrongLength` where there are
     /// fewer bits.
+    ///
+    /// ```
+    /// use bitm_proved::{Index, Queries, Rank, StoredError};
+    /// let file = Index::build([0b1011u64]).to_stored(3)?; // of 64 bits the first 3
+    /// let read = Index::from_words(file)?;
+    /// assert_eq!((read.rank(3), read.try_rank(4)), (2, None));
+    /// assert_eq!(read.to_stored(4), Err(StoredError::WrongLength));
+    /// # Ok::<(), StoredError>(())
+    /// ```
     fn to_stored(&self, bits_len: usize) -> Result<Vec<u64>, StoredError> {
         let view = self.view();
         if bits_len > view.len() {
@@ -215,107 +354,3 @@ pub trait Queries {
         view.cut(bits_len).to_words()
     }
 }
-
-impl Queries for IndexView<'_> {
-    #[inline(always)]
-    fn view(&self) -> IndexView<'_> {
-        *self
-    }
-    #[inline(always)]
-    fn query<R>(&self, with: impl FnOnce(&IndexView<'_>) -> R) -> R {
-        with(self)
-    }
-}
-
-impl<O> Queries for Index<O> {
-    #[inline(always)]
-    fn view(&self) -> IndexView<'_> {
-        *self.as_view()
-    }
-    #[inline(always)]
-    fn query<R>(&self, with: impl FnOnce(&IndexView<'_>) -> R) -> R {
-        with(self.as_view())
-    }
-}
-
-impl<S: SelectionStrategy, S0: SelectionStrategy, BV: Deref<Target = [u64]>> Queries for RankSelect101111<S, S0, BV> {
-    #[inline(always)]
-    fn view(&self) -> IndexView<'_> {
-        self.sampled()
-    }
-}
-
-macro_rules! answers_by_view {
-    ($kind:ty, $($generic:tt)*) => {
-        impl $($generic)* Rank for $kind {
-            #[inline]
-            #[track_caller]
-            fn try_rank(&self, index: usize) -> Option<usize> {
-                sure(self.checked_rank(index))
-            }
-            #[inline]
-            #[track_caller]
-            fn try_rank0(&self, index: usize) -> Option<usize> {
-                sure(self.checked_rank0(index))
-            }
-            fn prefetch(&self, index: usize) {
-                let view = self.view();
-                prefetch(view.lower(), index / 2048);
-                prefetch(view.upper(), index >> 32);
-                prefetch(view.words(), index / 64);
-            }
-        }
-        impl $($generic)* Select for $kind {
-            #[inline]
-            #[track_caller]
-            fn try_select(&self, rank: usize) -> Option<usize> {
-                sure(self.checked_select(rank))
-            }
-        }
-        impl $($generic)* Select0 for $kind {
-            #[inline]
-            #[track_caller]
-            fn try_select0(&self, rank: usize) -> Option<usize> {
-                sure(self.checked_select0(rank))
-            }
-        }
-    };
-}
-answers_by_view!(IndexView<'_>,);
-answers_by_view!(Index<O>, <O>);
-
-macro_rules! answers_behind {
-    ($($kind:ty),*) => { $(
-        impl<T: Rank + ?Sized> Rank for $kind {
-            #[inline]
-            #[track_caller]
-            fn try_rank(&self, index: usize) -> Option<usize> {
-                (**self).try_rank(index)
-            }
-            #[inline]
-            #[track_caller]
-            fn try_rank0(&self, index: usize) -> Option<usize> {
-                (**self).try_rank0(index)
-            }
-            #[inline]
-            fn prefetch(&self, index: usize) {
-                (**self).prefetch(index)
-            }
-        }
-        impl<T: Select + ?Sized> Select for $kind {
-            #[inline]
-            #[track_caller]
-            fn try_select(&self, rank: usize) -> Option<usize> {
-                (**self).try_select(rank)
-            }
-        }
-        impl<T: Select0 + ?Sized> Select0 for $kind {
-            #[inline]
-            #[track_caller]
-            fn try_select0(&self, rank: usize) -> Option<usize> {
-                (**self).try_select0(rank)
-            }
-        }
-    )* };
-}
-answers_behind!(&T, Box<T>, Arc<T>);

@@ -4,17 +4,25 @@
 ///
 /// ```
 /// use bitm_proved::{ArrayWithRank101111, Rank};
-/// let bits = ArrayWithRank101111::build(vec![0b1011].into_boxed_slice()).0;
-/// bits.prefetch(2);
-/// assert_eq!((bits.rank(2), bits.try_rank(3), bits.try_rank(65)), (2, Some(2), None));
-/// assert_eq!((bits.rank0(3), bits.try_rank0(65)), (1, None));
-/// // SAFETY: there are 64 bits.
-/// assert_eq!(unsafe { (bits.rank_unchecked(4), bits.rank0_unchecked(4)) }, (3, 1));
+/// let bits: ArrayWithRank101111 = vec![0b1011].into_boxed_slice().into();
+/// assert_eq!((bits.rank(3), bits.rank0(3), bits.try_rank(65)), (2, 1, None));
 /// ```
 pub trait Rank {
     /// How many of the first `index` bits are 1; `None` exactly where there are fewer bits.
+    ///
+    /// ```
+    /// use bitm_proved::{Index, Rank};
+    /// let bits = Index::build([0b1011u64]);
+    /// assert_eq!([0, 2, 64, 65].map(|index| bits.try_rank(index)), [Some(0), Some(2), Some(3), None]);
+    /// ```
     fn try_rank(&self, index: usize) -> Option<usize>;
     /// How many of the first `index` bits are 1. Panics where there are fewer bits.
+    ///
+    /// ```
+    /// use bitm_proved::{Index, Rank};
+    /// let bits = Index::build([0b1011u64]);
+    /// assert_eq!([0, 1, 2, 3, 4].map(|index| bits.rank(index)), [0, 1, 2, 2, 3]);
+    /// ```
     #[inline]
     #[track_caller]
     fn rank(&self, index: usize) -> usize {
@@ -27,17 +35,35 @@ pub trait Rank {
     ///
     /// # Safety
     /// There are at least `index` bits. (This is tested all the same.)
+    ///
+    /// ```
+    /// use bitm_proved::{Index, Rank};
+    /// // SAFETY: there are 64 bits.
+    /// assert_eq!(unsafe { Index::build([0b1011u64]).rank_unchecked(4) }, 3);
+    /// ```
     #[inline]
     #[track_caller]
     unsafe fn rank_unchecked(&self, index: usize) -> usize {
         self.rank(index)
     }
     /// How many of the first `index` bits are 0; `None` exactly where there are fewer bits.
+    ///
+    /// ```
+    /// use bitm_proved::{Index, Rank};
+    /// let bits = Index::build([0b1011u64]);
+    /// assert_eq!([2, 3, 64, 65].map(|index| bits.try_rank0(index)), [Some(0), Some(1), Some(61), None]);
+    /// ```
     #[inline]
     fn try_rank0(&self, index: usize) -> Option<usize> {
         self.try_rank(index).map(|ones| index - ones)
     }
     /// How many of the first `index` bits are 0. Panics where there are fewer bits.
+    ///
+    /// ```
+    /// use bitm_proved::{Index, Rank};
+    /// let bits = Index::build([0b1011u64]);
+    /// assert_eq!([0, 1, 2, 3, 4].map(|index| bits.rank0(index)), [0, 0, 0, 1, 1]);
+    /// ```
     #[inline]
     #[track_caller]
     fn rank0(&self, index: usize) -> usize {
@@ -50,12 +76,25 @@ pub trait Rank {
     ///
     /// # Safety
     /// There are at least `index` bits. (This is tested all the same.)
+    ///
+    /// ```
+    /// use bitm_proved::{Index, Rank};
+    /// // SAFETY: there are 64 bits.
+    /// assert_eq!(unsafe { Index::build([0b1011u64]).rank0_unchecked(4) }, 1);
+    /// ```
     #[inline]
     #[track_caller]
     unsafe fn rank0_unchecked(&self, index: usize) -> usize {
         self.rank0(index)
     }
     /// Prefetches what `rank` of the index reads; any number will do.
+    ///
+    /// ```
+    /// use bitm_proved::{Index, Rank};
+    /// let bits = Index::build(vec![u64::MAX; 1000]);
+    /// bits.prefetch(50_000); // while other work is done
+    /// assert_eq!(bits.rank(50_000), 50_000);
+    /// ```
     fn prefetch(&self, _index: usize) {}
 }
 
@@ -63,15 +102,25 @@ pub trait Rank {
 ///
 /// ```
 /// use bitm_proved::{ArrayWithRank101111, Select};
-/// let bits = ArrayWithRank101111::build(vec![0b1011].into_boxed_slice()).0;
-/// assert_eq!((bits.select(2), bits.try_select(2), bits.try_select(3)), (3, Some(3), None));
-/// // SAFETY: there are three 1 bits.
-/// assert_eq!(unsafe { bits.select_unchecked(2) }, 3);
+/// let bits: ArrayWithRank101111 = vec![0b1011].into_boxed_slice().into();
+/// assert_eq!((bits.select(2), bits.try_select(3)), (3, None));
 /// ```
 pub trait Select {
     /// The position of the 1 bit with a rank; `None` exactly where there is none.
+    ///
+    /// ```
+    /// use bitm_proved::{Index, Select};
+    /// let bits = Index::build([0b1011u64]);
+    /// assert_eq!([1, 2, 3].map(|rank| bits.try_select(rank)), [Some(1), Some(3), None]);
+    /// ```
     fn try_select(&self, rank: usize) -> Option<usize>;
     /// The position of the 1 bit with a rank. Panics where there is none.
+    ///
+    /// ```
+    /// use bitm_proved::{Index, Select};
+    /// let bits = Index::build([0b1011u64]);
+    /// assert_eq!([0, 1, 2].map(|rank| bits.select(rank)), [0, 1, 3]);
+    /// ```
     #[inline]
     #[track_caller]
     fn select(&self, rank: usize) -> usize {
@@ -84,6 +133,12 @@ pub trait Select {
     ///
     /// # Safety
     /// There are more than `rank` 1 bits. (This is tested all the same.)
+    ///
+    /// ```
+    /// use bitm_proved::{Index, Select};
+    /// // SAFETY: there are three 1 bits.
+    /// assert_eq!(unsafe { Index::build([0b1011u64]).select_unchecked(2) }, 3);
+    /// ```
     #[inline]
     #[track_caller]
     unsafe fn select_unchecked(&self, rank: usize) -> usize {
@@ -95,15 +150,25 @@ pub trait Select {
 ///
 /// ```
 /// use bitm_proved::{ArrayWithRank101111, Select0};
-/// let bits = ArrayWithRank101111::build(vec![0b1011].into_boxed_slice()).0;
-/// assert_eq!((bits.select0(1), bits.try_select0(1), bits.try_select0(61)), (4, Some(4), None));
-/// // SAFETY: there are 61 0 bits.
-/// assert_eq!(unsafe { bits.select0_unchecked(1) }, 4);
+/// let bits: ArrayWithRank101111 = vec![0b1011].into_boxed_slice().into();
+/// assert_eq!((bits.select0(1), bits.try_select0(61)), (4, None));
 /// ```
 pub trait Select0 {
     /// The position of the 0 bit with a rank; `None` exactly where there is none.
+    ///
+    /// ```
+    /// use bitm_proved::{Index, Select0};
+    /// let bits = Index::build([0b1011u64]);
+    /// assert_eq!([0, 60, 61].map(|rank| bits.try_select0(rank)), [Some(2), Some(63), None]);
+    /// ```
     fn try_select0(&self, rank: usize) -> Option<usize>;
     /// The position of the 0 bit with a rank. Panics where there is none.
+    ///
+    /// ```
+    /// use bitm_proved::{Index, Select0};
+    /// let bits = Index::build([0b1011u64]);
+    /// assert_eq!([0, 1, 2].map(|rank| bits.select0(rank)), [2, 4, 5]);
+    /// ```
     #[inline]
     #[track_caller]
     fn select0(&self, rank: usize) -> usize {
@@ -116,6 +181,12 @@ pub trait Select0 {
     ///
     /// # Safety
     /// There are more than `rank` 0 bits. (This is tested all the same.)
+    ///
+    /// ```
+    /// use bitm_proved::{Index, Select0};
+    /// // SAFETY: there are 61 0 bits.
+    /// assert_eq!(unsafe { Index::build([0b1011u64]).select0_unchecked(1) }, 4);
+    /// ```
     #[inline]
     #[track_caller]
     unsafe fn select0_unchecked(&self, rank: usize) -> usize {

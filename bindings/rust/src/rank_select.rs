@@ -29,16 +29,37 @@ use core::ops::Deref;
 /// do; else the same holds.
 pub struct RankSelect101111<Select = BinaryRankSearch, Select0 = BinaryRankSearch, BV = Box<[u64]>> {
     /// The words.
+    ///
+    /// ```
+    /// let (bits, _) = bitm_proved::ArrayWithRank101111::build(vec![7, 9].into_boxed_slice());
+    /// assert_eq!(*bits.content, [7, 9]);
+    /// ```
     pub content: BV,
     /// How many 1 bits are before each upper block of 2^32 bits.
+    ///
+    /// ```
+    /// let (bits, _) = bitm_proved::ArrayWithRank101111::build(vec![7, 9].into_boxed_slice());
+    /// assert_eq!(*bits.l1ranks, [0]); // one block, before which there are no bits
+    /// ```
     pub l1ranks: Box<[usize]>,
     /// For each lower block of 2048 bits: the 1 bits before it in its upper block, and those of its basic blocks.
+    ///
+    /// ```
+    /// let (bits, _) = bitm_proved::ArrayWithRank101111::build(vec![7; 40].into_boxed_slice());
+    /// assert_eq!(bits.l2ranks.len(), 2); // 2560 bits are two blocks
+    /// ```
     pub l2ranks: Box<[u64]>,
     select: Select,
     select0: Select0,
 }
 
 /// An index over words that it owns, which selects by binary search.
+///
+/// ```
+/// use bitm_proved::{ArrayWithRank101111, Select};
+/// let bits: ArrayWithRank101111 = vec![0b1011].into_boxed_slice().into();
+/// assert_eq!(bits.select(2), 3);
+/// ```
 pub type ArrayWithRank101111 = RankSelect101111<BinaryRankSearch, BinaryRankSearch>;
 
 impl<S: Clone, S0: Clone, BV: Clone> Clone for RankSelect101111<S, S0, BV> {
@@ -216,16 +237,20 @@ impl<S: SelectForRank101111, S0: Select0ForRank101111, BV: Deref<Target = [u64]>
 /// Rank alone. Its answers are those of the original's structure of this name; its tables are those of the index.
 ///
 /// ```
-/// use bitm_proved::{ArrayWithRankSimple, RankSimple};
+/// use bitm_proved::RankSimple;
 /// let (bits, ones) = RankSimple::build(vec![0b1011u64]);
 /// assert_eq!((ones, bits.rank(2), bits.try_rank(65), bits.as_ref()), (3, 2, None, &[0b1011][..]));
-/// let owned: ArrayWithRankSimple = vec![7].into_boxed_slice().into();
-/// assert_eq!(owned.rank(63), 3);
 /// ```
 #[derive(Clone)]
 pub struct RankSimple<BV = Box<[u64]>>(pub(crate) RankSelect101111<BinaryRankSearch, BinaryRankSearch, BV>);
 
 /// Rank alone, over words that it owns.
+///
+/// ```
+/// use bitm_proved::ArrayWithRankSimple;
+/// let bits: ArrayWithRankSimple = vec![0b1011].into_boxed_slice().into();
+/// assert_eq!(bits.rank(3), 2);
+/// ```
 pub type ArrayWithRankSimple = RankSimple;
 
 impl<BV: Deref<Target = [u64]>> fmt::Debug for RankSimple<BV> {

@@ -27,13 +27,35 @@ use core::fmt;
 /// ```
 pub trait SelectForRank101111 {
     /// The support for the words, of which `total_rank` bits are 1.
+    ///
+    /// ```
+    /// use bitm_proved::{ArrayWithRank101111, CombinedSampling, SelectForRank101111};
+    /// let (bits, ones) = ArrayWithRank101111::build(vec![0b1011].into_boxed_slice());
+    /// let samples: CombinedSampling = SelectForRank101111::new(&bits.content, &bits.l1ranks, &bits.l2ranks, ones);
+    /// assert_eq!(samples.select(&bits.content, &bits.l1ranks, &bits.l2ranks, 2), Some(3));
+    /// ```
     fn new(content: &[u64], l1ranks: &[usize], l2ranks: &[u64], total_rank: usize) -> Self;
     /// The position of the 1 bit with a rank; `None` exactly where there is none.
+    ///
+    /// ```
+    /// use bitm_proved::{ArrayWithRank101111, BinaryRankSearch, SelectForRank101111};
+    /// let (bits, _) = ArrayWithRank101111::build(vec![0b1011].into_boxed_slice());
+    /// let found = [1, 3].map(|rank| BinaryRankSearch.select(&bits.content, &bits.l1ranks, &bits.l2ranks, rank));
+    /// assert_eq!(found, [Some(1), None]);
+    /// ```
     fn select(&self, content: &[u64], l1: &[usize], l2: &[u64], rank: usize) -> Option<usize>;
     /// As `select`. Panics where there is none.
     ///
     /// # Safety
     /// There is one. (This is tested all the same.)
+    ///
+    /// ```
+    /// use bitm_proved::{ArrayWithRank101111, BinaryRankSearch, SelectForRank101111};
+    /// let (bits, _) = ArrayWithRank101111::build(vec![0b1011].into_boxed_slice());
+    /// // SAFETY: there are three 1 bits.
+    /// let last = unsafe { BinaryRankSearch.select_unchecked(&bits.content, &bits.l1ranks, &bits.l2ranks, 2) };
+    /// assert_eq!(last, 3);
+    /// ```
     #[track_caller]
     unsafe fn select_unchecked(&self, content: &[u64], l1ranks: &[usize], l2ranks: &[u64], rank: usize) -> usize {
         match self.select(content, l1ranks, l2ranks, rank) {
@@ -42,6 +64,11 @@ pub trait SelectForRank101111 {
         }
     }
     /// As `new`; types of this crate return an error where memory cannot be had.
+    ///
+    /// ```
+    /// use bitm_proved::{BinaryRankSearch, SelectForRank101111};
+    /// assert_eq!(BinaryRankSearch::try_new(&[], &[], &[], 0), Ok(BinaryRankSearch)); // it takes no memory
+    /// ```
     fn try_new(words: &[u64], l1: &[usize], l2: &[u64], total: usize) -> Result<Self, NoMemory>
     where
         Self: Sized,
@@ -59,13 +86,35 @@ pub trait SelectForRank101111 {
 /// ```
 pub trait Select0ForRank101111 {
     /// The support for the words, of which `total_rank` bits are 1.
+    ///
+    /// ```
+    /// use bitm_proved::{ArrayWithRank101111, CombinedSampling, Select0ForRank101111};
+    /// let (bits, ones) = ArrayWithRank101111::build(vec![0b1011].into_boxed_slice());
+    /// let samples: CombinedSampling = Select0ForRank101111::new0(&bits.content, &bits.l1ranks, &bits.l2ranks, ones);
+    /// assert_eq!(samples.select0(&bits.content, &bits.l1ranks, &bits.l2ranks, 1), Some(4));
+    /// ```
     fn new0(content: &[u64], l1ranks: &[usize], l2ranks: &[u64], total_rank: usize) -> Self;
     /// The position of the 0 bit with a rank; `None` exactly where there is none.
+    ///
+    /// ```
+    /// use bitm_proved::{ArrayWithRank101111, BinaryRankSearch, Select0ForRank101111};
+    /// let (bits, _) = ArrayWithRank101111::build(vec![0b1011].into_boxed_slice());
+    /// let found = [0, 61].map(|rank| BinaryRankSearch.select0(&bits.content, &bits.l1ranks, &bits.l2ranks, rank));
+    /// assert_eq!(found, [Some(2), None]);
+    /// ```
     fn select0(&self, content: &[u64], l1: &[usize], l2: &[u64], rank: usize) -> Option<usize>;
     /// As `select0`. Panics where there is none.
     ///
     /// # Safety
     /// There is one. (This is tested all the same.)
+    ///
+    /// ```
+    /// use bitm_proved::{ArrayWithRank101111, BinaryRankSearch, Select0ForRank101111};
+    /// let (bits, _) = ArrayWithRank101111::build(vec![0b1011].into_boxed_slice());
+    /// // SAFETY: there are 61 0 bits.
+    /// let first = unsafe { BinaryRankSearch.select0_unchecked(&bits.content, &bits.l1ranks, &bits.l2ranks, 0) };
+    /// assert_eq!(first, 2);
+    /// ```
     #[track_caller]
     unsafe fn select0_unchecked(&self, content: &[u64], l1ranks: &[usize], l2ranks: &[u64], rank: usize) -> usize {
         match self.select0(content, l1ranks, l2ranks, rank) {
@@ -74,6 +123,11 @@ pub trait Select0ForRank101111 {
         }
     }
     /// As `new0`; types of this crate return an error where memory cannot be had.
+    ///
+    /// ```
+    /// use bitm_proved::{BinaryRankSearch, Select0ForRank101111};
+    /// assert_eq!(BinaryRankSearch::try_new0(&[], &[], &[], 0), Ok(BinaryRankSearch)); // it takes no memory
+    /// ```
     fn try_new0(words: &[u64], l1: &[usize], l2: &[u64], total: usize) -> Result<Self, NoMemory>
     where
         Self: Sized,
@@ -116,9 +170,9 @@ pub trait SelectionStrategy: sealed::Sealed {
 /// Selection by binary search in the tables, with nothing stored beside them.
 ///
 /// ```
-/// use bitm_proved::{BinaryRankSearch, Select0ForRank101111, SelectForRank101111};
-/// assert_eq!(BinaryRankSearch::try_new(&[], &[], &[], 0), Ok(BinaryRankSearch));
-/// assert_eq!(BinaryRankSearch::try_new0(&[], &[], &[], 0), Ok(BinaryRankSearch));
+/// use bitm_proved::{BinaryRankSearch, RankSelect101111, Select};
+/// let (bits, _) = RankSelect101111::<BinaryRankSearch>::build(vec![0b1011].into_boxed_slice());
+/// assert_eq!((bits.select(2), size_of_val(bits.select_support())), (3, 0));
 /// ```
 #[derive(Clone, Copy, PartialEq, Eq, Debug, Default)]
 pub struct BinaryRankSearch;

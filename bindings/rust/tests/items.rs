@@ -44,16 +44,17 @@ fn ends(line: &str) -> bool {
     line.ends_with('{') || line.ends_with(';') || line.ends_with(',') && !line.contains('(') || line.ends_with('}')
 }
 
+/// What a line begins: a trait, or the methods of one in a macro without arguments, an enum, or neither.
+fn block_of(line: &str) -> Option<&'static str> {
+    let is_trait = line.starts_with("pub trait") || line == "    () => {";
+    let begun = [(is_trait, "trait"), (line.starts_with("pub enum"), "enum"), (line == "}", "")];
+    begun.iter().find(|(it, _)| *it).map(|(_, block)| *block)
+}
+
 fn items_of(name: &str, text: &str) -> Vec<String> {
     let (mut all, mut open, mut block) = (Vec::new(), None::<String>, "");
     for line in text.lines() {
-        if line.starts_with("pub trait") {
-            block = "trait";
-        } else if line.starts_with("pub enum") {
-            block = "enum";
-        } else if line == "}" {
-            block = "";
-        }
+        block = block_of(line).unwrap_or(block);
         let line = line.trim();
         let is_seen = !line.starts_with("//") && !line.starts_with('#');
         match &mut open {
@@ -85,47 +86,42 @@ fn the_list_of_public_items_is_that_of_the_source() {
     assert!(new.is_empty() && gone.is_empty(), "not in api.txt: {new:#?}; only in api.txt: {gone:#?}");
 }
 
-/// The code of all examples in the documentation.
-fn examples() -> String {
-    let pages = files(&own().join("docs"), ".md").into_iter().map(|it| fs::read_to_string(it).expect("text"));
-    let mut all = String::new();
-    for text in source().into_iter().map(|(_, text)| text).chain(pages) {
-        let mut inside = false;
-        for line in text.lines().map(|it| it.trim().trim_start_matches("///").trim_start_matches("//!")) {
-            inside ^= line.trim().starts_with("```");
-            if inside {
-                all += line;
-                all += "\n";
-            }
-        }
+/// The name of a public item with documentation of its own that a line begins.
+fn name_of<'a>(line: &'a str, block: &str) -> Option<&'a str> {
+    if let Some((made_by_macro, _)) = line.split_once(", bitm_").filter(|(it, _)| !it.contains(' ')) {
+        return Some(made_by_macro);
     }
-    all
+    let is_nameless = line.starts_with("pub use") || line.starts_with("impl") || line.contains(['!', '$']);
+    let keywords = ["pub", "unsafe", "const", "fn", "struct", "enum", "trait", "type", "mod", ""];
+    let mut words = line.split(|it: char| !it.is_alphanumeric() && it != '_');
+    let name = words.find(|it| !keywords.contains(it));
+    name.filter(|_| begins(line, block == "trait", block == "enum") && !is_nameless)
 }
 
-/// The names of the functions and types of a list of items.
-fn names(items: &[String]) -> Vec<String> {
-    let mut all = Vec::new();
-    for item in items {
-        let words: Vec<&str> = item.split(|it: char| !it.is_alphanumeric() && it != '_').collect();
-        for pair in words.windows(2) {
-            if ["fn", "struct", "enum", "trait", "const", "type"].contains(&pair[0]) && pair[1].len() > 1 {
-                all.push(pair[1].to_string());
-            }
+/// The items of a file without an example of their own that has their name, but for what nobody sees.
+fn without_example(text: &str) -> Vec<&str> {
+    let (mut all, mut docs, mut block) = (Vec::new(), Vec::new(), "");
+    for line in text.lines() {
+        block = block_of(line).unwrap_or(block);
+        let line = line.trim();
+        if line.starts_with("///") || line.starts_with("#[") {
+            docs.push(line);
+            continue;
         }
+        let code: Vec<&[&str]> = docs.split(|it| it.starts_with("/// ```")).skip(1).step_by(2).collect();
+        let name = name_of(line, block).filter(|it| *it != "Sealed" && !docs.contains(&"#[doc(hidden)]"));
+        all.extend(name.filter(|name| !code.concat().iter().any(|it| it.contains(name))));
+        docs.clear();
     }
-    // Parameters of types, and what is hidden.
-    let others = ["ALIGN", "MAX_RESULT", "VALUE_LOG2", "Sealed", "SamplingDensity", "query", "fn"];
-    all.retain(|it| !others.contains(&it.as_str()));
     all
 }
 
 #[test]
 fn each_item_has_an_example() {
-    let (examples, source) = (examples(), source());
-    let used: BTreeSet<&str> = examples.split(|it: char| !it.is_alphanumeric() && it != '_').collect();
-    let items: Vec<String> = source.iter().flat_map(|(name, text)| items_of(name, text)).collect();
-    let without: BTreeSet<String> = names(&items).into_iter().filter(|it| !used.contains(it.as_str())).collect();
-    assert!(without.is_empty(), "no example has {without:#?}");
+    let source = source();
+    let without: Vec<_> = source.iter().map(|(name, text)| (name, without_example(text))).collect();
+    let without: Vec<_> = without.iter().filter(|(_, items)| !items.is_empty()).collect();
+    assert!(without.is_empty(), "no example of their own: {without:#?}");
 }
 
 #[test]
@@ -142,14 +138,11 @@ fn unsafe_code_stands_in_one_module() {
 /// Inlined Rust says so where it is: the items of these files, and of the trait of bits.
 #[test]
 fn what_is_not_proved_says_so() {
-    let source = source();
-    for (name, text) in
-        source.iter().filter(|(name, _)| ["masks.rs", "bits.rs", "iterators.rs"].contains(&name.as_str()))
-    {
-        let docs = text.replace("\n    /// ", " ").matches("not proved").count()
-            + text.matches("/// As `").count()
-            + text.matches("proved call").count();
-        let items = items_of(name, text).iter().filter(|it| it.contains(" fn ") && name != "iterators.rs").count();
+    let is_inlined = |name: &str| name.starts_with("bits/") || ["masks.rs", "iterators.rs"].contains(&name);
+    for (name, text) in source().iter().filter(|(name, _)| is_inlined(name)) {
+        let text = text.replace("\n        /// ", " ").replace("\n    /// ", " ");
+        let docs = ["not proved", "/// As `", "proved call"].iter().map(|it| text.matches(it).count()).sum::<usize>();
+        let items = items_of(name, &text).iter().filter(|it| it.contains(" fn ") && name != "iterators.rs").count();
         assert!(docs >= items, "{name}: {docs} of {items} items say it");
     }
 }

@@ -36,8 +36,22 @@ pub struct Index<O> {
 #[derive(Clone, Copy, PartialEq, Eq, Debug, Default)]
 pub struct Sampling {
     /// Of the 1 bits, 7 to 31.
+    ///
+    /// ```
+    /// use bitm_proved::{Index, Queries, Sampling};
+    /// let index = Index::try_build([u64::MAX; 4], 256, Sampling { ones: Some(7), ..Sampling::default() })?;
+    /// assert_eq!(index.view().samples(true).map(|it| it.samples.len()), Some(2)); // of 256 1 bits
+    /// # Ok::<(), bitm_proved::BuildError>(())
+    /// ```
     pub ones: Option<u32>,
     /// Of the 0 bits, 7 to 31.
+    ///
+    /// ```
+    /// use bitm_proved::{Index, Queries, Sampling};
+    /// let index = Index::try_build([0u64; 4], 256, Sampling { zeros: Some(7), ..Sampling::default() })?;
+    /// assert_eq!(index.view().samples(false).map(|it| it.samples.len()), Some(2)); // of 256 0 bits
+    /// # Ok::<(), bitm_proved::BuildError>(())
+    /// ```
     pub zeros: Option<u32>,
 }
 

@@ -10,8 +10,8 @@ use core::fmt;
 /// number.
 ///
 /// ```
-/// use bitm_proved::EliasFano;
-/// let primes = EliasFano::build(&[2, 3, 5, 7, 11, 13])?;
+/// use bitm_proved::Sequence;
+/// let primes = Sequence::build(&[2, 3, 5, 7, 11, 13])?;
 /// assert_eq!((primes.get(4), primes.get(6), primes.len()), (Some(11), None, 6));
 /// assert_eq!((primes.first_at_least(8), primes.last_at_most(8)), (Some(4), Some(3)));
 /// assert!(primes.contains(7) && !primes.contains(8) && !primes.is_empty() && primes.check());
@@ -23,6 +23,13 @@ pub struct Sequence<O> {
 }
 
 /// A sequence whose parts stand in one vector.
+///
+/// ```
+/// use bitm_proved::EliasFano;
+/// let squares: Vec<u64> = (0..1000).map(|it| it * it).collect();
+/// assert_eq!(EliasFano::build(&squares)?.get(999), Some(998_001));
+/// # Ok::<(), bitm_proved::BuildError>(())
+/// ```
 pub type EliasFano = Sequence<Vec<u64>>;
 
 impl EliasFano {

@@ -157,7 +157,8 @@ compares! {
     ///
     /// ```
     /// use bitm_proved::words;
-    /// assert_eq!((words::intersects(&[0b110], &[0b1100], 4), words::intersects(&[0b110], &[0b1100], 2)), (true, false));
+    /// let (these, those) = ([0b110], [0b1100]);
+    /// assert_eq!([4, 2].map(|bits_len| words::intersects(&these, &those, bits_len)), [true, false]);
     /// ```
     intersects, bitm_bits_intersects
 }

@@ -21,8 +21,20 @@ use core::marker::PhantomData;
 #[derive(Clone, Copy, PartialEq, Eq, Debug)]
 pub struct Place {
     /// The shard.
+    ///
+    /// ```
+    /// let counts = bitm_proved::PrefixCounts::new(&[10, 7], &[4, 2]).ok_or("2^64 bits or more")?;
+    /// assert_eq!([9, 10].map(|position| counts.find(position).map(|it| it.shard)), [Some(0), Some(1)]);
+    /// # Ok::<(), &str>(())
+    /// ```
     pub shard: usize,
     /// The position, or the rank, in the shard.
+    ///
+    /// ```
+    /// let counts = bitm_proved::PrefixCounts::new(&[10, 7], &[4, 2]).ok_or("2^64 bits or more")?;
+    /// assert_eq!([9, 10].map(|position| counts.find(position).map(|it| it.within)), [Some(9), Some(0)]);
+    /// # Ok::<(), &str>(())
+    /// ```
     pub within: u64,
 }
 

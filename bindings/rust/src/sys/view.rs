@@ -8,19 +8,40 @@ use core::{fmt, ptr, slice};
 /// Borrowed samples of one kind of bits. They may hold anything: no answer depends on them.
 ///
 /// ```
-/// use bitm_proved::{Index, Queries, Sampling};
+/// use bitm_proved::{Index, Queries, Samples, Sampling};
 /// let index = Index::try_build(vec![u64::MAX; 40], 2560, Sampling { ones: Some(7), zeros: None })?;
-/// let samples = index.view().samples(true).unwrap();
-/// assert_eq!((samples.samples.len(), samples.starts[0], samples.log2), (20, 0, 7)); // 2560 / 2^7
+/// let Samples { samples, starts, log2 } = index.view().samples(true).unwrap();
+/// assert_eq!((samples.len(), starts, log2), (20, &[0][..], 7)); // 2560 / 2^7
 /// # Ok::<(), bitm_proved::BuildError>(())
 /// ```
 #[derive(Clone, Copy, PartialEq, Eq, Debug)]
 pub struct Samples<'a> {
     /// The samples.
+    ///
+    /// ```
+    /// use bitm_proved::{Index, Queries, Sampling};
+    /// let index = Index::try_build([u64::MAX; 4], 256, Sampling { ones: Some(7), zeros: None })?;
+    /// assert_eq!(index.view().samples(true).map(|it| it.samples.len()), Some(2)); // of 256 1 bits
+    /// # Ok::<(), bitm_proved::BuildError>(())
+    /// ```
     pub samples: &'a [u32],
     /// The number of samples before each upper block.
+    ///
+    /// ```
+    /// use bitm_proved::{Index, Queries, Sampling};
+    /// let index = Index::try_build([u64::MAX; 4], 256, Sampling { ones: Some(7), zeros: None })?;
+    /// assert_eq!(index.view().samples(true).map(|it| it.starts), Some(&[0][..])); // before the only block
+    /// # Ok::<(), bitm_proved::BuildError>(())
+    /// ```
     pub starts: &'a [u64],
     /// The logarithm of how many bits of the kind one sample stands for.
+    ///
+    /// ```
+    /// use bitm_proved::{Index, Queries, Sampling};
+    /// let index = Index::try_build([u64::MAX; 4], 256, Sampling { ones: Some(7), zeros: None })?;
+    /// assert_eq!(index.view().samples(true).map(|it| it.log2), Some(7)); // for 128 1 bits each
+    /// # Ok::<(), bitm_proved::BuildError>(())
+    /// ```
     pub log2: u32,
 }
 
