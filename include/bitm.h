@@ -90,11 +90,15 @@ typedef char bitm_sizes_are_64_bits[sizeof(size_t) == 8 && sizeof(void *) == 8 ?
 #define BITM_SELDOM
 #endif
 
-/* The version of the library that is linked, to compare with BITM_VERSION_NUMBER of this header. */
+/* The version of the library that is linked, to compare with BITM_VERSION_NUMBER of this header.
+ *
+ *     if (bitm_version() < BITM_VERSION_NUMBER) return 1; */
 uint32_t bitm_version(void);
 
 /* Whether the library that is linked is one for programs that were compiled with this header: of the same series, and
- * not older. Before 1.0 a series is a minor version, from 1.0 on a major one. */
+ * not older. Before 1.0 a series is a minor version, from 1.0 on a major one.
+ *
+ *     if (!bitm_version_fits()) return 1; */
 static inline bool bitm_version_fits(void)
 {
     const uint32_t is = bitm_version(), series = is < 10000 ? 100 : 10000;
@@ -111,7 +115,9 @@ enum bitm_status {
     BITM_UNSORTED = 4  /* a number is less than the one before it */
 };
 
-/* A status in words, in memory that stays. */
+/* A status in words, in memory that stays.
+ *
+ *     if (strcmp(bitm_status_text(BITM_BAD_SIZE), "a length is wrong") != 0) return 1; */
 static inline const char *bitm_status_text(uint32_t status)
 {
     switch (status) {
@@ -142,12 +148,16 @@ struct bitm_list_counts {
  * more. Where bits are written, every other bit stays as it was; but whole words are read and written, so other threads
  * may not use these words meanwhile. */
 
-/* How many words hold the given number of bits: bits_len / 64, rounded up. */
+/* How many words hold the given number of bits: bits_len / 64, rounded up.
+ *
+ *     if (bitm_bits_words_len(100) != 2) return 1; */
 size_t bitm_bits_words_len(uint64_t bits_len);
 
 /* Faults. Which length is wrong where a call returns BITM_BAD_SIZE, in words and in memory that stays; NULL if none is.
  * Each looks at the lengths of one struct, or of words, which are the same for all calls that take these; where it
- * returns NULL, a length is wrong that the call alone takes, such as out_len. */
+ * returns NULL, a length is wrong that the call alone takes, such as out_len.
+ *
+ *     if (bitm_bits_fault(2, 100) != NULL || bitm_bits_fault(2, 129) == NULL) return 1; // two words have 128 bits */
 static inline const char *bitm_bits_fault(size_t words_len, uint64_t bits_len)
 {
     if (bitm_bits_words_len(bits_len) > words_len) return "bits_len is above 64 * words_len";
@@ -155,7 +165,11 @@ static inline const char *bitm_bits_fault(size_t words_len, uint64_t bits_len)
     return NULL;
 }
 
-/* One bit at a position that you know to be below 64 * words_len: nothing is tested. */
+/* One bit at a position that you know to be below 64 * words_len: nothing is tested.
+ *
+ *     uint64_t some[2] = {0x5a, 0};
+ *     bitm_set_bit_at(some, 70, true);
+ *     if (!bitm_bit_at(some, 70) || bitm_bit_at(some, 71)) return 1; */
 static inline bool bitm_bit_at(const uint64_t *words, uint64_t position)
 {
     return (words[position / 64] >> (position % 64)) & 1;
@@ -167,22 +181,36 @@ static inline void bitm_set_bit_at(uint64_t *words, uint64_t position, bool valu
     else words[position / 64] &= ~bit;
 }
 
-/* The bit at a position, as 0 or 1; makes it equal to value. BITM_NONE if position is bits_len or more. */
+/* The bit at a position, as 0 or 1; makes it equal to value. BITM_NONE if position is bits_len or more.
+ *
+ *     uint64_t value;
+ *     if (bitm_bits_set(some, 2, 100, 70, false) != BITM_OK || bitm_bits_get(some, 2, 100, 70, &value) != BITM_OK ||
+ *         value != 0 || bitm_bits_get(some, 2, 100, 100, &value) != BITM_NONE) return 1; */
 BITM_MUST_USE uint32_t bitm_bits_get(const uint64_t *words, size_t words_len, uint64_t bits_len, uint64_t position,
                                      uint64_t *out);
 BITM_MUST_USE uint32_t bitm_bits_set(uint64_t *words, size_t words_len, uint64_t bits_len, uint64_t position,
                                      bool value);
 
-/* Makes the bits at the positions of a list equal to value, and writes to outside how many of the positions are bits_len
- * or more: these change nothing. positions and outside may not overlap each other or the words. Reads each position
- * once, and reads and writes the word of each that is inside. */
+/* Makes the bits at the positions of a list equal to value, and writes to outside how many of the positions are
+ * bits_len or more: these change nothing. positions and outside may not overlap each other or the words. Reads each
+ * position once, and reads and writes the word of each that is inside.
+ *
+ *     const uint64_t listed[3] = {70, 8, 100};
+ *     uint64_t outside;
+ *     if (bitm_bits_set_list(some, 2, 100, listed, 3, true, &outside) != BITM_OK || outside != 1 ||
+ *         some[0] != 0x15a || some[1] != 1 << 6) return 1; */
 BITM_MUST_USE uint32_t bitm_bits_set_list(uint64_t *words, size_t words_len, uint64_t bits_len,
                                           const uint64_t *positions, size_t positions_len, bool value,
                                           uint64_t *outside);
 
 /* The number in the width bits from position begin on, lowest bit first; replaces it by the width lowest bits of value;
  * combines these bits with the width lowest bits of value by exclusive or. A width is 0 to 64; the number of width 0 is
- * 0. BITM_NONE if begin + width is above bits_len or width is above 64. Reads or writes at most two words. */
+ * 0. BITM_NONE if begin + width is above bits_len or width is above 64. Reads or writes at most two words.
+ *
+ *     if (bitm_bits_get_number(words, n, 100, 3, 4, &value) != BITM_OK || value != 11) return 1; // bits 3, 4 and 6
+ *     if (bitm_bits_set_number(some, 2, 100, 62, 4, 9) != BITM_OK ||
+ *         bitm_bits_xor_number(some, 2, 100, 62, 4, 3) != BITM_OK ||
+ *         bitm_bits_get_number(some, 2, 100, 62, 4, &value) != BITM_OK || value != 10) return 1; */
 BITM_MUST_USE uint32_t bitm_bits_get_number(const uint64_t *words, size_t words_len, uint64_t bits_len, uint64_t begin,
                                             uint32_t width, uint64_t *out);
 BITM_MUST_USE uint32_t bitm_bits_set_number(uint64_t *words, size_t words_len, uint64_t bits_len, uint64_t begin,
@@ -192,7 +220,13 @@ BITM_MUST_USE uint32_t bitm_bits_xor_number(uint64_t *words, size_t words_len, u
 
 /* Fragments: the bits as an array of numbers of width bits, of which number index begins at bit index * width. Reads
  * one; replaces one by the width lowest bits of value; exchanges two; replaces each of the first count. BITM_NONE if a
- * fragment ends past bits_len or width is above 64. Fragments of width 0 are 0 and take no bits. */
+ * fragment ends past bits_len or width is above 64. Fragments of width 0 are 0 and take no bits.
+ *
+ *     uint64_t nibbles[1] = {0};
+ *     if (bitm_bits_fill_fragments(nibbles, 1, 64, 4, 7, 3) != BITM_OK || nibbles[0] != 0x777 ||
+ *         bitm_bits_set_fragment(nibbles, 1, 64, 1, 4, 2) != BITM_OK || nibbles[0] != 0x727 ||
+ *         bitm_bits_swap_fragments(nibbles, 1, 64, 0, 1, 4) != BITM_OK || nibbles[0] != 0x772 ||
+ *         bitm_bits_get_fragment(nibbles, 1, 64, 0, 4, &value) != BITM_OK || value != 2) return 1; */
 BITM_MUST_USE uint32_t bitm_bits_get_fragment(const uint64_t *words, size_t words_len, uint64_t bits_len,
                                               uint64_t index, uint32_t width, uint64_t *out);
 BITM_MUST_USE uint32_t bitm_bits_set_fragment(uint64_t *words, size_t words_len, uint64_t bits_len, uint64_t index,
@@ -203,14 +237,20 @@ BITM_MUST_USE uint32_t bitm_bits_fill_fragments(uint64_t *words, size_t words_le
                                                 uint64_t value, size_t count);
 
 /* How many 1 bits, or 0 bits, there are: of all, and of those from position from on and before position to. BITM_NONE
- * if from is above to or to is above bits_len. Reads each word of the range once. */
+ * if from is above to or to is above bits_len. Reads each word of the range once.
+ *
+ *     if (bitm_bits_count(words, n, 100, true, &value) != BITM_OK || value != 5 ||
+ *         bitm_bits_count_range(words, n, 100, true, 2, 7, &value) != BITM_OK || value != 3) return 1; */
 BITM_MUST_USE uint32_t bitm_bits_count(const uint64_t *words, size_t words_len, uint64_t bits_len, bool one,
                                        uint64_t *out);
 BITM_MUST_USE uint32_t bitm_bits_count_range(const uint64_t *words, size_t words_len, uint64_t bits_len, bool one,
                                              uint64_t from, uint64_t to, uint64_t *out);
 
 /* The position of the first 1 bit, or 0 bit, at or after position from; of the last one at or before it, where from may
- * be past the end. BITM_NONE if there is none. Reads each word on the way once. */
+ * be past the end. BITM_NONE if there is none. Reads each word on the way once.
+ *
+ *     if (bitm_bits_next(words, n, 100, true, 7, &position) != BITM_OK || position != 64 ||
+ *         bitm_bits_previous(words, n, 100, true, 63, &position) != BITM_OK || position != 6) return 1; */
 BITM_MUST_USE uint32_t bitm_bits_next(const uint64_t *words, size_t words_len, uint64_t bits_len, bool one,
                                       uint64_t from, uint64_t *out);
 BITM_MUST_USE uint32_t bitm_bits_previous(const uint64_t *words, size_t words_len, uint64_t bits_len, bool one,
@@ -218,50 +258,78 @@ BITM_MUST_USE uint32_t bitm_bits_previous(const uint64_t *words, size_t words_le
 
 /* Writes the positions of the 1 bits, or 0 bits, from position from on, in increasing order, until out is full or there
  * are no more, and to written how many; the rest of out stays as it was. out and written may not overlap each other or
- * the words. */
+ * the words.
+ *
+ *     uint64_t found[8], written;
+ *     if (bitm_bits_positions(words, n, 100, true, 4, found, 8, &written) != BITM_OK || written != 3 ||
+ *         found[0] != 4 || found[1] != 6 || found[2] != 64) return 1; */
 BITM_MUST_USE uint32_t bitm_bits_positions(const uint64_t *words, size_t words_len, uint64_t bits_len, bool one,
                                            uint64_t from, uint64_t *out, size_t out_len, uint64_t *written);
 
 /* Makes every bit of the words from position bits_len on 0. Returns BITM_OK always: if bits_len is 64 * words_len or
- * more, there is nothing to do. */
+ * more, there is nothing to do.
+ *
+ *     uint64_t byte[1] = {UINT64_MAX};
+ *     if (bitm_bits_clear_from(byte, 1, 8) != BITM_OK || byte[0] != 0xff) return 1; */
 BITM_MUST_USE uint32_t bitm_bits_clear_from(uint64_t *words, size_t words_len, uint64_t bits_len);
 
 /* Makes the bits from position from on and before position to equal to value, or flips them. BITM_NONE if from is above
- * to or to is above bits_len. */
+ * to or to is above bits_len.
+ *
+ *     if (bitm_bits_fill_range(byte, 1, 64, 0, 4, false) != BITM_OK || byte[0] != 0xf0 ||
+ *         bitm_bits_flip_range(byte, 1, 64, 2, 6) != BITM_OK || byte[0] != 0xcc) return 1; */
 BITM_MUST_USE uint32_t bitm_bits_fill_range(uint64_t *words, size_t words_len, uint64_t bits_len, uint64_t from,
                                             uint64_t to, bool value);
 BITM_MUST_USE uint32_t bitm_bits_flip_range(uint64_t *words, size_t words_len, uint64_t bits_len, uint64_t from,
                                             uint64_t to);
 
 /* Copies count bits, from position from_begin on, to position to_begin on. BITM_NONE if a range is not inside its
- * words. The words of to and from may not overlap. */
+ * words. The words of to and from may not overlap.
+ *
+ *     uint64_t copy[1] = {0};
+ *     if (bitm_bits_copy_range(copy, 1, 2, words, n, 3, 4) != BITM_OK || copy[0] != 11 << 2) return 1; */
 BITM_MUST_USE uint32_t bitm_bits_copy_range(uint64_t *to, size_t to_len, uint64_t to_begin, const uint64_t *from,
                                             size_t from_len, uint64_t from_begin, uint64_t count);
 
 /* Whether count bits of a, from position a_begin on, equal those of b from position b_begin on, as 0 or 1. BITM_NONE if
- * a range is not inside its words. a and b may overlap. */
+ * a range is not inside its words. a and b may overlap.
+ *
+ *     if (bitm_bits_equal_range(copy, 1, 2, words, n, 3, 4, &value) != BITM_OK || value != 1) return 1; */
 BITM_MUST_USE uint32_t bitm_bits_equal_range(const uint64_t *a, size_t a_len, uint64_t a_begin, const uint64_t *b,
                                              size_t b_len, uint64_t b_begin, uint64_t count, uint64_t *out);
 
 /* Combines each word with the word of other at the same index: and, or, exclusive or, and with the complement of
- * other's. BITM_BAD_SIZE if the lengths differ. words and other may not overlap. */
+ * other's. BITM_BAD_SIZE if the lengths differ. words and other may not overlap.
+ *
+ *     const uint64_t six[1] = {6};
+ *     if (bitm_bits_or(copy, 1, six, 1) != BITM_OK || copy[0] != 0x2e ||
+ *         bitm_bits_and_not(copy, 1, six, 1) != BITM_OK || copy[0] != 0x28 ||
+ *         bitm_bits_xor(copy, 1, six, 1) != BITM_OK || copy[0] != 0x2e ||
+ *         bitm_bits_and(copy, 1, six, 1) != BITM_OK || copy[0] != 6) return 1; */
 BITM_MUST_USE uint32_t bitm_bits_and(uint64_t *words, size_t words_len, const uint64_t *other, size_t other_len);
 BITM_MUST_USE uint32_t bitm_bits_or(uint64_t *words, size_t words_len, const uint64_t *other, size_t other_len);
 BITM_MUST_USE uint32_t bitm_bits_xor(uint64_t *words, size_t words_len, const uint64_t *other, size_t other_len);
 BITM_MUST_USE uint32_t bitm_bits_and_not(uint64_t *words, size_t words_len, const uint64_t *other, size_t other_len);
 
-/* Whether a position among the first bits_len has a 1 bit in both words and other; whether other has a 1 bit at each such
- * position where words has one. As 0 or 1. BITM_BAD_SIZE if either has fewer than bits_len bits. words and other may
- * overlap. Reads each word of both at most twice, up to the first that decides. */
+/* Whether a position among the first bits_len has a 1 bit in both words and other; whether other has a 1 bit at each
+ * such position where words has one. As 0 or 1. BITM_BAD_SIZE if either has fewer than bits_len bits. words and other
+ * may overlap. Reads each word of both at most twice, up to the first that decides.
+ *
+ *     if (bitm_bits_intersects(six, 1, words, n, 64, &value) != BITM_OK || value != 1 || // both have bit 1
+ *         bitm_bits_is_subset(six, 1, words, n, 64, &value) != BITM_OK || value != 0) return 1; // words lack bit 2 */
 BITM_MUST_USE uint32_t bitm_bits_intersects(const uint64_t *words, size_t words_len, const uint64_t *other,
                                             size_t other_len, uint64_t bits_len, uint64_t *out);
 BITM_MUST_USE uint32_t bitm_bits_is_subset(const uint64_t *words, size_t words_len, const uint64_t *other,
                                            size_t other_len, uint64_t bits_len, uint64_t *out);
 
-/* The position, 0 to 63, of the 1 bit of a word with the given rank. BITM_NONE if the word has no more than rank. */
+/* The position, 0 to 63, of the 1 bit of a word with the given rank. BITM_NONE if the word has no more than rank.
+ *
+ *     if (bitm_bits_select_in_word(0x5a, 2, &position) != BITM_OK || position != 4) return 1; */
 BITM_MUST_USE uint32_t bitm_bits_select_in_word(uint64_t word, uint32_t rank, uint64_t *out);
 
-/* The width that stores a number: how many binary digits it has, 0 for 0. */
+/* The width that stores a number: how many binary digits it has, 0 for 0.
+ *
+ *     if (bitm_bits_to_store(100) != 7 || bitm_bits_to_store(0) != 0) return 1; */
 uint32_t bitm_bits_to_store(uint64_t value);
 
 /* ---- bytes: few bits from any bit on, by one read of 8 or 4 bytes
@@ -271,7 +339,16 @@ uint32_t bitm_bits_to_store(uint64_t value);
  * bytes from bytes[first_bit / 8] on. Bits of value and len_mask that lie past the window are ignored.
  *   - get: the window as a number, lowest bit first;
  *   - init: makes each bit of the window 1 where value has a 1 bit;
- *   - set: first makes each bit of the window 0 where len_mask has a 1 bit, then does as init. */
+ *   - set: first makes each bit of the window 0 where len_mask has a 1 bit, then does as init.
+ *
+ *     uint8_t bytes[9] = {0x5a};
+ *     uint32_t few;
+ *     if (bitm_bytes_get57(bytes, 9, 3, &value) != BITM_OK || value != 11 || // from bit 3 on: 1, 1, 0, 1
+ *         bitm_bytes_init57(bytes, 9, 8, 1) != BITM_OK || bytes[1] != 1 ||
+ *         bitm_bytes_set57(bytes, 9, 8, 2, 3) != BITM_OK || bytes[1] != 2 ||
+ *         bitm_bytes_get25(bytes, 9, 8, &few) != BITM_OK || few != 2 ||
+ *         bitm_bytes_init25(bytes, 9, 8, 1) != BITM_OK || bytes[1] != 3 ||
+ *         bitm_bytes_set25(bytes, 9, 8, 0, 3) != BITM_OK || bytes[1] != 0) return 1; */
 BITM_MUST_USE uint32_t bitm_bytes_get57(const uint8_t *bytes, size_t bytes_len, uint64_t first_bit, uint64_t *out);
 BITM_MUST_USE uint32_t bitm_bytes_init57(uint8_t *bytes, size_t bytes_len, uint64_t first_bit, uint64_t value);
 BITM_MUST_USE uint32_t bitm_bytes_set57(uint8_t *bytes, size_t bytes_len, uint64_t first_bit, uint64_t value,
@@ -323,11 +400,15 @@ struct bitm_index {
 };
 
 /* The lengths of the tables for the given number of words: one entry for each upper block (2^26 words) and one for each
- * lower block (32 words), the last of which may be shorter. */
+ * lower block (32 words), the last of which may be shorter.
+ *
+ *     if (bitm_index_upper_len(1000) != 1 || bitm_index_lower_len(1000) != 32) return 1; */
 size_t bitm_index_upper_len(size_t words_len);
 size_t bitm_index_lower_len(size_t words_len);
 
-/* Faults of words with tables, and of an index: see bitm_bits_fault. */
+/* Faults of words with tables, and of an index: see bitm_bits_fault.
+ *
+ *     if (bitm_index_fault(&index) != NULL || bitm_tables_fault(n, m, k + 1) == NULL) return 1; */
 static inline const char *bitm_tables_fault(size_t words_len, size_t upper_len, size_t lower_len)
 {
     if (words_len >= (size_t)1 << 58) return "words_len is 2^58 or more";
@@ -347,7 +428,9 @@ size_t bitm_index_samples_len(size_t words_len, uint32_t log2);
 
 /* A log2 for samples of `items` bits of one kind among bits_len, such that samples take about the same share of the
  * memory however many items there are: 7 to most, where most (below 7 it counts as 7, above 31 as 31) is for items and
- * others in equal number, or mostly items. */
+ * others in equal number, or mostly items.
+ *
+ *     if (bitm_optimal_log2(1, 1000000, 13) != 7) return 1; // rare bits */
 uint32_t bitm_optimal_log2(uint64_t items, uint64_t bits_len, uint32_t most);
 
 /* Writes both tables of the words, and to ones the number of 1 bits of all the words. BITM_BAD_SIZE if words_len is
@@ -357,7 +440,9 @@ BITM_MUST_USE uint32_t bitm_index_build(const uint64_t *words, size_t words_len,
                                         uint64_t *lower, size_t lower_len, uint64_t *ones);
 
 /* Whether the tables (not the samples) are those of the words: BITM_OK, BITM_WRONG or BITM_BAD_SIZE. Reads each word at
- * most once. */
+ * most once.
+ *
+ *     if (bitm_index_check(&index) != BITM_OK) return 1; */
 BITM_MUST_USE uint32_t bitm_index_check(const struct bitm_index *index);
 
 /* Writes the samples of the 1 bits, or 0 bits, of all the words, for each upper block the number of samples before it,
@@ -371,25 +456,38 @@ BITM_MUST_USE uint32_t bitm_index_build_samples(const struct bitm_index *index, 
                                                 size_t starts_len, uint64_t *used);
 
 /* Whether index->ones, or index->zeros, are the samples that bitm_index_build_samples writes, where the tables are
- * those of the words: BITM_OK or BITM_WRONG; over other tables either of these. BITM_BAD_SIZE as for all. */
+ * those of the words: BITM_OK or BITM_WRONG; over other tables either of these. BITM_BAD_SIZE as for all.
+ *
+ *     if (bitm_index_check_samples(&index, true) != BITM_OK) return 1; */
 BITM_MUST_USE uint32_t bitm_index_check_samples(const struct bitm_index *index, bool one);
 
 /* How many 1 bits, or 0 bits, there are before a position; for position bits_len, of all. At most position. BITM_NONE
  * exactly if position is above bits_len; BITM_WRONG if the tables turn out not to be those of the words. Reads at most
- * one upper entry, one lower entry and eight words. */
+ * one upper entry, one lower entry and eight words.
+ *
+ *     if (bitm_index_rank(&index, true, 5, &value) != BITM_OK || value != 3) return 1; // bits 1, 3 and 4 */
 BITM_MUST_USE uint32_t bitm_index_rank(const struct bitm_index *index, bool one, uint64_t position, uint64_t *out);
 
 /* The position of the 1 bit, or 0 bit, with the given rank. BITM_NONE if there is none; BITM_WRONG if the tables turn
  * out not to be those of the words. Reads at most D + 1 upper entries, where D is the number of binary digits of
  * upper_len, 23 lower entries and eight words; with samples 28 lower entries, and 51 if these are not those of the
- * words. */
+ * words.
+ *
+ *     if (bitm_index_select(&index, false, 2, &position) != BITM_OK || position != 5) return 1; // after 0 and 2 */
 BITM_MUST_USE uint32_t bitm_index_select(const struct bitm_index *index, bool one, uint64_t rank, uint64_t *out);
 
 /* out[i] answers query i as the call of one query does, or is BITM_NO_ANSWER for BITM_NONE and BITM_WRONG_TABLES for
  * BITM_WRONG; counts says how many of each there are. Selections are searched side by side, so over tables that are not
  * those of the words a list may find another position of the kind than the call of one query, or none where that finds
  * one. BITM_BAD_SIZE also if out_len is not the number of queries. out and counts may overlap neither each other nor
- * the queries. */
+ * the queries.
+ *
+ *     const uint64_t queries[3] = {0, 4, 9};
+ *     uint64_t answers[3];
+ *     struct bitm_list_counts counts;
+ *     if (bitm_index_rank_list(&index, true, queries, 3, answers, 3, &counts) != BITM_OK || answers[1] != 2 ||
+ *         answers[2] != 4 || bitm_index_select_list(&index, true, queries, 3, answers, 3, &counts) != BITM_OK ||
+ *         answers[1] != 64 || answers[2] != BITM_NO_ANSWER || counts.missing != 1) return 1; */
 BITM_MUST_USE uint32_t bitm_index_rank_list(const struct bitm_index *index, bool one, const uint64_t *positions,
                                             size_t positions_len, uint64_t *out, size_t out_len,
                                             struct bitm_list_counts *counts);
@@ -398,7 +496,10 @@ BITM_MUST_USE uint32_t bitm_index_select_list(const struct bitm_index *index, bo
                                               struct bitm_list_counts *counts);
 
 /* bitm_bits_count and bitm_bits_positions of the words and bits_len: the tables are not read, so these answers are
- * right whatever they hold. */
+ * right whatever they hold.
+ *
+ *     if (bitm_index_count(&index, false, &value) != BITM_OK || value != 95 ||
+ *         bitm_index_positions(&index, true, 4, found, 8, &written) != BITM_OK || written != 3) return 1; */
 BITM_MUST_USE uint32_t bitm_index_count(const struct bitm_index *index, bool one, uint64_t *out);
 BITM_MUST_USE uint32_t bitm_index_positions(const struct bitm_index *index, bool one, uint64_t from, uint64_t *out,
                                             size_t out_len, uint64_t *written);
@@ -406,7 +507,10 @@ BITM_MUST_USE uint32_t bitm_index_positions(const struct bitm_index *index, bool
 /* The position of the first 1 bit, or 0 bit, at or after position from; of the last one at or before it, where from may
  * be past the end. BITM_NONE if there is none; BITM_WRONG if the tables turn out not to be those of the words. Any
  * position returned is on that side of from, whatever the tables hold. By the tables, however far it lies: reads what a
- * rank and a selection read. */
+ * rank and a selection read.
+ *
+ *     if (bitm_index_next(&index, true, 7, &position) != BITM_OK || position != 64 ||
+ *         bitm_index_previous(&index, true, 63, &position) != BITM_OK || position != 6) return 1; */
 BITM_MUST_USE uint32_t bitm_index_next(const struct bitm_index *index, bool one, uint64_t from, uint64_t *out);
 BITM_MUST_USE uint32_t bitm_index_previous(const struct bitm_index *index, bool one, uint64_t from, uint64_t *out);
 
@@ -443,7 +547,9 @@ struct bitm_sequence {
     uint64_t reserved[2]; /* 0: not given */
 };
 
-/* Faults of a sequence: see bitm_bits_fault. */
+/* Faults of a sequence: see bitm_bits_fault.
+ *
+ *     if (bitm_sequence_fault(&primes) != NULL) return 1; */
 static inline const char *bitm_sequence_fault(const struct bitm_sequence *sequence)
 {
     if (sequence->len >= (size_t)1 << 56) return "len is 2^56 or more";
@@ -475,47 +581,70 @@ BITM_MUST_USE uint32_t bitm_sequence_build(const uint64_t *items, size_t items_l
                                            uint64_t *lower, size_t lower_len, uint64_t *width);
 
 /* Whether the parts are those of some sequence, as bitm_sequence_build writes them: BITM_OK, BITM_WRONG or
- * BITM_BAD_SIZE. Passes twice over the words, and reads at most one fragment of low for each number. */
+ * BITM_BAD_SIZE. Passes twice over the words, and reads at most one fragment of low for each number.
+ *
+ *     if (bitm_sequence_check(&primes) != BITM_OK) return 1; */
 BITM_MUST_USE uint32_t bitm_sequence_check(const struct bitm_sequence *sequence);
 
 /* The number at an index, counted from 0. BITM_NONE exactly if index is len or more; BITM_WRONG if the parts turn out
- * not to be those of a sequence. Reads what a selection reads, and at most one fragment of low. */
+ * not to be those of a sequence. Reads what a selection reads, and at most one fragment of low.
+ *
+ *     if (bitm_sequence_get(&primes, 4, &item) != BITM_OK || item != 11) return 1; */
 BITM_MUST_USE uint32_t bitm_sequence_get(const struct bitm_sequence *sequence, uint64_t index, uint64_t *out);
 
 /* Successor: the least index whose number is at least value, and so how many numbers are less. BITM_NONE if every
  * number is less; BITM_WRONG if the parts turn out not to be those of a sequence. Any index returned is below len,
  * whatever the parts hold. Reads what two selections read, and one fragment of low for each binary digit of how many
- * numbers share the high bits of value; over parts of no sequence for each digit of len. */
+ * numbers share the high bits of value; over parts of no sequence for each digit of len.
+ *
+ *     if (bitm_sequence_first_at_least(&primes, 6, &at) != BITM_OK || at != 3) return 1; // 7 */
 BITM_MUST_USE uint32_t bitm_sequence_first_at_least(const struct bitm_sequence *sequence, uint64_t value,
                                                     uint64_t *out);
 
 /* Predecessor: the greatest index whose number is at most value. BITM_NONE if every number is more; BITM_WRONG if the
  * parts turn out not to be those of a sequence. Any index returned is below len, whatever the parts hold. Reads what
- * bitm_sequence_first_at_least reads for value + 1, and nothing if value is 2^64 - 1. */
+ * bitm_sequence_first_at_least reads for value + 1, and nothing if value is 2^64 - 1.
+ *
+ *     if (bitm_sequence_last_at_most(&primes, 6, &at) != BITM_OK || at != 2) return 1; // 5 */
 BITM_MUST_USE uint32_t bitm_sequence_last_at_most(const struct bitm_sequence *sequence, uint64_t value, uint64_t *out);
 
 /* Whether value is one of the numbers, as 0 or 1. BITM_WRONG if the parts turn out not to be those of a sequence. Reads
- * what bitm_sequence_first_at_least reads, and where that finds an index what bitm_sequence_get reads. */
+ * what bitm_sequence_first_at_least reads, and where that finds an index what bitm_sequence_get reads.
+ *
+ *     if (bitm_sequence_contains(&primes, 7, &value) != BITM_OK || value != 1) return 1; */
 BITM_MUST_USE uint32_t bitm_sequence_contains(const struct bitm_sequence *sequence, uint64_t value, uint64_t *out);
 
 /* Writes the numbers from index from on, in order, until out is full or there are no more, and to written how many; the
  * rest of out stays as it was. If the parts are not those of a sequence, the numbers are arbitrary, and only then may
  * there be fewer than both out_len and len - from. out and written may not overlap each other or the parts. Reads what
- * a selection reads, passes over the words from there on, and reads at most one fragment of low for each number. */
+ * a selection reads, passes over the words from there on, and reads at most one fragment of low for each number.
+ *
+ *     if (bitm_sequence_items(&primes, 2, found, 8, &written) != BITM_OK || written != 3 || found[0] != 5) return 1; */
 BITM_MUST_USE uint32_t bitm_sequence_items(const struct bitm_sequence *sequence, uint64_t from, uint64_t *out,
                                            size_t out_len, uint64_t *written);
 
 /* The numbers at a list of indices, as bitm_sequence_get answers them, up to the first for which it does not return
  * BITM_OK; written is how many these are, and the rest of out stays as it was. BITM_BAD_SIZE also if out_len is not
  * indices_len. 1 bits are selected side by side, so if the parts are not those of a sequence, a number may differ from
- * that of bitm_sequence_get. out and written may not overlap each other, the indices or the parts. */
+ * that of bitm_sequence_get. out and written may not overlap each other, the indices or the parts.
+ *
+ *     const uint64_t indices[2] = {4, 0};
+ *     if (bitm_sequence_get_list(&primes, indices, 2, found, 2, &written) != BITM_OK || found[0] != 11 ||
+ *         found[1] != 2) return 1; */
 BITM_MUST_USE uint32_t bitm_sequence_get_list(const struct bitm_sequence *sequence, const uint64_t *indices,
                                               size_t indices_len, uint64_t *out, size_t out_len, uint64_t *written);
 
 /* out[i] answers values[i] as the call of one value does, or is BITM_NO_ANSWER for BITM_NONE and BITM_WRONG_TABLES for
  * BITM_WRONG; counts says how many of each there are. Over parts that are not those of a sequence it may be another
  * answer than the call of one value gives. BITM_BAD_SIZE also if out_len is not values_len. out and counts may
- * overlap neither each other nor the values. */
+ * overlap neither each other nor the values.
+ *
+ *     const uint64_t values[3] = {6, 1, 7};
+ *     if (bitm_sequence_first_at_least_list(&primes, values, 3, answers, 3, &counts) != BITM_OK || answers[0] != 3 ||
+ *         bitm_sequence_last_at_most_list(&primes, values, 3, answers, 3, &counts) != BITM_OK || answers[0] != 2 ||
+ *         answers[1] != BITM_NO_ANSWER || counts.missing != 1 ||
+ *         bitm_sequence_contains_list(&primes, values, 3, answers, 3, &counts) != BITM_OK || answers[2] != 1)
+ *         return 1; */
 BITM_MUST_USE uint32_t bitm_sequence_first_at_least_list(const struct bitm_sequence *sequence, const uint64_t *values,
                                                          size_t values_len, uint64_t *out, size_t out_len,
                                                          struct bitm_list_counts *counts);
@@ -621,7 +750,9 @@ struct bitm_hash {
     size_t keys;
 };
 
-/* Faults of a hash: see bitm_bits_fault. */
+/* Faults of a hash: see bitm_bits_fault.
+ *
+ *     if (bitm_hash_fault(&hash) != NULL) return 1; */
 static inline const char *bitm_hash_fault(const struct bitm_hash *hash)
 {
     if (hash->sizes_len > 256) return "sizes_len is above 256";
@@ -629,13 +760,19 @@ static inline const char *bitm_hash_fault(const struct bitm_hash *hash)
 }
 
 /* The words of a level for the given number of hashes: `percent` bits for each 100 of them (below 50 it counts as 50),
- * at least one word: left * percent / 6400 + 1. 100 takes least memory, 200 less time. */
+ * at least one word: left * percent / 6400 + 1. 100 takes least memory, 200 less time.
+ *
+ *     if (bitm_hash_level_len(1000, 100) != 16) return 1; */
 size_t bitm_hash_level_len(size_t left, uint32_t percent);
 
 /* Writes the words of a level: its 1 bits are the bits that exactly one of the hashes falls on. The hashes that fall on
  * no 1 bit go to the front, in their order, and left is how many they are; what lies after them and in again means
  * nothing then. BITM_BAD_SIZE if ones_len is 0 or 2^58 or more, or again_len is not ones_len. Two passes over the
- * hashes. */
+ * hashes.
+ *
+ *     uint64_t keys[3] = {0x243f6a8885a308d3, 0x13198a2e03707344, 0xa4093822299f31d0}, level[1], twice[1];
+ *     if (bitm_hash_level(keys, 3, 0, level, 1, twice, 1, &left) != BITM_OK ||
+ *         bitm_bits_count(level, 1, 64, true, &value) != BITM_OK || value + left != 3) return 1; // a 1 bit, or left */
 BITM_MUST_USE uint32_t bitm_hash_level(uint64_t *hashes, size_t hashes_len, uint32_t level, uint64_t *ones,
                                        size_t ones_len, uint64_t *again, size_t again_len, uint64_t *left);
 
@@ -658,7 +795,11 @@ BITM_MUST_USE uint32_t bitm_hash_get(const struct bitm_hash *hash, uint64_t key_
 
 /* out[i] is the number of key_hashes[i], or BITM_NO_ANSWER for BITM_NONE and BITM_WRONG_TABLES for BITM_WRONG; counts
  * says how many of each there are. BITM_BAD_SIZE also if out_len is not key_hashes_len. out and counts may overlap
- * neither each other nor the hashes. */
+ * neither each other nor the hashes.
+ *
+ *     const uint64_t known[2] = {0xa4093822299f31d0, 0x243f6a8885a308d3};
+ *     if (bitm_hash_get_list(&hash, known, 2, answers, 2, &counts) != BITM_OK || counts.missing + counts.wrong > 0 ||
+ *         answers[0] > 2 || answers[1] > 2 || answers[0] == answers[1]) return 1; */
 BITM_MUST_USE uint32_t bitm_hash_get_list(const struct bitm_hash *hash, const uint64_t *key_hashes,
                                           size_t key_hashes_len, uint64_t *out, size_t out_len,
                                           struct bitm_list_counts *counts);
@@ -666,8 +807,8 @@ BITM_MUST_USE uint32_t bitm_hash_get_list(const struct bitm_hash *hash, const ui
 /* ---- stored
  *
  * A file is a header of 192 bytes and the parts that it names, in this order, each from a multiple of 64 bytes on:
- * words, upper and lower table, low bits of a sequence, starts and samples. The lengths determine all of it. To write an
- * index, take memory of the size that bitm_stored_index_room says, and keep the first s.size bytes:
+ * words, upper and lower table, low bits of a sequence, starts and samples. The lengths determine all of it. To write
+ * an index, take memory of the size that bitm_stored_index_room says, and keep the first s.size bytes:
  *
  *     struct bitm_stored s;
  *     struct bitm_index stored;
@@ -712,36 +853,59 @@ struct bitm_stored {
 
 /* Writes the header of an index of bits_len bits, with the given numbers of samples of 1 bits and of 0 bits, each with
  * a log2 of 7 to 31, or 0 and no samples. BITM_BAD_SIZE for other log2, more samples than bitm_index_samples_len says
- * for the words, or more than 2^64 - 64 bits. */
+ * for the words, or more than 2^64 - 64 bits.
+ *
+ *     struct bitm_stored header;
+ *     if (bitm_stored_index(100, 0, 0, 0, 0, &header) != BITM_OK || header.kind != BITM_STORED_INDEX ||
+ *         header.len != 100) return 1; */
 BITM_MUST_USE uint32_t bitm_stored_index(uint64_t bits_len, uint32_t ones_log2, uint64_t ones_len, uint32_t zeros_log2,
                                          uint64_t zeros_len, struct bitm_stored *out);
 
-/* As bitm_stored_index, with the greatest numbers of samples that bits_len bits can have: out->size bytes hold every index
- * of that many bits. */
+/* As bitm_stored_index, with the greatest numbers of samples that bits_len bits can have: out->size bytes hold every
+ * index of that many bits. */
 BITM_MUST_USE uint32_t bitm_stored_index_room(uint64_t bits_len, uint32_t ones_log2, uint32_t zeros_log2,
                                               struct bitm_stored *out);
 
 /* Copies the first bits_len bits of words to an index in the caller's memory, 0 bits after them; writes its tables, the
- * samples of 1 bits and of 0 bits, each with a log2 of 7 to 31, or 0 and none, and to out the header of such a file. The
- * samples of 0 bits begin at the first multiple of 16 after the others. BITM_BAD_SIZE if words has fewer bits, to,
+ * samples of 1 bits and of 0 bits, each with a log2 of 7 to 31, or 0 and none, and to out the header of such a file.
+ * The samples of 0 bits begin at the first multiple of 16 after the others. BITM_BAD_SIZE if words has fewer bits, to,
  * upper, lower, starts or starts0 is not as long as bitm_stored_index_room says, samples has not room for the greatest
- * number of each kind, or for other log2. Nothing that is passed may overlap. Reads the words twice. */
+ * number of each kind, or for other log2. Nothing that is passed may overlap. Reads the words twice.
+ *
+ *     uint64_t to[2], to_upper[1], to_lower[1];
+ *     if (bitm_stored_build(words, n, 100, 0, 0, to, 2, to_upper, 1, to_lower, 1, NULL, 0, NULL, 0, NULL, 0,
+ *                           &header) != BITM_OK || header.words.len != 2 || to[1] != 1) return 1; */
 BITM_MUST_USE uint32_t bitm_stored_build(const uint64_t *words, size_t words_len, uint64_t bits_len, uint32_t ones_log2,
                                          uint32_t zeros_log2, uint64_t *to, size_t to_len, uint64_t *upper,
                                          size_t upper_len, uint64_t *lower, size_t lower_len, uint64_t *starts,
                                          size_t starts_len, uint64_t *starts0, size_t starts0_len, uint32_t *samples,
                                          size_t samples_len, struct bitm_stored *out);
 
-/* Writes the header of a sequence of len numbers. BITM_BAD_SIZE where no sequence can have such lengths. */
+/* Writes the header of a sequence of len numbers. BITM_BAD_SIZE where no sequence can have such lengths.
+ *
+ *     struct bitm_stored q;
+ *     if (bitm_stored_sequence(5, &of, &q) != BITM_OK) return 1;
+ *     uint64_t *numbers = calloc(q.size / 8, 8); // or mapped
+ *     if (!numbers || bitm_sequence_build(items, 5, bitm_stored_room(numbers, q.low), q.low.len,
+ *                                         bitm_stored_room(numbers, q.words), q.words.len,
+ *                                         bitm_stored_room(numbers, q.upper), q.upper.len,
+ *                                         bitm_stored_room(numbers, q.lower), q.lower.len, &width) != BITM_OK)
+ *         return 1;
+ *     memcpy(numbers, &q, sizeof q); */
 BITM_MUST_USE uint32_t bitm_stored_sequence(uint64_t len, const struct bitm_sequence_lens *lens,
                                             struct bitm_stored *out);
 
 /* The header that file_len words begin with, as they stand in a file that was mapped or read. BITM_OK exactly if it is
  * one that the two calls above write on this machine, and the file has at least as many bytes as it says: then each
- * part lies inside these, after the one before it. BITM_WRONG else. */
+ * part lies inside these, after the one before it. BITM_WRONG else.
+ *
+ *     if (bitm_stored_read(numbers, q.size / 8, &header) != BITM_OK || header.kind != BITM_STORED_SEQUENCE)
+ *         return 1; */
 BITM_MUST_USE uint32_t bitm_stored_read(const uint64_t *file, size_t file_len, struct bitm_stored *out);
 
-/* The items of a part of the file: to read them, and to build them in their place. Parts begin at whole words. */
+/* The items of a part of the file: to read them, and to build them in their place. Parts begin at whole words.
+ *
+ *     if (bitm_stored_items(numbers, q.low) != bitm_stored_room(numbers, q.low)) return 1; */
 static inline const uint64_t *bitm_stored_items(const uint64_t *file, struct bitm_span part)
 {
     return file + part.at / 8;
@@ -751,7 +915,12 @@ static inline uint64_t *bitm_stored_room(uint64_t *file, struct bitm_span part)
     return file + part.at / 8;
 }
 
-/* The parts of a file, where bitm_stored_read returned BITM_OK: they lie inside it. */
+/* The parts of a file, where bitm_stored_read returned BITM_OK: they lie inside it.
+ *
+ *     primes = bitm_stored_sequence_of(numbers, &header);
+ *     stored = bitm_stored_index_of(file, &s);
+ *     if (bitm_sequence_get(&primes, 4, &item) != BITM_OK || item != 11 || stored.bits_len != 100 ||
+ *         bitm_stored_samples_of(file, s.samples, s.starts, s.ones_log2).log2 != 12) return 1; */
 static inline struct bitm_samples bitm_stored_samples_of(const uint64_t *file, struct bitm_span samples,
                                                          struct bitm_span starts, uint64_t log2)
 {
@@ -805,9 +974,9 @@ static inline struct bitm_sequence bitm_stored_sequence_of(const uint64_t *file,
     return sequence;
 }
 
-/* Writes a whole file of an index of the first bits_len bits of words, and its header to s too: of the file_len words of
- * file the first s->size / 8. BITM_BAD_SIZE as bitm_stored_build, and if file_len is less than bitm_stored_index_room
- * says. file may overlap neither words nor s. */
+/* Writes a whole file of an index of the first bits_len bits of words, and its header to s too: of the file_len words
+ * of file the first s->size / 8. BITM_BAD_SIZE as bitm_stored_build, and if file_len is less than
+ * bitm_stored_index_room says. file may overlap neither words nor s. */
 BITM_MUST_USE static inline uint32_t bitm_stored_write_index(const uint64_t *words, size_t words_len, uint64_t bits_len,
                                                              uint32_t ones_log2, uint32_t zeros_log2, uint64_t *file,
                                                              size_t file_len, struct bitm_stored *s)
@@ -883,10 +1052,11 @@ struct bitm_shard_place {
     uint64_t within;
 };
 
-/* The shards themselves with their counts, where all lie in this process. Calls that take them return BITM_BAD_SIZE also
- * if counts.bits_len is not shards_len + 1. Over any counts and tables, a rank is at most its position and a selection
- * finds a position below the claimed number of bits that in some shard holds the requested bit; if the counts are those
- * of the shards, and each shard's tables those of its words, the answer is that of counting in the joined bits. */
+/* The shards themselves with their counts, where all lie in this process. Calls that take them return BITM_BAD_SIZE
+ * also if counts.bits_len is not shards_len + 1. Over any counts and tables, a rank is at most its position and a
+ * selection finds a position below the claimed number of bits that in some shard holds the requested bit; if the counts
+ * are those of the shards, and each shard's tables those of its words, the answer is that of counting in the joined
+ * bits. */
 struct bitm_shards {
     struct bitm_prefixes counts;
     const struct bitm_index *shards;
@@ -898,7 +1068,9 @@ struct bitm_shards {
  * 1, or the sum is 2^64 or more. numbers and out may not overlap. */
 BITM_MUST_USE uint32_t bitm_prefix_sums(const uint64_t *numbers, size_t numbers_len, uint64_t *out, size_t out_len);
 
-/* Whether sums are those that bitm_prefix_sums writes: BITM_OK or BITM_WRONG. */
+/* Whether sums are those that bitm_prefix_sums writes: BITM_OK or BITM_WRONG.
+ *
+ *     if (bitm_prefix_sums_check(bits_of, 2, bits_before, 3) != BITM_OK) return 1; */
 BITM_MUST_USE uint32_t bitm_prefix_sums_check(const uint64_t *numbers, size_t numbers_len, const uint64_t *sums,
                                               size_t sums_len);
 
@@ -911,7 +1083,15 @@ BITM_MUST_USE uint32_t bitm_shards_find(const struct bitm_prefixes *counts, uint
 
 /* bitm_index_rank and bitm_index_select of the joined bits: one search among the counts, and one query of a shard.
  * BITM_NONE exactly if position is above the number of all bits that the counts claim, or rank is not below that of the
- * bits of its kind. BITM_WRONG if counts or tables turn out to be wrong. */
+ * bits of its kind. BITM_WRONG if counts or tables turn out to be wrong.
+ *
+ *     const struct bitm_index both[2] = {index, index};
+ *     const uint64_t bits_of_each[2] = {100, 100}, ones_of_each[2] = {5, 5};
+ *     struct bitm_shards shards = {.counts = prefixes, .shards = both, .shards_len = 2};
+ *     if (bitm_prefix_sums(bits_of_each, 2, bits_before, 3) != BITM_OK ||
+ *         bitm_prefix_sums(ones_of_each, 2, ones_before, 3) != BITM_OK ||
+ *         bitm_shards_rank(&shards, true, 104, &value) != BITM_OK || value != 7 ||
+ *         bitm_shards_select(&shards, true, 7, &position) != BITM_OK || position != 104) return 1; */
 BITM_MUST_USE uint32_t bitm_shards_rank(const struct bitm_shards *shards, bool one, uint64_t position, uint64_t *out);
 BITM_MUST_USE uint32_t bitm_shards_select(const struct bitm_shards *shards, bool one, uint64_t rank, uint64_t *out);
 
