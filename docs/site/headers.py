@@ -72,7 +72,7 @@ def cpp_header(text):
             comment = []
         elif comment and starts and indent == len(comment[0]) - len(comment[0].lstrip()):
             runs += 1
-            if runs > 1 and "(" in bare:
+            if runs > 1 and ("(" in bare or bare.startswith("using ")):
                 yield "\n".join(comment)
         yield line
 

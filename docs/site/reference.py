@@ -11,7 +11,7 @@ import xml.etree.ElementTree as xml
 
 TOP = pathlib.Path(__file__).resolve().parents[2] / "include"
 FOUND = pathlib.Path(os.environ["SITE"]) / "doxygen"
-HEADERS = ("bits", "bits_view", "index", "sequence", "sequence_view", "perfect_hash", "file", "core", "memory")
+HEADERS = ("bits", "bits_view", "index", "sequence", "sequence_view", "perfect_hash", "shards", "file", "format", "core", "memory")
 
 
 def opening(path):
@@ -60,7 +60,7 @@ def c_page():
     in_groups = {it.get("id") for group in groups for it in group.iter("memberdef")} | {it.get("refid") for group in groups for it in group.iter("innerclass")}
     yield "## What calls return, and the version\n"
     for it in file.iter("memberdef"):
-        if it.get("id") not in in_groups and it.get("id").startswith("bitm_8h") and it.find("name").text not in ("BITM_H", "BITM_MUST_USE"):
+        if it.get("id") not in in_groups and it.get("id").startswith("bitm_8h") and it.find("name").text not in ("BITM_H", "BITM_MUST_USE", "BITM_SELDOM"):
             yield directive(KINDS[it.get("kind")], it.find("name").text, "c")
     for it in file.iter("innerclass"):
         if it.get("refid") not in in_groups:

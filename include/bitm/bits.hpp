@@ -17,6 +17,7 @@ BITM_NAMESPACE_BEGIN
 // are valid until the size or the capacity changes, as those of a std::vector.
 class BITM_OWNER bits : public detail::bits_calls<bits> {
 public:
+    // The types of a container.
     using value_type = bool;
     using size_type = std::uint64_t;
     using difference_type = std::ptrdiff_t;
@@ -26,6 +27,7 @@ public:
     // One bit, as `b[i]` of bits that may change.
     class reference {
     public:
+        // Reads the bit; an assignment or a flip changes it.
         operator bool() const { return detail::bit_of(of_->parts(), at_); }
         reference &operator=(bool value) { return of_->set(at_, value), *this; }
         reference &operator=(const reference &other) { return *this = static_cast<bool>(other); }
@@ -44,6 +46,7 @@ public:
         std::uint64_t at_;
     };
 
+    // None; `size` equal ones; those of a list or of iterators; a copy of a view, or of all bits of words.
     bits() noexcept = default;
     explicit bits(std::uint64_t size, bool value = false) { resize(size, value); }
     bits(std::initializer_list<bool> values) : bits(values.begin(), values.end()) {}
@@ -85,6 +88,7 @@ public:
         return of_positions(positions.begin(), positions.end(), size);
     }
 
+    // A copy; or all bits of another, which is empty then; an exchange.
     bits(const bits &other) : bits_calls(), block_(other.len_), len_(other.len_), size_(other.size_)
     {
         if (len_) std::memcpy(block_.data(), other.block_.data(), 8 * len_);
@@ -315,6 +319,7 @@ public:
     void words() const && = delete;
     void words_data() const && = delete;
 
+    // The words and the size, as the ranges and the calls of C take them.
     detail::bits_parts parts() const noexcept { return {block_.data(), len_, size_}; }
 
 private:

@@ -55,6 +55,7 @@ inline bool bit_of(const bits_parts &of, std::uint64_t at)
 // The bits one after another, by position.
 class bits_iterator : public detail::at_position<bits_iterator, bool> {
 public:
+    // At a position of bits; `read` is the bit at another: fails past the end.
     bits_iterator() noexcept = default;
     bits_iterator(const detail::bits_parts &of, std::uint64_t at) noexcept : at_position(at), of_(of) {}
     bool read(std::uint64_t at) const { return detail::bit_of(of_, at); }
@@ -69,6 +70,7 @@ template <bool One> class positions_range {
 public:
     class iterator {
     public:
+        // The types of an iterator over positions.
         using iterator_category = std::input_iterator_tag;
 #if __cplusplus >= 202002L
         using iterator_concept = std::bidirectional_iterator_tag;
@@ -78,6 +80,7 @@ public:
         using pointer = void;
         using reference = std::uint64_t;
 
+        // The position; moved to the next or the one before: fails past either end.
         iterator() noexcept = default;
         std::uint64_t operator*() const noexcept { return at_; }
         iterator &operator++()
@@ -118,6 +121,7 @@ public:
         std::uint64_t at_ = 0;
     };
 
+    // No positions; or those from one on, in increasing order from begin() to end().
     positions_range() noexcept = default;
     positions_range(const detail::bits_parts &of, std::uint64_t from) : of_(of), first_(next(of, from)) {}
     iterator begin() const noexcept { return {of_, first_}; }
@@ -145,6 +149,7 @@ class fragments_range {
 public:
     class iterator : public detail::at_position<iterator, std::uint64_t> {
     public:
+        // At an index; `read` is the number at another: fails past the end.
         iterator() noexcept = default;
         std::uint64_t read(std::uint64_t at) const { return number(of_, width_, at); }
 
@@ -158,6 +163,7 @@ public:
         std::uint32_t width_ = 0;
     };
 
+    // No numbers; or the whole ones that the bits have, each of `width` bits (1 to 64). An index past them fails.
     fragments_range() noexcept = default;
     fragments_range(const detail::bits_parts &of, std::uint32_t width) : of_(of), width_(width)
     {
@@ -182,6 +188,7 @@ private:
     std::uint32_t width_ = 0;
 };
 
+// The positions of the 1 bits, and of the 0 bits.
 using ones_range = positions_range<true>;
 using zeros_range = positions_range<false>;
 
@@ -190,12 +197,14 @@ namespace detail {
 // The queries of bits, of an owner and of a view alike; `Self` has parts().
 template <class Self> class bits_calls {
 public:
+    // How many bits there are, and whether there are none.
     std::uint64_t size() const noexcept { return parts().size; }
     bool empty() const noexcept { return size() == 0; }
     // The words: bits of the last one past size() are 0 bits in an owner, anything in a view.
     const std::uint64_t *words_data() const noexcept { return parts().words; }
     std::size_t words_len() const noexcept { return parts().len; }
 
+    // The bit at a position; the first, and the last: fails where there is none.
     bool operator[](std::uint64_t at) const { return bit_of(parts(), at); }
     bool at(std::uint64_t at) const { return bit_of(parts(), at); }
     bool test(std::uint64_t at) const { return bit_of(parts(), at); }
@@ -335,10 +344,12 @@ private:
 // Bits in memory of the caller's: words and the number of their bits. It owns nothing.
 class BITM_POINTER bits_view : public detail::bits_calls<bits_view> {
 public:
+    // The types of a range.
     using value_type = bool;
     using const_iterator = bits_iterator;
     using iterator = bits_iterator;
 
+    // No bits.
     bits_view() noexcept = default;
     // All bits of the words, or the first `size` of them. Temporary containers do not convert.
     explicit bits_view(detail::kept<const std::uint64_t> words BITM_LIFETIMEBOUND, maybe_position size = {})

@@ -73,8 +73,10 @@ BITM_NAMESPACE_BEGIN
 // A position, or none.
 using maybe_position = std::optional<std::uint64_t>;
 
-// In lists of answers: there is no such position; the tables are not those of the words.
-inline constexpr std::uint64_t no_answer = BITM_NO_ANSWER, wrong_answer = BITM_WRONG_TABLES;
+// In lists of answers: there is no such position.
+inline constexpr std::uint64_t no_answer = BITM_NO_ANSWER;
+// In lists of answers: the tables are not those of the words.
+inline constexpr std::uint64_t wrong_answer = BITM_WRONG_TABLES;
 
 // Whether the library that is linked is one for programs that were compiled with these headers.
 inline bool version_fits() noexcept { return bitm_version_fits(); }
@@ -96,10 +98,16 @@ enum class errc : std::uint8_t {
 // What went wrong: position `at` of `of` where it is `outside`; `at` is errno where it is `no_file`. `which` says which
 // argument or length is wrong, in memory that stays; nullptr where nothing more is known.
 struct failure {
+    // The kind of failure.
     errc code = errc::none;
-    std::uint64_t at = 0, of = 0;
+    // The position that is outside; errno for a file.
+    std::uint64_t at = 0;
+    // The size that `at` is past.
+    std::uint64_t of = 0;
+    // The argument or length that is wrong.
     const char *which = nullptr;
 
+    // The kind of failure in words, in memory that stays.
     const char *text() const noexcept
     {
         switch (code) {
@@ -135,6 +143,7 @@ inline std::string message(const failure &why)
 }
 
 struct wrong_tables : std::runtime_error {
+    // With the text of `errc::wrong`.
     wrong_tables() : std::runtime_error("bitm: the tables are not those of the words") {}
 };
 struct wrong_file : std::runtime_error {
@@ -164,9 +173,11 @@ struct wrong_file : std::runtime_error {
 // A value, or the error because of which there is none. Converts to std::expected where there is one.
 template <class T> class [[nodiscard]] result {
 public:
+    // A value; or an error.
     result(T value) noexcept(std::is_nothrow_move_constructible_v<T>) : value_(std::move(value)) {}
     result(failure why) noexcept : error_(why) {}
 
+    // Whether there is a value.
     bool has_value() const noexcept { return error_.code == errc::none; }
     explicit operator bool() const noexcept { return has_value(); }
     // The value: fails where there is none.

@@ -187,6 +187,7 @@ public:
     }
     void bytes() const && = delete;
 
+    // Writes these bytes to a new file, which replaces one of that name once it is whole; or to a stream.
     result<bool> try_save(path_of path) const noexcept { return written(path, bytes_().data(), bytes_().size()); }
     void save(path_of path) const { (void)try_save(path).value(); }
     template <class Char, class Traits>
@@ -200,8 +201,7 @@ public:
     {
         result<block> all = mapped(path);
         if (!all) return all.error();
-        // The header is checked before memory is taken for a copy.
-        const result<std::size_t> size = Self::size_of(all->data(), all->size());
+        const result<std::size_t> size = Self::size_of(all->data(), all->size()); // before memory for a copy is taken
         if (!size) return size.error();
         result<block> copy = copied(all->data(), 8 * *size);
         if (!copy) return copy.error();

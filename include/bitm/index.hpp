@@ -34,7 +34,10 @@ BITM_NAMESPACE_BEGIN
 
 // The log2 of the samples of 1 bits and of 0 bits, 7 to 31, by which selection is faster; 0 for none.
 struct sampling {
-    std::uint32_t ones = 0, zeros = 0;
+    // Of the samples of 1 bits.
+    std::uint32_t ones = 0;
+    // Of the samples of 0 bits.
+    std::uint32_t zeros = 0;
 };
 
 namespace detail {
@@ -49,6 +52,7 @@ inline const char *fault_of(sampling how) noexcept
 
 template <class Self> class index_calls {
 public:
+    // How many bits there are, and whether there are none.
     std::uint64_t size() const noexcept { return raw().bits_len; }
     bool empty() const noexcept { return size() == 0; }
     // All of it as C takes it.
@@ -188,6 +192,7 @@ private:
 // An index in memory of the caller's, who keeps it: it owns nothing.
 class BITM_POINTER rank_index_view : public detail::index_calls<rank_index_view> {
 public:
+    // Of no bits.
     rank_index_view() noexcept = default;
     // Fails where the lengths do not fit together.
     explicit rank_index_view(const bitm_index &raw) : raw_(raw)
@@ -208,6 +213,7 @@ public:
         return try_in(file).value();
     }
 
+    // The bits without their tables; the positions of the 1 bits, and of the 0 bits, from one on; the bits in order.
     bits_view as_bits() const { return plain(); }
     ones_range ones(std::uint64_t from = 0) const { return plain().ones(from); }
     zeros_range zeros(std::uint64_t from = 0) const { return plain().zeros(from); }
@@ -224,6 +230,7 @@ private:
 // one.
 class BITM_OWNER rank_index : public detail::index_calls<rank_index>, public detail::stored_calls<rank_index> {
 public:
+    // Of no bits; of a copy of bits, of words (all, or the first `size` bits), or of an iterator's bools.
     rank_index() noexcept = default;
     explicit rank_index(bits_view of, sampling how = {})
     {
@@ -269,6 +276,7 @@ public:
         return made;
     }
 
+    // A copy; or all of another, which has no bits then; an exchange.
     rank_index(const rank_index &other) : index_calls(), stored_calls(), block_(other.used_), used_(other.used_)
     {
         if (used_ == 0) return;
@@ -296,6 +304,7 @@ public:
     }
     friend void swap(rank_index &a, rank_index &b) noexcept { a.swap(b); }
 
+    // Views and ranges, which the owner has to outlive; all of it as C takes it. Deleted for temporaries.
     rank_index_view view() const &noexcept BITM_LIFETIMEBOUND
     {
         rank_index_view view;

@@ -12,9 +12,11 @@ BITM_NAMESPACE_BEGIN
 // is used during the call and not kept.
 template <class T> class BITM_POINTER span {
 public:
+    // The types of a range.
     using element_type = T;
     using value_type = std::remove_cv_t<T>;
 
+    // No items; those from an address on; those of a container, which has to stay as long as the span.
     constexpr span() noexcept = default;
     constexpr span(T *data, std::size_t size) noexcept : data_(data), size_(size) {}
     template <class Held,
@@ -27,6 +29,7 @@ public:
     constexpr span(const Held &held) noexcept : data_(held.data()), size_(held.size())
     {
     }
+    // Where the items begin, how many there are, and one of them: fails past the end.
     constexpr T *data() const noexcept { return data_; }
     constexpr std::size_t size() const noexcept { return size_; }
     constexpr bool empty() const noexcept { return size_ == 0; }
@@ -45,6 +48,7 @@ private:
 
 template <class T> struct detail::borrows<span<T>> : std::true_type {};
 
+// Words that a call reads, and words that it writes.
 using words_in = span<const std::uint64_t>;
 using words_out = span<std::uint64_t>;
 
@@ -156,6 +160,7 @@ constexpr std::uint64_t greater(std::uint64_t a, std::uint64_t b) noexcept { ret
 // The base of random access iterators that hold some parts and a position: `It` has `read(at)`.
 template <class It, class Value> class at_position {
 public:
+    // The types of a random access iterator.
     using iterator_category = std::input_iterator_tag; // C++17: * gives a value, no reference
 #if __cplusplus >= 202002L
     using iterator_concept = std::random_access_iterator_tag;
@@ -165,6 +170,7 @@ public:
     using pointer = void;
     using reference = Value;
 
+    // The value here, or `by` positions on; moves by one position, or by more. Moving tests no end, reading does.
     Value operator*() const { return self().read(at_); }
     Value operator[](difference_type by) const { return self().read(at_ + static_cast<std::uint64_t>(by)); }
     It &operator++() noexcept { return ++at_, self(); }

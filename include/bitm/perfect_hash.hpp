@@ -31,6 +31,7 @@ inline std::size_t hash_tail_len(const std::uint64_t *tail, std::size_t tail_len
 
 class BITM_OWNER perfect_hash : public detail::stored_calls<perfect_hash> {
 public:
+    // Of no keys.
     perfect_hash() noexcept = default;
     // `percent` bits of a level for 100 keys: 100 takes least memory, 200 less time. Fails where two hashes are equal.
     explicit perfect_hash(words_in hashes, unsigned percent = 100)
@@ -84,6 +85,7 @@ public:
     void raw() const && = delete;
     void sizes() const && = delete;
 
+    // A copy; or all of another, which has no keys then; an exchange.
     perfect_hash(const perfect_hash &other) : stored_calls()
     {
         if (other.used_)

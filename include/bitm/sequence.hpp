@@ -16,10 +16,12 @@ BITM_NAMESPACE_BEGIN
 // A sequence that owns its parts, made from numbers that never fall: one block of memory, which is the file.
 class BITM_OWNER sequence : public detail::sequence_calls<sequence>, public detail::stored_calls<sequence> {
 public:
+    // The types of a container.
     using value_type = std::uint64_t;
     using const_iterator = sequence_iterator;
     using iterator = sequence_iterator;
 
+    // No numbers; or those of words, a list or iterators: fails where one is less than the one before it.
     sequence() noexcept = default;
     explicit sequence(words_in numbers) : sequence(try_of(numbers).value()) {}
     sequence(std::initializer_list<std::uint64_t> numbers) : sequence(words_in(numbers.begin(), numbers.size())) {}
@@ -47,6 +49,7 @@ public:
         return opened(std::move(all), verify::no);
     }
 
+    // A copy; or all of another, which is empty then; an exchange.
     sequence(const sequence &other) : sequence_calls(), stored_calls(), block_(other.used_), used_(other.used_)
     {
         if (used_ == 0) return;
@@ -74,6 +77,7 @@ public:
     }
     friend void swap(sequence &a, sequence &b) noexcept { a.swap(b); }
 
+    // Views and walks, which the owner has to outlive; the parts as C takes them. Deleted for temporaries.
     sequence_view view() const &noexcept BITM_LIFETIMEBOUND
     {
         sequence_view view;

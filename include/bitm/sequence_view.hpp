@@ -37,6 +37,7 @@ inline std::uint64_t number_of(const bitm_sequence &of, std::uint64_t at)
 // The numbers by index: each is one selection. It holds the parts, so it outlives a view (not an owner).
 class sequence_iterator : public detail::at_position<sequence_iterator, std::uint64_t> {
 public:
+    // At an index of a sequence; `read` is the number at another: fails past the end.
     sequence_iterator() noexcept = default;
     sequence_iterator(const bitm_sequence &of, std::uint64_t at) noexcept : at_position(at), of_(of) {}
     std::uint64_t read(std::uint64_t at) const { return detail::number_of(of_, at); }
@@ -52,12 +53,14 @@ public:
     struct end_mark {};
     class iterator {
     public:
+        // The types of an input iterator.
         using iterator_category = std::input_iterator_tag;
         using value_type = std::uint64_t;
         using difference_type = std::ptrdiff_t;
         using pointer = const std::uint64_t *;
         using reference = std::uint64_t;
 
+        // The number where the walk stands; moves the walk on by one.
         iterator() noexcept = default;
         std::uint64_t operator*() const { return of_->found_[of_->at_]; }
         iterator &operator++()
@@ -77,6 +80,7 @@ public:
         sequence_walk *of_ = nullptr;
     };
 
+    // At the end of no numbers; or at an index. Whether it is at the end; true where it is not.
     sequence_walk() noexcept = default;
     sequence_walk(const bitm_sequence &of, std::uint64_t from) : of_(of) { fill(from); }
     bool done() const noexcept { return count_ == 0; }
@@ -140,6 +144,7 @@ namespace detail {
 
 template <class Self> class sequence_calls {
 public:
+    // How many numbers there are, and whether there are none; all of it as C takes it.
     std::uint64_t size() const noexcept { return raw().len; }
     bool empty() const noexcept { return size() == 0; }
     const bitm_sequence &raw() const noexcept BITM_LIFETIMEBOUND { return static_cast<const Self &>(*this).raw_; }
@@ -215,6 +220,7 @@ public:
         return static_cast<std::size_t>(written);
     }
 
+    // Whether the parts are those of some sequence: two passes over them.
     bool check() const noexcept { return bitm_sequence_check(&raw()) == BITM_OK; }
 
     template <class Other> friend bool operator==(const sequence_calls &a, const sequence_calls<Other> &b)
@@ -260,10 +266,12 @@ private:
 // A sequence whose parts are in memory of the caller's, who keeps them.
 class BITM_POINTER sequence_view : public detail::sequence_calls<sequence_view> {
 public:
+    // The types of a range.
     using value_type = std::uint64_t;
     using const_iterator = sequence_iterator;
     using iterator = sequence_iterator;
 
+    // Of no numbers; of parts: fails where their lengths do not fit together; in the words of a file, mapped or read.
     sequence_view() noexcept = default;
     explicit sequence_view(const bitm_sequence &raw) : raw_(raw)
     {
@@ -279,6 +287,7 @@ public:
     }
     static sequence_view in(detail::kept<const std::uint64_t> file BITM_LIFETIMEBOUND) { return try_in(file).value(); }
 
+    // The numbers in order, and backwards: each is one selection.
     sequence_iterator begin() const noexcept { return {raw_, 0}; }
     sequence_iterator end() const noexcept { return {raw_, raw_.len}; }
     std::reverse_iterator<sequence_iterator> rbegin() const { return std::reverse_iterator<sequence_iterator>(end()); }

@@ -35,6 +35,7 @@ public:
         if (bits_.size() != ones_.size()) fail({errc::bad_size});
     }
 
+    // How many shards there are, and how many bits and 1 bits in all.
     std::size_t shards() const noexcept { return bits_.size() - 1; }
     std::uint64_t size() const noexcept { return bits_.back(); }
     std::uint64_t count() const noexcept { return ones_.back(); }
@@ -75,8 +76,10 @@ private:
 // Indexes of one process, one after the other. What the views look at has to stay.
 class sharded_index {
 public:
+    // Counts the 1 bits of each: fails where the shards have 2^64 bits or more together.
     explicit sharded_index(const std::vector<rank_index_view> &shards) : shards_(raw_of(shards)), counts_(measured(shards)) {}
 
+    // How many bits and 1 bits there are in all, and before each shard.
     std::uint64_t size() const noexcept { return counts_.size(); }
     std::uint64_t count() const noexcept { return counts_.count(); }
     const prefix_counts &counts() const noexcept BITM_LIFETIMEBOUND { return counts_; }
