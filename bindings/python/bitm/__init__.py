@@ -15,7 +15,7 @@ arguments, Python's conventions) is tested.
 """
 from collections.abc import MutableSequence, Sequence
 
-from . import _more
+from . import _more, _shard_docs
 from ._core import BitVector, EliasFano, Index, PerfectHash, WrongTables
 from ._files import load, loads
 from ._more import tables_of
@@ -25,6 +25,7 @@ __version__ = "0.3.0"
 __all__ = ["BitVector", "EliasFano", "Index", "PerfectHash", "ShardError", "Shards", "WrongTables", "load", "loads", "tables_of"]
 
 _more.complete()
+_shard_docs.complete(Shards)
 Sequence.register(Index)
 Sequence.register(EliasFano)
 MutableSequence.register(BitVector)
