@@ -2,6 +2,17 @@
 //! neither an answer nor changed.
 #![tactic(auto)]
 
+// What is in each file:
+// - `comparing`: whether a bit vector has bits of one kind wherever another has 1 bits
+// - `copying`: copies of ranges of bits
+// - `counting`: the number of 1 bits or 0 bits among the first bits of words
+// - `equality`: comparisons of ranges of bits
+// - `filling`: numbers that are all set to one value
+// - `listed`: bits at a list of positions that are all set to one value
+// - `nearest`: the nearest 1 bit or 0 bit of a position
+// - `numbers`: reads of numbers
+// - `numbers_mut`: writes of numbers
+// - `positions`: the positions of 1 bits or 0 bits, written into the caller's memory
 mod comparing;
 mod copying;
 mod counting;

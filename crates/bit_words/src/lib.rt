@@ -2,6 +2,21 @@
 //! functions.
 #![tactic(auto)]
 
+// What is in each file:
+// - `bytes`: reads and writes of a few bits anywhere in a slice of bytes
+// - `closures`: writes for which a closure decides
+// - `combining`: bitwise operations of two bit vectors of one length
+// - `each_bit`: an iterator over the bits of a range
+// - `finding`: the nearest 1 bit or 0 bit, found word by word
+// - `fragments`: reads and writes of fragments
+// - `masks`: numbers whose lowest bits are set, the number of binary digits, and division that rounds up
+// - `nearest`: the first 0 bit from a position on, and the last 1 bit or 0 bit up to a position
+// - `places`: iterators over the positions of 1 bits and of 0 bits
+// - `ranges`: counts and writes of ranges
+// - `reading`: reads of bits and numbers
+// - `successive`: calls that advance the position or index that they take
+// - `words`: the calls of `BitAccess` and `BitAccessMut`, as functions over slices
+// - `writing`: writes of bits and numbers
 mod bytes;
 mod closures;
 mod combining;

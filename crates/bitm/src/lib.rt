@@ -14,6 +14,15 @@
 //! which fact.
 #![tactic(auto)]
 
+// What is in each file:
+// - `counted`: a value whose ranks and selections are counted
+// - `index`: the index, `RankSelect101111`
+// - `index_laws`: laws of tables and words
+// - `near`: the first 0 bit from a position on, where it is near
+// - `queries`: the traits `Rank`, `Access`, `Select` and `Select0`
+// - `ranges`: counts in a range, nearest bits and selection from a position on, for any value with these traits
+// - `samples`: how samples are built and read elsewhere
+// - `simple`: rank by one number for each 512 bits, `RankSimple`
 mod counted;
 mod index;
 pub mod index_laws;

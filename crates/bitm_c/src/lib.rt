@@ -5,6 +5,32 @@
 //! `include/bitm.h` declares the exports for C and C++ and says what each one answers.
 #![tactic(auto)]
 
+// What is in each file:
+// - `answer`: how an export reports an answer
+// - `bits`: single bits and numbers in words
+// - `block`: a whole stored index, built in one call
+// - `bytes`: a few bits anywhere in bytes
+// - `copying`: copies and comparisons of ranges of bits
+// - `counts`: the number of codes in a list of answers
+// - `fragments`: arrays of numbers in words, and the size of a bit vector
+// - `hash`: perfect hashes
+// - `index`: building and checking tables
+// - `layout`: where each part of a file is
+// - `listed`: writes at a list of positions
+// - `numbers`: predecessors, membership and runs of numbers of a sequence
+// - `queries`: lists of queries, counts and positions of an index
+// - `ranges`: counts, nearest bits, positions and writes over ranges, without tables
+// - `ranks`: the rank of an index
+// - `sampled`: building and checking samples
+// - `selections`: the selection of an index, and nearest bits
+// - `sequence`: Elias-Fano sequences
+// - `sequence_lists`: lists of queries of a sequence
+// - `shards`: indexes over shards, queried as one
+// - `stored`: the header of a file
+// - `version`: the version
+// - `view`: the index that exports take
+// - `whole`: bitwise operations on two bit vectors
+// - `word`: selection in a word, and numbers of layouts
 mod answer;
 mod bits;
 mod block;

@@ -1,6 +1,15 @@
 //! The strategies by which an index selects: by binary search, and by samples. `bitm` hands on their names.
 #![tactic(auto)]
 
+// What is in each file:
+// - `binary`: selection by binary search in the tables
+// - `combined`: selection from samples: the strategy and what it owns
+// - `density`: how many items share a sample
+// - `optimal`: how densely to sample, for a share of items
+// - `sampled`: selection from samples over a source, with a bound on its reads
+// - `samples`: samples, built from the tables alone
+// - `traits`: what a strategy is
+// - `walking`: the walk from a sample to the entry of a rank
 mod binary;
 mod combined;
 mod density;

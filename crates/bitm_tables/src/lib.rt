@@ -3,6 +3,14 @@
 //! borrows them. So most functions accept any tables, and say what they answer where these are those of the words.
 #![tactic(auto)]
 
+// What is in each file:
+// - `answer`: the answer of a query over tables that may hold anything
+// - `entry`: one entry of the lower table
+// - `levels`: the sizes of the levels
+// - `quarters`: a third table, for ranks that read two words
+// - `ranking`: rank over a source
+// - `source`: sources that count their reads
+// - `tables`: how the tables are built
 pub mod answer;
 pub mod entry;
 pub mod levels;

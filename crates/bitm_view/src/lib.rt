@@ -18,6 +18,22 @@
 //! ```
 #![tactic(auto)]
 
+// What is in each file:
+// - `block`: words, tables and samples of an index, built in one call
+// - `checking`: whether tables are those of the words
+// - `clearing`: clearing words and bits
+// - `filling`: the two tables, written in one pass over the words
+// - `guessed`: the entry of a rank by interpolation between two samples
+// - `lent`: borrowed words and tables
+// - `lists`: lists of selections in all the words
+// - `places`: the positions of 1 bits
+// - `ranked`: rank over any tables
+// - `sample_checks`: whether samples are those of the tables
+// - `sampled`: selection from samples over any tables
+// - `sampled_many`: selections from samples, side by side
+// - `samples`: borrowed samples
+// - `sampling`: samples, written from the tables
+// - `view`: an index over borrowed memory, and its queries
 mod block;
 mod checking;
 mod clearing;

@@ -18,6 +18,14 @@
 //! ```
 #![tactic(auto)]
 
+// What is in each file:
+// - `bucket`: the successor of a value from the ends of its bucket
+// - `checking`: whether parts are those of a sequence
+// - `error`: why numbers were refused
+// - `filling`: the parts, written into the caller's memory
+// - `lists`: lists of queries
+// - `sequence`: a sequence whose parts are borrowed
+// - `sizes`: the lengths of the parts
 mod bucket;
 mod checking;
 mod error;

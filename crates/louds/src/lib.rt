@@ -14,6 +14,19 @@
 //! Jacobson, 'Space-efficient static trees and graphs' (FOCS 1989).
 #![tactic(auto)]
 
+// What is in each file:
+// - `checking`: which lists of degrees are trees
+// - `climbing`: ways up and down from nodes
+// - `counted`: the calls of a tree over any source, with a bound on their reads
+// - `error`: why degrees were refused
+// - `labelled`: a tree whose nodes have labels
+// - `labels`: numbers of one width, side by side
+// - `laws`: laws of the definitions
+// - `making`: the bits of a tree, built in one pass over the degrees
+// - `node`: nodes that carry their positions
+// - `parents`: a tree from the list of its nodes' parents
+// - `run`: the 1 bits of a node, one for each child
+// - `tree`: the type of a tree, and its queries
 mod checking;
 mod climbing;
 pub mod counted;

@@ -10,6 +10,19 @@
 //! ```
 #![tactic(auto)]
 
+// What is in each file:
+// - `asking`: the number of a hash over any source of words and tables
+// - `building`: how the levels are built
+// - `dictionary`: numbers with fingerprints, so that almost all values that are no keys have none
+// - `error`: why keys were refused
+// - `grouped`: a seed for each word of a level
+// - `hashing`: the traits of hashes that a user gives, and hashes that do
+// - `in_place`: levels built without an allocator
+// - `level`: one level: which bits exactly one hash falls on
+// - `many`: many look-ups, side by side
+// - `places`: where a hash falls in a level, and the size of a level
+// - `placing`: how hashes fall on bits: by themselves, or with a seed for each word
+// - `table`: the levels, and their queries
 mod asking;
 mod building;
 mod dictionary;

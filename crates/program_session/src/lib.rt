@@ -1,6 +1,13 @@
 //! Answers commands over a vector of bits, line by line: what the program `bitm_vectors` does, less its process.
 #![tactic(auto)]
 
+// What is in each file:
+// - `answer`: the answer to a line
+// - `command`: the commands
+// - `index`: an index over a copy of the vector
+// - `program`: the program without its process
+// - `session`: the vector and its index, and what a line does to them
+// - `text`: the words and numbers of a line
 mod answer;
 mod command;
 mod index;
