@@ -144,7 +144,7 @@ pub fn try_get_bits_unmasked(words: &[u64], begin: usize, len: u8) -> Option<u64
     if offset + len <= 64 {
         return Some(low);
     }
-    // Only a range that crosses the word's end asks for the next word.
+    // Only a range that crosses the end of the word reads the next word.
     if segment + 1 < words.len() {
         Some(low | (words[segment + 1] << (64 - offset)))
     } else {

@@ -8,7 +8,7 @@ use std::mem::size_of;
 
 /// How many bytes a value keeps on the heap.
 ///
-/// A borrowed slice keeps none, since its owner does. A value made of parts keeps the sum of what they keep, or
+/// A borrowed slice has none, since its owner has them. A value made of parts has the sum of what they have, or
 /// `usize::MAX` where that is less.
 // No body in the trait: one that answers 0 could not be proved against each type's own number of bytes.
 pub trait GetSize {

@@ -70,7 +70,7 @@ impl SelectForRank101111 for BinaryRankSearch {
         requires short { IsShort _content.now }
         requires tables { AreTablesOf (bits_of _content.now) _l1ranks.now _l2ranks.now }
         requires total { _total_rank ≡ ones_of (bits_of _content.now) }
-        // The clauses of one's own stand in place of the trait's, which is the second.
+        // These clauses replace that of the trait, which the second repeats.
         ensures succeeds { IsOk result }
         ensures supports { IfOk result (λ _. IsShort _content.now) }
     {
@@ -104,7 +104,7 @@ impl Select0ForRank101111 for BinaryRankSearch {
         requires short { IsShort _content.now }
         requires tables { AreTablesOf (bits_of _content.now) _l1ranks.now _l2ranks.now }
         requires total { _total_rank ≡ ones_of (bits_of _content.now) }
-        // The clauses of one's own stand in place of the trait's, which is the second.
+        // These clauses replace that of the trait, which the second repeats.
         ensures succeeds { IsOk result }
         ensures supports { IfOk result (λ _. IsShort _content.now) }
     {

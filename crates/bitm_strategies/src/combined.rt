@@ -31,7 +31,7 @@ pub struct CombinedSampling<D: CombinedSamplingDensity> {
     samples: BoxedSlice<u32, Global>,
     starts: BoxedSlice<usize, Global>,
     density: D::SamplingDensity,
-    // what the density stands for, so that a selection need not ask
+    // the logarithm that the density stands for, which a selection need not compute
     log2: u8,
 }
 

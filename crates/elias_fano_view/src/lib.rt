@@ -7,7 +7,7 @@
 //!
 //! ```
 //! let numbers = [2u64, 3, 5, 7, 11, 13, 24];
-//! let sizes = Sizes::of(7, 24);                       // Some(..): so many words and entries
+//! let sizes = Sizes::of(7, 24);                       // Some(..): the lengths of the parts
 //! let width = build(&numbers, &mut low, &mut words, &mut upper, &mut lower);    // Ok(1)
 //! let Some(lent) = Lent::over(&words, &upper, &lower) else { return };
 //! let Some(primes) = LentSequence::over(7, 1, &low, lent) else { return };

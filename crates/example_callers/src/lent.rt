@@ -1,4 +1,4 @@
-//! Tables that came with the words and may be wrong: tried, made anew where they are, and asked.
+//! Tables that came with the words and may be wrong: checked, built anew where they are, and queried.
 ghost use Rattle.std.specs.Prelude.{◌≡◌, ◌↔◌, true, false, IsNone, IsTrue};
 ghost use Rattle.bitm.specs.Bits.{bits_of};
 ghost use Rattle.bitm.specs.Count.{IsSelect};

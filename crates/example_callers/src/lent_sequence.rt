@@ -1,4 +1,4 @@
-//! The parts of a sequence that came from elsewhere and may be wrong: tried once, and asked.
+//! The parts of a sequence that came from elsewhere and may be wrong: checked once, and queried.
 ghost use Rattle.std.specs.Prelude.{◌≡◌, ◌<◌, ◌≤◌, ◌↔◌, ℕ, List, IfOk, IsErr, MatchOption};
 ghost use Rattle.std.specs.List.{All, Contains};
 ghost use Rattle.elias_fano_view.specs.LentParts.{AreParts, Holds};

@@ -1,4 +1,4 @@
-//! An index over a vector of its own: built, and asked for a rank and a selection.
+//! An index over its own vector: built, and queried by a rank and a selection.
 ghost use Rattle.std.specs.Prelude.{◌≡◌, ◌*◌, ◌<◌, true, length, replicate, IfOk};
 ghost use Rattle.std.specs.Box.{boxed_slice_items};
 ghost use Rattle.bitm.specs.Bits.{bits_of};

@@ -1,4 +1,4 @@
-//! Samples that lie beside right tables and may be stale: made into memory of one's own, and asked.
+//! Samples that lie beside right tables and may be stale: built in your own memory, and queried.
 ghost use Rattle.std.specs.Prelude.{◌≡◌, true};
 ghost use Rattle.bitm.specs.Count.{IsSelect};
 ghost use Rattle.bitm.specs.Tables.{HasTables, bits_in};

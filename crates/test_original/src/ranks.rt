@@ -63,7 +63,7 @@ pub fn ones<'a>(
     compare_totals(alloc, words, theirs, found)
 }
 
-/// The ones before each begun run of 512 bits.
+/// The number of 1 bits before each run of 512 bits, of which the last may be partial.
 fn table(alloc: Global, index: &RankSimple<&[u64]>) -> Result<Vec<u64>, AllocError>
     requires { IsShort index.now.now }
 {
@@ -74,7 +74,7 @@ fn table(alloc: Global, index: &RankSimple<&[u64]>) -> Result<Vec<u64>, AllocErr
     Ok(ranks)
 }
 
-/// The ones before each begun run of 512 bits of words, by a simple rank over them.
+/// The number of 1 bits before each run of 512 bits of words, by a simple rank over them.
 fn simple_table(alloc: Global, words: &[u64]) -> Result<Vec<u64>, Fault>
     requires { IsShort words.now }
 {
@@ -84,7 +84,7 @@ fn simple_table(alloc: Global, words: &[u64]) -> Result<Vec<u64>, Fault>
     }
 }
 
-/// Compares the ranks at each begun run of 512 bits.
+/// Compares the ranks at the start of each run of 512 bits.
 pub fn simple<'a>(
     alloc: Global,
     state: &State<'a>,

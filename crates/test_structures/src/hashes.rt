@@ -32,7 +32,7 @@ fn differ<P: Placing>(numbers: &Numbers<P>, keys: &[u64], seen: &mut [bool]) -> 
     true
 }
 
-/// Whether the keys have the same numbers asked at once, into as many entries.
+/// Whether one call for all keys answers the same numbers, into as many entries.
 fn many_agree<P: Placing>(numbers: &Numbers<P>, keys: &[u64], many: &mut [usize]) -> bool {
     if many.len() != keys.len() {
         return false;
@@ -45,7 +45,7 @@ fn many_agree<P: Placing>(numbers: &Numbers<P>, keys: &[u64], many: &mut [usize]
     agrees
 }
 
-/// Whether the keys have numbers of their own, asked one by one and at once.
+/// Whether each key has its own number, by single calls and by one call for all.
 fn agree<P: Placing>(
     alloc: Global,
     numbers: &Numbers<P>,

@@ -201,7 +201,7 @@ fn is_as_worked_out(rt: &impl Abort, matrix: &BinaryWaveletMatrix) {
     assert!(rt; (distinct.next(), distinct.next()) == (Some((1, 2)), Some((4, 1))));
 }
 
-/// Stops where its ranks, asked at once, are others than worked out.
+/// Stops where its ranks, by one call for all, are not those worked out by hand.
 fn many_are_as_worked_out(rt: &impl Abort, matrix: &BinaryWaveletMatrix) {
     let mut ranks = [9usize; 3];
     assert!(rt; matrix.len() == 6);

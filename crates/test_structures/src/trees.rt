@@ -129,7 +129,7 @@ fn trees_of(alloc: Global, len: usize) -> Option<u32> {
 
 #[test]
 fn all_trees_of_up_to_seven_nodes_agree_with_the_definition(rt: HostRuntime) {
-    // as many as ordered trees of so many nodes, the Catalan numbers; a list of none is no tree
+    // as many as ordered trees of that many nodes, the Catalan numbers; an empty list is no tree
     let known = [0u32, 1, 1, 2, 5, 14, 42, 132];
     for (len, known) in known.iter().enumerate() {
         assert!(rt; trees_of(rt.alloc(), len) == Some(*known));

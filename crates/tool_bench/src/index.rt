@@ -110,7 +110,7 @@ pub(crate) fn add_rows<'a, S: SelectForRank101111 + GetSize, S0: Select0ForRank1
     };
     bench.add_since(begun, Label("build_a_word", by), content.len());
     add_calls(bench, by, &index, asked);
-    // No strategy is asked for many at once.
+    // Calls for many queries at once use no strategy.
     if by == "binary" {
         add_many(bench, &index, asked)?;
     }

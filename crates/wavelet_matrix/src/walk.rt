@@ -129,7 +129,7 @@ impl Levels {
         ensures as_it_was { IfErr result (λ _. self.new ≡ self.old) }
     {
         let count = 1 << known;
-        // Of no digits there is one number, and then no digit of it is asked for.
+        // There is one number without bits, and none of its bits is read.
         let rest = (self.width() - known) % 64;
         let mut starts = Vec::with_capacity(alloc, count)?;
         for begin in 0..count {
