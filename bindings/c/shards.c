@@ -2,7 +2,7 @@
  * lengths, and prefix counts that were spoilt: an answer is inside, or there is none. */
 #include "common.h"
 
-enum { MOST_SHARDS = 6, MOST_WORDS = 40 };
+enum { MOST_SHARDS = 6, MOST_WORDS = 40, MOST_QUERIES = MOST_SHARDS * MOST_WORDS * 64 + 3 };
 
 static uint64_t words[MOST_SHARDS][MOST_WORDS], upper[MOST_SHARDS][1], lower[MOST_SHARDS][2];
 static uint64_t bits_of[MOST_SHARDS], ones_of[MOST_SHARDS], bits[MOST_SHARDS + 1], ones[MOST_SHARDS + 1];
@@ -52,12 +52,56 @@ static void compare_place(const struct bitm_shards *shards, uint32_t kind, uint6
     MUST(status == BITM_NONE && at.shard == UNTOUCHED && at.within == UNTOUCHED);
 }
 
+/* The nearest bit on either side of a position, by going over the joined bits. */
+static void compare_near(const struct bitm_shards *shards, int one, uint64_t from)
+{
+    uint64_t next = from, before = from < joined_len ? from + 1 : joined_len, got = UNTOUCHED;
+    while (next < joined_len && joined[next] != one) next++;
+    while (before > 0 && joined[before - 1] != one) before--;
+    MUST(bitm_shards_next(shards, one, from, &got) == (next < joined_len ? BITM_OK : BITM_NONE));
+    MUST(got == (next < joined_len ? next : UNTOUCHED));
+    got = UNTOUCHED;
+    MUST(bitm_shards_previous(shards, one, from, &got) == (before ? BITM_OK : BITM_NONE));
+    MUST(got == (before ? before - 1 : UNTOUCHED));
+}
+
+/* Lists of positions and ranks, of some past the end too, in groups by shard or each by itself. */
+static void compare_lists(const struct bitm_shards *shards, size_t room_len)
+{
+    static uint64_t queries[MOST_QUERIES], out[MOST_QUERIES], room[3 * MOST_QUERIES + MOST_SHARDS + 1];
+    struct bitm_list_counts counts = {UNTOUCHED, UNTOUCHED};
+    const size_t len = joined_len + 3;
+    for (size_t i = 0; i < len; i++)
+        queries[i] = i * 911 % len; /* in a mixed order */
+    queries[0] = UINT64_MAX;
+    for (int one = 0; one < 2; one++) {
+        uint64_t missing = 0, want;
+        MUST(bitm_shards_rank_list(shards, one, queries, len, out, len, room, room_len, &counts) == BITM_OK);
+        for (size_t i = 0; i < len; i++) {
+            const uint32_t status = bitm_shards_rank(shards, one, queries[i], &want);
+            MUST(status == BITM_OK ? out[i] == want : status == BITM_NONE && out[i] == BITM_NO_ANSWER);
+            missing += status == BITM_NONE;
+        }
+        MUST(counts.missing == missing && counts.wrong == 0);
+        missing = 0;
+        MUST(bitm_shards_select_list(shards, one, queries, len, out, len, room, room_len, &counts) == BITM_OK);
+        for (size_t i = 0; i < len; i++) {
+            const uint32_t status = bitm_shards_select(shards, one, queries[i], &want);
+            MUST(status == BITM_OK ? out[i] == want : status == BITM_NONE && out[i] == BITM_NO_ANSWER);
+            missing += status == BITM_NONE;
+        }
+        MUST(counts.missing == missing && counts.wrong == 0);
+    }
+}
+
 static void compare_all(const struct bitm_shards *shards)
 {
     uint64_t count[2] = {0, 0}, got;
     for (uint64_t i = 0; i <= joined_len; i++) {
-        for (int one = 0; one < 2; one++)
+        for (int one = 0; one < 2; one++) {
             MUST(bitm_shards_rank(shards, one, i, &got) == BITM_OK && got == count[one]);
+            compare_near(shards, one, i);
+        }
         compare_place(shards, BITM_POSITIONS, i);
         if (i == joined_len) break;
         const int bit = joined[i];
@@ -71,8 +115,23 @@ static void compare_all(const struct bitm_shards *shards)
         MUST(bitm_shards_select(shards, one, count[one], &got) == BITM_NONE);
         MUST(bitm_shards_select(shards, one, UINT64_MAX, &got) == BITM_NONE);
         compare_place(shards, one ? BITM_ONES : BITM_ZEROS, count[one]);
+        compare_near(shards, one, joined_len + 1);
+        compare_near(shards, one, UINT64_MAX);
     }
     MUST(got == UNTOUCHED);
+    compare_lists(shards, 3 * (joined_len + 3) + shards->shards_len + 1);
+    compare_lists(shards, 3 * (joined_len + 3) + shards->shards_len);
+    compare_lists(shards, 0);
+}
+
+static void wrong_list(const struct bitm_shards *shards, size_t out_len)
+{
+    const uint64_t query = 0;
+    uint64_t out[2] = {UNTOUCHED, UNTOUCHED};
+    struct bitm_list_counts counts = {UNTOUCHED, UNTOUCHED};
+    MUST(bitm_shards_rank_list(shards, true, &query, 1, out, out_len, NULL, 0, &counts) == BITM_BAD_SIZE);
+    MUST(bitm_shards_select_list(shards, false, &query, 1, out, out_len, NULL, 0, &counts) == BITM_BAD_SIZE);
+    MUST(out[0] == UNTOUCHED && out[1] == UNTOUCHED && counts.missing == UNTOUCHED && counts.wrong == UNTOUCHED);
 }
 
 static void wrong_lengths(struct bitm_shards shards)
@@ -84,7 +143,14 @@ static void wrong_lengths(struct bitm_shards shards)
     shards.shards_len++;
     MUST(bitm_shards_rank(&shards, true, 0, &got) == BITM_BAD_SIZE);
     MUST(bitm_shards_select(&shards, false, 0, &got) == BITM_BAD_SIZE);
+    MUST(bitm_shards_next(&shards, true, 0, &got) == BITM_BAD_SIZE);
+    MUST(bitm_shards_previous(&shards, false, 0, &got) == BITM_BAD_SIZE);
+    wrong_list(&shards, 1);
     shards.shards_len--;
+    wrong_list(&shards, 2);
+    bits[shards.shards_len] = UINT64_MAX - 1; /* a rank of all bits might be a code */
+    wrong_list(&shards, 1);
+    bits[shards.shards_len] = joined_len;
     shards.counts.ones_len--;
     MUST(bitm_shards_rank(&shards, true, 0, &got) == BITM_BAD_SIZE);
     MUST(bitm_shards_find(&shards.counts, BITM_ONES, 0, &at) == BITM_BAD_SIZE);
@@ -92,6 +158,27 @@ static void wrong_lengths(struct bitm_shards shards)
     MUST(bitm_shards_select(&shards, true, 0, &got) == BITM_BAD_SIZE);
     MUST(bitm_shards_find(&shards.counts, BITM_POSITIONS, 0, &at) == BITM_BAD_SIZE);
     MUST(got == UNTOUCHED && at.shard == UNTOUCHED && at.within == UNTOUCHED);
+}
+
+/* Of a list over spoilt counts: the answer of the single call, or another that is inside. */
+static void spoilt_lists(const struct bitm_shards *shards, int one)
+{
+    uint64_t queries[40], out[40], room[3 * 40 + MOST_SHARDS + 1];
+    struct bitm_list_counts counts;
+    const uint64_t claimed = bits[shards->shards_len];
+    for (int i = 0; i < 40; i++)
+        queries[i] = draw() % 3 ? draw() % (joined_len + 2) : draw();
+    if (bitm_shards_rank_list(shards, one, queries, 40, out, 40, room, sizeof room / 8, &counts) == BITM_OK)
+        for (int i = 0; i < 40; i++)
+            MUST(out[i] < BITM_WRONG_TABLES ? queries[i] <= claimed && out[i] <= queries[i]
+                                            : (out[i] == BITM_NO_ANSWER) == (queries[i] > claimed));
+    else
+        MUST(claimed >= BITM_WRONG_TABLES);
+    if (bitm_shards_select_list(shards, one, queries, 40, out, 40, room, sizeof room / 8, &counts) == BITM_OK)
+        for (int i = 0; i < 40; i++)
+            MUST(out[i] >= BITM_WRONG_TABLES || out[i] < claimed);
+    else
+        MUST(claimed >= BITM_WRONG_TABLES);
 }
 
 /* Prefix counts of which one is any number: answers are inside, and a position that is found has the bit in a shard. */
@@ -112,6 +199,11 @@ static void spoilt(const struct bitm_shards *shards)
             MUST(got < claimed && in > 0);
         } else
             MUST(selected == BITM_NONE || selected == BITM_WRONG);
+        const uint32_t next = bitm_shards_next(shards, one, number, &got);
+        MUST(next == BITM_OK ? number <= got && got < claimed : next == BITM_NONE || next == BITM_WRONG);
+        const uint32_t previous = bitm_shards_previous(shards, one, number, &got);
+        MUST(previous == BITM_OK ? got <= number && got < claimed : previous == BITM_NONE || previous == BITM_WRONG);
+        spoilt_lists(shards, one);
         list[at] = was;
     }
 }

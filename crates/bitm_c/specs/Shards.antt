@@ -1,9 +1,10 @@
 -- What the exported calls answer of bits in shards: which shard holds a position or a rank, and of the joined bits.
-use Rattle.std.specs.Prelude.{◌≡◌, ℕ, ◌+◌, ◌-◌, ◌<◌, Bool, List, Option, Some, None, All, length, map, zero, suc}
+use Rattle.std.specs.Prelude.{◌≡◌, ℕ, ◌+◌, ◌-◌, ◌^◌, ◌<◌, Bool, List, Option, Some, None, All, length, map, zero, suc}
 use Rattle.bitm.specs.Answer.{Answer}
 use Rattle.bitm.specs.Answer.TheVariants.{Found, Absent, Wrong}
-use Rattle.bitm_view.specs.Answers.{IsSelected}
+use Rattle.bitm_view.specs.Answers.{IsFoundFrom, IsSelected}
 use Rattle.bitm_view.specs.Cut.{bits_of_cut, IsSizedCut}
+use Rattle.bitm_view.specs.Queries.{IsNext, IsPrevious}
 use Rattle.bitm_view.specs.Ranks.{IsCountWithin, IsRanked}
 use Rattle.bitm_view.specs.Tables.{HasTables}
 use Rattle.bitm_c.specs.Queries.{cut_of}
@@ -70,6 +71,23 @@ pub record SelectsJoined (v : Bool) (shards : Shards) (rank : ℕ) (answer : Ans
   pub bit : IfFoundHasBit v (shard_bits shards) (counts_in shards.counts) answer
   pub absent : IsOfRank (claimed_in_all (kind_of v) (counts_in shards.counts)) rank answer
   pub counts : AreRightShards shards → IsSelected (joined (shard_bits shards)) v rank answer
+
+-- of the next bit from a position on, and of the previous one up to it: a position is there and has the bit in a shard, over
+-- any prefix counts and tables; where they are right it is the nearest one
+pub record NextJoined (v : Bool) (shards : Shards) (position : ℕ) (answer : Answer ℕ) : Type 0 where
+  pub bit : IfFoundHasBit v (shard_bits shards) (counts_in shards.counts) answer
+  pub from : IsFoundFrom position (claimed_in_all Positions (counts_in shards.counts)) answer
+  pub counts : AreRightShards shards → IsNext (joined (shard_bits shards)) v position answer
+
+pub record PreviousJoined (v : Bool) (shards : Shards) (position : ℕ) (answer : Answer ℕ) : Type 0 where
+  pub bit : IfFoundHasBit v (shard_bits shards) (counts_in shards.counts) answer
+  pub to : IsFoundFrom 0 (position + 1) answer
+  pub counts : AreRightShards shards → IsPrevious (joined (shard_bits shards)) v position answer
+
+-- the prefix counts claim fewer than 2^64 - 2 bits, so that no rank and no position is a code
+pub record HasTellableShards (shards : Shards) : Type 0 where
+  pub has : HasShards shards
+  pub few : claimed_in_all Positions (counts_in shards.counts) < 2 ^ 64 - 2
 
 -- of the shard that holds a number: what the prefix counts claim; where they are those of some bits, it is so
 pub record FindsShard (of : Kind) (counts : Counts) (number : ℕ) (answer : Answer Place) : Type 0 where

@@ -50,6 +50,7 @@ mod sampled;
 mod selections;
 mod sequence;
 mod sequence_lists;
+mod shard_lists;
 mod shards;
 mod stored;
 mod version;

@@ -3,7 +3,9 @@ use Rattle.std.specs.Prelude.{◌≡◌, ⊤, ℕ, ◌+◌, ◌<◌, ◌≤◌, 
 use Rattle.bit_lists.specs.Bits.{item}
 use Rattle.bitm_tables.specs.declared.answer.Answer.{Answer}
 use Rattle.bitm_tables.specs.declared.answer.Answer.TheVariants.{Found, Absent, Wrong}
-use Rattle.sharded_index.specs.Joined.{shard_at}
+use Rattle.bitm_select.specs.Answers.{IsSelected}
+use Rattle.bitm_view.specs.Ranks.{IsCountWithin, IsRanked}
+use Rattle.sharded_index.specs.Joined.{joined, kind_of, shard_at}
 use Rattle.sharded_index.specs.Prefixes.{claimed, claimed_in_all, Prefixes}
 use Rattle.sharded_index.specs.declared.counts.Kind.TheVariants.{Positions}
 
@@ -27,3 +29,27 @@ abbrev pub IsOfRank : ℕ → ℕ → Answer ℕ → Type 0
 IsOfRank total rank (Found p) = rank < total
 IsOfRank total rank Absent = total ≤ rank
 IsOfRank total rank Wrong = rank < total
+
+-- of a rank of joined bits: whatever the counts and tables hold, a count is at most the index; where they are right, the
+-- answer is counting
+pub record IsJoinedRank (bs : List (List Bool)) (c : Prefixes) (right : Type 0) (v : Bool) (index : ℕ) (answer : Answer ℕ) : Type 0 where
+  pub within : IsCountWithin (claimed_in_all Positions c) index answer
+  pub counts : right → IsRanked (joined bs) v index answer
+
+-- of a selection, likewise: a position has the bit in some shard
+pub record IsJoinedSelection (bs : List (List Bool)) (c : Prefixes) (right : Type 0) (v : Bool) (rank : ℕ) (answer : Answer ℕ) : Type 0 where
+  pub bit : IfFoundHasBit v bs c answer
+  pub absent : IsOfRank (claimed_in_all (kind_of v) c) rank answer
+  pub counts : right → IsSelected (joined bs) v rank answer
+
+-- a position that is found is answered where it is not before place i, and else Wrong
+abbrev pub IsKeptFrom : ℕ → Answer ℕ → Answer ℕ → Type 0
+IsKeptFrom i (Found p) answer = (i ≤ p → answer ≡ Found p) × (p < i → answer ≡ Wrong)
+IsKeptFrom i Absent answer = answer ≡ Absent
+IsKeptFrom i Wrong answer = answer ≡ Wrong
+
+-- or where it is before place j; where none is found, Wrong
+abbrev pub IsKeptBefore : ℕ → Answer ℕ → Answer ℕ → Type 0
+IsKeptBefore j (Found p) answer = (p < j → answer ≡ Found p) × (j ≤ p → answer ≡ Wrong)
+IsKeptBefore j Absent answer = answer ≡ Wrong
+IsKeptBefore j Wrong answer = answer ≡ Wrong

@@ -1,8 +1,8 @@
 //! How many bits, and how many 1 bits, there are before each shard, and which shard holds a position or a rank.
-ghost use Rattle.std.specs.Prelude.{◌≡◌, ◌-◌, ◌<◌, ◌≤◌, ℕ, Bool, List, SomeIff, length};
+ghost use Rattle.std.specs.Prelude.{◌≡◌, ◌-◌, ◌<◌, ◌≤◌, ◌↔◌, ℕ, Bool, IsTrue, List, SomeIff, length};
 ghost use Rattle.sharded_index.specs.Joined.{joined, joined_to, number_of};
 ghost use Rattle.sharded_index.specs.Prefixes.{claimed, claimed_in_all, prefixes_of, shard_count};
-ghost use Rattle.sharded_index.specs.Prefixes.{ArePrefixes, HasLengths, IsClaimedBy, IsPlaced};
+ghost use Rattle.sharded_index.specs.Prefixes.{ArePrefixes, HasLengths, IsClaimed, IsClaimedBy, IsPlaced};
 ghost use Rattle.bitm_select.specs.Search.{IsLast};
 
 use bitm_view::Answer;
@@ -153,5 +153,19 @@ impl<'a> PrefixCounts<'a> {
             shard,
             within: number - self.before(of, shard),
         })
+    }
+    /// Whether the numbers claim that a number is at a place.
+    #[inline(always)]
+    pub fn has(&self, of: Kind, number: usize, place: Place) -> bool
+        ensures { IsTrue result ↔ IsClaimed of self.now number place × (number < claimed_in_all of self.now) }
+    {
+        if place.shard >= self.shards() {
+            return false;
+        }
+        let before = self.before(of, place.shard);
+        before <= number
+            && number - before == place.within
+            && number < self.before(of, place.shard + 1)
+            && number < self.total(of)
     }
 }

@@ -1,6 +1,7 @@
 //! What a shard is: bits that are ranked and selected.
-ghost use Rattle.std.specs.Prelude.{Bool, List};
+ghost use Rattle.std.specs.Prelude.{◌≡◌, ◌<◌, ℕ, Bool, List, length, slice_index};
 ghost use Rattle.bitm_select.specs.Answers.{HasBit, IsSelected};
+ghost use Rattle.bitm_view.specs.Queries.{ranked_by, selected_by};
 ghost use Rattle.bitm_view.specs.Ranks.{IsRanked};
 
 use bitm_view::{Answer, IndexView};
@@ -20,6 +21,22 @@ pub trait Shard {
     fn select(&self, one: bool, rank: usize) -> Answer<usize>
         ensures bit { HasBit (bits self.now) one result }
         ensures counts { right self.now → IsSelected (bits self.now) one rank result };
+
+    /// Writes the rank of each position, by the codes of lists.
+    fn rank_list(&self, one: bool, positions: &[usize], out: &mut [usize])
+        requires { length out.old ≡ length positions.now }
+        ensures len { length out.new ≡ length positions.now }
+        ensures counts { right self.now → (j : ℕ) → j < length positions.now → IsRanked
+            (bits self.now) one (slice_index positions.now j) (ranked_by (slice_index out.new j)) };
+
+    /// Writes the position of the bit with each rank, by the codes of lists.
+    fn select_list(&self, one: bool, ranks: &[usize], out: &mut [usize])
+        requires { length out.old ≡ length ranks.now }
+        ensures len { length out.new ≡ length ranks.now }
+        ensures bits { (j : ℕ) → j < length ranks.now → HasBit (bits self.now) one
+            (selected_by (slice_index out.new j)) }
+        ensures counts { right self.now → (j : ℕ) → j < length ranks.now → IsSelected
+            (bits self.now) one (slice_index ranks.now j) (selected_by (slice_index out.new j)) };
 }
 
 impl<'a> Shard for IndexView<'a> {
@@ -40,5 +57,21 @@ impl<'a> Shard for IndexView<'a> {
         } else {
             self.select::<0>(rank)
         }
+    }
+
+    fn rank_list(&self, one: bool, positions: &[usize], out: &mut [usize]) {
+        let _done = if one {
+            self.rank_each::<1>(positions, out)
+        } else {
+            self.rank_each::<0>(positions, out)
+        };
+    }
+
+    fn select_list(&self, one: bool, ranks: &[usize], out: &mut [usize]) {
+        let _done = if one {
+            self.select_each::<1>(ranks, out)
+        } else {
+            self.select_each::<0>(ranks, out)
+        };
     }
 }

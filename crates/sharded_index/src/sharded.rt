@@ -1,11 +1,13 @@
 //! Several indexes asked as one.
 ghost use Rattle.std.specs.Prelude.{◌≡◌, ◌+◌, ◌<◌, ◌≤◌, Bool, List, MatchOption, length, map};
-ghost use Rattle.bitm_select.specs.Answers.{IsSelected};
+ghost use Rattle.bit_lists.specs.Count.{count_before, Picks};
+ghost use Rattle.bitm_select.specs.Answers.{HasBit, IsSelected};
 ghost use Rattle.bitm_view.specs.Ranks.{IsCountWithin, IsRanked};
-ghost use Rattle.sharded_index.specs.Joined.{joined, kind_of};
+ghost use Rattle.sharded_index.specs.Joined.{joined, kind_of, shard_at};
 ghost use Rattle.sharded_index.specs.Prefixes.{claimed_in_all, IsClaimed};
 ghost use Rattle.sharded_index.specs.Shards.{IfFoundHasBit, IsOfRank};
 ghost use Rattle.bitm_tables.specs.declared.answer.Answer.{Answer};
+ghost use Rattle.bitm_tables.specs.declared.answer.Answer.TheVariants.{Found};
 ghost use Rattle.sharded_index.specs.declared.counts.Kind.TheVariants.{Positions};
 
 use crate::counts::{Kind, Place, PrefixCounts};
@@ -24,7 +26,7 @@ pub struct ShardedIndex<'a, S> {
 
 /// The kind of number by which 1 bits, or 0 bits, are ranked.
 #[inline(always)]
-fn rank_kind(one: bool) -> Kind
+pub(crate) fn rank_kind(one: bool) -> Kind
     ensures { result ≡ kind_of one }
 {
     if one { Kind::Ones } else { Kind::Zeros }
@@ -99,12 +101,32 @@ impl<'a, S: Shard> ShardedIndex<'a, S> {
         ensures counts { AreShards S.bits S.right self.now
             → IsRanked (joined (map S.bits self.now.shards.now)) one index result }
     {
-        let before = self.counts.before(rank_kind(one), place.shard);
         match self.shards[place.shard].rank(one, place.within) {
-            Answer::Found(rank) => at_most(before.checked_add(rank), index),
+            Answer::Found(rank) => self.rank_from(one, place, index, rank),
             Answer::Absent => Answer::Wrong,
             Answer::Wrong => Answer::Wrong,
         }
+    }
+
+    /// The rank of a position that lies in a shard, of which the rank there is known.
+    #[inline(always)]
+    pub(crate) fn rank_from(
+        &self,
+        one: bool,
+        place: Place,
+        index: usize,
+        rank: usize,
+    ) -> Answer<usize>
+        requires claimed { IsClaimed Positions self.now.counts index place }
+        requires inside { index < claimed_in_all Positions self.now.counts }
+        requires ranked { AreShards S.bits S.right self.now → rank
+            ≡ count_before (shard_at (map S.bits self.now.shards.now) place.shard) one place.within }
+        ensures within { IsCountWithin (claimed_in_all Positions self.now.counts) index result }
+        ensures counts { AreShards S.bits S.right self.now
+            → IsRanked (joined (map S.bits self.now.shards.now)) one index result }
+    {
+        let before = self.counts.before(rank_kind(one), place.shard);
+        at_most(before.checked_add(rank), index)
     }
 
     /// The position of the 1 bit, or 0 bit, with rank `rank`.
@@ -137,16 +159,37 @@ impl<'a, S: Shard> ShardedIndex<'a, S> {
         ensures counts { AreShards S.bits S.right self.now
             → IsSelected (joined (map S.bits self.now.shards.now)) one rank result }
     {
-        let before = self.counts.before(Kind::Positions, place.shard);
         match self.shards[place.shard].select(one, place.within) {
-            Answer::Found(position) => {
-                below(
-                    before.checked_add(position),
-                    self.counts.total(Kind::Positions),
-                )
-            }
+            Answer::Found(position) => self.select_from(one, place, rank, position),
             Answer::Absent => Answer::Wrong,
             Answer::Wrong => Answer::Wrong,
         }
+    }
+
+    /// The position of the bit with a rank that lies in a shard, of which the position there is known.
+    #[inline(always)]
+    pub(crate) fn select_from(
+        &self,
+        one: bool,
+        place: Place,
+        rank: usize,
+        position: usize,
+    ) -> Answer<usize>
+        requires claimed { IsClaimed (kind_of one) self.now.counts rank place }
+        requires inside { rank < claimed_in_all (kind_of one) self.now.counts }
+        requires bit { HasBit (shard_at (map S.bits self.now.shards.now) place.shard) one
+            (Found position) }
+        requires picked { AreShards S.bits S.right self.now → Picks
+            (shard_at (map S.bits self.now.shards.now) place.shard) one place.within position }
+        ensures bit { IfFoundHasBit one (map S.bits self.now.shards.now) self.now.counts result }
+        ensures absent { IsOfRank (claimed_in_all (kind_of one) self.now.counts) rank result }
+        ensures counts { AreShards S.bits S.right self.now
+            → IsSelected (joined (map S.bits self.now.shards.now)) one rank result }
+    {
+        let before = self.counts.before(Kind::Positions, place.shard);
+        below(
+            before.checked_add(position),
+            self.counts.total(Kind::Positions),
+        )
     }
 }

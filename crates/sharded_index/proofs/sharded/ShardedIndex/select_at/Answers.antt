@@ -1,32 +1,11 @@
 -- The position in a shard, and the bits before it.
-use Rattle.std.proofs.Common.{◌≡◌, ◌+◌, ◌^◌, ◌<◌, ℕ, Bool, List, [], length, get_or, map, sym, ap, ◌∙◌, subst, arith}
-use Rattle.std.specs.Option.{SomeIff}
+use Rattle.std.proofs.Common.{◌≡◌, ◌<◌, Bool, List, [], length, get_or, map, ap, arith}
 use Rattle.std.proofs.lemmas.List.{get_or-map}
 use Rattle.std.proofs.lemmas.List.Elements.{All-get_or}
-use Rattle.bit_lists.specs.Count.{count_of, Picks}
-use Rattle.sharded_index.specs.Joined.{joined, shard_at}
-use Rattle.sharded_index.specs.declared.counts.Kind.TheVariants.{Positions}
-use Rattle.sharded_index.proofs.PlaceLemmas.{claimed_all}
-use Rattle.sharded_index.proofs.ShardedLemmas.{is_there, picked_is, selected}
+use Rattle.bit_lists.specs.Count.{count_of}
+use Rattle.sharded_index.specs.Joined.{shard_at}
+use Rattle.sharded_index.proofs.ShardedLemmas.{is_there}
 use Rattle.sharded_index.proofs.sharded.ShardedIndex.select_at.Goals as goal
-
-pub returns-in-Found-clause-counts : goal.returns-in-Found-clause-counts
-returns-in-Found-clause-counts g c = λ a.
-    let B = g.S.Shard.bits in
-    let index = c.args.self.now in
-    let bs = map B index.shards.now in
-    let k = c.args.place.shard in
-    let l : k < length index.shards.now = omega (arith, c.requires.claimed.inside, index.as_many) in
-    let s = c.index-self-place.result in
-    let at : shard_at bs k ≡ B (get_or index.shards.now k s) = get_or-map B index.shards.now k s [] l in
-    let right = All-get_or g.S.Shard.right index.shards.now k s l a.tables in
-    let v = c.args.one in
-    let q = c.in-Found.position in
-    let here = subst (λ (b : List Bool). Picks b v c.args.place.within q) (sym at) (c.in-Found.ensures.counts right) in
-    let picked = picked_is bs index.counts a.prefixes v c.args.place c.args.rank c.requires.claimed q here in
-    let sum = subst (λ (n : ℕ). SomeIff c.checked_add.result (n + q < 2 ^ 64) (n + q)) c.before-before.ensures.claimed c.checked_add.ensures in
-    selected (joined bs) v c.args.rank _ c.total.result c.checked_add.result c.below.result picked
-    (c.total.ensures.claimed ∙ claimed_all bs index.counts a.prefixes Positions) sum (omega arith) c.below.ensures
 
 pub returns-in-Absent-clause-counts : goal.returns-in-Absent-clause-counts
 returns-in-Absent-clause-counts g c = λ a.

@@ -1,0 +1,62 @@
+//! Lists of ranks and selections of bits in shards.
+ghost use Rattle.std.specs.Prelude.{◌≡◌, ◌≢◌, ◌<◌, ◌↔◌, ℕ, length, slice_index};
+ghost use Rattle.bitm_view.specs.Queries.{ranked_by, selected_by};
+ghost use Rattle.bitm_c.specs.Lists.{AreCounted};
+ghost use Rattle.bitm_c.specs.Shards.{HasTellableShards, RanksJoined, SelectsJoined};
+
+use crate::answer::{BAD_SIZE, OK};
+use crate::counts::{ListCounts, codes_in};
+use crate::shards::Shards;
+
+/// The ranks of a list of positions of the joined bits, and how many of these are codes.
+#[unsafe(no_mangle)]
+pub extern "C" fn bitm_shards_rank_list(
+    shards: &Shards<'_>,
+    one: bool,
+    positions: &[usize],
+    out: &mut [usize],
+    room: &mut [usize],
+    counts: &mut ListCounts,
+) -> u32
+    ensures ok { (result ≡ 0) ↔ HasTellableShards shards.now
+        × (length out.old ≡ length positions.now) }
+    ensures kept { result ≢ 0 → (result ≡ 2) × (out.new ≡ out.old) × (counts.new ≡ counts.old) }
+    ensures ranks { result ≡ 0 → (j : ℕ) → j < length positions.now → RanksJoined one shards.now
+        (slice_index positions.now j) (ranked_by (slice_index out.new j)) }
+    ensures counts { result ≡ 0 → AreCounted out.new counts.new }
+{
+    let Some(index) = shards.index() else {
+        return BAD_SIZE;
+    };
+    if !index.rank_list(one, positions, &mut *out, room) {
+        return BAD_SIZE;
+    }
+    *counts = codes_in(&*out);
+    OK
+}
+
+/// The positions, in the joined bits, of the bits with a list of ranks, and how many of these are codes.
+#[unsafe(no_mangle)]
+pub extern "C" fn bitm_shards_select_list(
+    shards: &Shards<'_>,
+    one: bool,
+    ranks: &[usize],
+    out: &mut [usize],
+    room: &mut [usize],
+    counts: &mut ListCounts,
+) -> u32
+    ensures ok { (result ≡ 0) ↔ HasTellableShards shards.now × (length out.old ≡ length ranks.now) }
+    ensures kept { result ≢ 0 → (result ≡ 2) × (out.new ≡ out.old) × (counts.new ≡ counts.old) }
+    ensures selects { result ≡ 0 → (j : ℕ) → j < length ranks.now → SelectsJoined one shards.now
+        (slice_index ranks.now j) (selected_by (slice_index out.new j)) }
+    ensures counts { result ≡ 0 → AreCounted out.new counts.new }
+{
+    let Some(index) = shards.index() else {
+        return BAD_SIZE;
+    };
+    if !index.select_list(one, ranks, &mut *out, room) {
+        return BAD_SIZE;
+    }
+    *counts = codes_in(&*out);
+    OK
+}

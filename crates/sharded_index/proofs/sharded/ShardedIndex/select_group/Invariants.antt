@@ -1,0 +1,10 @@
+use Rattle.std.proofs.Common.{◌≡◌, ℕ, ◌<◌, length, slice_index}
+use Rattle.sharded_index.specs.Sharded.{SelectedIn, IfNoCode}
+use Rattle.sharded_index.proofs.sharded.ShardedIndex.select_group.Given as goal
+
+-- what is written is right, or a code
+abbrev pub invariant-loop-at : goal.invariant-loop-at
+invariant-loop-at g l = record {
+  long : length l.out ≡ length l.ranks;
+  told : (j : ℕ) → j < length l.ranks → IfNoCode (SelectedIn g.S.Shard.bits g.S.Shard.right l.self l.one (slice_index l.ranks j)) (slice_index l.out j);
+}
