@@ -1,4 +1,5 @@
 //! Makes a given number of queries of one kind over 2^16 random bits: `./instructions` counts the instructions of each.
+//! Rows "in plain Rust" are what the original is documented to do with a bit, by the operators of `u64` on a slice.
 use bitm_proved::{
     words, ArrayWithRank101111, BitAccess, CombinedSampling, EliasFano, Index, PerfectHash, Queries, Rank,
     RankSelect101111, Select,
@@ -49,9 +50,14 @@ fn main() {
         "Index::select" => queries(n, |at| index.select(at % BITS % ones)),
         "Index::next_one" => queries(n, |at| index.next_one(at % BITS).unwrap_or(0)),
         "get_bit" => queries(n, |at| usize::from(bits.get_bit(at % BITS))),
+        "get_bit, in plain Rust" => queries(n, |at| (bits[at % BITS / 64] >> (at % 64) & 1) as usize),
         "words::get" => queries(n, |at| usize::from(words::get(&bits, BITS, at % BITS) == Some(true))),
         "set_bit" => queries(n, |at| {
             bits.set_bit(at % BITS);
+            0
+        }),
+        "set_bit, in plain Rust" => queries(n, |at| {
+            bits[at % BITS / 64] |= 1 << (at % 64);
             0
         }),
         "get_bits 13" => queries(n, |at| bits.get_bits(at % (BITS - 16), 13) as usize),
