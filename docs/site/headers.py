@@ -1,9 +1,9 @@
 #!/usr/bin/env python3
 """headers.py HEADER: the header on standard output, with its comments in the form that Doxygen reads.
 
-C: a block between empty lines is a comment and the declarations that it is about. `/* ---- title` begins a group. Where
-several calls share a comment, they become a group of members with their names as its title. C++: `//` above a
-declaration, which holds for those right below it too. Comments that are Doxygen's already stay as they are.
+C: a block between empty lines is a comment and the declarations that it is about, each of which gets it. `/* ---- title`
+begins a group. Lines that are indented after an empty one are code. C++: `//` above a declaration, which holds for those
+right below it too. Comments that are Doxygen's already stay as they are.
 """
 import pathlib
 import re
@@ -18,7 +18,8 @@ def linked(comment, types):
         text = re.sub(r"(?<![#\w`])(bitm_\w+)\b(?![(.`])", lambda it: it[1] if it[1] in types or it[1].endswith("_") else it[1] + "()", text)
         text = re.sub(r"(?<![\w`])([a-z]+_len)\b(?!`)", r"`\1`", text)
         return re.sub(r"(?<![#\w`])(BITM_[A-Z]\w*)", r"#\1", text)
-    return "\n".join(map(line, comment.split("\n")))
+    text = "\n".join(map(line, comment.split("\n")))
+    return re.sub(r"(?<=\n \*\n)((?: \*     .*(?:\n|$))+)", lambda it: f" * @code{{.c}}\n{it[1].rstrip()}\n * @endcode\n ", text)
 
 
 def c_block(block, types):
@@ -27,10 +28,9 @@ def c_block(block, types):
     if not found or re.match(r"#if", rest):
         return rest if not found else block
     about = linked(found[1], types)
-    calls = re.findall(r"^[^\s{}#/].*?\b(bitm_\w+)\(", rest, re.M)
-    names = calls if len(calls) > 1 else re.findall(r"^#define (BITM_\w+) ", rest, re.M)
-    if len(names) > 1:
-        return f"/** @name {', '.join(names)}\n *{about}*/\n/** @{{ */\n{rest}\n/** @}} */"
+    shared = r"^(?=[^\s{}#/].*?\bbitm_\w+\(|#define BITM_\w+ )"
+    if len(re.findall(shared, rest, re.M)) > 1:
+        return re.sub(shared, lambda _: f"/**{about}*/\n", rest, flags=re.M)
     return f"/**{about}*/\n{rest}"
 
 

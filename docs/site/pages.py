@@ -41,7 +41,8 @@ def page(name, pages):
     folder = os.path.dirname(name)
 
     def to(path):
-        return os.path.relpath("index.md" if path == "README.md" else path, folder or ".")
+        moved = os.path.dirname(name.replace("docs/site/", ""))
+        return os.path.relpath("index.md" if path == "README.md" else path.replace("docs/site/", ""), moved or ".")
 
     def link(it):
         target, _, anchor = it[2].partition("#")

@@ -22,9 +22,14 @@ def opening(path):
         lines = [re.sub(r"^ \* ?", "", it) for it in lines]
     else:
         lines = [re.sub(r"^///? ?", "", it) for it in re.match(r"(//.*\n)+", text)[0].split("\n")]
-    text = "\n".join(re.sub(r"^  - ", "- ", it) for it in lines).strip()
+    return markdown(lines, "c" if path.suffix == ".h" else "cpp")
+
+
+def markdown(lines, language):
+    """The lines of a comment as Markdown: its lists, and as blocks of code what is indented after an empty line."""
+    text = "\n".join(re.sub(r"^  - ", "- ", it) for it in lines).rstrip()
+    text = "\n\n" + text.lstrip("\n")
     text = re.sub(r"^    (?=  )", "    ", re.sub(r"(?<![\w`])([a-z]+_\w+_)(?= )", r"`\1`", text), flags=re.M)
-    language = "c" if path.suffix == ".h" else "cpp"
     return re.sub(r"(?<=\n\n)(?:^    .*\n?)+", lambda it: f"```{language}\n" + re.sub("^    ", "", it[0], flags=re.M).rstrip() + "\n```\n", text, flags=re.M)
 
 
@@ -49,6 +54,12 @@ def tidy():
         path.write_text(text, encoding="utf-8")
 
 
+def of_group(title):
+    """What the header says of a group, below its title."""
+    found = re.search(rf"/\* ---- {re.escape(title)}\n \*\n(.*?) ?\*/", (TOP / "bitm.h").read_text(encoding="utf-8"), re.S | re.I)
+    return markdown([re.sub(r"^ \* ?", "", it) for it in found[1].split("\n")], "c") + "\n" if found else ""
+
+
 def text_of(it, tag):
     return "".join(it.find(tag).itertext())
 
@@ -70,12 +81,13 @@ def c_page():
         return min((int(it.find("location").get("line")) for it in group.iter("memberdef")), default=0)
 
     for group in sorted(groups, key=first):
-        yield f"## {text_of(group, 'title')}\n"
+        yield f"## {text_of(group, 'title')}\n\n{of_group(text_of(group, 'title'))}"
         yield directive("group", group.find("compoundname").text, "c", ":content-only:\n" + MEMBERS)
 
 
 def cpp_page():
     yield "(cpp-reference)=\n# C++\n\n`#include <bitm.hpp>` has all of the headers below; C++17 or later, over the library for C.\n"
+    yield "[Examples](cpp-examples.md) show the calls one by one.\n\n```{toctree}\n:hidden:\n\ncpp-examples\n```\n"
     space = parsed("cpp", "namespacebitm")
     classes = [parsed("cpp", it.get("refid")) for it in space.iter("innerclass")]
     for stem in HEADERS:
