@@ -1,5 +1,6 @@
 """The site of documents and references, which docs/site/build makes of the packages of Debian 12, without network."""
 import importlib.util
+import json
 import os
 import pathlib
 import sys
@@ -91,8 +92,19 @@ def mend_furo(app, failed):
         sheet.write_text(text.replace(lost, plain.read_text()) + "@media not print { @media (prefers-color-scheme: dark) {" + by_system + "} }\n")
 
 
+def sort_titles(app, failed):
+    """The index of the search has the titles in the order in which Sphinx's processes ended, so that two runs would differ."""
+    file, begin = pathlib.Path(app.outdir) / "searchindex.js", "Search.setIndex("
+    if failed or app.builder.format != "html":
+        return
+    index = json.loads(file.read_text().removeprefix(begin).removesuffix(")"))
+    index["alltitles"] = {title: sorted(places, key=str) for title, places in sorted(index["alltitles"].items())}
+    file.write_text(f"{begin}{json.dumps(index)})")
+
+
 def setup(app):
     app.connect("build-finished", mend_furo)
+    app.connect("build-finished", sort_titles)
     for lexer in (Rattle, Output):
         for alias in lexer.aliases:
             app.add_lexer(alias, lexer)
