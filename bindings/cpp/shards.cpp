@@ -1,6 +1,7 @@
 // Shards in C++: as one index of the joined bits; which shard holds what; counts that do not fit.
 #include <bitm.hpp>
 
+#include <algorithm>
 #include <cstdio>
 #include <cstdlib>
 #include <vector>
@@ -9,6 +10,44 @@
     do { \
         if (!(condition)) std::fprintf(stderr, "%s:%d: not so: %s\n", __FILE__, __LINE__, #condition), std::exit(1); \
     } while (0)
+
+// The nearest bits on either side of each position, by going over the joined bits.
+static void near(const bitm::sharded_index &all, const std::vector<bool> &joined)
+{
+    const std::size_t len = joined.size();
+    for (std::size_t from = 0; from < len + 2; from++)
+        for (const bool bit : {false, true}) {
+            std::size_t next = from, before = std::min(from + 1, len);
+            while (next < len && joined[next] != bit) next++;
+            while (before > 0 && joined[before - 1] != bit) before--;
+            const auto after = bit ? all.next_one(from) : all.next_zero(from);
+            const auto ahead = bit ? all.previous_one(from) : all.previous_zero(from);
+            MUST(after.has_value() == (next < len) && (!after || *after == next));
+            MUST(ahead.has_value() == (before > 0) && (!ahead || *ahead == before - 1));
+        }
+}
+
+// Lists of more than one part, with some past the end, beside counting.
+static void lists(const bitm::sharded_index &all, const std::vector<bool> &joined)
+{
+    std::vector<std::uint64_t> before[2], places[2], queries((std::size_t{1} << 17) + 5), out(queries.size());
+    for (std::size_t i = 0; i <= joined.size(); i++) {
+        for (const bool bit : {false, true}) before[bit].push_back(places[bit].size());
+        if (i < joined.size()) places[joined[i]].push_back(i);
+    }
+    for (std::size_t i = 0; i < queries.size(); i++) queries[i] = i * 7919 % (joined.size() + 3);
+    for (const bool bit : {false, true}) {
+        const auto wanted = [&](const std::vector<std::uint64_t> &of) {
+            for (std::size_t i = 0; i < queries.size(); i++)
+                if (out[i] != (queries[i] < of.size() ? of[queries[i]] : bitm::no_answer)) return false;
+            return true;
+        };
+        bit ? all.rank(queries, out) : all.rank0(queries, out);
+        MUST(wanted(before[bit]));
+        bit ? all.select(queries, out) : all.select0(queries, out);
+        MUST(wanted(places[bit]));
+    }
+}
 
 int main()
 {
@@ -47,6 +86,8 @@ int main()
             ranks[joined[i]]++;
         }
         MUST(!all.select(ranks[1]) && !all.select0(ranks[0]) && all.count() == ranks[1]);
+        near(all, joined);
+        lists(all, joined);
 #if defined __cpp_exceptions
         try {
             all.rank(joined.size() + 1);

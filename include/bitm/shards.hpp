@@ -7,7 +7,7 @@
 //     std::cout << counts.find_one(1)->shard << '\n';             // 1
 //     bitm::rank_index a(first), b(second);
 //     bitm::sharded_index joined({a.view(), b.view()});          // counts them; the indexes stay the caller's
-//     std::cout << joined.rank(110) << ' ' << *joined.select(1) << '\n'; // 1 130
+//     std::cout << joined.rank(110) << ' ' << *joined.select(1) << ' ' << *joined.next_one(8) << '\n'; // 1 130 130
 //
 // Where the counts are those of the shards, and each shard's tables those of its words, the answers are those of counting.
 #ifndef BITM_SHARDS_HPP
@@ -15,6 +15,7 @@
 
 #include <bitm/index.hpp>
 
+#include <algorithm>
 #include <vector>
 
 BITM_NAMESPACE_BEGIN
@@ -89,8 +90,24 @@ public:
     std::uint64_t rank0(std::uint64_t position) const { return counted(false, position); }
 
     // The position, in the joined bits, of the 1 bit, or 0 bit, with a rank; none where there is none.
-    maybe_position select(std::uint64_t rank) const { return placed(true, rank); }
-    maybe_position select0(std::uint64_t rank) const { return placed(false, rank); }
+    maybe_position select(std::uint64_t rank) const { return placed(bitm_shards_select, true, rank); }
+    maybe_position select0(std::uint64_t rank) const { return placed(bitm_shards_select, false, rank); }
+
+    // The position of the first 1 bit, or 0 bit, of the joined bits at or after a position; of the last one at or before
+    // it, which may be past the end. None where there is none.
+    maybe_position next_one(std::uint64_t from) const { return placed(bitm_shards_next, true, from); }
+    maybe_position next_zero(std::uint64_t from) const { return placed(bitm_shards_next, false, from); }
+    maybe_position previous_one(std::uint64_t from) const { return placed(bitm_shards_previous, true, from); }
+    maybe_position previous_zero(std::uint64_t from) const { return placed(bitm_shards_previous, false, from); }
+
+    // Lists, into memory of the caller's as long as the queries: out[i] answers queries[i], or is bitm::no_answer (also
+    // for the rank of a position past the end). Each shard is asked once, by a list. Where tables are noticed to be wrong,
+    // the call fails once all is answered, and those answers are bitm::wrong_answer. Takes memory for three numbers a
+    // query, of which there are 2^17 at a time, and one a shard.
+    void rank(words_in positions, words_out out) const { list(bitm_shards_rank_list, true, positions, out); }
+    void rank0(words_in positions, words_out out) const { list(bitm_shards_rank_list, false, positions, out); }
+    void select(words_in ranks, words_out out) const { list(bitm_shards_select_list, true, ranks, out); }
+    void select0(words_in ranks, words_out out) const { list(bitm_shards_select_list, false, ranks, out); }
 
 private:
     static std::vector<bitm_index> raw_of(const std::vector<rank_index_view> &shards)
@@ -126,15 +143,35 @@ private:
         default: fail({errc::wrong});
         }
     }
-    maybe_position placed(bool one, std::uint64_t rank) const
+    template <class Call> maybe_position placed(Call call, bool one, std::uint64_t number) const
     {
         std::uint64_t out = 0;
         const bitm_shards shards = raw();
-        switch (bitm_shards_select(&shards, one, rank, &out)) {
+        switch (call(&shards, one, number, &out)) {
         case BITM_OK: return out;
         case BITM_NONE: return std::nullopt;
         default: fail({errc::wrong});
         }
+    }
+    // In parts of so many queries, whose order stays in a processor's caches.
+    static constexpr std::size_t part = std::size_t{1} << 17;
+
+    template <class Call> void list(Call call, bool one, words_in queries, words_out out) const
+    {
+        detail::need_apart(queries, out);
+        if (queries.size() != out.size()) fail({errc::bad_size});
+        const bitm_shards shards = raw();
+        std::vector<std::uint64_t> room(3 * std::min(queries.size(), part) + shards_.size() + 1);
+        bitm_list_counts all{};
+        for (std::size_t at = 0; at < queries.size(); at += part) {
+            const std::size_t len = std::min(part, queries.size() - at);
+            bitm_list_counts counts{};
+            if (call(&shards, one, queries.data() + at, len, out.data() + at, len, room.data(), room.size(), &counts) != BITM_OK)
+                fail({errc::bad_size});
+            all.missing += counts.missing;
+            all.wrong += counts.wrong;
+        }
+        detail::need_list(BITM_OK, all);
     }
 
     std::vector<bitm_index> shards_;
