@@ -1,5 +1,6 @@
-//! With a registry at hand: `GetSize` of `dyn_size_of`, and vectors of `aligned-vec`. Nothing without these features.
-#![cfg(any(feature = "dyn_size_of", feature = "aligned-vec"))]
+//! With a registry at hand: `GetSize` of `dyn_size_of`, vectors of `aligned-vec`, and `serde`. Nothing without these
+//! features.
+#![cfg(any(feature = "dyn_size_of", feature = "aligned-vec", feature = "serde"))]
 use bitm_proved::*;
 #[cfg(feature = "dyn_size_of")]
 #[test]
@@ -18,4 +19,25 @@ fn aligned() {
     let a = A::with_bitwords(5, 3, 4);
     let (r, ones) = RankSelect101111::<BinaryRankSearch, BinaryRankSearch, A>::build(a);
     assert_eq!((ones, r.select(1)), (8, 2));
+}
+#[cfg(feature = "serde")]
+#[test]
+fn values_come_back_and_spoilt_ones_are_refused() {
+    let index = Index::build(vec![0b1011u64, 7]);
+    let text = serde_json::to_string(&index).expect("memory");
+    assert_eq!(text, serde_json::to_string(&index.to_stored(128).expect("inside")).expect("memory"));
+    let read: Index<Vec<u64>> = serde_json::from_str(&text).expect("whole");
+    assert_eq!((read.rank(65), read.select(5), read.try_rank(129)), (4, 66, None));
+    let numbers = EliasFano::build(&[2, 3, 5, 900]).expect("sorted");
+    let text = serde_json::to_string(&numbers).expect("memory");
+    let read: EliasFano = serde_json::from_str(&text).expect("whole");
+    assert!(read.iter().eq([2, 3, 5, 900]));
+    // Of the other kind, cut short, with a word of the index spoilt: each is an error.
+    assert!(serde_json::from_str::<Index<Vec<u64>>>(&text).is_err());
+    assert!(serde_json::from_str::<EliasFano>("[1,2,3]").is_err());
+    let mut words = index.to_stored(128).expect("inside");
+    let at = words.iter().position(|it| *it == 0b1011).expect("the first word");
+    words[at] = 0b1111;
+    let spoilt = serde_json::to_string(&words).expect("memory");
+    assert!(serde_json::from_str::<Index<Vec<u64>>>(&spoilt).is_err());
 }
