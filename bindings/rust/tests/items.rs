@@ -1,5 +1,5 @@
-//! The list of public items, `api.txt`, is that of the source; examples are run; files are short; `unsafe` stands in one
-//! module. BITM_WRITE_API=1 writes the list.
+//! The list of public items, `api.txt`, is that of the source; each has an example of its own; files are short; `unsafe`
+//! stands in one module. BITM_WRITE_API=1 writes the list.
 use std::collections::BTreeSet;
 use std::fs;
 use std::path::{Path, PathBuf};

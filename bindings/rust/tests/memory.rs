@@ -1,5 +1,5 @@
-//! Under a limit of memory each build returns an error, and none ends the program. The limit holds for the whole process, so
-//! a test runs this program once more under `ulimit -v`.
+//! Under a limit of memory each build returns an error, and none ends the program. The limit holds for the whole process,
+//! so a test runs this program once more under `ulimit -v`.
 #![cfg(target_os = "linux")]
 use bitm_proved::{
     BitVec, BuildError, CombinedSampling, EliasFano, Index, NoMemory, PerfectHash, Queries, RankSelect101111,

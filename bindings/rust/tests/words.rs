@@ -1,5 +1,5 @@
-//! The calls of `words` beside plain loops: counts, neighbours, ranges and combinations, where what lies past the length
-//! is neither counted, found nor changed.
+//! The calls of `words` beside plain loops: counts, neighbours, ranges and combinations, where what lies past the
+//! length is neither counted, found nor changed.
 mod common;
 use bitm_proved::words;
 use common::{bits_of, positions_of, says, Random};
