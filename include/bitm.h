@@ -38,7 +38,7 @@
  *     be NULL if n is 0. Pointers to one number (out, ones, written, used, ..) and to structs are never NULL;
  *   - what the pointers in a struct point to counts as passed;
  *   - memory that a call writes (no const) overlaps nothing else that is passed, and nobody else reads or writes it
- *     during the call; it may hold any bytes before, but is allocated;
+ *     during the call. It has to be allocated, but need not be initialized;
  *   - memory that a call reads (const) is not written during the call;
  *   - a mapped file is not truncated while a call runs: the system would end the process;
  *   - a bool is 0 or 1, as a C compiler ensures; the processor counts bits in hardware (x86-64-v2). */
@@ -766,9 +766,9 @@ static inline const char *bitm_hash_fault(const struct bitm_hash *hash)
 size_t bitm_hash_level_len(size_t left, uint32_t percent);
 
 /* Writes the words of a level: its 1 bits are the bits that exactly one of the hashes falls on. The hashes that fall on
- * no 1 bit go to the front, in their order, and left is how many they are; what lies after them and in again means
- * nothing then. BITM_BAD_SIZE if ones_len is 0 or 2^58 or more, or again_len is not ones_len. Two passes over the
- * hashes.
+ * no 1 bit move to the start of the list, in their order, and left is how many they are. The rest of hashes, and again,
+ * hold arbitrary numbers then. BITM_BAD_SIZE if ones_len is 0 or 2^58 or more, or again_len is not ones_len. Two passes
+ * over the hashes.
  *
  *     uint64_t keys[3] = {0x243f6a8885a308d3, 0x13198a2e03707344, 0xa4093822299f31d0}, level[1], twice[1];
  *     if (bitm_hash_level(keys, 3, 0, level, 1, twice, 1, &left) != BITM_OK ||
@@ -779,8 +779,8 @@ BITM_MUST_USE uint32_t bitm_hash_level(uint64_t *hashes, size_t hashes_len, uint
 /* Writes the words of all levels one after another, of bitm_hash_level_len words each, to sizes how many words each
  * has, to levels how many levels there are and to used_words how many words. It ends where no hash is left, or where
  * words, again or sizes have no room for one more level; left is how many hashes have no number: 0 unless hashes are
- * equal or there was no room. hashes are moved; what lies in again, and in words and sizes past the levels, means
- * nothing then. BITM_BAD_SIZE if words_len is 2^58 or more. No two of the memory may overlap. */
+ * equal or there was no room. The call reorders hashes; again, and words and sizes past the levels, hold arbitrary
+ * numbers then. BITM_BAD_SIZE if words_len is 2^58 or more. No two of the memory may overlap. */
 BITM_MUST_USE uint32_t bitm_hash_build(uint64_t *hashes, size_t hashes_len, uint32_t percent, uint64_t *words,
                                        size_t words_len, uint64_t *again, size_t again_len, uint64_t *sizes,
                                        size_t sizes_len, uint64_t *levels, uint64_t *used_words, uint64_t *left);
