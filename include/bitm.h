@@ -1012,7 +1012,7 @@ BITM_MUST_USE static inline uint32_t bitm_stored_open_index(const uint64_t *file
     return BITM_OK;
 }
 
-/* ---- shards: bits in several indexes, one after the other, asked as one
+/* ---- shards: bits in several indexes, one after the other, queried as one
  *
  * Beside the shards stand prefix counts: for each shard how many bits, and how many 1 bits, there are before it, and
  * last those of all. Which shard holds a position, or the bit with a rank, is answered by these alone, so that shards

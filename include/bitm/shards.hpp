@@ -1,4 +1,4 @@
-// Bits in shards: which shard holds a position or a rank, and the shards of one process asked as one.
+// Bits in shards: which shard holds a position or a rank, and the shards of one process queried as one.
 //
 //     bitm::bits first(100), second(200);
 //     first.set(7);

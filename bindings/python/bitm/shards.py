@@ -241,7 +241,7 @@ class Shards:
         return f"<Shards of {len(self)} bits, {self.count()} ones, in {len(self.parts)} shards>"
 
     def shard(self, number: int) -> Index:
-        """The index of a shard, mapped when it is first asked."""
+        """The index of a shard, which is mapped when it is first needed."""
         found = self._open.get(number)
         if found is None:
             found = self._open[number] = _opened(self.folder, number, self.parts[number])
