@@ -127,18 +127,18 @@ def packed(positions, length):
 def threads(rows, index, some):
     """The time on the clock for a query, of one thread and of two that ask at once: half of it where they do not wait."""
     queries = numpy.array([at % len(index) for at in some] * 8, dtype=numpy.uint64)
-    for count in (1, 2):
-        least = 1 << 62
-        for _ in range(rows.rounds):
+    least = {1: 1 << 62, 2: 1 << 62}
+    for _ in range(rows.rounds):
+        for count in least:
             all_of_them = [threading.Thread(target=index.rank_list, args=(queries,)) for _ in range(count)]
             start = time.perf_counter_ns()
             for it in all_of_them:
                 it.start()
             for it in all_of_them:
                 it.join()
-            least = min(least, time.perf_counter_ns() - start)
-        name = "rank_list of two threads" if count == 2 else "rank_list of one thread"
-        print(f"{name},Python,{rows.log2},even,{least / count / len(queries):.2f},ns,{len(queries)}", flush=True)
+            least[count] = min(least[count], time.perf_counter_ns() - start)
+    for count, name in ((1, "rank_list of one thread"), (2, "rank_list of two threads")):
+        print(f"{name},Python,{rows.log2},even,{least[count] / count / len(queries):.2f},ns,{len(queries)}", flush=True)
 
 
 def sequences(rows, numbers, some):
