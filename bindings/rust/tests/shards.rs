@@ -1,6 +1,6 @@
 //! Shards as one index of the joined bits, beside plain counting; which shard holds what; counts that are wrong.
 mod common;
-use bitm_proved::{build_tables, table_lens, IndexView, Place, PrefixCounts, ShardedIndex, WrongTables};
+use bitm_proved::{build_tables, table_lens, IndexView, ListError, Place, PrefixCounts, ShardedIndex, WrongTables};
 use common::{bits_of, Random};
 
 /// Words with their tables, of which the first bits count.
@@ -51,6 +51,61 @@ fn shards_are_counted_as_one() {
         assert_eq!((all.rank(at), all.rank(at + 1), all.rank0(u64::MAX)), (Ok(Some(ranks[1])), Ok(None), Ok(None)));
         assert_eq!((all.select(ranks[1]), all.select0(ranks[0]), all.counts().find(at)), (Ok(None), Ok(None), None));
     }
+}
+
+/// The joined bits, and shards of them.
+fn joined(shards: &[Shard]) -> Vec<bool> {
+    shards.iter().flat_map(|it| bits_of(&it.words, it.len)).collect()
+}
+
+#[test]
+fn the_nearest_bits_are_those_of_the_joined_bits() {
+    let mut random = Random(8);
+    for count in 0..6 {
+        let shards: Vec<Shard> = (0..count).map(|_| Shard::drawn(&mut random)).collect();
+        let views: Vec<IndexView<'_>> = shards.iter().map(Shard::view).collect();
+        let (all, bits) = (ShardedIndex::new(&views).unwrap(), joined(&shards));
+        for from in (0..bits.len() + 2).chain([usize::MAX]) {
+            for one in [true, false] {
+                let next = (from..bits.len()).find(|at| bits[*at] == one).map(|at| at as u64);
+                let before = (0..bits.len().min(from.saturating_add(1))).rev().find(|at| bits[*at] == one);
+                let at = from as u64;
+                let (after, ahead) = if one {
+                    (all.next_one(at), all.previous_one(at))
+                } else {
+                    (all.next_zero(at), all.previous_zero(at))
+                };
+                assert_eq!((after, ahead), (Ok(next), Ok(before.map(|at| at as u64))));
+            }
+        }
+    }
+}
+
+#[test]
+fn lists_are_counted_in_the_joined_bits() {
+    let mut random = Random(9);
+    let shards: Vec<Shard> = (0..5).map(|_| Shard::drawn(&mut random)).collect();
+    let views: Vec<IndexView<'_>> = shards.iter().map(Shard::view).collect();
+    let (all, bits) = (ShardedIndex::new(&views).unwrap(), joined(&shards));
+    let queries: Vec<u64> = (0..(1 << 17) + 9).map(|_| random.below(bits.len() + 3) as u64).collect();
+    let mut out = vec![0; queries.len()];
+    for one in [true, false] {
+        let places: Vec<u64> = (0..bits.len()).filter(|at| bits[*at] == one).map(|at| at as u64).collect();
+        let ranks: Vec<u64> = (0..=bits.len()).map(|at| places.partition_point(|it| *it < at as u64) as u64).collect();
+        for (selects, of) in [(false, ranks), (true, places)] {
+            let missing = match (selects, one) {
+                (false, true) => all.rank_list(&queries, &mut out),
+                (false, false) => all.rank0_list(&queries, &mut out),
+                (true, true) => all.select_list(&queries, &mut out),
+                (true, false) => all.select0_list(&queries, &mut out),
+            };
+            let wanted: Vec<u64> = queries.iter().map(|it| of.get(*it as usize).copied().unwrap_or(u64::MAX)).collect();
+            assert_eq!(out, wanted);
+            assert_eq!(missing, Ok(wanted.iter().filter(|it| **it == u64::MAX).count()));
+        }
+    }
+    let why = all.rank_list(&queries, &mut out[1..]);
+    assert_eq!(why, Err(ListError::Lengths { queries: queries.len(), room: queries.len() - 1 }));
 }
 
 #[test]
