@@ -1,12 +1,14 @@
 //! Bits in shards: which shard holds a position or a rank, and shards of one process asked as one.
-use crate::errors::{ListError, WrongTables};
-use crate::ffi::index::{bitm_index, bitm_list_counts};
+use crate::errors::WrongTables;
+use crate::ffi::index::bitm_index;
 use crate::ffi::shards::*;
-use crate::sys::view::{list_answer, IndexView};
+use crate::sys::view::IndexView;
 use crate::sys::{query, NONE, OK};
 use alloc::vec;
 use alloc::vec::Vec;
 use core::marker::PhantomData;
+
+mod lists;
 
 /// A shard, and a position in it or the rank of a bit there.
 ///
@@ -169,21 +171,6 @@ impl PrefixCounts {
     }
 }
 
-/// Queries of a list that are grouped at once: their order stays in a processor's caches.
-const PART: usize = 1 << 17;
-
-type ListCall = unsafe extern "C" fn(
-    *const bitm_shards,
-    bool,
-    *const u64,
-    usize,
-    *mut u64,
-    usize,
-    *mut u64,
-    usize,
-    *mut bitm_list_counts,
-) -> u32;
-
 /// Indexes of one process, one after the other, asked as one index of the joined bits.
 ///
 /// ```
@@ -246,30 +233,6 @@ impl<'a> ShardedIndex<'a> {
             shards_len: self.shards.len(),
             reserved: [0; 2],
         }
-    }
-
-    fn list(&self, call: ListCall, one: bool, queries: &[u64], out: &mut [u64]) -> Result<usize, ListError> {
-        if queries.len() != out.len() {
-            return Err(ListError::Lengths { queries: queries.len(), room: out.len() });
-        }
-        let raw = self.raw();
-        let mut room = vec![0u64; 3 * queries.len().min(PART) + self.shards.len() + 1];
-        let mut all = bitm_list_counts { missing: 0, wrong: 0 };
-        for (from, to) in queries.chunks(PART).zip(out.chunks_mut(PART)) {
-            let mut counts = bitm_list_counts { missing: 0, wrong: 0 };
-            let (len, room_len) = (from.len(), room.len());
-            // SAFETY: the counts and indexes borrow what they point to; the slices are `len` and `room_len` long, and
-            // nothing that is written overlaps.
-            let status = unsafe {
-                call(&raw, one, from.as_ptr(), len, to.as_mut_ptr(), len, room.as_mut_ptr(), room_len, &mut counts)
-            };
-            if status != OK {
-                return Err(ListError::WrongTables { wrong: queries.len() }); // 2^64 - 2 bits or more
-            }
-            all.missing += counts.missing;
-            all.wrong += counts.wrong;
-        }
-        list_answer(OK, all, queries.len(), queries.len())
     }
 
     fn call(
@@ -387,68 +350,6 @@ impl<'a> ShardedIndex<'a> {
     /// ```
     pub fn previous_zero(&self, from: u64) -> Result<Option<u64>, WrongTables> {
         self.call(bitm_shards_previous, false, from)
-    }
-
-    /// Ranks of a list of positions of the joined bits; how many have none, which `NO_ANSWER` stands for. Each shard is
-    /// asked once, by a list. Takes memory for three numbers a query, of at most 2^17 at a time, and one a shard.
-    ///
-    /// ```
-    /// use bitm_proved::{Index, Queries, ShardedIndex, NO_ANSWER};
-    /// let shard = Index::build([7u64]); // 3 bits of 1, then 61 of 0
-    /// let bits = ShardedIndex::new(&[shard.view(), shard.view()])?;
-    /// let (mut ranks, positions) = ([0; 3], [66, 129, 3]);
-    /// assert_eq!(bits.rank_list(&positions, &mut ranks), Ok(1)); // one has none
-    /// assert_eq!(ranks, [5, NO_ANSWER as u64, 3]);
-    /// # Ok::<(), bitm_proved::WrongTables>(())
-    /// ```
-    pub fn rank_list(&self, positions: &[u64], out: &mut [u64]) -> Result<usize, ListError> {
-        self.list(bitm_shards_rank_list, true, positions, out)
-    }
-
-    /// As `rank_list`, of 0 bits.
-    ///
-    /// ```
-    /// use bitm_proved::{Index, Queries, ShardedIndex};
-    /// let shard = Index::build([7u64]); // 3 bits of 1, then 61 of 0
-    /// let bits = ShardedIndex::new(&[shard.view(), shard.view()])?;
-    /// let mut ranks = [0; 2];
-    /// assert_eq!(bits.rank0_list(&[66, 3], &mut ranks), Ok(0));
-    /// assert_eq!(ranks, [61, 0]);
-    /// # Ok::<(), bitm_proved::WrongTables>(())
-    /// ```
-    pub fn rank0_list(&self, positions: &[u64], out: &mut [u64]) -> Result<usize, ListError> {
-        self.list(bitm_shards_rank_list, false, positions, out)
-    }
-
-    /// Positions, in the joined bits, of the 1 bits with the ranks of a list; how many have none, which `NO_ANSWER` stands
-    /// for. As `rank_list`.
-    ///
-    /// ```
-    /// use bitm_proved::{Index, Queries, ShardedIndex, NO_ANSWER};
-    /// let shard = Index::build([7u64]); // 3 bits of 1, then 61 of 0
-    /// let bits = ShardedIndex::new(&[shard.view(), shard.view()])?;
-    /// let mut positions = [0; 3];
-    /// assert_eq!(bits.select_list(&[3, 9, 0], &mut positions), Ok(1)); // one has none
-    /// assert_eq!(positions, [64, NO_ANSWER as u64, 0]);
-    /// # Ok::<(), bitm_proved::WrongTables>(())
-    /// ```
-    pub fn select_list(&self, ranks: &[u64], out: &mut [u64]) -> Result<usize, ListError> {
-        self.list(bitm_shards_select_list, true, ranks, out)
-    }
-
-    /// As `select_list`, of 0 bits.
-    ///
-    /// ```
-    /// use bitm_proved::{Index, Queries, ShardedIndex};
-    /// let shard = Index::build([7u64]); // 3 bits of 1, then 61 of 0
-    /// let bits = ShardedIndex::new(&[shard.view(), shard.view()])?;
-    /// let mut positions = [0; 2];
-    /// assert_eq!(bits.select0_list(&[61, 0], &mut positions), Ok(0));
-    /// assert_eq!(positions, [67, 3]);
-    /// # Ok::<(), bitm_proved::WrongTables>(())
-    /// ```
-    pub fn select0_list(&self, ranks: &[u64], out: &mut [u64]) -> Result<usize, ListError> {
-        self.list(bitm_shards_select_list, false, ranks, out)
     }
 }
 
