@@ -1,9 +1,10 @@
-"""Lists of queries of shards: the shard of each query is found by one proved call, and the queries of a shard go to it
-in one call, those of a large array in one for each block of it."""
+"""Lists of queries of shards. Where all shards are mapped, by one proved call for each part of a list. Else the shard of
+each query is found by a proved call, and the queries of a shard go to it in one call, those of a large array in one for
+each block of it: no other shard is mapped."""
 import operator
 from typing import Any, Callable, Dict, List, Tuple
 
-from ._core import shards_find
+from ._core import shards_find, shards_list
 
 ZEROS, ONES, POSITIONS = range(3)  # what is numbered, as bitm.h has it
 Asked = Callable[[int, Any], Any]
@@ -46,17 +47,16 @@ def _in_array(found: Any, starts: List[int], queries: Any, ask: Asked) -> Any:
     return made
 
 
-def _answers(shards: Any, kind: int, starts: List[int], queries: Any, ask: Asked) -> Tuple[Any, Any]:
-    """The queries, which are gone over once, and their answers."""
+def _answers(shards: Any, kind: int, starts: List[int], queries: Any, ask: Asked) -> Any:
+    """The answers, of which a shard is mapped when the first of its queries comes."""
     if not _is_array(queries):
-        numbers = list(queries)
-        return numbers, _in_lists(_found(shards, kind, numbers), starts, numbers, ask)
+        return _in_lists(_found(shards, kind, queries), starts, queries, ask)
     if len(queries) <= BLOCK:
-        return queries, _in_array(_found(shards, kind, queries), starts, queries, ask)
+        return _in_array(_found(shards, kind, queries), starts, queries, ask)
     import numpy
 
     blocks = [queries[at : at + BLOCK] for at in range(0, len(queries), BLOCK)]
-    return queries, numpy.concatenate([_in_array(_found(shards, kind, it), starts, it, ask) for it in blocks])
+    return numpy.concatenate([_in_array(_found(shards, kind, it), starts, it, ask) for it in blocks])
 
 
 def _found(shards: Any, kind: int, queries: Any) -> Tuple[Any, Any]:
@@ -64,6 +64,21 @@ def _found(shards: Any, kind: int, queries: Any) -> Tuple[Any, Any]:
     bits, ones = shards._counts
     found, within = shards_find(bits, ones, kind, queries)
     return memoryview(found), memoryview(within)
+
+
+def _at_once(shards: Any, selects: bool, one: bool, queries: Any) -> Any:
+    """The answers of shards that are all mapped, in the manner of the queries; None where one is not."""
+    opened = shards._open
+    indexes = tuple(opened.get(shard) for shard in range(len(shards.parts)))
+    if None in indexes:
+        return None
+    bits, ones = shards._counts
+    found = memoryview(shards_list(bits, ones, indexes, selects, one, queries))
+    if not _is_array(queries):
+        return found.tolist()
+    import numpy
+
+    return numpy.asarray(found)
 
 
 def _plus(answers: Any, base: int) -> Any:
@@ -81,7 +96,10 @@ def ranks(shards: Any, one: bool, queries: Any) -> Any:
         index = shards.shard(shard)
         return _plus((index.rank_list if one else index.rank0_list)(positions), counts[shard])
 
-    queries, answers = _answers(shards, POSITIONS, starts, queries, ask)
+    queries = queries if _is_array(queries) else list(queries)
+    answers = _at_once(shards, False, one, queries)
+    if answers is None:
+        answers = _answers(shards, POSITIONS, starts, queries, ask)
     past = _first_without(answers)
     if past is not None:
         raise IndexError(f"a position is past the end: {queries[past]}, item {past} of the list")
@@ -105,7 +123,10 @@ def selections(shards: Any, one: bool, queries: Any, missing: Any) -> Any:
         index = shards.shard(shard)
         return _plus((index.select_list if one else index.select0_list)(of_ranks, missing="error"), bits[shard])
 
-    queries, answers = _answers(shards, ONES if one else ZEROS, starts, queries, ask)
+    queries = queries if _is_array(queries) else list(queries)
+    answers = _at_once(shards, True, one, queries)
+    if answers is None:
+        answers = _answers(shards, ONES if one else ZEROS, starts, queries, ask)
     return _with_missing(answers, missing)
 
 

@@ -332,6 +332,7 @@ PyObject *stored_sequence_header(PyObject *module, PyObject *args);
 
 /* ---- shards.c */
 PyObject *shards_find(PyObject *module, PyObject *args);
+PyObject *shards_list(PyObject *module, PyObject *args);
 
 /* ---- parts.c */
 PyObject *parts_of(PyObject *module, PyObject *value);

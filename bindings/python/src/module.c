@@ -14,6 +14,7 @@ static PyMethodDef functions[] = {{"stored_load", stored_load, METH_O, NULL},
                                   {"sequence_common", sequence_common, METH_VARARGS, NULL},
                                   {"sequence_merged", sequence_merged, METH_VARARGS, NULL},
                                   {"shards_find", shards_find, METH_VARARGS, NULL},
+                                  {"shards_list", shards_list, METH_VARARGS, NULL},
                                   {NULL, NULL, 0, NULL}};
 
 /* The name of what the processor lacks of x86-64-v2, for which the library is compiled; NULL where it has all. */
