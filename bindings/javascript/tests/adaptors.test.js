@@ -107,6 +107,8 @@ const FITTING = {
     bitm_shards_find: () => ({ counts: shards(r() % 3 === 0) }),
     bitm_shards_rank: () => ({ shards: shards(r() % 3 === 0), position: r() % (2 * BITS + 60) }),
     bitm_shards_select: () => ({ shards: shards(r() % 3 === 0), rank: r() % (2 * BITS) }),
+    bitm_shards_next: () => ({ shards: shards(r() % 3 === 0), from: r() % (2 * BITS + 60) }),
+    bitm_shards_previous: () => ({ shards: shards(r() % 3 === 0), from: r() % (2 * BITS + 60) }),
 };
 
 /** Arguments that keep the duties of the header: lengths are those of the memory, or wrong ones that are refused. */
@@ -154,13 +156,13 @@ function both(call, parts) {
 }
 
 test("each adaptor does what its export does", () => {
-    assert.equal(exported.length, 79);
+    assert.equal(exported.length, 83);
     for (const call of exported) {
         let answered = 0;
         for (let round = 0; round < 60; round++) answered += both(call, prepare(round % 4 === 3));
         assert.ok(answered >= 5, `${call.name} answered ${answered} times of 60`);
     }
-    tally.atLeast(79 * 60);
+    tally.atLeast(83 * 60);
 });
 
 test("each adaptor refuses what is no whole number of its range", () => {
@@ -199,6 +201,10 @@ const LEFT_OUT = {
     bitm_shards_find: "as bitm_prefix_sums",
     bitm_shards_rank: "as bitm_prefix_sums",
     bitm_shards_select: "as bitm_prefix_sums",
+    bitm_shards_next: "as bitm_prefix_sums",
+    bitm_shards_previous: "as bitm_prefix_sums",
+    bitm_shards_rank_list: "as bitm_prefix_sums",
+    bitm_shards_select_list: "as bitm_prefix_sums",
 };
 
 test("each export is reached, or listed with its reason", () => {
