@@ -1095,18 +1095,18 @@ BITM_MUST_USE uint32_t bitm_shards_find(const struct bitm_prefixes *counts, uint
 BITM_MUST_USE uint32_t bitm_shards_rank(const struct bitm_shards *shards, bool one, uint64_t position, uint64_t *out);
 BITM_MUST_USE uint32_t bitm_shards_select(const struct bitm_shards *shards, bool one, uint64_t rank, uint64_t *out);
 
-/* bitm_index_next and bitm_index_previous of the joined bits: a rank and a selection, so queries of two shards at most. Over
- * any counts and tables, a position that is found is on the side that was asked, below the claimed number of bits, and in
- * some shard holds the requested bit. BITM_NONE if there is none; BITM_WRONG if counts or tables turn out to be wrong. */
+/* bitm_index_next and bitm_index_previous of the joined bits: a rank and a selection, which read at most two shards. Over
+ * any counts and tables, a position that is found is on the requested side of `from`, below the claimed number of bits, and
+ * in some shard holds the requested bit. BITM_NONE if there is none; BITM_WRONG if counts or tables turn out to be wrong. */
 BITM_MUST_USE uint32_t bitm_shards_next(const struct bitm_shards *shards, bool one, uint64_t from, uint64_t *out);
 BITM_MUST_USE uint32_t bitm_shards_previous(const struct bitm_shards *shards, bool one, uint64_t from, uint64_t *out);
 
 /* bitm_index_rank_list and bitm_index_select_list of the joined bits: out[i] answers query i as the call of one query does,
  * or is BITM_NO_ANSWER for BITM_NONE and BITM_WRONG_TABLES for BITM_WRONG; counts says how many of each there are. Over
  * counts and tables that are wrong it may be another answer that the call of one query may give. room is memory of any
- * length, which is overwritten: of 3 numbers for each query, one for each shard and one more, or more, it lets the queries
- * be grouped by shard, so that each shard is asked once, by a list; with less, each query is asked by itself. A list of
- * more than 2^17 queries is answered fastest in parts of so many. BITM_BAD_SIZE also if out_len is not the number of
+ * length, which is overwritten. With at least 3 numbers for each query, one for each shard and one more, the queries are
+ * grouped by shard, and each shard answers its own with one list; with less, each query is answered by itself. A list of
+ * more than 2^17 queries is answered fastest in parts of 2^17. BITM_BAD_SIZE also if out_len is not the number of
  * queries, or the counts claim 2^64 - 2 bits or more. out, room and counts may overlap neither each other nor what the call
  * reads. */
 BITM_MUST_USE uint32_t bitm_shards_rank_list(const struct bitm_shards *shards, bool one, const uint64_t *positions,

@@ -101,9 +101,9 @@ public:
     maybe_position previous_zero(std::uint64_t from) const { return placed(bitm_shards_previous, false, from); }
 
     // Lists, into memory of the caller's as long as the queries: out[i] answers queries[i], or is bitm::no_answer (also
-    // for the rank of a position past the end). Each shard is asked once, by a list. Where tables are noticed to be wrong,
-    // the call fails once all is answered, and those answers are bitm::wrong_answer. Takes memory for three numbers a
-    // query, of which there are 2^17 at a time, and one a shard.
+    // for the rank of a position past the end). Each shard answers its own queries with one list. Where tables are noticed
+    // to be wrong, the call fails once all is answered, and those answers are bitm::wrong_answer. Takes memory for three
+    // numbers a query, of which there are 2^17 at a time, and one a shard.
     void rank(words_in positions, words_out out) const { list(bitm_shards_rank_list, true, positions, out); }
     void rank0(words_in positions, words_out out) const { list(bitm_shards_rank_list, false, positions, out); }
     void select(words_in ranks, words_out out) const { list(bitm_shards_select_list, true, ranks, out); }
@@ -153,7 +153,7 @@ private:
         default: fail({errc::wrong});
         }
     }
-    // In parts of so many queries, whose order stays in a processor's caches.
+    // The number of queries in a part: the order of a part stays in a processor's caches.
     static constexpr std::size_t part = std::size_t{1} << 17;
 
     template <class Call> void list(Call call, bool one, words_in queries, words_out out) const

@@ -37,7 +37,7 @@ class Part(NamedTuple):
     words: int
 
 
-# ---- one shard: built where its bits lie, and mapped where it is asked
+# ---- one shard: built where its bits lie, and mapped where it is queried
 
 
 def sum_of(index: Index) -> str:
@@ -376,7 +376,7 @@ class Shards:
             for found in getattr(self.shard(shard), kind)(low, high, reverse=reverse):
                 yield base + found
 
-    # ---- lists of queries: sorted by shard, and each shard asked once
+    # ---- lists of queries: sorted by shard, with one list for each shard
 
     def rank_list(self, queries: Any) -> Any:
         """`rank` of each position: a list, or an array of uint64 for an array. IndexError where one is past the end."""

@@ -154,7 +154,7 @@ impl<'a> PrefixCounts<'a> {
             within: number - self.before(of, shard),
         })
     }
-    /// Whether the numbers claim that a number is at a place.
+    /// Whether the prefix counts claim that a position or rank belongs to this shard and index.
     #[inline(always)]
     pub fn has(&self, of: Kind, number: usize, place: Place) -> bool
         ensures { IsTrue result ↔ IsClaimed of self.now number place × (number < claimed_in_all of self.now) }

@@ -159,8 +159,8 @@ impl<'a, S: Shard> ShardedIndex<'a, S> {
     /// 2^64 - 2 bits or more, whose ranks might be codes; nothing is written then.
     ///
     /// `room` may be of any length and hold anything. Three numbers for each position and one for each shard, and one
-    /// more, let the positions be grouped by shard, and each shard be asked once, by a list; with less, each position
-    /// is asked by itself. What it holds afterwards means nothing.
+    /// more, let the positions be grouped by shard, so that each shard answers its own with one list; with less, each
+    /// position is answered by itself. What `room` holds afterwards means nothing.
     ///
     /// # Cost
     /// For each position that of `PrefixCounts::find`, and of one of a list of its shard.
@@ -186,7 +186,7 @@ impl<'a, S: Shard> ShardedIndex<'a, S> {
         true
     }
 
-    /// Asks each position by itself of which a code is written.
+    /// Answers each position by itself and writes the code of its answer.
     fn rank_rest(&self, one: bool, positions: &[usize], out: &mut [usize])
         requires few { claimed_in_all Positions self.now.counts < 2 ^ 64 - 2 }
         requires len { length out.old ≡ length positions.now }

@@ -187,7 +187,7 @@ impl<'a, S: Shard> ShardedIndex<'a, S> {
         true
     }
 
-    /// Asks each rank by itself of which a code is written.
+    /// Answers each rank by itself and writes the code of its answer.
     fn select_rest(&self, one: bool, ranks: &[usize], out: &mut [usize])
         requires few { claimed_in_all Positions self.now.counts < 2 ^ 64 - 2 }
         requires len { length out.old ≡ length ranks.now }
