@@ -100,3 +100,7 @@ uint32_t bitm_prefix_sums_check(const uint64_t *numbers, size_t numbers_len, con
 uint32_t bitm_shards_find(const struct bitm_prefixes *counts, uint32_t kind, uint64_t number, struct bitm_shard_place *out);
 uint32_t bitm_shards_rank(const struct bitm_shards *shards, bool one, uint64_t position, uint64_t *out);
 uint32_t bitm_shards_select(const struct bitm_shards *shards, bool one, uint64_t rank, uint64_t *out);
+uint32_t bitm_shards_next(const struct bitm_shards *shards, bool one, uint64_t from, uint64_t *out);
+uint32_t bitm_shards_previous(const struct bitm_shards *shards, bool one, uint64_t from, uint64_t *out);
+uint32_t bitm_shards_rank_list(const struct bitm_shards *shards, bool one, const uint64_t *positions, size_t positions_len, uint64_t *out, size_t out_len, uint64_t *room, size_t room_len, struct bitm_list_counts *counts);
+uint32_t bitm_shards_select_list(const struct bitm_shards *shards, bool one, const uint64_t *ranks, size_t ranks_len, uint64_t *out, size_t out_len, uint64_t *room, size_t room_len, struct bitm_list_counts *counts);
