@@ -75,6 +75,9 @@ function shards(spoilt) {
     return at;
 }
 
+/** What lists of shards have in common; the slots of their answers are none of those that shards() fills. */
+const ofShards = () => ({ shards: shards(r() % 3 === 0), out: slot(16), room: slot(18), room_len: r() % (4 * N), counts: slot(19) });
+
 /** Sums of the first numbers in slot 10, of which one may be wrong, in slot 16: of how many numbers. */
 function sums(spoilt) {
     const n = r() % N;
@@ -109,6 +112,8 @@ const FITTING = {
     bitm_shards_select: () => ({ shards: shards(r() % 3 === 0), rank: r() % (2 * BITS) }),
     bitm_shards_next: () => ({ shards: shards(r() % 3 === 0), from: r() % (2 * BITS + 60) }),
     bitm_shards_previous: () => ({ shards: shards(r() % 3 === 0), from: r() % (2 * BITS + 60) }),
+    bitm_shards_rank_list: () => ({ positions: slot(11), ...ofShards() }),
+    bitm_shards_select_list: () => ({ ranks: slot(11), ...ofShards() }),
 };
 
 /** Arguments that keep the duties of the header: lengths are those of the memory, or wrong ones that are refused. */
