@@ -1095,20 +1095,31 @@ BITM_MUST_USE uint32_t bitm_shards_find(const struct bitm_prefixes *counts, uint
 BITM_MUST_USE uint32_t bitm_shards_rank(const struct bitm_shards *shards, bool one, uint64_t position, uint64_t *out);
 BITM_MUST_USE uint32_t bitm_shards_select(const struct bitm_shards *shards, bool one, uint64_t rank, uint64_t *out);
 
-/* bitm_index_next and bitm_index_previous of the joined bits: a rank and a selection, which read at most two shards. Over
- * any counts and tables, a position that is found is on the requested side of `from`, below the claimed number of bits, and
- * in some shard holds the requested bit. BITM_NONE if there is none; BITM_WRONG if counts or tables turn out to be wrong. */
+/* bitm_index_next and bitm_index_previous of the joined bits: a rank and a selection, which read at most two shards.
+ * Over any counts and tables, a position that is found is on the requested side of `from`, below the claimed number of
+ * bits, and in some shard holds the requested bit. BITM_NONE if there is none; BITM_WRONG if counts or tables turn out
+ * to be wrong.
+ *
+ *     if (bitm_shards_next(&shards, true, 105, &position) != BITM_OK || position != 106 ||
+ *         bitm_shards_previous(&shards, true, 100, &position) != BITM_OK || position != 64) return 1; */
 BITM_MUST_USE uint32_t bitm_shards_next(const struct bitm_shards *shards, bool one, uint64_t from, uint64_t *out);
 BITM_MUST_USE uint32_t bitm_shards_previous(const struct bitm_shards *shards, bool one, uint64_t from, uint64_t *out);
 
-/* bitm_index_rank_list and bitm_index_select_list of the joined bits: out[i] answers query i as the call of one query does,
- * or is BITM_NO_ANSWER for BITM_NONE and BITM_WRONG_TABLES for BITM_WRONG; counts says how many of each there are. Over
- * counts and tables that are wrong it may be another answer that the call of one query may give. room is memory of any
- * length, which is overwritten. With at least 3 numbers for each query, one for each shard and one more, the queries are
- * grouped by shard, and each shard answers its own with one list; with less, each query is answered by itself. A list of
- * more than 2^17 queries is answered fastest in parts of 2^17. BITM_BAD_SIZE also if out_len is not the number of
- * queries, or the counts claim 2^64 - 2 bits or more. out, room and counts may overlap neither each other nor what the call
- * reads. */
+/* bitm_index_rank_list and bitm_index_select_list of the joined bits: out[i] answers query i as the call of one
+ * query does, or is BITM_NO_ANSWER for BITM_NONE and BITM_WRONG_TABLES for BITM_WRONG; counts says how many of each
+ * there are. Over counts and tables that are wrong it may be another answer that the call of one query may give.
+ * room is memory of any length, which is overwritten. With at least 3 numbers for each query, one for each shard and
+ * one more, the queries are grouped by shard, and each shard answers its own with one list; with less, each query is
+ * answered by itself. A list of more than 2^17 queries is answered fastest in parts of 2^17. BITM_BAD_SIZE also if
+ * out_len is not the number of queries, or the counts claim 2^64 - 2 bits or more. out, room and counts may overlap
+ * neither each other nor what the call reads.
+ *
+ *     const uint64_t ends[3] = {4, 104, 201}, ranks[3] = {0, 7, 10};
+ *     uint64_t of_both[3]; // 3 * 3 + 2 + 1 numbers of room group them
+ *     if (bitm_shards_rank_list(&shards, true, ends, 3, of_both, 3, room, 12, &counts) != BITM_OK || of_both[1] != 7 ||
+ *         of_both[2] != BITM_NO_ANSWER || counts.missing != 1 || // there are 200 bits
+ *         bitm_shards_select_list(&shards, true, ranks, 3, of_both, 3, room, 12, &counts) != BITM_OK ||
+ *         of_both[0] != 1 || of_both[1] != 104 || of_both[2] != BITM_NO_ANSWER) return 1; */
 BITM_MUST_USE uint32_t bitm_shards_rank_list(const struct bitm_shards *shards, bool one, const uint64_t *positions,
                                              size_t positions_len, uint64_t *out, size_t out_len, uint64_t *room,
                                              size_t room_len, struct bitm_list_counts *counts);
