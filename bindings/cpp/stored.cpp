@@ -46,6 +46,30 @@ Words words_of(const std::vector<bool> &plain)
     return words;
 }
 
+// Whether the mapping of an address asks for huge pages, as the system tells it.
+bool asks_for_huge_pages(std::uintptr_t address)
+{
+    std::ifstream maps("/proc/self/smaps");
+    bool inside = false;
+    for (std::string line; std::getline(maps, line);) {
+        unsigned long long begin, end;
+        if (std::sscanf(line.c_str(), "%llx-%llx ", &begin, &end) == 2) inside = begin <= address && address < end;
+        if (inside && line.compare(0, 8, "VmFlags:") == 0) return line.find(" hg") != std::string::npos;
+    }
+    return false;
+}
+
+void memory()
+{
+    const bool has_huge = std::ifstream("/sys/kernel/mm/transparent_hugepage/enabled").good();
+    for (const std::size_t len : {std::size_t{1}, std::size_t{1} << 24, std::size_t{1} << 26}) {
+        const bitm::bits made(len);
+        const auto at = reinterpret_cast<std::uintptr_t>(made.words().data());
+        must(at % 64 == 0, "words are aligned to 64 bytes");
+        if (has_huge && len > 1) must(asks_for_huge_pages(at + len / 16) == (len >= 1u << 25), "4 MiB ask for huge pages");
+    }
+}
+
 bitm::maybe_position item(const Words &positions, std::size_t at)
 {
     if (at < positions.size()) return positions[at];
@@ -343,6 +367,7 @@ void read_files(const std::string &folder)
 
 int main(int argc, char **argv)
 {
+    memory();
     ranges();
     combined();
     indexes();

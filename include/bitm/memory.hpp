@@ -4,6 +4,11 @@
 
 #include <bitm/core.hpp>
 
+#if defined __linux__
+#include <sys/mman.h>
+#include <unistd.h>
+#endif
+
 BITM_NAMESPACE_BEGIN
 
 // ---- spans of items of the caller's
@@ -90,7 +95,24 @@ private:
 
 // ---- memory
 
-// A block of words aligned to 64 bytes, on the heap or mapped, which it owns.
+// Asks the system for huge pages for the whole pages of an array of 4 MiB or more: a query then waits less for the
+// tables of the pages. It may refuse, or have none: then the pages stay small.
+inline void ask_for_huge_pages(std::uint64_t *data, std::size_t bytes) noexcept
+{
+#if defined __linux__ && defined MADV_HUGEPAGE
+    constexpr std::size_t least = std::size_t{4} << 20;
+    const long found = bytes < least ? 0 : ::sysconf(_SC_PAGESIZE);
+    const auto page = static_cast<std::size_t>(found);
+    if (found <= 0 || page >= least) return;
+    const std::size_t skipped = (page - reinterpret_cast<std::uintptr_t>(data) % page) % page;
+    (void)::madvise(reinterpret_cast<char *>(data) + skipped, (bytes - skipped) / page * page, MADV_HUGEPAGE);
+#else
+    (void)data, (void)bytes;
+#endif
+}
+
+// A block of words aligned to 64 bytes, on the heap or mapped, which it owns. A large one lies in huge pages where the
+// system has these.
 class block {
 public:
     block() noexcept = default;
@@ -100,6 +122,7 @@ public:
         if (BITM_RARELY(words >= (std::size_t{1} << 58))) fail(bad_size("2^58 words or more"));
         data_ = static_cast<std::uint64_t *>(::operator new(8 * words, std::align_val_t(64)));
         len_ = words, drop_ = free_heap;
+        ask_for_huge_pages(data_, 8 * words);
         std::memset(data_, 0, 8 * words);
     }
     block(std::uint64_t *data, std::size_t words, void (*drop)(std::uint64_t *, std::size_t) noexcept) noexcept

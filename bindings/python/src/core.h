@@ -140,6 +140,14 @@ void integers_below(const Integers *it, size_t at, const char *what);
 /* Room for count items of 8 bytes, or NULL and MemoryError. */
 uint64_t *room_for(uint64_t count);
 
+/* ---- aligned.c: memory for words, aligned to 64 bytes; of 4 MiB or more in huge pages where the system has them */
+
+/* Zeros; other bytes, of which the first are kept, and the others may be any; NULL, and what was there stays, where memory
+ * is refused. Given back by aligned_free alone. */
+void *aligned_new(size_t bytes);
+void *aligned_resize(void *at, size_t kept, size_t bytes);
+void aligned_free(void *at);
+
 /* ---- memory.c: what an index, a sequence or a hash reads */
 enum { MOST_BUFFERS = 8 };
 

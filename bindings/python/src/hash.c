@@ -59,7 +59,8 @@ static int build_levels(Memory *it, const uint64_t *both, uint32_t percent)
 static int build_tables(Memory *it, const uint64_t *both)
 {
     struct bitm_index *index = &it->hash.index;
-    uint64_t *words = realloc(it->own[0], 8 * index->words_len + 8), ones, number_there = 0;
+    uint64_t *words = aligned_resize(it->own[0], 8 * index->words_len, 8 * index->words_len + 8), ones,
+             number_there = 0;
     if (words != NULL)
         it->own[0] = words;
     it->own_bytes = 8 * (index->words_len + LEVELS);

@@ -9,7 +9,7 @@ static void memory_dealloc(PyObject *self)
     for (int i = 0; i < it->held_count; i++)
         PyBuffer_Release(&it->held[i]);
     for (int i = 0; i < it->own_count; i++)
-        free(it->own[i]);
+        aligned_free(it->own[i]);
     ((freefunc)PyType_GetSlot(type, Py_tp_free))(self);
     Py_DECREF(type);
 }
@@ -44,7 +44,7 @@ void *memory_own(Memory *it, uint64_t count, size_t size)
 {
     void *room = NULL;
     if (it->own_count < MOST_BUFFERS && count <= (uint64_t)PY_SSIZE_T_MAX / size)
-        room = malloc(count == 0 ? 1 : (size_t)count * size);
+        room = aligned_new((size_t)count * size);
     if (room == NULL) {
         PyErr_NoMemory();
         return NULL;

@@ -28,7 +28,7 @@ int vector_resize(Vector *it, uint64_t len)
         return -1;
     if (after > room) {
         room = it->bits.len > 0 && after < room + room / 8 + 8 ? room + room / 8 + 8 : after;
-        words = room > (size_t)PY_SSIZE_T_MAX / 8 ? NULL : realloc(words, 8 * room);
+        words = room > (size_t)PY_SSIZE_T_MAX / 8 ? NULL : aligned_resize(words, 8 * before, 8 * room);
         if (words == NULL) {
             PyErr_NoMemory();
             return -1;
@@ -53,12 +53,12 @@ int vector_take(Vector *it, Vector *other)
 Vector *vector_new(PyTypeObject *type, uint64_t len)
 {
     size_t words = bitm_bits_words_len(len), room = words < 1 ? 1 : words;
-    uint64_t *own = room > (size_t)PY_SSIZE_T_MAX / 8 ? NULL : calloc(room, 8);
+    uint64_t *own = room > (size_t)PY_SSIZE_T_MAX / 8 ? NULL : aligned_new(8 * room);
     if (own == NULL)
         return (Vector *)PyErr_NoMemory();
     Vector *it = (Vector *)PyType_GenericAlloc(type, 0);
     if (it == NULL)
-        free(own);
+        aligned_free(own);
     else
         replace(it, own, room, len);
     return it;
@@ -91,7 +91,7 @@ static void vector_dealloc(PyObject *self)
     PyTypeObject *type = Py_TYPE(self);
     if (it->weak != NULL)
         PyObject_ClearWeakRefs(self);
-    free(it->words);
+    aligned_free(it->words);
     ((freefunc)PyType_GetSlot(type, Py_tp_free))(self);
     Py_DECREF(type);
 }

@@ -2,6 +2,8 @@
 pub(crate) mod bytes;
 pub(crate) mod hash;
 pub(crate) mod held;
+#[cfg(all(feature = "std", target_os = "linux"))]
+pub(crate) mod huge;
 pub(crate) mod index;
 #[cfg(all(feature = "mmap", unix))]
 pub(crate) mod mapped;

@@ -16,6 +16,34 @@ fn a_limit_of_memory_is_an_error_and_no_abort() {
     assert!(done.status.success() && text.contains("1 passed"), "{text}{}", String::from_utf8_lossy(&done.stderr));
 }
 
+/// Whether the mapping of an address asks for huge pages, as the system tells it.
+fn asks_for_huge_pages(address: usize) -> bool {
+    let text = std::fs::read_to_string("/proc/self/smaps").expect("Linux");
+    let is_inside = |line: &str| {
+        let bounds = line.split(' ').next().and_then(|it| it.split_once('-'))?;
+        let begin = usize::from_str_radix(bounds.0, 16).ok()?;
+        Some((begin..usize::from_str_radix(bounds.1, 16).ok()?).contains(&address))
+    };
+    let mut inside = false;
+    for line in text.lines() {
+        inside = is_inside(line).unwrap_or(inside);
+        if let Some(flags) = line.strip_prefix("VmFlags:").filter(|_| inside) {
+            return flags.split(' ').any(|it| it == "hg");
+        }
+    }
+    panic!("no mapping has the address {address:#x}");
+}
+
+#[test]
+fn many_words_ask_for_huge_pages() {
+    if !std::path::Path::new("/sys/kernel/mm/transparent_hugepage").exists() {
+        return eprintln!("skipped: this system has no huge pages");
+    }
+    let (large, small) = (Box::<[u64]>::with_zeroed_bits(1 << 26), Box::<[u64]>::with_zeroed_bits(1 << 24));
+    assert!(asks_for_huge_pages(large.as_ptr() as usize + (4 << 20)));
+    assert!(!asks_for_huge_pages(small.as_ptr() as usize + (1 << 20)));
+}
+
 /// All memory that is left but for some pieces of 64 KiB.
 fn fill(some: &mut Vec<Box<[u64]>>) {
     let mut len = 1 << 26;

@@ -21,7 +21,7 @@ unsafe impl Number for u32 {}
 // SAFETY: zero bytes are the number 0.
 unsafe impl Number for usize {}
 
-/// `len` zeros.
+/// `len` zeros; on Linux many of them lie in huge pages where the system has these.
 pub(crate) fn zeroed<T: Number>(len: usize) -> Result<Vec<T>, NoMemory> {
     let refused = NoMemory { bytes: len.saturating_mul(size_of::<T>()) };
     let layout = Layout::array::<T>(len).map_err(|_| refused)?;
@@ -33,6 +33,8 @@ pub(crate) fn zeroed<T: Number>(len: usize) -> Result<Vec<T>, NoMemory> {
     if at.is_null() {
         return Err(refused);
     }
+    #[cfg(all(feature = "std", target_os = "linux"))]
+    super::huge::ask(at.cast(), layout.size());
     // SAFETY: the allocator of vectors returned `len` zeros of this layout.
     Ok(unsafe { Vec::from_raw_parts(at, len, len) })
 }
