@@ -5,8 +5,8 @@ use Rattle.std.specs.List.{Contains}
 use Rattle.elias_fano_view.specs.LentParts.{Holds}
 use Rattle.elias_fano_view.specs.Told.{TellsLess}
 use Rattle.bitm_c.specs.Numbers.{ContainsAnswered}
-use Rattle.bitm_c.specs.Sequence.{lent_parts, IsSized}
-use Rattle.bitm_c.specs.declared.sequence.Sequence.{Sequence}
+use Rattle.bitm_abi.specs.Sequence.{lent_parts, IsSized}
+use Rattle.bitm_abi.specs.declared.sequence.Sequence.{Sequence}
 
 -- whether a value is one of the numbers, as 0 or 1
 pub contained_of : (sequence : Sequence) → IsSized sequence → (v old new : ℕ) (is : Bool) → (is ≡ true → new ≡ 1) → (is ≡ false → new ≡ 0)

@@ -1,21 +1,9 @@
 -- What the exported calls answer of the first bits of words: a status, and what is written where the caller says.
-use Rattle.std.specs.Prelude.{◌≡◌, ◌≢◌, ℕ, ◌+◌, ◌*◌, ◌^◌, ◌<◌, ◌≤◌, ◌↔◌, ◌⊎◌, Bool, not, List, length}
-use Rattle.bitm.specs.Bits.{item, IsShort}
+use Rattle.std.specs.Prelude.{◌≡◌, ◌≢◌, ℕ, ◌<◌, ◌≤◌, ◌↔◌, ◌⊎◌, Bool, not, List, length}
+use Rattle.bitm.specs.Bits.{item}
 use Rattle.bitm.specs.Count.{IsFirstFrom}
 use Rattle.bit_slices.specs.First.{first_bits, IsLastUpTo}
-
--- the words have bits_len bits
-abbrev pub HasBits : List ℕ → ℕ → Type 0
-HasBits words bits_len = bits_len ≤ 64 * length words
-
--- and are fewer than 2^58
-pub record HasCountedBits (words : List ℕ) (bits_len : ℕ) : Type 0 where
-  pub short : IsShort words
-  pub bits : HasBits words bits_len
-
--- the count bits from begin on are in the words, and end at a position of 64 bits
-abbrev pub HasRange : List ℕ → ℕ → ℕ → Type 0
-HasRange words begin count = (begin + count < 2 ^ 64) × (begin + count ≤ 64 * length words)
+use Rattle.bitm_abi.specs.Lengths.{HasCountedBits}
 
 -- a status is 2 exactly where the lengths do not fit; where they do, it is 0 exactly where `inside` holds, and else 1
 pub record IsStatus (sized inside : Type 0) (status : ℕ) : Type 0 where

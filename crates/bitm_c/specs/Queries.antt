@@ -1,15 +1,9 @@
 -- What the exported calls answer of the first bits of words: a status, and a number written where the caller says.
 use Rattle.std.specs.Prelude.{◌≡◌, ℕ, ◌+◌, ◌-◌, ◌<◌, ◌≤◌, Bool, List, length, min, slice_index}
 use Rattle.bitm.specs.Count.{count_before, count_of, Picks}
-use Rattle.bitm_view.specs.Cut.{Cut, cut_at, IsSizedCut}
+use Rattle.bitm_view.specs.Cut.{Cut, IsSizedCut}
 use Rattle.bitm_view.specs.Queries.{NextIn, PreviousIn, RanksIn, SelectsIn}
-use Rattle.bitm_view.specs.Sizes.{lists_of}
-use Rattle.bitm_c.specs.Status.{Exported}
-use Rattle.bitm_c.specs.declared.view.Index.{Index}
-
--- the words and tables of an index, and the length of the bit vector
-abbrev pub cut_of : Index → Cut
-cut_of index = cut_at (lists_of index.words.now index.upper.now index.lower.now) index.bits_len
+use Rattle.bitm_abi.specs.Status.{Exported}
 
 -- a rank of the first index bits, of kind v
 abbrev pub RankAnswered : Bool → Cut → ℕ → ℕ → ℕ → ℕ → Type 0

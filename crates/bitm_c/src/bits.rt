@@ -1,29 +1,14 @@
 //! Single bits and numbers in the caller's words. A bit vector may end inside a word.
-ghost use Rattle.std.specs.Prelude.{◌≡◌, ◌≢◌, ◌+◌, ◌*◌, ◌%◌, ◌^◌, ◌<◌, ◌≤◌, ◌↔◌, IsTrue, length, if◌then◌else◌};
+ghost use Rattle.std.specs.Prelude.{◌≡◌, ◌≢◌, ◌+◌, ◌*◌, ◌%◌, ◌^◌, ◌<◌, ◌≤◌, if◌then◌else◌};
 ghost use Rattle.bitm.specs.Bits.{bits_of, item};
 ghost use Rattle.bitm.specs.Number.{number_at, with_number};
 ghost use Rattle.bit_slices.specs.First.{first_bits};
-ghost use Rattle.bitm_c.specs.Bits.{HasBits, HasCountedBits, IsStatus};
+ghost use Rattle.bitm_c.specs.Bits.{IsStatus};
+ghost use Rattle.bitm_abi.specs.Lengths.{HasBits};
 
-use crate::answer::{BAD_SIZE, NONE, OK, tell};
 use bit_slices::{fragment_in, number_in, set_fragment_in, set_number_in};
 use bitm::words;
-
-/// Whether the words have `bits_len` bits.
-#[inline(always)]
-pub(crate) fn has_bits(words: &[u64], bits_len: usize) -> bool
-    ensures { IsTrue result ↔ HasBits words.now bits_len }
-{
-    bits_len.div_ceil(64) <= words.len()
-}
-
-/// Whether the words have `bits_len` bits, and are fewer than 2^58.
-#[inline(always)]
-pub(crate) fn has_counted_bits(words: &[u64], bits_len: usize) -> bool
-    ensures { IsTrue result ↔ HasCountedBits words.now bits_len }
-{
-    words.len() < 1 << 58 && has_bits(words, bits_len)
-}
+use bitm_abi::{BAD_SIZE, NONE, OK, done, has_bits, tell};
 
 /// The bit at `position`, as 0 or 1.
 #[unsafe(no_mangle)]
@@ -153,12 +138,4 @@ pub extern "C" fn bitm_bits_set_fragment(
         return BAD_SIZE;
     }
     done(set_fragment_in(words, bits_len, index, width, value))
-}
-
-/// The status of a call by whether it wrote.
-#[inline(always)]
-pub(crate) fn done(is_done: bool) -> u32
-    ensures { result ≡ (if is_done then 0 else 1) }
-{
-    if is_done { OK } else { NONE }
 }

@@ -1,34 +1,13 @@
 //! Whole stored indexes: how large they are, and the call that writes all their parts.
-ghost use Rattle.std.specs.Prelude.{◌≡◌, ◌≢◌, ◌+◌, ◌*◌, ◌↔◌, IsTrue};
+ghost use Rattle.std.specs.Prelude.{◌≡◌, ◌≢◌, ◌+◌, ◌*◌, ◌↔◌};
 ghost use Rattle.std.specs.Int.{div_ceil};
 ghost use Rattle.bitm_view.specs.Block.{sample_room, zeros_from, HasBlockRoom, IsBlock};
-ghost use Rattle.bitm_c.specs.Stored.{HasIndexLens, IsIndexOf, IsLog, IsStored};
+ghost use Rattle.bitm_abi.specs.Stored.{HasIndexLens, IsIndexOf, IsLog, IsStored};
 
-use crate::answer::{BAD_SIZE, OK};
-use crate::layout::Stored;
 use crate::sampled::bitm_index_samples_len;
-use crate::stored::{bitm_stored_index, index_of};
+use crate::stored::bitm_stored_index;
+use bitm_abi::{BAD_SIZE, OK, Stored, index_of, is_log, most_samples};
 use bitm_view::{build_block, has_block_room};
-
-/// The room that samples of one kind of the given number of words need; 0 where the logarithm is 0, which stands for no
-/// samples.
-#[inline(always)]
-fn most_samples(words: u64, log2: u32) -> u64
-    ensures { result ≡ sample_room words log2 }
-{
-    if log2 == 0 {
-        return 0;
-    }
-    bitm_index_samples_len(words as usize, log2) as u64
-}
-
-/// Whether `log2` is a logarithm of samples, or 0 for no samples.
-#[inline(always)]
-fn is_log(log2: u32) -> bool
-    ensures { IsTrue result ↔ IsLog log2 }
-{
-    log2 == 0 || log2 >= 7 && log2 <= 31
-}
 
 /// Writes the header of an index of `bits_len` bits with the room that its samples need at most.
 #[unsafe(no_mangle)]

@@ -1,17 +1,9 @@
 //! A few bits that begin anywhere in the caller's bytes, read and written by one little-endian word.
-ghost use Rattle.std.specs.Prelude.{◌≡◌, ◌≢◌, ◌+◌, ◌/◌, ◌≤◌, ◌↔◌, length, IsTrue};
+ghost use Rattle.std.specs.Prelude.{◌≡◌, ◌≢◌, ◌+◌, ◌/◌, ◌≤◌, ◌↔◌, length};
 ghost use Rattle.bitm.specs.Bytes.{byte_bits_of, byte_window, with_window};
 ghost use Rattle.bitm.specs.Number.{number_of_bits};
 
-use crate::answer::{NONE, OK};
-
-/// Whether there are `count` bytes from byte `first_bit / 8` on.
-#[inline(always)]
-fn has_bytes(bytes: &[u8], first_bit: usize, count: usize) -> bool
-    ensures { IsTrue result ↔ (first_bit / 8 + count ≤ length bytes.now) }
-{
-    count <= bytes.len() && first_bit / 8 <= bytes.len() - count
-}
+use bitm_abi::{NONE, OK, has_bytes};
 
 /// The bits from `first_bit` to the end of the eight bytes that begin with its byte, as a number, lowest first.
 #[unsafe(no_mangle)]

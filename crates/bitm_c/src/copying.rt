@@ -1,22 +1,11 @@
 //! Copies and comparisons of ranges of bits in the caller's words.
-ghost use Rattle.std.specs.Prelude.{◌≡◌, ◌≢◌, ◌≤◌, ◌↔◌, IsTrue};
+ghost use Rattle.std.specs.Prelude.{◌≡◌, ◌≢◌, ◌≤◌, ◌↔◌};
 ghost use Rattle.bitm.specs.Bits.{bits_of};
 ghost use Rattle.bit_slices.specs.Copied.{AreSame, IsCopied};
-ghost use Rattle.bitm_c.specs.Bits.{HasRange};
+ghost use Rattle.bitm_abi.specs.Lengths.{HasRange};
 
-use crate::answer::{NONE, OK};
 use bit_slices::{copy_range, is_equal_range};
-
-/// Whether the `count` bits from `begin` on are in the words.
-#[inline(always)]
-fn has_range(words: &[u64], begin: usize, count: usize) -> bool
-    ensures { IsTrue result ↔ HasRange words.now begin count }
-{
-    match begin.checked_add(count) {
-        Some(end) => end.div_ceil(64) <= words.len(),
-        None => false,
-    }
-}
+use bitm_abi::{NONE, OK, has_range};
 
 /// Replaces the `count` bits of `to` from `to_begin` on by those of `from` from `from_begin` on.
 #[unsafe(no_mangle)]

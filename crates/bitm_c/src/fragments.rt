@@ -3,11 +3,11 @@ ghost use Rattle.std.specs.Prelude.{◌≡◌, ◌≢◌, ℕ, ◌+◌, ◌*◌,
 ghost use Rattle.std.specs.Int.{div_ceil};
 ghost use Rattle.bitm.specs.Bits.{bits_of, item};
 ghost use Rattle.bitm.specs.Number.{number_at, with_number, with_swapped};
-ghost use Rattle.bitm_c.specs.Bits.{HasBits, IsStatus};
+ghost use Rattle.bitm_c.specs.Bits.{IsStatus};
+ghost use Rattle.bitm_abi.specs.Lengths.{HasBits};
 
-use crate::answer::BAD_SIZE;
-use crate::bits::{done, has_bits};
 use bit_slices::{fill_fragments_in, swap_fragments_in, xor_number_in};
+use bitm_abi::{BAD_SIZE, done, has_bits};
 
 /// The number of words that hold `bits_len` bits.
 #[unsafe(no_mangle)]

@@ -1,6 +1,6 @@
 //! Minimal perfect hashes in the caller's memory: their levels, built one by one or in one call, and the number of a
 //! hash by the index over the words of all levels. The caller hashes the keys.
-ghost use Rattle.std.specs.Prelude.{◌≡◌, ◌≢◌, ℕ, ◌-◌, ◌<◌, ◌≤◌, ◌^◌, ◌↔◌, length, min, slice_index, take, SomeIff};
+ghost use Rattle.std.specs.Prelude.{◌≡◌, ◌≢◌, ℕ, ◌-◌, ◌<◌, ◌≤◌, ◌^◌, ◌↔◌, length, min, slice_index, take};
 ghost use Rattle.bitm.specs.Bits.{bits_of, IsShort};
 ghost use Rattle.bitm.specs.Count.{ones_of};
 ghost use Rattle.bitm.specs.Tables.{HasSizes};
@@ -9,44 +9,13 @@ ghost use Rattle.perfect_hash.specs.InPlace.{IsMade};
 ghost use Rattle.perfect_hash.specs.Levels.{left_of, AreSized, IsLevel, Leave};
 ghost use Rattle.perfect_hash.specs.Parts.{AreLevels};
 ghost use Rattle.perfect_hash.specs.Places.{place_in, words_for};
-ghost use Rattle.bitm_c.specs.Hash.{hash_lists, made_of, CanBeLevel, HashAnswered, IsHashNumber};
-ghost use Rattle.bitm_c.specs.Lists.{AreCounted};
+ghost use Rattle.bitm_c.specs.Hash.{made_of, CanBeLevel, HashAnswered};
+ghost use Rattle.bitm_abi.specs.Hash.{hash_lists, IsHashNumber};
+ghost use Rattle.bitm_abi.specs.Lists.{AreCounted};
 
-use crate::answer::{BAD_SIZE, OK, report};
-use crate::counts::{ListCounts, codes_in};
-use crate::view::Index;
-use bitm_view::{Answer, Lent, NO_ANSWER, WRONG_TABLES, clear};
+use bitm_abi::{BAD_SIZE, Hash, ListCounts, OK, number_list, report, report_list};
+use bitm_view::clear;
 use perfect_hash::{build_in_place, level_len, split_level, total_number_on};
-
-/// At most this many levels are queried.
-const LEVELS: usize = 256;
-
-/// A perfect hash in the caller's memory: the index over the words of all levels, whose `bits_len` and samples are not
-/// read, the number of words of each level, and the number of keys.
-#[repr(C)]
-#[derive(Clone, Copy)]
-pub struct Hash<'a> {
-    /// The index over the words of all levels.
-    pub index: Index<'a>,
-    /// The number of words of each level.
-    pub sizes: &'a [usize],
-    /// The number of keys.
-    pub keys: usize,
-}
-
-impl<'a> Hash<'a> {
-    /// The words and tables as the library queries them; `None` exactly where a length is not right.
-    #[inline(always)]
-    fn lent(&self) -> Option<Lent<'a>>
-        ensures { SomeIff result (HasSizes (hash_lists self.now) × (length self.now.sizes.now ≤ 256))
-            (hash_lists self.now) }
-    {
-        if self.sizes.len() > LEVELS {
-            return None;
-        }
-        Lent::over(self.index.words, self.index.upper, self.index.lower)
-    }
-}
 
 /// The number of words of the next level for `left` hashes: `percent` bits for each 100 hashes, where less than 50
 /// counts as 50; at least one word and at most 2^64 - 1.
@@ -158,36 +127,6 @@ pub extern "C" fn bitm_hash_get_list(
     let Some(lent) = hash.lent() else {
         return BAD_SIZE;
     };
-    if out.len() != key_hashes.len() {
-        return BAD_SIZE;
-    }
-    number_each(&lent, hash.sizes, hash.keys, key_hashes, &mut *out);
-    *counts = codes_in(&*out);
-    OK
-}
-
-/// The number of each hash.
-fn number_each(lent: &Lent<'_>, sizes: &[usize], keys: usize, hashes: &[u64], out: &mut [usize])
-    requires few { length sizes.now ≤ 256 }
-    requires same_length { length out.old ≡ length hashes.now }
-    ensures { (j : ℕ) → j < length hashes.now → IsHashNumber sizes.now keys
-        (slice_index hashes.now j) lent.now (ranked_by (slice_index out.new j)) }
-{
-    for at in 0..hashes.len() {
-        out[at] = number_code(lent, sizes, keys, hashes[at]);
-    }
-}
-
-/// The number of a hash, by the codes of lists.
-#[inline(always)]
-fn number_code(lent: &Lent<'_>, sizes: &[usize], keys: usize, hash: u64) -> usize
-    requires { length sizes.now ≤ 256 }
-    ensures { IsHashNumber sizes.now keys hash lent.now (ranked_by result) }
-{
-    // A number is no code, whatever the number of keys.
-    match total_number_on(&mut lent.probe(), sizes, keys.min(WRONG_TABLES), hash) {
-        Answer::Found(number) => number,
-        Answer::Absent => NO_ANSWER,
-        Answer::Wrong => WRONG_TABLES,
-    }
+    let done = number_list(&lent, hash.sizes, hash.keys, key_hashes, &mut *out);
+    report_list(done, &*out, counts)
 }

@@ -6,10 +6,9 @@ ghost use Rattle.bitm.specs.Count.{ones_of};
 ghost use Rattle.bitm.specs.Tables.{HasSizes, HasTables};
 ghost use Rattle.bitm_view.specs.Sizes.{lists_of};
 ghost use Rattle.bitm_view.specs.Cut.{IsSizedCut};
-ghost use Rattle.bitm_c.specs.Queries.{cut_of};
+ghost use Rattle.bitm_abi.specs.Index.{cut_of};
 
-use crate::answer::{BAD_SIZE, OK, WRONG};
-use crate::view::Index;
+use bitm_abi::{BAD_SIZE, Index, OK, WRONG};
 
 /// The length of the upper table of `words_len` words: ceil(words_len / 2^26) numbers.
 #[unsafe(no_mangle)]

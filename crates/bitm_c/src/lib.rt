@@ -6,16 +6,13 @@
 #![tactic(auto)]
 
 // What is in each file:
-// - `answer`: how an export reports an answer
 // - `bits`: single bits and numbers in words
 // - `block`: a whole stored index, built in one call
 // - `bytes`: a few bits anywhere in bytes
 // - `copying`: copies and comparisons of ranges of bits
-// - `counts`: the number of codes in a list of answers
 // - `fragments`: arrays of numbers in words, and the size of a bit vector
 // - `hash`: perfect hashes
 // - `index`: building and checking tables
-// - `layout`: where each part of a file is
 // - `listed`: writes at a list of positions
 // - `numbers`: predecessors, membership and runs of numbers of a sequence
 // - `queries`: lists of queries, counts and positions of an index
@@ -28,19 +25,15 @@
 // - `shards`: indexes over shards, queried as one
 // - `stored`: the header of a file
 // - `version`: the version
-// - `view`: the index that exports take
 // - `whole`: bitwise operations on two bit vectors
 // - `word`: selection in a word, and numbers of layouts
-mod answer;
 mod bits;
 mod block;
 mod bytes;
 mod copying;
-mod counts;
 mod fragments;
 mod hash;
 mod index;
-mod layout;
 mod listed;
 mod numbers;
 mod queries;
@@ -54,6 +47,5 @@ mod shard_lists;
 mod shards;
 mod stored;
 mod version;
-mod view;
 mod whole;
 mod word;

@@ -2,11 +2,10 @@
 ghost use Rattle.std.specs.Prelude.{◌≡◌, ◌≢◌, ◌↔◌};
 ghost use Rattle.bitm.specs.Bits.{bits_of};
 ghost use Rattle.bit_slices.specs.Listed.{outside_of, IsSetAt};
-ghost use Rattle.bitm_c.specs.Bits.{HasBits};
+ghost use Rattle.bitm_abi.specs.Lengths.{HasBits};
 
-use crate::answer::{BAD_SIZE, OK};
-use crate::bits::has_bits;
 use bit_slices::set_listed_in;
+use bitm_abi::{BAD_SIZE, OK, has_bits};
 
 /// Sets the bits at those positions that are below `bits_len` to `value`, and writes how many positions are not.
 #[unsafe(no_mangle)]

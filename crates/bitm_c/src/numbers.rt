@@ -4,10 +4,9 @@ ghost use Rattle.std.specs.Prelude.{◌≡◌, ◌≢◌, ◌-◌, ◌≤◌, �
 ghost use Rattle.elias_fano_view.specs.LentParts.{Holds};
 ghost use Rattle.elias_fano_view.specs.Lists.{AreItemsFrom, IsKeptFrom};
 ghost use Rattle.bitm_c.specs.Numbers.{ContainsAnswered, LastAnswered};
-ghost use Rattle.bitm_c.specs.Sequence.{lent_parts, IsSized};
+ghost use Rattle.bitm_abi.specs.Sequence.{lent_parts, IsSized};
 
-use crate::answer::{BAD_SIZE, OK, WRONG, report};
-use crate::sequence::Sequence;
+use bitm_abi::{BAD_SIZE, OK, Sequence, WRONG, report};
 
 /// The predecessor of `value`: the greatest index whose number is at most `value`.
 #[unsafe(no_mangle)]

@@ -3,12 +3,11 @@ ghost use Rattle.std.specs.Prelude.{◌≡◌, ◌≢◌, ◌<◌, ◌↔◌, �
 ghost use Rattle.bitm.specs.Count.{count_of};
 ghost use Rattle.bitm_view.specs.Cut.{bits_of_cut, IsSizedCut};
 ghost use Rattle.bitm_view.specs.Queries.{ranked_by, selected_by, RanksIn, SelectsIn};
-ghost use Rattle.bitm_c.specs.Lists.{AreCounted};
-ghost use Rattle.bitm_c.specs.Queries.{cut_of, PlacesWritten};
+ghost use Rattle.bitm_c.specs.Queries.{PlacesWritten};
+ghost use Rattle.bitm_abi.specs.Index.{cut_of};
+ghost use Rattle.bitm_abi.specs.Lists.{AreCounted};
 
-use crate::answer::{BAD_SIZE, OK};
-use crate::counts::{ListCounts, codes_in};
-use crate::view::Index;
+use bitm_abi::{BAD_SIZE, Index, ListCounts, OK, report_list};
 
 /// Writes the rank of each position of a list, and how many of the ranks are codes.
 #[unsafe(no_mangle)]
@@ -35,11 +34,7 @@ pub extern "C" fn bitm_index_rank_list(
     } else {
         view.rank_each::<0>(positions, &mut *out)
     };
-    if !done {
-        return BAD_SIZE;
-    }
-    *counts = codes_in(&*out);
-    OK
+    report_list(done, &*out, counts)
 }
 
 /// Writes the position of the bit with each rank of a list, and how many of the positions are codes.
@@ -67,11 +62,7 @@ pub extern "C" fn bitm_index_select_list(
     } else {
         view.select_each::<0>(ranks, &mut *out)
     };
-    if !done {
-        return BAD_SIZE;
-    }
-    *counts = codes_in(&*out);
-    OK
+    report_list(done, &*out, counts)
 }
 
 /// The number of 1 bits, or of 0 bits, in the bit vector, counted in the words alone.

@@ -4,12 +4,12 @@ ghost use Rattle.std.specs.Prelude.{length, min, slice_index};
 ghost use Rattle.bitm.specs.Bits.{bits_of, item};
 ghost use Rattle.bitm.specs.Count.{count_before, count_of, Picks};
 ghost use Rattle.bit_slices.specs.First.{first_bits};
-ghost use Rattle.bitm_c.specs.Bits.{HasBits, HasCountedBits, IsStatus, NextAnswered, PreviousAnswered};
+ghost use Rattle.bitm_c.specs.Bits.{IsStatus, NextAnswered, PreviousAnswered};
+ghost use Rattle.bitm_abi.specs.Lengths.{HasBits, HasCountedBits};
 
-use crate::answer::{BAD_SIZE, NONE, OK, tell};
-use crate::bits::{has_bits, has_counted_bits};
 use bit_slices::{count_in, count_range_in, next_in, positions_in, previous_in};
 use bitm::words;
+use bitm_abi::{BAD_SIZE, NONE, OK, has_bits, has_counted_bits, tell};
 use bitm_view::clear_from;
 
 /// The number of 1 bits, or of 0 bits, among the first `bits_len` bits.

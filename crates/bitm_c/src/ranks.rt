@@ -1,9 +1,9 @@
 //! The rank of an index. Each size of index has its own code, which saves no register and has no test for another size.
 //! The fewer instructions a rank takes, the more ranks a processor overlaps while they wait for their words.
-ghost use Rattle.bitm_c.specs.Queries.{cut_of, RankAnswered};
+ghost use Rattle.bitm_c.specs.Queries.{RankAnswered};
+ghost use Rattle.bitm_abi.specs.Index.{cut_of};
 
-use crate::answer::{BAD_SIZE, report};
-use crate::view::Index;
+use bitm_abi::{BAD_SIZE, Index, report};
 
 /// `bitm_index_rank` for more than one upper block, and for wrong lengths.
 #[inline(never)]

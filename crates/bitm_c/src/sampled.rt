@@ -1,51 +1,13 @@
 //! Samples in the caller's memory: how to build and how to check them.
-ghost use Rattle.std.specs.Prelude.{◌≡◌, ◌≢◌, ◌≤◌, ◌↔◌, ◌⊎◌, ℕ, length, min, slice_index, take, true, false};
+ghost use Rattle.std.specs.Prelude.{◌≡◌, ◌≢◌, ◌≤◌, ◌↔◌, ◌⊎◌, ℕ, length, slice_index, take};
 ghost use Rattle.bitm.specs.Density.{clamped_log};
 ghost use Rattle.bitm.specs.Tables.{HasTables, bits_in};
 ghost use Rattle.bitm_view.specs.Samples.{AreSamples, AreSamplesOf, HasRoom, enough_samples};
 ghost use Rattle.bitm_view.specs.Cut.{IsSizedCut};
-ghost use Rattle.bitm_c.specs.Queries.{cut_of};
-ghost use Rattle.bitm_c.specs.Sampled.{lent_samples, samples_in};
+ghost use Rattle.bitm_abi.specs.Index.{cut_of};
+ghost use Rattle.bitm_abi.specs.Samples.{lent_samples, samples_in};
 
-use crate::answer::{BAD_SIZE, OK, WRONG};
-use crate::view::Index;
-use bitm_view::LentSamples;
-
-/// Samples of one kind of bit: for C two pairs of a pointer and a length, and a number.
-#[repr(C)]
-#[derive(Clone, Copy)]
-pub struct Samples<'a> {
-    /// The samples, and nothing after them.
-    pub samples: &'a [u32],
-    /// The number of samples before each upper block.
-    pub starts: &'a [usize],
-    /// The logarithm of the number of bits that one sample stands for.
-    pub log2: u32,
-    /// Room for later versions; this one does not read it.
-    pub reserved: u32,
-}
-
-/// A logarithm as the library takes it: 31 in place of any above 31.
-#[inline(always)]
-fn narrow_log2(log2: u32) -> u8
-    ensures { result ≡ min log2 31 }
-{
-    log2.min(31) as u8
-}
-
-impl<'a> Samples<'a> {
-    /// The samples as the library takes them.
-    #[inline(always)]
-    pub(crate) fn lent(&self) -> LentSamples<'a>
-        ensures { result ≡ lent_samples self.now }
-    {
-        LentSamples {
-            samples: self.samples,
-            starts: self.starts,
-            log2: narrow_log2(self.log2),
-        }
-    }
-}
+use bitm_abi::{BAD_SIZE, Index, OK, WRONG, narrow_log2};
 
 /// The room for samples of one kind of `words_len` words: ceil(words_len / 2^(log2 - 6)) samples.
 #[unsafe(no_mangle)]

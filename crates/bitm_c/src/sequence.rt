@@ -1,68 +1,16 @@
 //! Monotone integer sequences (Elias-Fano) whose parts lie in the caller's memory.
-ghost use Rattle.std.specs.Prelude.{◌≡◌, ◌≢◌, ◌<◌, ◌≤◌, ◌↔◌, ◌⊎◌, ℕ, List, length, slice_index, SomeIff};
+ghost use Rattle.std.specs.Prelude.{◌≡◌, ◌≢◌, ◌<◌, ◌≤◌, ◌↔◌, ◌⊎◌, ℕ, List, length, slice_index};
 ghost use Rattle.bitm_view.specs.Sizes.{lists_of};
 ghost use Rattle.elias_fano.specs.Parts.{width_of};
 ghost use Rattle.elias_fano.specs.Sequence.{HasFall};
 ghost use Rattle.elias_fano_view.specs.LentParts.{parts_of, AreParts, Holds};
 ghost use Rattle.elias_fano_view.specs.Lists.{AreItems, IsKeptFrom};
 ghost use Rattle.elias_fano_view.specs.Sizes.{sizes_of, HasRoom, IsLargest};
-ghost use Rattle.bitm_c.specs.Sequence.{lent_parts, sizes_in_c, IsListTold, IsSized};
-ghost use Rattle.bitm_c.specs.Status.{IsReported};
 ghost use Rattle.bitm_c.specs.Sequence.{ItemAnswered, PlaceAnswered};
+ghost use Rattle.bitm_abi.specs.Sequence.{lent_parts, sizes_in_c, IsSized};
 
-use crate::answer::{BAD_SIZE, OK, UNSORTED, WRONG, report};
-use bitm_view::Lent;
-use elias_fano_view::{Answer, BuildError, LentSequence, ListAnswer, Sizes, build};
-
-/// A sequence in the caller's memory: for C two numbers, four pairs of a pointer and a length, and room.
-#[repr(C)]
-#[derive(Clone, Copy)]
-pub struct Sequence<'a> {
-    /// The number of numbers.
-    pub len: usize,
-    /// The number of low bits of each number.
-    pub width: u64,
-    /// The low bits of each number.
-    pub low: &'a [u64],
-    /// The words of the high bits.
-    pub words: &'a [u64],
-    /// The upper table of these words.
-    pub upper: &'a [usize],
-    /// The lower table of these words.
-    pub lower: &'a [u64],
-    /// Room for later versions; this one does not read it.
-    pub reserved: [u64; 2],
-}
-
-/// The lengths of the parts of a sequence.
-#[repr(C)]
-#[derive(Clone, Copy)]
-pub struct SequenceLens {
-    /// The number of low bits of each number.
-    pub width: u64,
-    /// The number of words of the low bits.
-    pub low_len: u64,
-    /// The number of words of the high bits.
-    pub words_len: u64,
-    /// The length of the upper table.
-    pub upper_len: u64,
-    /// The length of the lower table.
-    pub lower_len: u64,
-}
-
-impl<'a> Sequence<'a> {
-    /// The parts as the library queries them; `None` exactly where a length is not right.
-    #[inline(always)]
-    pub(crate) fn lent(&self) -> Option<LentSequence<'a>>
-        ensures { SomeIff result (IsSized self.now) (lent_parts self.now) }
-    {
-        let upper = Lent::over(self.words, self.upper, self.lower)?;
-        if self.width > 63 {
-            return None;
-        }
-        LentSequence::over(self.len, self.width as u8, self.low, upper)
-    }
-}
+use bitm_abi::{BAD_SIZE, OK, Sequence, SequenceLens, UNSORTED, WRONG, report, tell_list};
+use elias_fano_view::{BuildError, Sizes, build};
 
 /// Writes the lengths of the parts of a sequence of `len` numbers whose last and largest is `largest`.
 #[unsafe(no_mangle)]
@@ -182,18 +130,4 @@ pub extern "C" fn bitm_sequence_get_list(
         Some(lent) => tell_list(lent.get_list(indices, out), indices.len(), written),
         None => BAD_SIZE,
     }
-}
-
-/// Reports how many numbers of a list were written.
-#[inline(always)]
-fn tell_list(answer: ListAnswer, len: usize, written: &mut usize) -> u32
-    ensures { IsListTold answer len result written.old written.new }
-{
-    *written = match answer {
-        ListAnswer::All => len,
-        ListAnswer::AbsentAt(at) => at,
-        ListAnswer::WrongAt(at) => at,
-        ListAnswer::WrongLength => return BAD_SIZE,
-    };
-    OK
 }

@@ -1,12 +1,10 @@
 //! Lists of ranks and selections of bits in shards.
 ghost use Rattle.std.specs.Prelude.{◌≡◌, ◌≢◌, ◌<◌, ◌↔◌, ℕ, length, slice_index};
 ghost use Rattle.bitm_view.specs.Queries.{ranked_by, selected_by};
-ghost use Rattle.bitm_c.specs.Lists.{AreCounted};
 ghost use Rattle.bitm_c.specs.Shards.{HasTellableShards, RanksJoined, SelectsJoined};
+ghost use Rattle.bitm_abi.specs.Lists.{AreCounted};
 
-use crate::answer::{BAD_SIZE, OK};
-use crate::counts::{ListCounts, codes_in};
-use crate::shards::Shards;
+use bitm_abi::{BAD_SIZE, ListCounts, Shards, report_list};
 
 /// The ranks of a list of positions of the joined bits, and how many of these are codes.
 #[unsafe(no_mangle)]
@@ -28,11 +26,8 @@ pub extern "C" fn bitm_shards_rank_list(
     let Some(index) = shards.index() else {
         return BAD_SIZE;
     };
-    if !index.rank_list(one, positions, &mut *out, room) {
-        return BAD_SIZE;
-    }
-    *counts = codes_in(&*out);
-    OK
+    let done = index.rank_list(one, positions, &mut *out, room);
+    report_list(done, &*out, counts)
 }
 
 /// The positions, in the joined bits, of the bits with a list of ranks, and how many of these are codes.
@@ -54,9 +49,6 @@ pub extern "C" fn bitm_shards_select_list(
     let Some(index) = shards.index() else {
         return BAD_SIZE;
     };
-    if !index.select_list(one, ranks, &mut *out, room) {
-        return BAD_SIZE;
-    }
-    *counts = codes_in(&*out);
-    OK
+    let done = index.select_list(one, ranks, &mut *out, room);
+    report_list(done, &*out, counts)
 }

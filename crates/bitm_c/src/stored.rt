@@ -1,163 +1,11 @@
 //! The header of a file with an index or a sequence: which parts it has, and where each of them is.
-ghost use Rattle.std.specs.Prelude.{◌≡◌, ◌≢◌, ◌+◌, ◌*◌, ◌<◌, ◌≤◌, ◌↔◌, ◌⊎◌, IsTrue, length};
-ghost use Rattle.bitm_c.specs.Stored.{header_in, span_in, HasSampleLens, IsBounded, IsHeaded};
-ghost use Rattle.bitm_c.specs.Stored.{IsIndex, IsIndexOf, IsLaidOut, IsSequence, IsSequenceOf, IsStored, LiesWithin};
-ghost use Rattle.bitm_c.specs.Stored.{HasIndexLens, HasSequenceLens};
+ghost use Rattle.std.specs.Prelude.{◌≡◌, ◌≢◌, ◌*◌, ◌<◌, ◌↔◌, length};
+ghost use Rattle.bitm_abi.specs.Stored.{header_in, HasIndexLens, HasSequenceLens, IsHeaded, IsIndexOf, IsSequenceOf, IsStored, LiesWithin};
 
-use crate::answer::{BAD_SIZE, OK, WRONG};
-use crate::layout::{Span, Stored};
-use crate::sequence::SequenceLens;
-use bitm_view::{lower_len, samples_len, upper_len};
-
-/// The size of the header in words.
-const HEADER_WORDS: usize = 24;
-
-/// Whether the given number of words can have `len` samples of that logarithm; 0 stands for no samples.
-#[inline(always)]
-fn has_sample_lens(words: u64, log2: u64, len: u64) -> bool
-    ensures { IsTrue result ↔ HasSampleLens words log2 len }
-{
-    if log2 == 0 {
-        return len == 0;
-    }
-    log2 >= 7 && log2 <= 31 && len <= samples_len(words as usize, log2 as u8) as u64
-}
-
-impl Stored {
-    /// Whether an index can have these lengths.
-    #[inline(always)]
-    fn is_index(&self) -> bool
-        ensures { IsTrue result ↔ IsIndex self.now }
-    {
-        self.kind == 1
-            && self.len <= u64::MAX - 63
-            && self.width == 0
-            && self.words.len == self.len.div_ceil(64)
-            && self.low.len == 0
-            && has_sample_lens(self.words.len, self.ones_log2, self.samples.len)
-            && has_sample_lens(self.words.len, self.zeros_log2, self.samples0.len)
-    }
-
-    /// Whether a sequence can have these lengths.
-    #[inline(always)]
-    fn is_sequence(&self) -> bool
-        ensures { IsTrue result ↔ IsSequence self.now }
-    {
-        self.kind == 2
-            && self.len < 1 << 56
-            && self.width <= 63
-            && self.words.len < 1 << 58
-            && self.low.len == (self.len * self.width).div_ceil(64)
-            && self.ones_log2 == 0
-            && self.samples.len == 0
-            && self.zeros_log2 == 0
-            && self.samples0.len == 0
-    }
-
-    /// Whether an index or a sequence can have these lengths.
-    #[inline(always)]
-    fn has_shape(&self) -> bool
-        ensures shape { IsTrue result ↔ (IsIndex self.now ⊎ IsSequence self.now) }
-        ensures bounded { IsTrue result → IsBounded self.now }
-    {
-        self.is_index() || self.is_sequence()
-    }
-
-    /// Whether the offset of each part, the size of the file and the checksum are right.
-    #[inline(always)]
-    #[tactic(auto, using(crate::proofs::StoredLemmas::moved, crate::proofs::StoredLemmas::same_layout))]
-    fn is_laid_out(&self) -> bool
-        requires { IsBounded self.now }
-        ensures { IsTrue result ↔ IsLaidOut self.now }
-    {
-        self.is(&self.laid_out())
-    }
-}
-
-/// The part that two words of a file describe.
-#[inline(always)]
-fn span_at(file: &[u64], at: usize) -> Span
-    requires { at + 1 < length file.now }
-    ensures { result ≡ span_in file.now at }
-{
-    Span {
-        at: file[at],
-        len: file[at + 1],
-    }
-}
-
-/// The header that the first words of a file hold, right or wrong.
-#[inline(always)]
-fn header_at(file: &[u64]) -> Stored
-    requires { 24 ≤ length file.now }
-    ensures { result ≡ header_in file.now }
-{
-    Stored {
-        mark: file[0],
-        kind: file[1],
-        len: file[2],
-        width: file[3],
-        size: file[4],
-        ones_log2: file[5],
-        zeros_log2: file[6],
-        words: span_at(file, 7),
-        upper: span_at(file, 9),
-        lower: span_at(file, 11),
-        low: span_at(file, 13),
-        starts: span_at(file, 15),
-        starts0: span_at(file, 17),
-        samples: span_at(file, 19),
-        samples0: span_at(file, 21),
-        checksum: file[23],
-    }
-}
-
-/// A part of `len` items, without its offset.
-#[inline(always)]
-fn items(len: u64) -> Span
-    ensures { result ≡ record { at = 0; len = len } }
-{
-    Span { at: 0, len }
-}
-
-/// The header of an index with the lengths alone.
-#[inline(always)]
-pub(crate) fn index_of(len: u64, ones_log2: u32, ones: u64, zeros_log2: u32, zeros: u64) -> Stored
-    ensures { IsIndexOf len ones_log2 ones zeros_log2 zeros result }
-{
-    Stored {
-        mark: 0,
-        kind: 1,
-        len,
-        width: 0,
-        size: 0,
-        ones_log2: ones_log2 as u64,
-        zeros_log2: zeros_log2 as u64,
-        words: items(len.div_ceil(64)),
-        upper: items(0),
-        lower: items(0),
-        low: items(0),
-        starts: items(0),
-        starts0: items(0),
-        samples: items(ones),
-        samples0: items(zeros),
-        checksum: 0,
-    }
-}
-
-/// The header of a sequence with the lengths alone.
-#[inline(always)]
-fn sequence_of(len: u64, lens: &SequenceLens) -> Stored
-    ensures { IsSequenceOf len lens.now result }
-{
-    Stored {
-        kind: 2,
-        width: lens.width,
-        words: items(lens.words_len),
-        low: items(lens.low_len),
-        ..index_of(len, 0, 0, 0, 0)
-    }
-}
+use bitm_abi::{
+    BAD_SIZE, HEADER_WORDS, OK, SequenceLens, Stored, WRONG, header_at, index_of, sequence_of,
+};
+use bitm_view::{lower_len, upper_len};
 
 /// Writes the header of an index of `bits_len` bits with the given numbers of samples of 1 bits and of 0 bits; a
 /// logarithm of 0 goes with no samples.
@@ -212,7 +60,7 @@ pub extern "C" fn bitm_stored_sequence(len: u64, lens: &SequenceLens, out: &mut 
 }
 
 /// Reads the header of a file that has all the parts of which the header speaks.
-#[tactic(auto, using(crate::proofs::StoredLemmas::lies_within, crate::proofs::StoredLemmas::whole))]
+#[tactic(auto, using(bitm_abi::proofs::StoredLemmas::lies_within, bitm_abi::proofs::StoredLemmas::whole))]
 #[unsafe(no_mangle)]
 pub extern "C" fn bitm_stored_read(file: &[u64], out: &mut Stored) -> u32
     ensures ok { (result ≡ 0) ↔ IsHeaded file.now }

@@ -2,12 +2,11 @@
 ghost use Rattle.std.specs.Prelude.{◌≡◌, ◌≢◌, ℕ, ◌*◌, ◌<◌, ◌≤◌, ◌↔◌, ◌&&◌, ◌||◌, not, if◌then◌else◌, length};
 ghost use Rattle.bitm.specs.Bits.{bits_of, item};
 ghost use Rattle.bit_slices.specs.Where.{AreDisjoint, IsSubset};
-ghost use Rattle.bitm_c.specs.Bits.{HasBits};
+ghost use Rattle.bitm_abi.specs.Lengths.{HasBits};
 
-use crate::answer::{BAD_SIZE, OK};
-use crate::bits::has_bits;
 use bit_slices::has_where;
 use bitm::words;
+use bitm_abi::{BAD_SIZE, OK, has_bits};
 
 /// Keeps each 1 bit where `other` has a 1 bit too, and clears all others.
 #[unsafe(no_mangle)]

@@ -4,7 +4,7 @@ ghost use Rattle.bitm.specs.Bits.{digit_count, low_digits};
 ghost use Rattle.bitm.specs.Count.{ones_before, Picks};
 ghost use Rattle.bitm.specs.Density.{clamped_log, optimal_log};
 
-use crate::answer::{NONE, OK};
+use bitm_abi::{NONE, OK};
 
 /// The position of the 1 bit of `word` with rank `rank`.
 #[tactic(auto, using(bitm::proofs::Callers::ones_of_word))]

@@ -1,6 +1,6 @@
 -- What is answered is told.
-use Rattle.bitm_c.specs.Numbers.{IsPredecessor}
-use Rattle.bitm_c.proofs.ToldLemmas.{told}
+use Rattle.bitm_abi.proofs.ToldLemmas.{told}
+use Rattle.bitm_abi.specs.Sequence.{IsPredecessor}
 use Rattle.bitm_c.proofs.numbers.bitm_sequence_last_at_most.Goals as goal
 
 pub returns-in-Some : goal.returns-in-Some

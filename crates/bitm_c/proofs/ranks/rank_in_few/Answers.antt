@@ -1,6 +1,6 @@
 -- What is answered is told.
 use Rattle.bitm_view.specs.Queries.{RanksIn}
-use Rattle.bitm_c.proofs.ToldLemmas.{told}
+use Rattle.bitm_abi.proofs.ToldLemmas.{told}
 use Rattle.bitm_c.proofs.ranks.rank_in_few.Goals as goal
 
 pub returns-in-Some : goal.returns-in-Some

@@ -1,6 +1,6 @@
 -- What is answered is told.
 use Rattle.bitm_c.specs.Sequence.{IsSuccessor}
-use Rattle.bitm_c.proofs.ToldLemmas.{told}
+use Rattle.bitm_abi.proofs.ToldLemmas.{told}
 use Rattle.bitm_c.proofs.sequence.bitm_sequence_first_at_least.Goals as goal
 
 pub returns-in-Some : goal.returns-in-Some

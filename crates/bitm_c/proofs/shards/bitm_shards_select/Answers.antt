@@ -1,15 +1,16 @@
 -- What is answered over the numbers and indexes is told of the shards.
-use Rattle.std.proofs.Common.{◌≡◌, ℕ, List, All, map, refl, sym, subst}
+use Rattle.std.proofs.Common.{ℕ, List, All, map, refl, sym, subst}
 use Rattle.bitm.specs.Answer.{Answer}
 use Rattle.bitm_view.specs.Answers.{IsSelected}
 use Rattle.sharded_index.specs.Prefixes.{Prefixes as Counts}
 use Rattle.sharded_index.specs.Prefixes.{claimed_in_all, ArePrefixes}
 use Rattle.sharded_index.specs.Shards.{IfFoundHasBit, IsOfRank}
 use Rattle.sharded_index.specs.Joined.{joined, kind_of}
-use Rattle.bitm_c.specs.Shards.{bits_in_index, counts_in, shard_bits, HasShards, IsRightIndex, SelectsJoined}
-use Rattle.bitm_c.specs.declared.shards.Shards.{Shards}
-use Rattle.bitm_c.specs.declared.view.Index.{Index}
-use Rattle.bitm_c.proofs.ToldLemmas.{told}
+use Rattle.bitm_c.specs.Shards.{SelectsJoined}
+use Rattle.bitm_abi.proofs.ToldLemmas.{told}
+use Rattle.bitm_abi.specs.Shards.{bits_in_index, counts_in, shard_bits, HasShards, IsRightIndex}
+use Rattle.bitm_abi.specs.declared.index.Index.{Index}
+use Rattle.bitm_abi.specs.declared.shards.Shards.{Shards}
 use Rattle.bitm_c.proofs.shards.bitm_shards_select.Goals as goal
 
 pub returns-in-Some : goal.returns-in-Some

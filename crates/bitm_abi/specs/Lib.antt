@@ -1,0 +1,9 @@
+pub mod Hash
+pub mod Index
+pub mod Lengths
+pub mod Lists
+pub mod Samples
+pub mod Sequence
+pub mod Shards
+pub mod Status
+pub mod Stored

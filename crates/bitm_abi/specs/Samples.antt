@@ -1,0 +1,13 @@
+-- Samples as C passes them.
+use Rattle.std.specs.Prelude.{Bool, min, if◌then◌else◌}
+use Rattle.bitm_view.specs.declared.samples.LentSamples.{LentSamples}
+use Rattle.bitm_abi.specs.declared.samples.Samples.{Samples}
+use Rattle.bitm_abi.specs.declared.index.Index.{Index}
+
+-- the samples as the library takes them
+abbrev pub lent_samples : Samples → LentSamples
+lent_samples s = record { samples = s.samples; starts = s.starts; log2 = min s.log2 31 }
+
+-- an index's samples of one kind of bit
+abbrev pub samples_in : Bool → Index → Samples
+samples_in one index = if one then index.ones else index.zeros

@@ -1,0 +1,52 @@
+-- A sequence as C passes it, and items of lists of its answers.
+use Rattle.std.specs.Prelude.{◌≡◌, ℕ, ◌-◌, ◌^◌, ◌≤◌, ◌↔◌, ◌⊎◌, List}
+use Rattle.std.specs.List.{Contains}
+use Rattle.bitm.specs.Answer.{Answer}
+use Rattle.bitm.specs.Tables.{HasSizes}
+use Rattle.bitm_view.specs.Queries.{selected_by}
+use Rattle.bitm_view.specs.Sizes.{lists_of}
+use Rattle.elias_fano_view.specs.Answers.{IsLast, IsPlaceOf}
+use Rattle.elias_fano_view.specs.LentParts.{parts_of, HasLengths, LentParts, Holds}
+use Rattle.elias_fano_view.specs.Lists.{written_count}
+use Rattle.elias_fano_view.specs.Told.{IfLast, TellsAtMost, TellsLess}
+use Rattle.elias_fano_view.specs.declared.lists.ListAnswer.{ListAnswer}
+use Rattle.elias_fano_view.specs.declared.lists.ListAnswer.TheVariants.{WrongLength}
+use Rattle.elias_fano_view.specs.declared.sizes.Sizes.{Sizes}
+use Rattle.bitm_abi.specs.declared.sequence.SequenceLens.{SequenceLens}
+use Rattle.bitm_abi.specs.declared.sequence.Sequence.{Sequence}
+
+-- the lengths as C sees them
+abbrev pub sizes_in_c : Sizes → SequenceLens
+sizes_in_c s = record { width = s.width; low_len = s.low; words_len = s.words; upper_len = s.upper; lower_len = s.lower }
+
+-- the parts of a sequence
+abbrev pub lent_parts : Sequence → LentParts
+lent_parts sequence = parts_of sequence.len sequence.width sequence.low.now (lists_of sequence.words.now sequence.upper.now sequence.lower.now)
+
+-- the lengths of a sequence are right
+pub record IsSized (sequence : Sequence) : Type 0 where
+  pub tables : HasSizes (lent_parts sequence).upper
+  pub lengths : HasLengths (lent_parts sequence)
+
+-- the answer that an item of a list of answers stands for
+abbrev pub sought_by : ℕ → Answer ℕ
+sought_by = selected_by
+
+-- how far a list of n indices was answered: a status, and the number before and after the call
+abbrev pub IsListTold : ListAnswer → ℕ → ℕ → ℕ → ℕ → Type 0
+IsListTold WrongLength n status old new = (status ≡ 2) × (new ≡ old)
+IsListTold l n status old new = (status ≡ 0) × (new ≡ written_count n l)
+
+-- the predecessor of value: the index of the last number that is at most value; whatever the parts hold, they claim
+-- that all numbers up to that index are at most value, or that none is where the answer is that there is none
+pub record IsPredecessor (value : ℕ) (parts : LentParts) (answer : Answer ℕ) : Type 0 where
+  pub inside : IsPlaceOf parts.len answer
+  pub most : IfLast answer (TellsAtMost parts value)
+  pub counts : (xs : List ℕ) → Holds xs parts → IsLast xs value answer
+
+-- whether value is one of the numbers, as an item of a list: 1 or 0, or 2^64 - 2 where the parts are not those of a
+-- sequence; whatever they hold, they claim how many numbers are less, and the item is 0 where that is all of them
+pub record IsContained (value : ℕ) (parts : LentParts) (n : ℕ) : Type 0 where
+  pub truth : (n ≤ 1) ⊎ (n ≡ 2 ^ 64 - 2)
+  pub less : n ≤ 1 → (p : ℕ) × TellsLess parts value p × (p ≡ parts.len → n ≡ 0)
+  pub right : (xs : List ℕ) → Holds xs parts → (n ≤ 1) × ((n ≡ 1) ↔ Contains xs value)

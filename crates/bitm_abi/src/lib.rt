@@ -1,0 +1,44 @@
+//! What C passes and what it gets: the structs of `include/bitm.h`, each as the view that the library queries, and an
+//! answer as a status and a number that is written. Each struct may hold any numbers, and says which lengths are right.
+//!
+//! Nothing here is exported: `bitm_c` has one call for each query over these.
+#![tactic(auto)]
+
+// What is in each file:
+// - `answer`: statuses, and how an answer is reported by one
+// - `counts`: how a list of answers is reported, and the number of its codes
+// - `hash`: a perfect hash, and the numbers of a list of hashes
+// - `header`: the header of a stored file: which lengths it can have, and how it is read
+// - `index`: an index
+// - `layout`: where each part of a file is
+// - `lengths`: whether words and bytes have the bits that a call needs
+// - `rooms`: the room for the samples of a stored index
+// - `samples`: samples of one kind of bit
+// - `sequence`: an Elias-Fano sequence, and the lengths of its parts
+// - `sequence_lists`: lists of queries of a sequence
+// - `shards`: indexes over shards
+mod answer;
+mod counts;
+mod hash;
+mod header;
+mod index;
+mod layout;
+mod lengths;
+mod rooms;
+mod samples;
+mod sequence;
+mod sequence_lists;
+mod shards;
+
+pub use answer::{BAD_SIZE, NONE, OK, UNSORTED, WRONG, done, report, tell};
+pub use counts::{ListCounts, report_list};
+pub use hash::{Hash, number_list};
+pub use header::{HEADER_WORDS, header_at, index_of, sequence_of};
+pub use index::Index;
+pub use layout::{Span, Stored};
+pub use lengths::{has_bits, has_bytes, has_counted_bits, has_range};
+pub use rooms::{is_log, most_samples};
+pub use samples::{Samples, narrow_log2, samples_room};
+pub use sequence::{Sequence, SequenceLens, tell_list};
+pub use sequence_lists::{contains_list, last_at_most_list};
+pub use shards::{Prefixes, ShardPlace, Shards, in_c, kind_of};

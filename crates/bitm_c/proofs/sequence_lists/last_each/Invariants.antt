@@ -1,8 +1,0 @@
-use Rattle.std.proofs.Common.{ℕ, ◌<◌, slice_index}
-use Rattle.bitm_c.specs.Numbers.{IsPredecessor}
-use Rattle.bitm_c.specs.Sequence.{sought_by}
-use Rattle.bitm_c.proofs.sequence_lists.last_each.Given as goal
-
--- the answers so far
-abbrev pub invariant-loop-at : goal.invariant-loop-at
-invariant-loop-at l = (j : ℕ) → j < l.at → IsPredecessor (slice_index l.values j) l.parts (sought_by (slice_index l.out j))
