@@ -1,5 +1,5 @@
 //! How many bits, and how many 1 bits, there are before each shard, and which shard holds a position or a rank.
-ghost use Rattle.std.specs.Prelude.{◌≡◌, ◌-◌, ◌<◌, ◌≤◌, ◌↔◌, ℕ, Bool, IsTrue, List, SomeIff, length};
+ghost use Rattle.std.specs.Prelude.{◌≡◌, ◌+◌, ◌-◌, ◌<◌, ◌≤◌, ◌↔◌, ℕ, Bool, IsTrue, List, SomeIff, length};
 ghost use Rattle.sharded_index.specs.Joined.{joined, joined_to, number_of};
 ghost use Rattle.sharded_index.specs.Prefixes.{claimed, claimed_in_all, prefixes_of, shard_count};
 ghost use Rattle.sharded_index.specs.Prefixes.{ArePrefixes, HasLengths, IsClaimed, IsClaimedBy, IsPlaced};
@@ -110,7 +110,7 @@ impl<'a> PrefixCounts<'a> {
     /// # Conditions
     /// They claim no more before the first shard.
     /// # Cost
-    /// A pair of numbers for each halving of how many there are.
+    /// A pair of numbers for each halving of how many there are: evident from the code.
     fn last_before(&self, of: Kind, number: usize) -> usize
         requires { claimed of self.now 0 ≤ number }
         ensures { IsLast (claimed of self.now) (length self.now.bits) number result }
@@ -136,7 +136,7 @@ impl<'a> PrefixCounts<'a> {
     /// those of the shards it does, and `Wrong` is never answered.
     ///
     /// # Cost
-    /// A pair of numbers for each halving of how many there are, and three more.
+    /// A pair of numbers for each halving of how many there are, and three more: evident from the code.
     pub fn find(&self, of: Kind, number: usize) -> Answer<Place>
         ensures claimed { IsClaimedBy of self.now number result }
         ensures right { (bs : List (List Bool)) → ArePrefixes bs self.now
@@ -154,18 +154,25 @@ impl<'a> PrefixCounts<'a> {
             within: number - self.before(of, shard),
         })
     }
+
+    /// Whether the prefix counts claim that a position, or the bit with a rank of its kind, is in a shard.
+    #[inline(always)]
+    pub(crate) fn is_in(&self, of: Kind, number: usize, shard: usize) -> bool
+        ensures { IsTrue result ↔ (shard < shard_count self.now)
+            × (claimed of self.now shard ≤ number) × (number < claimed of self.now (shard + 1)) }
+    {
+        shard < self.shards()
+            && self.before(of, shard) <= number
+            && number < self.before(of, shard + 1)
+    }
+
     /// Whether the prefix counts claim that a position or rank belongs to this shard and index.
     #[inline(always)]
     pub fn has(&self, of: Kind, number: usize, place: Place) -> bool
         ensures { IsTrue result ↔ IsClaimed of self.now number place × (number < claimed_in_all of self.now) }
     {
-        if place.shard >= self.shards() {
-            return false;
-        }
-        let before = self.before(of, place.shard);
-        before <= number
-            && number - before == place.within
-            && number < self.before(of, place.shard + 1)
+        self.is_in(of, number, place.shard)
+            && number - self.before(of, place.shard) == place.within
             && number < self.total(of)
     }
 }
