@@ -1077,7 +1077,7 @@ BITM_MUST_USE uint32_t bitm_prefix_sums_check(const uint64_t *numbers, size_t nu
 /* The shard that holds a position, or the bit of a kind with a rank, and the position or rank in it. BITM_NONE exactly
  * if the counts claim no more in all; BITM_WRONG only if they claim more than number before the first shard, and so
  * never if they are those of the shards. BITM_BAD_SIZE also if kind is none of the three. Reads a pair of counts for
- * each halving of their number, and three more. */
+ * each halving of their number, and three more (evident from the code). */
 BITM_MUST_USE uint32_t bitm_shards_find(const struct bitm_prefixes *counts, uint32_t kind, uint64_t number,
                                         struct bitm_shard_place *out);
 
@@ -1108,11 +1108,11 @@ BITM_MUST_USE uint32_t bitm_shards_previous(const struct bitm_shards *shards, bo
 /* bitm_index_rank_list and bitm_index_select_list of the joined bits: out[i] answers query i as the call of one
  * query does, or is BITM_NO_ANSWER for BITM_NONE and BITM_WRONG_TABLES for BITM_WRONG; counts says how many of each
  * there are. Over counts and tables that are wrong it may be another answer that the call of one query may give.
- * room is memory of any length, which is overwritten. With at least 3 numbers for each query, one for each shard and
- * one more, the queries are grouped by shard, and each shard answers its own with one list; with less, each query is
- * answered by itself. A list of more than 2^17 queries is answered fastest in parts of 2^17. BITM_BAD_SIZE also if
- * out_len is not the number of queries, or the counts claim 2^64 - 2 bits or more. out, room and counts may overlap
- * neither each other nor what the call reads.
+ * room is memory of any length, which is overwritten, and shows in time alone: with at least 3 numbers for each query,
+ * one for each shard and one more, the queries are grouped by shard (evident from the code, not proved). A list of more
+ * than 2^17 queries is answered fastest in parts of 2^17. BITM_BAD_SIZE also if out_len is not the number of queries,
+ * or the counts claim 2^64 - 2 bits or more. out, room and counts may overlap neither each other nor what the call
+ * reads.
  *
  *     const uint64_t ends[3] = {4, 104, 201}, ranks[3] = {0, 7, 10};
  *     uint64_t of_both[3]; // 3 * 3 + 2 + 1 numbers of room group them

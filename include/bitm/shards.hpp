@@ -101,8 +101,8 @@ public:
     maybe_position previous_zero(std::uint64_t from) const { return placed(bitm_shards_previous, false, from); }
 
     // Lists, into memory of the caller's as long as the queries: out[i] answers queries[i], or is bitm::no_answer (also
-    // for the rank of a position past the end). Each shard answers its own queries with one list. Where tables are noticed
-    // to be wrong, the call fails once all is answered, and those answers are bitm::wrong_answer. Takes memory for three
+    // for the rank of a position past the end). Queries are grouped by shard. Where tables are noticed to be wrong,
+    // the call fails once all is answered, and those answers are bitm::wrong_answer. Takes memory for three
     // numbers a query, of which there are 2^17 at a time, and one a shard.
     void rank(words_in positions, words_out out) const { list(bitm_shards_rank_list, true, positions, out); }
     void rank0(words_in positions, words_out out) const { list(bitm_shards_rank_list, false, positions, out); }

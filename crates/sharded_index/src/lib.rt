@@ -13,7 +13,7 @@
 //! index.rank(true, 9);                    // Found(4 and those of the first 2 bits of shard 2)
 //! index.select(true, 4);                  // Found(7 and the position in shard 2)
 //! index.next(false, 5);                   // Found(the first 0 bit from position 5 on, in whatever shard it is)
-//! index.rank_list(true, &positions, &mut ranks, &mut room);    // each shard answers its own with one list
+//! index.rank_list(true, &positions, &mut ranks, &mut room);    // grouped by shard, where there is room
 //! ```
 #![tactic(auto)]
 

@@ -58,7 +58,7 @@ impl<'a, S: Shard> ShardedIndex<'a, S> {
     /// where there is none, and `Wrong` never.
     ///
     /// # Cost
-    /// That of `rank` and `select`, so of two shards at most.
+    /// That of `rank` and `select`, so of two shards at most: evident from the code.
     pub fn next(&self, one: bool, from: usize) -> Answer<usize>
         ensures bit { IfFoundHasBit one (map S.bits self.now.shards.now) self.now.counts result }
         ensures from { IsFoundFrom from (claimed_in_all Positions self.now.counts) result }
@@ -82,7 +82,7 @@ impl<'a, S: Shard> ShardedIndex<'a, S> {
     /// there is none, and `Wrong` never.
     ///
     /// # Cost
-    /// That of `rank` and `select`, so of two shards at most.
+    /// That of `rank` and `select`, so of two shards at most: evident from the code.
     pub fn previous(&self, one: bool, from: usize) -> Answer<usize>
         ensures bit { IfFoundHasBit one (map S.bits self.now.shards.now) self.now.counts result }
         ensures to { IsFoundFrom 0 (from + 1) result }

@@ -159,11 +159,13 @@ impl<'a, S: Shard> ShardedIndex<'a, S> {
     /// 2^64 - 2 bits or more, whose ranks might be codes; nothing is written then.
     ///
     /// `room` may be of any length and hold anything. Three numbers for each position and one for each shard, and one
-    /// more, let the positions be grouped by shard, so that each shard answers its own with one list; with less, each
-    /// position is answered by itself. What `room` holds afterwards means nothing.
+    /// more, let the positions be grouped by shard; with less, each position is answered by itself. What `room` holds
+    /// afterwards means nothing.
     ///
     /// # Cost
-    /// For each position that of `PrefixCounts::find`, and of one of a list of its shard.
+    /// Evident from the code, and no clause: with that room, and right prefix counts and tables, each shard with
+    /// positions in it answers them with one list, and none by itself. The shard of a position is guessed from the
+    /// number of shards: two prefix counts where each has as many bits, and else those of `PrefixCounts::find` too.
     pub fn rank_list(
         &self,
         one: bool,

@@ -164,7 +164,7 @@ impl<'a, S: Shard> ShardedIndex<'a, S> {
     /// `room` is that of `rank_list`.
     ///
     /// # Cost
-    /// For each rank that of `PrefixCounts::find`, and of one of a list of its shard.
+    /// That of `rank_list`, and likewise evident from the code alone.
     pub fn select_list(
         &self,
         one: bool,

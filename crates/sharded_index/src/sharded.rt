@@ -77,7 +77,8 @@ impl<'a, S: Shard> ShardedIndex<'a, S> {
     /// and a count is at most `index`. Where they are right it is the right one, and `Wrong` is never answered.
     ///
     /// # Cost
-    /// That of `PrefixCounts::find` and of a rank in one shard; of a rank of all bits, two prefix counts.
+    /// That of `PrefixCounts::find` and of a rank in one shard; of a rank of all bits, two prefix counts. Evident from
+    /// the code.
     pub fn rank(&self, one: bool, index: usize) -> Answer<usize>
         ensures within { IsCountWithin (claimed_in_all Positions self.now.counts) index result }
         ensures counts { AreShards S.bits S.right self.now
@@ -136,7 +137,7 @@ impl<'a, S: Shard> ShardedIndex<'a, S> {
     /// right it is the right one, and `Wrong` is never answered.
     ///
     /// # Cost
-    /// That of `PrefixCounts::find` and of a selection in one shard.
+    /// That of `PrefixCounts::find` and of a selection in one shard: evident from the code.
     pub fn select(&self, one: bool, rank: usize) -> Answer<usize>
         ensures bit { IfFoundHasBit one (map S.bits self.now.shards.now) self.now.counts result }
         ensures absent { IsOfRank (claimed_in_all (kind_of one) self.now.counts) rank result }

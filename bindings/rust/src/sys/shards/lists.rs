@@ -1,4 +1,4 @@
-//! Lists of queries of shards: each shard answers its queries of a part with one list.
+//! Lists of queries of shards, which are grouped by shard, part by part.
 use super::ShardedIndex;
 use crate::errors::ListError;
 use crate::ffi::index::bitm_list_counts;
@@ -47,8 +47,8 @@ impl ShardedIndex<'_> {
         list_answer(OK, all, queries.len(), queries.len())
     }
 
-    /// Ranks of a list of positions of the joined bits; how many have none, which `NO_ANSWER` stands for. Each shard
-    /// answers its own with one list. Takes memory for three numbers a query, of at most 2^17 at a time, and one a shard.
+    /// Ranks of a list of positions of the joined bits; how many have none, which `NO_ANSWER` stands for. Takes
+    /// memory for three numbers a query, of at most 2^17 at a time, and one a shard.
     ///
     /// ```
     /// use bitm_proved::{Index, Queries, ShardedIndex, NO_ANSWER};
