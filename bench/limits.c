@@ -185,8 +185,8 @@ static void compare(uint64_t bits)
 static void measure(int log2, int rounds)
 {
     FORMS("word", "limit", word_at, list_of_words);
-    FORMS("rank", "by hand, tests", rank_by_tests, list_whole_by_tests);
-    FORMS("rank", "by hand, masks", rank_by_masks, list_whole_by_masks);
+    FORMS("rank", "by hand (tests)", rank_by_tests, list_whole_by_tests);
+    FORMS("rank", "by hand (masks)", rank_by_masks, list_whole_by_masks);
     FORMS("rank", "C", rank_by_library, list_by_library);
 }
 

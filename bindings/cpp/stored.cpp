@@ -46,8 +46,8 @@ Words words_of(const std::vector<bool> &plain)
     return words;
 }
 
-// Whether the mapping of an address asks for huge pages, as the system tells it.
-bool asks_for_huge_pages(std::uintptr_t address)
+// Whether the mapping of an address requests huge pages, as the system tells it.
+bool requests_huge_pages(std::uintptr_t address)
 {
     std::ifstream maps("/proc/self/smaps");
     bool inside = false;
@@ -66,7 +66,7 @@ void memory()
         const bitm::bits made(len);
         const auto at = reinterpret_cast<std::uintptr_t>(made.words().data());
         must(at % 64 == 0, "words are aligned to 64 bytes");
-        if (has_huge && len > 1) must(asks_for_huge_pages(at + len / 16) == (len >= 1u << 25), "4 MiB ask for huge pages");
+        if (has_huge && len > 1) must(requests_huge_pages(at + len / 16) == (len >= 1u << 25), "huge pages are requested for 4 MiB");
     }
 }
 

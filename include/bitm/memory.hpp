@@ -95,9 +95,9 @@ private:
 
 // ---- memory
 
-// Asks the system for huge pages for the whole pages of an array of 4 MiB or more: a query then waits less for the
-// tables of the pages. It may refuse, or have none: then the pages stay small.
-inline void ask_for_huge_pages(std::uint64_t *data, std::size_t bytes) noexcept
+// Requests huge pages for the whole pages of an array of 4 MiB or more: a query then waits less for the
+// tables of the pages. The system may refuse, or have none: then the pages stay small.
+inline void request_huge_pages(std::uint64_t *data, std::size_t bytes) noexcept
 {
 #if defined __linux__ && defined MADV_HUGEPAGE
     constexpr std::size_t least = std::size_t{4} << 20;
@@ -122,7 +122,7 @@ public:
         if (BITM_RARELY(words >= (std::size_t{1} << 58))) fail(bad_size("2^58 words or more"));
         data_ = static_cast<std::uint64_t *>(::operator new(8 * words, std::align_val_t(64)));
         len_ = words, drop_ = free_heap;
-        ask_for_huge_pages(data_, 8 * words);
+        request_huge_pages(data_, 8 * words);
         std::memset(data_, 0, 8 * words);
     }
     block(std::uint64_t *data, std::size_t words, void (*drop)(std::uint64_t *, std::size_t) noexcept) noexcept

@@ -8,8 +8,8 @@
 
 enum { LINE = 64, LEAST_HUGE = 4 << 20 };
 
-/* Asks for huge pages for the whole pages of large memory. The system may refuse: then the pages stay small. */
-static void ask_for_huge_pages(char *at, size_t bytes)
+/* Requests huge pages for the whole pages of large memory. The system may refuse: then the pages stay small. */
+static void request_huge_pages(char *at, size_t bytes)
 {
 #if defined __linux__ && defined MADV_HUGEPAGE
     long found = bytes < LEAST_HUGE ? 0 : sysconf(_SC_PAGESIZE);
@@ -30,7 +30,7 @@ static void *marked(char *block, size_t bytes)
 {
     char *at = aligned_in(block);
     ((size_t *)(void *)at)[-1] = (size_t)(at - block);
-    ask_for_huge_pages(at, bytes);
+    request_huge_pages(at, bytes);
     return at;
 }
 

@@ -56,7 +56,7 @@ def test_a_vector_that_grows_keeps_its_bits(length):
 
 @pytest.mark.skipif(not os.path.exists("/proc/self/smaps"), reason="Linux alone says how memory is mapped")
 @pytest.mark.skipif(not os.path.exists("/sys/kernel/mm/transparent_hugepage"), reason="this system has no huge pages")
-def test_many_words_ask_for_huge_pages():
+def test_huge_pages_are_requested_for_many_words():
     large = bitm.BitVector(8 * LARGE)
     assert "hg" in flags_at(address_of(large) + LARGE // 2)
     small = bitm.BitVector(8 * (LARGE // 2))

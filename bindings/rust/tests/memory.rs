@@ -16,8 +16,8 @@ fn a_limit_of_memory_is_an_error_and_no_abort() {
     assert!(done.status.success() && text.contains("1 passed"), "{text}{}", String::from_utf8_lossy(&done.stderr));
 }
 
-/// Whether the mapping of an address asks for huge pages, as the system tells it.
-fn asks_for_huge_pages(address: usize) -> bool {
+/// Whether the mapping of an address requests huge pages, as the system tells it.
+fn requests_huge_pages(address: usize) -> bool {
     let text = std::fs::read_to_string("/proc/self/smaps").expect("Linux");
     let is_inside = |line: &str| {
         let bounds = line.split(' ').next().and_then(|it| it.split_once('-'))?;
@@ -35,13 +35,13 @@ fn asks_for_huge_pages(address: usize) -> bool {
 }
 
 #[test]
-fn many_words_ask_for_huge_pages() {
+fn huge_pages_are_requested_for_many_words() {
     if !std::path::Path::new("/sys/kernel/mm/transparent_hugepage").exists() {
         return eprintln!("skipped: this system has no huge pages");
     }
     let (large, small) = (Box::<[u64]>::with_zeroed_bits(1 << 26), Box::<[u64]>::with_zeroed_bits(1 << 24));
-    assert!(asks_for_huge_pages(large.as_ptr() as usize + (4 << 20)));
-    assert!(!asks_for_huge_pages(small.as_ptr() as usize + (1 << 20)));
+    assert!(requests_huge_pages(large.as_ptr() as usize + (4 << 20)));
+    assert!(!requests_huge_pages(small.as_ptr() as usize + (1 << 20)));
 }
 
 /// All memory that is left but for some pieces of 64 KiB.

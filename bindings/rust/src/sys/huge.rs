@@ -1,4 +1,4 @@
-//! Huge pages, which large arrays are asked for on Linux: a query then waits less for the tables of the pages.
+//! Huge pages, which are requested for large arrays on Linux: a query then waits less for the tables of the pages.
 use core::ffi::{c_int, c_long, c_void};
 
 /// From how many bytes on: two huge pages of x86-64, of which at least one lies whole inside.
@@ -11,8 +11,8 @@ extern "C" {
     fn sysconf(name: c_int) -> c_long;
 }
 
-/// Asks for huge pages for the whole pages of an array. The system may refuse: then the pages stay small.
-pub(crate) fn ask(at: *mut u8, len: usize) {
+/// Requests huge pages for the whole pages of an array. The system may refuse: then the pages stay small.
+pub(crate) fn request(at: *mut u8, len: usize) {
     if len < LEAST {
         return;
     }

@@ -34,7 +34,7 @@ pub(crate) fn zeroed<T: Number>(len: usize) -> Result<Vec<T>, NoMemory> {
         return Err(refused);
     }
     #[cfg(all(feature = "std", target_os = "linux"))]
-    super::huge::ask(at.cast(), layout.size());
+    super::huge::request(at.cast(), layout.size());
     // SAFETY: the allocator of vectors returned `len` zeros of this layout.
     Ok(unsafe { Vec::from_raw_parts(at, len, len) })
 }
