@@ -163,7 +163,7 @@ typedef struct {
     struct bitm_hash hash;
     const uint64_t *prints; /* the fingerprints of a hash: hash.keys numbers of print_width bits */
     size_t prints_len;
-    uint64_t prints_bits, print_width, seed, mark;
+    uint64_t prints_bits, print_width, print_mask, seed, mark;
     uint64_t log2s[2]; /* of the samples of 1 bits and 0 bits, as numbers of 64 bits */
 } Memory;
 

@@ -1,9 +1,16 @@
 /* bitm.PerfectHash. */
-#include "core.h"
+#include "siphash.h"
 
 enum { LEVELS = 256 };
 
 /* ---- made */
+
+/* How many bits the fingerprints have, and which bits of what a fingerprint is of are its own. */
+static void prints_sized(Memory *it)
+{
+    it->prints_bits = it->hash.keys * it->print_width;
+    it->print_mask = it->print_width == 64 ? UINT64_MAX : ((uint64_t)1 << it->print_width) - 1;
+}
 
 PyObject *hash_over(PyObject *type, Memory *it)
 {
@@ -13,7 +20,7 @@ PyObject *hash_over(PyObject *type, Memory *it)
     /* No more keys than bits: so the bits of the fingerprints are far below 2^64. */
     if (is_marked && it->print_width <= 64 && it->hash.index.words_len <= (size_t)1 << 50 &&
         it->hash.keys <= it->hash.index.bits_len) {
-        it->prints_bits = it->hash.keys * it->print_width;
+        prints_sized(it);
         if (it->prints_len == bitm_bits_words_len(it->prints_bits) &&
             bitm_hash_get(&it->hash, 0, &out) != BITM_BAD_SIZE)
             return value_new(type, it);
@@ -67,7 +74,7 @@ static int build_tables(Memory *it, const uint64_t *both)
     index->words = it->own[0];
     index->upper_len = bitm_index_upper_len(index->words_len);
     index->lower_len = bitm_index_lower_len(index->words_len);
-    it->prints_bits = it->hash.keys * it->print_width;
+    prints_sized(it);
     it->prints_len = bitm_bits_words_len(it->prints_bits);
     uint64_t *upper = memory_own(it, index->upper_len, 8),
              *lower = upper == NULL ? NULL : memory_own(it, index->lower_len, 8);
@@ -175,19 +182,38 @@ static int hash_init(PyObject *self, PyObject *args, PyObject *keywords)
 /* Whether a number's fingerprint is that of a key: BITM_OK, BITM_NONE where it is another, BITM_WRONG. */
 static uint32_t print_of(const Memory *it, uint64_t number_there, uint64_t sought)
 {
-    uint64_t found = 0, mask = it->print_width == 64 ? UINT64_MAX : ((uint64_t)1 << it->print_width) - 1;
+    uint64_t found = 0;
     if (bitm_bits_get_fragment(it->prints, it->prints_len, it->prints_bits, number_there, (uint32_t)it->print_width,
                                &found) != BITM_OK)
         return BITM_WRONG;
-    return found == (sought & mask) ? BITM_OK : BITM_NONE;
+    return found == (sought & it->print_mask) ? BITM_OK : BITM_NONE;
 }
 
-/* The number of a key: 1, 0 where it has none, -1 and an error. Hashing may run code that closes the value. */
+/* The hash and the fingerprint of a key, and the memory, borrowed: NULL and an error. To hash a str runs no Python
+ * code; to hash another key may, which may close the value. */
+static Memory *hashed(PyObject *self, PyObject *key, uint64_t both[2])
+{
+    Memory *it = memory_of(self);
+    Py_ssize_t len;
+    if (it == NULL)
+        return NULL;
+    if (LIKELY(Py_IS_TYPE(key, &PyUnicode_Type)) && LIKELY(it->mark == MARK_SIP)) {
+        const char *at = PyUnicode_AsUTF8AndSize(key, &len);
+        if (LIKELY(at != NULL)) {
+            siphash(at, (size_t)len, it->seed, TEXT, both);
+            return it;
+        }
+        PyErr_Clear(); /* lone surrogates */
+    }
+    return key_hash(key, it->mark, it->seed, both) ? NULL : memory_of(self);
+}
+
+/* The number of a key: 1, 0 where it has none, -1 and an error. */
 static int found(PyObject *self, PyObject *key, uint64_t *out)
 {
     uint64_t both[2];
-    Memory *it = memory_of(self);
-    if (it == NULL || key_hash(key, it->mark, it->seed, both) || (it = memory_of(self)) == NULL)
+    const Memory *it = hashed(self, key, both);
+    if (it == NULL)
         return -1;
     uint32_t status = bitm_hash_get(&it->hash, both[0], out);
     if (status == BITM_OK)
@@ -211,7 +237,8 @@ static PyObject *hash_get(PyObject *self, PyObject *const *args, Py_ssize_t coun
     return is_found ? boxed(out) : Py_NewRef(given[1] == NULL ? Py_None : given[1]);
 }
 
-static PyObject *hash_subscript(PyObject *self, PyObject *key)
+/* With no call but those of Python and of the library. */
+static __attribute__((flatten)) PyObject *hash_subscript(PyObject *self, PyObject *key)
 {
     uint64_t out = 0;
     int is_found = found(self, key, &out);
