@@ -1,5 +1,6 @@
 """Files: what save writes and load takes."""
 import array
+import contextlib
 import errno
 import io
 import mmap as mapped
@@ -74,9 +75,11 @@ def _written(write: Callable[[Any], Any], data: Any) -> int:
 def save(self: Any, target: Any, /) -> None:
     """Writes the value into a file, from which `bitm.load` takes it: a path, or a file object with `write`.
 
-    A path is written beside it first, into a new file of an unforeseeable name, synced, and put in its place: a
-    write that fails leaves what stood there. A symbolic link is followed; what is not a regular file is refused; the mode
-    of a file that is replaced stays. OSError where it cannot be written.
+    A path is written beside it first, into a new file without a name, synced, given an unforeseeable name, and put in its
+    place: a write that fails leaves what stood there. A process that is killed leaves nothing more, but for a file
+    `.bitm-..` beside the path if that happens between these last two steps, or if the file system has no files without a name
+    (Linux: O_TMPFILE): such a file can be removed. A symbolic link is followed; what is not a regular file is refused; the
+    mode of a file that is replaced stays. OSError where it cannot be written.
 
     >>> EliasFano([2, 3, 5]).save("numbers")
     >>> list(load("numbers"))
@@ -100,18 +103,34 @@ def _put(path: bytes, size: int, pieces: List[Piece]) -> None:
         raise OSError(errno.EINVAL, "it is not a regular file: pass an open file to write there", os.fsdecode(path))
     folder = os.path.dirname(path)
     beside = os.path.join(folder, b".bitm-" + secrets.token_hex(12).encode())
-    number = os.open(beside, os.O_WRONLY | os.O_CREAT | os.O_EXCL | os.O_CLOEXEC | os.O_NOFOLLOW, 0o666)
+    number, is_named = _created(folder, beside)
     try:
         with open(number, "wb", buffering=0) as file:
             if mode is not None:
                 os.fchmod(number, stat.S_IMODE(mode))
             _into(file.write, size, pieces)
             os.fsync(number)
+            if not is_named:
+                os.link(f"/proc/self/fd/{number}", beside, src_dir_fd=number, follow_symlinks=True)  # what the link leads to
+                is_named = True
         os.replace(beside, path)
     except BaseException:
-        os.unlink(beside)
+        if is_named:
+            os.unlink(beside)
         raise
     _sync_folder(folder)
+
+
+def _created(folder: bytes, beside: bytes) -> Tuple[int, bool]:
+    """A new file, and whether it has the given name: it has none where the file system has such files, so that a process
+    which is killed while it writes leaves nothing."""
+    flags = os.O_WRONLY | os.O_CLOEXEC
+    with contextlib.suppress(OSError):
+        number = os.open(folder, flags | os.O_TMPFILE, 0o666)
+        if os.path.exists(f"/proc/self/fd/{number}"):
+            return number, False
+        os.close(number)
+    return os.open(beside, flags | os.O_CREAT | os.O_EXCL | os.O_NOFOLLOW, 0o666), True
 
 
 def _sync_folder(folder: bytes) -> None:

@@ -231,6 +231,47 @@ def test_a_name_that_others_foretell_is_refused(tmp_path, monkeypatch):
     assert victim.read_bytes() == b"mine" and not path.exists()
 
 
+def killed_while_it_saves(path):
+    """A process that writes much to a path, and is killed when all but the last step is done."""
+    pid = os.fork()
+    if pid == 0:
+        os.fsync = lambda number: os.kill(os.getpid(), signal.SIGKILL)
+        Index(bytes(1 << 20)).save(path)
+        os._exit(0)
+    assert os.waitpid(pid, 0)[1] == signal.SIGKILL
+
+
+def test_a_process_that_is_killed_leaves_what_stood_there_and_nothing_else(tmp_path):
+    path, index = tmp_path / "it", Index(b"\xff" * 64)
+    try:
+        os.close(os.open(tmp_path, os.O_WRONLY | os.O_TMPFILE))
+    except OSError:
+        pytest.skip("this file system has no files without a name")
+    killed_while_it_saves(path)
+    assert [*tmp_path.iterdir()] == []
+    index.save(path)
+    killed_while_it_saves(path)
+    assert [it.name for it in tmp_path.iterdir()] == ["it"] and bitm.load(path) == index
+
+
+def test_a_file_system_without_files_that_have_no_name(tmp_path, monkeypatch):
+    path, index, opened = tmp_path / "it", Index(b"\xff" * 64), os.open
+
+    def without(path, flags, *more, **named):
+        if flags & os.O_TMPFILE == os.O_TMPFILE:
+            raise OSError(errno.EOPNOTSUPP, "it has none")
+        return opened(path, flags, *more, **named)
+
+    monkeypatch.setattr(os, "open", without)
+    for bits in (index, Index(b"\x0f" * 64)):
+        bits.save(path)
+        assert [it.name for it in tmp_path.iterdir()] == ["it"] and bitm.load(path) == bits
+    killed_while_it_saves(path)
+    assert sorted(it.name[:6] for it in tmp_path.iterdir()) == [".bitm-", "it"] and bitm.load(path) == Index(b"\x0f" * 64)
+    (tmp_path / "other").mkdir()
+    test_a_name_that_others_foretell_is_refused(tmp_path / "other", monkeypatch)
+
+
 def test_a_file_is_synced_before_it_is_put_in_its_place_and_its_folder_after(tmp_path, monkeypatch):
     done, sync, replace = [], os.fsync, os.replace
     monkeypatch.setattr(os, "fsync", lambda number: (done.append("folder" if stat.S_ISDIR(os.fstat(number).st_mode) else "file"), sync(number)))
