@@ -33,7 +33,7 @@ EXAMPLES = {  # a method, then lines and what each prints
 def complete(shards: Any) -> None:
     """Adds the examples to the docstrings of the class; under `python -OO` there are none."""
     for name, lines in EXAMPLES.items():
-        method = vars(shards)[name]
+        method = getattr(shards, name)
         method = getattr(method, "__func__", method)
         if method.__doc__:
             shown = "\n".join(f">>> {line}" + (f"\n{printed}" if printed else "") for line, printed in [(MADE, ""), *lines])

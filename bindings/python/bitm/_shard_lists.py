@@ -2,9 +2,10 @@
 each query is found by a proved call, and the queries of a shard go to it in one call, those of a large array in one for
 each block of it: no other shard is mapped."""
 import operator
-from typing import Any, Callable, Dict, List, Tuple
+from typing import TYPE_CHECKING, Any, Callable, Dict, List, Literal, Optional, SupportsIndex, Tuple, Union, overload
 
-from ._core import shards_find, shards_list
+if TYPE_CHECKING:
+    from ._core import _Answers, _Array, _Masked, _Plain
 
 ZEROS, ONES, POSITIONS = range(3)  # what is numbered, as bitm.h has it
 Asked = Callable[[int, Any], Any]
@@ -61,19 +62,16 @@ def _answers(shards: Any, kind: int, starts: List[int], queries: Any, ask: Asked
 
 def _found(shards: Any, kind: int, queries: Any) -> Tuple[Any, Any]:
     """The shard of each query and the number there, by proved calls."""
-    bits, ones = shards._counts
-    found, within = shards_find(bits, ones, kind, queries)
+    found, within = shards._set.places(kind, queries)
     return memoryview(found), memoryview(within)
 
 
 def _at_once(shards: Any, selects: bool, one: bool, queries: Any) -> Any:
     """The answers of shards that are all mapped, in the manner of the queries; None where one is not."""
-    opened = shards._open
-    indexes = tuple(opened.get(shard) for shard in range(len(shards.parts)))
-    if None in indexes:
+    answers = shards._set.answers(selects, one, queries)
+    if answers is None:
         return None
-    bits, ones = shards._counts
-    found = memoryview(shards_list(bits, ones, indexes, selects, one, queries))
+    found = memoryview(answers)
     if not _is_array(queries):
         return found.tolist()
     import numpy
@@ -164,3 +162,48 @@ def _with_missing(answers: Any, missing: Any) -> Any:
     elif missing != "error" and count:
         return [missing if it == NO_ANSWER else it for it in answers]
     return answers
+
+
+class Lists:
+    """The lists of queries of `Shards`."""
+
+    @overload
+    def rank_list(self, queries: "_Plain") -> List[int]: ...
+    @overload
+    def rank_list(self, queries: "_Array") -> "_Answers": ...
+    def rank_list(self, queries: Any) -> Any:
+        """`rank` of each position: a list, or an array of uint64 for an array. IndexError where one is past the end."""
+        return ranks(self, True, queries)
+
+    @overload
+    def rank0_list(self, queries: "_Plain") -> List[int]: ...
+    @overload
+    def rank0_list(self, queries: "_Array") -> "_Answers": ...
+    def rank0_list(self, queries: Any) -> Any:
+        """`rank0` of each position, likewise."""
+        return ranks(self, False, queries)
+
+    @overload
+    def select_list(self, queries: "_Plain", *, missing: Union[SupportsIndex, Literal["error"]]) -> List[int]: ...
+    @overload
+    def select_list(self, queries: "_Plain", *, missing: None = None) -> List[Optional[int]]: ...
+    @overload
+    def select_list(self, queries: "_Array", *, missing: Union[SupportsIndex, Literal["error"]]) -> "_Answers": ...
+    @overload
+    def select_list(self, queries: "_Array", *, missing: Optional[Literal["mask"]] = None) -> "_Masked": ...
+    def select_list(self, queries: Any, *, missing: Any = None) -> Any:
+        """`select` of each rank: a list, or an array for an array. Where there is none: None, in an array masked; the
+        number `missing`; or IndexError for `missing="error"`."""
+        return selections(self, True, queries, missing)
+
+    @overload
+    def select0_list(self, queries: "_Plain", *, missing: Union[SupportsIndex, Literal["error"]]) -> List[int]: ...
+    @overload
+    def select0_list(self, queries: "_Plain", *, missing: None = None) -> List[Optional[int]]: ...
+    @overload
+    def select0_list(self, queries: "_Array", *, missing: Union[SupportsIndex, Literal["error"]]) -> "_Answers": ...
+    @overload
+    def select0_list(self, queries: "_Array", *, missing: Optional[Literal["mask"]] = None) -> "_Masked": ...
+    def select0_list(self, queries: Any, *, missing: Any = None) -> Any:
+        """`select0` of each rank, likewise."""
+        return selections(self, False, queries, missing)

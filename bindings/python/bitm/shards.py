@@ -11,15 +11,17 @@ import os
 import secrets
 import struct
 import zlib
-from typing import Any, Callable, Dict, Iterable, Iterator, List, NamedTuple, Optional, Sequence, Tuple, Union
+from typing import Any, Callable, Dict, Iterable, Iterator, List, NamedTuple, Optional, Sequence, SupportsIndex, Tuple, TypeVar, Union, overload
 
 from . import _files, _shard_lists
-from ._core import BitVector, EliasFano, Index, parts
+from ._core import BitVector, Index, ShardSet, WrongTables, parts
+from ._shard_lists import POSITIONS
 
 MANIFEST, FORMAT, VERSION = "shards.json", "bitm shards", 1
 OTHER, WRONG = "it is not the one that the manifest names", "its tables are not those of its words"
 PathLike = Union[str, "os.PathLike[str]"]
 Mapper = Callable[..., Iterable[Any]]
+Answer = TypeVar("Answer")
 
 
 class ShardError(Exception):
@@ -140,24 +142,14 @@ def _is_part(it: Part) -> bool:
 def _write(folder: str, shards: Sequence[Part]) -> None:
     """Writes the manifest beside the old one, and puts it in its place: who reads it sees either whole."""
     data = {"format": FORMAT, "version": VERSION, "shards": [it._asdict() for it in shards]}
-    beside = os.path.join(folder, f".{MANIFEST}-{secrets.token_hex(8)}")
-    try:
-        with open(beside, "x", encoding="utf-8") as file:
-            json.dump(data, file, indent=1)
-            file.flush()
-            os.fsync(file.fileno())
-        os.replace(beside, os.path.join(folder, MANIFEST))
-    except BaseException:
-        if os.path.exists(beside):
-            os.unlink(beside)
-        raise
-    _files._sync_folder(os.fsencode(folder))
+    made = json.dumps(data, indent=1).encode()
+    _files._put(os.path.realpath(os.fsencode(os.path.join(folder, MANIFEST))), len(made), [(0, made)])
 
 
 # ---- the shards as one
 
 
-class Shards:
+class Shards(_shard_lists.Lists):
     """The bits of the shards of a folder, one after the other, queried as those of one `Index`.
 
     A folder has a manifest and one stored index a shard. A shard is mapped when a query first needs it; until then its
@@ -180,16 +172,14 @@ class Shards:
         ones = [0, *itertools.accumulate(it.ones for it in shards)]
         if bits[-1] >= 2**64:
             raise ValueError("the shards have 2**64 bits or more")
-        self._bits, self._ones = EliasFano(bits), EliasFano(ones)
-        self._zeros = EliasFano([all_ - one for all_, one in zip(bits, ones)])
         self._counts = array.array("Q", bits), array.array("Q", ones)
         self._starts = {True: ones, False: [all_ - one for all_, one in zip(bits, ones)], None: bits}
-        self._open: Dict[int, Index] = {}
+        self.close()
 
     # ---- making and changing
 
     @classmethod
-    def build(cls, sources: Iterable[Any], folder: PathLike, *, map: Mapper = builtins.map, sample_log2: Optional[int] = None) -> "Shards":
+    def build(cls, sources: Iterable[object], folder: PathLike, *, map: Mapper = builtins.map, sample_log2: Optional[int] = None) -> "Shards":
         """Builds one shard of each source, and writes the manifest once all are stored.
 
         A source is what `Index` takes, the path of a file of raw bits, a pair of one of these and a number of bits, or a
@@ -207,11 +197,11 @@ class Shards:
         _write(place, [Part(*it) for it in made])
         return cls(place)
 
-    def append(self, source: Any, *, sample_log2: Optional[int] = None) -> None:
+    def append(self, source: object, *, sample_log2: Optional[int] = None) -> None:
         """Adds a shard after the last."""
         self._store(len(self.parts), source, sample_log2)
 
-    def replace(self, shard: int, source: Any, *, sample_log2: Optional[int] = None) -> None:
+    def replace(self, shard: int, source: object, *, sample_log2: Optional[int] = None) -> None:
         """Puts other bits, as many or not, in place of a shard. The file of the old one is removed once the manifest names
         the new one: who has opened the folder before, and not yet that shard, then gets a ShardError."""
         old = self.parts[range(len(self.parts))[shard]].file
@@ -242,21 +232,24 @@ class Shards:
 
     def shard(self, number: int) -> Index:
         """The index of a shard, which is mapped when it is first needed."""
-        found = self._open.get(number)
+        number = range(len(self.parts))[number]
+        found, known = self._open.get(number), self._set
         if found is None:
             found = self._open[number] = _opened(self.folder, number, self.parts[number])
+            known.put(number, found)
         return found
 
     def close(self) -> None:
         """Gives the mapped files back. A shard that a query needs afterwards is mapped again."""
-        self._open = {}
+        self._open: Dict[int, Index] = {}
+        self._set = ShardSet(*self._counts)
 
     # ---- single queries
 
     def __len__(self) -> int:
         return self._starts[None][-1]
 
-    def count(self, bit: Any = 1) -> int:
+    def count(self, bit: object = 1) -> int:
         """How many 1 bits, or 0 bits, there are."""
         if bit not in (0, 1):
             raise ValueError(f"a bit is true or false, not {bit!r}")
@@ -264,24 +257,56 @@ class Shards:
 
     def find(self, position: int, /) -> Tuple[int, int]:
         """The shard that has a position, and the position in it."""
-        return self._find(None, self._inside(position))
+        return self._find(POSITIONS, self._inside(position))
 
-    def _find(self, one: Optional[bool], number: int) -> Tuple[int, int]:
-        """Which shard holds a position, or the bit with a rank, is the predecessor among the numbers before each."""
-        bounds = self._bits if one is None else self._ones if one else self._zeros
-        shard = bounds.last_at_most(number)
-        assert shard is not None  # the first number is 0
-        return shard, number - self._starts[one][shard]
+    def _find(self, kind: int, number: int) -> Tuple[int, int]:
+        """Which shard holds a position, or the bit with a rank, and the number in it, where there is one: a proved call."""
+        found = self._set.place(kind, number)
+        if found is None:
+            raise IndexError(f"number {number}, which the shards do not have")
+        return found
+
+    def _ask(self, call: "Callable[[ShardSet, bool, int], Answer]", one: bool, number: int) -> "Answer":
+        """One proved call. It says that tables are wrong where it reads a shard that is not mapped: then the shard is mapped,
+        and the call made again."""
+        known, shard = self._set, 0
+        try:
+            return call(known, one, number)
+        except WrongTables:
+            number = operator.index(number)
+        with contextlib.suppress(WrongTables, IndexError):  # a rank of wrong tables, which the counts may not have
+            for shard in self._reads(known, call, one, number):
+                known.put(shard, self.shard(shard))
+                with contextlib.suppress(WrongTables):
+                    return call(known, one, number)
+        raise ShardError(_says(self.folder, shard, self.parts[shard], WRONG))
+
+    def _reads(self, known: ShardSet, call: Callable[..., Any], one: bool, number: int) -> Iterator[int]:
+        """The shards that a call reads: that of its position, unless it is the first there, and once this is mapped that of the
+        bit which is found."""
+        end = min(number + (call is ShardSet.previous), len(self))
+        if call is not ShardSet.select and end < len(self):
+            shard, within = self._find(POSITIONS, end)
+            if within:
+                yield shard
+        if call is ShardSet.select:
+            yield self._find(one, number)[0]
+        elif call is not ShardSet.rank:
+            yield self._find(one, known.rank(one, end) - (call is ShardSet.previous))[0]
 
     def _inside(self, position: int) -> int:
         if -len(self) <= position < len(self):
             return position % len(self)
         raise IndexError(f"index {position} of {len(self)} bits")
 
-    def __getitem__(self, position: Any, /) -> Any:
+    @overload
+    def __getitem__(self, position: SupportsIndex, /) -> bool: ...
+    @overload
+    def __getitem__(self, position: slice, /) -> BitVector: ...
+    def __getitem__(self, position: Union[SupportsIndex, slice], /) -> Union[bool, BitVector]:
         if isinstance(position, slice):
             return self._slice(position)
-        shard, within = self._find(None, self._inside(operator.index(position)))
+        shard, within = self._find(POSITIONS, self._inside(operator.index(position)))
         return self.shard(shard)[within]
 
     def _slice(self, position: slice) -> BitVector:
@@ -297,69 +322,42 @@ class Shards:
         """The shards of a range, and the range in each."""
         bits = self._starts[None]
         while start < min(stop, len(self)):
-            shard, low = self._find(None, start)
+            shard, low = self._find(POSITIONS, start)
             high = min(stop - bits[shard], self.parts[shard].bits)
             yield shard, low, high
             start = bits[shard] + high
 
     def rank(self, position: int, /) -> int:
         """How many 1 bits there are before a position. IndexError where it is past the end."""
-        return self._rank(True, position)
+        return self._ask(ShardSet.rank, True, position)
 
     def rank0(self, position: int, /) -> int:
         """How many 0 bits there are before a position. IndexError where it is past the end."""
-        return self._rank(False, position)
-
-    def _rank(self, one: bool, position: int) -> int:
-        shard, within = self._find(None, position)
-        if shard == len(self.parts):
-            if within:
-                raise IndexError(f"position {position} of {len(self)} bits")
-            return self._starts[one][-1]
-        index = self.shard(shard)
-        return self._starts[one][shard] + (index.rank(within) if one else index.rank0(within))
+        return self._ask(ShardSet.rank, False, position)
 
     def select(self, rank: int, /) -> Optional[int]:
         """The position of the 1 bit with this many 1 bits before it; None where there is none."""
-        return self._select(True, rank)
+        return self._ask(ShardSet.select, True, rank)
 
     def select0(self, rank: int, /) -> Optional[int]:
         """The position of the 0 bit with this many 0 bits before it; None where there is none."""
-        return self._select(False, rank)
-
-    def _select(self, one: bool, rank: int) -> Optional[int]:
-        shard, within = self._find(one, rank)
-        if shard == len(self.parts):
-            return None
-        found = self.shard(shard).select(within) if one else self.shard(shard).select0(within)
-        if found is None:
-            raise ShardError(_says(self.folder, shard, self.parts[shard], WRONG))
-        return self._starts[None][shard] + found
+        return self._ask(ShardSet.select, False, rank)
 
     def next_one(self, position: int, /) -> Optional[int]:
         """The position of the first 1 bit at or after a position; None where there is none."""
-        return self._next(True, position)
+        return self._ask(ShardSet.next, True, position)
 
     def next_zero(self, position: int, /) -> Optional[int]:
         """The position of the first 0 bit at or after a position; None where there is none."""
-        return self._next(False, position)
-
-    def _next(self, one: bool, position: int) -> Optional[int]:
-        shard, _ = self._find(None, position)
-        return None if shard == len(self.parts) else self._select(one, self._rank(one, position))
+        return self._ask(ShardSet.next, False, position)
 
     def previous_one(self, position: int, /) -> Optional[int]:
         """The position of the last 1 bit at or before a position, which may be past the end; None where there is none."""
-        return self._previous(True, position)
+        return self._ask(ShardSet.previous, True, position)
 
     def previous_zero(self, position: int, /) -> Optional[int]:
         """The position of the last 0 bit at or before a position, which may be past the end; None where there is none."""
-        return self._previous(False, position)
-
-    def _previous(self, one: bool, position: int) -> Optional[int]:
-        shard, _ = self._find(None, position)
-        before = self._starts[one][-1] if shard == len(self.parts) else self._rank(one, position + 1)
-        return self._select(one, before - 1) if before else None
+        return self._ask(ShardSet.previous, False, position)
 
     def ones(self, start: int = 0, stop: Optional[int] = None, *, reverse: bool = False) -> Iterator[int]:
         """The positions of the 1 bits of a range, rising, or falling with `reverse`."""
@@ -375,22 +373,3 @@ class Shards:
             base = self._starts[None][shard]
             for found in getattr(self.shard(shard), kind)(low, high, reverse=reverse):
                 yield base + found
-
-    # ---- lists of queries: sorted by shard, with one list for each shard
-
-    def rank_list(self, queries: Any) -> Any:
-        """`rank` of each position: a list, or an array of uint64 for an array. IndexError where one is past the end."""
-        return _shard_lists.ranks(self, True, queries)
-
-    def rank0_list(self, queries: Any) -> Any:
-        """`rank0` of each position, likewise."""
-        return _shard_lists.ranks(self, False, queries)
-
-    def select_list(self, queries: Any, *, missing: Any = None) -> Any:
-        """`select` of each rank: a list, or an array for an array. Where there is none: None, in an array masked; the
-        number `missing`; or IndexError for `missing="error"`."""
-        return _shard_lists.selections(self, True, queries, missing)
-
-    def select0_list(self, queries: Any, *, missing: Any = None) -> Any:
-        """`select0` of each rank, likewise."""
-        return _shard_lists.selections(self, False, queries, missing)

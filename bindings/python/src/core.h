@@ -37,9 +37,9 @@
 
 extern PyObject *WrongTables;
 extern PyTypeObject *Memory_Type, *Window_Type, *Positions_Type, *Numbers_Type, *Vector_Type, *Index_Type,
-    *Sequence_Type, *Hash_Type;
+    *Sequence_Type, *Hash_Type, *ShardSet_Type;
 extern PyType_Spec memory_spec, window_spec, positions_spec, numbers_spec, vector_spec, index_spec, sequence_spec,
-    hash_spec;
+    hash_spec, shard_set_spec;
 
 /* ---- arguments.c */
 
@@ -338,9 +338,19 @@ PyObject *stored_load(PyObject *module, PyObject *file);
 PyObject *stored_index_header(PyObject *module, PyObject *args);
 PyObject *stored_sequence_header(PyObject *module, PyObject *args);
 
-/* ---- shards.c */
-PyObject *shards_find(PyObject *module, PyObject *args);
-PyObject *shards_list(PyObject *module, PyObject *args);
+/* ---- shard_set.c, shards.c */
+
+/* Counts of shards, and the indexes of those that are mapped so far. The index of another has no bits, so that the
+ * library finds it wrong where a query reads it (but for the rank of its first position, which its counts say). */
+typedef struct {
+    PyObject_HEAD Memory *held; /* of the counts */
+    struct bitm_shards shards;
+    struct bitm_index *indexes; /* each is put once; then it stays */
+    Memory **kept;              /* of each index; NULL where none is put */
+    size_t missing;             /* how many are not put */
+} ShardSet;
+PyObject *set_places(PyObject *self, PyObject *args);
+PyObject *set_answers(PyObject *self, PyObject *args);
 
 /* ---- parts.c */
 PyObject *parts_of(PyObject *module, PyObject *value);

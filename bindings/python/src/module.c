@@ -3,7 +3,7 @@
 
 PyObject *WrongTables;
 PyTypeObject *Memory_Type, *Window_Type, *Positions_Type, *Numbers_Type, *Vector_Type, *Index_Type, *Sequence_Type,
-    *Hash_Type;
+    *Hash_Type, *ShardSet_Type;
 
 static PyMethodDef functions[] = {{"stored_load", stored_load, METH_O, NULL},
                                   {"index_header", stored_index_header, METH_VARARGS, NULL},
@@ -13,8 +13,6 @@ static PyMethodDef functions[] = {{"stored_load", stored_load, METH_O, NULL},
                                   {"sequence_window", sequence_window, METH_O, NULL},
                                   {"sequence_common", sequence_common, METH_VARARGS, NULL},
                                   {"sequence_merged", sequence_merged, METH_VARARGS, NULL},
-                                  {"shards_find", shards_find, METH_VARARGS, NULL},
-                                  {"shards_list", shards_list, METH_VARARGS, NULL},
                                   {NULL, NULL, 0, NULL}};
 
 /* The name of what the processor lacks of x86-64-v2, for which the library is compiled; NULL where it has all. */
@@ -63,7 +61,8 @@ static int filled(PyObject *module)
                  {&vector_spec, &Vector_Type, "BitVector"},
                  {&index_spec, &Index_Type, "Index"},
                  {&sequence_spec, &Sequence_Type, "EliasFano"},
-                 {&hash_spec, &Hash_Type, "PerfectHash"}};
+                 {&hash_spec, &Hash_Type, "PerfectHash"},
+                 {&shard_set_spec, &ShardSet_Type, "ShardSet"}};
     if (usable())
         return -1;
     /* Where it is imported again, the types stay the same. */
