@@ -4,7 +4,7 @@ import re
 import bitm
 
 text = pathlib.Path(__file__).parents[2] / "crates" / "example_concordance" / "data" / "rhyme.txt"
-words = re.findall(r"[A-Za-z]+", text.read_text())
+words: list[str] = re.findall(r"[A-Za-z]+", text.read_text())
 numbers = bitm.PerfectHash(sorted(set(words)))
 counts = [0] * len(numbers)
 for word in words:

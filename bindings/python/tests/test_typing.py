@@ -15,6 +15,7 @@ LINES = """
 import bitm, numpy
 bits = bitm.BitVector.from_indices([1, 3])
 index, sequence, numbers = bitm.Index(bits), bitm.EliasFano([1, 2]), bitm.PerfectHash(["a"])
+shards = bitm.Shards("x")
 array = numpy.array([1, 2], dtype=numpy.int64)
 """
 EXPRESSIONS = """bits[1]; bits[1:]; bits & bits; ~bits; bits << 1; list(bits.ones()); bits.next_one(1); bits.to_numpy(); bits.words; bits.copy()
@@ -24,6 +25,9 @@ index.select_list(array, missing="error"); index.select_list(array, missing=7); 
 sequence[0]; sequence[:1]; list(sequence); iter(sequence).next_geq(3); sequence.intersection(sequence); sequence.get_list(array); sequence.parts
 sequence.contains_list(array); sequence.contains_list([1]); sequence.to_numpy(); sequence.first_at_least_list({1}); sequence.from_value(3, reverse=True)
 numbers["a"]; numbers.get("b"); numbers.get("b", "x"); numbers.get_list(["a"]); numbers.get_list(array); numbers.get_list(iter(["a"]), missing=5)
+shards[1]; shards[1:]; shards.rank(3); shards.select(3); shards.next_one(3); shards.find(3); list(shards.ones()); shards.parts; shards.shard(1)
+shards.rank_list([1]); shards.rank_list(array); shards.select_list([1]); shards.select_list(array); shards.select0_list(array, missing="error")
+bitm.Shards.build([bits, (b"", 0)], "x"); shards.count(); shards.folder
 bitm.load("x"); bitm.load("x").check(); bitm.loads(b""); bitm.tables_of(b""); bitm.Index(b"").over(b"", b"", b"")""".replace("\n", "; ").split("; ")
 
 
@@ -40,7 +44,16 @@ def test_the_package_is_strict():
 def test_the_stubs_are_those_of_the_types():
     pytest.importorskip("mypy.stubtest")
     done = subprocess.run([sys.executable, "-m", "mypy.stubtest", "bitm._core", "--concise"], capture_output=True, text=True)
-    assert done.returncode == 0 or "is not present at runtime" not in done.stdout and "inconsistent" not in done.stdout, done.stdout
+    assert done.returncode == 0, done.stdout + done.stderr
+
+
+def test_no_expression_of_a_user_has_a_part_of_an_unknown_type(tmp_path):
+    """Without NumPy, whose arrays have a shape of an unknown type."""
+    path = tmp_path / "lines.py"
+    plain = [it for it in EXPRESSIONS if "array" not in it and "numpy" not in it]
+    made = [it for it in LINES.replace(", numpy", "").splitlines() if "numpy" not in it]
+    path.write_text("\n".join([*made, *plain, ""]))
+    assert mypy("--disallow-any-expr", "--disallow-any-explicit", "--disallow-any-decorated", "--disallow-any-unimported", str(path)) == ""
 
 
 def test_no_type_of_a_user_is_unknown(tmp_path):
