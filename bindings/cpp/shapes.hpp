@@ -93,11 +93,15 @@ static void faults()
     says([&] { (void)x.rank(8); }, "bitm: a position past the end: 8 of 7");
     says([&] { (void)b[7]; }, "bitm: a position past the end: 7 of 7");
     says([&] { (void)b.count(5, 8); }, "bitm: a position past the end: the end of a range is 8 of 7");
-    says([&] { b.fill(5, 3, true); }, "bitm: a position past the end: the begin of a range is 5 of 3");
+    says([&] { b.fill(5, 3, true); }, "bitm: a position past the end: the start of a range is 5 of 3");
     says([&] { (void)b.get_bits(0, 65); }, "bitm: a position past the end: the number of bits is 65 of 64");
     says([&] { (void)b.get_bits(5, 3); }, "bitm: a position past the end: the first bit of a number is 5 of 4");
     says([&] { (void)b.fragment(2, 3); }, "bitm: a position past the end: the index of a fragment is 2 of 2");
     CHECK(bitm::rank_index::try_load("no/such/file").error().which == nullptr);
+    says([] { (void)bitm::rank_index::map("no/such/file"); },
+         "bitm: the file cannot be opened, read or written: no/such/file: No such file or directory");
+    says([] { (void)bitm::sequence::load("/dev/null"); },
+         "bitm: not a file of this format, or not a whole one: /dev/null");
 }
 
 static void once()

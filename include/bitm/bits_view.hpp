@@ -1,5 +1,11 @@
 // Bits in memory of the caller's: a view, the ranges of its positions and numbers, and the queries that it shares with
 // the owner of bitm/bits.hpp.
+//
+//     const std::vector<std::uint64_t> words{0x5a};                    // bits 1, 3, 4 and 6
+//     const bitm::bits_view b(words, 7);                               // the first seven; the words stay the caller's
+//     std::cout << b.count() << ' ' << b.next_zero(3).value() << ' ' << b.get_bits(3, 4) << '\n'; // 4 5 11
+//     for (const std::uint64_t position : b.ones()) std::cout << position << ' ';     // 1 3 4 6
+//     for (const std::uint64_t number : b.fragments(3)) std::cout << number << ' ';   // 2 3
 #ifndef BITM_BITS_VIEW_HPP
 #define BITM_BITS_VIEW_HPP
 
@@ -36,13 +42,6 @@ struct bits_parts {
     std::size_t len = 0;
     std::uint64_t size = 0;
 };
-
-// How many bits the words have.
-inline std::uint64_t bits_in(std::size_t words)
-{
-    if (BITM_RARELY(words >= (std::size_t{1} << 58))) fail(bad_size("2^58 words or more"));
-    return 64 * static_cast<std::uint64_t>(words);
-}
 
 inline bool bit_of(const bits_parts &of, std::uint64_t at)
 {

@@ -3,6 +3,16 @@
 // Each type is the same in every language mode, so that units compiled as C++17, 20 and 23 link together: where the
 // standard library of the mode has a type of the same use (std::span, std::expected), values convert. Units without
 // exceptions differ, and so have an inline namespace of another name.
+//
+//     const bitm::rank_index x(bitm::bits("0101"));
+//     try {
+//         x.rank(5);
+//     } catch (const std::out_of_range &why) {
+//         std::cerr << why.what() << '\n';                             // the position, and how many bits there are
+//     }
+//     const auto none = bitm::rank_index::try_load("missing.bitm");    // a result: a value, or why there is none
+//     std::cout << none.has_value() << ' ' << (none.error().code == bitm::errc::no_file) << '\n'; // 0 1
+//     std::cout << x.try_rank(4).value_or(0) << '\n';                  // 2
 #ifndef BITM_CORE_HPP
 #define BITM_CORE_HPP
 
@@ -104,7 +114,7 @@ struct failure {
     std::uint64_t at = 0;
     // The size that `at` is past.
     std::uint64_t of = 0;
-    // The argument or length that is wrong.
+    // The argument or length that is wrong, or the name of the file in what load, map and save throw.
     const char *which = nullptr;
 
     // The kind of failure in words, in memory that stays.
@@ -236,7 +246,7 @@ namespace detail {
 }
 [[noreturn]] BITM_COLD inline void outside_range(std::uint64_t from, std::uint64_t to, std::uint64_t size)
 {
-    if (from > to) outside(from, to, "the begin of a range");
+    if (from > to) outside(from, to, "the start of a range");
     outside(to, size, "the end of a range");
 }
 constexpr failure bad_size(const char *which) noexcept { return {errc::bad_size, 0, 0, which}; }

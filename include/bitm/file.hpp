@@ -1,5 +1,15 @@
 // Files: an owner is one block of memory, which is the file byte for byte; so it is written at once and mapped where it
 // lies. Part of the other headers.
+//
+//     #include <sstream>
+//     const bitm::rank_index x(bitm::bits("0101"));
+//     x.save("a.bitm");                                                // all of it, or the file that was there stays
+//     const auto copied = bitm::rank_index::load("a.bitm", bitm::verify::yes); // with one pass over words and tables
+//     std::stringstream stream;
+//     x.save(stream);
+//     const auto sent = bitm::rank_index::load(stream);                // or of_bytes(x.bytes())
+//     std::cout << copied.rank(4) << ' ' << sent.select(1).value() << '\n'; // 2 3
+//     std::cout << bitm::sequence::try_map("a.bitm").has_value() << '\n';   // 0
 #ifndef BITM_FILE_HPP
 #define BITM_FILE_HPP
 
@@ -176,6 +186,17 @@ inline result<bitm_stored> header_of(const std::uint64_t *file, std::size_t word
     return header;
 }
 
+// The value: fails where there is none, with the name of the file where it is one that the system or the format refuses.
+template <class T> T of_file(result<T> made, const path_of &path)
+{
+    if (BITM_RARELY(!made.has_value())) {
+        failure why = made.error();
+        if (why.code == errc::no_file || why.code == errc::wrong_file) why.which = path.get();
+        fail(why);
+    }
+    return std::move(made).value();
+}
+
 // Saving and loading of owners that are one block. `Self` has `opened(block, verify)` and `size_of(words)`.
 template <class Self> class stored_calls {
 public:
@@ -189,7 +210,7 @@ public:
 
     // Writes these bytes to a new file, which replaces one of that name once it is whole; or to a stream.
     result<bool> try_save(path_of path) const noexcept { return written(path, bytes_().data(), bytes_().size()); }
-    void save(path_of path) const { (void)try_save(path).value(); }
+    void save(path_of path) const { (void)of_file(try_save(path), path); }
     template <class Char, class Traits>
     std::basic_ostream<Char, Traits> &save(std::basic_ostream<Char, Traits> &to) const
     {
@@ -226,8 +247,8 @@ public:
         if (!all) return all.error();
         return Self::opened(std::move(*all), how);
     }
-    static Self load(path_of path, verify how = verify::no) { return try_load(path, how).value(); }
-    static Self map(path_of path, verify how = verify::no) { return try_map(path, how).value(); }
+    static Self load(path_of path, verify how = verify::no) { return of_file(try_load(path, how), path); }
+    static Self map(path_of path, verify how = verify::no) { return of_file(try_map(path, how), path); }
     static Self of_bytes(span<const unsigned char> bytes, verify how = verify::no)
     {
         return try_of_bytes(bytes, how).value();

@@ -1,4 +1,12 @@
 // std::format of bits, indexes and sequences, where the library has it: `{}` and width, fill and alignment of text.
+//
+//     const bitm::bits b("0011");
+//     #if defined __cpp_lib_format
+//     std::string text = std::format("{:0>6}", b);
+//     #else
+//     std::string text = "000011";                                     // a standard library without std::format
+//     #endif
+//     std::cout << text << '\n';                                       // 000011
 #ifndef BITM_FORMAT_HPP
 #define BITM_FORMAT_HPP
 

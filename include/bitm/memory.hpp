@@ -1,4 +1,11 @@
 // What the headers of bitm share beside bitm/core.hpp: spans, memory, and the base of iterators.
+//
+//     const bitm::rank_index x(bitm::bits("0101"));
+//     const std::vector<std::uint64_t> queries{0, 2, 4};
+//     std::uint64_t answers[3];
+//     x.rank(queries, {answers, 3});                                   // a container, or an address and a length
+//     const bitm::words_in last(answers + 1, 2);
+//     std::cout << last.size() << ' ' << last[0] << ' ' << last[1] << '\n'; // 2 1 2
 #ifndef BITM_MEMORY_HPP
 #define BITM_MEMORY_HPP
 
@@ -94,6 +101,13 @@ private:
 };
 
 // ---- memory
+
+// How many bits the words have.
+inline std::uint64_t bits_in(std::size_t words)
+{
+    if (BITM_RARELY(words >= (std::size_t{1} << 58))) fail(bad_size("2^58 words or more"));
+    return 64 * static_cast<std::uint64_t>(words);
+}
 
 // Requests huge pages for the whole pages of an array of 4 MiB or more: a query then waits less for the
 // tables of the pages. The system may refuse, or have none: then the pages stay small.

@@ -1,5 +1,12 @@
 // Monotone sequences (Elias-Fano) in memory of the caller's: a view, iterators and walks, and the queries that it
 // shares with the owner of bitm/sequence.hpp.
+//
+//     const bitm::sequence primes{2, 3, 5, 7, 11};
+//     const bitm::sequence_view v = primes.view();                     // of a temporary it does not compile
+//     std::cout << v[3] << ' ' << v.last_at_most(6).value() << ' ' << v.rank(6) << '\n'; // 7 2 3
+//     std::uint64_t some[3];
+//     std::cout << v.read(1, {some, 3}) << ' ' << some[0] << ' ' << some[2] << '\n';     // 3 3 7
+//     for (auto walk = v.walk(2); walk; ++walk) std::cout << walk.position() << ' ' << *walk << ' '; // 2 5 3 7 4 11
 #ifndef BITM_SEQUENCE_VIEW_HPP
 #define BITM_SEQUENCE_VIEW_HPP
 
