@@ -136,7 +136,7 @@ impl BitVec for Box<[u64]> {
 #[track_caller]
 fn fragments(word: u64, width: u8, count: usize) -> Result<Box<[u64]>, NoMemory> {
     let fits = width == 64 || (width < 64 && word >> width == 0);
-    assert!(fits, "{word} has no place in {width} bits of at most 64");
+    assert!(fits, "{word} does not fit into {width} bits, or these are more than 64");
     let bits = count.checked_mul(width.into());
     let bits = bits.ok_or(NoMemory { bytes: usize::MAX })?;
     let mut all = memory::filled(0, bits.div_ceil(64))?;
@@ -155,7 +155,7 @@ impl<const ALIGN: usize> BitVec for aligned_vec::ABox<[u64], aligned_vec::ConstA
         let bits = words_count * word_len_bits as usize;
         let mut all = Self::with_zeroed_bits(bits);
         let done = writes::fill_fragments(&mut all, bits, word_len_bits, word, words_count);
-        assert!(done.is_some(), "fragments of {word_len_bits} bits, which is above 64");
+        assert!(done.is_some(), "a fragment has at most 64 bits, not {word_len_bits}");
         all
     }
 }

@@ -40,7 +40,7 @@ pub trait BitAccess {
 fn begin_of(index: usize, width: u8) -> usize {
     match index.checked_mul(width as usize) {
         Some(begin) => begin,
-        None => panic!("fragment {index} of fragments of {width} bits begins past all positions"),
+        None => panic!("fragment {index} of {width} bits each begins at position 2^64 or later"),
     }
 }
 

@@ -6,7 +6,7 @@ use core::{error::Error, fmt};
 /// ```
 /// use bitm_proved::{BuildError, NoMemory};
 /// let why = NoMemory { bytes: 16 };
-/// assert_eq!(why.to_string(), "16 bytes of memory could not be had");
+/// assert_eq!(why.to_string(), "memory for 16 bytes was refused");
 /// assert_eq!(BuildError::from(why), BuildError::NoMemory(why));
 /// ```
 #[derive(Clone, Copy, PartialEq, Eq, Debug)]
@@ -23,7 +23,7 @@ pub struct NoMemory {
 
 impl fmt::Display for NoMemory {
     fn fmt(&self, f: &mut fmt::Formatter<'_>) -> fmt::Result {
-        write!(f, "{} bytes of memory could not be had", self.bytes)
+        write!(f, "memory for {} bytes was refused", self.bytes)
     }
 }
 
@@ -104,7 +104,7 @@ pub enum BuildError {
 impl fmt::Display for BuildError {
     fn fmt(&self, f: &mut fmt::Formatter<'_>) -> fmt::Result {
         match self {
-            BuildError::TooLong { len } => write!(f, "{len} is more than there may be"),
+            BuildError::TooLong { len } => write!(f, "a length is too great: {len}"),
             BuildError::NotSorted { index } => {
                 write!(f, "number {index} is less than the one before it")
             }
@@ -180,9 +180,9 @@ impl fmt::Display for StoredError {
     fn fmt(&self, f: &mut fmt::Formatter<'_>) -> fmt::Result {
         f.write_str(match self {
             StoredError::Misaligned => "the bytes do not begin at a multiple of 8",
-            StoredError::NotWhole => "this is no file of the format, or not a whole one",
+            StoredError::NotWhole => "this is not a file of this format, or not a whole one",
             StoredError::OtherKind => "this is a sequence where an index is expected, or an index where a sequence is",
-            StoredError::WrongLength => "a part is not as long as that of the words",
+            StoredError::WrongLength => "the length of a table, or of the bits, does not fit the words",
             StoredError::NoMemory(why) => return why.fmt(f),
         })
     }
@@ -253,7 +253,7 @@ impl Error for ListError {}
 /// ```
 /// use bitm_proved::{OpenError, StoredError};
 /// let why: OpenError = StoredError::NotWhole.into();
-/// assert_eq!(why.to_string(), "this is no file of the format, or not a whole one");
+/// assert_eq!(why.to_string(), "this is not a file of this format, or not a whole one");
 /// ```
 #[cfg(feature = "std")]
 #[derive(Debug)]

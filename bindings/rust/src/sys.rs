@@ -61,5 +61,5 @@ pub(crate) fn found(status: u32, out: u64, bits_len: usize, words_len: usize) ->
 #[cold]
 #[track_caller]
 fn wrong_length(bits_len: usize, words_len: usize) -> ! {
-    panic!("{bits_len} bits of {words_len} words: there are no more than 64 in each, of fewer than 2^58 words")
+    panic!("{bits_len} bits are more than {words_len} words have, or these are 2^58 or more")
 }

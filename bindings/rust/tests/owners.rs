@@ -91,12 +91,12 @@ fn errors_are_errors_and_say_the_numbers() {
     assert_eq!(
         texts,
         [
-            "80 bytes of memory could not be had",
+            "memory for 80 bytes was refused",
             "the tables are not those of the words",
-            "9 is more than there may be",
+            "a length is too great: 9",
             "number 3 is less than the one before it",
             "2 hashes are equal to others",
-            "80 bytes of memory could not be had",
+            "memory for 80 bytes was refused",
             "the bytes do not begin at a multiple of 8",
             "there is room for 6 answers to 7 queries",
             "the tables are not those of the words: 5 answers show it",
@@ -118,7 +118,7 @@ fn memory_that_is_not_there_is_an_error() {
     assert_eq!(Box::<[u64]>::try_with_filled_bits(1 << 62).err(), Some(refused));
     assert_eq!(Box::<[u64]>::try_with_bitwords(1, 64, 1 << 56).err(), Some(refused));
     let text = says(|| assert!(Box::<[u64]>::with_zeroed_bits(1 << 62).is_empty()));
-    assert_eq!(text, "576460752303423488 bytes of memory could not be had");
+    assert_eq!(text, "memory for 576460752303423488 bytes was refused");
 }
 
 #[test]
@@ -136,7 +136,7 @@ fn panics_say_the_numbers() {
         ),
         (
             || assert_eq!([0u64].get_fragment(usize::MAX, 7), 0),
-            "fragment 18446744073709551615 of fragments of 7 bits begins past all positions",
+            "fragment 18446744073709551615 of 7 bits each begins at position 2^64 or later",
         ),
         (|| assert_eq!(BitIterator::with_range(&[0], 3..65).next(), None), "the range 3..65 ends past 64 bits"),
         (|| assert_eq!(BitOnesIterator::with_range(&[0], 3..65).next(), None), "the range 3..65 ends past 64 bits"),
@@ -146,9 +146,12 @@ fn panics_say_the_numbers() {
         (|| assert_eq!(Index::build([7u64]).ones_in(0..65).next(), None), "the range 0..65 ends past 64 bits"),
         (
             || assert_eq!(bitm_proved::words::count(&[7], 65, true), 0),
-            "65 bits of 1 words: there are no more than 64 in each, of fewer than 2^58 words",
+            "65 bits are more than 1 words have, or these are 2^58 or more",
         ),
-        (|| assert!(Box::<[u64]>::with_bitwords(8, 3, 1).is_empty()), "8 has no place in 3 bits of at most 64"),
+        (
+            || assert!(Box::<[u64]>::with_bitwords(8, 3, 1).is_empty()),
+            "8 does not fit into 3 bits, or these are more than 64",
+        ),
         (
             || assert!(EliasFano::build(&[7]).is_ok_and(|it| it.range(0..2).next().is_none())),
             "the range 0..2 ends past 1 numbers",

@@ -125,7 +125,7 @@ fn words_are_combined() {
 
 #[test]
 fn more_bits_than_there_are_is_a_panic() {
-    let wanted = "129 bits of 2 words: there are no more than 64 in each, of fewer than 2^58 words";
+    let wanted = "129 bits are more than 2 words have, or these are 2^58 or more";
     let calls: [fn(); 8] = [
         || assert!(words::get(&[0, 0], 129, 0).is_some()),
         || assert!(words::get_number(&[0, 0], 129, 0, 1).is_some()),
