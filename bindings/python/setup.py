@@ -21,10 +21,16 @@ TOP = HERE.parent.parent  # of the repository, where this is not an sdist
 
 
 def first(variable, *places):
-    found = [pathlib.Path(os.environ[variable])] if variable in os.environ else [it for it in places if it.exists()]
-    if not found or not found[0].exists():
+    """What the variable names, else the first of the places that is there."""
+    if variable in os.environ:
+        found = pathlib.Path(os.environ[variable])
+        if not found.exists():
+            raise SystemExit(f"bitm: {variable} names {found}, which is not there")
+        return found
+    found = next((it for it in places if it.exists()), None)
+    if not found:
         raise SystemExit(f"bitm: there is no {places[-1]}: run `make archive` in the repository first, or set {variable}")
-    return found[0]
+    return found
 
 
 def archive(path):

@@ -11,7 +11,7 @@ PyObject *index_over(PyObject *type, Memory *it)
     if (bitm_index_rank(&it->index, true, it->index.bits_len, &ones) != BITM_BAD_SIZE)
         return value_new(type, it);
     DROP(it);
-    PyErr_SetString(PyExc_ValueError, "a table is not as long as that of the words");
+    PyErr_SetString(PyExc_ValueError, "the length of a table does not fit the number of words");
     return NULL;
 }
 
@@ -49,7 +49,7 @@ static int build(Memory *it)
     Py_END_ALLOW_THREADS
     if (status == BITM_OK)
         return 0;
-    PyErr_SetString(PyExc_ValueError, "too many bits");
+    PyErr_SetString(PyExc_ValueError, "2**58 words or more");
     return -1;
 }
 

@@ -156,7 +156,7 @@ static int words_of_bitarray(Memory *it, PyObject *from, const void **at, size_t
     Py_XDECREF(copy);
     if (count < 0) {
         if (!PyErr_Occurred())
-            PyErr_SetString(PyExc_TypeError, "there is no bitarray");
+            PyErr_SetString(PyExc_TypeError, "the package bitarray is not installed");
         return -1;
     }
     if (placed(it, held, 8, 1, at, len))

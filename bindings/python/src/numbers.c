@@ -105,7 +105,8 @@ static PyObject *numbers_seek(PyObject *self, PyObject *value)
 static PyObject *next_beyond(PyObject *self, PyObject *value, int is_reversed)
 {
     if (((Numbers *)self)->is_reversed != is_reversed) {
-        PyErr_SetString(PyExc_ValueError, is_reversed ? "it goes forwards" : "it goes backwards");
+        PyErr_SetString(PyExc_ValueError, is_reversed ? "the walk goes forwards: next_leq needs reverse=True"
+                                                      : "the walk goes backwards: next_geq needs reverse=False");
         return NULL;
     }
     PyObject *found = seek((Numbers *)self, value) ? NULL : numbers_next(self);

@@ -12,7 +12,7 @@ PyObject *sequence_over(PyObject *type, Memory *it)
     if (bitm_sequence_get(sequence, 0, &first) != BITM_BAD_SIZE && sequence->len / 64 <= sequence->words_len)
         return value_new(type, it);
     DROP(it);
-    PyErr_SetString(PyExc_ValueError, "a part is not as long as the number of numbers needs");
+    PyErr_SetString(PyExc_ValueError, "the length of a part does not fit the number of numbers");
     return NULL;
 }
 
@@ -21,7 +21,7 @@ static int build(Memory *it, const uint64_t *items, size_t count)
 {
     struct bitm_sequence_lens lens;
     if (bitm_sequence_sizes(count, count == 0 ? 0 : items[count - 1], &lens) != BITM_OK) {
-        PyErr_SetString(PyExc_ValueError, "too many numbers");
+        PyErr_SetString(PyExc_ValueError, "2**56 numbers or more");
         return -1;
     }
     uint64_t *low = memory_own(it, lens.low_len, 8), *words = low == NULL ? NULL : memory_own(it, lens.words_len, 8);

@@ -40,8 +40,8 @@ static int combine(Vector *it, const Vector *other, combination call)
 {
     if (it->bits.len == other->bits.len)
         return call(it->words, it->bits.words_len, other->bits.words, other->bits.words_len) == BITM_OK ? 0 : -1;
-    PyErr_Format(PyExc_ValueError, "vectors of %llu and %llu bits", (unsigned long long)it->bits.len,
-                 (unsigned long long)other->bits.len);
+    PyErr_Format(PyExc_ValueError, "the bit vectors have other lengths, %llu and %llu bits",
+                 (unsigned long long)it->bits.len, (unsigned long long)other->bits.len);
     return -1;
 }
 
@@ -90,7 +90,7 @@ static PyObject *shifted(PyObject *self, PyObject *by, int is_left)
     if (number(by, "a shift", &gap)) {
         if (PyErr_ExceptionMatches(PyExc_OverflowError)) {
             PyErr_Clear();
-            PyErr_SetString(PyExc_ValueError, "negative or too large shift");
+            PyErr_SetString(PyExc_ValueError, "a shift has to be at least 0 and below 2**64");
         }
         return NULL;
     }
