@@ -168,7 +168,7 @@ static void bits_case()
     CHECK(bitm::bits(text.str()) == b);
     const auto ones = positions(model, true);
     CHECK(bitm::bits::of_positions(ones, model.size()) == b);
-    const std::uint64_t past = ones.empty() ? model.size() : ones.back();
+    [[maybe_unused]] const std::uint64_t past = ones.empty() ? model.size() : ones.back();
     THROWS(std::out_of_range, bitm::bits::of_positions({0, past, past}, past));
 }
 
