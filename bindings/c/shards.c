@@ -181,6 +181,43 @@ static void spoilt_lists(const struct bitm_shards *shards, int one)
         MUST(claimed >= BITM_WRONG_TABLES);
 }
 
+/* How many of a kind the counts claim before a shard: no 0 bits where they claim more 1 bits than bits. */
+static uint64_t claimed_before(uint32_t kind, size_t shard)
+{
+    if (kind == BITM_ZEROS) return bits[shard] < ones[shard] ? 0 : bits[shard] - ones[shard];
+    return kind == BITM_ONES ? ones[shard] : bits[shard];
+}
+
+/* A place by counts that may hold anything: one where they claim the number to be, none, or that they are wrong. */
+static void spoilt_place(const struct bitm_shards *shards, uint32_t kind, uint64_t number)
+{
+    struct bitm_shard_place at = {UNTOUCHED, UNTOUCHED};
+    const uint64_t all = claimed_before(kind, shards->shards_len), first = claimed_before(kind, 0);
+    const uint32_t status = bitm_shards_find(&shards->counts, kind, number, &at);
+    if (status == BITM_OK)
+        MUST(number < all && at.shard < shards->shards_len && claimed_before(kind, at.shard) + at.within == number &&
+             number < claimed_before(kind, at.shard + 1));
+    else
+        MUST(at.shard == UNTOUCHED && at.within == UNTOUCHED);
+    MUST((status == BITM_NONE) == (all <= number) && (status != BITM_WRONG || number < first));
+}
+
+/* Counts that claim a bit before the first shard: its place and its queries are wrong, and nothing is written. */
+static void wrong_first(const struct bitm_shards *shards)
+{
+    uint64_t got = UNTOUCHED;
+    struct bitm_shard_place at = {UNTOUCHED, UNTOUCHED};
+    bits[0] = ones[0] = 1;
+    if (bits[shards->shards_len] > 0 && shards->shards_len > 0)
+        MUST(bitm_shards_find(&shards->counts, BITM_POSITIONS, 0, &at) == BITM_WRONG &&
+             bitm_shards_rank(shards, true, 0, &got) == BITM_WRONG);
+    if (ones[shards->shards_len] > 0 && shards->shards_len > 0)
+        MUST(bitm_shards_find(&shards->counts, BITM_ONES, 0, &at) == BITM_WRONG &&
+             bitm_shards_select(shards, true, 0, &got) == BITM_WRONG);
+    MUST(got == UNTOUCHED && at.shard == UNTOUCHED && at.within == UNTOUCHED);
+    bits[0] = ones[0] = 0;
+}
+
 /* Prefix counts of which one is any number: answers are inside, and a position that is found has the bit in a shard. */
 static void spoilt(const struct bitm_shards *shards)
 {
@@ -204,6 +241,8 @@ static void spoilt(const struct bitm_shards *shards)
         const uint32_t previous = bitm_shards_previous(shards, one, number, &got);
         MUST(previous == BITM_OK ? got <= number && got < claimed : previous == BITM_NONE || previous == BITM_WRONG);
         spoilt_lists(shards, one);
+        for (uint32_t kind = BITM_ZEROS; kind <= BITM_POSITIONS; kind++)
+            spoilt_place(shards, kind, draw() % 2 ? number : draw() % 4);
         list[at] = was;
     }
 }
@@ -232,6 +271,7 @@ int main(int argc, char **argv)
         const struct bitm_shards shards = drawn(round % (MOST_SHARDS + 1));
         compare_all(&shards);
         wrong_lengths(shards);
+        wrong_first(&shards);
         spoilt(&shards);
     }
     puts("shards: 60 of up to six indexes answer as counting, also over spoilt counts");
