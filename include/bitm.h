@@ -31,7 +31,9 @@
  *   - sequences likewise: over parts that bitm_sequence_build wrote or bitm_sequence_check passes, the answers are
  *     those of one sequence of numbers.
  *
- * Cost: the reads that are named below are upper bounds for all tables, right or wrong. Time is not proved.
+ * Cost: the reads that are named below are upper bounds for all tables, right or wrong. Time is not proved. Queries are
+ * fastest where words and tables begin at multiples of 64 bytes, a line of the cache, and where those of many MiB lie in
+ * huge pages: on Linux by madvise(.., MADV_HUGEPAGE) before they are written first (docs/PERFORMANCE.md has figures).
  *
  * Your duties, as for any C function that takes pointers (nothing here can test them):
  *   - a pointer to n numbers is aligned (to 8 bytes; samples to 4, bytes to 1) and n numbers can be read there; it may
