@@ -1,0 +1,5 @@
+pub mod ChecksumLemmas
+pub mod LayoutLemmas
+pub mod HeaderLemmas
+pub mod WrittenLemmas
+pub mod SealedLemmas

@@ -1,0 +1,5 @@
+pub mod Checksum
+pub mod Error
+pub mod Header
+pub mod Layout
+pub mod Written
