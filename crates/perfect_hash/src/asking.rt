@@ -1,5 +1,5 @@
 //! The number of a hash over any source of words and tables, and over what may hold anything.
-ghost use Rattle.std.specs.Prelude.{◌≡◌, ◌+◌, ◌*◌, ◌<◌, ◌≤◌, length, true, None, MatchOption};
+ghost use Rattle.std.specs.Prelude.{◌≡◌, ◌+◌, ◌*◌, ◌<◌, ◌≤◌, length, true, None, IfSome, MatchOption};
 ghost use Rattle.bitm.specs.Answers.{HasBit};
 ghost use Rattle.bitm.specs.Bits.{item, IsShort};
 ghost use Rattle.bitm.specs.Count.{ones_of, IsRank};
@@ -12,7 +12,8 @@ ghost use Rattle.perfect_hash.specs.Places.{place_in};
 ghost use Rattle.perfect_hash.specs.Placed.{FitIn, IsPlaced, WhereAbsent, WhereWrong};
 
 use crate::placing::{Placing, Plain, no_reads};
-use bitm::{Answer, ReadCounts, TableSource, rank_on, total_rank_on, words};
+use crate::querying::{BySource, Query};
+use bitm::{Answer, ReadCounts, TableSource, total_rank_on, words};
 
 /// Whether the bit at `place` of the source's words is 1.
 ///
@@ -22,7 +23,7 @@ use bitm::{Answer, ReadCounts, TableSource, rank_on, total_rank_on, words};
 /// One word is read.
 #[inline(always)]
 #[tactic(auto, using(bitm::proofs::BitLaws::bits_are_counted))]
-fn is_one_on<T: TableSource>(source: &mut T, place: usize) -> bool
+pub(crate) fn is_one_on<T: TableSource>(source: &mut T, place: usize) -> bool
     requires { place < length (bits_in (T.lists source.old)) }
     ensures bit { result ≡ item (bits_in (T.lists source.old)) place }
     ensures counted { T.reads source.new ≡ word_read (T.reads source.old) }
@@ -157,9 +158,46 @@ pub(crate) fn number_by_on<T: TableSource, P: Placing>(
         reads.new.words ≡ reads.old.words
         + P.seeds_each * looked (fall_in (P.fall placing.now) sizes.now hash) b 0 0 sizes.now }
 {
-    match place_on(source, placing, sizes, hash, reads) {
-        Answer::Found(place) => rank_on(source, place),
-        Answer::Absent => None,
-        Answer::Wrong => unreachable!(),
+    number_by(&BySource, source, placing, sizes, hash, reads)
+}
+
+/// The number of a hash in the bits that `query` queries, where `placing` says where hashes fall: the body of each
+/// look-up of one hash, over a source or an index.
+///
+/// # Cost
+/// Of each level up to the one where the hash falls on a 1 bit, one bit and what places the hash; and one rank.
+#[inline(always)]
+pub(crate) fn number_by<Q: Query, T: TableSource, P: Placing>(
+    query: &Q,
+    source: &mut T,
+    placing: &P,
+    sizes: &[usize],
+    hash: u64,
+    reads: &mut ReadCounts,
+) -> Option<usize>
+    requires ready { Q.ready query.now (T.lists source.old) }
+    requires sizes { AreSizes sizes.now (Q.bits query.now (T.lists source.old)) }
+    ensures value { result ≡ number_in (fall_in (P.fall placing.now) sizes.now) sizes.now
+        (Q.bits query.now (T.lists source.old)) hash }
+    ensures below { IfSome result (λ number.
+        number < ones_of (Q.bits query.now (T.lists source.old))) }
+    ensures reads { OnlyReads T.lists T.reads source.old source.new 1 1 (length sizes.now + 8) }
+    ensures looked { let b = Q.bits query.now (T.lists source.old) in
+        IsWithin 8 ((T.reads source.old).words
+        + Q.words_each * looked (fall_in (P.fall placing.now) sizes.now hash) b 0 0 sizes.now)
+        (T.reads source.new).words }
+    ensures seeds { ReadsAtMost reads.old reads.new 0 0 (length sizes.now) }
+    ensures counted { let b = Q.bits query.now (T.lists source.old) in
+        reads.new.words ≡ reads.old.words
+        + P.seeds_each * looked (fall_in (P.fall placing.now) sizes.now hash) b 0 0 sizes.now }
+{
+    let mut first = 0;
+    for (level, size) in sizes.iter().enumerate() {
+        let place = 64 * first + placing.place(first, hash, level as u32, *size, &mut *reads);
+        if query.is_one(source, place) {
+            return Some(query.rank(source, place));
+        }
+        first += *size;
     }
+    None
 }

@@ -22,6 +22,7 @@
 // - `many`: many look-ups, side by side
 // - `places`: where a hash falls in a level, and the size of a level
 // - `placing`: how hashes fall on bits: by themselves, or with a seed for each word
+// - `querying`: how bits are queried: of a source, or of an index
 // - `table`: the levels, and their queries
 mod asking;
 mod building;
@@ -34,6 +35,7 @@ mod level;
 mod many;
 mod places;
 mod placing;
+mod querying;
 mod table;
 
 pub use asking::{number_on, total_number_on};

@@ -8,9 +8,10 @@ ghost use Rattle.perfect_hash.specs.Levels.{IsWithin};
 ghost use Rattle.perfect_hash.specs.Places.{place_in};
 ghost use Rattle.perfect_hash.specs.Parts.{levels_looked, number_at, number_from, number_of, AreSizes};
 
-use crate::asking::number_by_on;
+use crate::asking::{number_by, number_by_on};
 use crate::hashing::KeyHash;
 use crate::placing::{Placing, Plain, no_reads};
+use crate::querying::{ByIndex, no_source};
 use bitm::{
     Access, ArrayWithRank101111, CloneWords, GetSize, RankSelect101111, ReadCounts,
     Select0ForRank101111, SelectForRank101111,
@@ -165,16 +166,9 @@ impl<H, I: Access, P: Placing> PerfectHash<H, I, P> {
         ensures value { result ≡ number_from P.fall self.now hash }
         ensures below { IfSome result (λ number. number < ones_of self.now.bits) }
     {
-        let mut begin = 0;
-        for (level, size) in self.sizes.as_slice().iter().enumerate() {
-            let reads = &mut no_reads();
-            let place = 64 * begin + self.placing.place(begin, hash, level as u32, *size, reads);
-            if self.index.get_bit(place) {
-                return Some(self.index.rank(place));
-            }
-            begin += *size;
-        }
-        None
+        let (query, sizes) = (ByIndex { index: &self.index }, self.sizes.as_slice());
+        let (source, reads) = (&mut no_source(), &mut no_reads());
+        number_by(&query, source, &self.placing, sizes, hash, reads)
     }
 }
 

@@ -1,0 +1,98 @@
+//! How the bits of levels are queried: those of a source, with its reads counted, or those of an index.
+ghost use Rattle.std.specs.Prelude.{◌≡◌, ◌+◌, ◌<◌, ◌≤◌, ℕ, List, Bool, ⊤, length};
+ghost use Rattle.bitm.specs.Bits.{item};
+ghost use Rattle.bitm.specs.Count.{ones_before};
+ghost use Rattle.bitm.specs.Reads.{OnlyReads};
+ghost use Rattle.bitm.specs.Tables.{bits_in, IsIndexed, Lists};
+
+use crate::asking::is_one_on;
+use bitm::{Access, Probe, TableSource, rank_on};
+
+/// A way to query bits: a look-up runs one body, over any source and over any index.
+pub(crate) trait Query {
+    /// The bits that are queried, where a source has these lists.
+    ghost bits: { Self → Lists → List Bool };
+
+    /// Whether ranks are answered where a source has these lists.
+    ghost ready: { Self → Lists → Type 0 };
+
+    /// How many words of the source are read for a bit.
+    ghost words_each: { ℕ };
+
+    /// Whether the bit at `place` is 1.
+    ///
+    /// # Conditions
+    /// There is such a bit.
+    fn is_one<T: TableSource>(&self, source: &mut T, place: usize) -> bool
+        requires { place < length (bits self.now (T.lists source.old)) }
+        ensures bit { result ≡ item (bits self.now (T.lists source.old)) place }
+        ensures reads { OnlyReads T.lists T.reads source.old source.new 0 0 1 }
+        ensures counted { (T.reads source.new).words ≡ (T.reads source.old).words + words_each };
+
+    /// How many 1 bits stand before `place`.
+    ///
+    /// # Conditions
+    /// There are no fewer bits.
+    /// # Cost
+    /// At most one upper entry, one lower entry and eight words of the source are read.
+    fn rank<T: TableSource>(&self, source: &mut T, place: usize) -> usize
+        requires ready { ready self.now (T.lists source.old) }
+        requires inside { place ≤ length (bits self.now (T.lists source.old)) }
+        ensures count { result ≡ ones_before (bits self.now (T.lists source.old)) place }
+        ensures reads { OnlyReads T.lists T.reads source.old source.new 1 1 8 };
+}
+
+/// Queries the bits of the source.
+#[derive(Clone, Copy)]
+pub(crate) struct BySource;
+
+impl Query for BySource {
+    ghost bits = { λ _ lists. bits_in lists };
+
+    ghost ready = { λ _ lists. IsIndexed lists };
+
+    ghost words_each = { 1 };
+
+    #[inline(always)]
+    fn is_one<T: TableSource>(&self, source: &mut T, place: usize) -> bool {
+        is_one_on(source, place)
+    }
+
+    #[inline(always)]
+    fn rank<T: TableSource>(&self, source: &mut T, place: usize) -> usize {
+        match rank_on(source, place) {
+            Some(ones) => ones,
+            None => unreachable!(),
+        }
+    }
+}
+
+/// Queries an index, and reads nothing of the source.
+#[derive(Clone, Copy)]
+pub(crate) struct ByIndex<'a, I> {
+    pub(crate) index: &'a I,
+}
+
+impl<'a, I: Access> Query for ByIndex<'a, I> {
+    ghost bits = { λ by _. I.bits by.index.now };
+
+    ghost ready = { λ _ _. ⊤ };
+
+    ghost words_each = { 0 };
+
+    #[inline(always)]
+    fn is_one<T: TableSource>(&self, _source: &mut T, place: usize) -> bool {
+        self.index.get_bit(place)
+    }
+
+    #[inline(always)]
+    fn rank<T: TableSource>(&self, _source: &mut T, place: usize) -> usize {
+        self.index.rank(place)
+    }
+}
+
+/// A source over nothing: that of an index that is queried itself.
+#[inline(always)]
+pub(crate) fn no_source() -> Probe<'static> {
+    Probe::new([].as_slice(), [].as_slice(), [].as_slice())
+}
