@@ -1,9 +1,8 @@
 -- A tree in the words of a source whose reads are counted.
-use Rattle.std.specs.Prelude.{ℕ, ◌+◌, ◌*◌, List, length}
-use Rattle.bitm.specs.Bits.{digit_count}
+use Rattle.std.specs.Prelude.{ℕ, List}
 use Rattle.bitm.specs.ReadCounts.{ReadCounts}
-use Rattle.bitm.specs.Reads.{OnlyReads}
 use Rattle.bitm.specs.Tables.{IsIndexed, Lists, bits_in}
+use Rattle.bitm_selection.specs.Selection.{by_halves, OnlySelectsBy}
 use Rattle.louds.specs.Held.{IsHeld, degrees_of}
 
 -- the degrees of the n nodes that the words hold
@@ -17,5 +16,4 @@ pub record IsLouds (n : ℕ) (lists : Lists) : Type 0 where
 
 -- a call only read, what at most k selections by binary search read, and w words
 abbrev pub OnlySelects : {S : Type 0} → (S → Lists) → (S → ReadCounts) → S → S → ℕ → ℕ → Type 0
-OnlySelects lists_of reads_of old new k w =
-    OnlyReads lists_of reads_of old new (k * (digit_count (length (lists_of old).upper) + 1)) (k * 23) (k * 8 + w)
+OnlySelects lists_of reads_of old new k w = OnlySelectsBy lists_of reads_of old new (by_halves (lists_of old)) k w

@@ -1,10 +1,14 @@
 //! The calls of a tree over any source, by binary search: what they read is counted.
 ghost use Rattle.std.specs.Prelude.{◌≡◌, ◌==◌, ◌+◌, ◌^◌, ◌<◌, ◌≤◌, slice_index};
 ghost use Rattle.louds.specs.Counted.{degrees_in, IsLouds, OnlySelects};
-ghost use Rattle.louds.specs.Held.{zero_place, IsOneOf};
-ghost use Rattle.louds.specs.Tree.{MatchesChild, MatchesParent, MatchesNextSibling};
+ghost use Rattle.louds.specs.Held.{zero_place};
+ghost use Rattle.louds.specs.Tree.{MatchesChild, MatchesParent, MatchesChildRank};
+ghost use Rattle.louds.specs.Tree.{MatchesNextSibling, MatchesPreviousSibling};
 
-use bitm::{TableSource, binary_select_on, bit_on};
+use crate::selecting::{
+    child_rank_by, is_leaf_by, next_sibling_by, parent_by, previous_sibling_by, zero_by,
+};
+use bitm::{BinaryRankSearch, TableSource};
 
 /// The position of the 0 bit before the 1 bits of a node, or of the last 0 bit.
 #[inline(always)]
@@ -15,25 +19,7 @@ pub(crate) fn zero_on<T: TableSource>(source: &mut T, len: usize, node: usize) -
     ensures small { result < 2 ^ 62 }
     ensures reads { OnlySelects T.lists T.reads source.old source.new 1 0 }
 {
-    match binary_select_on::<0, T>(source, node) {
-        Some(place) => place,
-        None => unreachable!(),
-    }
-}
-
-/// The position of the 1 bit of a node.
-#[inline(always)]
-fn one_on<T: TableSource>(source: &mut T, len: usize, node: usize) -> usize
-    requires tree { IsLouds len (T.lists source.old) }
-    requires node { node < len }
-    ensures place { IsOneOf (degrees_in len (T.lists source.old)) node result }
-    ensures small { result < 2 ^ 62 }
-    ensures reads { OnlySelects T.lists T.reads source.old source.new 1 0 }
-{
-    match binary_select_on::<1, T>(source, node) {
-        Some(place) => place,
-        None => unreachable!(),
-    }
+    zero_by(&BinaryRankSearch, source, len, node)
 }
 
 /// How many children a node has.
@@ -66,11 +52,7 @@ pub fn is_leaf_on<T: TableSource>(source: &mut T, len: usize, node: usize) -> bo
     ensures leaf { result ≡ (slice_index (degrees_in len (T.lists source.old)) node == 0) }
     ensures reads { OnlySelects T.lists T.reads source.old source.new 1 1 }
 {
-    let next = zero_on(source, len, node) + 1;
-    match bit_on(source, next) {
-        Some(bit) => !bit,
-        None => unreachable!(),
-    }
+    is_leaf_by(&BinaryRankSearch, source, len, node)
 }
 
 /// Child `k` of a node; `None` exactly where it has no more than `k` children.
@@ -107,11 +89,7 @@ pub fn parent_on<T: TableSource>(source: &mut T, len: usize, node: usize) -> Opt
     ensures parent { MatchesParent (degrees_in len (T.lists source.old)) node result }
     ensures reads { OnlySelects T.lists T.reads source.old source.new 1 0 }
 {
-    if node == 0 {
-        None
-    } else {
-        Some(one_on(source, len, node) - node - 1)
-    }
+    parent_by(&BinaryRankSearch, source, len, node)
 }
 
 /// The next child of a node's parent; `None` exactly where the node is the last child or the root.
@@ -126,10 +104,35 @@ pub fn next_sibling_on<T: TableSource>(source: &mut T, len: usize, node: usize) 
     ensures sibling { MatchesNextSibling (degrees_in len (T.lists source.old)) node result }
     ensures reads { OnlySelects T.lists T.reads source.old source.new 1 1 }
 {
-    let next = one_on(source, len, node) + 1;
-    match bit_on(source, next) {
-        Some(true) => Some(node + 1),
-        Some(false) => None,
-        None => unreachable!(),
-    }
+    next_sibling_by(&BinaryRankSearch, source, len, node)
+}
+
+/// The child of a node's parent before it; `None` exactly where the node is the first child or the root.
+///
+/// # Conditions
+/// The source holds a tree of `len` nodes, and there is such a node.
+/// # Cost
+/// What a selection by binary search reads, and one word.
+pub fn previous_sibling_on<T: TableSource>(source: &mut T, len: usize, node: usize) -> Option<usize>
+    requires tree { IsLouds len (T.lists source.old) }
+    requires node { node < len }
+    ensures sibling { MatchesPreviousSibling (degrees_in len (T.lists source.old)) node result }
+    ensures reads { OnlySelects T.lists T.reads source.old source.new 1 1 }
+{
+    previous_sibling_by(&BinaryRankSearch, source, len, node)
+}
+
+/// Which child of its parent a node is; `None` exactly where it is the root.
+///
+/// # Conditions
+/// The source holds a tree of `len` nodes, and there is such a node.
+/// # Cost
+/// What two selections by binary search read.
+pub fn child_rank_on<T: TableSource>(source: &mut T, len: usize, node: usize) -> Option<usize>
+    requires tree { IsLouds len (T.lists source.old) }
+    requires node { node < len }
+    ensures child { MatchesChildRank (degrees_in len (T.lists source.old)) node result }
+    ensures reads { OnlySelects T.lists T.reads source.old source.new 2 0 }
+{
+    child_rank_by(&BinaryRankSearch, source, len, node)
 }

@@ -26,6 +26,7 @@
 // - `node`: nodes that carry their positions
 // - `parents`: a tree from the list of its nodes' parents
 // - `run`: the 1 bits of a node, one for each child
+// - `selecting`: the calls that select, over any source and by any selection
 // - `tree`: the type of a tree, and its queries
 mod checking;
 mod climbing;
@@ -38,6 +39,7 @@ mod making;
 mod node;
 mod parents;
 mod run;
+mod selecting;
 mod tree;
 
 pub use checking::is_tree;

@@ -4,7 +4,7 @@ ghost use Rattle.std.specs.Prelude.{◌≡◌, ◌==◌, ◌<◌, length, slice_
 ghost use Rattle.louds.specs.Node.{IsNode, MatchesChildNode, MatchesNextSiblingNode, MatchesParentNode};
 ghost use Rattle.louds.specs.Tree.{AreChildren, IsChild};
 
-use crate::run::{children_from_on, degree_from_on};
+use crate::run::{children_from_on, degree_from_on, ends_after_on};
 use crate::tree::Louds;
 use bitm::{Select0ForRank101111, SelectForRank101111};
 use std::marker::Model;
@@ -99,7 +99,7 @@ impl<S: SelectForRank101111, S0: Select0ForRank101111> Louds<S, S0> {
         requires { IsNode self.now.degrees node }
         ensures { result ≡ (slice_index self.now.degrees node.number == 0) }
     {
-        self.ends_after(node.number, node.place)
+        ends_after_on(&mut self.probe(), self.len(), node.number, node.place)
     }
 
     /// The numbers of the children of a node, in their order: `children` without its selection.

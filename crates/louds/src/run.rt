@@ -1,11 +1,12 @@
 //! The 1 bits of a node, its children, from where they begin, over any source: what they read is counted.
-ghost use Rattle.std.specs.Prelude.{◌≡◌, ◌+◌, ◌^◌, ◌<◌, ◌≤◌, slice_index, IfSome};
+ghost use Rattle.std.specs.Prelude.{◌≡◌, ◌==◌, ◌+◌, ◌^◌, ◌<◌, ◌≤◌, slice_index, IfSome};
+ghost use Rattle.bitm.specs.Reads.{OnlyReads};
 ghost use Rattle.louds.specs.Counted.{degrees_in, IsLouds, OnlySelects};
 ghost use Rattle.louds.specs.Held.{zero_place};
 ghost use Rattle.louds.specs.Tree.{AreChildren, MatchesChild};
 
 use crate::counted::zero_on;
-use bitm::{TableSource, near_zero_on};
+use bitm::{TableSource, bit_on, near_zero_on};
 use std::ops::Range;
 
 // In how many words the end of a node's ones is looked for before it is selected.
@@ -119,5 +120,30 @@ pub(crate) fn child_from_on<T: TableSource>(
         Some(start + k - node)
     } else {
         None
+    }
+}
+
+/// Whether a node has no children, where the 0 bit before its 1 bits stands at `start`.
+///
+/// # Conditions
+/// Those of `end_on`.
+/// # Cost
+/// One word.
+#[inline(always)]
+pub(crate) fn ends_after_on<T: TableSource>(
+    source: &mut T,
+    len: usize,
+    node: usize,
+    start: usize,
+) -> bool
+    requires tree { IsLouds len (T.lists source.old) }
+    requires node { node < len }
+    requires start { start ≡ zero_place (degrees_in len (T.lists source.old)) node }
+    ensures leaf { result ≡ (slice_index (degrees_in len (T.lists source.old)) node == 0) }
+    ensures reads { OnlyReads T.lists T.reads source.old source.new 0 0 1 }
+{
+    match bit_on(source, start + 1) {
+        Some(bit) => !bit,
+        None => unreachable!(),
     }
 }

@@ -1,6 +1,7 @@
 //! The type of a tree, and its queries.
 ghost use Rattle.std.specs.Prelude.{◌≡◌, ◌==◌, ◌+◌, ◌*◌, ◌^◌, ◌<◌, ◌≤◌, ◌↔◌, ℕ, IfOk, IfSome, IsErrOf, length};
 ghost use Rattle.std.specs.Prelude.{slice_index};
+ghost use Rattle.std.specs.Box.{boxed_slice_items};
 ghost use Rattle.std.specs.Int.{div_ceil};
 ghost use Rattle.bitm.specs.Reads.{none_read};
 ghost use Rattle.bitm.specs.Size.{saturated_size};
@@ -14,9 +15,12 @@ use crate::checking::is_tree;
 use crate::error::LoudsError;
 use crate::making::make_bits;
 use crate::run::{child_from_on, children_from_on, degree_from_on, end_on};
+use crate::selecting::{
+    child_rank_by, is_leaf_by, next_sibling_by, one_by, parent_by, previous_sibling_by, zero_by,
+};
 use bitm::{
-    Access, AdaptiveCombinedSamplingDensity, BinaryRankSearch, CombinedSampling, GetSize, Probe,
-    RankSelect101111, Select, Select0, Select0ForRank101111, SelectForRank101111, words,
+    AdaptiveCombinedSamplingDensity, BinaryRankSearch, CombinedSampling, GetSize, Probe,
+    RankSelect101111, Select0ForRank101111, SelectForRank101111, words,
 };
 use std::alloc::{AllocError, Global};
 use std::boxed::BoxedSlice;
@@ -106,6 +110,18 @@ impl<S: SelectForRank101111, S0: Select0ForRank101111> Louds<S, S0> {
         self.index.probe()
     }
 
+    /// The index, and a source over its words and tables, with no reads counted yet: what the calls of `selecting`
+    /// take.
+    #[inline(always)]
+    pub(crate) fn parts(&self) -> (&RankSelect101111<S, S0, BoxedSlice<u64, Global>>, Probe<'_>)
+        ensures tree { IsLouds (length self.now.degrees) result.1.lists }
+        ensures degrees { degrees_in (length self.now.degrees) result.1.lists ≡ self.now.degrees }
+        ensures selects { result.1.lists.words ≡ boxed_slice_items result.0.now.content }
+        ensures reads { result.1.reads ≡ none_read }
+    {
+        (&self.index, self.index.probe())
+    }
+
     /// The position of the 0 bit before the 1 bits of a node, or of the last 0 bit.
     #[inline(always)]
     pub(crate) fn zero(&self, node: usize) -> usize
@@ -113,7 +129,8 @@ impl<S: SelectForRank101111, S0: Select0ForRank101111> Louds<S, S0> {
         ensures place { result ≡ zero_place self.now.degrees node }
         ensures small { result < 2 ^ 62 }
     {
-        self.index.select0(node)
+        let (index, mut probe) = self.parts();
+        zero_by(index, &mut probe, self.len(), node)
     }
 
     /// The position of the 0 bit after the 1 bits of a node, where that before them stands at `start`.
@@ -147,23 +164,14 @@ impl<S: SelectForRank101111, S0: Select0ForRank101111> Louds<S, S0> {
         }
     }
 
-    /// Whether the bit after the 0 bit before a node's 1 bits is none of these.
-    #[inline(always)]
-    pub(crate) fn ends_after(&self, node: usize, start: usize) -> bool
-        requires node { node < length self.now.degrees }
-        requires start { start ≡ zero_place self.now.degrees node }
-        ensures { result ≡ (slice_index self.now.degrees node == 0) }
-    {
-        !self.index.get_bit(start + 1)
-    }
-
     /// The position of the 1 bit of a node.
     #[inline(always)]
     pub(crate) fn one(&self, node: usize) -> usize
         requires { node < length self.now.degrees }
         ensures { IsOneOf self.now.degrees node result }
     {
-        self.index.select(node)
+        let (index, mut probe) = self.parts();
+        one_by(index, &mut probe, self.len(), node)
     }
 
     /// How many children a node has.
@@ -191,7 +199,8 @@ impl<S: SelectForRank101111, S0: Select0ForRank101111> Louds<S, S0> {
         requires { node < length self.now.degrees }
         ensures { result ≡ (slice_index self.now.degrees node == 0) }
     {
-        self.ends_after(node, self.zero(node))
+        let (index, mut probe) = self.parts();
+        is_leaf_by(index, &mut probe, self.len(), node)
     }
 
     /// Child `k` of a node; `None` exactly where it has no more than `k` children.
@@ -268,11 +277,8 @@ impl<S: SelectForRank101111, S0: Select0ForRank101111> Louds<S, S0> {
         requires { node < length self.now.degrees }
         ensures { MatchesParent self.now.degrees node result }
     {
-        if node == 0 {
-            None
-        } else {
-            Some(self.one(node) - node - 1)
-        }
+        let (index, mut probe) = self.parts();
+        parent_by(index, &mut probe, self.len(), node)
     }
 
     /// Which child of its parent a node is; `None` exactly where it is the root.
@@ -286,11 +292,8 @@ impl<S: SelectForRank101111, S0: Select0ForRank101111> Louds<S, S0> {
         requires { node < length self.now.degrees }
         ensures { MatchesChildRank self.now.degrees node result }
     {
-        if node == 0 {
-            return None;
-        }
-        let one = self.one(node);
-        Some(one - self.zero(one - node - 1) - 1)
+        let (index, mut probe) = self.parts();
+        child_rank_by(index, &mut probe, self.len(), node)
     }
 
     /// The next child of a node's parent; `None` exactly where the node is the last child or the root.
@@ -304,11 +307,8 @@ impl<S: SelectForRank101111, S0: Select0ForRank101111> Louds<S, S0> {
         requires { node < length self.now.degrees }
         ensures { MatchesNextSibling self.now.degrees node result }
     {
-        if self.index.get_bit(self.one(node) + 1) {
-            Some(node + 1)
-        } else {
-            None
-        }
+        let (index, mut probe) = self.parts();
+        next_sibling_by(index, &mut probe, self.len(), node)
     }
 
     /// The child of a node's parent before it; `None` exactly where the node is the first child or the root.
@@ -322,14 +322,8 @@ impl<S: SelectForRank101111, S0: Select0ForRank101111> Louds<S, S0> {
         requires { node < length self.now.degrees }
         ensures { MatchesPreviousSibling self.now.degrees node result }
     {
-        if node == 0 {
-            return None;
-        }
-        if self.index.get_bit(self.one(node) - 1) {
-            Some(node - 1)
-        } else {
-            None
-        }
+        let (index, mut probe) = self.parts();
+        previous_sibling_by(index, &mut probe, self.len(), node)
     }
 
     /// All nodes, level by level from the root: an iterator from either end, which reads nothing.
