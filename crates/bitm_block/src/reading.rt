@@ -20,7 +20,7 @@ const VERSION: u64 = 3;
 /// How many words the block has that begins with a header: so a reader of a stream knows how many follow.
 ///
 /// # Errors
-/// Those of `Block::open` up to `UnknownFeature`; the words behind the header are not looked at.
+/// Those of `Block::open` up to `UnknownFeature`; the words after the header are not looked at.
 /// # Cost
 /// The 16 words of the header are read (evident from the code).
 ///

@@ -21,7 +21,7 @@ fn is_kept(block: &[u64], i: usize) -> bool
 
 impl<'a> Block<'a> {
     /// Whether all sections are as they were written: each has its checksum, and zeros stand after it up to the next
-    /// one. So each change of one word behind the directory is seen (`sees_one_word`).
+    /// one. So each change of one word after the directory is seen (`sees_one_word`).
     ///
     /// # Cost
     /// One pass over the words, which stops at the first section that is not (evident from the code).

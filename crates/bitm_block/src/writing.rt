@@ -113,8 +113,8 @@ fn write_block(head: &Head, sections: &[Section], block: &mut [u64])
     write_header(head, sections.len(), len, checksum_of(&*directory), header);
 }
 
-/// Writes the header, the directory with its checksums, and zeros between the sections of a block, whose words stand in
-/// their places already (`size`; each section begins at the first multiple of 8 words after the one before). The same
+/// Writes the header, the directory with its checksums, and zeros between the sections of a block, whose words are
+/// there already (`size`; each section begins at the first multiple of 8 words after the one before). The same
 /// numbers, sections and words make the same block, on every machine.
 ///
 /// # Errors
