@@ -1,0 +1,4 @@
+pub mod BuildLemmas
+pub mod HalfLemmas
+pub mod PositionLemmas
+pub mod ValueLemmas

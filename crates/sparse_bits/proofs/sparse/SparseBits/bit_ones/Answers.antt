@@ -1,0 +1,6 @@
+use Rattle.std.proofs.Common.{◌≡◌, ℕ, ◌+◌, ◌-◌, ◌<◌, ◌≤◌, true, List, length, drop, refl, sym, ap, ◌∙◌, arith}
+use Rattle.sparse_bits.proofs.lemmas.ValueLemmas.{positions_are}
+use Rattle.sparse_bits.proofs.sparse.SparseBits.bit_ones.Goals as goal
+
+pub returns : goal.returns
+returns g c = c.iter.ensures ∙ sym (positions_are c.self.inside.len c.self.inside.ones.items _ _ c.self.view_is refl c.self.invariant)

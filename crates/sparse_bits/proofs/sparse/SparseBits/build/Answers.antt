@@ -1,0 +1,24 @@
+-- The sequence that was made has the positions that were given.
+use Rattle.std.proofs.Common.{◌≡◌, ℕ, ◌+◌, ◌*◌, ◌^◌, ◌/◌, ◌<◌, ◌≤◌, true, false, List, length, get_or, nat_eq, sym, ap, ◌∙◌, subst, arith}
+use Rattle.bitm.specs.Count.{places}
+use Rattle.elias_fano.specs.Parts.{width_of, low_words_of, upper_words_of}
+use Rattle.sparse_bits.specs.Positions.{bits_at, ArePlaces}
+use Rattle.sparse_bits.proofs.lemmas.PositionLemmas.{bits_at-places, bits_at-length}
+use Rattle.sparse_bits.proofs.sparse.SparseBits.build.Goals as goal
+use Rattle.sparse_bits.proofs.sparse.SparseBits.build.Goals.{In-Ok}
+
+is : (g : _) (c : In-Ok g) → places true 0 (bits_at c.args.len 0 c.in-Ok.ones.items) ≡ c.in-Ok.ones.items
+is g c =
+    bits_at-places c.args.len 0 c.in-Ok.ones.items
+    (subst (λ (xs : List ℕ). ArePlaces c.args.len 0 xs) (sym c.in-Ok.ensures.ok) c.in_ok-check.ensures.places)
+
+pub returns-in-Ok-clause-ones : goal.returns-in-Ok-clause-ones
+returns-in-Ok-clause-ones g c = is g (goal.at.returns-in-Ok-clause-ones g c).In-Ok ∙ c.in-Ok.ensures.ok
+
+pub returns-in-Ok-clause-len : goal.returns-in-Ok-clause-len
+returns-in-Ok-clause-len g c = bits_at-length c.args.len 0 c.in-Ok.ones.items
+
+pub returns-in-Ok-clause-size : goal.returns-in-Ok-clause-size
+returns-in-Ok-clause-size g c =
+    subst (λ (xs : List ℕ). 64 * (low_words_of xs (width_of xs) + upper_words_of xs (width_of xs)) ≤ length xs * (width_of xs + 3) + 126)
+    (sym (is g (goal.at.returns-in-Ok-clause-size g c).In-Ok)) c.in-Ok.ensures.size

@@ -1,0 +1,29 @@
+-- The positions of the 1 bits rise and are below the number of bits.
+use Rattle.std.proofs.Common.{◌≡◌, ℕ, ◌+◌, ◌*◌, ◌^◌, ◌/◌, ◌<◌, ◌≤◌, true, false, List, length, get_or, nat_eq, sym, ap, ◌∙◌, subst, arith}
+use Rattle.bitm.specs.Count.{places, ones_of}
+use Rattle.bitm.specs.Bits.{bits_of}
+use Rattle.bitm.proofs.BitLaws.{places_are_counted}
+use Rattle.std.specs.Prelude.{IfOk, MatchResult}
+use Rattle.sparse_bits.specs.Positions.{ArePlaces}
+use Rattle.sparse_bits.proofs.lemmas.BuildLemmas.{refused, are_places_of_words, built_of_words}
+use Rattle.sparse_bits.proofs.sparse.SparseBits.build_from_words.Goals as goal
+use Rattle.sparse_bits.proofs.sparse.SparseBits.build_from_words.Goals.{After-build}
+
+is : (g : _) (c : After-build g) → c.as_slice.result.now ≡ places true 0 (bits_of c.args.words.now)
+is g c = c.as_slice.ensures.value ∙ c.in_ok-positions.ensures
+
+pub returns-clause-bits : goal.returns-clause-bits
+returns-clause-bits g c =
+    built_of_words c.args.words.now c.as_slice.result.now c.build.result (is g (goal.at.returns-clause-bits g c).After-build) c.build.ensures.ones c.build.ensures.len
+
+pub returns-clause-too_long : goal.returns-clause-too_long
+returns-clause-too_long g c =
+    let count = ap (λ (l : List ℕ). length l) (is g (goal.at.returns-clause-too_long g c).After-build) ∙ places_are_counted (bits_of c.args.words.now) true in
+    (λ e. omega (arith, c.build.ensures.too_long.0 e, count), λ l. c.build.ensures.too_long.1 (omega (arith, l, count)))
+
+pub returns-clause-refused : goal.returns-clause-refused
+returns-clause-refused g c =
+    refused c.build.result (64 * length c.args.words.now) c.as_slice.result.now
+    (subst (λ (ys : List ℕ). ArePlaces (64 * length c.args.words.now) 0 ys) (sym (is g (goal.at.returns-clause-refused g c).After-build))
+    (are_places_of_words c.args.words.now))
+    c.build.ensures.not_rising.0 c.build.ensures.past_end.0

@@ -1,0 +1,6 @@
+use Rattle.std.proofs.Common.{◌≡◌, ℕ, ◌+◌, ◌-◌, ◌<◌, ◌≤◌, true, List, length, drop, refl, sym, ap, ◌∙◌, arith}
+use Rattle.sparse_bits.proofs.lemmas.ValueLemmas.{ones_are}
+use Rattle.sparse_bits.proofs.sparse.SparseBits.count_bit_ones.Goals as goal
+
+pub returns-clause-count : goal.returns-clause-count
+returns-clause-count g c = c.len.ensures.count ∙ sym (ones_are c.self.inside.len c.self.inside.ones.items _ _ c.self.view_is refl c.self.invariant)

@@ -1,0 +1,4 @@
+pub mod Error
+pub mod Looks
+pub mod Positions
+pub mod Value

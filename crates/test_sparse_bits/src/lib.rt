@@ -1,0 +1,9 @@
+//! Tests of sparse bits, beside a walk over the bits and numbers worked out by hand.
+//!
+//! They stand in a crate of their own, since a crate with tests is proved twice.
+#![tactic(auto)]
+
+#[cfg(test)]
+mod by_hand;
+#[cfg(test)]
+mod walks;
