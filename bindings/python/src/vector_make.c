@@ -1,6 +1,19 @@
 /* bitm.BitVector: what it is made of. */
 #include "vector.h"
 
+/* Copies the first bits into a new vector, which nobody else has yet: without the GIL, but from another BitVector,
+ * whose bits may change meanwhile. */
+static void copied(Vector *made, PyObject *from, const Bits *bits)
+{
+    if (PyObject_TypeCheck(from, Vector_Type)) {
+        vector_copy_range(made, 0, bits, 0, made->bits.len);
+        return;
+    }
+    Py_BEGIN_ALLOW_THREADS
+    vector_copy_range(made, 0, bits, 0, made->bits.len);
+    Py_END_ALLOW_THREADS
+}
+
 /* The first bits of words, copied; of all where no length is given. */
 static PyObject *of_words(PyTypeObject *type, PyObject *from, int is_given, uint64_t length)
 {
@@ -13,7 +26,7 @@ static PyObject *of_words(PyTypeObject *type, PyObject *from, int is_given, uint
             PyErr_Format(PyExc_ValueError, "the buffer has %llu bits, not %llu", (unsigned long long)bits.len,
                          (unsigned long long)len);
         else if ((made = vector_new(type, len)) != NULL)
-            vector_copy_range(made, 0, &bits, 0, len);
+            copied(made, from, &bits);
     }
     DROP(it);
     return (PyObject *)made;
@@ -31,18 +44,32 @@ PyObject *vector_from_words(PyObject *type, ARGUMENTS)
 
 /* ---- bits */
 
+/* Whether each character is 0 or 1; the bits of those before the first that is not. Needs no GIL. */
+static int read_text(Vector *to, const char *text)
+{
+    for (uint64_t i = 0; i < to->bits.len; i++) {
+        if (text[i] == '1')
+            bitm_set_bit_at(to->words, i, true);
+        else if (text[i] != '0')
+            return 0;
+    }
+    return 1;
+}
+
 static PyObject *of_text(PyTypeObject *type, PyObject *text)
 {
     Py_ssize_t count;
+    int is_text;
     const char *at = PyUnicode_AsUTF8AndSize(text, &count);
     Vector *made = at == NULL ? NULL : vector_new(type, (uint64_t)count);
-    for (Py_ssize_t i = 0; made != NULL && i < count; i++) {
-        if (at[i] == '1') {
-            bitm_set_bit_at(made->words, (uint64_t)i, true);
-        } else if (at[i] != '0') {
-            PyErr_SetString(PyExc_ValueError, "a string of bits has 0 and 1 alone");
-            Py_CLEAR(made);
-        }
+    if (made == NULL)
+        return NULL;
+    Py_BEGIN_ALLOW_THREADS
+    is_text = read_text(made, at);
+    Py_END_ALLOW_THREADS
+    if (!is_text) {
+        PyErr_SetString(PyExc_ValueError, "a string of bits has 0 and 1 alone");
+        Py_CLEAR(made);
     }
     return (PyObject *)made;
 }

@@ -1,5 +1,7 @@
 """Arrays of NumPy: whole numbers of every kind in, arrays of uint64 out, and what stands for a missing answer."""
+import sys
 import threading
+import time
 
 import pytest
 
@@ -145,24 +147,47 @@ def test_keys_in_arrays():
         PerfectHash(numpy.array([1.5]))
 
 
-def test_the_interpreter_goes_on_while_a_list_is_answered():
+def gives_way(call, tries):
+    """Whether another thread runs while a call does, in one of some tries. Threads are not exchanged by time meanwhile: the
+    other one can go on only where the call gives the interpreter's lock back."""
+    interval, woken = sys.getswitchinterval(), []
+    sys.setswitchinterval(1000)
+    try:
+        for _ in range(tries):
+            lock = threading.Lock()
+            lock.acquire()
+            thread = threading.Thread(target=lambda: lock.acquire() and woken.append(1))
+            thread.start()
+            time.sleep(0.001)
+            lock.release()
+            call()
+            is_woken = bool(woken)
+            thread.join()
+            if is_woken:
+                return True
+            woken.clear()
+        return False
+    finally:
+        sys.setswitchinterval(interval)
+
+
+def test_the_interpreter_goes_on_in_each_list_and_build(tmp_path):
     index, sequence = Index(BitVector.from_indices(range(0, 1 << 20, 3))), EliasFano(range(0, 1 << 22, 9))
     asked = numpy.arange(1 << 18) % 1000
-    many = [lambda: index.rank_list(asked), lambda: index.select_list(asked, missing=0), lambda: sequence.get_list(asked),
-            lambda: sequence.first_at_least_list(asked), lambda: sequence.contains_list(asked), lambda: BitVector.from_indices(asked),
-            lambda: EliasFano(numpy.sort(asked)), lambda: Index(bytes(1 << 22)), lambda: PerfectHash(numpy.arange(1 << 16)), sequence.to_numpy,
-            lambda: sequence.intersection(sequence), sequence.check, index.check]
-    for call in many:
-        turns, ended = [0], threading.Event()
+    text, keys, hashed = "01" * (1 << 20), numpy.arange(1 << 16), PerfectHash(numpy.arange(1 << 16))
+    rising, words = numpy.sort(asked), bytes(1 << 23)
+    shards = bitm.Shards.build([index, index], tmp_path)
+    assert shards.rank(1 << 20) and shards.rank(5)
+    many = [lambda: index.rank_list(asked), lambda: index.rank0_list(asked), lambda: index.select_list(asked, missing=0),
+            lambda: index.select0_list(asked, missing=0), lambda: sequence.get_list(asked), lambda: sequence.first_at_least_list(asked),
+            lambda: sequence.last_at_most_list(asked, missing=0), lambda: sequence.contains_list(asked), lambda: hashed.get_list(keys),
+            lambda: BitVector.from_indices(asked), lambda: BitVector.from_bits(text), lambda: BitVector.from_words(words),
+            lambda: EliasFano(rising), lambda: Index(words), lambda: PerfectHash(keys), sequence.to_numpy,
+            lambda: sequence.intersection(sequence), lambda: sequence.union(sequence), sequence.check, index.check, hashed.check,
+            lambda: shards.rank_list(asked), lambda: shards.select_list(asked, missing=0)]
+    assert [at for at, call in enumerate(many) if not gives_way(call, 200)] == []
 
-        def count():
-            while not ended.is_set():
-                turns[0] += 1
 
-        thread = threading.Thread(target=count)
-        thread.start()
-        for _ in range(3):
-            call()
-        ended.set()
-        thread.join()
-        assert turns[0] > 0
+def test_the_interpreter_waits_while_the_words_of_a_vector_are_written():
+    vector, asked = BitVector(1 << 22), numpy.arange(1 << 18)
+    assert not gives_way(lambda: vector.set_list(asked), 3) and not gives_way(vector.count, 3)
