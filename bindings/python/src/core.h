@@ -349,8 +349,9 @@ typedef struct {
     Memory **kept;              /* of each index; NULL where none is put */
     size_t missing;             /* how many are not put */
 } ShardSet;
-PyObject *set_places(PyObject *self, PyObject *args);
-PyObject *set_answers(PyObject *self, PyObject *args);
+PyObject *set_needed(PyObject *self, PyObject *args);
+PyObject *set_rank_list(PyObject *self, PyObject *const *args, Py_ssize_t count);
+PyObject *set_select_list(PyObject *self, PyObject *const *args, Py_ssize_t count);
 
 /* ---- parts.c */
 PyObject *parts_of(PyObject *module, PyObject *value);

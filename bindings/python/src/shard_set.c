@@ -141,9 +141,10 @@ static PyMethodDef methods[] = {
     METHOD("next", set_next, METH_FASTCALL, "($self, one, position, /)", "The next bit."),
     METHOD("previous", set_previous, METH_FASTCALL, "($self, one, position, /)", "The previous bit."),
     METHOD("place", set_place, METH_VARARGS, "($self, kind, number, /)", "Which shard."),
-    METHOD("places", set_places, METH_VARARGS, "($self, kind, numbers, /)", "Which shard, of each."),
-    METHOD("answers", set_answers, METH_VARARGS, "($self, selects, one, queries, /)",
-           "The answers of a list, or None where a shard is not mapped."),
+    METHOD("needed", set_needed, METH_VARARGS, "($self, kind, queries, /)",
+           "Shards that a list reads, and that are not put."),
+    METHOD("rank_list", set_rank_list, METH_FASTCALL, "($self, one, queries, /)", "Ranks."),
+    METHOD("select_list", set_select_list, METH_FASTCALL, "($self, one, queries, missing, /)", "Selections."),
     {NULL, NULL, 0, NULL}};
 static PyType_Slot slots[] = {{Py_tp_new, set_new}, {Py_tp_dealloc, set_dealloc}, {Py_tp_methods, methods}, {0, NULL}};
 PyType_Spec shard_set_spec = {"bitm._core.ShardSet", sizeof(ShardSet), 0, Py_TPFLAGS_DEFAULT, slots};

@@ -1,4 +1,4 @@
-"""Shards beside NumPy's counting: any bits in any shards, of which any are mapped, and lists where all are."""
+"""Shards beside NumPy's counting: any bits in any shards, of which any are mapped; which ones are mapped by a query or list."""
 import tempfile
 import threading
 
@@ -32,10 +32,10 @@ def as_queries(numbers, kind):
 
 @settings(deadline=None)
 @given(BITS, st.data(), KINDS, st.booleans())
-def test_lists_of_mapped_shards_are_those_of_counting(bits, data, kind, one):
+def test_lists_are_those_of_counting_and_map_what_they_read(bits, data, kind, one):
     with tempfile.TemporaryDirectory() as folder:
-        shards, joined = built(bits, folder, range(len(bits)))
-        assert shards._set.answers(False, one, [0]) is not None
+        which = data.draw(st.sets(st.sampled_from(range(len(bits))))) if bits else set()
+        shards, joined = built(bits, folder, which)
         ranks, positions = ranks_of(joined, one), numpy.flatnonzero(joined == one)
         asked = data.draw(st.lists(st.integers(0, len(joined)), max_size=40))
         rank_list = shards.rank_list if one else shards.rank0_list
@@ -43,6 +43,8 @@ def test_lists_of_mapped_shards_are_those_of_counting(bits, data, kind, one):
         found = rank_list(as_queries(asked, kind))
         assert type(found) is (list if kind == "list" else numpy.ndarray)
         assert list(found) == [ranks[it] for it in asked]
+        ends = numpy.cumsum([len(it) for it in bits])
+        assert set(shards._open) == which | {int(numpy.searchsorted(ends, it, "right")) for it in asked if it < len(joined)}
         found = select_list(as_queries(asked, kind), missing=2**40)
         assert list(found) == [positions[it] if it < len(positions) else 2**40 for it in asked]
         past = as_queries([*asked, len(joined) + 1, 0], kind)
