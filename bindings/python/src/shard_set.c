@@ -1,34 +1,35 @@
 /* bitm._core.ShardSet: the shards as the library takes them, and one query of all. Only bitm/shards.py has one. */
 #include "core.h"
 
-static PyObject *set_new(PyTypeObject *type, PyObject *args, PyObject *keywords)
+/* Takes the counts, and room for an index of each shard. -1 and an error. */
+static int fill(ShardSet *it, PyObject *bits, PyObject *ones)
 {
-    PyObject *bits, *ones;
-    if (keywords != NULL || !PyArg_ParseTuple(args, "OO:ShardSet", &bits, &ones)) {
-        if (!PyErr_Occurred())
-            PyErr_SetString(PyExc_TypeError, "ShardSet() takes no keyword arguments");
-        return NULL;
-    }
-    ShardSet *it = (ShardSet *)PyType_GenericAlloc(type, 0);
-    if (it == NULL || (it->held = memory_new()) == NULL) {
-        DROP(it);
-        return NULL;
-    }
     struct bitm_prefixes *counts = &it->shards.counts;
-    if (memory_items(it->held, bits, 8, (const void **)&counts->bits, &counts->bits_len) ||
-        memory_items(it->held, ones, 8, (const void **)&counts->ones, &counts->ones_len)) {
-        DROP(it);
-        return NULL;
-    }
+    if ((it->held = memory_new()) == NULL ||
+        memory_items(it->held, bits, 8, (const void **)&counts->bits, &counts->bits_len) ||
+        memory_items(it->held, ones, 8, (const void **)&counts->ones, &counts->ones_len))
+        return -1;
     const size_t count = counts->bits_len == 0 ? 0 : counts->bits_len - 1;
     it->kept = calloc(count + 1, sizeof *it->kept);
     it->indexes = calloc(count + 1, sizeof *it->indexes);
     if (it->kept == NULL || it->indexes == NULL) {
-        DROP(it);
-        return PyErr_NoMemory();
+        PyErr_NoMemory();
+        return -1;
     }
     it->shards.shards = it->indexes;
     it->shards.shards_len = it->missing = count;
+    return 0;
+}
+
+static PyObject *set_new(PyTypeObject *type, PyObject *args, PyObject *keywords)
+{
+    static char *names[] = {"", "", NULL};
+    PyObject *bits, *ones;
+    if (!PyArg_ParseTupleAndKeywords(args, keywords, "OO:ShardSet", names, &bits, &ones))
+        return NULL;
+    ShardSet *it = (ShardSet *)PyType_GenericAlloc(type, 0);
+    if (it != NULL && fill(it, bits, ones))
+        Py_CLEAR(it);
     return BORROWED(it);
 }
 

@@ -1,4 +1,6 @@
 """Shards beside NumPy's counting: any bits in any shards, of which any are mapped; which ones are mapped by a query or list."""
+import array
+import contextlib
 import tempfile
 import threading
 
@@ -6,7 +8,9 @@ import pytest
 from hypothesis import given, settings
 from hypothesis import strategies as st
 
+import bitm
 from bitm import BitVector, Shards
+from bitm._core import ShardSet
 
 numpy = pytest.importorskip("numpy")
 BITS = st.lists(st.lists(st.booleans(), max_size=150), max_size=5)
@@ -89,6 +93,29 @@ def test_a_query_maps_no_shard_that_it_does_not_read(tmp_path):
                                      (shards.rank0, 9, 5, set()), (shards.select, 4, None, set()), (shards.find, 6, (3, 1), set())]:
         assert (call(at), set(shards._open)) == (answer, mapped)
         shards.close()
+
+
+def test_counts_and_indexes_that_do_not_fit_are_refused():
+    index, numbers = bitm.Index(BitVector(3)), array.array("Q", [0, 3])
+    made = ShardSet(numbers, array.array("Q", [0, 0]))
+    closed = bitm.Index(BitVector(3))
+    closed.close()
+    for shard, given, error in [(1, index, IndexError), (-1, index, IndexError), (0, closed, ValueError), (0, BitVector(3), TypeError)]:
+        with pytest.raises(error):
+            made.put(shard, given)
+    made.put(0, index)
+    made.put(0, bitm.Index(b"\xff"))  # the first one stays
+    assert made.rank(0, 3) == 3 and made.needed(2, [0, 1]) == [] and made.place(2, 3) is None
+    for bits, ones in [([], []), ([0, 3], [0]), ([0], []), ([7, 3], [0, 0])]:
+        other = ShardSet(array.array("Q", bits), array.array("Q", ones))
+        for call in (lambda: other.rank(1, 2), lambda: other.rank_list(1, [2])):
+            with pytest.raises((bitm.WrongTables, IndexError)):
+                call()
+        with contextlib.suppress(bitm.WrongTables):
+            assert other.needed(2, [2]) == [] and other.place(2, 2) is None
+    for bad in ([1], (numbers,), (b"1", b"1"), ([0, 3], [0, 0])):
+        with pytest.raises(TypeError):
+            ShardSet(*bad)
 
 
 def test_lists_are_answered_while_another_thread_closes(tmp_path):
