@@ -3,7 +3,7 @@ use crate::errors::{made, NoMemory};
 use crate::sys::{memory, writes};
 use alloc::boxed::Box;
 
-/// Constructors of vectors of words. Those without `try_` panic where memory cannot be had.
+/// Constructors of vectors of words. Those without `try_` panic where memory is refused.
 ///
 /// ```
 /// use bitm_proved::{BitAccess, BitVec};
@@ -69,7 +69,7 @@ where
     fn with_filled_bits(bit_len: usize) -> Self {
         Self::with_filled_64bit_segments(bit_len.div_ceil(64))
     }
-    /// As `with_64bit_segments`; types of this crate return an error where memory cannot be had.
+    /// As `with_64bit_segments`; types of this crate return an error where memory is refused.
     ///
     /// ```
     /// use bitm_proved::{BitVec, NoMemory};
@@ -80,7 +80,7 @@ where
     fn try_with_64bit_segments(value: u64, segments_len: usize) -> Result<Self, NoMemory> {
         Ok(Self::with_64bit_segments(value, segments_len))
     }
-    /// As `with_bitwords`; types of this crate return an error where memory cannot be had.
+    /// As `with_bitwords`; types of this crate return an error where memory is refused.
     ///
     /// ```
     /// use bitm_proved::BitVec;

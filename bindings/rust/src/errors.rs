@@ -1,7 +1,7 @@
 //! Why something is not made, taken or answered.
 use core::{error::Error, fmt};
 
-/// Memory could not be had.
+/// Memory was refused.
 ///
 /// ```
 /// use bitm_proved::{BuildError, NoMemory};
@@ -91,7 +91,7 @@ pub enum BuildError {
         /// How many hashes got no number.
         left: usize,
     },
-    /// Memory could not be had.
+    /// Memory was refused.
     ///
     /// ```
     /// use bitm_proved::{BitVec, BuildError};
@@ -166,7 +166,7 @@ pub enum StoredError {
     /// assert_eq!(Index::build([7u64]).to_stored(65).err(), Some(StoredError::WrongLength)); // 65 bits of 64
     /// ```
     WrongLength,
-    /// Memory could not be had.
+    /// Memory was refused.
     ///
     /// ```
     /// use bitm_proved::{BitVec, StoredError};

@@ -110,7 +110,7 @@ impl<S, S0, BV> RankSelect101111<S, S0, BV> {
 }
 
 impl<S: SelectForRank101111, S0: Select0ForRank101111, BV: Deref<Target = [u64]>> RankSelect101111<S, S0, BV> {
-    /// An index over the bit vector, and its number of 1 bits. Panics where memory cannot be had.
+    /// An index over the bit vector, and its number of 1 bits. Panics where memory is refused.
     ///
     /// ```
     /// use bitm_proved::{ArrayWithRank101111, Rank, Select};
@@ -260,7 +260,7 @@ impl<BV: Deref<Target = [u64]>> fmt::Debug for RankSimple<BV> {
 }
 
 impl<BV: Deref<Target = [u64]>> RankSimple<BV> {
-    /// The structure, and the number of 1 bits. Panics where memory cannot be had, or there are 2^32 1 bits or more.
+    /// The structure, and the number of 1 bits. Panics where memory is refused, or there are 2^32 1 bits or more.
     ///
     /// ```
     /// let (bits, ones) = bitm_proved::RankSimple::build(vec![0b1011u64, 7]);

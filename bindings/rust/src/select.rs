@@ -63,7 +63,7 @@ pub trait SelectForRank101111 {
             None => no_such("1", rank),
         }
     }
-    /// As `new`; types of this crate return an error where memory cannot be had.
+    /// As `new`; types of this crate return an error where memory is refused.
     ///
     /// ```
     /// use bitm_proved::{BinaryRankSearch, SelectForRank101111};
@@ -122,7 +122,7 @@ pub trait Select0ForRank101111 {
             None => no_such("0", rank),
         }
     }
-    /// As `new0`; types of this crate return an error where memory cannot be had.
+    /// As `new0`; types of this crate return an error where memory is refused.
     ///
     /// ```
     /// use bitm_proved::{BinaryRankSearch, Select0ForRank101111};

@@ -56,7 +56,7 @@ pub struct Sampling {
 }
 
 impl<O: AsRef<[u64]>> Index<O> {
-    /// An index over all bits of the words, without samples. Panics where memory cannot be had.
+    /// An index over all bits of the words, without samples. Panics where memory is refused.
     ///
     /// ```
     /// use bitm_proved::{Index, Rank, Select};

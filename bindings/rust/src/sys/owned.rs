@@ -64,7 +64,7 @@ impl EliasFano {
         Ok(Sequence { view, held })
     }
 
-    /// A copy; an error where memory cannot be had.
+    /// A copy; an error where memory is refused.
     ///
     /// ```
     /// use bitm_proved::EliasFano;
