@@ -106,7 +106,8 @@ lint: ## what linters say of each language whose tool is here, and of the layout
 	rust() { for it in $(IN_CARGO); do (cd "$$it" && cargo fmt --check -- $(RUST_LAYOUT)) || return; done; }; \
 	clippy() { (cd bindings/rust && DOCS_RS=1 CARGO_TARGET_DIR="$${TMPDIR:-/tmp}/vokhuliza-clippy" cargo clippy --quiet --offline --locked --all-targets --features mmap -- -D warnings); }; \
 	try "Rust (layout)" rustfmt rust; try "Rust" cargo-clippy clippy; \
-	try "Python" flake8 flake8 --max-line-length 160 --extend-ignore=E203,E402,E501 $(IN_PYTHON); \
+	try "Python" flake8 flake8 --max-line-length 160 --extend-ignore=E203,E402,E501 \
+	    --per-file-ignores=docs/site/rattle.py:E302,E305,E401 $(IN_PYTHON); \
 	try "shell" shellcheck shellcheck --severity=error $(IN_BASH); \
 	try "versions" python3 scripts/headers; \
 	if command -v clang-format > /dev/null; then \

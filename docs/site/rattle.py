@@ -68,7 +68,7 @@ def items(path):
 
 def reached(crate):
     """The names and the files that lib.rt makes public, and the (crate, names) that it takes from others."""
-    names, files, others, todo = set(), set(), [], [(TOP / crate / "src/lib.rt", TOP / crate / "src")]
+    names, others, todo = set(), [], [(TOP / crate / "src/lib.rt", TOP / crate / "src")]
     for path, folder in todo:
         text = path.read_text(encoding="utf-8")
         for it in re.finditer(r"^pub use (\w+)([\w:]*?)::(?:(\w+)|\{([^}]*)\});", text, re.M):
