@@ -40,7 +40,7 @@ static int combine(Vector *it, const Vector *other, combination call)
 {
     if (it->bits.len == other->bits.len)
         return call(it->words, it->bits.words_len, other->bits.words, other->bits.words_len) == BITM_OK ? 0 : -1;
-    PyErr_Format(PyExc_ValueError, "the bit vectors have other lengths, %llu and %llu bits",
+    PyErr_Format(PyExc_ValueError, "the bit vectors have different lengths, %llu and %llu bits",
                  (unsigned long long)it->bits.len, (unsigned long long)other->bits.len);
     return -1;
 }

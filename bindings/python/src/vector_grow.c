@@ -37,7 +37,7 @@ static int slice_delete(Vector *it, Py_ssize_t start, Py_ssize_t step, Py_ssize_
 static int slice_assign(Vector *it, Py_ssize_t start, Py_ssize_t step, Py_ssize_t count, const Bits *other)
 {
     if (other->len != (uint64_t)count) {
-        PyErr_Format(PyExc_ValueError, "%llu bits are not as many as the slice has, %zd", (unsigned long long)other->len, count);
+        PyErr_Format(PyExc_ValueError, "%llu bits cannot replace a slice of %zd", (unsigned long long)other->len, count);
         return -1;
     }
     for (Py_ssize_t i = 0; i < count; i++)
