@@ -101,6 +101,14 @@ pub record OnlyRanks {S : Type 0} (l : LevelTables) (lists_of : S → Lists) (re
   pub quick : l.compact ≡ false → ReadsAtMost (reads_of old) (reads_of new) k 0 (2 * k)
   pub same : lists_of new ≡ lists_of old
 
+-- a call only read, what at most r ranks on these levels read, and k selections that each read no more than `each`
+pub record OnlyRanksAndSelects {S : Type 0} (l : LevelTables) (lists_of : S → Lists) (reads_of : S → ReadCounts) (old new : S) (r : ℕ) (each : ReadCounts) (k : ℕ)
+    : Type 0 where
+  pub at_most : ReadsAtMost (reads_of old) (reads_of new) (r + k * each.upper) (r + k * each.lower) (8 * r + k * each.words)
+  pub quick : l.compact ≡ false
+      → ReadsAtMost (reads_of old) (reads_of new) (r + k * each.upper) (k * each.lower) (2 * r + k * each.words)
+  pub same : lists_of new ≡ lists_of old
+
 -- as many words as n numbers of w digits take
 abbrev pub words_of : ℕ → ℕ → ℕ
 words_of n w = div_ceil (w * n) 64

@@ -1,19 +1,19 @@
 //! The type of a matrix: its numbers by index and by value.
 ghost use Rattle.std.specs.Prelude.{◌≡◌, ◌==◌, ◌+◌, ◌*◌, ◌^◌, ◌<◌, ◌≤◌, true, false, All, IfOk, SomeIff, length};
 ghost use Rattle.std.specs.Prelude.{slice_index};
+ghost use Rattle.std.specs.Box.{boxed_slice_items};
 ghost use Rattle.std.specs.Int.{div_ceil};
 ghost use Rattle.bitm.specs.Reads.{none_read};
 ghost use Rattle.bitm.specs.Size.{saturated_size};
-ghost use Rattle.wavelet_matrix.specs.Levels.{known_of, level};
+ghost use Rattle.wavelet_matrix.specs.Levels.{known_of};
 ghost use Rattle.wavelet_matrix.specs.Matrix.{IsMatrix, numbers_in, quarters_for, words_of};
 ghost use Rattle.wavelet_matrix.specs.Numbers.{count_before, GetsEach, PicksItem, IsItemRank, IsItemSelect};
 
-use crate::digits::{fits, known_for};
+use crate::digits::known_for;
 use crate::walk::Levels;
 use crate::writing::{make_levels, quarters_unless};
 use bitm::{
-    BinaryRankSearch, GetSize, Probe, RankSelect101111, Select, Select0, Select0ForRank101111,
-    SelectForRank101111,
+    BinaryRankSearch, GetSize, Probe, RankSelect101111, Select0ForRank101111, SelectForRank101111,
 };
 use std::alloc::{AllocError, Global};
 use std::boxed::BoxedSlice;
@@ -185,7 +185,30 @@ impl<S: SelectForRank101111, S0: Select0ForRank101111> WaveletMatrix<S, S0> {
         ensures fit { All (λ x. x < 2 ^ self.now.width) self.now.items }
         ensures reads { result.1.reads ≡ none_read }
     {
-        (&self.levels, self.index.probe())
+        let (levels, _index, probe) = self.all_parts();
+        (levels, probe)
+    }
+
+    /// The parts, and between them the index, which selects in the words of the source.
+    #[inline(always)]
+    fn all_parts(
+        &self,
+    ) -> (
+        &Levels,
+        &RankSelect101111<S, S0, BoxedSlice<u64, Global>>,
+        Probe<'_>,
+    )
+        ensures matrix { IsMatrix result.0.now result.2.lists }
+        ensures items { numbers_in result.0.now result.2.lists ≡ self.now.items }
+        ensures len { result.0.now.len ≡ length self.now.items }
+        ensures width { result.0.now.width ≡ self.now.width }
+        ensures compact { result.0.now.compact ≡ self.now.compact }
+        ensures known { result.0.now.known ≡ known_of (length self.now.items) self.now.width }
+        ensures fit { All (λ x. x < 2 ^ self.now.width) self.now.items }
+        ensures selects { result.2.lists.words ≡ boxed_slice_items result.1.now.content }
+        ensures reads { result.2.reads ≡ none_read }
+    {
+        (&self.levels, &self.index, self.index.probe())
     }
 
     /// A copy of the matrix, with strategies of its own.
@@ -271,38 +294,6 @@ impl<S: SelectForRank101111, S0: Select0ForRank101111> WaveletMatrix<S, S0> {
         }
     }
 
-    /// From where a number came to an index of the next level, where it stands with `k` such numbers before it.
-    #[inline(always)]
-    fn back(&self, depth: u8, number: u64, k: usize, place: usize) -> usize
-        requires depth { depth < self.now.width }
-        requires picked { PicksItem
-            (level self.now.items self.now.width (depth + 1)) number k place }
-        ensures { PicksItem (level self.now.items self.now.width depth) number k result }
-    {
-        let probe = self.index.probe();
-        let (digit, rank, start) = self.levels.bit_before(&probe, depth, number, k, place);
-        let bit = if digit {
-            self.index.select(rank)
-        } else {
-            self.index.select0(rank)
-        };
-        bit - start
-    }
-
-    /// From where a number came to an index after the last level, where it stands with `k` such numbers before it.
-    #[inline(always)]
-    fn first_place(&self, number: u64, k: usize, place: usize) -> usize
-        requires { PicksItem (level self.now.items self.now.width self.now.width) number k place }
-        ensures { PicksItem self.now.items number k result }
-    {
-        let width = self.width();
-        let mut at = place;
-        for up in 0..width {
-            at = self.back(width - 1 - up, number, k, at);
-        }
-        at
-    }
-
     /// The index of this number with exactly `k` such numbers before it.
     ///
     /// # Conditions
@@ -314,9 +305,8 @@ impl<S: SelectForRank101111, S0: Select0ForRank101111> WaveletMatrix<S, S0> {
         requires { k < count_before self.now.items number (length self.now.items) }
         ensures { PicksItem self.now.items number k result }
     {
-        let (levels, mut probe) = self.parts();
-        let first = levels.start_on(&mut probe, number);
-        self.first_place(number, k, first + k)
+        let (levels, index, mut probe) = self.all_parts();
+        levels.select_by(index, &mut probe, number, k)
     }
 
     /// The index of this number with exactly `k` such numbers before it; `None` exactly where there is none.
@@ -327,15 +317,8 @@ impl<S: SelectForRank101111, S0: Select0ForRank101111> WaveletMatrix<S, S0> {
     pub fn try_select(&self, number: u64, k: usize) -> Option<usize>
         ensures { IsItemSelect self.now.items number k result }
     {
-        if !fits(number, self.width()) {
-            return None;
-        }
-        let (levels, mut probe) = self.parts();
-        let (first, last) = levels.block_on(&mut probe, number, self.len());
-        if last - first <= k {
-            return None;
-        }
-        Some(self.first_place(number, k, first + k))
+        let (levels, index, mut probe) = self.all_parts();
+        levels.try_select_by(index, &mut probe, number, k)
     }
 }
 

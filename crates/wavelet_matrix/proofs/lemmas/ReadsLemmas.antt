@@ -1,9 +1,10 @@
 -- Ranks that were read one after another.
-use Rattle.std.proofs.Common.{ℕ, ◌+◌, ◌*◌, ◌≤◌, refl, ◌∙◌, arith}
+use Rattle.std.proofs.Common.{ℕ, ◌+◌, ◌*◌, ◌≤◌, refl, ◌∙◌, subst, arith}
 use Rattle.bitm.specs.ReadCounts.{ReadCounts}
 use Rattle.bitm.specs.Reads.{ReadsAtMost}
 use Rattle.bitm.specs.Tables.{Lists}
-use Rattle.wavelet_matrix.specs.Matrix.{LevelTables, OnlyRanks}
+use Rattle.bitm_selection.specs.Selection.{OnlySelectsBy}
+use Rattle.wavelet_matrix.specs.Matrix.{LevelTables, OnlyRanks, OnlyRanksAndSelects}
 
 none : (a : ReadCounts) → ReadsAtMost a a 0 0 0
 none a = record {
@@ -55,4 +56,32 @@ module _ {S : Type 0} (l : LevelTables) (lists_of : S → Lists) (reads_of : S �
     quick = λ e. fewer (reads_of s) (reads_of u) (j + i) 0 (2 * j + 2 * i) k 0 (2 * k)
         (more (reads_of s) (reads_of t) (reads_of u) j 0 (2 * j) i 0 (2 * i) (first.quick e) (next.quick e)) few (omega arith) (omega (arith, few));
     same = next.same ∙ first.same;
+  }
+
+  -- selections after ranks, and ranks alone
+  pub ranks-then-selects : (s t u : S) (r k : ℕ) (most : Lists → ReadCounts) → OnlyRanks l lists_of reads_of s t r
+      → OnlySelectsBy lists_of reads_of t u (most (lists_of t)) k 0 → OnlyRanksAndSelects l lists_of reads_of s u r (most (lists_of s)) k
+  ranks-then-selects s t u r k most first next =
+      let each = most (lists_of t) in
+      subst (λ ls. OnlyRanksAndSelects l lists_of reads_of s u r (most ls) k) first.same
+      (record {
+        at_most = fewer (reads_of s) (reads_of u) (r + k * each.upper) (r + k * each.lower) (8 * r + (k * each.words + 0))
+            (r + k * each.upper) (r + k * each.lower) (8 * r + k * each.words)
+            (more (reads_of s) (reads_of t) (reads_of u) r r (8 * r) (k * each.upper) (k * each.lower) (k * each.words + 0) first.at_most next.at_most)
+            (omega arith) (omega arith) (omega arith);
+        quick = λ e. fewer (reads_of s) (reads_of u) (r + k * each.upper) (0 + k * each.lower) (2 * r + (k * each.words + 0))
+            (r + k * each.upper) (k * each.lower) (2 * r + k * each.words)
+            (more (reads_of s) (reads_of t) (reads_of u) r 0 (2 * r) (k * each.upper) (k * each.lower) (k * each.words + 0) (first.quick e) next.at_most)
+            (omega arith) (omega arith) (omega arith);
+        same = next.same ∙ first.same;
+      })
+
+  pub ranks-without-selects : (s t : S) (r k : ℕ) (each : ReadCounts) → OnlyRanks l lists_of reads_of s t r
+      → OnlyRanksAndSelects l lists_of reads_of s t r each k
+  ranks-without-selects s t r k each h = record {
+    at_most = fewer (reads_of s) (reads_of t) r r (8 * r) (r + k * each.upper) (r + k * each.lower) (8 * r + k * each.words) h.at_most
+        (omega arith) (omega arith) (omega arith);
+    quick = λ e. fewer (reads_of s) (reads_of t) r 0 (2 * r) (r + k * each.upper) (k * each.lower) (2 * r + k * each.words) (h.quick e)
+        (omega arith) (omega arith) (omega arith);
+    same = h.same;
   }
