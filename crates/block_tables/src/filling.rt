@@ -1,5 +1,5 @@
-//! The two tables, written into sections of a block in one pass over the words. As `bitm_view` does, but both tables are
-//! slices of 64-bit words.
+//! The two tables, written into sections of a block in one pass over the words. As `bitm_view` does, but both tables
+//! are slices of 64-bit words.
 ghost use Rattle.std.specs.Prelude.{◌≡◌, ◌+◌, ◌*◌, ◌^◌, ◌<◌, length, min};
 ghost use Rattle.std.specs.Int.{div_ceil};
 ghost use Rattle.bit_lists.specs.Bits.{bits_of, IsShort};
