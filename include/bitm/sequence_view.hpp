@@ -69,7 +69,7 @@ public:
 
         // The number where the walk stands; moves the walk on by one.
         iterator() noexcept = default;
-        std::uint64_t operator*() const { return of_->found_[of_->at_]; }
+        std::uint64_t operator*() const { return of_->here(); }
         iterator &operator++()
         {
             of_->next();
@@ -89,62 +89,49 @@ public:
 
     // At the end of no numbers; or at an index. Whether it is at the end; true where it is not.
     sequence_walk() noexcept = default;
-    sequence_walk(const bitm_sequence &of, std::uint64_t from) : of_(of) { fill(from); }
-    bool done() const noexcept { return count_ == 0; }
+    sequence_walk(const bitm_sequence &of, std::uint64_t from)
+    {
+        std::uint64_t out = 0;
+        walk_.sequence = of;
+        stands(bitm_sequence_walk_from(&walk_, from, &out));
+    }
+    bool done() const noexcept { return walk_.len == 0; }
     explicit operator bool() const noexcept { return !done(); }
     // The number where it stands, and its index.
     std::uint64_t value() const
     {
-        if (BITM_RARELY(done())) detail::outside(position(), of_.len);
-        return found_[at_];
+        if (BITM_RARELY(done())) detail::outside(position(), walk_.sequence.len);
+        return here();
     }
     std::uint64_t operator*() const { return value(); }
-    std::uint64_t position() const noexcept { return first_ + at_; }
+    std::uint64_t position() const noexcept { return bitm_sequence_walk_index(&walk_); }
     sequence_walk &next()
     {
-        if (BITM_RARELY(++at_ >= count_)) more();
+        std::uint64_t out = 0;
+        if (BITM_RARELY(done())) detail::outside(position(), walk_.sequence.len);
+        stands(bitm_sequence_walk_next(&walk_, &out));
         return *this;
     }
     sequence_walk &operator++() { return next(); }
     // To the first number from here on that is at least a value: whether there is one. It never goes back.
     bool advance_to(std::uint64_t value)
     {
-        if (done() || found_[at_] >= value) return !done();
-        if (found_[count_ - 1] >= value) {
-            while (found_[at_] < value) at_++;
-            return true;
-        }
         std::uint64_t out = 0;
-        const std::uint32_t status = bitm_sequence_first_at_least(&of_, value, &out);
-        if (status == BITM_OK) {
-            fill(out < first_ + count_ ? first_ + count_ : out);
-            return !done();
-        }
-        if (BITM_RARELY(status != BITM_NONE)) detail::fail_status(status);
-        first_ = of_.len, at_ = count_ = 0;
-        return false;
+        return stands(bitm_sequence_walk_to(&walk_, value, &out));
     }
     iterator begin() noexcept BITM_LIFETIMEBOUND { return iterator(this); }
     end_mark end() const noexcept { return {}; }
 
 private:
-    BITM_COLD void more()
+    std::uint64_t here() const noexcept { return walk_.numbers[walk_.at]; }
+    // Whether a move ends at a number.
+    static bool stands(std::uint32_t status)
     {
-        if (done()) at_ = 0, detail::outside(position(), of_.len);
-        fill(first_ + count_);
-    }
-    void fill(std::uint64_t from)
-    {
-        std::uint64_t written = 0;
-        if (from < of_.len) detail::need(bitm_sequence_items(&of_, from, found_, room, &written));
-        first_ = from, at_ = 0, count_ = static_cast<std::size_t>(written);
-        if (BITM_RARELY(written == 0 && from < of_.len)) fail({errc::wrong});
+        if (BITM_RARELY(status != BITM_OK && status != BITM_NONE)) detail::fail_status(status);
+        return status == BITM_OK;
     }
 
-    static constexpr std::size_t room = 64;
-    bitm_sequence of_{};
-    std::uint64_t found_[room] = {}, first_ = 0;
-    std::size_t at_ = 0, count_ = 0;
+    bitm_sequence_walk walk_{};
 };
 
 namespace detail {
