@@ -1,0 +1,18 @@
+-- One node more.
+use Rattle.std.proofs.Common.{◌<◌, length, get_or, refl, arith}
+use Rattle.bitm.specs.Bits.{bits_of}
+use Rattle.louds.proofs.lemmas.TreeLemmas.{zero_place_more}
+use Rattle.louds.proofs.lemmas.WriteLemmas.{begun_more, fill_run}
+use Rattle.louds_block.proofs.writing.write_degrees.Goals as goal
+
+pub loop-i-preserved : goal.loop-i-preserved
+loop-i-preserved c =
+    let d = c.args.degrees.now in
+    let i = c.loop-i.i in
+    let inside : i < length d = omega (arith, c.loop-i-test.true) in
+    let wrote = c.fill_range-in-loop-i.ensures in
+    record {
+      place = omega (arith, c.loop-i.invariant.place, zero_place_more d i inside);
+      begun = begun_more d i c.loop-i.place (bits_of c.loop-i.words) _ c.loop-i.invariant.begun inside c.loop-i.invariant.place
+          (fill_run _ _ (get_or d i 0) _ _ refl wrote.inside wrote.beside);
+    }

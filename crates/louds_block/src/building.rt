@@ -1,0 +1,103 @@
+//! The block of a tree, written into the caller's memory.
+ghost use Rattle.std.specs.Prelude.{◌≡◌, ◌≢◌, ◌^◌, ◌<◌, ◌≤◌, ◌↔◌, IfErr, IfOk, IsErrOf, length, replicate};
+ghost use Rattle.bitm_block.specs.Layout.{end_of};
+ghost use Rattle.bitm_block.specs.Written.{IsSealed};
+ghost use Rattle.louds.specs.Held.{words_of};
+ghost use Rattle.louds.specs.Tree.{IsTree};
+ghost use Rattle.louds_block.specs.Block.{lower_of_nodes, tree_head, tree_sections, upper_of_nodes};
+ghost use Rattle.louds_block.specs.Block.{CanHold, IsBlockOf, IsTreeOf, StandsIn};
+
+use crate::error::BuildError;
+use crate::sections::{Lens, aligned, size, tree_head, tree_sections};
+use crate::writing::write_degrees;
+use bitm_block::seal;
+use bitm_view::clear;
+use block_tables::fill_tables;
+use louds::is_tree;
+
+/// Writes the bits of a tree, where all bits are 0, and their tables.
+fn write_tree(degrees: &[usize], words: &mut [u64], upper: &mut [u64], lower: &mut [u64])
+    requires short { length degrees.now < 2 ^ 60 }
+    requires tree { IsTree degrees.now }
+    requires clear { words.old ≡ replicate (words_of (length degrees.now)) 0 }
+    requires upper { length upper.old ≡ upper_of_nodes (length degrees.now) }
+    requires lower { length lower.old ≡ lower_of_nodes (length degrees.now) }
+    ensures { IsTreeOf degrees.now words.new upper.new lower.new }
+{
+    write_degrees(&mut *words, degrees);
+    fill_tables(&*words, upper, lower);
+}
+
+/// Writes the sections of a tree where its block has them.
+fn write_parts(degrees: &[usize], block: &mut [u64])
+    requires { CanHold degrees.now block.old }
+    ensures { StandsIn degrees.now block.new }
+{
+    let lens = Lens::of(degrees.len());
+    clear(&mut *block);
+    let (_head, rest) = block.split_at_mut(32);
+    let (room, rest) = rest.split_at_mut(aligned(lens.words));
+    let (words, _gap) = room.split_at_mut(lens.words);
+    let (room, rest) = rest.split_at_mut(aligned(lens.upper));
+    let (upper, _gap) = room.split_at_mut(lens.upper);
+    let (lower, _gap) = rest.split_at_mut(lens.lower);
+    write_tree(degrees, words, upper, lower);
+}
+
+/// Writes the header and the directory of a tree of the given number of nodes.
+fn seal_tree(nodes: usize, block: &mut [u64])
+    requires short { nodes < 2 ^ 60 }
+    requires room { length block.old ≡ end_of (tree_sections nodes) }
+    ensures { IsSealed (tree_head nodes) (tree_sections nodes) block.old block.new }
+{
+    let sections = tree_sections(nodes);
+    match seal(&tree_head(nodes), sections.as_slice(), block) {
+        Ok(()) => {}
+        Err(_) => unreachable!(),
+    }
+}
+
+/// Writes the block of a tree.
+fn write_block(degrees: &[usize], block: &mut [u64])
+    requires { CanHold degrees.now block.old }
+    ensures { IsBlockOf degrees.now block.new }
+{
+    write_parts(degrees, &mut *block);
+    seal_tree(degrees.len(), block);
+}
+
+/// Writes the block of the tree of these degrees, which `LoudsView::open` opens and `check` accepts.
+///
+/// # Errors
+/// `TooLong` exactly where there are 2^60 degrees or more; else `NotATree` exactly where they are those of no tree;
+/// else `WrongLength` exactly where the words are not as many as the block takes (`size`). The words stay as they are
+/// then.
+/// # Cost
+/// Two passes over the degrees, one over the block, and two over its words (evident from the code). Nothing is
+/// allocated.
+///
+/// ```
+/// let mut block = [0u64; 56];                           // size(4) words
+/// build([2usize, 0, 1, 0].as_slice(), block.as_mut_slice());   // Ok(())
+/// ```
+pub fn build(degrees: &[usize], block: &mut [u64]) -> Result<(), BuildError>
+    ensures too_long { IsErrOf result BuildError.TooLong ↔ (2 ^ 60 ≤ length degrees.now) }
+    ensures not_a_tree { IsErrOf result BuildError.NotATree
+        ↔ ((length degrees.now < 2 ^ 60) × (¬ (IsTree degrees.now))) }
+    ensures wrong_length { IsErrOf result BuildError.WrongLength ↔ ((length degrees.now < 2 ^ 60)
+        × IsTree degrees.now × (length block.old ≢ end_of (tree_sections (length degrees.now)))) }
+    ensures block { IfOk result (λ _. IsBlockOf degrees.now block.new) }
+    ensures kept { IfErr result (λ _. block.new ≡ block.old) }
+{
+    if degrees.len() >= 1 << 60 {
+        return Err(BuildError::TooLong);
+    }
+    if !is_tree(degrees) {
+        return Err(BuildError::NotATree);
+    }
+    if block.len() != size(degrees.len()) {
+        return Err(BuildError::WrongLength);
+    }
+    write_block(degrees, block);
+    Ok(())
+}

@@ -1,0 +1,42 @@
+//! A tree in a block of memory, such as a mapped file: nothing is allocated or copied, and no call has a condition on
+//! what the memory holds.
+//!
+//! With the block of a tree the answers are those of the tree. If it is stale or hostile, every call still terminates
+//! within its read bound, a parent is less than its child, and a child is more than its parent and less than the number
+//! of nodes.
+//!
+//! ```
+//! let mut block = [0u64; 56];                                   // size(4) words
+//! build([2usize, 0, 1, 0].as_slice(), block.as_mut_slice());    // Ok(())
+//! let Some(tree) = LoudsView::open(block.as_slice()) else { .. };
+//! tree.check();        // true
+//! tree.parent(3);      // Found(2), Absent or Wrong
+//! tree.child(0, 1);    // Found(2), Absent or Wrong
+//! ```
+//!
+//! # Source
+//! Jacobson, 'Space-efficient static trees and graphs' (FOCS 1989).
+#![tactic(auto)]
+
+// What is in each file:
+// - `building`: the block of a tree, written into the caller's memory
+// - `checking`: whether words hold a tree
+// - `error`: why no block was written
+// - `queries`: parents, children and degrees over any source
+// - `sections`: the sections of the block of a tree
+// - `tree`: the view of a block, and its queries
+// - `writing`: the bits of a tree
+mod building;
+mod checking;
+mod error;
+mod queries;
+mod sections;
+mod tree;
+mod writing;
+
+pub use bitm::Answer;
+pub use building::build;
+pub use error::BuildError;
+pub use queries::{total_child_on, total_degree_on, total_parent_on};
+pub use sections::{LOUDS, size};
+pub use tree::LoudsView;

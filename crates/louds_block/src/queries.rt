@@ -1,0 +1,178 @@
+//! Parents, children and degrees over any source, of which the words and tables may hold anything.
+ghost use Rattle.std.specs.Prelude.{◌≡◌, ◌+◌, ◌^◌, ◌<◌, ◌≤◌, ℕ, List, length};
+ghost use Rattle.bitm.specs.Tables.{HasSizes};
+ghost use Rattle.louds.specs.Counted.{degrees_in, IsLouds, OnlySelects};
+ghost use Rattle.louds.specs.Held.{zero_place, IsOneOf};
+ghost use Rattle.louds.specs.Tree.{IsTree};
+ghost use Rattle.louds_block.specs.Answers.{IsChildOf, IsChildWithin, IsDegreeOf, IsDegreeWithin};
+ghost use Rattle.louds_block.specs.Answers.{IsParentOf, IsParentWithin};
+
+use bitm::{Answer, TableSource, total_select_on};
+
+/// The parent of a node whose 1 bit stands at a position; `Wrong` only where none does.
+#[inline(always)]
+fn parent_at(place: usize, len: usize, node: usize) -> Answer<usize>
+    requires some { 0 < node }
+    requires inside { node < len }
+    ensures inside { IsParentWithin len node result }
+    ensures answer { (d : List ℕ) → len ≡ length d → IsOneOf d node place → IsParentOf d node result }
+{
+    match place.checked_sub(node + 1) {
+        Some(parent) if parent < node => Answer::Found(parent),
+        _ => Answer::Wrong,
+    }
+}
+
+/// The parent of a node, by its number.
+///
+/// Whatever the source holds, a parent is less than the node, and the answer is `Absent` exactly at the root and where
+/// there is no such node. Where it holds a tree, the answer is the parent, and never `Wrong`.
+///
+/// # Conditions
+/// There are fewer than 2^58 words, and the tables have the right lengths. They may hold anything.
+/// # Cost
+/// What a selection by binary search reads, whatever the source holds.
+///
+/// ```
+/// total_parent_on(&mut source, 4, 3);   // Found(2), Absent or Wrong
+/// ```
+pub fn total_parent_on<T: TableSource>(source: &mut T, len: usize, node: usize) -> Answer<usize>
+    requires { HasSizes (T.lists source.old) }
+    ensures inside { IsParentWithin len node result }
+    ensures answer { IsLouds len (T.lists source.old)
+        → IsParentOf (degrees_in len (T.lists source.old)) node result }
+    ensures reads { OnlySelects T.lists T.reads source.old source.new 1 0 }
+{
+    if node == 0 || node >= len {
+        return Answer::Absent;
+    }
+    match total_select_on::<1, T>(source, node) {
+        Answer::Found(place) => parent_at(place, len, node),
+        Answer::Absent => Answer::Wrong,
+        Answer::Wrong => Answer::Wrong,
+    }
+}
+
+/// The position of the 0 bit before the 1 bits of a node, or of the last 0 bit; `None` only where the source holds no
+/// tree.
+#[inline(always)]
+fn total_zero_on<T: TableSource>(source: &mut T, len: usize, node: usize) -> Option<usize>
+    requires sized { HasSizes (T.lists source.old) }
+    requires node { node ≤ len }
+    ensures place { IsLouds len (T.lists source.old)
+        → result ≡ Some (zero_place (degrees_in len (T.lists source.old)) node) }
+    ensures reads { OnlySelects T.lists T.reads source.old source.new 1 0 }
+{
+    match total_select_on::<0, T>(source, node) {
+        Answer::Found(place) => Some(place),
+        Answer::Absent => None,
+        Answer::Wrong => None,
+    }
+}
+
+/// Child `k` of a node, of which the 0 bits before and after its 1 bits stand at `start` and `end`; `Wrong` only where
+/// they do not.
+#[inline(always)]
+fn child_between(start: usize, end: usize, len: usize, node: usize, k: usize) -> Answer<usize>
+    requires { node < len }
+    ensures inside { IsChildWithin len node result }
+    ensures answer { (d : List ℕ) → len ≡ length d → IsTree d → start ≡ zero_place d node
+        → end ≡ zero_place d (node + 1) → IsChildOf d node k result }
+{
+    if end <= start {
+        return Answer::Wrong;
+    }
+    if k >= end - start - 1 {
+        return Answer::Absent;
+    }
+    match (start + k).checked_sub(node) {
+        Some(child) if node < child && child < len => Answer::Found(child),
+        _ => Answer::Wrong,
+    }
+}
+
+/// Child `k` of a node, by its number.
+///
+/// Whatever the source holds, a child is more than the node and less than the number of nodes. Where it holds a tree,
+/// the answer is the child, `Absent` exactly where there is none, and never `Wrong`.
+///
+/// # Conditions
+/// There are fewer than 2^58 words, and the tables have the right lengths. They may hold anything.
+/// # Cost
+/// What two selections by binary search read, whatever the source holds.
+///
+/// ```
+/// total_child_on(&mut source, 4, 0, 1);   // Found(2), Absent or Wrong
+/// ```
+pub fn total_child_on<T: TableSource>(
+    source: &mut T,
+    len: usize,
+    node: usize,
+    k: usize,
+) -> Answer<usize>
+    requires { HasSizes (T.lists source.old) }
+    ensures inside { IsChildWithin len node result }
+    ensures answer { IsLouds len (T.lists source.old)
+        → IsChildOf (degrees_in len (T.lists source.old)) node k result }
+    ensures reads { OnlySelects T.lists T.reads source.old source.new 2 0 }
+{
+    if node >= len {
+        return Answer::Absent;
+    }
+    let start = total_zero_on(source, len, node);
+    let end = total_zero_on(source, len, node + 1);
+    match (start, end) {
+        (Some(start), Some(end)) => child_between(start, end, len, node, k),
+        _ => Answer::Wrong,
+    }
+}
+
+/// The degree of a node, of which the 0 bits before and after its 1 bits stand at `start` and `end`; `Wrong` only where
+/// they do not.
+#[inline(always)]
+fn degree_between(start: usize, end: usize, len: usize, node: usize) -> Answer<usize>
+    requires { node < len }
+    ensures inside { IsDegreeWithin len node result }
+    ensures answer { (d : List ℕ) → len ≡ length d → IsTree d → start ≡ zero_place d node
+        → end ≡ zero_place d (node + 1) → IsDegreeOf d node result }
+{
+    if end <= start {
+        return Answer::Wrong;
+    }
+    let degree = end - start - 1;
+    if degree < len {
+        return Answer::Found(degree);
+    }
+    Answer::Wrong
+}
+
+/// How many children a node has, by its number.
+///
+/// Whatever the source holds, that is less than the number of nodes, and the answer is `Absent` exactly where there is
+/// no such node. Where it holds a tree, the answer is the degree, and never `Wrong`.
+///
+/// # Conditions
+/// There are fewer than 2^58 words, and the tables have the right lengths. They may hold anything.
+/// # Cost
+/// What two selections by binary search read, whatever the source holds.
+///
+/// ```
+/// total_degree_on(&mut source, 4, 0);   // Found(2), Absent or Wrong
+/// ```
+pub fn total_degree_on<T: TableSource>(source: &mut T, len: usize, node: usize) -> Answer<usize>
+    requires { HasSizes (T.lists source.old) }
+    ensures inside { IsDegreeWithin len node result }
+    ensures answer { IsLouds len (T.lists source.old)
+        → IsDegreeOf (degrees_in len (T.lists source.old)) node result }
+    ensures reads { OnlySelects T.lists T.reads source.old source.new 2 0 }
+{
+    if node >= len {
+        return Answer::Absent;
+    }
+    let start = total_zero_on(source, len, node);
+    let end = total_zero_on(source, len, node + 1);
+    match (start, end) {
+        (Some(start), Some(end)) => degree_between(start, end, len, node),
+        _ => Answer::Wrong,
+    }
+}

@@ -1,0 +1,103 @@
+//! The sections of the block of a tree.
+ghost use Rattle.std.specs.Prelude.{◌≡◌, ◌+◌, ◌*◌, ◌/◌, ◌^◌, ◌<◌};
+ghost use Rattle.louds.specs.Held.{words_of};
+ghost use Rattle.bitm_block.specs.Layout.{end_of};
+ghost use Rattle.louds_block.specs.Block.{end_at, lower_of_nodes, tree_head, tree_sections, upper_of_nodes};
+
+use bitm_block::{Head, Section};
+use bitm_view::{lower_len, upper_len};
+
+/// The kind of a tree.
+pub const LOUDS: u64 = 7;
+
+/// How many words the sections of a tree have.
+#[derive(Clone, Copy)]
+pub(crate) struct Lens {
+    pub(crate) words: usize,
+    pub(crate) upper: usize,
+    pub(crate) lower: usize,
+}
+
+impl Lens {
+    /// Those of the given number of nodes.
+    #[inline(always)]
+    pub(crate) fn of(nodes: usize) -> Lens
+        requires { nodes < 2 ^ 60 }
+        ensures words { result.words ≡ words_of nodes }
+        ensures upper { result.upper ≡ upper_of_nodes nodes }
+        ensures lower { result.lower ≡ lower_of_nodes nodes }
+        ensures short { result.words < 2 ^ 56 }
+    {
+        let words = (2 * nodes + 1).div_ceil(64);
+        Lens {
+            words,
+            upper: upper_len(words),
+            lower: lower_len(words),
+        }
+    }
+}
+
+/// The first multiple of 8 from a number on.
+#[inline(always)]
+pub(crate) fn aligned(at: usize) -> usize
+    requires { at < 2 ^ 60 }
+    ensures { result ≡ (at + 7) / 8 * 8 }
+{
+    (at + 7) / 8 * 8
+}
+
+/// The numbers of the header of a tree of the given number of nodes.
+pub(crate) fn tree_head(nodes: usize) -> Head
+    ensures { result ≡ tree_head nodes }
+{
+    Head {
+        kind: LOUDS,
+        len: nodes as u64,
+        width: 0,
+        ones_log2: 0,
+        zeros_log2: 0,
+        a: 0,
+        b: 0,
+        c: 0,
+    }
+}
+
+/// The sections of a tree of the given number of nodes: words, upper and lower table.
+pub(crate) fn tree_sections(nodes: usize) -> [Section; 3]
+    requires { nodes < 2 ^ 60 }
+    ensures { result ≡ tree_sections nodes }
+{
+    let lens = Lens::of(nodes);
+    [
+        Section {
+            role: 1,
+            count: lens.words as u64,
+        },
+        Section {
+            role: 2,
+            count: lens.upper as u64,
+        },
+        Section {
+            role: 3,
+            count: lens.lower as u64,
+        },
+    ]
+}
+
+/// How many words the block of the given number of nodes has.
+///
+/// # Conditions
+/// There are fewer than 2^60 nodes.
+///
+/// ```
+/// size(4);   // 56
+/// ```
+pub fn size(nodes: usize) -> usize
+    requires { nodes < 2 ^ 60 }
+    ensures sections { result ≡ end_of (tree_sections nodes) }
+    ensures parts { result ≡ end_at nodes }
+    ensures short { result < 2 ^ 59 }
+{
+    let lens = Lens::of(nodes);
+    32 + aligned(lens.words) + aligned(lens.upper) + aligned(lens.lower)
+}
