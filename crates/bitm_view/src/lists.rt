@@ -1,7 +1,9 @@
 //! Selections of lists of ranks in all the words.
-ghost use Rattle.std.specs.Prelude.{◌≡◌, ◌↔◌, IsTrue, length, false};
+ghost use Rattle.std.specs.Prelude.{◌≡◌, ◌+◌, ◌*◌, ◌<◌, ◌↔◌, IsTrue, length, false};
+ghost use Rattle.bit_lists.specs.Bits.{digit_count};
 ghost use Rattle.bit_lists.specs.Count.{as_bit};
 ghost use Rattle.bitm_select.specs.Answers.{SelectTold, ToldEach};
+ghost use Rattle.bitm_select.specs.Reads.{OnlyReads};
 ghost use Rattle.bitm_select.specs.Tables.{HasSizes};
 
 use crate::lent::Lent;
@@ -24,6 +26,10 @@ fn code_on<const BIT: u8, T: TableSource>(source: &mut T, rank: usize) -> usize
 /// Writes the position with each rank, or `NO_ANSWER` for `Absent` and `WRONG_TABLES` for `Wrong`. Where there is a
 /// word the searches run side by side, and `finder` finds their entries. Returns false, and writes nothing, exactly
 /// where `out` is not as long as `ranks`.
+///
+/// # Cost
+/// With u upper entries, each rank reads at most one more of them than u has binary digits, one lower entry more than
+/// `finder` reads, and eight words, whatever the tables hold.
 pub(crate) fn select_list_on<const BIT: u8, T: TableSource, F: FindsEntries<BIT, T>>(
     source: &mut T,
     finder: &F,
@@ -34,6 +40,10 @@ pub(crate) fn select_list_on<const BIT: u8, T: TableSource, F: FindsEntries<BIT,
     ensures room { IsTrue result ↔ length out.old ≡ length ranks.now }
     ensures told { IsTrue result → ToldEach (as_bit BIT) (T.lists source.old) ranks.now out.new }
     ensures kept { result ≡ false → out.new ≡ out.old }
+    ensures reads { 0 < length (T.lists source.old).upper
+        → OnlyReads T.lists T.reads source.old source.new
+        (length ranks.now * (digit_count (length (T.lists source.old).upper) + 1))
+        ((F.lowers + 1) * length ranks.now) (8 * length ranks.now) }
 {
     if out.len() != ranks.len() {
         return false;

@@ -1,29 +1,26 @@
 //! The view of an index in borrowed memory, and its queries.
-ghost use Rattle.std.specs.Prelude.{◌≡◌, ◌+◌, ◌-◌, ◌<◌, ◌≤◌, ◌↔◌, ℕ, Bool, IsTrue, MatchOption, length, min};
-ghost use Rattle.std.specs.Prelude.{slice_index};
-ghost use Rattle.std.specs.Prelude.{true, false};
+ghost use Rattle.std.specs.Prelude.{◌≡◌, ◌+◌, ◌-◌, ◌<◌, ◌≤◌, ℕ, Bool, MatchOption, length, min, slice_index, true};
 ghost use Rattle.bit_lists.specs.Bits.{digit_count};
 ghost use Rattle.bit_lists.specs.Count.{count_before, count_of, as_bit, Picks};
 ghost use Rattle.bitm_select.specs.Tables.{HasTables, bits_in};
 ghost use Rattle.bitm_select.specs.Told.{IfAbsent};
 ghost use Rattle.bitm_view.specs.Cut.{bits_of_cut, cut_at, Cut, IsWithin, TellsNoneOf};
-ghost use Rattle.bitm_view.specs.Queries.{ranked_by, selected_by, RanksIn, Selects, SelectsIn};
+ghost use Rattle.bitm_view.specs.Queries.{RanksIn, Selects, SelectsIn};
 ghost use Rattle.bitm_view.specs.Ranks.{IsCountWithin, IsRanked};
-ghost use Rattle.bitm_select.specs.Answers.{HasBit, IsSelected, RanksTold, RankTold, SelectTold, ToldEach};
+ghost use Rattle.bitm_select.specs.Answers.{HasBit, IsSelected};
 ghost use Rattle.bitm_select.specs.Reads.{OnlyReads, ReadsAtMost};
 
+mod many;
 mod near;
 
 use crate::guessed::ByGuess;
 use crate::lent::{Lent, is_one};
-use crate::lists::select_list_on;
 use crate::ranked::ranked_on;
 use crate::samples::LentSamples;
 use bit_slices::positions_in;
 use bitm::words;
 use bitm_select::answer::Answer;
-use bitm_select::search::many::{ByTables, total_rank_many_on};
-use bitm_select::search::selected::{NO_ANSWER, WRONG_TABLES};
+use bitm_select::search::many::ByTables;
 use bitm_select::search::selecting::{FindsEntry, search_on};
 use bitm_select::source::{Probe, TableSource};
 use std::marker::Model;
@@ -208,95 +205,6 @@ impl<'a> IndexView<'a> {
             return self.select_on::<BIT, Probe<'_>, ByTables>(source, &ByTables, rank);
         }
         self.select_on::<BIT, Probe<'_>, ByGuess<'_>>(source, &ByGuess { samples }, rank)
-    }
-
-    /// Writes the rank of each position as `rank` answers it, by the codes of lists; queries run side by side where the
-    /// words do not fit a processor's caches. Returns false, and writes nothing, exactly where `out` is not as long as
-    /// `positions`.
-    pub fn rank_each<const BIT: u8>(&self, positions: &[usize], out: &mut [usize]) -> bool
-        ensures room { IsTrue result ↔ length out.old ≡ length positions.now }
-        ensures ranks { IsTrue result → (j : ℕ) → j < length positions.now → RanksIn (as_bit BIT)
-            self.now (slice_index positions.now j) (ranked_by (slice_index out.new j)) }
-        ensures kept { result ≡ false → out.new ≡ out.old }
-    {
-        if out.len() != positions.len() {
-            return false;
-        }
-        total_rank_many_on::<BIT, Probe<'_>>(&mut self.tables.probe(), positions, &mut *out);
-        self.cut_ranks::<BIT>(positions, out);
-        true
-    }
-
-    /// Puts `NO_ANSWER` in place of each rank whose position is past the end of the bit vector.
-    fn cut_ranks<const BIT: u8>(&self, positions: &[usize], out: &mut [usize])
-        requires same_length { length out.old ≡ length positions.now }
-        requires told { RanksTold (as_bit BIT) self.now.lists positions.now out.old }
-        ensures ranks { (j : ℕ) → j < length positions.now → RanksIn (as_bit BIT) self.now
-            (slice_index positions.now j) (ranked_by (slice_index out.new j)) }
-        ensures len { length out.new ≡ length positions.now }
-    {
-        for at in 0..positions.len() {
-            out[at] = self.cut_rank(positions[at], out[at]);
-        }
-    }
-
-    /// The code of a rank, or `NO_ANSWER` where its position is past the end of the bit vector.
-    #[inline(always)]
-    fn cut_rank(&self, position: usize, code: usize) -> usize
-        ensures { (v : Bool) (i : ℕ) → i ≡ position → RankTold v self.now.lists i code
-            → RanksIn v self.now i (ranked_by result) }
-    {
-        if position > self.len { NO_ANSWER } else { code }
-    }
-
-    /// Writes the position with each rank by the codes of lists: what `select` answers where the tables are those of
-    /// the words, and possibly another position with such a bit in other tables. Returns false, and writes nothing,
-    /// exactly where `out` is not as long as `ranks`.
-    pub fn select_each<const BIT: u8>(&self, ranks: &[usize], out: &mut [usize]) -> bool
-        ensures room { IsTrue result ↔ length out.old ≡ length ranks.now }
-        ensures selects { IsTrue result → (j : ℕ) → j < length ranks.now → SelectsIn (as_bit BIT)
-            self.now (slice_index ranks.now j) (selected_by (slice_index out.new j)) }
-        ensures kept { result ≡ false → out.new ≡ out.old }
-    {
-        let source = &mut self.tables.probe();
-        let samples = *self.samples::<BIT>();
-        let done = if samples.samples.is_empty() {
-            select_list_on::<BIT, Probe<'_>, ByTables>(source, &ByTables, ranks, &mut *out)
-        } else {
-            select_list_on::<BIT, Probe<'_>, LentSamples<'_>>(source, &samples, ranks, &mut *out)
-        };
-        if done {
-            self.cut_each::<BIT>(ranks, out);
-        }
-        done
-    }
-
-    /// Puts `NO_ANSWER` in place of each position after the bit vector.
-    fn cut_each<const BIT: u8>(&self, ranks: &[usize], out: &mut [usize])
-        requires same_length { length out.old ≡ length ranks.now }
-        requires told { ToldEach (as_bit BIT) self.now.lists ranks.now out.old }
-        ensures selects { (j : ℕ) → j < length ranks.now → SelectsIn (as_bit BIT) self.now
-            (slice_index ranks.now j) (selected_by (slice_index out.new j)) }
-        ensures len { length out.new ≡ length ranks.now }
-    {
-        for at in 0..ranks.len() {
-            out[at] = self.cut_code(out[at]);
-        }
-    }
-
-    /// The code of a selection, or `NO_ANSWER` where its position is after the bit vector.
-    #[inline(always)]
-    fn cut_code(&self, code: usize) -> usize
-        ensures { (v : Bool) (r : ℕ) → SelectTold v self.now.lists r code
-            → SelectsIn v self.now r (selected_by result) }
-    {
-        if code < self.len {
-            return code;
-        }
-        if code < WRONG_TABLES {
-            return NO_ANSWER;
-        }
-        code
     }
 
     /// The words with their tables.
