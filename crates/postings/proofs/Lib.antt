@@ -1,0 +1,10 @@
+pub mod HeldLemmas
+pub mod JoiningLemmas
+pub mod LeastLemmas
+pub mod NextLemmas
+pub mod PartLemmas
+pub mod SharingLemmas
+pub mod SpotLemmas
+pub mod StepLemmas
+pub mod TurnLemmas
+pub mod WordLemmas

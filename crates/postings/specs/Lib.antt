@@ -1,0 +1,5 @@
+pub mod Next
+pub mod Shared
+pub mod Spot
+pub mod Held
+pub mod Joined

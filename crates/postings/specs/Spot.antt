@@ -1,0 +1,31 @@
+-- Where a cursor over a sequence stands.
+use Rattle.std.specs.Prelude.{◌≡◌, ⊤, ℕ, ◌<◌, ◌≤◌, true, List, length, slice_index, Option, MatchOption}
+use Rattle.std.specs.List.{All}
+use Rattle.bitm.specs.Bits.{bits_of}
+use Rattle.bitm.specs.Count.{ones_before, Picks}
+use Rattle.elias_fano.specs.Sequence.{Reaches}
+use Rattle.postings.specs.declared.near.Spot.{Spot}
+use Rattle.postings.specs.declared.near.Near.{Near}
+use Rattle.postings.specs.declared.near.Near.TheVariants.{Found, Ended, Far}
+
+-- an item's place in the list, that of its one among the words, and the item
+pub record IsSpot (xs words : List ℕ) (s : Spot) : Type 0 where
+  pub inside : s.at < length xs
+  pub one : Picks (bits_of words) true s.at s.one
+  pub number : s.number ≡ slice_index xs s.at
+
+-- the first item that is at least v was found, or there is none, or it is not near
+abbrev pub IsNear : List ℕ → List ℕ → ℕ → Near → Type 0
+IsNear xs words v (Found s) = IsSpot xs words s × Reaches xs v s.at
+IsNear xs words v Ended = All (λ x. x < v) xs
+IsNear xs words v Far = ⊤
+
+-- the first item that is at least v, and None exactly where there is none
+abbrev pub IsFar : List ℕ → List ℕ → ℕ → Option Spot → Type 0
+IsFar xs words v o = MatchOption o (All (λ x. x < v) xs) (λ s. IsSpot xs words s × Reaches xs v s.at)
+
+-- the ones of so many items, all less than v, stand before a place, and no others
+pub record IsBehind (xs words : List ℕ) (v at place : ℕ) : Type 0 where
+  pub count : at ≤ length xs
+  pub before : ones_before (bits_of words) place ≡ at
+  pub less : (j : ℕ) → j < at → slice_index xs j < v

@@ -1,0 +1,33 @@
+//! Posting lists: cursors over lists of numbers that never decrease, their intersection and their union.
+//!
+//! A cursor moves forward only, by `next_geq`: to the first number from it on that is at least a value. `Seeker` is one
+//! over an Elias-Fano sequence, owned or borrowed, `SliceCursor` one over a slice. Contracts see a cursor as the list
+//! of the numbers from it on, and how often it was asked.
+//!
+//! ```
+//! let (Some(evens), Some(primes)) = (SliceCursor::over(&[2, 4, 6, 8]), SliceCursor::over(&[2, 3, 5, 7])) else { .. };
+//! let mut lists = [evens, primes];
+//! let mut out = [0; 8];
+//! union(&mut lists, 3, &mut out);        // 6: 3, 4, 5, 6, 7, 8
+//! ```
+#![tactic(auto)]
+
+// What is in each file:
+// - `cursor`: what a cursor is
+// - `joining`: the union of lists
+// - `near`: the next number of a sequence that is at least a value, from a position on
+// - `plain`: a cursor over a slice
+// - `sequence`: a cursor over a sequence
+// - `sharing`: the intersection of lists
+mod cursor;
+mod joining;
+mod near;
+mod plain;
+mod sequence;
+mod sharing;
+
+pub use cursor::Cursor;
+pub use joining::union;
+pub use plain::SliceCursor;
+pub use sequence::Seeker;
+pub use sharing::intersect;

@@ -1,0 +1,9 @@
+//! Tests of posting lists, beside a walk over all numbers and lists worked out by hand.
+//!
+//! They stand in a crate of their own, since a crate with tests is proved twice.
+#![tactic(auto)]
+
+#[cfg(test)]
+mod by_hand;
+#[cfg(test)]
+mod walks;
