@@ -1,5 +1,5 @@
 -- Bits of which the positions of the 1 bits are given.
-use Rattle.std.specs.Prelude.{◌≡◌, ℕ, zero, suc, ◌+◌, ◌-◌, ◌==◌, ◌^◌, ◌<◌, ◌≤◌, Bool, true, false, if◌then◌else◌, List, [], ◌∷◌, length, slice_index}
+use Rattle.std.specs.Prelude.{ℕ, zero, suc, ◌+◌, ◌==◌, ◌<◌, ◌≤◌, Bool, true, false, if◌then◌else◌, List, [], ◌∷◌, length, slice_index}
 
 -- the bits of the n positions from k on, which are 1 bits exactly at these positions, rising
 unfoldable pub bits_at : ℕ → ℕ → List ℕ → List Bool

@@ -34,8 +34,8 @@ fn ends_below(numbers: &[u64], end: usize) -> bool
 /// Tests numbers that are to be the positions of the 1 bits among `len` bits.
 ///
 /// # Errors
-/// `TooLong` exactly where there are 2^56 numbers or more; else `NotRising` exactly where some number is not greater than
-/// the one before it; else `PastEnd` exactly where some number is not less than `len`.
+/// `TooLong` exactly where there are 2^56 numbers or more; else `NotRising` exactly where some number is not greater
+/// than the one before it; else `PastEnd` exactly where some number is not less than `len`.
 pub(crate) fn check(positions: &[u64], len: usize) -> Result<(), SparseError>
     ensures places { IfOk result (λ _. ArePlaces len 0 positions.now) }
     ensures short { IfOk result (λ _. length positions.now < 2 ^ 56) }

@@ -11,7 +11,8 @@ use bitm::{Probe, ReadCounts, Select0ForRank101111, SelectForRank101111};
 use elias_fano::Sequence;
 use std::marker::Model;
 
-/// Borrowed positions of 1 bits. Searches and positions that are read are counted; the counts take no bytes at run time.
+/// Borrowed positions of 1 bits. Searches and positions that are read are counted; the counts take no bytes at run
+/// time.
 #[derive(Drop)]
 pub(crate) struct Ones<'a, S: SelectForRank101111, S0: Select0ForRank101111> {
     list: &'a Sequence<S, S0>,

@@ -19,8 +19,8 @@ use std::marker::Model;
 
 /// A bit vector that is kept as the positions of its 1 bits, a monotone sequence (`elias_fano::Sequence`).
 ///
-/// A rank is one search for a successor among the positions, a selection reads one of them. So it suits bits of which few
-/// are 1; the bound of `build` says how many bits it takes.
+/// A rank is one search for a successor among the positions, a selection reads one of them. So it suits bits of which
+/// few are 1; the bound of `build` says how many bits it takes.
 ///
 /// # Source
 /// The structure is known as `sd_vector`: Okanohara and Sadakane, 'Practical entropy-compressed rank/select dictionary'

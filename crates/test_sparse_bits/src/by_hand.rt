@@ -136,7 +136,7 @@ fn sizes_are_those_of_the_published_formula(rt: HostRuntime) -> Result<(), Fail>
 
 #[test]
 fn sizes_are_at_most_those_of_sdsl(rt: HostRuntime) -> Result<(), Fail> {
-    // how many 1 bits there are, how far apart, and the bytes of an `sd_vector<>` of these (sdsl 2.1.1, `size_in_bytes`)
+    // how many 1 bits there are, how far apart, and the bytes of an `sd_vector<>` (`size_in_bytes` of sdsl 2.1.1)
     let rows = [
         (1000u64, 1000u64, 1798usize),
         (100_000, 10, 82_357),

@@ -1,5 +1,5 @@
 -- The positions of the 1 bits are those that were given, and counts follow from positions.
-use Rattle.std.proofs.Common.{◌≡◌, ◌≢◌, ℕ, zero, suc, ◌+◌, ◌-◌, ◌<◌, ◌≤◌, Bool, true, false, not, cond, eqb, eq-eqb, List, [], ◌∷◌, length, get_or, refl, sym, ap, ◌∙◌, subst, arith, ⊎_elim}
+use Rattle.std.proofs.Common.{◌≡◌, ℕ, zero, suc, ◌+◌, ◌-◌, ◌<◌, ◌≤◌, Bool, true, false, cond, eq-eqb, List, [], ◌∷◌, length, get_or, refl, sym, ap, ◌∙◌, subst, arith, ⊎_elim}
 use Rattle.std.proofs.lemmas.Bool.{cases_lt, cases_eq, eqb-true, ne_eqb, false_from_ne_true}
 use Rattle.std.proofs.lemmas.List.{get_or_default}
 use Rattle.std.specs.List.{All, Contains}
@@ -7,7 +7,7 @@ use Rattle.std.specs.Prelude.{if◌then◌else◌, ◌==◌}
 use Rattle.bitm.proofs.BitLaws.{places_are_picked, places_are_counted, places_rise, counts_grow, count_after_item, ones_and_zeros, picked_by_rank, at_most_one_picked}
 use Rattle.bitm.specs.Bits.{item}
 use Rattle.elias_fano.specs.Sequence.{Reaches}
-use Rattle.bitm.specs.Count.{ones_before, zeros_before, ones_of, zeros_of, places, Picks, IsSelect, IsRank}
+use Rattle.bitm.specs.Count.{ones_before, ones_of, zeros_of, places, Picks}
 use Rattle.sparse_bits.specs.Positions.{bits_at, ArePlaces, PartsZeros}
 
 pub bits_at-length : (n k : ℕ) (xs : List ℕ) → length (bits_at n k xs) ≡ n

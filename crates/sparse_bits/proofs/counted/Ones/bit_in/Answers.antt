@@ -1,4 +1,4 @@
-use Rattle.std.proofs.Common.{◌≡◌, ℕ, ◌+◌, ◌*◌, ◌^◌, ◌/◌, ◌<◌, ◌≤◌, true, false, List, length, get_or, nat_eq, sym, ap, ◌∙◌, subst, arith}
+use Rattle.std.proofs.Common.{arith}
 use Rattle.sparse_bits.proofs.lemmas.PositionLemmas.{bits_count}
 use Rattle.sparse_bits.proofs.counted.Ones.bit_in.Goals as goal
 

@@ -1,5 +1,5 @@
 -- The number of 0 bits before the 1 bits never falls.
-use Rattle.std.proofs.Common.{◌≡◌, ℕ, ◌+◌, ◌/◌, ◌-◌, ◌<◌, ◌≤◌, List, length, get_or, ap, ◌∙◌, arith}
+use Rattle.std.proofs.Common.{ℕ, ◌+◌, ◌/◌, ◌-◌, ◌<◌, List, length, get_or, ap, ◌∙◌, arith}
 use Rattle.sparse_bits.specs.Looks.{Looks}
 use Rattle.sparse_bits.proofs.lemmas.HalfLemmas.{digit_less}
 use Rattle.sparse_bits.proofs.lemmas.PositionLemmas.{grow_to, at_least_place}

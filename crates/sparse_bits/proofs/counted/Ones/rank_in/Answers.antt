@@ -1,4 +1,4 @@
-use Rattle.std.proofs.Common.{◌≡◌, ℕ, ◌+◌, ◌/◌, ◌<◌, ◌≤◌, true, false, List, length, get_or, nat_eq, sym, ap, ◌∙◌, subst, arith}
+use Rattle.std.proofs.Common.{length, sym, ap, ◌∙◌, arith}
 use Rattle.sparse_bits.specs.Looks.{Looks}
 use Rattle.sparse_bits.proofs.lemmas.PositionLemmas.{bits_count, rank_some, rank_none}
 use Rattle.sparse_bits.proofs.counted.Ones.rank_in.Goals as goal

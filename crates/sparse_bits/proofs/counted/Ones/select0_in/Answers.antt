@@ -1,5 +1,5 @@
 -- The 0 bit with a rank stands after the 1 bits that have no more 0 bits before them.
-use Rattle.std.proofs.Common.{◌≡◌, ℕ, ◌+◌, ◌*◌, ◌^◌, ◌/◌, ◌<◌, ◌≤◌, true, false, List, length, get_or, nat_eq, sym, ap, ◌∙◌, subst, arith}
+use Rattle.std.proofs.Common.{arith}
 use Rattle.sparse_bits.proofs.lemmas.PositionLemmas.{few_ones, zeros_count, select0_some}
 use Rattle.sparse_bits.proofs.counted.Ones.select0_in.Goals as goal
 

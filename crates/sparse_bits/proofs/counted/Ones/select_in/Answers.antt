@@ -1,4 +1,4 @@
-use Rattle.std.proofs.Common.{◌≡◌, ℕ, ◌+◌, ◌/◌, ◌<◌, ◌≤◌, true, false, List, length, get_or, nat_eq, sym, ap, ◌∙◌, subst, arith}
+use Rattle.std.proofs.Common.{ℕ, true, sym, subst, arith}
 use Rattle.bitm.specs.Count.{Picks}
 use Rattle.sparse_bits.specs.Positions.{bits_at}
 use Rattle.sparse_bits.proofs.lemmas.PositionLemmas.{ones_count, select_some}

@@ -1,4 +1,4 @@
-use Rattle.std.proofs.Common.{◌≡◌, ℕ, ◌+◌, ◌-◌, ◌<◌, ◌≤◌, true, List, length, drop, refl, sym, ap, ◌∙◌, arith}
+use Rattle.std.proofs.Common.{refl, sym, ◌∙◌}
 use Rattle.sparse_bits.proofs.lemmas.ValueLemmas.{positions_are}
 use Rattle.sparse_bits.proofs.sparse.SparseBits.bit_ones.Goals as goal
 

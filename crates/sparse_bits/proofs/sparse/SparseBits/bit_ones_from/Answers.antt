@@ -1,4 +1,4 @@
-use Rattle.std.proofs.Common.{◌≡◌, ℕ, ◌+◌, ◌-◌, ◌<◌, ◌≤◌, true, List, length, drop, refl, sym, ap, ◌∙◌, arith}
+use Rattle.std.proofs.Common.{drop, refl, sym, ap, ◌∙◌, arith}
 use Rattle.sparse_bits.proofs.lemmas.ValueLemmas.{ones_are, positions_are}
 use Rattle.sparse_bits.proofs.sparse.SparseBits.bit_ones_from.Goals as goal
 

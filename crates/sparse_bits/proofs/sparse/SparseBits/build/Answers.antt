@@ -1,5 +1,5 @@
 -- The sequence that was made has the positions that were given.
-use Rattle.std.proofs.Common.{◌≡◌, ℕ, ◌+◌, ◌*◌, ◌^◌, ◌/◌, ◌<◌, ◌≤◌, true, false, List, length, get_or, nat_eq, sym, ap, ◌∙◌, subst, arith}
+use Rattle.std.proofs.Common.{◌≡◌, ℕ, ◌+◌, ◌*◌, ◌≤◌, true, List, length, sym, ◌∙◌, subst}
 use Rattle.bitm.specs.Count.{places}
 use Rattle.elias_fano.specs.Parts.{width_of, low_words_of, upper_words_of}
 use Rattle.sparse_bits.specs.Positions.{bits_at, ArePlaces}

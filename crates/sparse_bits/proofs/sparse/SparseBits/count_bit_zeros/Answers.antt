@@ -1,4 +1,4 @@
-use Rattle.std.proofs.Common.{◌≡◌, ℕ, ◌+◌, ◌-◌, ◌<◌, ◌≤◌, true, List, length, drop, refl, sym, ap, ◌∙◌, arith}
+use Rattle.std.proofs.Common.{refl, arith}
 use Rattle.sparse_bits.proofs.lemmas.ValueLemmas.{zeros_are}
 use Rattle.sparse_bits.proofs.sparse.SparseBits.count_bit_zeros.Goals as goal
 

@@ -1,4 +1,4 @@
-use Rattle.std.proofs.Common.{◌≡◌, ℕ, ◌+◌, ◌-◌, ◌<◌, ◌≤◌, true, List, length, drop, refl, sym, ap, ◌∙◌, arith}
+use Rattle.std.proofs.Common.{refl, arith}
 use Rattle.sparse_bits.proofs.lemmas.ValueLemmas.{length_is}
 use Rattle.sparse_bits.proofs.sparse.SparseBitsAccess.bit_and_rank.Goals as goal
 

@@ -1,4 +1,4 @@
-use Rattle.std.proofs.Common.{◌≡◌, ℕ, ◌+◌, ◌-◌, ◌<◌, ◌≤◌, true, List, length, drop, refl, sym, ap, ◌∙◌, arith}
+use Rattle.std.proofs.Common.{refl, ◌∙◌}
 use Rattle.sparse_bits.proofs.lemmas.ValueLemmas.{size_is}
 use Rattle.sparse_bits.proofs.sparse.SparseBitsGetSize.size_bytes_dyn.Goals as goal
 

@@ -1,4 +1,4 @@
-use Rattle.std.proofs.Common.{◌≡◌, ℕ, ◌+◌, ◌-◌, ◌<◌, ◌≤◌, true, List, length, drop, refl, sym, ap, ◌∙◌, arith}
+use Rattle.std.proofs.Common.{refl, sym}
 use Rattle.sparse_bits.proofs.lemmas.ValueLemmas.{length_is}
 use Rattle.sparse_bits.proofs.sparse.SparseBitsHasBits.len.Goals as goal
 
