@@ -4,7 +4,7 @@ ghost use Rattle.postings.specs.Next.{IsNextAtLeast};
 
 use bitm::{Probe, ReadCounts};
 
-/// A place in a list of numbers that never decrease, which moves forward only.
+/// A position in a list of numbers that never decrease, which moves forward only.
 pub trait Cursor {
     /// The numbers from the cursor on.
     ghost left: { Self → List ℕ };

@@ -17,7 +17,7 @@ fn lesser(one: Option<u64>, other: Option<u64>) -> Option<u64>
     }
 }
 
-/// The least number from `v` on in any of the lists; each is asked once.
+/// The least number from `v` on in any of the lists; each is queried once.
 fn least_from<C: Cursor>(lists: &mut [C], v: u64) -> Option<u64>
     ensures least { IsLeastFrom (map C.left lists.old) (length (map C.left lists.old)) v result }
     ensures keeps { KeepsFrom (map C.left lists.old) (map C.left lists.new) v }
@@ -38,7 +38,7 @@ fn least_from<C: Cursor>(lists: &mut [C], v: u64) -> Option<u64>
 /// it has to find.
 ///
 /// # Cost
-/// Each list is asked at most once for each number that is written, and once more.
+/// Each list is queried at most once for each number that is written, and once more.
 ///
 /// # Example
 /// ```

@@ -2,7 +2,7 @@
 //!
 //! A cursor moves forward only, by `next_geq`: to the first number from it on that is at least a value. `Seeker` is one
 //! over an Elias-Fano sequence, owned or borrowed, `SliceCursor` one over a slice. Contracts see a cursor as the list
-//! of the numbers from it on, and how often it was asked.
+//! of the numbers from it on, and how often it was queried.
 //!
 //! ```
 //! let (Some(evens), Some(primes)) = (SliceCursor::over(&[2, 4, 6, 8]), SliceCursor::over(&[2, 3, 5, 7])) else { .. };

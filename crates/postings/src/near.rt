@@ -23,7 +23,7 @@ pub(crate) struct Spot {
     pub(crate) number: u64,
 }
 
-/// What the words near a place say of the first number that is at least a value.
+/// What the words near a position say of the first number that is at least a value.
 #[derive(Clone, Copy)]
 pub(crate) enum Near {
     /// It was found.
@@ -40,7 +40,7 @@ const STEPS: usize = 8;
 /// How many words are read for the next one.
 const WORDS: usize = 2;
 
-/// The first one from `place` on, if it is in the word of that place or the next.
+/// The first one from `place` on, if it is in the word that has it or in the next.
 #[inline(always)]
 fn next_one_on<T: TableSource>(source: &mut T, place: usize) -> Option<usize>
     requires { IsShort (T.lists source.old).words }

@@ -15,7 +15,7 @@ pub(crate) enum Agreed {
     Ended,
 }
 
-/// Asks the lists after the first for `v`, in order, up to one that does not have it.
+/// Queries the lists after the first for `v`, in order, up to one that does not have it.
 fn ask_others<C: Cursor>(lists: &mut [C], v: u64) -> Agreed
     ensures agreed { IsAgreed (map C.left lists.old) v result }
     ensures keeps { KeepsFrom (map C.left lists.old) (map C.left lists.new) v }
@@ -45,7 +45,7 @@ fn ask_others<C: Cursor>(lists: &mut [C], v: u64) -> Agreed
 /// # Conditions
 /// There is a list.
 /// # Cost
-/// Each list is asked at most once for each number of the first list, and once more. So the shortest is best first.
+/// Each list is queried at most once for each number of the first list, and once more. So the shortest is best first.
 ///
 /// # Example
 /// ```
