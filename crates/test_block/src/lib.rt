@@ -1,7 +1,10 @@
-//! Tests of blocks: their bytes beside words that another program made, each bit of a block flipped, each length cut off.
+//! Tests of blocks: their bytes beside words that another program made, each bit of a block flipped, each length cut
+//! off.
 //!
 //! They stand in a crate of their own, since a crate with tests is proved twice.
 #![tactic(auto)]
 
 #[cfg(test)]
 mod blocks;
+#[cfg(test)]
+mod trees;
