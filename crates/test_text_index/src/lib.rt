@@ -5,4 +5,6 @@
 #![tactic(auto)]
 
 #[cfg(test)]
+mod positions;
+#[cfg(test)]
 mod texts;

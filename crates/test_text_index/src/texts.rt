@@ -5,7 +5,7 @@ use std::test::Fail;
 use text_index::{BuildError, TextIndex};
 
 /// Whether the text goes on with the pattern from here.
-fn goes_on(text: &[u64], from: usize, pattern: &[u64]) -> bool {
+pub fn goes_on(text: &[u64], from: usize, pattern: &[u64]) -> bool {
     for i in 0..pattern.len() {
         let at = from.saturating_add(i);
         if at >= text.len() || text[at] != pattern[i] {
@@ -43,7 +43,7 @@ fn agrees(index: &TextIndex, text: &[u64], letters: u32) -> bool {
 }
 
 /// Some letters below `letters`, which repeat.
-fn draw(alloc: Global, len: usize, letters: u64) -> Result<Vec<u64>, Fail> {
+pub fn draw(alloc: Global, len: usize, letters: u64) -> Result<Vec<u64>, Fail> {
     let mut made = Vec::new(alloc);
     let mut state: u64 = 88172645463325252;
     for _ in 0..len {
@@ -56,7 +56,7 @@ fn draw(alloc: Global, len: usize, letters: u64) -> Result<Vec<u64>, Fail> {
 }
 
 /// The letters 0 to `period` - 1 over and over.
-fn repeat(alloc: Global, len: usize, period: u64) -> Result<Vec<u64>, Fail> {
+pub fn repeat(alloc: Global, len: usize, period: u64) -> Result<Vec<u64>, Fail> {
     let mut made = Vec::new(alloc);
     for i in 0..len {
         made.push(i as u64 % period.max(1))?;
@@ -68,7 +68,7 @@ fn repeat(alloc: Global, len: usize, period: u64) -> Result<Vec<u64>, Fail> {
 fn a_text_is_counted_as_by_hand(rt: HostRuntime) -> Result<(), Fail> {
     // abracadabra, with 0 for a
     let text = [0u64, 1, 17, 0, 2, 0, 3, 0, 1, 17, 0];
-    let index = TextIndex::build(rt.alloc(), text.as_slice(), 18)?;
+    let index = TextIndex::build(rt.alloc(), text.as_slice(), 18, 4)?;
     assert!(rt; index.count([].as_slice()) == 12);
     assert!(rt; index.count([0].as_slice()) == 5);
     assert!(rt; index.count([0, 1, 17, 0].as_slice()) == 2);
@@ -95,11 +95,11 @@ fn short_texts_are_counted_as_by_a_walk(rt: HostRuntime) -> Result<(), Fail> {
     ];
     for text in texts {
         for letters in [3u32, 4, 300] {
-            let index = TextIndex::build(rt.alloc(), text, letters)?;
+            let index = TextIndex::build(rt.alloc(), text, letters, 4)?;
             assert!(rt; agrees(&index, text, letters));
         }
     }
-    let index = TextIndex::build(rt.alloc(), [].as_slice(), 0)?;
+    let index = TextIndex::build(rt.alloc(), [].as_slice(), 0, 4)?;
     assert!(rt; index.is_empty() && index.count([].as_slice()) == 1);
     assert!(rt; index.count([0].as_slice()) == 0);
     Ok(())
@@ -109,12 +109,12 @@ fn short_texts_are_counted_as_by_a_walk(rt: HostRuntime) -> Result<(), Fail> {
 fn texts_that_repeat_are_counted_as_by_a_walk(rt: HostRuntime) -> Result<(), Fail> {
     for (len, letters) in [(200, 2), (200, 4), (300, 256), (100, 100000)] {
         let text = draw(rt.alloc(), len, letters)?;
-        let index = TextIndex::build(rt.alloc(), text.as_slice(), letters as u32)?;
+        let index = TextIndex::build(rt.alloc(), text.as_slice(), letters as u32, 4)?;
         assert!(rt; agrees(&index, text.as_slice(), letters as u32));
     }
     for (len, period) in [(100, 1), (129, 2), (90, 3), (300, 256)] {
         let text = repeat(rt.alloc(), len, period)?;
-        let index = TextIndex::build(rt.alloc(), text.as_slice(), 256)?;
+        let index = TextIndex::build(rt.alloc(), text.as_slice(), 256, 4)?;
         assert!(rt; agrees(&index, text.as_slice(), 256));
     }
     Ok(())
@@ -124,13 +124,13 @@ fn texts_that_repeat_are_counted_as_by_a_walk(rt: HostRuntime) -> Result<(), Fai
 fn long_texts_are_indexed(rt: HostRuntime) -> Result<(), Fail> {
     let text = repeat(rt.alloc(), 1 << 16, 2)?;
     assert!(rt; text.as_slice().len() == 1 << 16);
-    let index = TextIndex::build(rt.alloc(), text.as_slice(), 256)?;
+    let index = TextIndex::build(rt.alloc(), text.as_slice(), 256, 4)?;
     assert!(rt; index.count([0].as_slice()) == 1 << 15);
     assert!(rt; index.count([1, 0].as_slice()) == (1 << 15) - 1);
     assert!(rt; index.count(&text.as_slice()[1000..]) == 501);
     let drawn = draw(rt.alloc(), 1 << 16, 256)?;
     assert!(rt; drawn.as_slice().len() == 1 << 16);
-    let index = TextIndex::build(rt.alloc(), drawn.as_slice(), 256)?;
+    let index = TextIndex::build(rt.alloc(), drawn.as_slice(), 256, 4)?;
     let piece = &drawn.as_slice()[77..79];
     assert!(rt; index.count(piece) == walk(drawn.as_slice(), piece));
     Ok(())
@@ -139,7 +139,7 @@ fn long_texts_are_indexed(rt: HostRuntime) -> Result<(), Fail> {
 #[test]
 fn a_letter_outside_is_refused(rt: HostRuntime) -> Result<(), Fail> {
     let text = [0u64, 1, 17];
-    let Err(refused) = TextIndex::build(rt.alloc(), text.as_slice(), 17) else {
+    let Err(refused) = TextIndex::build(rt.alloc(), text.as_slice(), 17, 4) else {
         return Err("a letter outside was indexed".into());
     };
     assert!(rt; refused == BuildError::LetterOutside);
