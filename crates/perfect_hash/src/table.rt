@@ -24,8 +24,8 @@ use std::marker::Model;
 /// A minimal perfect hash: each key that it was built of has a number of its own, below their count.
 ///
 /// The levels stand one after another in the bits of an index, which answers one bit for each level, and one rank. With
-/// `n` keys at 100 per cent the levels have about `e * n` bits, 2.72 a key, and the index's tables 3.2 per cent more;
-/// with a seed for each word (`Grouped`) all is 2.27 bits a key. A contract sees a perfect hash as its hasher, what
+/// `n` keys at 100 per cent the levels have about `e * n` bits, 2.72 a key, and the index's tables 3.125 per cent more;
+/// with a seed for each word (`Grouped`) all is 2.26 bits a key. A contract sees a perfect hash as its hasher, what
 /// places hashes, how many words each level has, and the bits.
 ///
 /// # Source
