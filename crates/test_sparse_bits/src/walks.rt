@@ -82,6 +82,7 @@ fn drawn_bits_are_answered_as_by_a_walk(rt: HostRuntime) -> Result<(), Fail> {
         (200, 100_000),
     ] {
         let words = drawn(rt.alloc(), count, apart)?;
+        assert!(rt; words.len() < 1 << 58);
         let sampled = SampledSparseBits::build_from_words(rt.alloc(), words.as_slice())?;
         assert!(rt; agrees(&sampled, words.as_slice()));
         assert!(rt; come_in_order(&sampled, words.as_slice()));
