@@ -1,6 +1,6 @@
-//! Cursors, intersections and unions beside a walk over all numbers.
+//! Cursors beside a walk over all numbers.
 use elias_fano::{BinaryEliasFano, EliasFano};
-use postings::{Cursor, Seeker, SliceCursor, intersect, union};
+use postings::{Cursor, Seeker, SliceCursor};
 use std::alloc::{AllocError, Global};
 use std::process::Abort;
 use std::test::Fail;
@@ -86,57 +86,6 @@ fn cursors_answer_as_a_walk(rt: HostRuntime) -> Result<(), Fail> {
             };
             assert!(rt; agrees(&mut slice, list.as_slice(), jump, seed));
         }
-    }
-    Ok(())
-}
-
-/// Whether a list has a number.
-fn has(list: &[u64], v: u64) -> bool {
-    let mut at = 0usize;
-    walk(list, &mut at, v) == Some(v)
-}
-
-/// Whether an intersection and a union of three lists have, of the numbers up to 2000, those that a walk finds.
-fn merges_agree(lists: [&[u64]; 3], shared: &[u64], joined: &[u64]) -> bool {
-    let mut agrees = true;
-    let (mut all, mut any) = (0usize, 0usize);
-    for v in 0..2000u64 {
-        let in_each = [has(lists[0], v), has(lists[1], v), has(lists[2], v)];
-        if in_each[0] && in_each[1] && in_each[2] {
-            agrees &= shared.get(all) == Some(&v);
-            all = all.wrapping_add(1);
-        }
-        if in_each[0] || in_each[1] || in_each[2] {
-            agrees &= joined.get(any) == Some(&v);
-            any = any.wrapping_add(1);
-        }
-    }
-    agrees && shared.len() == all && joined.len() == any
-}
-
-#[test]
-fn lists_are_intersected_and_united_as_by_a_walk(rt: HostRuntime) -> Result<(), Fail> {
-    for round in 0..6u32 {
-        let seed = 771 + u64::from(round);
-        let a = numbers(rt.alloc(), 100 + 50 * round, 9, 1, seed)?;
-        let b = numbers(rt.alloc(), 400, 4, 1, seed.wrapping_mul(77))?;
-        let c = numbers(rt.alloc(), 600, 3, 1, seed.wrapping_mul(991))?;
-        let x = EliasFano::build(rt.alloc(), a.as_slice())?;
-        let y = EliasFano::build(rt.alloc(), b.as_slice())?;
-        let z = EliasFano::build(rt.alloc(), c.as_slice())?;
-        let mut shared = vec![in rt.alloc(); 0u64; 2000]?;
-        let mut joined = vec![in rt.alloc(); 0u64; 2000]?;
-        let mut lists = [Seeker::of(&x), Seeker::of(&y), Seeker::of(&z)];
-        let mut again = [Seeker::of(&x), Seeker::of(&y), Seeker::of(&z)];
-        let all = intersect(lists.as_mut_slice(), 0, shared.as_mut_slice());
-        let any = union(again.as_mut_slice(), 0, joined.as_mut_slice());
-        let both = [a.as_slice(), b.as_slice(), c.as_slice()];
-        if all > shared.as_slice().len() || any > joined.as_slice().len() {
-            return Err("more numbers than room".into());
-        }
-        let (all, any) = (&shared.as_slice()[..all], &joined.as_slice()[..any]);
-        assert!(rt; all.len() > 3 && any.len() > 100);
-        assert!(rt; merges_agree(both, all, any));
     }
     Ok(())
 }
