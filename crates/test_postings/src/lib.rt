@@ -1,4 +1,4 @@
-//! Tests of posting lists, beside a walk over all numbers and lists worked out by hand.
+//! Tests of posting lists: cursors beside a walk over all numbers, and answers worked out by hand.
 //!
 //! They stand in a crate of their own, since a crate with tests is proved twice.
 #![tactic(auto)]
