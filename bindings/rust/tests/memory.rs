@@ -17,6 +17,7 @@ fn a_limit_of_memory_is_an_error_and_no_abort() {
 }
 
 /// Whether the mapping of an address requests huge pages, as the system tells it.
+#[cfg(feature = "std")]
 fn requests_huge_pages(address: usize) -> bool {
     let text = std::fs::read_to_string("/proc/self/smaps").expect("Linux");
     let is_inside = |line: &str| {
@@ -34,6 +35,7 @@ fn requests_huge_pages(address: usize) -> bool {
     panic!("no mapping has the address {address:#x}");
 }
 
+#[cfg(feature = "std")] // without it the crate makes no call of the system
 #[test]
 fn huge_pages_are_requested_for_many_words() {
     if !std::path::Path::new("/sys/kernel/mm/transparent_hugepage").exists() {
