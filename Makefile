@@ -48,7 +48,7 @@ build: archive ## the same as archive
 check: ## prove all crates that changed, without the rest of the gate
 	rt all check
 
-test: ## the gate: proofs, mutants, bindings, documents; half an hour
+test: ## the gate: proofs, mutants, bindings, documents; allow an hour
 	scripts/test
 
 thorough: ## what the gate leaves out because it is slow
