@@ -1,0 +1,150 @@
+#!/usr/bin/env python3
+"""rows.py WHAT: measures the rows of docs/plots/ anew, from which bench/page lays the tables of docs/PERFORMANCE.md.
+
+    original FOLDER [RUNS]  original-v1.csv, original-v2.csv and original-v3.csv: beside the original crate. FOLDER is
+                            not in this repository, since the original's program is in it. It has a script run.sh:
+                            `run.sh --cpu LEVEL --sizes .. --densities 50 --keep ROOM --out TO PROJECT` builds both for
+                            that level of x86-64 in ROOM (with --as-is it builds nothing), times them by turns in one
+                            program, and writes TO/compare.csv with the columns row, log2, percent of 1 bits, who (up is
+                            the original, rt this library), value and unit
+    sdsl [RUNS]             sdsl.csv: beside sdsl-lite (Debian: libsdsl-dev)
+    limits [RUNS]           limits.csv: beside one random word and a rank by hand, in small pages and huge ones
+
+A value is the least of RUNS programs (3) one after the other. Plots are drawn anew where matplotlib is installed. The
+rows are those of the state that stands here, so commit first, stop all other work on the machine, and write the day and
+the machine into the page."""
+import csv
+import pathlib
+import subprocess
+import sys
+
+BENCH = pathlib.Path(__file__).resolve().parent
+TOP, ROOM, PLOTS = BENCH.parent, BENCH / "out", BENCH.parent / "docs/plots"
+LEVELS = {"v1": "0,20,24,28", "v2": "0,20,24,28,30", "v3": "0,20,24,28"}
+# The names in the documents of what the comparison with the original crate times; 0, in a word, stands at 2^20.
+NAMES = {"select64": "select64 alone", "bit_ones": "going over the ones, a one", "build_binary": "building the tables",
+         "build_sampled": "building with both samples", "build_simple": "building a simple index",
+         "count_bit_ones": "counting, a word", "get_bit": "get_bit", "get_bits_13": "get_bits of 13",
+         "get_fragment_13": "get_fragment of 13", "rank": "rank", "rank_simple": "rank of a simple index",
+         "select0_binary": "select0, binary", "select0_sampled": "select0, sampled", "select_binary": "select, binary",
+         "select_sampled": "select, sampled", "set_bits_13": "set_bits of 13"}
+WHO = {"rt": "library", "up": "original"}
+CALLS = ("rank", "select", "select0", "select_many", "select0_many")
+CC = ("cc", "-std=c11", "-O2", "-march=x86-64-v2")
+
+
+def number(value):
+    """A time, of three digits."""
+    if value is None:
+        return ""
+    return f"{value:.2f}" if value < 10 else f"{value:.1f}" if value < 100 else f"{value:.0f}"
+
+
+def said(*command):
+    """What a command prints; its errors are seen meanwhile."""
+    return subprocess.run([str(it) for it in command], check=True, cwd=TOP, stdout=subprocess.PIPE, text=True).stdout
+
+
+def made(*command):
+    """Runs a command that builds, and keeps what it prints in bench/out/build.log."""
+    with open(ROOM / "build.log", "a", encoding="utf-8") as log:
+        subprocess.run([str(it) for it in command], check=True, cwd=TOP, stdout=log, stderr=log)
+
+
+def named(row):
+    """The name in the documents: chained queries are those of their call."""
+    call, chained = (row[: -len("_chained")], ", chained") if row.endswith("_chained") else (row, "")
+    return NAMES.get(call, call) + chained
+
+
+def write(stem, found):
+    """Writes the rows, the least value of each: (name, by, log2) to (value, unit, check) of each run."""
+    with open(PLOTS / f"{stem}.csv", "w", encoding="utf-8") as file:
+        file.write("row,by,log2,kind,value,unit,check\n")
+        for (name, by, log2), values in found.items():
+            value, unit, check = min(values)
+            file.write(f"{name},{by},{log2},even,{number(value)},{unit},{check}\n")
+    print(f"docs/plots/{stem}.csv: {len(found)} rows", file=sys.stderr)
+
+
+def draws(python):
+    """Whether this interpreter has matplotlib."""
+    return subprocess.run([python, "-c", "import matplotlib"], stderr=subprocess.DEVNULL).returncode == 0
+
+
+def draw(stem, level):
+    """Draws the plot of a file of rows."""
+    day, models = said("date", "+%-d %B %Y").strip(), said("sed", "-n", "s/^model name.*: //p", "/proc/cpuinfo")
+    caption = f"{models.splitlines()[0]}, {day}, built for x86-64-{level}"
+    tried = (sys.executable, "/usr/bin/python3")  # Debian's own has Debian's matplotlib
+    python = next((it for it in tried if draws(it)), tried[0])
+    said(python, BENCH / "plot.py", PLOTS / f"{stem}.csv", PLOTS, caption)
+
+
+def original(folder, runs):
+    """Beside the original crate, at each level of x86-64."""
+    script = pathlib.Path(folder).resolve() / "run.sh"
+    if not script.is_file():
+        sys.exit(f"rows.py: there is no {script}: name the folder of the comparison (--help says what it has)")
+    for level, sizes in LEVELS.items():
+        found, to = {}, ROOM / f"original-{level}"
+        for run in range(runs):
+            print(f"x86-64-{level}, run {run + 1} of {runs}", file=sys.stderr)
+            kept = ["--as-is"] if run else []
+            said(script, "--cpu", level, "--sizes", sizes, "--densities", "50", "--keep", ROOM / "original", *kept,
+                 "--out", to, TOP)
+            with open(to / "compare.csv", encoding="utf-8") as file:
+                rows = sorted((int(it[1]) or 20, int(it[1]) > 0, *it) for it in csv.reader(file) if len(it) == 6)
+            for log2, _, row, _, _, who, value, unit in rows:
+                if who in WHO and row.removesuffix("_chained") in NAMES:
+                    found.setdefault((f'"{named(row)}"', WHO[who], log2), []).append((float(value), unit, ""))
+        write(f"original-{level}", found)
+    draw("original-v2", "v2")
+
+
+def sdsl(runs):
+    """Beside sdsl-lite."""
+    source = (BENCH / "sdsl.cpp", "-lsdsl", "-ldivsufsort", "-ldivsufsort64")
+    made("sh", "-c", "cd crates/tool_bench && rt run")
+    made("c++", "-std=c++14", "-O3", "-DNDEBUG", "-march=x86-64-v2", "-o", ROOM / "sdsl", *source)
+    found = {}
+    for _ in range(runs):
+        for log2 in (20, 24, 28):
+            for program, kind in ((ROOM / "sdsl", []), (TOP / "crates/tool_bench/out/bench", ["even"])):
+                for it in csv.reader(said(program, log2, *kind, 5 if log2 == 28 else 15).splitlines()):
+                    if len(it) == 7 and it[0].removesuffix("_chained") in CALLS and it[1] != "simple":
+                        by = "library" if it[0].startswith("rank") and it[1] == "binary" else it[1]
+                        if not (it[0].startswith("rank") and by == "sampled"):
+                            found.setdefault((f'"{named(it[0])}"', by, log2), []).append((float(it[4]), it[5], ""))
+    write("sdsl", found)
+    draw("sdsl", "v2")
+
+
+def limits(runs):
+    """Beside what memory allows."""
+    made("make", "archive")
+    made(*CC, "-o", ROOM / "limits", BENCH / "limits.c", TOP / "crates/bitm_c/out/libbitm_c.a")
+    found = {}
+    for _ in range(runs):
+        for log2 in (20, 28, 30):
+            for pages in ([], ["huge"]):
+                for it in csv.reader(said(ROOM / "limits", log2, 5 if log2 > 24 else 40, *pages).splitlines()):
+                    found.setdefault((it[0], it[1], log2), []).append((float(it[4]), it[5], it[6]))
+    write("limits", found)
+
+
+def main(arguments):
+    what, rest = arguments[0] if arguments else "", arguments[1:]
+    folder = [rest.pop(0)] if what == "original" and rest else []
+    known = folder or what in ("sdsl", "limits")
+    if not known or len(rest) > 1 or not all(it.isdigit() for it in rest):
+        print(__doc__)
+        return 2
+    ROOM.mkdir(exist_ok=True)
+    {"original": original, "sdsl": sdsl, "limits": limits}[what](*folder, int(rest[0]) if rest else 3)
+    said(BENCH / "page")
+    return 0
+
+
+if __name__ == "__main__":
+    sys.exit(main(sys.argv[1:]))
