@@ -1,4 +1,4 @@
-//! The answers that the README states beside its program; `scripts/claims` compares these rows with its lines.
+//! The answers that the README states beside its program; `scripts/documents` compares these rows with its lines.
 use example_callers::readme::ask;
 use std::test::Fail;
 

@@ -1,0 +1,55 @@
+"""What the scripts in Python share: the files of the repository, its crates, and the count of what passed and failed."""
+import pathlib
+import re
+import subprocess
+import sys
+
+TOP = pathlib.Path(__file__).resolve().parent.parent
+LAST = re.compile(r"(\d+) passed, (\d+) failed")  # the last line of each script that checks
+sys.dont_write_bytecode = True
+counts = [0, 0]
+
+
+def claim(is_so, text):
+    """Counts a check, and prints what is wrong where it failed."""
+    counts[not is_so] += 1
+    if not is_so:
+        print(text)
+
+
+def conclude():
+    """Prints the last line, and returns the status."""
+    print(f"{counts[0]} passed, {counts[1]} failed")
+    return int(counts[1] > 0)
+
+
+def usage(text):
+    """Prints what a script is for and ends, where it got a word that it does not know, or `--help`."""
+    print(text)
+    sys.exit(0 if "--help" in sys.argv else 2)
+
+
+def read(name):
+    return (TOP / name).read_text(encoding="utf-8")
+
+
+def files():
+    """The files that git has and that are here."""
+    listed = subprocess.run(["git", "ls-files"], cwd=TOP, capture_output=True, check=False, text=True)
+    if listed.returncode:
+        sys.exit(f"{sys.argv[0]} needs git and a checkout: {listed.stderr.strip()}\n0 passed, 1 failed")
+    return [name for name in listed.stdout.split() if (TOP / name).is_file()]
+
+
+def crates():
+    """The crates of crates.txt in its order, each with the libraries that it lists."""
+    lines = re.findall(r"^(\w+)[^:#\n]*:(.*)", read("crates.txt"), re.M)
+    return {name: below.split() for name, below in lines}
+
+
+def below(name):
+    """The repository's libraries below a crate, each after those below it."""
+    listed, found = crates(), []
+    for one in (it for it in listed[name] if it in listed):
+        found += [it for it in [*below(one), one] if it not in found]
+    return found
