@@ -1,6 +1,7 @@
 //! The header of a file with an index or a sequence: which parts it has, and where each of them is.
 ghost use Rattle.std.specs.Prelude.{◌≡◌, ◌≢◌, ◌*◌, ◌<◌, ◌↔◌, length};
-ghost use Rattle.bitm_abi.specs.Stored.{header_in, HasIndexLens, HasSequenceLens, IsHeaded, IsIndexOf, IsSequenceOf, IsStored, LiesWithin};
+ghost use Rattle.bitm_abi.specs.Stored.{header_in, HasIndexLens, HasSequenceLens, IsHeaded, IsIndexOf, IsSequenceOf};
+ghost use Rattle.bitm_abi.specs.Stored.{IsStored, LiesWithin};
 
 use bitm_abi::{
     BAD_SIZE, HEADER_WORDS, OK, SequenceLens, Stored, WRONG, header_at, index_of, sequence_of,

@@ -1,4 +1,4 @@
-//! Laws of joined bits. A function here does nothing: its contract is the law, and a caller that wants the law calls it.
+//! Laws of joined bits. A function here does nothing: its contract is the law, and a caller that wants it calls it.
 ghost use Rattle.sharded_index.specs.Laws.{ItemOfJoined, PickedInJoined, PrefixesAreSums, RankInJoined};
 
 /// An item of a shard is one of the joined bits, after those of the shards before.
@@ -13,7 +13,7 @@ pub fn rank_in_joined()
     ensures { RankInJoined }
 {}
 
-/// A rank selects a position of a shard exactly where, with those before it, it selects that position of the joined bits.
+/// A rank selects a position of a shard exactly where, with those before, it selects that position of the joined bits.
 pub fn picked_in_joined()
     ensures { PickedInJoined }
 {}

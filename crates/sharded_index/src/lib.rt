@@ -1,9 +1,9 @@
 //! Bits in shards, asked as one: rank, selection and the nearest bits of the joined bits of several indexes, one after
 //! the other.
 //!
-//! Beside the shards stand prefix counts: how many bits, and how many 1 bits, there are before each. Which shard holds a
-//! position, or the bit with a rank, is answered by these alone, so that the shards may lie in other files or on other
-//! machines. No call trusts them, nor a shard's tables.
+//! Beside the shards stand prefix counts: how many bits, and how many 1 bits, there are before each. Which shard holds
+//! a position, or the bit with a rank, is answered by these alone, so that the shards may lie in other files or on
+//! other machines. No call trusts them, nor a shard's tables.
 //!
 //! ```
 //! let counts = PrefixCounts::over(&[0, 7, 7, 12], &[0, 4, 4, 6])?;    // of 7, 0 and 5 bits

@@ -77,9 +77,9 @@ impl<'a, S: Shard> ShardedIndex<'a, S> {
 
     /// The greatest position up to `from` that has a 1 bit, or a 0 bit; `from` may be past the end.
     ///
-    /// Whatever the prefix counts and tables hold, a position that is found is one of the claimed bits, not after `from`,
-    /// and in some shard has such a bit. Where they are right it is the greatest one, `Absent` is answered exactly where
-    /// there is none, and `Wrong` never.
+    /// Whatever the prefix counts and tables hold, a position that is found is one of the claimed bits, not after
+    /// `from`, and in some shard has such a bit. Where they are right it is the greatest one, `Absent` is answered
+    /// exactly where there is none, and `Wrong` never.
     ///
     /// # Cost
     /// That of `rank` and `select`, so of two shards at most: evident from the code.

@@ -73,8 +73,8 @@ impl<'a, S: Shard> ShardedIndex<'a, S> {
 
     /// How many of the first `index` bits are 1 bits, or 0 bits.
     ///
-    /// Whatever the prefix counts and tables hold, `Absent` is answered exactly where the prefix counts claim fewer bits,
-    /// and a count is at most `index`. Where they are right it is the right one, and `Wrong` is never answered.
+    /// Whatever the prefix counts and tables hold, `Absent` is answered exactly where the prefix counts claim fewer
+    /// bits, and a count is at most `index`. Where they are right it is the right one, and `Wrong` is never answered.
     ///
     /// # Cost
     /// That of `PrefixCounts::find` and of a rank in one shard; of a rank of all bits, two prefix counts. Evident from
@@ -132,9 +132,9 @@ impl<'a, S: Shard> ShardedIndex<'a, S> {
 
     /// The position of the 1 bit, or 0 bit, with rank `rank`.
     ///
-    /// Whatever the prefix counts and tables hold, `Absent` is answered exactly where the prefix counts claim no more such
-    /// bits, and a position that is found is one of the claimed bits and, in some shard, has such a bit. Where they are
-    /// right it is the right one, and `Wrong` is never answered.
+    /// Whatever the prefix counts and tables hold, `Absent` is answered exactly where the prefix counts claim no more
+    /// such bits, and a position that is found is one of the claimed bits and, in some shard, has such a bit. Where
+    /// they are right it is the right one, and `Wrong` is never answered.
     ///
     /// # Cost
     /// That of `PrefixCounts::find` and of a selection in one shard: evident from the code.

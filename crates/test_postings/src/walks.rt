@@ -15,7 +15,7 @@ fn draw(state: &mut u64) -> u64 {
     x
 }
 
-/// Numbers, each by less than `gap` more than the one before; now and then `great` times a gap, or several that are equal.
+/// Numbers, each less than `gap` above the one before; now and then `great` times a gap, or several that are equal.
 fn numbers(
     alloc: Global,
     count: u32,
