@@ -6,10 +6,7 @@ ghost use Rattle.bit_lists.specs.Number.{number_at, IsInRange};
 ghost use Rattle.bit_lists.specs.Window.{reach_of};
 
 use crate::masks::{n_lowest_bits, n_lowest_bits_0_64};
-
-/// This number of words, 2 MiB, stays near the processor. In larger bit vectors a read waits for its words, and a test
-/// whether it crosses into a second word costs nothing.
-const NEAR_WORDS: usize = 1 << 18;
+use tuning::WORDS_READ_IN_PAIRS;
 
 /// The bit at `place`.
 ///
@@ -87,7 +84,7 @@ fn wide_bits(words: &[u64], begin: usize, len: u8) -> u64
     requires width { len ≤ 64 }
     ensures { bit_and result (2 ^ len - 1) ≡ number_at (bits_of words.now) begin len }
 {
-    if words.len() > NEAR_WORDS {
+    if words.len() > WORDS_READ_IN_PAIRS {
         get_bits_unmasked(words, begin, len)
     } else {
         joined_bits(words, begin, last_word(begin, len))
@@ -101,7 +98,7 @@ fn try_wide_bits(words: &[u64], begin: usize, len: u8) -> Option<u64>
     ensures { MatchOption result (IsInRange words.now begin len → ⊥) (λ wide. IsInRange words.now begin len
         × (bit_and wide (2 ^ len - 1) ≡ number_at (bits_of words.now) begin len)) }
 {
-    if words.len() > NEAR_WORDS {
+    if words.len() > WORDS_READ_IN_PAIRS {
         return try_get_bits_unmasked(words, begin, len);
     }
     let last = last_word(begin, len);

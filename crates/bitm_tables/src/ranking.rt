@@ -12,13 +12,7 @@ use crate::levels::{
 };
 use crate::source::{Probe, TableSource};
 use broadword::ones_through;
-
-/// The number of words, 4 MiB, that stay in a processor's caches. Past that a query waits for its words, and the fewer
-/// instructions it takes, the more queries a processor overlaps.
-pub const WORDS_IN_CACHE: usize = 1 << 19;
-
-/// The number of words, 2 MiB, that arrive so fast that a rank counts all words of a basic block without branches.
-pub const WORDS_AT_HAND: usize = 1 << 18;
+use tuning::WORDS_AT_HAND;
 
 /// The number of 1 bits in word `at`; one more word is read.
 #[inline(always)]

@@ -16,6 +16,7 @@ use bitm_select::levels::L2_ENTRIES_PER_L1_ENTRY;
 use bitm_select::search::entries::{last_entry, sought_entry};
 use bitm_select::search::selecting::FindsEntry;
 use bitm_select::source::TableSource;
+use tuning::{ENTRIES_TO_STEP, ENTRIES_TOO_FAR};
 
 /// The number of entries on either side of a guess that are read one after another.
 const STEPS: usize = 4;
@@ -25,13 +26,6 @@ const WINDOW: usize = 8;
 
 /// The number of them before the guess.
 const BEFORE: usize = 3;
-
-/// With fewer entries than this between two samples most guesses are right, and steps from the guess are fastest: the
-/// processor predicts the entry before it has read it.
-const DENSE: usize = 16;
-
-/// With this number of entries or more between two samples a guess is wrong too often to pay.
-const SPARSE: usize = 512;
 
 /// Finds entries by interpolation between two samples; by the tables alone where there are no samples.
 #[derive(Clone, Copy)]
@@ -60,7 +54,7 @@ fn guess_of(lent: &LentSamples<'_>, part: usize, rank: usize) -> Guess
     let Some(sample) = lent.samples.get(begin) else {
         return Guess {
             at: 0,
-            between: SPARSE,
+            between: ENTRIES_TOO_FAR,
         };
     };
     let low = (*sample & 0x1F_FFFF) as usize;
@@ -220,10 +214,10 @@ fn guessed_entry<const BIT: u8, const SIDE_BY_SIDE: u8, T: TableSource>(
     ensures same { T.lists source.new ≡ T.lists source.old }
 {
     let Guess { at, between } = guess_of(lent, part, rank);
-    if between >= SPARSE {
+    if between >= ENTRIES_TOO_FAR {
         return None;
     }
-    if SIDE_BY_SIDE == 0 && between < DENSE {
+    if SIDE_BY_SIDE == 0 && between < ENTRIES_TO_STEP {
         entry_by_steps::<BIT, T>(source, part, at, rank)
     } else {
         entry_in_window::<BIT, T>(source, part, at, rank)

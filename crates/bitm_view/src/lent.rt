@@ -17,10 +17,11 @@ use crate::checking::are_tables;
 use crate::ranked::ranked_on;
 use bitm_select::answer::Answer;
 use bitm_select::levels::{U64_PER_L1_ENTRY, U64_PER_L2_ENTRY};
-use bitm_select::search::ranking::{WORDS_AT_HAND, total_rank_on};
+use bitm_select::search::ranking::total_rank_on;
 use bitm_select::search::selecting::total_select_on;
 use bitm_select::source::Probe;
 use std::marker::Model;
+use tuning::WORDS_AT_HAND;
 
 /// The number of upper entries of the given number of words: ceil(words / 2^26).
 #[inline(always)]

@@ -52,7 +52,7 @@ mod view;
 
 pub use bitm_select::answer::Answer;
 pub use bitm_select::search::many::ByTables;
-pub use bitm_select::search::ranking::{WORDS_AT_HAND, total_rank_on};
+pub use bitm_select::search::ranking::total_rank_on;
 pub use bitm_select::search::selected::{NO_ANSWER, WRONG_TABLES};
 pub use bitm_select::search::selecting::total_select_on;
 pub use block::{build_block, has_block_room};

@@ -5,9 +5,9 @@ ghost use Rattle.elias_fano_view.specs.Lists.{written_count, AreItems, EndsTold,
 ghost use Rattle.elias_fano_view.specs.Lists.{PlaceTold};
 
 use crate::sequence::LentSequence;
-use bitm_select::search::many::SIDE_BY_SIDE;
 use bitm_view::{NO_ANSWER, WRONG_TABLES};
 use elias_fano::Answer;
+use tuning::SELECTIONS_SIDE_BY_SIDE;
 
 /// How far a list of indices was answered.
 #[derive(Clone, Copy, PartialEq, Eq, Debug)]
@@ -36,10 +36,10 @@ impl<'a> LentSequence<'a> {
         if out.len() != places.len() {
             return ListAnswer::WrongLength;
         }
-        let mut ones = [0; SIDE_BY_SIDE];
+        let mut ones = [0; SELECTIONS_SIDE_BY_SIDE];
         for at in 0..places.len() {
             self.select_ahead(places, at, &mut ones);
-            match self.item_told(places[at], ones[at % SIDE_BY_SIDE]) {
+            match self.item_told(places[at], ones[at % SELECTIONS_SIDE_BY_SIDE]) {
                 Answer::Found(number) => out[at] = number,
                 Answer::Absent => return ListAnswer::AbsentAt(at),
                 Answer::Wrong => return ListAnswer::WrongAt(at),
@@ -60,12 +60,15 @@ impl<'a> LentSequence<'a> {
         if out.len() != values.len() {
             return false;
         }
-        let mut begins = [0; SIDE_BY_SIDE];
-        let mut ends = [0; SIDE_BY_SIDE];
+        let mut begins = [0; SELECTIONS_SIDE_BY_SIDE];
+        let mut ends = [0; SELECTIONS_SIDE_BY_SIDE];
         for at in 0..values.len() {
             self.zeros_ahead(values, at, 1, &mut begins);
             self.ends_ahead(values, at, &mut ends);
-            let (begin, end) = (begins[at % SIDE_BY_SIDE], ends[at % SIDE_BY_SIDE]);
+            let (begin, end) = (
+                begins[at % SELECTIONS_SIDE_BY_SIDE],
+                ends[at % SELECTIONS_SIDE_BY_SIDE],
+            );
             out[at] = self.first_told(values[at], begin, end);
         }
         true

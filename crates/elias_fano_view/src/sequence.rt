@@ -15,11 +15,11 @@ mod items;
 
 use crate::bucket::{place_of, rank_each};
 use crate::checking::are_parts;
-use bitm_select::search::many::SIDE_BY_SIDE;
 use bitm_view::{Lent, WRONG_TABLES};
 use elias_fano::building::item_at_one;
 use elias_fano::{Answer, LowDigits, total_first_at_least_on, total_item_on};
 use std::marker::Model;
+use tuning::SELECTIONS_SIDE_BY_SIDE;
 
 /// Number `place` of `n`, from the code `one` of the position of its 1 bit. Reads the low bits of at most one number.
 #[inline(always)]
@@ -119,10 +119,10 @@ impl<'a> LentSequence<'a> {
         ensures told { AreAhead self.now.upper places.now at ((at + 16) / 16 * 16) ones.new }
         ensures room { length ones.new ≡ 16 }
     {
-        if at % SIDE_BY_SIDE != 0 {
+        if at % SELECTIONS_SIDE_BY_SIDE != 0 {
             return;
         }
-        let count = (places.len() - at).min(SIDE_BY_SIDE);
+        let count = (places.len() - at).min(SELECTIONS_SIDE_BY_SIDE);
         self.upper
             .select_list::<1>(&places[at..at + count], &mut ones[0..count]);
     }
@@ -137,10 +137,10 @@ impl<'a> LentSequence<'a> {
         ensures told { AreZerosAhead self.now less values.now at ((at + 16) / 16 * 16) zeros.new }
         ensures room { length zeros.new ≡ 16 }
     {
-        if at % SIDE_BY_SIDE != 0 {
+        if at % SELECTIONS_SIDE_BY_SIDE != 0 {
             return;
         }
-        let count = (values.len() - at).min(SIDE_BY_SIDE);
+        let count = (values.len() - at).min(SELECTIONS_SIDE_BY_SIDE);
         self.select_zeros(&values[at..at + count], less, &mut zeros[0..count]);
     }
 
@@ -168,7 +168,7 @@ impl<'a> LentSequence<'a> {
             → ZeroTold self.now less (slice_index values.now j) (slice_index zeros.new j) }
         ensures room { length zeros.new ≡ length values.now }
     {
-        let mut ranks = [0; SIDE_BY_SIDE];
+        let mut ranks = [0; SELECTIONS_SIDE_BY_SIDE];
         rank_each(values, self.width, less, &mut ranks);
         self.upper.select_list::<0>(&ranks[0..values.len()], zeros);
     }

@@ -10,9 +10,7 @@ use crate::hashing::KeyHash;
 use crate::placing::{Placing, no_reads};
 use crate::table::PerfectHash;
 use bitm::{Access, NO_ANSWER};
-
-/// This number of look-ups go side by side. Of fewer, the last levels would leave too few to wait together.
-const SIDE_BY_SIDE: usize = 256;
+use tuning::LOOK_UPS_SIDE_BY_SIDE;
 
 /// The position of the 1 bit that a hash falls on at this level; `NO_ANSWER` where it falls on none.
 #[inline(always)]
@@ -91,7 +89,7 @@ fn find_places<I: Access, P: Placing>(
         ≡ told (place_from (fall_in (P.fall placing.now) sizes.now (slice_index hashes.now k))
         (I.bits index.now) 0 0 sizes.now) }
 {
-    let mut waiting = [0; SIDE_BY_SIDE];
+    let mut waiting = [0; LOOK_UPS_SIDE_BY_SIDE];
     for k in 0..hashes.len() {
         places[k] = NO_ANSWER;
         waiting[k] = k;
@@ -156,7 +154,7 @@ impl<H, I: Access, P: Placing> PerfectHash<H, I, P> {
     {
         let mut from = 0;
         while from < hashes.len() {
-            let to = from + (hashes.len() - from).min(SIDE_BY_SIDE);
+            let to = from + (hashes.len() - from).min(LOOK_UPS_SIDE_BY_SIDE);
             self.number_block(&hashes[from..to], &mut numbers[from..to]);
             from = to;
         }
@@ -188,10 +186,10 @@ impl<H, I: Access, P: Placing> PerfectHash<H, I, P> {
         requires same_length { length numbers.old ≡ length keys.now }
         ensures { AreNumbersOfKeys (number_at P.fall H.hash self.now) keys.now numbers.new }
     {
-        let mut hashes = [0; SIDE_BY_SIDE];
+        let mut hashes = [0; LOOK_UPS_SIDE_BY_SIDE];
         let mut from = 0;
         while from < keys.len() {
-            let to = from + (keys.len() - from).min(SIDE_BY_SIDE);
+            let to = from + (keys.len() - from).min(LOOK_UPS_SIDE_BY_SIDE);
             self.hash_each(&keys[from..to], &mut hashes[..to - from]);
             self.number_block(&hashes[..to - from], &mut numbers[from..to]);
             from = to;

@@ -13,9 +13,7 @@ use crate::search::record::is_at_most;
 use bitm_tables::entry::{complement_entry, entries_of_part, ones_to_entry};
 use bitm_tables::levels::L2_ENTRIES_PER_L1_ENTRY;
 use bitm_tables::source::TableSource;
-
-/// Up to this number of entries a search is binary alone: the first caches hold them.
-const FEW: usize = 1 << 13;
+use tuning::FEW_ENTRIES;
 
 /// The number of halvings that are unrolled at the end of a search.
 const LAST: u32 = 8;
@@ -413,7 +411,7 @@ pub fn last_entry<const BIT: u8, T: TableSource>(
     ensures same { T.lists source.new ≡ T.lists source.old }
 {
     let entries = entries_of_part(source.lower_len(), part);
-    if entries <= FEW {
+    if entries <= FEW_ENTRIES {
         return last_of_few::<BIT, T>(source, part, entries, rank);
     }
     last_of_many::<BIT, T>(source, part, rank)

@@ -11,13 +11,14 @@ ghost use Rattle.bitm_tables.specs.Tables.{HasSizes, bits_in};
 ghost use Rattle.bitm_select.specs.Told.{wrong_for_absent, IfAbsent};
 
 use crate::search::entries::sought_entry;
-use crate::search::query::{Query, SIDE_BY_SIDE};
+use crate::search::query::Query;
 use crate::search::record::{among, is_at_most, record_of, select_in_word, sought_word};
 use crate::search::selected::told;
 use bitm_tables::answer::Answer;
 use bitm_tables::entry::ones_to_entry;
 use bitm_tables::levels::{U64_PER_L2_ENTRY, U64_PER_L2_RECORDS};
 use bitm_tables::source::TableSource;
+use tuning::SELECTIONS_SIDE_BY_SIDE;
 
 /// A query whose basic block is found. Contracts say of it `IsInRecord`.
 #[derive(Clone, Copy, PartialEq, Eq, Debug)]
@@ -249,7 +250,7 @@ fn finish_each<const BIT: u8, T: TableSource>(
 /// Writes the code of each answer, for queries whose entries are found.
 ///
 /// # Conditions
-/// There are at most `SIDE_BY_SIDE` ranks.
+/// There are at most `SELECTIONS_SIDE_BY_SIDE` ranks.
 /// # Cost
 /// For each rank, one lower entry and at most eight words are read.
 #[inline(always)]
@@ -268,7 +269,7 @@ pub fn tell_entries<const BIT: u8, T: TableSource>(
         0 (length ranks.now) (8 * length ranks.now) }
     ensures same { T.lists source.new ≡ T.lists source.old }
 {
-    let mut records = [NO_RECORD; SIDE_BY_SIDE];
+    let mut records = [NO_RECORD; SELECTIONS_SIDE_BY_SIDE];
     load_each::<BIT, T>(source, ranks, queries, &mut records);
     finish_each::<BIT, T>(source, ranks, &records, places);
 }

@@ -8,13 +8,10 @@ ghost use Rattle.bitm_tables.specs.Reads.{OnlyReads, ReadsAtMost};
 ghost use Rattle.bitm_tables.specs.Tables.{HasSizes, IsIndexed, bits_in};
 
 use crate::search::loaded::tell_entries;
-pub use crate::search::query::SIDE_BY_SIDE;
 use crate::search::query::{NO_QUERY, Query, find_by_halves};
-use crate::search::ranks::{FEWEST, tell_blocks, tell_each};
+use crate::search::ranks::{tell_blocks, tell_each};
 use bitm_tables::source::TableSource;
-
-/// Up to this number of words, 256 KiB, it takes longer to set up a group of ranks than to answer them one by one.
-const WORDS_NEAR: usize = 1 << 15;
+use tuning::{FEWEST_RANKS, SELECTIONS_SIDE_BY_SIDE, WORDS_NEAR};
 
 /// Writes for each index the number of 1 bits among that many first bits of the source's words, or `NO_ANSWER` exactly
 /// where there are fewer bits; of 0 bits where `BIT` is 0.
@@ -42,7 +39,7 @@ pub fn total_rank_many_on<const BIT: u8, T: TableSource>(
     // Two branches of the same text: the compiler gives few words a loop of their own.
     if source.words_len() <= WORDS_NEAR {
         tell_each::<BIT, T>(source, indices, ranks);
-    } else if indices.len() < FEWEST {
+    } else if indices.len() < FEWEST_RANKS {
         tell_each::<BIT, T>(source, indices, ranks);
     } else {
         tell_blocks::<BIT, T>(source, indices, ranks);
@@ -78,7 +75,7 @@ pub trait FindsEntries<const BIT: u8, T: TableSource> {
     ///
     /// # Conditions
     /// There is at least one word and there are fewer than 2^58, and the tables have the right lengths. There is at
-    /// least one rank and there are at most `SIDE_BY_SIDE`, which is the length of `queries`.
+    /// least one rank and there are at most `SELECTIONS_SIDE_BY_SIDE`, which is the length of `queries`.
     fn find(&self, source: &mut T, ranks: &[usize], queries: &mut [Query])
         requires sized { HasSizes (T.lists source.old) }
         requires part { 0 < length (T.lists source.old).upper }
@@ -105,7 +102,7 @@ impl<const BIT: u8, T: TableSource> FindsEntries<BIT, T> for ByTables {
     }
 }
 
-/// Selections of at least one rank and at most `SIDE_BY_SIDE`.
+/// Selections of at least one rank and at most `SELECTIONS_SIDE_BY_SIDE`.
 fn select_block<const BIT: u8, T: TableSource, F: FindsEntries<BIT, T>>(
     source: &mut T,
     finder: &F,
@@ -123,7 +120,7 @@ fn select_block<const BIT: u8, T: TableSource, F: FindsEntries<BIT, T>>(
         ((F.lowers + 1) * length ranks.now) (8 * length ranks.now) }
     ensures same { T.lists source.new ≡ T.lists source.old }
 {
-    let mut queries = [NO_QUERY; SIDE_BY_SIDE];
+    let mut queries = [NO_QUERY; SELECTIONS_SIDE_BY_SIDE];
     finder.find(source, ranks, &mut queries);
     tell_entries::<BIT, T>(source, ranks, &queries, places);
 }
@@ -152,7 +149,7 @@ pub fn tell_many_on<const BIT: u8, T: TableSource, F: FindsEntries<BIT, T>>(
 {
     let mut from = 0;
     while from < ranks.len() {
-        let to = from + (ranks.len() - from).min(SIDE_BY_SIDE);
+        let to = from + (ranks.len() - from).min(SELECTIONS_SIDE_BY_SIDE);
         select_block::<BIT, T, F>(source, finder, &ranks[from..to], &mut places[from..to]);
         from = to;
     }

@@ -12,12 +12,7 @@ use crate::search::selecting::part_of_rank;
 use bitm_tables::entry::ones_to_entry;
 use bitm_tables::levels::L2_ENTRIES_PER_L1_ENTRY;
 use bitm_tables::source::TableSource;
-
-/// The number of selections that run side by side: more than the cache misses that a processor has in flight at once.
-pub const SIDE_BY_SIDE: usize = 16;
-
-/// The fewest entries for which a guess pays; with fewer, binary search alone is as fast.
-const FEWEST_TO_GUESS: usize = 1 << 9;
+use tuning::{FEWEST_ENTRIES_TO_GUESS, SELECTIONS_SIDE_BY_SIDE};
 
 /// The most entries for which a guess is made; with more, a wrong guess and all halvings would read more entries than
 /// the contract allows.
@@ -249,7 +244,7 @@ fn guesses<T: TableSource>(source: &T) -> bool
         × (length (T.lists source.now).lower ≤ 2 ^ 18) }
 {
     let entries = source.lower_len();
-    source.upper_len() == 1 && entries >= FEWEST_TO_GUESS && entries <= MOST_TO_GUESS
+    source.upper_len() == 1 && entries >= FEWEST_ENTRIES_TO_GUESS && entries <= MOST_TO_GUESS
 }
 
 /// Finds the entries of queries that are near them. All entries that this reads exist, so it does without that test.
@@ -327,7 +322,7 @@ pub fn find_by_halves<const BIT: u8, T: TableSource>(
         (21 * length ranks.now) 0 }
     ensures same { T.lists source.new ≡ T.lists source.old }
 {
-    let mut begun = [NO_QUERY; SIDE_BY_SIDE];
+    let mut begun = [NO_QUERY; SELECTIONS_SIDE_BY_SIDE];
     begin_each::<BIT, T>(source, ranks, &mut begun);
     if guesses(source) && guess_each::<BIT, T>(source, ranks, &begun, queries) {
         close_each::<BIT, T>(source, ranks, queries);

@@ -13,18 +13,13 @@ use bitm_tables::levels::{BITS_PER_L2_ENTRY, U64_PER_L2_ENTRY, U64_PER_L2_RECORD
 use bitm_tables::ranking::{halved_ones, ones_of_word, ones_to_part, total_rank_on};
 use bitm_tables::source::TableSource;
 use broadword::ones_through;
+use tuning::RANKS_SIDE_BY_SIDE;
 
 /// Bits of one basic block.
 const RECORD_BITS: usize = 64 * U64_PER_L2_RECORDS;
 
 /// Basic blocks of one lower entry.
 const RECORDS_PER_L2_ENTRY: usize = U64_PER_L2_ENTRY / U64_PER_L2_RECORDS;
-
-/// The number of ranks that run side by side: more than the cache misses that a processor has in flight at once.
-const BLOCK: usize = 32;
-
-/// The fewest ranks that run side by side: with fewer, setting up a group costs more than it saves.
-pub(crate) const FEWEST: usize = 16;
 
 /// A rank under way: an entry and two words, of which one starts the basic block of the last bit that counts and one
 /// has that bit. A basic block may lie across two cache lines, so both words are read. Contracts say of it `IsBegun`.
@@ -249,10 +244,10 @@ pub(crate) fn tell_blocks<const BIT: u8, T: TableSource>(
     ensures reads { OnlyReads T.lists T.reads source.old source.new
         (length indices.now) (length indices.now) (8 * length indices.now) }
 {
-    let mut begun = [NOT_BEGUN; BLOCK];
+    let mut begun = [NOT_BEGUN; RANKS_SIDE_BY_SIDE];
     let mut from = 0;
     while from < indices.len() {
-        let to = from + (indices.len() - from).min(BLOCK);
+        let to = from + (indices.len() - from).min(RANKS_SIDE_BY_SIDE);
         tell_block::<BIT, T>(source, &indices[from..to], &mut begun, &mut ranks[from..to]);
         from = to;
     }

@@ -16,9 +16,9 @@ ghost use Rattle.bitm_select.specs.Told.{EntryTellsNone, IfAbsent};
 use bitm_tables::answer::Answer;
 use bitm_tables::entry::{ones_to_entry, ones_to_record};
 use bitm_tables::levels::{L2_ENTRIES_PER_L1_ENTRY, U64_PER_L2_ENTRY, U64_PER_L2_RECORDS};
-use bitm_tables::ranking::WORDS_IN_CACHE;
 use bitm_tables::source::TableSource;
 use broadword::select64;
+use tuning::WORDS_IN_CACHE;
 
 /// Stands for the number of bits of the kind before the next entry, where that entry was not read.
 pub const NOT_READ: usize = 1 << 62;

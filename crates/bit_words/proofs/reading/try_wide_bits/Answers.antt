@@ -13,6 +13,6 @@ lowest words s n (Some wide) small h =
     let room = reach_of_room words s n h.0 small in
     (h.0, ap (λ x. bit_and x (2 ^ n - 1)) h.1 ∙ number_at_masked words s (reach_of s n) n room.0 h.0.1)
 
-pub returns-then-words-gt-NEAR_WORDS : goal.returns-then-words-gt-NEAR_WORDS
-returns-then-words-gt-NEAR_WORDS c =
+pub returns-then-words-gt-WORDS_READ_IN_PAIRS : goal.returns-then-words-gt-WORDS_READ_IN_PAIRS
+returns-then-words-gt-WORDS_READ_IN_PAIRS c =
     lowest c.args.words.now c.args.begin c.args.len c.try_get_bits_unmasked.result c.requires c.try_get_bits_unmasked.ensures

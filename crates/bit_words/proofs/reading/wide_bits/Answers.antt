@@ -4,8 +4,8 @@ use Rattle.bit_lists.specs.Window.{reach_of}
 use Rattle.bit_lists.proofs.lemmas.ReadLemmas.{number_at_masked, reach_of_room}
 use Rattle.bit_words.proofs.reading.wide_bits.Goals as goal
 
-pub returns-then-words-gt-NEAR_WORDS : goal.returns-then-words-gt-NEAR_WORDS
-returns-then-words-gt-NEAR_WORDS c =
+pub returns-then-words-gt-WORDS_READ_IN_PAIRS : goal.returns-then-words-gt-WORDS_READ_IN_PAIRS
+returns-then-words-gt-WORDS_READ_IN_PAIRS c =
     let words = c.args.words.now in
     let s = c.args.begin in
     let n = c.args.len in
