@@ -2,7 +2,7 @@
 use Rattle.std.proofs.Common.{◌≡◌, ℕ, ◌+◌, ◌<◌, ◌≤◌, List, length, get_or, sum_by, ap, ◌∙◌, arith}
 use Rattle.std.proofs.lemmas.List.{take_all}
 use Rattle.std.proofs.lemmas.List.FromFn.{get_or-map-range_with_len, length-map-range_with_len}
-use Rattle.bitm_block.specs.Header.{begin_in, count_in, entry_in, finish_in, sections_in, IsDirectory}
+use Rattle.bitm_block.specs.Header.{begin_in, count_in, entry_in, sections_in, IsDirectory}
 use Rattle.bitm_block.specs.Layout.{end_of, head_of, room_of}
 use Rattle.bitm_block.specs.declared.layout.Section.{Section}
 use Rattle.bitm_block.proofs.LayoutLemmas.{begin_more, begins_inside}
@@ -20,10 +20,6 @@ pub begin_next : (b : List ℕ) (i : ℕ) → i < count_in b → begin_in b (i +
 begin_next b i less =
     begin_more (sections_in b) i (entry_in b i) (omega (arith, less, sections_len b))
     ∙ ap (λ s. begin_in b i + room_of s) (section_at b i (entry_in b i) less)
-
--- and this one ends before
-pub finish_before : (b : List ℕ) (i : ℕ) → i < count_in b → finish_in b i ≤ begin_in b (i + 1)
-finish_before b i less = omega (arith, begin_next b i less)
 
 -- the first section begins after the directory
 pub begin_first : (b : List ℕ) → begin_in b 0 ≡ head_of (count_in b)

@@ -12,9 +12,6 @@ begin_more ss i d less = omega (arith, sum_by_more room_of ss i d less)
 pub words_fit : (s : Section) → words_of s ≤ room_of s
 words_fit s = omega arith
 
--- a section ends before the next one begins, and that within the block
-pub ends_before : (ss : List Section) (i : ℕ) (d : Section) → i < length ss → begin_of ss i + words_of (get_or ss i d) ≤ begin_of ss (i + 1)
-ends_before ss i d less = omega (arith, begin_more ss i d less, words_fit (get_or ss i d))
-
+-- a section begins within the block
 pub begins_inside : (ss : List Section) (i : ℕ) → begin_of ss i ≤ end_of ss
 begins_inside ss i = omega (arith, sum_by-take-le room_of ss i)

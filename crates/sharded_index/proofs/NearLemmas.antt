@@ -1,17 +1,14 @@
 -- The bit that a rank selects is the nearest of its kind.
-use Rattle.std.proofs.Common.{◌≡◌, ℕ, ◌+◌, ◌-◌, ◌<◌, ◌≤◌, Bool, true, false, not, List, length, min, refl, subst, sym, arith, ⊎_elim}
-use Rattle.std.proofs.lemmas.Bool.{cases_lt}
+use Rattle.std.proofs.Common.{◌≡◌, ℕ, ◌+◌, ◌-◌, ◌<◌, ◌≤◌, Bool, true, false, not, List, length, min, refl, subst, sym, arith}
 use Rattle.bit_lists.proofs.lemmas.CountLemmas.{count_before-le, ones_before-add-zeros_before}
 use Rattle.bit_lists.proofs.lemmas.PickLemmas.{rank_below, Picks-rank, IsFirstFrom-Picks, IsLastTo-Picks, none_to}
 use Rattle.bit_lists.specs.Bits.{item}
 use Rattle.bit_lists.specs.Count.{count_before, count_of, Picks}
 use Rattle.bitm_tables.specs.declared.answer.Answer.{Answer}
 use Rattle.bitm_tables.specs.declared.answer.Answer.TheVariants.{Found, Absent, Wrong}
-use Rattle.bitm_select.specs.Answers.{IsFoundFrom, IsSelected}
+use Rattle.bitm_select.specs.Answers.{IsSelected}
 use Rattle.bitm_view.specs.Queries.{IsNext, IsPrevious}
-use Rattle.sharded_index.specs.Prefixes.{claimed_in_all, Prefixes}
-use Rattle.sharded_index.specs.Shards.{IfFoundHasBit, IsKeptBefore, IsKeptFrom}
-use Rattle.sharded_index.specs.declared.counts.Kind.TheVariants.{Positions}
+use Rattle.sharded_index.specs.Shards.{IsKeptBefore, IsKeptFrom}
 
 -- a bit that is not v
 not_v : (v x : Bool) → ¬ (x ≡ v) → x ≡ not v
@@ -40,10 +37,6 @@ next_of b v from r Absent answer e none kept =
     subst (IsNext b v from) (sym kept) (λ p after inside. none_after b v from p (omega (arith, none, e)) after inside)
 next_of b v from r Wrong answer e wrong kept = absurd wrong
 
--- no position is from the end on
-pub next_past : (b : List Bool) (v : Bool) (from : ℕ) → length b ≤ from → IsNext b v from Absent
-next_past b v from past = λ p after inside. absurd (omega (arith, past, after, inside))
-
 module _ (b : List Bool) (v : Bool) (from end : ℕ) (ends : end ≡ min (from + 1) (length b)) where
   -- none stand before the end
   pub previous_none : 0 ≡ count_before b v end → IsPrevious b v from Absent
@@ -66,31 +59,3 @@ module _ (b : List Bool) (v : Bool) (from end : ℕ) (ends : end ≡ min (from +
   previous_of r Absent answer e none kept =
       absurd (omega (arith, none, e, count_before-le b v end (length b) (omega (arith, ends))))
   previous_of r Wrong answer e wrong kept = absurd wrong
-
-module _ (v : Bool) (bs : List (List Bool)) (c : Prefixes) where
-  -- what is kept has the bit
-  pub kept_from_bit : (from : ℕ) (selected answer : Answer ℕ) → IfFoundHasBit v bs c selected → IsKeptFrom from selected answer
-      → IfFoundHasBit v bs c answer × IsFoundFrom from (claimed_in_all Positions c) answer
-  kept_from_bit from (Found p) answer bit kept =
-      let P : Answer ℕ → Type 0 = λ a. IfFoundHasBit v bs c a × IsFoundFrom from (claimed_in_all Positions c) a in
-      ⊎_elim
-      (λ (early : p < from). subst P (sym (kept.1 early)) (tt, tt))
-      (λ (after : from ≤ p). subst P (sym (kept.0 after)) (bit, (after, bit.before_end)))
-      (cases_lt p from)
-  kept_from_bit from Absent answer bit kept =
-      subst (λ (a : Answer ℕ). IfFoundHasBit v bs c a × IsFoundFrom from (claimed_in_all Positions c) a) (sym kept) (tt, tt)
-  kept_from_bit from Wrong answer bit kept =
-      subst (λ (a : Answer ℕ). IfFoundHasBit v bs c a × IsFoundFrom from (claimed_in_all Positions c) a) (sym kept) (tt, tt)
-
-  pub kept_before_bit : (from end : ℕ) (selected answer : Answer ℕ) → end ≤ from + 1 → IfFoundHasBit v bs c selected → IsKeptBefore end selected answer
-      → IfFoundHasBit v bs c answer × IsFoundFrom 0 (from + 1) answer
-  kept_before_bit from end (Found p) answer most bit kept =
-      let P : Answer ℕ → Type 0 = λ a. IfFoundHasBit v bs c a × IsFoundFrom 0 (from + 1) a in
-      ⊎_elim
-      (λ (early : p < end). subst P (sym (kept.0 early)) (bit, (omega arith, omega (arith, early, most))))
-      (λ (after : end ≤ p). subst P (sym (kept.1 after)) (tt, tt))
-      (cases_lt p end)
-  kept_before_bit from end Absent answer most bit kept =
-      subst (λ (a : Answer ℕ). IfFoundHasBit v bs c a × IsFoundFrom 0 (from + 1) a) (sym kept) (tt, tt)
-  kept_before_bit from end Wrong answer most bit kept =
-      subst (λ (a : Answer ℕ). IfFoundHasBit v bs c a × IsFoundFrom 0 (from + 1) a) (sym kept) (tt, tt)

@@ -6,14 +6,13 @@ use Rattle.bit_lists.proofs.lemmas.CountLemmas.{ones_before-add-zeros_before}
 use Rattle.bit_lists.specs.Count.{count_before, count_of, Picks}
 use Rattle.bitm_tables.specs.declared.answer.Answer.{Answer}
 use Rattle.bitm_tables.specs.declared.answer.Answer.TheVariants.{Found, Wrong}
-use Rattle.bitm_select.specs.Answers.{HasBit, IsSelected}
+use Rattle.bitm_select.specs.Answers.{IsSelected}
 use Rattle.bitm_view.specs.Ranks.{IsCountWithin, IsRanked}
 use Rattle.sharded_index.proofs.JoinedLaws.{picked_in_joined, rank_in_joined}
 use Rattle.sharded_index.proofs.JoinedLemmas.{shard_is_within}
 use Rattle.sharded_index.proofs.PlaceLemmas.{claimed_is, number_of-kind, placed}
 use Rattle.sharded_index.specs.Joined.{joined, joined_to, kind_of, shard_at}
-use Rattle.sharded_index.specs.Prefixes.{claimed, claimed_in_all, ArePrefixes, IsClaimed, Prefixes}
-use Rattle.sharded_index.specs.Shards.{HasBitAt, IfFoundHasBit, IsOfRank}
+use Rattle.sharded_index.specs.Prefixes.{claimed, ArePrefixes, IsClaimed, Prefixes}
 use Rattle.sharded_index.specs.declared.counts.Kind.TheVariants.{Positions}
 use Rattle.sharded_index.specs.declared.counts.Place.{Place}
 
@@ -45,37 +44,6 @@ ranked b v index n None r l e s fits h = absurd (s (omega (arith, few b v index 
 ranked b v index n (Some m) r l e s fits h =
     let most : m ≤ index = omega (arith, few b v index l, e, s.1) in
     subst (IsRanked b v index) (sym (h.0 most)) (l, s.1 ∙ sym e)
-
--- a position that is found is one of the claimed bits
-pub has_bit : (v : Bool) (bs : List (List Bool)) (c : Prefixes) (place : Place) (q end : ℕ) (sum : Option ℕ) (r : Answer ℕ)
-    → HasBit (shard_at bs place.shard) v (Found q) → end ≡ claimed_in_all Positions c
-    → SomeIff sum (claimed Positions c place.shard + q < 2 ^ 64) (claimed Positions c place.shard + q) → IsBelow end sum r
-    → IfFoundHasBit v bs c r
-has_bit v bs c place q end None r bit total s h = subst (IfFoundHasBit v bs c) (sym h) tt
-has_bit v bs c place q end (Some n) r bit total s h =
-    ⊎_elim
-    (λ (less : n < end).
-    let found : HasBitAt v bs c n =
-    record {
-      shard = place.shard;
-      within = q;
-      is = s.1;
-      before_end = omega (arith, less, total);
-      inside = bit.0;
-      bit = bit.1;
-    } in
-    subst (IfFoundHasBit v bs c) (sym (h.0 less)) found)
-    (λ (least : end ≤ n). subst (IfFoundHasBit v bs c) (sym (h.1 least)) tt)
-    (cases_lt n end)
-
--- and of a rank that there is
-pub of_rank : (total rank end : ℕ) (sum : Option ℕ) (r : Answer ℕ) → rank < total → IsBelow end sum r → IsOfRank total rank r
-of_rank total rank end None r l h = subst (IsOfRank total rank) (sym h) l
-of_rank total rank end (Some n) r l h =
-    ⊎_elim
-    (λ (less : n < end). subst (IsOfRank total rank) (sym (h.0 less)) l)
-    (λ (least : end ≤ n). subst (IsOfRank total rank) (sym (h.1 least)) l)
-    (cases_lt n end)
 
 -- a sum that is the position is answered
 pub selected : (b : List Bool) (v : Bool) (rank p end : ℕ) (sum : Option ℕ) (r : Answer ℕ) → Picks b v rank p → end ≡ length b

@@ -94,12 +94,6 @@ module _ (words : List ℕ) (fit : (k : ℕ) → get_or words k 0 < 2 ^ 64) wher
       ∙ ap₂ (λ a v. a + count_ones v) (ones_before-bits_of_front q (omega arith)) whole
       ∙ sym (ap (λ k. sum_by count_ones (take k words)) step ∙ sum_by_more count_ones words q 0 (omega arith))
 
-  -- the ones before digit j of word q
-  pub ones_before-bits_of : (q j : ℕ) → q < length words → j ≤ 64
-      → ones_before (bits_of words) (64 * q + j) ≡ sum_by count_ones (take q words) + count_ones (get_or words q 0 % 2 ^ j)
-  ones_before-bits_of q j within l =
-      ones_before-bits_of_in_word words q within j l ∙ ap (λ a. a + count_ones (get_or words q 0 % 2 ^ j)) (ones_before-bits_of_front q (omega arith))
-
   pub ones_of-bits_of : ones_of (bits_of words) ≡ sum_by count_ones words
   ones_of-bits_of =
       ap (ones_before (bits_of words)) (length-bits_of words)

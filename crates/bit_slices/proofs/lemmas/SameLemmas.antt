@@ -26,10 +26,7 @@ same_numbers a b s t n in_a in_b same =
     same_from_bits_below n (number_at a s n) (number_at b t n) (number_at-lt a s n in_a) (number_at-lt b t n in_b)
     (λ k l. bit_at-number_at a s n k l ∙ ap truth (same k l) ∙ sym (bit_at-number_at b t n k l))
 
--- no bits are the same, and so are more of them
-pub same_none : (a b : List Bool) (s t n : ℕ) → n ≡ 0 → AreSame a s b t n
-same_none a b s t n none i l = absurd (omega arith)
-
+-- bits that are the same, and others after them
 pub same_more : (a b : List Bool) (s t n s' t' w : ℕ) → s' ≡ s + n → t' ≡ t + n → AreSame a s b t n → AreSame a s' b t' w
     → AreSame a s b t (n + w)
 same_more a b s t n s' t' w es et first next i l =

@@ -1,6 +1,6 @@
 -- The places of a range, word by word: which digits of a word they are, and items that are combined
 -- there and kept beside.
-use Rattle.std.proofs.Common.{◌≡◌, ◌≢◌, ℕ, zero, suc, ◌+◌, ◌-◌, ◌*◌, ◌/◌, ◌%◌, ◌^◌, ◌<◌, ◌≤◌, ◌⊎◌, Bool, true, false, not, ◌&&◌, ◌||◌, List, length, get_or, min, refl, sym, ap, ◌∙◌, inl, inr, arith, eqb, ltb, bit_and, set, length-set, get_or-set_same, get_or-set_other, ⊎_elim}
+use Rattle.std.proofs.Common.{◌≡◌, ◌≢◌, ℕ, zero, suc, ◌+◌, ◌-◌, ◌*◌, ◌/◌, ◌%◌, ◌^◌, ◌<◌, ◌≤◌, ◌⊎◌, Bool, true, false, not, ◌&&◌, List, length, get_or, min, refl, sym, ap, ◌∙◌, inl, inr, arith, eqb, ltb, bit_and, set, length-set, get_or-set_same, get_or-set_other, ⊎_elim}
 use Rattle.std.proofs.lemmas.Bool.{cases_lt, le-leb, lt-leb, lt-ltb, le-ltb}
 use Rattle.std.proofs.lemmas.List.{get_or_past}
 use Rattle.std.proofs.Math.Pow.{pow_mono}
@@ -66,15 +66,6 @@ combined-outside (suc zero) false some = refl
 combined-outside (suc (suc zero)) x some = refl
 combined-outside (suc (suc (suc op))) true some = refl
 combined-outside (suc (suc (suc op))) false some = refl
-
--- true by the one operation, false by the other
-pub or-true : (x : Bool) → (x || true) ≡ true
-or-true true = refl
-or-true false = refl
-
-pub and_not-true : (x : Bool) → (x && not true) ≡ false
-and_not-true true = refl
-and_not-true false = refl
 
 -- words of which those before word k are combined where the range is, and the others as they were
 pub record AreRanged (op from to : ℕ) (old new : List ℕ) (k : ℕ) : Type 0 where

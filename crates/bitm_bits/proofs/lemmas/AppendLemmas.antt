@@ -55,14 +55,7 @@ pub taken_before : (words more : List ℕ) (n : ℕ) → n ≤ 64 * length words
 taken_before words more n l =
     ap (take n) (bits_of-append words more) ∙ take-append-le n (bits_of words) (bits_of more) (omega (arith, length-bits_of words))
 
--- words have room as they are, or with a word of zeros behind
-pub had_room : (words : List ℕ) (n count : ℕ) → AreFilledTo words n → div_ceil (n + count) 64 ≤ length words → HasRoom words words n count
-had_room words n count filled enough = record {
-  len = omega (arith, filled.0, enough);
-  kept = refl;
-  zeros = filled.1;
-}
-
+-- words have room with a word of zeros after them
 pub room_made : (words : List ℕ) (n count : ℕ) → AreFilledTo words n → count ≤ 64 → length words < div_ceil (n + count) 64
     → HasRoom words (words ++ 0 ∷ []) n count
 room_made words n count filled small few = record {

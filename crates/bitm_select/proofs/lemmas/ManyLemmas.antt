@@ -15,7 +15,7 @@ use Rattle.bitm_select.specs.Told.{wrong_for_absent, IfAbsent, TellsNone}
 use Rattle.bitm_select.specs.declared.search.loaded.InRecord.{InRecord}
 use Rattle.bitm_tables.specs.declared.answer.Answer.{Answer}
 use Rattle.bitm_select.proofs.lemmas.MarkLemmas.{none_in_nothing}
-use Rattle.bitm_tables.proofs.lemmas.LengthLemmas.{few_entries, first_of_part, sizes_of}
+use Rattle.bitm_tables.proofs.lemmas.LengthLemmas.{first_of_part, sizes_of}
 use Rattle.bitm_select.proofs.lemmas.SelectedLemmas.{bit_kept, has_bit, never_absent, selected, told_is}
 use Rattle.bitm_select.proofs.lemmas.ToldLemmas.{record_none}
 use Rattle.bitm_select.proofs.lemmas.SoughtLemmas.{first_none, next_is, rank_is}
@@ -154,12 +154,6 @@ near_found bit lists rank rest part low is last =
       next = last.next;
       room = omega (arith, last.inside);
     }
-
--- the entry that the search ends at is one of few
-pub near_few : (bit : ℕ) (lists : Lists) (rank rest at : ℕ) → HasTables lists → IsShort lists.words → IsNear bit lists rank rest at 0
-    → at * 32 + 32 < 2 ^ 60
-near_few bit lists rank rest at t short near =
-    omega (arith, near.place, near.inside, few_entries lists (sizes_of lists t short))
 
 -- a search of fewer entries from its own on stays in its part
 pub part_stays : (v : Bool) (lists : Lists) (rank rest at i j : ℕ) → i ≤ j → IsInPart v lists rank (record { rest = rest; entry = at }) j

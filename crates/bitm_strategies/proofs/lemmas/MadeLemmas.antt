@@ -74,9 +74,6 @@ module _ (b : List Bool) (upper lower : List ℕ) (total len : ℕ) (t : Summari
           ≤ ones_before b (k * 2 ^ 32) + (min (length b) ((k + 1) * 2 ^ 32) - k * 2 ^ 32))
       between = ones_before-between b (k * 2 ^ 32) (min (length b) ((k + 1) * 2 ^ 32)) (omega (arith, begins))
 
-      pub before_end : slice_index upper k ≤ end
-      before_end = omega (arith, is, t'.upper_is k inside, between.0)
-
       pub ones_in : end - slice_index upper k ≡ count_of (part_of b k) true
       ones_in =
           let all = count_of-part_of true b k (min (length b) ((k + 1) * 2 ^ 32)) (omega (arith, begins)) (omega arith) in

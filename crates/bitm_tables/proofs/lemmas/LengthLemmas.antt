@@ -27,9 +27,6 @@ first_of_part l s part h = omega (arith, s.lower_len, first_entry (length l.word
 begun : (n at : ℕ) → at < div_ceil n 32 → 32 * at < n
 begun n at h = grind arith
 
-pub entry_within : (l : Lists) → HasSizes l → (at : ℕ) → at < length l.lower → 32 * at < length l.words
-entry_within l s at h = begun (length l.words) at (omega (arith, h, s.lower_len))
-
 -- so many lower entries have few words
 few : (n : ℕ) → n < 2 ^ 58 → div_ceil n 32 * 32 + 32 < 2 ^ 60
 few n h = grind arith

@@ -1,8 +1,7 @@
 -- The numbers of records: the table as it is made, and the ones that it and two words count.
-use Rattle.std.proofs.Common.{◌≡◌, ℕ, zero, suc, ◌+◌, ◌-◌, ◌*◌, ◌/◌, ◌%◌, ◌^◌, ◌<◌, ◌≤◌, Bool, List, ◌++◌, ◌∷◌, [], length, slice_index, get_or, count_ones, ⊎_elim, arith, ap, ◌∙◌, subst, refl}
+use Rattle.std.proofs.Common.{◌≡◌, ℕ, zero, suc, ◌+◌, ◌-◌, ◌*◌, ◌/◌, ◌%◌, ◌^◌, ◌<◌, ◌≤◌, Bool, List, length, slice_index, count_ones, ⊎_elim, arith, ap, ◌∙◌, subst, refl}
 use Rattle.std.specs.Int.{div_ceil}
 use Rattle.std.proofs.lemmas.Bool.{cases_lt}
-use Rattle.std.proofs.lemmas.List.{get_or_append_left, get_or_push}
 use Rattle.bit_lists.proofs.lemmas.BitsLemmas.{length-bits_of}
 use Rattle.bit_lists.specs.Bits.{bits_of}
 use Rattle.bit_lists.specs.Count.{ones_before}
@@ -21,24 +20,6 @@ Counts b r q e = ones_before b (r / 2 ^ 23 * 2 ^ 32) + record_count e + quarter_
 -- the first n numbers count the quarters of their records
 abbrev pub CountTo : List Bool → List ℕ → ℕ → Type 0
 CountTo b xs n = (r q : ℕ) → r < n → q < 4 → 512 * r + 128 * q < length b → Counts b r q (slice_index xs r)
-
--- and one more does
-pub push_counts : (b : List Bool) (xs : List ℕ) (x n : ℕ) → length xs ≡ n → CountTo b xs n
-    → ((q : ℕ) → q < 4 → 512 * n + 128 * q < length b → Counts b n q x)
-    → CountTo b (xs ++ x ∷ []) (n + 1)
-push_counts b xs x n len so_far next r q less quarter begun =
-    ⊎_elim
-    (λ before.
-    ap (λ (e : ℕ). ones_before b (r / 2 ^ 23 * 2 ^ 32) + record_count e + quarter_count e q)
-    (get_or_append_left xs (x ∷ []) 0 r (omega (arith, before, len)))
-    ∙ so_far r q before quarter begun)
-    (λ last.
-    let same : n ≡ r = omega (arith, last, less) in
-    let P : ℕ → Type 0 = λ k. Counts b k q (get_or (xs ++ x ∷ []) k 0) in
-    subst P same
-    (ap (λ (e : ℕ). ones_before b (n / 2 ^ 23 * 2 ^ 32) + record_count e + quarter_count e q) (get_or_push xs x 0 n len)
-    ∙ next q quarter (omega (arith, begun, same))))
-    (cases_lt r n)
 
 -- a number of its parts: the ones before the record, and those of three quarters
 pub number_counts : (b : List Bool) (r before x y z : ℕ) → before < 2 ^ 32 → x ≤ 128 → y ≤ 128 → z ≤ 128

@@ -1,5 +1,5 @@
 -- The ones of the numbers that an iterator has left: the first and the last of them, and what a step leaves.
-use Rattle.std.proofs.Common.{◌≡◌, ◌≢◌, ℕ, suc, ◌+◌, ◌-◌, ◌*◌, ◌<◌, ◌≤◌, true, cond, List, [], ◌∷◌, ◌++◌, length, get_or, take, drop, sym, refl, ap, ap₂, ◌∙◌, ⊎_elim, arith, subst, length-take, length-drop, take_all}
+use Rattle.std.proofs.Common.{◌≡◌, ◌≢◌, ℕ, suc, ◌+◌, ◌-◌, ◌*◌, ◌<◌, ◌≤◌, true, cond, List, [], ◌∷◌, ◌++◌, length, get_or, take, drop, sym, refl, ap, ap₂, ◌∙◌, ⊎_elim, arith, subst, length-drop, take_all}
 use Rattle.std.proofs.Math.Seq.{drop-cons, take-add}
 use Rattle.std.proofs.lemmas.Bool.{cases_lt, false≢true}
 use Rattle.std.proofs.lemmas.List.{get_or-drop}
@@ -42,10 +42,6 @@ items_left-last xs start end some within =
     ∙ ap (λ ys. take m rest ++ take 1 ys) (drop-cons rest m 0 inside)
     ∙ ap (λ x. take m rest ++ x ∷ []) (get_or-drop start xs m 0 ∙ ap (λ k. get_or xs k 0) at)
 
-pub length-items_left : (xs : List ℕ) (start end : ℕ) → start ≤ end → end ≤ length xs → length (items_left xs start end) ≡ end - start
-length-items_left xs start end order within =
-    omega (arith, length-take (end - start) (drop start xs), length-drop start xs)
-
 -- ---- ones
 
 module _ (xs : List ℕ) (l : ℕ) (upper : List ℕ) (h : IsUpper xs l upper) where
@@ -83,9 +79,6 @@ module _ (xs : List ℕ) (n l : ℕ) (low upper : List ℕ) (start end limit : �
   -- the first of the ones is that of the first item left, and the others are those of the items after it
   pub first-ones : ones ≡ upper_place xs l start ∷ drop (start + 1) (upper_places xs l n)
   first-ones = h.ones ∙ places_from xs l n start (omega (arith, h.within))
-
-  pub some-first : ones ≢ []
-  some-first none = let e = ap length (sym first-ones ∙ none) in absurd (omega (arith, e))
 
   first-is : (p : ℕ) (rest : List ℕ) → ones ≡ p ∷ rest → p ≡ upper_place xs l start
   first-is p rest found = ap (λ ps. get_or ps 0 0) (sym found ∙ first-ones)

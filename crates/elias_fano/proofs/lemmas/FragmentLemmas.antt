@@ -1,5 +1,5 @@
 -- How many fragments of low digits are read: a search among those of a bucket reads no more than its size has digits.
-use Rattle.std.proofs.Common.{◌≡◌, ℕ, zero, suc, ◌+◌, ◌-◌, ◌*◌, ◌/◌, ◌^◌, ◌<◌, ◌≤◌, cond, eqb, Bool, true, List, [], ◌∷◌, length, get_or, refl, ap, sym, ◌∙◌, subst, arith}
+use Rattle.std.proofs.Common.{◌≡◌, ℕ, zero, suc, ◌+◌, ◌-◌, ◌*◌, ◌/◌, ◌^◌, ◌<◌, ◌≤◌, cond, eqb, Bool, true, List, [], ◌∷◌, length, get_or, ap, sym, ◌∙◌, subst, arith}
 use Rattle.std.proofs.lemmas.Bool.{eq-eqb}
 use Rattle.std.proofs.lemmas.List.Sums.{sum_by-cons}
 use Rattle.std.specs.List.{count_by}
@@ -9,8 +9,6 @@ use Rattle.bitm.specs.Tables.{Lists}
 use Rattle.elias_fano.specs.Buckets.{CountsTo, CountsBelow}
 use Rattle.elias_fano.specs.LentParts.{parts_of, parts_with, Holds}
 use Rattle.elias_fano.specs.Low.{fragment, joined_item, sharing, Lows, ReadsFragments}
-use Rattle.elias_fano.specs.Parts.{width_of, ArePartsOf, IsLow, IsUpper}
-use Rattle.elias_fano.specs.Sequence.{IsSequence}
 
 -- the same digits have the same fragments, and make the same items
 pub fragment-same : (old new : Lows) (k : ℕ) → new.words ≡ old.words → new.width ≡ old.width → fragment new k ≡ fragment old k
@@ -71,10 +69,3 @@ holds-kept xs n old new early late many reads same h =
     let W : ℕ → Type 0 = λ w. Holds xs (parts_of n w old.words late) in
     let L : List ℕ → Type 0 = λ words. Holds xs (parts_of n new.width words late) in
     subst L (sym reads.words) (subst W (sym reads.width) (subst U (sym same) h))
-
--- what a sequence shows of itself are its parts
-pub are-own : (xs : List ℕ) (n : ℕ) (low : Lows) (upper : List ℕ) → IsSequence xs → n ≡ length xs → low.width ≡ width_of xs
-    → IsLow xs (width_of xs) low.words → IsUpper xs (width_of xs) upper → ArePartsOf xs n low.width low.words upper
-are-own xs n low upper sequence count width low_is upper_is =
-    let P : ℕ → Type 0 = λ l. ArePartsOf xs n l low.words upper in
-    subst P (sym width) record { sequence = sequence; count = count; width = refl; low_is = low_is; upper_is = upper_is }

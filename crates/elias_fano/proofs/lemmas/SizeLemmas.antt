@@ -72,10 +72,3 @@ pub width-small : (xs : List ℕ) → All (λ x. x < 2 ^ 64) xs → width_of xs 
 width-small xs small =
     let quotient : largest xs / length xs < 2 ^ 64 = omega (arith, largest-small xs small, div-le_self (largest xs) (length xs)) in
     omega (arith, (digits_bound_powers (largest xs / length xs) 64).1 quotient)
-
--- no items have no low digits
-pub width-none : (xs : List ℕ) → length xs ≡ 0 → width_of xs ≡ 0
-width-none [] none =
-    let q : largest [] / 0 ≡ 0 = omega (arith, div-le_self 0 0) in
-    omega (arith, ap digit_count q, (digits_bound_powers 0 0).1 (let e : 0 < 2 ^ 0 = omega arith in e))
-width-none (x ∷ xs) none = absurd (omega arith)

@@ -12,14 +12,6 @@ pub record Parting (lows : ℕ → ℕ) (first end rest from left : ℕ) : Type 
   pub less : (j : ℕ) → first ≤ j → j < from → lows j < rest
   pub at_least : (j : ℕ) → from + left ≤ j → j < end → rest ≤ lows j
 
-pub Parting-whole : (lows : ℕ → ℕ) (first end rest : ℕ) → first ≤ end → Parting lows first end rest first (end - first)
-Parting-whole lows first end rest order = record {
-  begin = omega arith;
-  bound = omega arith;
-  less = λ j from before. absurd (omega arith);
-  at_least = λ j from before. absurd (omega arith);
-}
-
 -- one test more, of any place among those that are left
 module _ (lows : ℕ → ℕ) (first end rest from left : ℕ) (rising : (i j : ℕ) → first ≤ i → i ≤ j → j < end → lows i ≤ lows j)
     (h : Parting lows first end rest from left) (tested : ℕ) (inside : tested < left) where
@@ -38,25 +30,6 @@ module _ (lows : ℕ → ℕ) (first end rest from left : ℕ) (rising : (i j : 
     less = h.less;
     at_least = λ j at before. omega (arith, reaches, rising (from + tested) j (omega (arith, h.begin)) at before);
   }
-
--- where nothing is left, the place is found
-pub Splits-end : (lows : ℕ → ℕ) (first end rest from left : ℕ) → Parting lows first end rest from left → left ≤ 0
-    → Splits lows first end rest from
-Splits-end lows first end rest from left h none = record {
-  from = h.begin;
-  to = omega (arith, h.bound);
-  less = h.less;
-  at_least = λ j at before. h.at_least j (omega arith) before;
-}
-
--- no low digits are below others
-pub Splits-none : (lows : ℕ → ℕ) (first end rest : ℕ) → first ≤ end → rest ≡ 0 → Splits lows first end rest first
-Splits-none lows first end rest order none = record {
-  from = omega arith;
-  to = order;
-  less = λ j from before. absurd (omega arith);
-  at_least = λ j from before. omega arith;
-}
 
 -- numbers that are the same split at the same place
 pub Splits-same : (f g : ℕ → ℕ) (first end rest k : ℕ) → ((j : ℕ) → j < end → f j ≡ g j) → Splits f first end rest k

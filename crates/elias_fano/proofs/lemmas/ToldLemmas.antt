@@ -1,9 +1,9 @@
 -- What is told of a place among the low digits is told of the parts; and of all but the answer that they are wrong.
-use Rattle.std.proofs.Common.{◌≡◌, ℕ, ◌+◌, ◌-◌, ◌/◌, ◌%◌, ◌^◌, ◌<◌, ◌≤◌, refl, arith}
+use Rattle.std.proofs.Common.{ℕ, ◌/◌, ◌%◌, ◌^◌, ◌<◌, ◌≤◌}
 use Rattle.bitm.specs.Tables.{Lists}
-use Rattle.elias_fano.specs.LentParts.{parts_with, LentParts}
+use Rattle.elias_fano.specs.LentParts.{parts_with}
 use Rattle.elias_fano.specs.Low.{fragment, Lows}
-use Rattle.elias_fano.specs.Told.{IfPlace, PartsAt, TellsAtMost, TellsBelow, TellsLess, TellsTo}
+use Rattle.elias_fano.specs.Told.{IfPlace, PartsAt, TellsBelow, TellsLess, TellsTo}
 use Rattle.bitm.specs.Answer.{Answer}
 use Rattle.bitm.specs.Answer.TheVariants.{Found, Absent, Wrong}
 
@@ -17,11 +17,3 @@ module _ (n : ℕ) (low : Lows) (lists : Lists) (v first end : ℕ) (begins : Te
   told_less (Found p) parting = at_place p parting
   told_less Absent parting = at_place n parting
   told_less Wrong parting = parting
-
--- all are at most the greatest number
-pub told_all : (parts : LentParts) (v : ℕ) → v ≡ 2 ^ 64 - 1 → TellsAtMost parts v parts.len
-told_all parts v most = record { next = λ fits. absurd (omega (arith, fits, most)); greatest = λ _. refl }
-
--- less than the next number is at most this one
-pub told_next : (parts : LentParts) (v p : ℕ) → v + 1 < 2 ^ 64 → TellsLess parts (v + 1) p → TellsAtMost parts v p
-told_next parts v p fits less = record { next = λ _. less; greatest = λ past. absurd (omega (arith, fits, past)) }
