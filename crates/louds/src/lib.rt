@@ -23,6 +23,7 @@
 // - `labels`: numbers of one width, side by side
 // - `laws`: laws of the definitions
 // - `making`: the bits of a tree, built in one pass over the degrees
+// - `near`: the last 0 bit up to a position, where it is near
 // - `node`: nodes that carry their positions
 // - `parents`: a tree from the list of its nodes' parents
 // - `run`: the 1 bits of a node, one for each child
@@ -36,6 +37,7 @@ mod labelled;
 mod labels;
 pub mod laws;
 mod making;
+mod near;
 mod node;
 mod parents;
 mod run;

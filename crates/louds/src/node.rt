@@ -5,6 +5,7 @@ ghost use Rattle.louds.specs.Node.{IsNode, MatchesChildNode, MatchesNextSiblingN
 ghost use Rattle.louds.specs.Tree.{AreChildren, IsChild};
 
 use crate::run::{children_from_on, degree_from_on, ends_after_on};
+use crate::selecting::parent_of_by;
 use crate::tree::Louds;
 use bitm::{Select0ForRank101111, SelectForRank101111};
 use std::marker::Model;
@@ -14,9 +15,9 @@ use std::ops::Range;
 /// children need no selection. It is a node of the tree that answered it, and of each tree with these degrees.
 #[derive(Clone, Copy, Debug, PartialEq, Eq)]
 pub struct Node {
-    number: usize,
+    pub(crate) number: usize,
     // The place of the zero before its ones.
-    place: usize,
+    pub(crate) place: usize,
 }
 
 impl Model for Node {
@@ -174,23 +175,14 @@ impl<S: SelectForRank101111, S0: Select0ForRank101111> Louds<S, S0> {
     /// # Conditions
     /// It is a node of this tree.
     /// # Cost
-    /// One selection, and the words from there back to the parent's position: one for each 64 children, rounded up,
-    /// before the node, and one more.
+    /// One selection and two words; two selections where 64 children of the parent or more stand before the node.
     #[inline]
     pub fn parent_of(&self, node: Node) -> Option<Node>
         requires { IsNode self.now.degrees node }
         ensures { MatchesParentNode self.now.degrees node.number result }
     {
-        let _nodes = self.len();
-        if node.number == 0 {
-            return None;
-        }
-        let one = self.one(node.number);
-        let place = self.start(node.number, one);
-        Some(Node {
-            number: one - node.number - 1,
-            place,
-        })
+        let (index, mut probe) = self.parts();
+        parent_of_by(index, &mut probe, self.len(), node.number)
     }
 
     /// The next child of a node's parent; `None` exactly where the node is the last child or the root.

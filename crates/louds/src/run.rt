@@ -9,8 +9,8 @@ use crate::counted::zero_on;
 use bitm::{TableSource, bit_on, near_zero_on};
 use std::ops::Range;
 
-// In how many words the end of a node's ones is looked for before it is selected.
-const NEAR: usize = 2;
+/// In how many words an end of a node's 1 bits is looked for before it is selected.
+pub(crate) const NEAR: usize = 2;
 
 /// The position of the 0 bit before the 1 bits of a node, or of the last 0 bit, out of the way of `end_on`, which
 /// seldom needs it.

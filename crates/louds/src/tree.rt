@@ -1,13 +1,13 @@
 //! The type of a tree, and its queries.
-ghost use Rattle.std.specs.Prelude.{◌≡◌, ◌==◌, ◌+◌, ◌*◌, ◌^◌, ◌<◌, ◌≤◌, ◌↔◌, ℕ, IfOk, IfSome, IsErrOf, length};
+ghost use Rattle.std.specs.Prelude.{◌≡◌, ◌==◌, ◌+◌, ◌*◌, ◌^◌, ◌<◌, ◌≤◌, ◌↔◌, IfOk, IfSome, IsErrOf, length};
 ghost use Rattle.std.specs.Prelude.{slice_index};
 ghost use Rattle.std.specs.Box.{boxed_slice_items};
 ghost use Rattle.std.specs.Int.{div_ceil};
 ghost use Rattle.bitm.specs.Reads.{none_read};
 ghost use Rattle.bitm.specs.Size.{saturated_size};
 ghost use Rattle.louds.specs.Counted.{degrees_in, IsLouds};
-ghost use Rattle.louds.specs.Held.{words_of, zero_place, IsOneOf};
-ghost use Rattle.louds.specs.Tree.{AreChildren, IsChild, IsTree, MatchesChild, MatchesLastChild};
+ghost use Rattle.louds.specs.Held.{words_of, zero_place};
+ghost use Rattle.louds.specs.Tree.{AreChildren, IsTree, MatchesChild, MatchesLastChild};
 ghost use Rattle.louds.specs.Tree.{MatchesParent, MatchesChildRank, MatchesNextSibling};
 ghost use Rattle.louds.specs.Tree.{MatchesPreviousSibling};
 
@@ -16,11 +16,11 @@ use crate::error::LoudsError;
 use crate::making::make_bits;
 use crate::run::{child_from_on, children_from_on, degree_from_on, end_on};
 use crate::selecting::{
-    child_rank_by, is_leaf_by, next_sibling_by, one_by, parent_by, previous_sibling_by, zero_by,
+    child_rank_by, is_leaf_by, next_sibling_by, parent_by, previous_sibling_by, zero_by,
 };
 use bitm::{
     AdaptiveCombinedSamplingDensity, BinaryRankSearch, CombinedSampling, GetSize, Probe,
-    RankSelect101111, Select0ForRank101111, SelectForRank101111, words,
+    RankSelect101111, Select0ForRank101111, SelectForRank101111,
 };
 use std::alloc::{AllocError, Global};
 use std::boxed::BoxedSlice;
@@ -145,33 +145,6 @@ impl<S: SelectForRank101111, S0: Select0ForRank101111> Louds<S, S0> {
         ensures small { result < 2 ^ 62 }
     {
         end_on(&mut self.probe(), self.len(), node, start)
-    }
-
-    /// The position of the 0 bit before the 1 bits among which that of a node stands, where its own is at `one`.
-    ///
-    /// # Cost
-    /// One word for each 64 children of the parent before the node, rounded up, and no selection.
-    #[inline(always)]
-    pub(crate) fn start(&self, node: usize, one: usize) -> usize
-        requires node { node < length self.now.degrees }
-        requires some { 0 < node }
-        requires one { IsOneOf self.now.degrees node one }
-        ensures { (i k : ℕ) → IsChild self.now.degrees i k node → result ≡ zero_place self.now.degrees i }
-    {
-        match words::rfind_bit_zero(self.index.content().as_slice(), one) {
-            Some(place) => place,
-            None => unreachable!(),
-        }
-    }
-
-    /// The position of the 1 bit of a node.
-    #[inline(always)]
-    pub(crate) fn one(&self, node: usize) -> usize
-        requires { node < length self.now.degrees }
-        ensures { IsOneOf self.now.degrees node result }
-    {
-        let (index, mut probe) = self.parts();
-        one_by(index, &mut probe, self.len(), node)
     }
 
     /// How many children a node has.

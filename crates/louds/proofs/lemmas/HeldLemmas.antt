@@ -309,6 +309,18 @@ run_start d n b i k v p h c last =
         record { node = c.node; some = omega (arith, last.to, c.some); number = refl } in
         clash b p (ap (item b) (sym at) ∙ (child_one d n b h i j (1 + sum (take i d) + j) child).item) last.is
 
+-- the one of a child is so many places after the zero before its parent's ones
+pub one_of_child : (d : List ℕ) (i k v p : ℕ) → 0 < v → IsOneOf d v p → IsChild d i k v → p ≡ zero_place d i + 1 + k
+one_of_child d i k v p some one c =
+    let o = one.1 some in
+    let same = one_parent d o.0 i o.1 k v o.3 c in
+    omega (arith, o.4, same.1, ap (zero_place d) same.0)
+
+-- no one stands where the zero before the ones of a child's parent does
+pub no_one_at_start : (d : List ℕ) (n : ℕ) (b : List Bool) (i k v : ℕ) → IsHeld d n b → IsChild d i k v
+    → item b (zero_place d i) ≡ true → ⊥
+no_one_at_start d n b i k v h c one = clash b (zero_place d i) one (h.zeros i (omega (arith, h.count, c.node))).item
+
 -- the bits of the first words are those of all
 item_front : (ws : List ℕ) (m i : ℕ) → i < length (bits_of (take m ws)) → item (bits_of (take m ws)) i ≡ item (bits_of ws) i
 item_front ws m i inside =
