@@ -26,6 +26,7 @@
 //! | index your own array by ranks of such tables | `ranked` |
 //! | query the parts of a sequence that came from elsewhere and may be wrong | `lent_sequence` |
 //! | select from samples that may be stale | `sampled` |
+//! | select over a source or by an index in one body, and by your own selection | `selection` |
 //! | select by your own strategy | `strategies` |
 //! | sample by your own density | `density` |
 #![tactic(auto)]
@@ -50,6 +51,7 @@ pub mod owned;
 pub mod ranked;
 pub mod readme;
 pub mod sampled;
+pub mod selection;
 pub mod sets;
 pub mod sieve;
 pub mod source;

@@ -1,0 +1,96 @@
+//! A call that selects by any selection: over a source with its reads counted, or by an index's own strategies. And a
+//! selection of a client's own.
+ghost use Rattle.std.specs.Prelude.{◌≡◌, ◌+◌, ◌*◌, ◌<◌, ℕ, true, length, slice_index};
+ghost use Rattle.bitm.specs.Bits.{bits_of};
+ghost use Rattle.bitm.specs.Count.{ones_of, zeros_of, Picks};
+ghost use Rattle.bitm.specs.Tables.{bits_in, IsIndexed};
+ghost use Rattle.bitm_selection.specs.Selection.{by_halves, OnlySelectsBy};
+
+use bitm::{
+    BinaryRankSearch, RankSelect101111, Select0ForRank101111, SelectForRank101111, TableSource,
+};
+use bitm_selection::Selection;
+use std::convert::AsSlice;
+
+/// How many 0 bits stand between the 1 bit of a rank and the next 1 bit.
+///
+/// # Conditions
+/// The source's tables are those of its words, among which the selection selects, and both 1 bits are there.
+/// # Cost
+/// Two selections.
+#[tactic(auto, using(bitm::proofs::Callers::ones_are_bits))]
+pub fn gap_by<F: Selection, T: TableSource>(selection: &F, source: &mut T, rank: usize) -> usize
+    requires indexed { IsIndexed (T.lists source.old) }
+    requires selects { F.selects selection.now (T.lists source.old).words }
+    requires both { rank + 1 < ones_of (bits_in (T.lists source.old)) }
+    ensures gap { let b = bits_in (T.lists source.old) in
+        (p : ℕ) × Picks b true rank p × Picks b true (rank + 1) (p + 1 + result) }
+    ensures reads { OnlySelectsBy T.lists T.reads source.old source.new
+        (F.most (T.lists source.old)) 2 0 }
+{
+    let one = selection.one_on(source, rank);
+    let next = selection.one_on(source, rank + 1);
+    next - one - 1
+}
+
+/// `gap_by` in any words, by binary search.
+///
+/// # Conditions
+/// The source's tables are those of its words, and both 1 bits are there.
+/// # Cost
+/// What two selections by binary search read.
+pub fn gap_on<T: TableSource>(source: &mut T, rank: usize) -> usize
+    requires indexed { IsIndexed (T.lists source.old) }
+    requires both { rank + 1 < ones_of (bits_in (T.lists source.old)) }
+    ensures gap { let b = bits_in (T.lists source.old) in
+        (p : ℕ) × Picks b true rank p × Picks b true (rank + 1) (p + 1 + result) }
+    ensures reads { OnlySelectsBy T.lists T.reads source.old source.new
+        (by_halves (T.lists source.old)) 2 0 }
+{
+    gap_by(&BinaryRankSearch, source, rank)
+}
+
+/// `gap_by` in an index's words, by its own strategies.
+///
+/// # Conditions
+/// Both 1 bits are there.
+pub fn gap<S: SelectForRank101111, S0: Select0ForRank101111, BV: AsSlice<u64>>(
+    index: &RankSelect101111<S, S0, BV>,
+    rank: usize,
+) -> usize
+    requires { rank + 1 < ones_of (bits_of (BV.items index.now.content)) }
+    ensures { let b = bits_of (BV.items index.now.content) in
+        (p : ℕ) × Picks b true rank p × Picks b true (rank + 1) (p + 1 + result) }
+{
+    gap_by(index, &mut index.probe(), rank)
+}
+
+/// The first 1 bits by a list of their positions, and all other bits as another selection finds them.
+#[derive(Clone, Copy)]
+pub struct Front<'a, F> {
+    /// The positions of the first 1 bits.
+    pub places: &'a [usize],
+    /// What selects the other bits.
+    pub rest: F,
+}
+
+/// In the words that have their first 1 bits at these positions, and in which the other selection selects: what that
+/// one reads.
+impl<'a, F: Selection> Selection for Front<'a, F> {
+    ghost selects = { λ front words. F.selects front.rest words
+        × ((r : ℕ) → r < length front.places.now
+        → Picks (bits_of words) true r (slice_index front.places.now r)) };
+
+    ghost most = { F.most };
+
+    fn one_on<T: TableSource>(&self, source: &mut T, rank: usize) -> usize {
+        match self.places.get(rank) {
+            Some(place) => *place,
+            None => self.rest.one_on(source, rank),
+        }
+    }
+
+    fn zero_on<T: TableSource>(&self, source: &mut T, rank: usize) -> usize {
+        self.rest.zero_on(source, rank)
+    }
+}
