@@ -3,3 +3,4 @@ pub mod LayoutLemmas
 pub mod HeaderLemmas
 pub mod WrittenLemmas
 pub mod SealedLemmas
+pub mod PartsLemmas

@@ -1,5 +1,5 @@
 -- Where the sections of a block stand, in words.
-use Rattle.std.specs.Prelude.{ℕ, ◌+◌, ◌*◌, ◌/◌, ◌^◌, ◌<◌, ◌≤◌, ◌==◌, ◌||◌, nat_le, if◌then◌else◌, All, List, length, sum_by, take}
+use Rattle.std.specs.Prelude.{ℕ, ◌+◌, ◌*◌, ◌/◌, ◌^◌, ◌<◌, ◌≤◌, ◌==◌, ◌||◌, nat_le, if◌then◌else◌, All, List, get_or, length, slice_range, sum_by, take}
 use Rattle.std.specs.Int.{div_ceil}
 use Rattle.bitm_block.specs.declared.layout.Section.{Section}
 
@@ -29,6 +29,14 @@ head_of n = aligned (16 + 4 * n)
 -- where section i begins: after header and directory, or after the one before it
 abbrev pub begin_of : List Section → ℕ → ℕ
 begin_of sections i = head_of (length sections) + sum_by room_of (take i sections)
+
+-- no section
+abbrev pub no_section : Section
+no_section = record { role = 0; count = 0 }
+
+-- the words that stand where section i is
+abbrev pub part_in : List Section → List ℕ → ℕ → List ℕ
+part_in sections words i = slice_range words (begin_of sections i) (begin_of sections i + words_of (get_or sections i no_section))
 
 -- where the block ends
 abbrev pub end_of : List Section → ℕ

@@ -25,9 +25,16 @@ pub struct Section {
     pub count: u64,
 }
 
-/// The first multiple of 8 from a number on.
+/// The first multiple of 8 from a number on: where the next section begins after words that end there.
+///
+/// # Conditions
+/// The number is less than 2^63.
+///
+/// ```
+/// aligned(33);   // 40
+/// ```
 #[inline(always)]
-pub(crate) fn aligned(at: usize) -> usize
+pub fn aligned(at: usize) -> usize
     requires { at < 2 ^ 63 }
     ensures { result ≡ aligned at }
 {

@@ -33,6 +33,6 @@ mod writing;
 pub use checksum::{checksum_of, sees_one_word};
 pub use error::{OpenError, WriteError};
 pub use head::Head;
-pub use layout::{ENTRY_WORDS, HEADER_WORDS, MOST_SECTIONS, Section, size};
+pub use layout::{ENTRY_WORDS, HEADER_WORDS, MOST_SECTIONS, Section, aligned, size};
 pub use reading::{Block, len_in};
 pub use writing::seal;
