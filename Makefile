@@ -6,9 +6,8 @@ PREFIX = /usr/local
 LIBDIR = $(PREFIX)/lib
 INCLUDEDIR = $(PREFIX)/include
 VERSION := $(shell cat VERSION)
-# The proved archive, or another that the environment names. What its proof prints is kept beside it, for scripts/dist.
+# The proved archive, or another that the environment names.
 ARCHIVE ?= crates/bitm_c/out/libbitm_c.a
-ARCHIVE_LOG = crates/bitm_c/out/archive.log
 SHARED = libbitm_c.so.$(VERSION)
 # Before 1.0 a minor version may change what a caller sees.
 SONAME = libbitm_c.so.$(basename $(VERSION))
@@ -35,10 +34,7 @@ help: ## print these lines
 	@sed -nE 's/^([a-z-]+):[^#]*## (.*)/\1\t\2/p' Makefile | while IFS=$$'\t' read -r name what; do printf '  make %-15s %s\n' "$$name" "$$what"; done
 
 archive: ## prove and build the C library, crates/bitm_c/out/libbitm_c.a (needs Rattle)
-	@command -v rt > /dev/null || { echo "make archive: there is no rt on the PATH: install the toolchain that README.md names"; exit 1; }
-	mkdir -p crates/bitm_c/out
-	(cd crates/bitm_c && rt lib) 2>&1 | tee $(ARCHIVE_LOG).new
-	mv $(ARCHIVE_LOG).new $(ARCHIVE_LOG)
+	scripts/archives own
 
 archives: ## prove and build it for each processor, crates/bitm_c/out/*/libbitm_c.a (needs Rattle)
 	scripts/archives

@@ -1,0 +1,28 @@
+"""The programs in C++, also under sanitizers, by clang and in each mode; and those that must not compile."""
+import pytest
+from common import SANITIZED, compiled, large
+from shell import bash, needs
+
+WAYS = {"gpp": "g++ -std=c++17 -O2", "sanitizers": f"g++ -std=c++17 {SANITIZED}", "clang": "clang++ -std=c++20 -O2"}
+MODES = ["c++17 -fno-exceptions -fno-rtti", "c++20", "c++20 -fno-exceptions -fno-rtti", "c++2b"]
+
+
+@pytest.mark.parametrize("way", WAYS)
+@pytest.mark.parametrize("program", ["check", "stored", "shards"])
+def test_program(program, way, tmp_path):
+    needs(WAYS[way].split()[0])
+    bash(compiled(WAYS[way], f"bindings/cpp/{program}.cpp", tmp_path), tmp_path)
+
+
+@large
+@pytest.mark.parametrize("mode", MODES)
+@pytest.mark.parametrize("compiler", ["g++", "clang++"])
+def test_check_in_each_mode(compiler, mode, tmp_path):
+    needs(compiler)
+    bash(compiled(f"{compiler} -std={mode} -O1", "bindings/cpp/check.cpp", tmp_path), tmp_path)
+
+
+@pytest.mark.parametrize("compiler", ["g++", "clang++"])
+def test_programs_that_must_not_compile(compiler):
+    needs(compiler)
+    bash(f"bindings/cpp/refused.sh '{compiler} -std=c++17'")

@@ -1,0 +1,133 @@
+"""Rust, Python and JavaScript, each by its own tests, in this order: each language leaves a file of the same bits and one
+of the same numbers, and reads those of the languages before it."""
+import os
+
+import pytest
+from checks import TOP, read
+from common import LARGE, compiled, large
+from shell import bash, needs
+
+PYTHON = "/usr/bin/python3"
+RUST = TOP / "bindings/rust"
+CARGO = "cargo {} --quiet --release --offline --locked"
+
+
+@pytest.fixture(scope="module")
+def room(tmp_path_factory):
+    it = tmp_path_factory.mktemp("languages")
+    os.environ["CARGO_TARGET_DIR"] = str(it / "cargo")
+    return it
+
+
+@pytest.fixture
+def of(room):
+    """The folder of a language's files, and then those that are there."""
+    def folders(language):
+        (room / "of" / language).mkdir(parents=True)
+        there = sorted(it.parent for it in room.glob("of/*/sequence"))
+        return " ".join(map(str, [room / "of" / language, *there]))
+    return folders
+
+
+def test_files_of_cpp(of, tmp_path):
+    needs("g++")
+    it = compiled("g++ -std=c++17 -O2", "bindings/cpp/stored.cpp", tmp_path)
+    bash(f"{it} {of('cpp')}")
+
+
+def test_rust(of):
+    needs("cargo")
+    bash(f"{CARGO.format('test')} --features mmap", RUST)
+    bash(f"{CARGO.format('run')} --example stored {of('rust')}", RUST)
+    assert bash(CARGO.format("run"), TOP / "examples/rust") == read("examples/primes.txt")
+
+
+def test_declarations_of_rust():
+    needs("bindgen")
+    bash("./declarations --check", RUST)
+
+
+def test_rust_without_std_and_as_the_original_at_the_end(room):
+    needs("cargo")
+    bash(f"{CARGO.format('test')} --no-default-features --tests", RUST)
+    bash(f"{CARGO.format('test')} --features original-end --test original_index --test queries", RUST)
+
+
+def test_clippy(room):
+    needs("cargo-clippy")
+    bash("cargo clippy --quiet --offline --locked --all-targets --features mmap -- -D warnings", RUST)
+
+
+@pytest.fixture(scope="module")
+def site(room):
+    """The Python package as its wheel lays it, found by this and the programs after it."""
+    needs(f"{PYTHON}:pytest", f"{PYTHON}:hypothesis", f"{PYTHON}:setuptools")
+    bash(f"bindings/python/wheel {room}/wheel")
+    bash(f"{PYTHON} -m pip install --quiet --disable-pip-version-check --no-index --no-deps --target {room}/site {room}/wheel/bitm-*.whl")
+    return {"PYTHONPATH": f"{room}/site", "MYPYPATH": f"{room}/site", "PYTHONDONTWRITEBYTECODE": "1"}
+
+
+def test_python(site, of):
+    """The wheel in a fresh environment, by LARGE=1 in every Python that is here."""
+    bash("bindings/python/tests/each" if LARGE else f"bindings/python/tests/each {PYTHON}")
+    bash(f"{PYTHON} -W error bindings/python/tests/stored_format.py {of('python')}", **site)
+    for example in ("primes", "words"):
+        assert bash(f"{PYTHON} examples/python/{example}.py", **site) == read(f"examples/{example}.txt")
+
+
+def test_types_of_the_python_examples(site, room):
+    needs(f"{PYTHON}:mypy", f"{PYTHON}:numpy")
+    bash(f"{PYTHON} -m mypy --strict --cache-dir {room}/mypy examples/python/*.py", **site)
+
+
+def test_types_by_pyright(site):
+    needs("pyright")
+    bash(f"pyright --pythonpath {PYTHON} examples/python/*.py", **site)
+    bash(f"pyright --pythonpath {PYTHON} --ignoreexternal --verifytypes bitm", **site)
+
+
+@large
+def test_python_under_sanitizers(site):
+    needs("gcc")
+    bash("SANITIZED=1 bindings/python/tests/each")
+
+
+@large
+@pytest.mark.parametrize("example", ["shards", "columns"])
+def test_dask(example, site, tmp_path):
+    needs(f"{PYTHON}:distributed")
+    bash(f"{PYTHON} examples/dask/{example}.py {tmp_path}/{example}", **site)
+
+
+def test_javascript(of):
+    needs("node")
+    bash(f"node bindings/javascript/tests/stored_format.js {of('javascript')}")
+    bash("bindings/javascript/tests/each")
+
+
+@pytest.mark.parametrize("browser", ["chromium", pytest.param("firefox-esr", marks=large)])
+def test_page_of_examples(browser):
+    needs("node", browser)
+    bash(f"node examples/browser/test.mjs {browser}")
+
+
+@large
+@pytest.mark.parametrize("browser", ["chromium", "firefox-esr"])
+def test_javascript_in_browser(browser):
+    needs("node", browser)
+    bash(f"node bindings/javascript/tests/in_browser.mjs {browser}")
+
+
+@large
+def test_javascript_modules_are_made_again(tmp_path):
+    needs("wasm-opt")
+    bash(f"bindings/javascript/build {tmp_path}/wasm && diff -r {tmp_path}/wasm bindings/javascript/wasm")
+
+
+def test_one_format(room):
+    """The same bits and numbers make the same bytes in each language."""
+    written = sorted(room.glob("of/*"))
+    assert written, "no language wrote a file"
+    for it in written:
+        for file in ("index", "sequence"):
+            assert (it / file).read_bytes() == (written[0] / file).read_bytes(), f"{it.name}: {file}"
