@@ -6,8 +6,15 @@ ghost use Rattle.wavelet_matrix.specs.Levels.{known_of};
 use bitm::bits_to_store;
 
 /// Whether bit `place` of the number is 1.
+///
+/// # Conditions
+/// The bit's index is below 64.
+///
+/// ```
+/// digit_of(5, 2);   // true
+/// ```
 #[inline(always)]
-pub(crate) fn digit_of(number: u64, place: u8) -> bool
+pub fn digit_of(number: u64, place: u8) -> bool
     requires { place < 64 }
     ensures { result ≡ digit number place }
 {
@@ -15,8 +22,15 @@ pub(crate) fn digit_of(number: u64, place: u8) -> bool
 }
 
 /// Whether the number has no more than `width` bits.
+///
+/// # Conditions
+/// The width is at most 64.
+///
+/// ```
+/// fits(5, 3);   // true
+/// ```
 #[inline(always)]
-pub(crate) fn fits(number: u64, width: u8) -> bool
+pub fn fits(number: u64, width: u8) -> bool
     requires { width ≤ 64 }
     ensures { IsTrue result ↔ (number < 2 ^ width) }
 {

@@ -45,8 +45,9 @@ mod shared;
 mod walk;
 mod writing;
 
-pub use digits::all_fit;
+pub use digits::{all_fit, digit_of, fits};
 pub use distinct::DistinctValues;
 pub use iterating::Numbers;
 pub use matrix::{BinaryWaveletMatrix, WaveletMatrix};
 pub use walk::Levels;
+pub use writing::write_levels;
