@@ -23,6 +23,20 @@ impl Levels {
         ensures number { result ≡ slice_index (numbers_in self.now (T.lists source.old)) i }
         ensures reads { OnlyRanks self.now T.lists T.reads source.old source.new self.now.width }
     {
+        let (number, _place) = self.number_and_place_on(source, i);
+        number
+    }
+
+    /// Number `i`, and its index after the last level.
+    #[inline(always)]
+    fn number_and_place_on<T: TableSource>(&self, source: &mut T, i: usize) -> (u64, usize)
+        requires matrix { IsMatrix self.now (T.lists source.old) }
+        requires inside { i < self.now.len }
+        ensures number { result.0 ≡ slice_index (numbers_in self.now (T.lists source.old)) i }
+        ensures place { result.1 ≡ level_place (numbers_in self.now (T.lists source.old))
+            self.now.width result.0 self.now.width i }
+        ensures reads { OnlyRanks self.now T.lists T.reads source.old source.new self.now.width }
+    {
         let mut place = i;
         let mut number = 0;
         for depth in 0..self.width() {
@@ -30,7 +44,27 @@ impl Levels {
             number = 2 * number + digit as u64;
             place = next;
         }
-        number
+        (number, place)
+    }
+
+    /// Number `i`, and how many of the numbers before it are equal to it.
+    ///
+    /// # Conditions
+    /// The levels are those of the source, and there is such a number.
+    /// # Cost
+    /// That of `rank_on`, and not that of `get_on` besides: the walk to the number ends where its rank is counted.
+    #[inline(always)]
+    pub fn get_and_rank_on<T: TableSource>(&self, source: &mut T, i: usize) -> (u64, usize)
+        requires matrix { IsMatrix self.now (T.lists source.old) }
+        requires inside { i < self.now.len }
+        ensures number { result.0 ≡ slice_index (numbers_in self.now (T.lists source.old)) i }
+        ensures count { result.1
+            ≡ count_before (numbers_in self.now (T.lists source.old)) result.0 i }
+        ensures reads { OnlyRanks self.now T.lists T.reads source.old source.new
+            (2 * self.now.width - self.now.known) }
+    {
+        let (number, place) = self.number_and_place_on(source, i);
+        (number, self.rank_to_on(source, number, i, place))
     }
 
     /// Where a number that stands at an index of level `from`, or would there, stands at level `to`.

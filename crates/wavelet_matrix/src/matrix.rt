@@ -294,6 +294,27 @@ impl<S: SelectForRank101111, S0: Select0ForRank101111> WaveletMatrix<S, S0> {
         }
     }
 
+    /// Number `i`, and how many of the numbers before it are equal to it.
+    ///
+    /// # Conditions
+    /// There is such a number.
+    /// # Cost
+    /// That of `Levels::get_and_rank_on`: no more than `rank` takes.
+    ///
+    /// ```
+    /// // of 3, 1, 4, 1, 5, 1
+    /// m.get_and_rank(3)   // (1, 1): a 1, with one 1 before it
+    /// ```
+    #[inline]
+    pub fn get_and_rank(&self, i: usize) -> (u64, usize)
+        requires { i < length self.now.items }
+        ensures number { result.0 ≡ slice_index self.now.items i }
+        ensures count { result.1 ≡ count_before self.now.items result.0 i }
+    {
+        let (levels, mut probe) = self.parts();
+        levels.get_and_rank_on(&mut probe, i)
+    }
+
     /// The index of this number with exactly `k` such numbers before it.
     ///
     /// # Conditions

@@ -29,6 +29,10 @@ module _ (xs : List ℕ) (w : ℕ) (fit : All (λ x. x < 2 ^ w) xs) (most : w �
   pub level-last : (d p n : ℕ) → d ≡ w → IsAtLevel xs w d i p n → n ≡ get_or xs i 0
   level-last d p n e h = h.digits ∙ prefix-all (get_or xs i 0) w d e
 
+  pub level-last-place : (d p n : ℕ) → d ≡ w → IsAtLevel xs w d i p n → p ≡ level_place xs w n w i
+  level-last-place d p n e h =
+      h.place ∙ ap (λ k. level_place xs w (get_or xs i 0) k i) e ∙ ap (λ x. level_place xs w x w i) (sym (level-last d p n e h))
+
   pub level-inside : (d p n : ℕ) → IsAtLevel xs w d i p n → p < length xs
   level-inside d p n h = omega (arith, h.place, (level_place-item xs w (get_or xs i 0) d i inside refl).0)
 

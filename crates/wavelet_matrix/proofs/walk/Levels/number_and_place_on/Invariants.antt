@@ -1,6 +1,6 @@
 use Rattle.wavelet_matrix.specs.Matrix.{OnlyRanks, numbers_in}
 use Rattle.wavelet_matrix.proofs.lemmas.ManyLemmas.{IsAtLevel}
-use Rattle.wavelet_matrix.proofs.walk.Levels.get_on.Given as goal
+use Rattle.wavelet_matrix.proofs.walk.Levels.number_and_place_on.Given as goal
 
 -- where the number stands on the level, and its first digits; one rank was read for each
 abbrev pub invariant-loop-depth : goal.invariant-loop-depth

@@ -2,10 +2,10 @@
 use Rattle.std.proofs.Common.{◌+◌, ◌*◌, ◌^◌, ◌<◌, ap, arith}
 use Rattle.bitm.specs.Tables.{Lists}
 use Rattle.wavelet_matrix.specs.Matrix.{level_in, numbers_in}
-use Rattle.wavelet_matrix.proofs.lemmas.ManyLemmas.{level-first, level-fits, level-inside, level-last, level-next-item}
+use Rattle.wavelet_matrix.proofs.lemmas.ManyLemmas.{level-first, level-fits, level-inside, level-last, level-last-place, level-next-item}
 use Rattle.wavelet_matrix.proofs.lemmas.ReadsLemmas.{ranks-more, ranks-none}
-use Rattle.wavelet_matrix.proofs.walk.Levels.get_on.Goals as goal
-use Rattle.wavelet_matrix.proofs.walk.Levels.get_on.Goals.{After-digit_and_next_on-digit}
+use Rattle.wavelet_matrix.proofs.walk.Levels.number_and_place_on.Goals as goal
+use Rattle.wavelet_matrix.proofs.walk.Levels.number_and_place_on.Goals.{After-digit_and_next_on-digit}
 use mir.Val.{bool_byte}
 
 pub loop-depth-init : goal.loop-depth-init
@@ -66,5 +66,14 @@ returns-clause-number g c =
     let l = c.args.self.now in
     let h = c.requires.matrix.numbers in
     level-last (numbers_in l (g.T.TableSource.lists c.args.source.now)) l.width h.fit h.most c.args.i (omega (arith, c.requires.inside, h.count))
+    c.loop-depth.depth c.loop-depth.place c.loop-depth.number (omega (arith, c.loop-depth-test.false, c.loop-depth.auto.depth-end, c.width-depth-end.ensures))
+    c.loop-depth.invariant.number
+
+-- after the last level it stands where all its digits have moved it
+pub returns-clause-place : goal.returns-clause-place
+returns-clause-place g c =
+    let l = c.args.self.now in
+    let h = c.requires.matrix.numbers in
+    level-last-place (numbers_in l (g.T.TableSource.lists c.args.source.now)) l.width h.fit h.most c.args.i (omega (arith, c.requires.inside, h.count))
     c.loop-depth.depth c.loop-depth.place c.loop-depth.number (omega (arith, c.loop-depth-test.false, c.loop-depth.auto.depth-end, c.width-depth-end.ensures))
     c.loop-depth.invariant.number
