@@ -93,7 +93,10 @@ fn ones_to_quarter(number: u64, quarter: usize) -> usize
     requires { quarter < 4 }
     ensures { result ≡ quarter_count number quarter }
 {
-    (number >> (62 - 10 * quarter) & 0x3FF) as usize
+    // Ten times the quarter as five 64ths of its first position: that is the bit's position with all but two of its bits
+    // cleared, so the shift takes three instructions fewer.
+    let first = quarter * (64 * QUARTER_WORDS);
+    (number >> (62 - 5 * first / 64) & 0x3FF) as usize
 }
 
 /// The word that has bit `last`, and the number of 1 bits up to and including that bit.

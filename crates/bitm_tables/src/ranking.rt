@@ -291,13 +291,15 @@ pub fn bit_and_rank_on<T: TableSource>(source: &mut T, place: usize) -> Option<(
 
 /// The bit at position `place` and the number of 1 bits before it, from the word that has it and the number of 1 bits
 /// up to and including it; from any other word and number, any answer.
-#[tactic(auto, using(bit_lists::proofs::lemmas::BitsLemmas::item_tested))]
+///
+/// The word is shifted as `ones_through` shifts it, once for both, and the bit is then its highest.
+#[tactic(auto, using(crate::proofs::lemmas::RankLemmas::item_shifted))]
 #[inline(always)]
 pub(crate) fn bit_and_ones_before(word: u64, ones: usize, place: usize) -> (bool, usize)
     ensures { (ws : List ℕ) → IsShort ws → place < 64 * length ws → word ≡ slice_index ws (place / 64)
         → ones ≡ ones_before (bits_of ws) (place + 1)
         → (result.0 ≡ item (bits_of ws) place) × (result.1 ≡ ones_before (bits_of ws) place) }
 {
-    let bit = word & (1u64 << (place % 64)) != 0;
+    let bit = word << (63 - place % 64) >> 63 != 0;
     (bit, ones.wrapping_sub(bit as usize))
 }

@@ -1,10 +1,11 @@
 -- The ones before the bit are those to it, less the bit.
-use Rattle.std.proofs.Common.{◌≡◌, ℕ, ◌+◌, ◌-◌, ◌*◌, ◌%◌, ◌^◌, ◌<◌, Bool, true, false, not, bit_and, nat_eq, length, ap, ◌∙◌, arith}
+use Rattle.std.proofs.Common.{◌≡◌, ℕ, ◌+◌, ◌-◌, ◌*◌, ◌/◌, ◌%◌, ◌^◌, ◌<◌, Bool, true, false, not, nat_eq, length, ap, ◌∙◌, arith}
 use Rattle.bit_lists.proofs.lemmas.WordLemmas.{truth}
 use Rattle.bit_lists.specs.Bits.{bits_of, item}
 use Rattle.bit_lists.specs.Count.{ones_before}
-use Rattle.bit_lists.proofs.lemmas.BitsLemmas.{item_tested, length-bits_of}
+use Rattle.bit_lists.proofs.lemmas.BitsLemmas.{length-bits_of}
 use Rattle.bit_lists.proofs.lemmas.CountLemmas.{ones_before_more}
+use Rattle.bitm_tables.proofs.lemmas.RankLemmas.{item_shifted}
 use Rattle.bitm_tables.proofs.lemmas.StretchLemmas.{ones_before-self}
 use Rattle.bitm_tables.proofs.ranking.bit_and_ones_before.Goals as goal
 use mir.Val.{bool_byte}
@@ -19,7 +20,7 @@ returns c = λ words short inside word_is ones_are.
     let p = c.args.place in
     let here : p < length b = omega (arith, inside, length-bits_of words) in
     let tested =
-    ap (λ (w : ℕ). not (nat_eq (bit_and w (1 * 2 ^ (p % 64) % 2 ^ 64)) 0)) word_is ∙ item_tested words p inside in
+    ap (λ (w : ℕ). not (nat_eq (w * 2 ^ (63 - p % 64) % 2 ^ 64 / 2 ^ 63) 0)) word_is ∙ item_shifted words p inside in
     let few : ones_before b p < 2 ^ 64 = omega (arith, ones_before-self b p, here, length-bits_of words, short) in
     let sum = ones_are ∙ ones_before_more b p here in (
       tested,
