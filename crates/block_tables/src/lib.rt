@@ -3,13 +3,16 @@
 #![tactic(auto)]
 
 // What is in each file:
-// - `filling`: the tables, written in one pass over the words
+// - `entries`: words of a block as entries of an upper table
+// - `sections`: words and their tables as the first three sections of a block
 // - `source`: a source over three sections
-// - `tables`: whether tables are those of the words
-mod filling;
+// - `tables`: the tables, written and compared with the words
+mod entries;
+mod sections;
 mod source;
 mod tables;
 
-pub use filling::fill_tables;
+pub use entries::{as_entries, as_entries_mut};
+pub use sections::{has_tables, table_sections, tables_of};
 pub use source::BlockProbe;
-pub use tables::are_tables;
+pub use tables::{are_tables, fill_tables};

@@ -1,39 +1,33 @@
-//! Whether the tables in sections of a block are those of the words. As `bitm_view` does, but both tables are slices of
-//! 64-bit words.
-ghost use Rattle.std.specs.Prelude.{◌≡◌, ◌+◌, ◌*◌, ◌^◌, ◌<◌, ◌↔◌, length, min, IsTrue, IsNone, IfSome};
-ghost use Rattle.std.specs.Int.{div_ceil};
+//! The two tables as sections of a block: written, and compared with the words.
+ghost use Rattle.std.specs.Prelude.{◌≡◌, ◌↔◌, IsTrue};
 ghost use Rattle.bit_lists.specs.Bits.{bits_of};
-ghost use Rattle.bit_lists.specs.Count.{ones_before};
-ghost use Rattle.bitm_select.specs.Entry.{lower_entry};
+ghost use Rattle.bit_lists.specs.Count.{ones_of};
 ghost use Rattle.bitm_select.specs.Tables.{HasSizes, HasTables};
-ghost use Rattle.bitm_view.specs.Sizes.{IsFilled, lists_of};
+ghost use Rattle.bitm_view.specs.Sizes.{lists_of};
 
-use bitm_select::levels::L2_ENTRIES_PER_L1_ENTRY;
-use bitm_select::tables::make_entry;
+use crate::entries::{as_entries, as_entries_mut};
+use bitm_view::{Lent, build};
 
-/// The number of 1 bits in an upper block, if its lower entries are right; `None` only where the tables are not those
-/// of the words.
-fn ones_of_part(words: &[u64], upper: &[u64], lower: &[u64], part: usize) -> Option<usize>
-    requires sized { HasSizes (lists_of words.now upper.now lower.now) }
-    requires begun { part * 2 ^ 26 < length words.now }
-    requires so_far { IsFilled (lower_entry (bits_of words.now)) lower.now (part * 2 ^ 21) }
-    ensures filled { IfSome result (λ _. IsFilled (lower_entry (bits_of words.now)) lower.now
-        (min (div_ceil (length words.now) 32) ((part + 1) * 2 ^ 21))) }
-    ensures ones { IfSome result (λ n. ones_before (bits_of words.now) (part * 2 ^ 32) + n
-        ≡ ones_before (bits_of words.now) ((part + 1) * 2 ^ 32)) }
-    ensures wrong { IsNone result → ¬ (HasTables (lists_of words.now upper.now lower.now)) }
+/// Writes both tables of the words and returns the number of 1 bits.
+///
+/// # Conditions
+/// There are fewer than 2^58 words, and the tables have the lengths that these need.
+/// # Cost
+/// Each word is read once (evident from the code).
+///
+/// ```
+/// let ones = fill_tables(&words, upper, lower);   // 40 words: 1 upper entry, 2 lower entries
+/// ```
+pub fn fill_tables(words: &[u64], upper: &mut [u64], lower: &mut [u64]) -> usize
+    requires { HasSizes (lists_of words.now upper.old lower.old) }
+    ensures sizes { HasSizes (lists_of words.now upper.new lower.new) }
+    ensures tables { HasTables (lists_of words.now upper.new lower.new) }
+    ensures ones { result ≡ ones_of (bits_of words.now) }
 {
-    let first = part * L2_ENTRIES_PER_L1_ENTRY;
-    let end = lower.len().min(first + L2_ENTRIES_PER_L1_ENTRY);
-    let mut in_part = 0;
-    for at in first..end {
-        let (entry, ones) = make_entry(words, at, in_part);
-        if lower[at] != entry {
-            return None;
-        }
-        in_part += ones;
+    match build(words, as_entries_mut(upper), lower) {
+        Some(ones) => ones,
+        None => unreachable!(),
     }
-    Some(in_part)
 }
 
 /// Whether the tables are those of the words.
@@ -50,15 +44,8 @@ pub fn are_tables(words: &[u64], upper: &[u64], lower: &[u64]) -> bool
     requires { HasSizes (lists_of words.now upper.now lower.now) }
     ensures { IsTrue result ↔ HasTables (lists_of words.now upper.now lower.now) }
 {
-    let mut ones = 0;
-    for part in 0..upper.len() {
-        if upper[part] != ones as u64 {
-            return false;
-        }
-        let Some(more) = ones_of_part(words, upper, lower, part) else {
-            return false;
-        };
-        ones += more;
+    match Lent::over(words, as_entries(upper), lower) {
+        Some(lent) => lent.check(),
+        None => unreachable!(),
     }
-    true
 }

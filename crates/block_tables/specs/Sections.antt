@@ -1,0 +1,27 @@
+-- Words with their two tables as the first three sections of a block.
+use Rattle.std.specs.Prelude.{◌≡◌, ℕ, ◌^◌, ◌≤◌, List, [], ◌∷◌, slice_index}
+use Rattle.std.specs.Int.{div_ceil}
+use Rattle.bitm_block.specs.Header.{count_in, section_in}
+use Rattle.bitm_block.specs.declared.layout.Section.{Section}
+use Rattle.bitm_select.specs.Tables.{Lists}
+use Rattle.bitm_view.specs.Sizes.{lists_of}
+
+-- a section of a role and a number of items
+abbrev pub section_of : ℕ → ℕ → Section
+section_of role count = record { role = role; count = count }
+
+-- the sections of the given number of words: these, their upper and their lower table
+abbrev pub table_sections : ℕ → List Section
+table_sections words = section_of 1 words ∷ section_of 2 (div_ceil words (2 ^ 26)) ∷ section_of 3 (div_ceil words 32) ∷ []
+
+-- the words and the tables that the first three sections are
+abbrev pub tables_in : List ℕ → Lists
+tables_in block = lists_of (section_in block 0) (section_in block 1) (section_in block 2)
+
+-- the block is of a kind, and its first three sections are words, an upper and a lower table
+pub record HasTableSections (kind : ℕ) (block : List ℕ) : Type 0 where
+  pub kind_is : slice_index block 1 ≡ kind
+  pub three : 3 ≤ count_in block
+  pub words : slice_index block 16 ≡ 1
+  pub upper : slice_index block 20 ≡ 2
+  pub lower : slice_index block 24 ≡ 3
