@@ -93,8 +93,8 @@ fn ones_to_quarter(number: u64, quarter: usize) -> usize
     requires { quarter < 4 }
     ensures { result ≡ quarter_count number quarter }
 {
-    // Ten times the quarter as five 64ths of its first position: that is the bit's position with all but two of its bits
-    // cleared, so the shift takes three instructions fewer.
+    // Ten times the quarter as five 64ths of its first position: that is the bit's position with all but two of its
+    // bits cleared, so the shift takes three instructions fewer.
     let first = quarter * (64 * QUARTER_WORDS);
     (number >> (62 - 5 * first / 64) & 0x3FF) as usize
 }
