@@ -1,12 +1,11 @@
 -- Counting how often each node is a parent.
-use Rattle.std.proofs.Common.{◌≡◌, ℕ, zero, suc, ◌+◌, ◌-◌, ◌<◌, ◌≤◌, List, length, take, get_or, set, replicate, sym, ap, ⊎_elim, arith, subst, length-set, length-take, get_or-set_same, get_or-set_other}
+use Rattle.std.proofs.Common.{◌≡◌, ℕ, zero, suc, ◌+◌, ◌-◌, ◌<◌, ◌≤◌, List, length, take, get_or, set, sym, ap, ⊎_elim, arith, subst, length-set, length-take, get_or-set_same, get_or-set_other}
 use Rattle.std.proofs.Math.Seq.{take-set-lt}
 use Rattle.std.proofs.lemmas.Bool.{cases_eq, cases_lt}
-use Rattle.std.proofs.lemmas.List.{get_or-take, length-replicate, take-set-le}
-use Rattle.std.proofs.lemmas.List.Folds.{sum_by-replicate}
+use Rattle.std.proofs.lemmas.List.{get_or-take, take-set-le}
 use Rattle.std.proofs.lemmas.List.Sums.{sum_by-set}
 use Rattle.std.specs.List.{sum}
-use Rattle.louds.proofs.lemmas.TreeLemmas.{sum_more, sum_part, trees_have_parents}
+use Rattle.louds.proofs.lemmas.TreeLemmas.{sum_more, trees_have_parents}
 use Rattle.louds.specs.Parents.{AreParents, HasParents}
 use Rattle.louds.specs.Tree.{IsChild, IsTree}
 
@@ -17,10 +16,6 @@ sum_set g i x q before inside =
     let same : sum (take q (set g i x)) ≡ sum (set (take q g) i x) = ap sum (take-set-lt q g i x before) in
     let item : get_or (take q g) i 0 ≡ get_or g i 0 = get_or-take q g i 0 before in
     omega (arith, same, item, sum_by-set (λ x. x) (take q g) i x 0 there)
-
--- no item is above the sum
-pub item_part : (g : List ℕ) (i : ℕ) → i < length g → get_or g i 0 ≤ sum g
-item_part g i inside = omega (arith, sum_more g i inside, sum_part g (i + 1))
 
 -- the parents rise
 rises : (ps : List ℕ) (u m : ℕ) → AreParents ps → u + m < length ps → get_or ps u 0 ≤ get_or ps (u + m) 0
@@ -40,17 +35,6 @@ pub record IsCounted (ps : List ℕ) (m : ℕ) (g : List ℕ) : Type 0 where
   pub each : (v : ℕ) → v < m → (k : ℕ) × IsChild g (get_or ps v 0) k (v + 1)
   pub all : sum g ≡ m
   pub low : (q : ℕ) → ((v : ℕ) → v < m → get_or ps v 0 ≤ q) → q < length g → sum (take (q + 1) g) ≡ m
-
-pub counted_none : (ps : List ℕ) (n : ℕ) → n ≡ length ps + 1 → IsCounted ps 0 (replicate n 0)
-counted_none ps n is = record {
-  len = omega (arith, length-replicate {A = ℕ} n 0);
-  each = λ v less. absurd (omega arith);
-  all = none;
-  low = λ q above inside. omega (arith, none, sum_part (replicate n 0) (q + 1));
-}
-  where
-    none : sum (replicate n 0) ≡ 0
-    none = omega (arith, sum_by-replicate (λ x. x) n 0)
 
 pub counted_more : (ps : List ℕ) (m p : ℕ) (g : List ℕ) → AreParents ps → m < length ps → p ≡ get_or ps m 0 → IsCounted ps m g
     → IsCounted ps (m + 1) (set g p (get_or g p 0 + 1))

@@ -27,16 +27,6 @@ pub record IsBegun (d : List ℕ) (n : ℕ) (b : List Bool) : Type 0 where
   pub written : IsWritten d n b
   pub clear : (p : ℕ) → zero_place d n < p → item b p ≡ false
 
-pub begun_none : (d : List ℕ) (old b : List Bool) → ((p : ℕ) → item old p ≡ false) → IsRun 0 1 old b → IsBegun d 0 b
-begun_none d old b none run = record {
-  written = record {
-    root = run.ones 0 (omega arith) (omega arith);
-    zeros = λ j less. run.after (zero_place d j) (omega arith) ∙ none (zero_place d j);
-    ones = λ j p less. absurd (omega arith);
-  };
-  clear = λ p more. run.after p (omega arith) ∙ none p;
-}
-
 pub begun_more : (d : List ℕ) (i start : ℕ) (b new : List Bool) → IsBegun d i b → i < length d → start ≡ zero_place d i + 1
     → IsRun start (get_or d i 0) b new → IsBegun d (i + 1) new
 begun_more d i start b new h inside at run = record {
