@@ -73,11 +73,6 @@ stays n w low lists old v h inside more =
     subst (λ (x : ℕ). IsNextAtLeast (drop old.at xs) v (Some x) (drop old.at xs)) (sym was.number)
     (moved_some xs old.at old.at v h.parts.are.sequence.rising (omega arith) (λ j from l. absurd (omega (arith, from, l))) was.inside (omega (arith, more, was.number)))
 
-pub stays_end : (n w : ℕ) (low : List ℕ) (lists : Lists) (old : Spot) (v : ℕ) → IsHeld n w low lists old → n ≤ old.at
-    → IsNextAtLeast (drop old.at (items_of n w low lists.words)) v None (drop old.at (items_of n w low lists.words))
-stays_end n w low lists old v h past =
-    moved_none (items_of n w low lists.words) old.at old.at v h.parts.are.sequence.rising (omega arith) (λ j from l. absurd (omega (arith, from, l))) (omega (arith, past, h.order, h.parts.are.count))
-
 -- where the number at the cursor is less than v, the first number that is left is
 pub not_reached : (n w : ℕ) (low : List ℕ) (lists : Lists) (old : Spot) (v : ℕ) → IsHeld n w low lists old → old.at < n → old.number < v
     → IsReached (drop old.at (items_of n w low lists.words)) v → ⊥

@@ -3,7 +3,7 @@ use Rattle.std.proofs.Common.{◌≡◌, ◌≢◌, ℕ, ◌+◌, ◌-◌, ◌<�
 use Rattle.std.proofs.lemmas.Bool.{cases_lt, cases_eq}
 use Rattle.std.proofs.lemmas.List.{get_or-drop, get_or-set_same, get_or-set_other, length-set}
 use Rattle.postings.specs.Next.{IsNextAtLeast}
-use Rattle.postings.specs.Shared.{list_at, StandsIn, KeepsFrom, AskedAtMost}
+use Rattle.postings.specs.Shared.{list_at, StandsIn, KeepsFrom}
 
 pub next_kept : (old : List ℕ) (v : ℕ) (o : _) (new : List ℕ) (x : ℕ) → IsNextAtLeast old v o new → v ≤ x → StandsIn old x → StandsIn new x
 next_kept old v o new x h from c =
@@ -73,12 +73,3 @@ keeps_next xss i v o new inside h = record {
       (λ (n : j ≢ i). subst (λ (l : List ℕ). StandsIn l x) (sym (at_other xss i j new n)) c)
       (cases_eq j i);
 }
-
--- it is asked once more
-pub asked_next : (calls : List ℕ) (i n : ℕ) → i < length calls → n ≡ get_or calls i 0 + 1 → AskedAtMost calls (set calls i n) 1
-asked_next calls i n inside is j = ⊎_elim
-    (λ (e : j ≡ i).
-    let P : ℕ → Type 0 = λ k. get_or (set calls i n) k 0 ≤ get_or calls k 0 + 1 in
-    subst P (sym e) (omega (arith, get_or-set_same calls i n 0 inside, is)))
-    (λ (o : j ≢ i). omega (arith, get_or-set_other calls i j n 0 o))
-    (cases_eq j i)
