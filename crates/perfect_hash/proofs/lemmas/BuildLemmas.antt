@@ -1,6 +1,6 @@
 -- Levels that are added one after another.
-use Rattle.std.proofs.Common.{◌≡◌, ℕ, ◌+◌, ◌*◌, ◌<◌, ◌≤◌, Bool, true, not, ◌&&◌, eqb, ltb, List, [], ◌∷◌, ◌++◌, length, refl, sym, ap, ◌∙◌, arith, subst, length-append}
-use Rattle.std.proofs.lemmas.List.Elements.{filter_agree, All-push, All-nil}
+use Rattle.std.proofs.Common.{◌≡◌, ℕ, ◌+◌, ◌*◌, ◌<◌, ◌≤◌, Bool, true, not, eqb, List, [], ◌∷◌, ◌++◌, length, refl, sym, ap, ◌∙◌, arith, subst, length-append}
+use Rattle.std.proofs.lemmas.List.Elements.{filter_agree, All-push}
 use Rattle.std.proofs.lemmas.List.Sums.{sum_by_push}
 use Rattle.std.specs.List.{All, sum}
 use Rattle.std.specs.Option.{option_map}
@@ -12,7 +12,6 @@ use Rattle.perfect_hash.specs.Perfect.{IsMinimalPerfect}
 use Rattle.bitm.proofs.BitLaws.{bits_are_counted, none_before_the_first}
 use Rattle.perfect_hash.proofs.lemmas.CountingLemmas.{count_by-others}
 use Rattle.perfect_hash.proofs.lemmas.LevelLemmas.{FallsInside}
-use Rattle.perfect_hash.proofs.lemmas.MarkLemmas.{single}
 use Rattle.perfect_hash.proofs.lemmas.NumberLemmas.{sum-first, IsNumbered, numbered, number_below, place_from-one}
 use Rattle.perfect_hash.proofs.lemmas.PerfectLemmas.{minimal_perfect}
 use Rattle.perfect_hash.proofs.lemmas.WordLemmas.{item-first, item-added}
@@ -66,17 +65,6 @@ LeadTo-more fall keys b level begin (v ∷ sizes) left w next at next_is at_is l
       (omega arith) (omega (arith, sum-first v sizes)) lead.2 some is,
 )
 
--- no level leaves all keys
-pub Leave-none : {K : Type 0} (fall : K → ℕ → ℕ → ℕ) (keys : List K) (sizes words : List ℕ) → sizes ≡ [] → words ≡ [] → Leave fall keys sizes words keys
-Leave-none fall keys sizes words no_sizes no_words =
-    let P : List ℕ → Type 0 = λ s. LeadTo fall keys (bits_of words) 0 0 s keys in
-    let Q : List ℕ → Type 0 = λ s. All (λ size. 0 < size) s in
-    record {
-      lead = subst P (sym no_sizes) refl;
-      some = subst Q (sym no_sizes) (All-nil (λ size. 0 < size));
-      all = ap sum no_sizes ∙ sym (ap length no_words);
-    }
-
 -- one more level
 pub Leave-more : {K : Type 0} (fall : K → ℕ → ℕ → ℕ) (falls : FallsInside fall) (keys left after : List K) (sizes words new_sizes new_words : List ℕ)
     → Leave fall keys sizes words left → AddsLevel fall left sizes words new_sizes new_words after
@@ -106,22 +94,6 @@ Leave-more {K} fall falls keys left after sizes words new_sizes new_words h adds
         (omega arith) (omega (arith, h.all))
         (LeadTo-kept fall falls keys (bits_of words) (bits_of new_words) 0 0 sizes left (λ i less. adds.kept i (omega (arith, h.all))) h.lead)
         adds.some adds.level
-
--- bits where some key falls, cleared where two do
-pub is_level : {K : Type 0} (fall : K → ℕ → ℕ → ℕ) (keys : List K) (ones hit again : List ℕ) (size level : ℕ)
-    → ((p : ℕ) → p < 64 * size → item (bits_of ones) p ≡ (item (bits_of hit) p && not (item (bits_of again) p)))
-    → ((p : ℕ) → p < 64 * size → item (bits_of hit) p ≡ ltb 0 (hits fall keys level size p))
-    → ((p : ℕ) → p < 64 * size → item (bits_of again) p ≡ ltb 1 (hits fall keys level size p))
-    → IsLevel fall keys (bits_of ones) level 0 size
-is_level fall keys ones hit again size level cleared once twice p less =
-    ap (item (bits_of ones)) (first p)
-    ∙ cleared p less
-    ∙ ap (λ (x : Bool). x && not (item (bits_of again) p)) (once p less)
-    ∙ ap (λ (x : Bool). ltb 0 (hits fall keys level size p) && not x) (twice p less)
-    ∙ single (hits fall keys level size p)
-  where
-    first : (q : ℕ) → 0 + q ≡ q
-    first q = omega arith
 
 -- the words of a level are added
 pub adds_level : {K : Type 0} (fall : K → ℕ → ℕ → ℕ) (falls : FallsInside fall) (keys left : List K) (sizes words new_sizes new_words ones : List ℕ) (size level : ℕ)

@@ -22,13 +22,7 @@ one_counted b p one =
     no : false ≡ true → ⊥
     no h = cc
 
--- a level of these sizes lies within the words, and has one
-pub level_within : (sizes : List ℕ) (b : List Bool) (words level begin : ℕ) → AreSizes sizes b → length b ≡ 64 * words → level < length sizes
-    → begin ≡ sum (take level sizes) → (0 < slice_index sizes level) × (begin + slice_index sizes level ≤ words)
-level_within sizes b words level begin h long inside begins =
-    (h.some level 0 inside, omega (arith, h.all, long, begins, sum_by_more_le (λ x. x) sizes level 0 inside))
-
--- and so does one of sizes that fit
+-- a level of sizes that fit lies within the words, and has one
 pub level_fits : (sizes : List ℕ) (words level begin : ℕ) → FitIn words sizes → level < length sizes
     → begin ≡ sum (take level sizes) → (0 < slice_index sizes level) × (begin + slice_index sizes level ≤ words)
 level_fits sizes words level begin h inside begins =

@@ -1,7 +1,7 @@
 -- Levels that are made one after another in the first words of a slice.
 use Rattle.std.proofs.Common.{◌≡◌, ℕ, ◌+◌, ◌*◌, ◌/◌, ◌%◌, ◌<◌, ◌≤◌, true, List, [], ◌++◌, length, length-drop, max, min, take, drop, set, refl, sym, ap, subst, ◌∙◌, arith}
 use Rattle.std.proofs.Math.Seq.{take-add}
-use Rattle.std.proofs.lemmas.List.{length-take-le, take_all, take_more_set}
+use Rattle.std.proofs.lemmas.List.{length-take-le, take_more_set}
 use Rattle.std.specs.List.{sum}
 use Rattle.bitm.specs.Bits.{bits_of, IsShort}
 use Rattle.bitm.specs.Count.{ones_before, ones_of}
@@ -10,7 +10,7 @@ use Rattle.perfect_hash.specs.Inside.{falls_inside}
 use Rattle.perfect_hash.specs.Levels.{left_of, AddsLevel, AreSized, IsLevel, Leave}
 use Rattle.perfect_hash.specs.Parts.{AreLevels}
 use Rattle.perfect_hash.specs.Places.{place_in, words_for}
-use Rattle.perfect_hash.proofs.lemmas.BuildLemmas.{adds_level, are_sizes, perfect, Leave-more, Leave-none}
+use Rattle.perfect_hash.proofs.lemmas.BuildLemmas.{adds_level, are_sizes, perfect, Leave-more}
 use Rattle.perfect_hash.proofs.lemmas.NumberLemmas.{numbered}
 use Rattle.perfect_hash.proofs.lemmas.PlacingLemmas.{AreSized-next}
 
@@ -18,13 +18,6 @@ use Rattle.perfect_hash.proofs.lemmas.PlacingLemmas.{AreSized-next}
 pub record IsBuilt (percent : ℕ) (keys sizes words hashes : List ℕ) (levels used left : ℕ) : Type 0 where
   pub leave : Leave place_in keys (take levels sizes) (take used words) (take left hashes)
   pub sized : AreSized (words_for percent) place_in keys (bits_of (take used words)) 0 0 (take levels sizes)
-
-pub built_none : (percent : ℕ) (keys sizes words : List ℕ) → IsBuilt percent keys sizes words keys 0 0 (length keys)
-built_none percent keys sizes words = record {
-  leave = subst (λ (left : List ℕ). Leave place_in keys (take 0 sizes) (take 0 words) left) (sym (take_all (length keys) keys (omega arith)))
-      (Leave-none place_in keys (take 0 sizes) (take 0 words) refl refl);
-  sized = tt;
-}
 
 module _ (percent : ℕ) (keys hashes hashes' words words' sizes : List ℕ) (level used size left left' : ℕ)
     (before : IsBuilt percent keys sizes words hashes level used left)

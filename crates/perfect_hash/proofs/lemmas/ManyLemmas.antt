@@ -25,35 +25,6 @@ pub record Midway (fall : ℕ → ℕ → ℕ → ℕ) (b : List Bool) (sizes : 
   pub wait : (k : ℕ) → k < length hashes → slice_index places k ≡ 2 ^ 64 - 1
       → ((a : ℕ) × (a < kept) × (slice_index waiting a ≡ k)) ⊎ ((a : ℕ) × (i ≤ a) × (a < count) × (slice_index waiting a ≡ k))
 
-pub Midway-start : (fall : ℕ → ℕ → ℕ → ℕ) (b : List Bool) (sizes : List ℕ) (level begin next : ℕ) (hashes places waiting : List ℕ) (count : ℕ)
-    → AreLookedUp fall b sizes level begin hashes places waiting count → Midway fall b sizes level begin next hashes places waiting 0 0 count
-Midway-start fall b sizes level begin next hashes places waiting count h = record {
-  order = omega arith;
-  most = omega arith;
-  room = h.room;
-  inside = λ a less. absurd (omega (arith, less));
-  inside_rest = λ a _ less. h.inside a less;
-  go_on = λ a less. absurd (omega (arith, less));
-  rest = λ a _ less. h.go_on a less;
-  found = h.found;
-  wait = λ k less none. let w = h.wait k less none in inr (w.0, omega arith, w.1, w.2);
-}
-
-pub Midway-end : (fall : ℕ → ℕ → ℕ → ℕ) (b : List Bool) (sizes : List ℕ) (level begin next : ℕ) (hashes places waiting : List ℕ) (kept i count : ℕ)
-    → Midway fall b sizes level begin next hashes places waiting kept i count → count ≤ i
-    → AreLookedUp fall b sizes (level + 1) next hashes places waiting kept
-Midway-end fall b sizes level begin next hashes places waiting kept i count h end = record {
-  room = omega (arith, h.order, h.most, h.room);
-  inside = h.inside;
-  go_on = h.go_on;
-  found = h.found;
-  wait = λ k less none.
-      elim (h.wait k less none) [
-        | inl w ↦ w
-        | inr w ↦ absurd (omega (arith, w.1, w.2, end))
-      ];
-}
-
 -- one of those that wait is looked up
 module _ (fall : ℕ → ℕ → ℕ → ℕ) (b : List Bool) (sizes : List ℕ) (level begin next : ℕ) (hashes places waiting : List ℕ) (kept i count place : ℕ)
     (h : Midway fall b sizes level begin next hashes places waiting kept i count) (less : i < count) (long : length places ≡ length hashes)

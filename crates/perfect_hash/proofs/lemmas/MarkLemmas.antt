@@ -1,5 +1,5 @@
 -- Marking: the bits that some of the first keys fall on, and those that two do.
-use Rattle.std.proofs.Common.{◌≡◌, ◌≢◌, ℕ, ◌+◌, ◌*◌, ◌<◌, ◌≤◌, Bool, true, false, not, ◌&&◌, List, length, take, get_or, refl, sym, ap, ◌∙◌, ⊎_elim, arith, eqb, ltb, zero, suc}
+use Rattle.std.proofs.Common.{◌≡◌, ◌≢◌, ℕ, ◌+◌, ◌*◌, ◌<◌, ◌≤◌, Bool, true, false, List, length, take, get_or, sym, ap, ◌∙◌, ⊎_elim, arith, eqb, ltb}
 use Rattle.std.proofs.lemmas.Bool.{cases_eq, eq-eqb, ne_eqb, lt-ltb, le-ltb, ltb-true, ltb-false}
 use Rattle.std.proofs.lemmas.List.Sums.{sum_by_more}
 use Rattle.bitm.specs.Bits.{item}
@@ -12,18 +12,6 @@ use Rattle.perfect_hash.proofs.lemmas.CountingLemmas.{one_if}
 pub record IsMarked {K : Type 0} (fall : K → ℕ → ℕ → ℕ) (keys : List K) (level words : ℕ) (hit again : List Bool) : Type 0 where
   pub once : (p : ℕ) → p < 64 * words → item hit p ≡ ltb 0 (hits fall keys level words p)
   pub twice : (p : ℕ) → p < 64 * words → item again p ≡ ltb 1 (hits fall keys level words p)
-
--- where exactly one key falls
-pub single : (n : ℕ) → (ltb 0 n && not (ltb 1 n)) ≡ eqb n 1
-single zero = refl
-single (suc zero) = refl
-single (suc (suc n)) =
-    ap (λ (x : Bool). ltb 0 (suc (suc n)) && not x) (lt-ltb 1 (suc (suc n)) (omega arith))
-    ∙ no (ltb 0 (suc (suc n))) ∙ sym (ne_eqb (suc (suc n)) 1 (λ h. omega arith))
-  where
-    no : (x : Bool) → (x && false) ≡ false
-    no true = refl
-    no false = refl
 
 -- the same of lists that are the same
 pub IsMarked-same : {K : Type 0} (fall : K → ℕ → ℕ → ℕ) (keys : List K) (level words : ℕ) (hit again hit' again' : List Bool)
