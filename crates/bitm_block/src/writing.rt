@@ -12,13 +12,27 @@ use crate::layout::{ENTRY_WORDS, HEADER_WORDS, Section, head_len, size};
 /// The letters `bitmtab`, lowest byte first, and version 3.
 const MARK: u64 = 0x0362_6174_6d74_6962;
 
-/// Writes zeros from word `first` on.
+/// Writes zeros over at most seven words, up to the next section.
+fn clear_gap(words: &mut [u64])
+    requires { length words.old ≤ 7 }
+    ensures { words.new ≡ replicate (length words.old) 0 }
+{
+    // A loop over all words would be compiled to a call of C's `memset`, and the archive for C calls nothing.
+    for at in 0..7 {
+        if at < words.len() {
+            words[at] = 0;
+        }
+    }
+}
+
+/// Writes zeros from word `first` on, after which there are at most seven words.
 fn clear_from(words: &mut [u64], first: usize)
-    requires { first ≤ length words.old }
+    requires first { first ≤ length words.old }
+    requires few { length words.old ≤ first + 7 }
     ensures { words.new ≡ take first words.old ++ replicate (length words.old - first) 0 }
 {
     let (_kept, rest) = words.split_at_mut(first);
-    rest.fill(0);
+    clear_gap(rest);
 }
 
 /// Writes the entry of a section that begins at word `at` of its block.
@@ -67,7 +81,7 @@ fn write_directory(sections: &[Section], directory: &mut [u64], body: &mut [u64]
 {
     let (entries, padding) = directory.split_at_mut(ENTRY_WORDS * sections.len());
     write_sections(sections, head_len(sections.len()), entries, body);
-    padding.fill(0);
+    clear_gap(padding);
 }
 
 /// Writes the header of a block of `len` words and the given number of sections, whose directory has the checksum
