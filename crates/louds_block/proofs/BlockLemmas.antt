@@ -1,9 +1,9 @@
 -- Sections that stand one after another are those of the block.
-use Rattle.std.proofs.Common.{◌≡◌, ℕ, ◌+◌, ◌-◌, ◌*◌, ◌^◌, ◌<◌, ◌≤◌, List, ◌++◌, length, take, drop, get_or, slice_index, append_assoc, length-append, sym, ap, ◌∙◌, subst, arith}
+use Rattle.std.proofs.Common.{◌≡◌, ℕ, ◌+◌, ◌-◌, ◌^◌, ◌<◌, List, ◌++◌, length, take, drop, get_or, slice_index, append_assoc, length-append, sym, ap, ◌∙◌, subst, arith}
 use Rattle.std.proofs.Math.Seq.{take-append_seam, drop-append_seam}
 use Rattle.std.specs.List.{slice_range}
 use Rattle.bitm_block.proofs.HeaderLemmas.{section_at, sections_len}
-use Rattle.bitm_block.specs.Header.{begin_in, count_in, entry_in, finish_in, head_in, section_in, sections_in}
+use Rattle.bitm_block.specs.Header.{begin_in, count_in, entry_in, section_in}
 use Rattle.bitm_block.specs.Layout.{begin_of}
 use Rattle.bitm_block.specs.Layout.{words_of as item_words_of}
 use Rattle.bitm_block.specs.Written.{IsSealed}
@@ -11,7 +11,7 @@ use Rattle.bitm_block.specs.declared.head.Head.{Head}
 use Rattle.bitm_block.specs.declared.layout.Section.{Section}
 use Rattle.louds.specs.Counted.{degrees_in, IsLouds}
 use Rattle.louds.specs.Held.{words_of}
-use Rattle.louds_block.specs.Block.{end_at, lower_at, lower_of_nodes, parts_of, tree_head, tree_in, tree_sections, upper_at, upper_of_nodes, IsBlockOf, IsTreeOf, StandsIn, TreeParts}
+use Rattle.louds_block.specs.Block.{lower_at, lower_of_nodes, parts_of, tree_head, tree_in, tree_sections, upper_at, upper_of_nodes, IsBlockOf, IsTreeOf, StandsIn, TreeParts}
 
 -- a part between two others
 cut : (front part back : List ℕ) (i j : ℕ) → i ≡ length front → j ≡ i + length part → slice_range (front ++ (part ++ back)) i j ≡ part
@@ -110,26 +110,28 @@ block_is d old new short sealed tree =
     ∙ ap (λ x. parts_of n words x (section_in new 2)) u
     ∙ ap (parts_of n words upper) l in
     record {
-      tree_block = record {
-        is_block = sealed.is_block;
-        sections = record {
-          kind = kind_is n old new sealed;
-          three = omega (arith, count_is n old new sealed);
-          words = ap (λ (s : Section). s.role) (entry_is n old new sealed 0 (omega arith));
-          upper = ap (λ (s : Section). s.role) (entry_is n old new sealed 1 (omega arith));
-          lower = ap (λ (s : Section). s.role) (entry_is n old new sealed 2 (omega arith));
-        };
-        lengths = record {
-          short = omega (arith, short, nodes_are n old new sealed);
-          words_len = ap length w ∙ tree.words_len ∙ ap words_of (sym (nodes_are n old new sealed));
-          sized = record {
-            short = omega (arith, short, ap length w, tree.words_len);
-            upper_len = omega (arith, ap length u, ap length w, tree.upper_len, tree.words_len);
-            lower_len = omega (arith, ap length l, ap length w, tree.lower_len, tree.words_len);
+      holds = record {
+        tree_block = record {
+          is_block = sealed.is_block;
+          sections = record {
+            kind = kind_is n old new sealed;
+            three = omega (arith, count_is n old new sealed);
+            words = ap (λ (s : Section). s.role) (entry_is n old new sealed 0 (omega arith));
+            upper = ap (λ (s : Section). s.role) (entry_is n old new sealed 1 (omega arith));
+            lower = ap (λ (s : Section). s.role) (entry_is n old new sealed 2 (omega arith));
+          };
+          lengths = record {
+            short = omega (arith, short, nodes_are n old new sealed);
+            words_len = ap length w ∙ tree.words_len ∙ ap words_of (sym (nodes_are n old new sealed));
+            sized = record {
+              short = omega (arith, short, ap length w, tree.words_len);
+              upper_len = omega (arith, ap length u, ap length w, tree.upper_len, tree.words_len);
+              lower_len = omega (arith, ap length l, ap length w, tree.lower_len, tree.words_len);
+            };
           };
         };
+        verified = sealed.verified;
+        louds = subst (λ (t : TreeParts). IsLouds t.len t.lists) (sym parts) tree.louds;
       };
-      verified = sealed.verified;
-      louds = subst (λ (t : TreeParts). IsLouds t.len t.lists) (sym parts) tree.louds;
       degrees_are = ap (λ (t : TreeParts). degrees_in t.len t.lists) parts ∙ tree.degrees_are;
     }

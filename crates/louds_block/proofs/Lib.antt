@@ -1,2 +1,3 @@
 pub mod BlockLemmas
 pub mod CheckLemmas
+pub mod SiblingLemmas

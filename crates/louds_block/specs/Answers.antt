@@ -1,8 +1,8 @@
 -- What is answered of a tree in memory that may hold anything, and in that of a tree.
-use Rattle.std.specs.Prelude.{◌≡◌, ⊤, ℕ, ◌<◌, ◌≤◌, ◌⊎◌, List, length, slice_index}
+use Rattle.std.specs.Prelude.{◌≡◌, ⊤, ℕ, ◌+◌, ◌<◌, ◌≤◌, ◌⊎◌, ◌==◌, Bool, List, length, slice_index}
 use Rattle.bitm.specs.Answer.{Answer}
 use Rattle.bitm.specs.Answer.TheVariants.{Found, Absent, Wrong}
-use Rattle.louds.specs.Tree.{IsChild}
+use Rattle.louds.specs.Tree.{IsChild, IsFirst, IsLast, IsNextSibling}
 
 -- of n nodes: a parent is a node before v, and Absent is answered exactly at the root and where v is no node
 abbrev pub IsParentWithin : ℕ → ℕ → Answer ℕ → Type 0
@@ -39,3 +39,51 @@ abbrev pub IsDegreeOf : List ℕ → ℕ → Answer ℕ → Type 0
 IsDegreeOf d i (Found k) = k ≡ slice_index d i
 IsDegreeOf d i Absent = length d ≤ i
 IsDegreeOf d i Wrong = ⊥
+
+-- of n nodes: Absent is answered exactly where i is no node
+abbrev pub IsLeafWithin : ℕ → ℕ → Answer Bool → Type 0
+IsLeafWithin n i (Found leaf) = i < n
+IsLeafWithin n i Absent = n ≤ i
+IsLeafWithin n i Wrong = i < n
+
+-- whether node i has no children, and Absent exactly where i is no node
+abbrev pub IsLeafOf : List ℕ → ℕ → Answer Bool → Type 0
+IsLeafOf d i (Found leaf) = leaf ≡ (slice_index d i == 0)
+IsLeafOf d i Absent = length d ≤ i
+IsLeafOf d i Wrong = ⊥
+
+-- of n nodes: a next sibling of v is the node after it
+abbrev pub IsNextSiblingWithin : ℕ → ℕ → Answer ℕ → Type 0
+IsNextSiblingWithin n v (Found w) = (w ≡ v + 1) × (w < n)
+IsNextSiblingWithin n v Absent = ⊤
+IsNextSiblingWithin n v Wrong = v < n
+
+-- the next child of the parent of node v, and Absent exactly where v is the last one, the root or no node
+abbrev pub IsNextSiblingOf : List ℕ → ℕ → Answer ℕ → Type 0
+IsNextSiblingOf d v (Found w) = IsNextSibling d v w
+IsNextSiblingOf d v Absent = (length d ≤ v) ⊎ IsLast d v
+IsNextSiblingOf d v Wrong = ⊥
+
+-- of n nodes: a previous sibling of v is the node before it
+abbrev pub IsPreviousSiblingWithin : ℕ → ℕ → Answer ℕ → Type 0
+IsPreviousSiblingWithin n v (Found u) = (u + 1 ≡ v) × (v < n)
+IsPreviousSiblingWithin n v Absent = ⊤
+IsPreviousSiblingWithin n v Wrong = (0 < v) × (v < n)
+
+-- the child before node v of its parent, and Absent exactly where v is the first one, the root or no node
+abbrev pub IsPreviousSiblingOf : List ℕ → ℕ → Answer ℕ → Type 0
+IsPreviousSiblingOf d v (Found u) = IsNextSibling d u v
+IsPreviousSiblingOf d v Absent = (length d ≤ v) ⊎ IsFirst d v
+IsPreviousSiblingOf d v Wrong = ⊥
+
+-- of n nodes: a node is a child of a rank below n, and Absent is answered exactly at the root and where v is no node
+abbrev pub IsChildRankWithin : ℕ → ℕ → Answer ℕ → Type 0
+IsChildRankWithin n v (Found k) = (k < n) × (0 < v) × (v < n)
+IsChildRankWithin n v Absent = (v ≡ 0) ⊎ (n ≤ v)
+IsChildRankWithin n v Wrong = (0 < v) × (v < n)
+
+-- which child of its parent node v is, and Absent exactly at the root and where v is no node
+abbrev pub IsChildRankOf : List ℕ → ℕ → Answer ℕ → Type 0
+IsChildRankOf d v (Found k) = (i : ℕ) × IsChild d i k v
+IsChildRankOf d v Absent = (v ≡ 0) ⊎ (length d ≤ v)
+IsChildRankOf d v Wrong = ⊥

@@ -1,8 +1,8 @@
 -- A block that holds a tree.
-use Rattle.std.specs.Prelude.{◌≡◌, ℕ, ◌+◌, ◌*◌, ◌/◌, ◌^◌, ◌<◌, ◌≤◌, List, [], ◌∷◌, length, slice_index, slice_range}
+use Rattle.std.specs.Prelude.{◌≡◌, ℕ, ◌+◌, ◌^◌, ◌<◌, ◌≤◌, List, [], ◌∷◌, length, slice_index, slice_range}
 use Rattle.std.specs.Int.{div_ceil}
 use Rattle.bitm.specs.Tables.{HasSizes, Lists}
-use Rattle.bitm_block.specs.Header.{count_in, entry_in, section_in, IsBlock, IsVerified}
+use Rattle.bitm_block.specs.Header.{count_in, section_in, IsBlock, IsVerified}
 use Rattle.bitm_block.specs.Layout.{aligned, end_of}
 use Rattle.bitm_block.specs.declared.head.Head.{Head}
 use Rattle.bitm_block.specs.declared.layout.Section.{Section}
@@ -92,9 +92,13 @@ StandsIn degrees block =
     IsTreeOf degrees (slice_range block 32 (32 + words_of n)) (slice_range block (upper_at n) (upper_at n + upper_of_nodes n))
     (slice_range block (lower_at n) (lower_at n + lower_of_nodes n))
 
--- the block is that of the tree of these degrees
-pub record IsBlockOf (degrees block : List ℕ) : Type 0 where
+-- the block is as it was written, and holds a tree
+pub record HoldsTree (block : List ℕ) : Type 0 where
   pub tree_block : IsTreeBlock block
   pub verified : IsVerified block
   pub louds : IsLouds (tree_in block).len (tree_in block).lists
+
+-- the block is that of the tree of these degrees
+pub record IsBlockOf (degrees block : List ℕ) : Type 0 where
+  pub holds : HoldsTree block
   pub degrees_are : degrees_in (tree_in block).len (tree_in block).lists ≡ degrees

@@ -1,5 +1,5 @@
 //! The block of a tree, written into the caller's memory.
-ghost use Rattle.std.specs.Prelude.{◌≡◌, ◌≢◌, ◌^◌, ◌<◌, ◌≤◌, ◌↔◌, IfErr, IfOk, IsErrOf, length, replicate};
+ghost use Rattle.std.specs.Prelude.{◌≡◌, ◌≢◌, ◌^◌, ◌<◌, ◌≤◌, ◌↔◌, IfErr, IfOk, IsErrOf, IsOk, length, replicate};
 ghost use Rattle.bitm_block.specs.Layout.{end_of};
 ghost use Rattle.bitm_block.specs.Written.{IsSealed};
 ghost use Rattle.louds.specs.Held.{words_of};
@@ -86,6 +86,7 @@ pub fn build(degrees: &[usize], block: &mut [u64]) -> Result<(), BuildError>
         ↔ ((length degrees.now < 2 ^ 60) × (¬ (IsTree degrees.now))) }
     ensures wrong_length { IsErrOf result BuildError.WrongLength ↔ ((length degrees.now < 2 ^ 60)
         × IsTree degrees.now × (length block.old ≢ end_of (tree_sections (length degrees.now)))) }
+    ensures ok { IsOk result ↔ CanHold degrees.now block.old }
     ensures block { IfOk result (λ _. IsBlockOf degrees.now block.new) }
     ensures kept { IfErr result (λ _. block.new ≡ block.old) }
 {

@@ -24,6 +24,7 @@
 // - `error`: why no block was written
 // - `queries`: parents, children and degrees over any source
 // - `sections`: the sections of the block of a tree
+// - `siblings`: leaves, siblings and ranks among siblings over any source
 // - `tree`: the view of a block, and its queries
 // - `writing`: the bits of a tree
 mod building;
@@ -31,6 +32,7 @@ mod checking;
 mod error;
 mod queries;
 mod sections;
+mod siblings;
 mod tree;
 mod writing;
 
@@ -39,4 +41,7 @@ pub use building::build;
 pub use error::BuildError;
 pub use queries::{total_child_on, total_degree_on, total_parent_on};
 pub use sections::{LOUDS, size};
+pub use siblings::{
+    total_child_rank_on, total_is_leaf_on, total_next_sibling_on, total_previous_sibling_on,
+};
 pub use tree::LoudsView;

@@ -1,5 +1,5 @@
 //! Parents, children and degrees over any source, of which the words and tables may hold anything.
-ghost use Rattle.std.specs.Prelude.{◌≡◌, ◌+◌, ◌^◌, ◌<◌, ◌≤◌, ℕ, List, length};
+ghost use Rattle.std.specs.Prelude.{◌≡◌, ◌+◌, ◌-◌, ◌^◌, ◌<◌, ◌≤◌, ℕ, List, length, IfSome, MatchOption};
 ghost use Rattle.bitm.specs.Tables.{HasSizes};
 ghost use Rattle.louds.specs.Counted.{degrees_in, IsLouds, OnlySelects};
 ghost use Rattle.louds.specs.Held.{zero_place, IsOneOf};
@@ -11,7 +11,7 @@ use bitm::{Answer, TableSource, total_select_on};
 
 /// The parent of a node whose 1 bit stands at a position; `Wrong` only where none does.
 #[inline(always)]
-fn parent_at(place: usize, len: usize, node: usize) -> Answer<usize>
+pub(crate) fn parent_at(place: usize, len: usize, node: usize) -> Answer<usize>
     requires some { 0 < node }
     requires inside { node < len }
     ensures inside { IsParentWithin len node result }
@@ -46,21 +46,42 @@ pub fn total_parent_on<T: TableSource>(source: &mut T, len: usize, node: usize) 
     if node == 0 || node >= len {
         return Answer::Absent;
     }
+    match total_one_on(source, len, node) {
+        Some(place) => parent_at(place, len, node),
+        None => Answer::Wrong,
+    }
+}
+
+/// The position of the 1 bit of a node; `None` only where the source holds no tree.
+#[inline(always)]
+pub(crate) fn total_one_on<T: TableSource>(source: &mut T, len: usize, node: usize) -> Option<usize>
+    requires sized { HasSizes (T.lists source.old) }
+    requires node { node < len }
+    ensures place { IsLouds len (T.lists source.old)
+        → MatchOption result ⊥ (IsOneOf (degrees_in len (T.lists source.old)) node) }
+    ensures small { IfSome result (λ place. place < 2 ^ 64 - 1) }
+    ensures reads { OnlySelects T.lists T.reads source.old source.new 1 0 }
+{
     match total_select_on::<1, T>(source, node) {
-        Answer::Found(place) => parent_at(place, len, node),
-        Answer::Absent => Answer::Wrong,
-        Answer::Wrong => Answer::Wrong,
+        Answer::Found(place) => Some(place),
+        Answer::Absent => None,
+        Answer::Wrong => None,
     }
 }
 
 /// The position of the 0 bit before the 1 bits of a node, or of the last 0 bit; `None` only where the source holds no
 /// tree.
 #[inline(always)]
-fn total_zero_on<T: TableSource>(source: &mut T, len: usize, node: usize) -> Option<usize>
+pub(crate) fn total_zero_on<T: TableSource>(
+    source: &mut T,
+    len: usize,
+    node: usize,
+) -> Option<usize>
     requires sized { HasSizes (T.lists source.old) }
     requires node { node ≤ len }
     ensures place { IsLouds len (T.lists source.old)
         → result ≡ Some (zero_place (degrees_in len (T.lists source.old)) node) }
+    ensures small { IfSome result (λ place. place < 2 ^ 64 - 1) }
     ensures reads { OnlySelects T.lists T.reads source.old source.new 1 0 }
 {
     match total_select_on::<0, T>(source, node) {

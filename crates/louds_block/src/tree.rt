@@ -3,12 +3,17 @@ ghost use Rattle.std.specs.Prelude.{◌≡◌, ◌^◌, ◌<◌, ◌↔◌, IsTr
 ghost use Rattle.bitm.specs.Reads.{none_read};
 ghost use Rattle.louds.specs.Counted.{degrees_in, IsLouds};
 ghost use Rattle.louds_block.specs.Answers.{IsChildOf, IsChildWithin, IsDegreeOf, IsDegreeWithin};
-ghost use Rattle.louds_block.specs.Answers.{IsParentOf, IsParentWithin};
-ghost use Rattle.louds_block.specs.Block.{parts_of, tree_in, HasLengths, HasTreeSections, IsTreeBlock};
+ghost use Rattle.louds_block.specs.Answers.{IsChildRankOf, IsChildRankWithin, IsLeafOf, IsLeafWithin};
+ghost use Rattle.louds_block.specs.Answers.{IsNextSiblingOf, IsNextSiblingWithin, IsParentOf, IsParentWithin};
+ghost use Rattle.louds_block.specs.Answers.{IsPreviousSiblingOf, IsPreviousSiblingWithin};
+ghost use Rattle.louds_block.specs.Block.{parts_of, tree_in, HasLengths, HasTreeSections, HoldsTree, IsTreeBlock};
 
 use crate::checking::holds_tree;
 use crate::queries::{total_child_on, total_degree_on, total_parent_on};
 use crate::sections::{LOUDS, Lens};
+use crate::siblings::{
+    total_child_rank_on, total_is_leaf_on, total_next_sibling_on, total_previous_sibling_on,
+};
 use bitm::Answer;
 use bitm_block::Block;
 use block_tables::{BlockProbe, are_tables};
@@ -79,6 +84,30 @@ impl<'a> LoudsView<'a> {
         }
     }
 
+    /// The tree in a block that is as it was written; `None` exactly where `open` says so, a section or the zeros after
+    /// it are not those that were written (`Block::verify`), or the sections hold no tree (`check`). So a block in which
+    /// one word was changed is refused, and every answer is that of the tree.
+    ///
+    /// # Cost
+    /// Three passes over the words, and one word more for each node (evident from the code).
+    ///
+    /// ```
+    /// LoudsView::open_checked(block.as_slice());   // Some(..) of a block that `build` wrote
+    /// ```
+    pub fn open_checked(words: &'a [u64]) -> Option<LoudsView<'a>>
+        ensures { SomeIff result (HoldsTree words.now) (tree_in words.now) }
+    {
+        let view = LoudsView::open(words)?;
+        let Ok(block) = Block::open(words) else {
+            return None;
+        };
+        if block.verify() && view.check() {
+            Some(view)
+        } else {
+            None
+        }
+    }
+
     /// The given number of nodes in words with two tables; `None` exactly where a length is not that of the number of
     /// nodes.
     ///
@@ -121,6 +150,42 @@ impl<'a> LoudsView<'a> {
         ensures short { result < 2 ^ 60 }
     {
         self.len
+    }
+
+    /// The words that hold the tree.
+    ///
+    /// ```
+    /// tree.words().len();   // 1
+    /// ```
+    #[inline(always)]
+    pub fn words(&self) -> &'a [u64]
+        ensures { result.now ≡ self.now.lists.words }
+    {
+        self.words
+    }
+
+    /// The upper table of the words.
+    ///
+    /// ```
+    /// tree.upper().len();   // 1
+    /// ```
+    #[inline(always)]
+    pub fn upper(&self) -> &'a [u64]
+        ensures { result.now ≡ self.now.lists.upper }
+    {
+        self.upper
+    }
+
+    /// The lower table of the words.
+    ///
+    /// ```
+    /// tree.lower().len();   // 1
+    /// ```
+    #[inline(always)]
+    pub fn lower(&self) -> &'a [u64]
+        ensures { result.now ≡ self.now.lists.lower }
+    {
+        self.lower
     }
 
     /// A source over the words and tables, whose reads are counted from 0.
@@ -203,5 +268,80 @@ impl<'a> LoudsView<'a> {
             → IsDegreeOf (degrees_in self.now.len self.now.lists) node result }
     {
         total_degree_on(&mut self.probe(), self.len, node)
+    }
+
+    /// Whether a node has no children. Whatever the block holds, the answer is `Absent` exactly where there is no such
+    /// node. Where it holds a tree, the answer is never `Wrong`.
+    ///
+    /// # Cost
+    /// That of `total_is_leaf_on`.
+    ///
+    /// ```
+    /// tree.is_leaf(3);   // Found(true)
+    /// ```
+    #[inline]
+    pub fn is_leaf(&self, node: usize) -> Answer<bool>
+        ensures inside { IsLeafWithin self.now.len node result }
+        ensures answer { IsLouds self.now.len self.now.lists
+            → IsLeafOf (degrees_in self.now.len self.now.lists) node result }
+    {
+        total_is_leaf_on(&mut self.probe(), self.len, node)
+    }
+
+    /// The next child of a node's parent. Whatever the block holds, it is the node after this one. Where it holds a
+    /// tree, the answer is `Absent` exactly at the last child, at the root and where there is no such node, and never
+    /// `Wrong`.
+    ///
+    /// # Cost
+    /// That of `total_next_sibling_on`.
+    ///
+    /// ```
+    /// tree.next_sibling(1);   // Found(2)
+    /// ```
+    #[inline]
+    pub fn next_sibling(&self, node: usize) -> Answer<usize>
+        ensures inside { IsNextSiblingWithin self.now.len node result }
+        ensures answer { IsLouds self.now.len self.now.lists
+            → IsNextSiblingOf (degrees_in self.now.len self.now.lists) node result }
+    {
+        total_next_sibling_on(&mut self.probe(), self.len, node)
+    }
+
+    /// The child of a node's parent before it. Whatever the block holds, it is the node before this one. Where it holds
+    /// a tree, the answer is `Absent` exactly at the first child, at the root and where there is no such node, and never
+    /// `Wrong`.
+    ///
+    /// # Cost
+    /// That of `total_previous_sibling_on`.
+    ///
+    /// ```
+    /// tree.previous_sibling(2);   // Found(1)
+    /// ```
+    #[inline]
+    pub fn previous_sibling(&self, node: usize) -> Answer<usize>
+        ensures inside { IsPreviousSiblingWithin self.now.len node result }
+        ensures answer { IsLouds self.now.len self.now.lists
+            → IsPreviousSiblingOf (degrees_in self.now.len self.now.lists) node result }
+    {
+        total_previous_sibling_on(&mut self.probe(), self.len, node)
+    }
+
+    /// Which child of its parent a node is, counted from 0. Whatever the block holds, that is less than the number of
+    /// nodes, and the answer is `Absent` exactly at the root and where there is no such node. Where it holds a tree, the
+    /// answer is never `Wrong`.
+    ///
+    /// # Cost
+    /// That of `total_child_rank_on`.
+    ///
+    /// ```
+    /// tree.child_rank(2);   // Found(1)
+    /// ```
+    #[inline]
+    pub fn child_rank(&self, node: usize) -> Answer<usize>
+        ensures inside { IsChildRankWithin self.now.len node result }
+        ensures answer { IsLouds self.now.len self.now.lists
+            → IsChildRankOf (degrees_in self.now.len self.now.lists) node result }
+    {
+        total_child_rank_on(&mut self.probe(), self.len, node)
     }
 }

@@ -1,5 +1,5 @@
 -- All is cleared, and each section is written where the block has it.
-use Rattle.std.proofs.Common.{◌-◌, ◌+◌, ◌*◌, ◌/◌, ◌≤◌, length, take, drop, replicate, ap, ◌∙◌, arith}
+use Rattle.std.proofs.Common.{◌-◌, ◌≤◌, length, take, drop, replicate, ap, ◌∙◌, arith}
 use Rattle.std.proofs.lemmas.List.{drop-replicate, take-replicate}
 use Rattle.louds_block.proofs.BlockLemmas.{stands}
 use Rattle.louds_block.proofs.building.write_parts.Goals as goal

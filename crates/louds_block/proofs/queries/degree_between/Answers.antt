@@ -1,6 +1,6 @@
 -- The 0 bit after a node's 1 bits stands after that before them, by the node's degree and one; a degree is less than the
 -- number of nodes.
-use Rattle.std.proofs.Common.{◌+◌, ◌<◌, get_or, length, sum_by, arith}
+use Rattle.std.proofs.Common.{◌<◌, length, arith}
 use Rattle.std.proofs.lemmas.List.Sums.{sum_by_more_le}
 use Rattle.louds.proofs.lemmas.TreeLemmas.{zero_place_more}
 use Rattle.louds_block.proofs.queries.degree_between.Goals as goal

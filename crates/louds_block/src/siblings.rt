@@ -1,0 +1,160 @@
+//! Leaves, siblings and ranks among siblings over any source, of which the words and tables may hold anything.
+ghost use Rattle.std.specs.Prelude.{◌≡◌, ◌+◌, ◌-◌, ◌^◌, ◌<◌, ◌≤◌};
+ghost use Rattle.bitm.specs.Tables.{HasSizes};
+ghost use Rattle.louds.specs.Counted.{degrees_in, IsLouds, OnlySelects};
+ghost use Rattle.louds_block.specs.Answers.{IsChildRankOf, IsChildRankWithin, IsLeafOf, IsLeafWithin};
+ghost use Rattle.louds_block.specs.Answers.{IsNextSiblingOf, IsNextSiblingWithin};
+ghost use Rattle.louds_block.specs.Answers.{IsPreviousSiblingOf, IsPreviousSiblingWithin};
+
+use crate::queries::{parent_at, total_one_on, total_zero_on};
+use bitm::{Answer, TableSource, bit_on};
+
+/// Whether a node has no children, by its number.
+///
+/// Whatever the source holds, the answer is `Absent` exactly where there is no such node. Where it holds a tree, the
+/// answer is whether the degree is 0, and never `Wrong`.
+///
+/// # Conditions
+/// There are fewer than 2^58 words, and the tables have the right lengths. They may hold anything.
+/// # Cost
+/// What a selection by binary search reads, and one word, whatever the source holds.
+///
+/// ```
+/// total_is_leaf_on(&mut source, 4, 3);   // Found(true), Absent or Wrong
+/// ```
+pub fn total_is_leaf_on<T: TableSource>(source: &mut T, len: usize, node: usize) -> Answer<bool>
+    requires { HasSizes (T.lists source.old) }
+    ensures inside { IsLeafWithin len node result }
+    ensures answer { IsLouds len (T.lists source.old)
+        → IsLeafOf (degrees_in len (T.lists source.old)) node result }
+    ensures reads { OnlySelects T.lists T.reads source.old source.new 1 1 }
+{
+    if node >= len {
+        return Answer::Absent;
+    }
+    let Some(start) = total_zero_on(source, len, node) else {
+        return Answer::Wrong;
+    };
+    match bit_on(source, start + 1) {
+        Some(bit) => Answer::Found(!bit),
+        None => Answer::Wrong,
+    }
+}
+
+/// The next child of a node's parent, by its number.
+///
+/// Whatever the source holds, it is the number after that of the node, and there is such a node. Where the source holds
+/// a tree, the answer is the next sibling, `Absent` exactly at the last child, at the root and where there is no such
+/// node, and never `Wrong`.
+///
+/// # Conditions
+/// There are fewer than 2^58 words, and the tables have the right lengths. They may hold anything.
+/// # Cost
+/// What a selection by binary search reads, and one word, whatever the source holds.
+///
+/// ```
+/// total_next_sibling_on(&mut source, 4, 1);   // Found(2), Absent or Wrong
+/// ```
+pub fn total_next_sibling_on<T: TableSource>(
+    source: &mut T,
+    len: usize,
+    node: usize,
+) -> Answer<usize>
+    requires { HasSizes (T.lists source.old) }
+    ensures inside { IsNextSiblingWithin len node result }
+    ensures answer { IsLouds len (T.lists source.old)
+        → IsNextSiblingOf (degrees_in len (T.lists source.old)) node result }
+    ensures reads { OnlySelects T.lists T.reads source.old source.new 1 1 }
+{
+    if node >= len {
+        return Answer::Absent;
+    }
+    let Some(place) = total_one_on(source, len, node) else {
+        return Answer::Wrong;
+    };
+    match bit_on(source, place + 1) {
+        Some(true) if node + 1 < len => Answer::Found(node + 1),
+        Some(false) => Answer::Absent,
+        _ => Answer::Wrong,
+    }
+}
+
+/// The child of a node's parent before it, by its number.
+///
+/// Whatever the source holds, it is the number before that of the node. Where the source holds a tree, the answer is the
+/// previous sibling, `Absent` exactly at the first child, at the root and where there is no such node, and never
+/// `Wrong`.
+///
+/// # Conditions
+/// There are fewer than 2^58 words, and the tables have the right lengths. They may hold anything.
+/// # Cost
+/// What a selection by binary search reads, and one word, whatever the source holds; nothing at the root.
+///
+/// ```
+/// total_previous_sibling_on(&mut source, 4, 2);   // Found(1), Absent or Wrong
+/// ```
+pub fn total_previous_sibling_on<T: TableSource>(
+    source: &mut T,
+    len: usize,
+    node: usize,
+) -> Answer<usize>
+    requires { HasSizes (T.lists source.old) }
+    ensures inside { IsPreviousSiblingWithin len node result }
+    ensures answer { IsLouds len (T.lists source.old)
+        → IsPreviousSiblingOf (degrees_in len (T.lists source.old)) node result }
+    ensures reads { OnlySelects T.lists T.reads source.old source.new 1 1 }
+{
+    if node == 0 || node >= len {
+        return Answer::Absent;
+    }
+    let Some(place) = total_one_on(source, len, node) else {
+        return Answer::Wrong;
+    };
+    if place == 0 {
+        return Answer::Wrong;
+    }
+    match bit_on(source, place - 1) {
+        Some(true) => Answer::Found(node - 1),
+        Some(false) => Answer::Absent,
+        None => Answer::Wrong,
+    }
+}
+
+/// Which child of its parent a node is, counted from 0, by the node's number.
+///
+/// Whatever the source holds, that is less than the number of nodes, and the answer is `Absent` exactly at the root and
+/// where there is no such node. Where the source holds a tree, the node is that child of its parent, and the answer is
+/// never `Wrong`.
+///
+/// # Conditions
+/// There are fewer than 2^58 words, and the tables have the right lengths. They may hold anything.
+/// # Cost
+/// What two selections by binary search read, whatever the source holds.
+///
+/// ```
+/// total_child_rank_on(&mut source, 4, 2);   // Found(1), Absent or Wrong
+/// ```
+pub fn total_child_rank_on<T: TableSource>(source: &mut T, len: usize, node: usize) -> Answer<usize>
+    requires { HasSizes (T.lists source.old) }
+    ensures inside { IsChildRankWithin len node result }
+    ensures answer { IsLouds len (T.lists source.old)
+        → IsChildRankOf (degrees_in len (T.lists source.old)) node result }
+    ensures reads { OnlySelects T.lists T.reads source.old source.new 2 0 }
+{
+    if node == 0 || node >= len {
+        return Answer::Absent;
+    }
+    let Some(place) = total_one_on(source, len, node) else {
+        return Answer::Wrong;
+    };
+    let Answer::Found(parent) = parent_at(place, len, node) else {
+        return Answer::Wrong;
+    };
+    let Some(start) = total_zero_on(source, len, parent) else {
+        return Answer::Wrong;
+    };
+    match place.checked_sub(start + 1) {
+        Some(k) if k < len => Answer::Found(k),
+        _ => Answer::Wrong,
+    }
+}
