@@ -1,5 +1,5 @@
 /* Succinct bit vectors with rank and select: words, and two tables of counts beside them. And monotone integer
- * sequences (Elias-Fano) and minimal perfect hashes, in words with such tables.
+ * sequences (Elias-Fano), minimal perfect hashes and trees (LOUDS), in words with such tables.
  *
  * Bit i is bit i % 64, lowest first, of words[i / 64]. You own the memory of words and tables, which may be a mapped
  * file. No call allocates, keeps a pointer or has state, so any number of threads may query at once.
@@ -13,8 +13,8 @@
  *     if (bitm_index_select(&index, true, 4, &position) != BITM_OK || position != 64) return 1;
  *
  * NAMES. The prefix says what is queried: bitm_bits_ (words without tables), bitm_index_ (words with tables),
- * bitm_sequence_, bitm_hash_, bitm_stored_. `bool one` says which bits are meant: true the 1 bits, false the 0 bits. A
- * position counts from 0; the rank of a bit is how many bits of its kind there are before it.
+ * bitm_sequence_, bitm_hash_, bitm_tree_, bitm_stored_. `bool one` says which bits are meant: true the 1 bits, false the
+ * 0 bits. A position counts from 0; the rank of a bit is how many bits of its kind there are before it.
  *
  * LENGTHS. words_len, upper_len, lower_len, samples_len, .. count the items of that pointer; bits_len counts bits, and
  * is at most 64 * words_len. What lies past the first bits_len bits is neither counted nor found nor changed.
@@ -112,8 +112,8 @@ enum bitm_status {
     BITM_OK = 0,       /* the answer was written */
     BITM_NONE = 1,     /* there is no such position, bit or number */
     BITM_BAD_SIZE = 2, /* a length is wrong: see each call; bitm_index_fault, bitm_sequence_fault, .. say which one */
-    BITM_WRONG = 3,    /* the tables or samples are not those of the words, the parts not those of a sequence, or the
-                        * header is not one */
+    BITM_WRONG = 3,    /* the tables or samples are not those of the words, the parts not those of a sequence, the
+                        * header is not one, or the degrees or the block are not those of a tree */
     BITM_UNSORTED = 4  /* a number is less than the one before it */
 };
 
@@ -1128,6 +1128,128 @@ BITM_MUST_USE uint32_t bitm_shards_rank_list(const struct bitm_shards *shards, b
 BITM_MUST_USE uint32_t bitm_shards_select_list(const struct bitm_shards *shards, bool one, const uint64_t *ranks,
                                                size_t ranks_len, uint64_t *out, size_t out_len, uint64_t *room,
                                                size_t room_len, struct bitm_list_counts *counts);
+
+/* ---- trees: each in one block of memory
+ *
+ * A block is one piece of memory, and also one file: it holds no pointer, and can be mapped by many processes
+ * (docs/FORMAT.md). A tree of n nodes takes 2 n + 1 bits (LOUDS: Jacobson, FOCS 1989) and their tables, about 2.1 bits a
+ * node. Nodes are numbered level by level: the root is node 0, and the children of a node follow one another, after
+ * those of the node before it. A tree is built from the degree of each node, which is how many children it has:
+ *
+ *     const uint64_t degrees[4] = {2, 0, 1, 0}; // the root has the children 1 and 2, and node 2 has the child 3
+ *     uint64_t block_len, node;
+ *     if (bitm_tree_size(4, &block_len) != BITM_OK) return 1;
+ *     uint64_t *block = malloc(8 * block_len); // or a mapped file
+ *     struct bitm_tree tree = {0};
+ *     if (!block || bitm_tree_build(degrees, 4, block, block_len) != BITM_OK ||
+ *         bitm_tree_open(block, block_len, &tree) != BITM_OK || tree.len != 4 ||
+ *         bitm_tree_parent(&tree, 3, &node) != BITM_OK || node != 2) return 1;
+ *
+ * Over any block that bitm_tree_open takes, a stale or hostile one too, a query returns within the reads that are named
+ * below, a parent is less than its child, a child is less than tree.len, and a degree too. If bitm_tree_build wrote the
+ * block or bitm_tree_check passes it, and it did not change afterwards, the answers are those of one tree, and no query
+ * returns BITM_WRONG. */
+struct bitm_tree {
+    size_t len; /* how many nodes */
+    const uint64_t *words;
+    size_t words_len;
+    const uint64_t *upper;
+    size_t upper_len;
+    const uint64_t *lower;
+    size_t lower_len;
+    uint64_t reserved[2]; /* 0: not read */
+};
+
+/* How many words the block of a tree of that many nodes takes. BITM_BAD_SIZE if there are 2^60 or more. */
+BITM_MUST_USE uint32_t bitm_tree_size(size_t nodes, uint64_t *out);
+
+/* Writes the block of the tree whose nodes have these degrees. BITM_WRONG exactly if they are those of no tree: there is
+ * one child for each node but the root, and the first i nodes have at least i children, for each i from 1 to n - 1. Else
+ * BITM_BAD_SIZE if block_len is not what bitm_tree_size says. Allocates nothing, and needs no other memory. degrees and
+ * block may not overlap.
+ *
+ *     const uint64_t of_none[2] = {0, 1}; // node 1 would be its own parent
+ *     if (bitm_tree_build(of_none, 2, block, block_len) != BITM_WRONG) return 1; */
+BITM_MUST_USE uint32_t bitm_tree_build(const uint64_t *degrees, size_t degrees_len, uint64_t *block, size_t block_len);
+
+/* Opens a block: writes the tree that queries take, which points into the block. *tree has to be zeros, or a tree whose
+ * block is still there. BITM_WRONG exactly if the header or the directory of the block is not right, or is that of no
+ * tree, or block_len is not as they say. Reads at most 80 words, however long the block is (evident from the code); what
+ * its other words hold is not looked at.
+ *
+ *     if (bitm_tree_open(block, block_len - 1, &tree) != BITM_WRONG || tree.len != 4) return 1; */
+BITM_MUST_USE uint32_t bitm_tree_open(const uint64_t *block, size_t block_len, struct bitm_tree *tree);
+
+/* Whether a block is as it was written and holds a tree: BITM_OK, or BITM_WRONG as bitm_tree_open, if a checksum is not
+ * that of its words, or if words and tables are not those of a tree. So a block in which one word was changed is
+ * refused. Three passes over the block (evident from the code).
+ *
+ *     block[40] ^= 1;
+ *     if (bitm_tree_check(block, block_len) != BITM_WRONG) return 1;
+ *     block[40] ^= 1;
+ *     if (bitm_tree_check(block, block_len) != BITM_OK) return 1; */
+BITM_MUST_USE uint32_t bitm_tree_check(const uint64_t *block, size_t block_len);
+
+/* Each of these calls returns BITM_BAD_SIZE if a length in *tree is not that of its number of nodes, and BITM_WRONG only
+ * where the block is not that of a tree.
+ *
+ * The parent of a node. BITM_NONE exactly at the root and if there is no such node. Reads what one selection does. */
+BITM_MUST_USE uint32_t bitm_tree_parent(const struct bitm_tree *tree, size_t node, uint64_t *out);
+
+/* Child k of a node, counted from 0. BITM_NONE exactly if the node has no more than k children, or there is no such node.
+ * Reads what two selections do.
+ *
+ *     if (bitm_tree_child(&tree, 0, 1, &node) != BITM_OK || node != 2 ||
+ *         bitm_tree_child(&tree, 0, 2, &node) != BITM_NONE) return 1; */
+BITM_MUST_USE uint32_t bitm_tree_child(const struct bitm_tree *tree, size_t node, size_t k, uint64_t *out);
+
+/* How many children a node has. BITM_NONE exactly if there is no such node. Reads what two selections do.
+ *
+ *     if (bitm_tree_degree(&tree, 0, &value) != BITM_OK || value != 2) return 1; */
+BITM_MUST_USE uint32_t bitm_tree_degree(const struct bitm_tree *tree, size_t node, uint64_t *out);
+
+/* Whether a node has no children, as 0 or 1. BITM_NONE exactly if there is no such node. Reads what one selection does,
+ * and one word.
+ *
+ *     if (bitm_tree_is_leaf(&tree, 3, &value) != BITM_OK || value != 1) return 1; */
+BITM_MUST_USE uint32_t bitm_tree_is_leaf(const struct bitm_tree *tree, size_t node, uint64_t *out);
+
+/* The next and the previous child of a node's parent: whatever the block holds, the node after it and the node before
+ * it. BITM_NONE exactly at the last and the first child, at the root, and if there is no such node. Each reads what one
+ * selection does, and one word.
+ *
+ *     if (bitm_tree_next_sibling(&tree, 1, &node) != BITM_OK || node != 2 ||
+ *         bitm_tree_next_sibling(&tree, 2, &node) != BITM_NONE ||
+ *         bitm_tree_previous_sibling(&tree, 2, &node) != BITM_OK || node != 1) return 1; */
+BITM_MUST_USE uint32_t bitm_tree_next_sibling(const struct bitm_tree *tree, size_t node, uint64_t *out);
+BITM_MUST_USE uint32_t bitm_tree_previous_sibling(const struct bitm_tree *tree, size_t node, uint64_t *out);
+
+/* Which child of its parent a node is, counted from 0: bitm_tree_child of the parent and this number is the node.
+ * BITM_NONE exactly at the root and if there is no such node. Reads what two selections do.
+ *
+ *     if (bitm_tree_child_rank(&tree, 2, &value) != BITM_OK || value != 1) return 1; */
+BITM_MUST_USE uint32_t bitm_tree_child_rank(const struct bitm_tree *tree, size_t node, uint64_t *out);
+
+/* bitm_tree_parent, bitm_tree_degree and bitm_tree_child of each node of a list, the last with child ks[i] of nodes[i]:
+ * out[i] is the answer, or BITM_NO_ANSWER for BITM_NONE and BITM_WRONG_TABLES for BITM_WRONG; counts says how many of
+ * each there are. BITM_BAD_SIZE also if out_len or ks_len is not nodes_len. out and counts may overlap neither each other
+ * nor what the call reads.
+ *
+ *     const uint64_t nodes[3] = {0, 3, 4}, ks[3] = {1, 0, 0};
+ *     uint64_t of_each[3];
+ *     struct bitm_list_counts of_codes;
+ *     if (bitm_tree_parent_list(&tree, nodes, 3, of_each, 3, &of_codes) != BITM_OK || of_each[1] != 2 ||
+ *         of_each[0] != BITM_NO_ANSWER || of_codes.missing != 2 || // the root, and no node
+ *         bitm_tree_degree_list(&tree, nodes, 3, of_each, 3, &of_codes) != BITM_OK || of_each[0] != 2 ||
+ *         bitm_tree_child_list(&tree, nodes, 3, ks, 3, of_each, 3, &of_codes) != BITM_OK || of_each[0] != 2) return 1;
+ *     free(block); */
+BITM_MUST_USE uint32_t bitm_tree_parent_list(const struct bitm_tree *tree, const uint64_t *nodes, size_t nodes_len,
+                                             uint64_t *out, size_t out_len, struct bitm_list_counts *counts);
+BITM_MUST_USE uint32_t bitm_tree_degree_list(const struct bitm_tree *tree, const uint64_t *nodes, size_t nodes_len,
+                                             uint64_t *out, size_t out_len, struct bitm_list_counts *counts);
+BITM_MUST_USE uint32_t bitm_tree_child_list(const struct bitm_tree *tree, const uint64_t *nodes, size_t nodes_len,
+                                            const uint64_t *ks, size_t ks_len, uint64_t *out, size_t out_len,
+                                            struct bitm_list_counts *counts);
 
 #ifdef __cplusplus
 }

@@ -148,3 +148,13 @@ export const BITM_SHARDS = {
     shards: 32,
     shards_len: 40,
 };
+export const BITM_TREE = {
+    bytes: 72,
+    len: 0,
+    words: 8,
+    words_len: 16,
+    upper: 24,
+    upper_len: 32,
+    lower: 40,
+    lower_len: 48,
+};

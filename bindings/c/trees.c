@@ -1,0 +1,347 @@
+/* Trees in blocks: the answers beside a plain tree of parents; degrees that are those of no tree; blocks of which each
+ * byte is changed, each prefix, and blocks whose words and tables hold random numbers. Each block, and each number that
+ * is written, ends where a page begins that may not be touched, so a read or write outside ends the program. */
+#define _DEFAULT_SOURCE
+#include "guard.h"
+
+#include <string.h>
+
+enum { NODES = 3000, SMALL = 9, LIST = 64 };
+
+/* A tree as arrays: the children of a node stand side by side, from `first` on. */
+struct plain {
+    size_t len;
+    uint64_t degrees[NODES], parents[NODES], first[NODES];
+};
+
+static struct guarded for_block, for_out, for_degrees;
+
+static uint64_t *out_at_the_guard(void)
+{
+    uint64_t *out = ends_at_the_guard(&for_out, sizeof *out);
+    *out = UNTOUCHED;
+    return out;
+}
+
+/* What the call answers; the number is as it was where the status is not BITM_OK. */
+#define ANSWER(call)                                       \
+    do {                                                   \
+        out = out_at_the_guard();                          \
+        status = (call);                                   \
+        MUST(status == BITM_OK || *out == UNTOUCHED);      \
+    } while (0)
+
+/* A drawn tree: each node has from 0 to `most` children, as long as there are nodes left; a path where most is 1. */
+static void draw_tree(struct plain *tree, size_t len, uint64_t most)
+{
+    size_t known = 1;
+    tree->len = len;
+    for (size_t node = 0; node < len; node++) {
+        uint64_t degree = draw() % (most + 1);
+        if (degree == 0 && known == node + 1) degree = 1; /* else the next node would have no parent */
+        if (degree > len - known) degree = len - known;
+        tree->degrees[node] = degree;
+        tree->first[node] = known;
+        for (uint64_t k = 0; k < degree; k++) tree->parents[known++] = node;
+    }
+    MUST(known == len);
+}
+
+/* The block of the tree, which ends at the guard, between degrees that do so too. */
+static uint64_t *built(const struct plain *tree, uint64_t *words)
+{
+    MUST(bitm_tree_size(tree->len, words) == BITM_OK && *words % 8 == 0);
+    uint64_t *block = ends_at_the_guard(&for_block, 8 * *words);
+    uint64_t *degrees = ends_at_the_guard(&for_degrees, 8 * tree->len);
+    memcpy(degrees, tree->degrees, 8 * tree->len);
+    memset(block, UNTOUCHED, 8 * *words); /* memory that is written may hold anything */
+    MUST(bitm_tree_build(degrees, tree->len, block, *words) == BITM_OK);
+    return block;
+}
+
+static void answers_as(const struct plain *plain, const struct bitm_tree *tree)
+{
+    uint64_t *out;
+    uint32_t status;
+    MUST(tree->len == plain->len);
+    for (size_t node = 0; node < plain->len; node++) {
+        const uint64_t degree = plain->degrees[node];
+        ANSWER(bitm_tree_parent(tree, node, out));
+        MUST(node == 0 ? status == BITM_NONE : status == BITM_OK && *out == plain->parents[node]);
+        ANSWER(bitm_tree_degree(tree, node, out));
+        MUST(status == BITM_OK && *out == degree);
+        for (uint64_t k = 0; k < degree; k += 1 + degree / 50) {
+            ANSWER(bitm_tree_child(tree, node, k, out));
+            MUST(status == BITM_OK && *out == plain->first[node] + k);
+        }
+        ANSWER(bitm_tree_is_leaf(tree, node, out));
+        MUST(status == BITM_OK && *out == (degree == 0));
+        const uint64_t rank = node == 0 ? 0 : node - plain->first[plain->parents[node]];
+        ANSWER(bitm_tree_child_rank(tree, node, out));
+        MUST(node == 0 ? status == BITM_NONE : status == BITM_OK && *out == rank);
+        ANSWER(bitm_tree_previous_sibling(tree, node, out));
+        MUST(rank == 0 ? status == BITM_NONE : status == BITM_OK && *out == node - 1);
+        const bool is_last = node == 0 || rank + 1 == plain->degrees[plain->parents[node]];
+        ANSWER(bitm_tree_next_sibling(tree, node, out));
+        MUST(is_last ? status == BITM_NONE : status == BITM_OK && *out == node + 1);
+        ANSWER(bitm_tree_child(tree, node, degree, out));
+        MUST(status == BITM_NONE);
+        ANSWER(bitm_tree_child(tree, node, UINT64_MAX, out));
+        MUST(status == BITM_NONE);
+    }
+    for (int far = 0; far < 2; far++) {
+        const size_t node = far ? SIZE_MAX : plain->len;
+        ANSWER(bitm_tree_parent(tree, node, out));
+        MUST(status == BITM_NONE);
+        ANSWER(bitm_tree_degree(tree, node, out));
+        MUST(status == BITM_NONE);
+        ANSWER(bitm_tree_child(tree, node, 0, out));
+        MUST(status == BITM_NONE);
+        ANSWER(bitm_tree_is_leaf(tree, node, out));
+        MUST(status == BITM_NONE);
+        ANSWER(bitm_tree_child_rank(tree, node, out));
+        MUST(status == BITM_NONE);
+        ANSWER(bitm_tree_next_sibling(tree, node, out));
+        MUST(status == BITM_NONE);
+        ANSWER(bitm_tree_previous_sibling(tree, node, out));
+        MUST(status == BITM_NONE);
+    }
+}
+
+/* An item of a list of answers is what the call of one query answers. */
+static bool is_item(uint64_t item, uint32_t status, uint64_t answer)
+{
+    return item == (status == BITM_OK ? answer : status == BITM_NONE ? BITM_NO_ANSWER : BITM_WRONG_TABLES);
+}
+
+/* Lists of nodes, some of which are none, beside the calls of one query. */
+static void lists_as_single_calls(const struct bitm_tree *tree)
+{
+    uint64_t nodes[LIST], ks[LIST], of_list[3][LIST], *out;
+    struct bitm_list_counts counts = no_counts;
+    uint32_t status;
+    for (size_t i = 0; i < LIST; i++) {
+        nodes[i] = i % 16 ? draw() % (tree->len + 1) : draw();
+        ks[i] = draw() % 3;
+    }
+    status = bitm_tree_parent_list(tree, nodes, LIST, of_list[0], LIST, &counts);
+    MUST(counted(status, of_list[0], LIST, counts) == BITM_OK);
+    counts = no_counts;
+    status = bitm_tree_degree_list(tree, nodes, LIST, of_list[1], LIST, &counts);
+    MUST(counted(status, of_list[1], LIST, counts) == BITM_OK);
+    counts = no_counts;
+    status = bitm_tree_child_list(tree, nodes, LIST, ks, LIST, of_list[2], LIST, &counts);
+    MUST(counted(status, of_list[2], LIST, counts) == BITM_OK);
+    for (size_t i = 0; i < LIST; i++) {
+        ANSWER(bitm_tree_parent(tree, nodes[i], out));
+        MUST(is_item(of_list[0][i], status, *out));
+        ANSWER(bitm_tree_degree(tree, nodes[i], out));
+        MUST(is_item(of_list[1][i], status, *out));
+        ANSWER(bitm_tree_child(tree, nodes[i], ks[i], out));
+        MUST(is_item(of_list[2][i], status, *out));
+    }
+    counts = no_counts;
+    memset(of_list, UNTOUCHED, sizeof of_list);
+    for (size_t less = 1; less < 3; less++) {
+        uint64_t *const list = of_list[0];
+        MUST(bitm_tree_parent_list(tree, nodes, LIST, list, LIST - less, &counts) == BITM_BAD_SIZE);
+        MUST(bitm_tree_degree_list(tree, nodes, LIST - less, list, LIST, &counts) == BITM_BAD_SIZE);
+        MUST(bitm_tree_child_list(tree, nodes, LIST, ks, LIST - less, list, LIST, &counts) == BITM_BAD_SIZE);
+        MUST(bitm_tree_child_list(tree, nodes, LIST, ks, LIST, list, LIST - less, &counts) == BITM_BAD_SIZE);
+    }
+    MUST(counts.missing == UNTOUCHED && counts.wrong == UNTOUCHED && of_list[0][0] == 0x4d4d4d4d4d4d4d4d);
+    MUST(bitm_tree_parent_list(tree, NULL, 0, NULL, 0, &counts) == BITM_OK && counts.missing == 0 && counts.wrong == 0);
+}
+
+/* Whatever the block holds: every call returns, within its range, and each way up ends. */
+static void answers_within(const struct bitm_tree *tree)
+{
+    uint64_t *out;
+    uint32_t status;
+    for (size_t node = 0; node < tree->len + 2; node++) {
+        const bool is = node < tree->len;
+        ANSWER(bitm_tree_parent(tree, node, out));
+        MUST(status == BITM_OK ? is && *out < node : (status == BITM_NONE) == (node == 0 || !is));
+        ANSWER(bitm_tree_degree(tree, node, out));
+        MUST(status == BITM_OK ? is && *out < tree->len : (status == BITM_NONE) == !is);
+        for (uint64_t k = 0; k < 4; k++) {
+            ANSWER(bitm_tree_child(tree, node, k, out));
+            MUST(status == BITM_OK ? node < *out && *out < tree->len
+                                   : status == BITM_NONE || (status == BITM_WRONG && is));
+        }
+        ANSWER(bitm_tree_is_leaf(tree, node, out));
+        MUST(status == BITM_OK ? is && *out < 2 : (status == BITM_NONE) == !is);
+        ANSWER(bitm_tree_child_rank(tree, node, out));
+        MUST(status == BITM_OK ? is && *out < tree->len : (status == BITM_NONE) == (node == 0 || !is));
+        ANSWER(bitm_tree_next_sibling(tree, node, out));
+        MUST(status != BITM_OK || (*out == node + 1 && *out < tree->len));
+        ANSWER(bitm_tree_previous_sibling(tree, node, out));
+        MUST(status != BITM_OK || (*out + 1 == node && is));
+    }
+    lists_as_single_calls(tree);
+}
+
+static void drawn_trees(void)
+{
+    static const uint64_t most[] = {1, 2, 3, 10, 100, NODES};
+    static struct plain plain;
+    for (size_t i = 0; i < 60; i++) {
+        uint64_t words;
+        const size_t len = i < 12 ? i + 1 : 1 + draw() % NODES;
+        draw_tree(&plain, len, most[i % (sizeof most / sizeof *most)]);
+        uint64_t *block = built(&plain, &words);
+        struct bitm_tree tree = {0};
+        MUST(bitm_tree_open(block, words, &tree) == BITM_OK);
+        MUST(bitm_tree_check(block, words) == BITM_OK);
+        answers_as(&plain, &tree);
+        lists_as_single_calls(&tree);
+    }
+}
+
+/* Degrees that are those of no tree, blocks that are too long or too short: nothing is written. */
+static void no_trees(void)
+{
+    static const uint64_t none[][SMALL] = {
+        {0, 0}, {1, 1}, {0, 1}, {2, 0}, {3, 0}, {UINT64_MAX, 1}, {UINT64_MAX, 2}, {0, 0, 2}, {1, 0, 1}, {2, 0, 1},
+    };
+    uint64_t words, room[80];
+    MUST(bitm_tree_size(SMALL, &words) == BITM_OK && words < 80);
+    for (size_t i = 0; i < sizeof none / sizeof *none; i++) {
+        memset(room, UNTOUCHED, sizeof room);
+        const size_t len = i < 7 ? 2 : 3;
+        MUST(bitm_tree_size(len, &words) == BITM_OK);
+        MUST(bitm_tree_build(none[i], len, room, words) == BITM_WRONG);
+        for (size_t k = 0; k < 8 * 80; k++) MUST(((unsigned char *)room)[k] == UNTOUCHED);
+    }
+    static const uint64_t four[4] = {2, 0, 1, 0};
+    MUST(bitm_tree_build(NULL, 0, room, words) == BITM_WRONG);
+    for (size_t len = 0; len < 80; len++) {
+        MUST(bitm_tree_build(four, 4, room, len) == (len == words ? BITM_OK : BITM_BAD_SIZE));
+        if (len < words) MUST(room[0] == 0x4d4d4d4d4d4d4d4d);
+    }
+    words = UNTOUCHED;
+    MUST(bitm_tree_size((size_t)1 << 60, &words) == BITM_BAD_SIZE && words == UNTOUCHED);
+    MUST(bitm_tree_size(SIZE_MAX, &words) == BITM_BAD_SIZE && words == UNTOUCHED);
+    MUST(bitm_tree_size(((size_t)1 << 60) - 1, &words) == BITM_OK && words < (uint64_t)1 << 59);
+}
+
+static const struct bitm_tree untouched = {.len = UNTOUCHED};
+
+/* bitm_tree_open leaves the struct as it was where it refuses the block. */
+static bool opens(const uint64_t *block, size_t words, struct bitm_tree *tree)
+{
+    *tree = untouched;
+    const uint32_t status = bitm_tree_open(block, words, tree);
+    MUST(status == BITM_OK || (status == BITM_WRONG && memcmp(tree, &untouched, sizeof *tree) == 0));
+    return status == BITM_OK;
+}
+
+/* Each byte of a small block changed to each of the 255 others, and each prefix of it. */
+static void changed_blocks(void)
+{
+    static struct plain plain;
+    struct bitm_tree tree;
+    uint64_t words;
+    size_t opened = 0;
+    draw_tree(&plain, SMALL, 3);
+    uint64_t *const block = built(&plain, &words);
+    unsigned char *const bytes = (unsigned char *)block;
+    for (size_t at = 0; at < 8 * words; at++)
+        for (unsigned change = 1; change < 256; change++) {
+            bytes[at] ^= (unsigned char)change;
+            MUST(bitm_tree_check(block, words) == BITM_WRONG);
+            if (opens(block, words, &tree)) {
+                MUST(at >= 256); /* the header and the directory are looked at */
+                opened++;
+                answers_within(&tree);
+            }
+            bytes[at] ^= (unsigned char)change;
+        }
+    MUST(opened == 255 * (8 * words - 256));
+    for (size_t len = 0; len < words; len++) {
+        uint64_t *const prefix = block + (words - len); /* moved, so that it ends at the guard */
+        memmove(prefix, block, 8 * len);
+        MUST(!opens(prefix, len, &tree) && bitm_tree_check(prefix, len) == BITM_WRONG);
+        built(&plain, &words);
+    }
+    MUST(!opens(block, SIZE_MAX, &tree) && bitm_tree_check(block, words) == BITM_OK);
+}
+
+/* Random words behind a right header, of which more and more are those of the tree; and random words alone. */
+static void random_blocks(void)
+{
+    static struct plain plain;
+    struct bitm_tree tree;
+    for (size_t turn = 0; turn < 400; turn++) {
+        uint64_t words;
+        draw_tree(&plain, 1 + draw() % 700, 1 + draw() % 9);
+        uint64_t *const block = built(&plain, &words);
+        const uint64_t share = turn % 8;
+        for (size_t at = 32; at < words; at++)
+            if (draw() % 8 >= share) block[at] = share % 2 ? draw() : draw() & draw() & draw();
+        MUST(opens(block, words, &tree));
+        answers_within(&tree);
+        if (bitm_tree_check(block, words) == BITM_OK) answers_as(&plain, &tree);
+        for (size_t at = 0; at < words; at++) block[at] = draw();
+        MUST(!opens(block, words, &tree) && bitm_tree_check(block, words) == BITM_WRONG);
+    }
+}
+
+/* Structs whose lengths are not those of the number of nodes. */
+static void wrong_lengths(void)
+{
+    static struct plain plain;
+    uint64_t words, *out;
+    uint32_t status;
+    draw_tree(&plain, 200, 4);
+    uint64_t *const block = built(&plain, &words);
+    struct bitm_tree tree = {0};
+    MUST(bitm_tree_open(block, words, &tree) == BITM_OK);
+    for (size_t i = 0; i < 9; i++) {
+        struct bitm_tree bad = tree;
+        if (i == 0) bad.len = 0;
+        if (i == 1) bad.len = SIZE_MAX;
+        if (i == 2) bad.len = (size_t)1 << 60;
+        if (i == 3) bad.words_len--;
+        if (i == 4) bad.words_len = 0;
+        if (i == 5) bad.upper_len = 0;
+        if (i == 6) bad.upper_len++;
+        if (i == 7) bad.lower_len = 0;
+        if (i == 8) bad.len += 64;
+        ANSWER(bitm_tree_parent(&bad, 1, out));
+        MUST(status == BITM_BAD_SIZE);
+        ANSWER(bitm_tree_child(&bad, 0, 0, out));
+        MUST(status == BITM_BAD_SIZE);
+        ANSWER(bitm_tree_degree(&bad, 0, out));
+        MUST(status == BITM_BAD_SIZE);
+        ANSWER(bitm_tree_is_leaf(&bad, 0, out));
+        MUST(status == BITM_BAD_SIZE);
+        ANSWER(bitm_tree_child_rank(&bad, 1, out));
+        MUST(status == BITM_BAD_SIZE);
+        ANSWER(bitm_tree_next_sibling(&bad, 1, out));
+        MUST(status == BITM_BAD_SIZE);
+        ANSWER(bitm_tree_previous_sibling(&bad, 1, out));
+        MUST(status == BITM_BAD_SIZE);
+        const uint64_t one = 1;
+        struct bitm_list_counts counts = no_counts;
+        out = out_at_the_guard();
+        MUST(bitm_tree_parent_list(&bad, &one, 1, out, 1, &counts) == BITM_BAD_SIZE);
+        MUST(bitm_tree_degree_list(&bad, &one, 1, out, 1, &counts) == BITM_BAD_SIZE);
+        MUST(bitm_tree_child_list(&bad, &one, 1, &one, 1, out, 1, &counts) == BITM_BAD_SIZE);
+        MUST(*out == UNTOUCHED && counts.missing == UNTOUCHED && counts.wrong == UNTOUCHED);
+    }
+}
+
+int main(int argc, char **argv)
+{
+    take_seed(argc, argv);
+    for_block = guard((size_t)1 << 16), for_out = guard(8), for_degrees = guard(8 * NODES);
+    drawn_trees();
+    no_trees();
+    changed_blocks();
+    random_blocks();
+    wrong_lengths();
+    printf("trees: blocks answer as a plain tree, each changed byte and each prefix is refused, and queries of any "
+           "words stay within their range\n");
+    return 0;
+}

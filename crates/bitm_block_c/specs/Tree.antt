@@ -1,0 +1,94 @@
+-- A tree in a block as C passes it, and what the exported calls answer.
+use Rattle.std.specs.Prelude.{⊤, ℕ, ◌<◌, ◌≤◌, ◌==◌, Bool}
+use Rattle.bitm.specs.Answer.{Answer}
+use Rattle.bitm.specs.Answer.TheVariants.{Found, Absent, Wrong}
+use Rattle.bitm_abi.specs.Status.{Exported}
+use Rattle.louds.specs.Counted.{degrees_in, IsLouds}
+use Rattle.louds_block.specs.Answers.{IsChildOf, IsChildWithin, IsChildRankOf, IsChildRankWithin, IsDegreeOf, IsDegreeWithin}
+use Rattle.louds_block.specs.Answers.{IsLeafOf, IsLeafWithin, IsNextSiblingOf, IsNextSiblingWithin}
+use Rattle.louds_block.specs.Answers.{IsParentOf, IsParentWithin, IsPreviousSiblingOf, IsPreviousSiblingWithin}
+use Rattle.louds_block.specs.Block.{parts_of, HasLengths, TreeParts}
+use Rattle.bitm_block_c.specs.declared.lists.Asked.{Asked}
+use Rattle.bitm_block_c.specs.declared.lists.Asked.TheVariants.{Parent, Degree}
+use Rattle.bitm_block_c.specs.declared.tree.Tree.{Tree}
+
+-- A status is 0 where the answer was written, 1 where there is no such node, 2 where a length is wrong, and 3 where the
+-- words and tables are not those of a tree.
+
+-- the number of nodes, and the words with their tables
+abbrev pub tree_parts : Tree → TreeParts
+tree_parts tree = parts_of tree.len tree.words.now tree.upper.now tree.lower.now
+
+-- the parent of a node: less than the node, whatever the words and tables hold, and that of the tree where they hold one
+pub record IsParent (node : ℕ) (parts : TreeParts) (answer : Answer ℕ) : Type 0 where
+  pub inside : IsParentWithin parts.len node answer
+  pub right : IsLouds parts.len parts.lists → IsParentOf (degrees_in parts.len parts.lists) node answer
+
+-- child k of a node, likewise: more than the node
+pub record IsChild (node k : ℕ) (parts : TreeParts) (answer : Answer ℕ) : Type 0 where
+  pub inside : IsChildWithin parts.len node answer
+  pub right : IsLouds parts.len parts.lists → IsChildOf (degrees_in parts.len parts.lists) node k answer
+
+-- how many children a node has, likewise: fewer than there are nodes
+pub record IsDegree (node : ℕ) (parts : TreeParts) (answer : Answer ℕ) : Type 0 where
+  pub inside : IsDegreeWithin parts.len node answer
+  pub right : IsLouds parts.len parts.lists → IsDegreeOf (degrees_in parts.len parts.lists) node answer
+
+-- the truth that 1 stands for, and 0
+abbrev pub truth_of : Answer ℕ → Answer Bool
+truth_of (Found n) = Found (n == 1)
+truth_of Absent = Absent
+truth_of Wrong = Wrong
+
+-- a number that is found is less than the limit
+abbrev pub IsFoundBelow : ℕ → Answer ℕ → Type 0
+IsFoundBelow limit (Found n) = n < limit
+IsFoundBelow limit Absent = ⊤
+IsFoundBelow limit Wrong = ⊤
+
+-- whether a node has no children, as 0 or 1
+pub record IsLeaf (node : ℕ) (parts : TreeParts) (answer : Answer ℕ) : Type 0 where
+  pub truth : IsFoundBelow 2 answer
+  pub inside : IsLeafWithin parts.len node (truth_of answer)
+  pub right : IsLouds parts.len parts.lists → IsLeafOf (degrees_in parts.len parts.lists) node (truth_of answer)
+
+-- the siblings of a node, likewise: the node after it and the node before it
+pub record IsNextSibling (node : ℕ) (parts : TreeParts) (answer : Answer ℕ) : Type 0 where
+  pub inside : IsNextSiblingWithin parts.len node answer
+  pub right : IsLouds parts.len parts.lists → IsNextSiblingOf (degrees_in parts.len parts.lists) node answer
+
+pub record IsPreviousSibling (node : ℕ) (parts : TreeParts) (answer : Answer ℕ) : Type 0 where
+  pub inside : IsPreviousSiblingWithin parts.len node answer
+  pub right : IsLouds parts.len parts.lists → IsPreviousSiblingOf (degrees_in parts.len parts.lists) node answer
+
+-- which child of its parent a node is, likewise: less than there are nodes
+pub record IsChildRank (node : ℕ) (parts : TreeParts) (answer : Answer ℕ) : Type 0 where
+  pub inside : IsChildRankWithin parts.len node answer
+  pub right : IsLouds parts.len parts.lists → IsChildRankOf (degrees_in parts.len parts.lists) node answer
+
+-- the answer to a query of a node
+abbrev pub Answers : Asked → ℕ → TreeParts → Answer ℕ → Type 0
+Answers Parent = IsParent
+Answers Degree = IsDegree
+
+-- the status, and the number before and after the call
+abbrev pub ParentAnswered : Tree → ℕ → ℕ → ℕ → ℕ → Type 0
+ParentAnswered tree node = Exported (HasLengths (tree_parts tree)) (IsParent node (tree_parts tree))
+
+abbrev pub ChildAnswered : Tree → ℕ → ℕ → ℕ → ℕ → ℕ → Type 0
+ChildAnswered tree node k = Exported (HasLengths (tree_parts tree)) (IsChild node k (tree_parts tree))
+
+abbrev pub DegreeAnswered : Tree → ℕ → ℕ → ℕ → ℕ → Type 0
+DegreeAnswered tree node = Exported (HasLengths (tree_parts tree)) (IsDegree node (tree_parts tree))
+
+abbrev pub LeafAnswered : Tree → ℕ → ℕ → ℕ → ℕ → Type 0
+LeafAnswered tree node = Exported (HasLengths (tree_parts tree)) (IsLeaf node (tree_parts tree))
+
+abbrev pub NextSiblingAnswered : Tree → ℕ → ℕ → ℕ → ℕ → Type 0
+NextSiblingAnswered tree node = Exported (HasLengths (tree_parts tree)) (IsNextSibling node (tree_parts tree))
+
+abbrev pub PreviousSiblingAnswered : Tree → ℕ → ℕ → ℕ → ℕ → Type 0
+PreviousSiblingAnswered tree node = Exported (HasLengths (tree_parts tree)) (IsPreviousSibling node (tree_parts tree))
+
+abbrev pub ChildRankAnswered : Tree → ℕ → ℕ → ℕ → ℕ → Type 0
+ChildRankAnswered tree node = Exported (HasLengths (tree_parts tree)) (IsChildRank node (tree_parts tree))

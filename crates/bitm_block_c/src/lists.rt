@@ -1,0 +1,162 @@
+//! Lists of queries of a tree in a block.
+ghost use Rattle.std.specs.Prelude.{◌≡◌, ◌≢◌, ◌-◌, ◌^◌, ◌<◌, ◌↔◌, ℕ, length, slice_index};
+ghost use Rattle.bitm_abi.specs.Lists.{AreCounted};
+ghost use Rattle.bitm_view.specs.Queries.{selected_by};
+ghost use Rattle.louds_block.specs.Block.{HasLengths};
+ghost use Rattle.bitm_block_c.specs.Tree.{tree_parts, Answers, IsChild, IsFoundBelow, IsParent, IsDegree};
+
+use crate::tree::Tree;
+use bitm_abi::{BAD_SIZE, ListCounts, report_list};
+use bitm_view::{Answer, NO_ANSWER, WRONG_TABLES};
+use louds_block::LoudsView;
+
+/// A query of each node of a list.
+#[derive(Clone, Copy)]
+pub enum Asked {
+    /// Its parent.
+    Parent,
+    /// How many children it has.
+    Degree,
+}
+
+/// An answer by the codes of lists.
+#[inline(always)]
+fn code_of(answer: Answer<usize>) -> usize
+    ensures { IsFoundBelow (2 ^ 64 - 2) answer → selected_by result ≡ answer }
+{
+    match answer {
+        Answer::Found(number) => number,
+        Answer::Absent => NO_ANSWER,
+        Answer::Wrong => WRONG_TABLES,
+    }
+}
+
+/// The answer to a query of a node, by the codes of lists.
+#[inline(always)]
+fn asked_code(view: &LoudsView<'_>, asked: Asked, node: usize) -> usize
+    ensures { Answers asked node view.now (selected_by result) }
+{
+    let _ = view.len(); // its clause makes the limit of the length known to the proof
+    match asked {
+        Asked::Parent => code_of(view.parent(node)),
+        Asked::Degree => code_of(view.degree(node)),
+    }
+}
+
+/// The answer to a query of each node.
+fn ask_each(view: &LoudsView<'_>, asked: Asked, nodes: &[usize], out: &mut [usize])
+    requires { length out.old ≡ length nodes.now }
+    ensures { (j : ℕ) → j < length nodes.now
+        → Answers asked (slice_index nodes.now j) view.now (selected_by (slice_index out.new j)) }
+{
+    for at in 0..nodes.len() {
+        out[at] = asked_code(view, asked, nodes[at]);
+    }
+}
+
+/// The answers to a query of each node of a list, by a status.
+#[inline(always)]
+fn ask_list(
+    tree: &Tree<'_>,
+    asked: Asked,
+    nodes: &[usize],
+    out: &mut [usize],
+    counts: &mut ListCounts,
+) -> u32
+    ensures ok { (result ≡ 0) ↔ HasLengths (tree_parts tree.now) × (length out.old ≡ length nodes.now) }
+    ensures kept { result ≢ 0 → (result ≡ 2) × (out.new ≡ out.old) × (counts.new ≡ counts.old) }
+    ensures answers { result ≡ 0 → (j : ℕ) → j < length nodes.now → Answers asked
+        (slice_index nodes.now j) (tree_parts tree.now) (selected_by (slice_index out.new j)) }
+    ensures counts { result ≡ 0 → AreCounted out.new counts.new }
+{
+    let Some(view) = tree.view() else {
+        return BAD_SIZE;
+    };
+    if out.len() != nodes.len() {
+        return BAD_SIZE;
+    }
+    ask_each(&view, asked, nodes, &mut *out);
+    report_list(true, &*out, counts)
+}
+
+/// The parent of each node of a list, and how many of the answers are codes.
+#[unsafe(no_mangle)]
+pub extern "C" fn bitm_tree_parent_list(
+    tree: &Tree<'_>,
+    nodes: &[usize],
+    out: &mut [usize],
+    counts: &mut ListCounts,
+) -> u32
+    ensures ok { (result ≡ 0) ↔ HasLengths (tree_parts tree.now) × (length out.old ≡ length nodes.now) }
+    ensures kept { result ≢ 0 → (result ≡ 2) × (out.new ≡ out.old) × (counts.new ≡ counts.old) }
+    ensures parents { result ≡ 0 → (j : ℕ) → j < length nodes.now → IsParent
+        (slice_index nodes.now j) (tree_parts tree.now) (selected_by (slice_index out.new j)) }
+    ensures counts { result ≡ 0 → AreCounted out.new counts.new }
+{
+    ask_list(tree, Asked::Parent, nodes, out, counts)
+}
+
+/// How many children each node of a list has, and how many of the answers are codes.
+#[unsafe(no_mangle)]
+pub extern "C" fn bitm_tree_degree_list(
+    tree: &Tree<'_>,
+    nodes: &[usize],
+    out: &mut [usize],
+    counts: &mut ListCounts,
+) -> u32
+    ensures ok { (result ≡ 0) ↔ HasLengths (tree_parts tree.now) × (length out.old ≡ length nodes.now) }
+    ensures kept { result ≢ 0 → (result ≡ 2) × (out.new ≡ out.old) × (counts.new ≡ counts.old) }
+    ensures degrees { result ≡ 0 → (j : ℕ) → j < length nodes.now → IsDegree
+        (slice_index nodes.now j) (tree_parts tree.now) (selected_by (slice_index out.new j)) }
+    ensures counts { result ≡ 0 → AreCounted out.new counts.new }
+{
+    ask_list(tree, Asked::Degree, nodes, out, counts)
+}
+
+/// Child `ks[i]` of each node `nodes[i]`.
+fn child_each(view: &LoudsView<'_>, nodes: &[usize], ks: &[usize], out: &mut [usize])
+    requires room { length out.old ≡ length nodes.now }
+    requires ks { length ks.now ≡ length nodes.now }
+    ensures { (j : ℕ) → j < length nodes.now → IsChild (slice_index nodes.now j)
+        (slice_index ks.now j) view.now (selected_by (slice_index out.new j)) }
+{
+    for at in 0..nodes.len() {
+        out[at] = child_code(view, nodes[at], ks[at]);
+    }
+}
+
+/// Child `k` of a node, by the codes of lists.
+#[inline(always)]
+fn child_code(view: &LoudsView<'_>, node: usize, k: usize) -> usize
+    ensures { IsChild node k view.now (selected_by result) }
+{
+    let _ = view.len(); // its clause makes the limit of the length known to the proof
+    code_of(view.child(node, k))
+}
+
+/// Child `ks[i]` of each node `nodes[i]`, and how many of the answers are codes.
+#[unsafe(no_mangle)]
+pub extern "C" fn bitm_tree_child_list(
+    tree: &Tree<'_>,
+    nodes: &[usize],
+    ks: &[usize],
+    out: &mut [usize],
+    counts: &mut ListCounts,
+) -> u32
+    ensures ok { (result ≡ 0) ↔ HasLengths (tree_parts tree.now)
+        × (length ks.now ≡ length nodes.now) × (length out.old ≡ length nodes.now) }
+    ensures kept { result ≢ 0 → (result ≡ 2) × (out.new ≡ out.old) × (counts.new ≡ counts.old) }
+    ensures children { result ≡ 0 → (j : ℕ) → j < length nodes.now → IsChild
+        (slice_index nodes.now j) (slice_index ks.now j) (tree_parts tree.now)
+        (selected_by (slice_index out.new j)) }
+    ensures counts { result ≡ 0 → AreCounted out.new counts.new }
+{
+    let Some(view) = tree.view() else {
+        return BAD_SIZE;
+    };
+    if ks.len() != nodes.len() || out.len() != nodes.len() {
+        return BAD_SIZE;
+    }
+    child_each(&view, nodes, ks, &mut *out);
+    report_list(true, &*out, counts)
+}

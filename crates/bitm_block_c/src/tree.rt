@@ -1,0 +1,47 @@
+//! A tree in a block as C passes it, and as the library queries it.
+ghost use Rattle.std.specs.Prelude.{◌≡◌, SomeIff};
+ghost use Rattle.louds_block.specs.Block.{HasLengths};
+ghost use Rattle.bitm_block_c.specs.Tree.{tree_parts};
+
+use louds_block::LoudsView;
+
+/// A tree in the caller's memory: the number of nodes, and the words and tables of its block, for C three pairs of a
+/// pointer and a length.
+#[repr(C)]
+#[derive(Clone, Copy)]
+pub struct Tree<'a> {
+    /// The number of nodes.
+    pub len: usize,
+    /// The words that hold the tree.
+    pub words: &'a [u64],
+    /// The upper table of these words.
+    pub upper: &'a [u64],
+    /// The lower table of these words.
+    pub lower: &'a [u64],
+    /// Room for later versions; this one does not read it.
+    pub reserved: [u64; 2],
+}
+
+impl<'a> Tree<'a> {
+    /// What C is passed for a view of a block.
+    #[inline(always)]
+    pub(crate) fn of(view: &LoudsView<'a>) -> Tree<'a>
+        ensures { tree_parts result ≡ view.now }
+    {
+        Tree {
+            len: view.len(),
+            words: view.words(),
+            upper: view.upper(),
+            lower: view.lower(),
+            reserved: [0; 2],
+        }
+    }
+
+    /// The tree as the library queries it; `None` exactly where a length is not right.
+    #[inline(always)]
+    pub(crate) fn view(&self) -> Option<LoudsView<'a>>
+        ensures { SomeIff result (HasLengths (tree_parts self.now)) (tree_parts self.now) }
+    {
+        LoudsView::over(self.len, self.words, self.upper, self.lower)
+    }
+}
