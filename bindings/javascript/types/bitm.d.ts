@@ -229,6 +229,46 @@ export class PerfectHash {
     [Symbol.dispose](): void;
 }
 
+/** A tree whose nodes are numbered level by level: the root is 0, and the children of a node follow one another. */
+export class Tree {
+    /** How many children each node has, in the order of the nodes. RangeError if that is no tree. */
+    constructor(degrees: Wholes);
+    /** The tree in the bytes of a block, which are copied once. */
+    static open(bytes: Bytes, options?: OpenOptions): Tree;
+
+    readonly length: number;
+    readonly byteLength: number;
+    /** undefined at the root, and where there is no such node. */
+    parent(node: Whole): number | undefined;
+    child(node: Whole, k: Whole): number | undefined;
+    degree(node: Whole): number | undefined;
+    isLeaf(node: Whole): boolean | undefined;
+    nextSibling(node: Whole): number | undefined;
+    previousSibling(node: Whole): number | undefined;
+    /** Which child of its parent a node is, counted from 0. */
+    childRank(node: Whole): number | undefined;
+    children(node: Whole): IterableIterator<number>;
+
+    /** NaN, NO_ANSWER or undefined where there is none. */
+    parentList(nodes: NumberArray): Float64Array;
+    parentList(nodes: BigUint64Array): BigUint64Array;
+    parentList(nodes: Iterable<Whole>): (number | undefined)[];
+    degreeList(nodes: NumberArray): Float64Array;
+    degreeList(nodes: BigUint64Array): BigUint64Array;
+    degreeList(nodes: Iterable<Whole>): (number | undefined)[];
+    /** Child ks[i] of each node nodes[i]. RangeError if these are not as many. */
+    childList(nodes: NumberArray, ks: Wholes): Float64Array;
+    childList(nodes: BigUint64Array, ks: Wholes): BigUint64Array;
+    childList(nodes: Iterable<Whole>, ks: Wholes): (number | undefined)[];
+
+    /** Whether the block is as it was written and holds a tree, by going over all of it. */
+    check(): boolean;
+    /** The bytes of the block. */
+    toBytes(): Uint8Array;
+    free(): void;
+    [Symbol.dispose](): void;
+}
+
 export interface OpenOptions {
     /** Whether to look at all parts, and throw WrongTables where they are not right: true unless given. */
     check?: boolean;
