@@ -1,5 +1,5 @@
-"""Bit vectors with rank and select, monotone integer sequences (Elias-Fano) and minimal perfect hashes, over a library
-proved correct.
+"""Bit vectors with rank and select, monotone integer sequences (Elias-Fano), minimal perfect hashes and trees (LOUDS), over a
+library proved correct.
 
 >>> import bitm
 >>> bits = bitm.BitVector.from_indices([1, 3, 4, 6], 7)
@@ -16,13 +16,13 @@ arguments, Python's conventions) is tested.
 from collections.abc import MutableSequence, Sequence
 
 from . import _more, _shard_docs
-from ._core import BitVector, EliasFano, Index, PerfectHash, WrongTables
+from ._core import BitVector, EliasFano, Index, PerfectHash, Tree, WrongTables
 from ._files import load, loads
 from ._more import tables_of
 from .shards import ShardError, Shards
 
 __version__ = "0.3.0"
-__all__ = ["BitVector", "EliasFano", "Index", "PerfectHash", "ShardError", "Shards", "WrongTables", "load", "loads", "tables_of"]
+__all__ = ["BitVector", "EliasFano", "Index", "PerfectHash", "ShardError", "Shards", "Tree", "WrongTables", "load", "loads", "tables_of"]
 
 _more.complete()
 _shard_docs.complete(Shards)

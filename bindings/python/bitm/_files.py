@@ -12,7 +12,7 @@ from typing import Any, BinaryIO, Callable, List, Optional, Tuple, Union
 from . import _core
 
 PathLike = Union[str, bytes, "os.PathLike[str]", "os.PathLike[bytes]"]
-Stored = Union["_core.Index", "_core.EliasFano", "_core.PerfectHash"]
+Stored = Union["_core.Index", "_core.EliasFano", "_core.PerfectHash", "_core.Tree"]
 Piece = Tuple[int, Any]
 HEADER = 192
 
@@ -24,6 +24,8 @@ def _pieces(value: Any) -> Tuple[int, List[Piece]]:
     if isinstance(value, _core.EliasFano):
         header, size, (words, upper, lower, low, *_) = _core.sequence_header(*numbers, *map(len, windows))
         return size, [(0, header), *zip((low, words, upper, lower), windows)]
+    if isinstance(value, _core.Tree):
+        return 8 * len(windows[0]), [(0, windows[0])]
     if isinstance(value, _core.Index):
         return _index_pieces(numbers, windows)
     header, size, begins = _core.index_header(64 * len(windows[0]), 0, 0, 0, 0)
@@ -156,17 +158,19 @@ def loads(data: Any, /) -> Stored:
     return _core.stored_load(flat[: flat.nbytes // 8 * 8])
 
 
-_MARK = _core.index_header(0, 0, 0, 0, 0)[0][:8]
+# By the mark, where the header has the size of the file: of an index, a sequence or a hash, and of a block.
+_SIZE_AT = {_core.index_header(0, 0, 0, 0, 0)[0][:8]: 32, b"bitmtab\x03": 16}
 
 
 def _look(head: bytes, size: Optional[int], shown: str) -> None:
     """A first look at a header, lest much is read in vain. What counts is the library's own, at the whole."""
-    if head[:8] != _MARK or (size is not None and int.from_bytes(head[32:40], "little") > size):
-        raise ValueError(f"{shown} is not a stored index, sequence or hash of this format, or not all of it")
+    at = _SIZE_AT.get(head[:8])
+    if at is None or (size is not None and int.from_bytes(head[at : at + 8], "little") > size):
+        raise ValueError(f"{shown} is not a stored index, sequence, hash or tree of this format, or not all of it")
 
 
 def load(source: Union[PathLike, int, BinaryIO], *, mmap: bool = False) -> Stored:
-    """The index, sequence or perfect hash that `save` wrote, from a path, a descriptor or a file object: read into memory,
+    """The index, sequence, perfect hash or tree that `save` wrote, from a path, a descriptor or a file object: read into memory,
     or with `mmap` mapped from the file and read where it lies. Bytes are a path: see `loads`.
 
     ValueError where it has no header of this format and byte order, or is shorter than its header says: the header is

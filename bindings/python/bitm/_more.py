@@ -120,6 +120,17 @@ def sequence_over(cls: Any, length: Any, width: Any, low: Any, words: Any, upper
     return _core.over(cls, (length, width), (low, words, upper, lower))
 
 
+def tree_over(cls: Any, block: Any) -> Any:
+    """A tree in a block that exists already, in a buffer that it holds. ValueError where its header or directory is not
+    right; the rest is not looked at: call `check`.
+
+    >>> tree = Tree([2, 0, 1, 0])
+    >>> Tree.over(tree.block).parent(3)
+    2
+    """
+    return _core.over(cls, (), (block,))
+
+
 def parts(self: Any) -> Any:
     """The width and the four parts, as `over` takes them after the length, to be read.
 
@@ -250,10 +261,10 @@ def _copy(share: Callable[[Any], Any]) -> Callable[[Any], Any]:
 
 def complete() -> None:
     """Gives the types of the extension those methods that stand here."""
-    for kind in (_core.Index, _core.EliasFano, _core.PerfectHash):
+    for kind in (_core.Index, _core.EliasFano, _core.PerfectHash, _core.Tree):
         setattr(kind, "save", save)
         setattr(kind, "__copy__", _copy(getattr(kind, "__copy__")))
-    for each in (_core.BitVector, _core.Index, _core.EliasFano, _core.PerfectHash):
+    for each in (_core.BitVector, _core.Index, _core.EliasFano, _core.PerfectHash, _core.Tree):
         setattr(each, "__reduce_ex__", reduce)
     setattr(_core.BitVector, "to_numpy", vector_to_numpy)
     setattr(_core.BitVector, "reverse", vector_reverse)
@@ -264,6 +275,7 @@ def complete() -> None:
         setattr(_core.EliasFano, name, sequence_to_numpy)
     setattr(_core.Index, "over", classmethod(index_over))
     setattr(_core.EliasFano, "over", classmethod(sequence_over))
+    setattr(_core.Tree, "over", classmethod(tree_over))
     setattr(_core.EliasFano, "intersection", intersection)
     setattr(_core.EliasFano, "union", union)
     setattr(_core.EliasFano, "parts", property(parts))

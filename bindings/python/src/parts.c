@@ -20,13 +20,14 @@ typedef struct {
         (const void **)&(pointer), &(length), size                                                                     \
     }
 
-/* Whether it is a class of Index, EliasFano or PerfectHash; TypeError else. */
+/* Whether it is a class of Index, EliasFano, PerfectHash or Tree; TypeError else. */
 static int is_value(PyObject *type)
 {
     PyTypeObject *it = (PyTypeObject *)type;
-    if (PyType_IsSubtype(it, Index_Type) || PyType_IsSubtype(it, Sequence_Type) || PyType_IsSubtype(it, Hash_Type))
+    if (PyType_IsSubtype(it, Index_Type) || PyType_IsSubtype(it, Sequence_Type) || PyType_IsSubtype(it, Hash_Type) ||
+        PyType_IsSubtype(it, Tree_Type))
         return 1;
-    PyErr_Format(PyExc_TypeError, "an Index, an EliasFano or a PerfectHash is needed, not %R", type);
+    PyErr_Format(PyExc_TypeError, "an Index, an EliasFano, a PerfectHash or a Tree is needed, not %R", type);
     return 0;
 }
 
@@ -54,9 +55,11 @@ static void layout_of(PyObject *type, Memory *it, Layout *out)
                       {PART(words->words, words->words_len, 8), PART(words->upper, words->upper_len, 8),
                        PART(words->lower, words->lower_len, 8), PART(it->hash.sizes, it->hash.sizes_len, 8),
                        PART(it->prints, it->prints_len, 8)}};
+    Layout of_tree = {0, 1, {NULL}, {PART(it->block, it->block_len, 8)}};
     PyTypeObject *kind = (PyTypeObject *)type;
     *out = PyType_IsSubtype(kind, Index_Type)      ? of_index
            : PyType_IsSubtype(kind, Sequence_Type) ? of_sequence
+           : PyType_IsSubtype(kind, Tree_Type)     ? of_tree
                                                    : of_hash;
 }
 
@@ -132,5 +135,7 @@ PyObject *parts_over(PyObject *module, PyObject *args)
         return index_over(type, it);
     if (PyType_IsSubtype((PyTypeObject *)type, Sequence_Type))
         return sequence_over(type, it);
+    if (PyType_IsSubtype((PyTypeObject *)type, Tree_Type))
+        return tree_over(type, it);
     return hash_over(type, it);
 }

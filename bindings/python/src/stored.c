@@ -1,6 +1,9 @@
 /* Files: headers, and the value that a file holds, which is read where it lies. */
 #include "core.h"
 
+/* The first word of a block (docs/FORMAT.md). */
+static const uint64_t BLOCK_MARK = 0x036261746d746962;
+
 /* A perfect hash is stored as an index with these numbers after it: mark, keys, bits of a fingerprint, seed, number of
  * sizes, words of fingerprints; then the sizes and the fingerprints. */
 enum { TAIL = 6 };
@@ -8,7 +11,8 @@ enum { TAIL = 6 };
 static PyObject *not_whole(Memory *it)
 {
     DROP(it);
-    PyErr_SetString(PyExc_ValueError, "it is not a stored index, sequence or hash of this format, or not all of it");
+    PyErr_SetString(PyExc_ValueError,
+                    "it is not a stored index, sequence, hash or tree of this format, or not all of it");
     return NULL;
 }
 
@@ -38,6 +42,11 @@ PyObject *stored_load(PyObject *module, PyObject *file)
     if (it == NULL || memory_items(it, file, 8, &at, &words)) {
         DROP(it);
         return NULL;
+    }
+    if (words > 0 && *(const uint64_t *)at == BLOCK_MARK) {
+        it->block = at;
+        it->block_len = words;
+        return tree_over(BORROWED(Tree_Type), it);
     }
     if (bitm_stored_read(at, words, &header) != BITM_OK)
         return not_whole(it);

@@ -1,0 +1,231 @@
+/* bitm.Tree: a tree in one block of memory. */
+#include "core.h"
+
+PyObject *tree_over(PyObject *type, Memory *it)
+{
+    if (bitm_tree_open(it->block, it->block_len, &it->tree) == BITM_OK)
+        return value_new(type, it);
+    DROP(it);
+    PyErr_SetString(PyExc_ValueError, "it is not the block of a tree, or not all of it");
+    return NULL;
+}
+
+/* Writes the block of the tree of these degrees into memory of its own. -1 and an error. */
+static int built(Memory *it, const uint64_t *degrees, size_t count)
+{
+    uint64_t len, *block;
+    uint32_t status = BITM_BAD_SIZE;
+    if (bitm_tree_size(count, &len) == BITM_OK && (block = memory_own(it, len, 8)) != NULL) {
+        Py_BEGIN_ALLOW_THREADS
+        status = bitm_tree_build(degrees, count, block, (size_t)len);
+        Py_END_ALLOW_THREADS
+        it->block = block;
+        it->block_len = (size_t)len;
+    }
+    if (PyErr_Occurred())
+        return -1;
+    if (status == BITM_OK && bitm_tree_open(it->block, it->block_len, &it->tree) == BITM_OK)
+        return 0;
+    PyErr_SetString(PyExc_ValueError, "the degrees are those of no tree");
+    return -1;
+}
+
+static int tree_init(PyObject *self, PyObject *args, PyObject *keywords)
+{
+    static char *names[] = {"degrees", NULL};
+    PyObject *from;
+    Integers degrees;
+    if (!PyArg_ParseTupleAndKeywords(args, keywords, "O:Tree", names, &from) ||
+        integers_take(&degrees, from, "a degree"))
+        return -1;
+    Memory *it = memory_new();
+    int failed = it == NULL || integers_own(&degrees);
+    if (!failed) {
+        size_t good = 0;
+        uint64_t *all = room_for(degrees.len);
+        if (all != NULL)
+            good = integers_load(&degrees, 0, degrees.len, all);
+        if (all != NULL && good < degrees.len)
+            integers_below(&degrees, good, "a degree");
+        failed = all == NULL || good < degrees.len || built(it, all, degrees.len);
+        free(all);
+    }
+    integers_drop(&degrees);
+    if (failed)
+        DROP(it);
+    else
+        value_set(self, it);
+    return failed ? -1 : 0;
+}
+
+/* ---- queries of one node */
+
+typedef uint32_t (*node_call)(const struct bitm_tree *, size_t, uint64_t *);
+
+static PyObject *of_node(PyObject *self, PyObject *value, node_call call)
+{
+    uint64_t node, out;
+    if (number(value, "a node", &node))
+        return NULL;
+    Memory *it = memory_of(self);
+    return it == NULL ? NULL : answer_or_none(call(&it->tree, (size_t)node, &out), &out);
+}
+
+#define NODE(name)                                                                                                     \
+    static PyObject *tree_##name(PyObject *self, PyObject *value) { return of_node(self, value, bitm_tree_##name); }
+NODE(parent)
+NODE(degree)
+NODE(next_sibling)
+NODE(previous_sibling)
+NODE(child_rank)
+
+static PyObject *tree_is_leaf(PyObject *self, PyObject *value)
+{
+    uint64_t node, out;
+    if (number(value, "a node", &node))
+        return NULL;
+    Memory *it = memory_of(self);
+    if (it == NULL)
+        return NULL;
+    uint32_t status = bitm_tree_is_leaf(&it->tree, (size_t)node, &out);
+    return status == BITM_OK ? boxed_bit(out) : answer_or_none(status, &out);
+}
+
+static PyObject *tree_child(PyObject *self, PyObject *const *args, Py_ssize_t count, PyObject *keywords)
+{
+    static const char *const names[] = {"node", "k"};
+    PyObject *given[2];
+    uint64_t node, k, out;
+    if (pick("child", names, 2, 2, args, count, keywords, given) || number(given[0], "a node", &node) ||
+        number(given[1], "k", &k))
+        return NULL;
+    Memory *it = memory_of(self);
+    return it == NULL ? NULL : answer_or_none(bitm_tree_child(&it->tree, (size_t)node, (size_t)k, &out), &out);
+}
+
+/* The children of a node follow one another: a range of them. */
+static PyObject *tree_children(PyObject *self, PyObject *value)
+{
+    uint64_t node, degree = 0, first = 0;
+    if (number(value, "a node", &node))
+        return NULL;
+    Memory *it = memory_of(self);
+    if (it == NULL)
+        return NULL;
+    uint32_t status = bitm_tree_degree(&it->tree, (size_t)node, &degree);
+    if (status == BITM_OK && degree > 0)
+        status = bitm_tree_child(&it->tree, (size_t)node, 0, &first);
+    if (status == BITM_NONE)
+        degree = 0;
+    else if (status != BITM_OK)
+        return wrong();
+    return PyObject_CallFunction((PyObject *)&PyRange_Type, "KK", (unsigned long long)first,
+                                 (unsigned long long)(first + degree));
+}
+
+/* ---- lists */
+
+#define LIST(name, call)                                                                                               \
+    static uint32_t name##s(const Memory *it, bool one, const uint64_t *in, uint64_t *out, size_t count,               \
+                            struct bitm_list_counts *counts)                                                           \
+    {                                                                                                                  \
+        (void)one;                                                                                                     \
+        return call(&it->tree, in, count, out, count, counts);                                                         \
+    }                                                                                                                  \
+    static PyObject *tree_##name##_list(PyObject *self, PyObject *const *args, Py_ssize_t count, PyObject *keywords)   \
+    {                                                                                                                  \
+        return ask_list(self, name##s, true, SOME, #name "_list", "a node", args, count, keywords);                    \
+    }
+LIST(parent, bitm_tree_parent_list)
+LIST(degree, bitm_tree_degree_list)
+
+/* ---- the rest */
+
+static PyObject *tree_check(PyObject *self, PyObject *none)
+{
+    Memory *it = memory_kept(self);
+    uint32_t status;
+    (void)none;
+    if (it == NULL)
+        return NULL;
+    Py_BEGIN_ALLOW_THREADS
+    status = bitm_tree_check(it->block, it->block_len);
+    Py_END_ALLOW_THREADS
+    DROP(it);
+    return PyBool_FromLong(status == BITM_OK);
+}
+
+static Py_ssize_t tree_len(PyObject *self)
+{
+    Memory *it = memory_of(self);
+    return it == NULL ? -1 : (Py_ssize_t)it->tree.len; /* below 2^60 */
+}
+
+static PyObject *tree_block(PyObject *self, void *none)
+{
+    (void)none;
+    Memory *it = memory_kept(self);
+    PyObject *window = it == NULL ? NULL : window_of(it, it->block, it->block_len, 8);
+    DROP(it);
+    return window;
+}
+
+static PyObject *tree_repr(PyObject *self)
+{
+    Memory *it = ((Value *)self)->memory;
+    return it == NULL ? PyUnicode_FromString("<Tree, closed>") : PyUnicode_FromFormat("<Tree of %zu nodes>", it->tree.len);
+}
+
+#define PLAIN(name, text) METHOD(#name, tree_##name, METH_O, "($self, node, /)", text)
+#define NAMED(name, arguments, text) KEYWORDS(#name, tree_##name, arguments, text)
+static PyMethodDef methods[] = {
+    PLAIN(parent, "The parent of a node; None at the root and where there is no such node."
+          EXAMPLE("Tree([2, 0, 1, 0]).parent(3)") PRINTS("2")),
+    NAMED(child, "($self, node, k)", "Child k of a node, counted from 0; None where there is none."
+          EXAMPLE("Tree([2, 0, 1, 0]).child(0, 1)") PRINTS("2")),
+    PLAIN(children, "The children of a node, as a range, for they follow one another; empty where there is no such node."
+          EXAMPLE("Tree([2, 0, 1, 0]).children(0)") PRINTS("range(1, 3)")),
+    PLAIN(degree, "How many children a node has; None where there is no such node."
+          EXAMPLE("Tree([2, 0, 1, 0]).degree(0)") PRINTS("2")),
+    PLAIN(is_leaf, "Whether a node has no children; None where there is no such node."
+          EXAMPLE("Tree([2, 0, 1, 0]).is_leaf(1)") PRINTS("True")),
+    PLAIN(next_sibling, "The child of a node's parent after it; None where there is none."
+          EXAMPLE("Tree([2, 0, 1, 0]).next_sibling(1)") PRINTS("2")),
+    PLAIN(previous_sibling, "The child of a node's parent before it; None where there is none."
+          EXAMPLE("Tree([2, 0, 1, 0]).previous_sibling(2)") PRINTS("1")),
+    PLAIN(child_rank, "Which child of its parent a node is, counted from 0; None at the root and where there is no such node."
+          EXAMPLE("Tree([2, 0, 1, 0]).child_rank(2)") PRINTS("1")),
+    NAMED(parent_list, "($self, queries, *, missing=None)", "The parent of each node of a list, in its manner."
+          EXAMPLE("Tree([2, 0, 1, 0]).parent_list([0, 1, 3])") PRINTS("[None, 0, 2]")),
+    NAMED(degree_list, "($self, queries, *, missing=None)", "How many children each node of a list has, in its manner."
+          EXAMPLE("Tree([2, 0, 1, 0]).degree_list([0, 1, 3])") PRINTS("[2, 0, 0]")),
+    METHOD("check", tree_check, METH_NOARGS, "($self, /)",
+           "Whether the block is as it was written and holds a tree: looks at all of it."
+           EXAMPLE("Tree([2, 0, 1, 0]).check()") PRINTS("True")),
+    VALUE_METHODS,
+    {NULL, NULL, 0, NULL}};
+
+static PyGetSetDef attributes[] = {
+    {"block", tree_block, NULL,
+     DOC("The words of the block, to be read: a buffer, which `Tree.over` takes, and which keeps the memory."
+         EXAMPLE("len(Tree([2, 0, 1, 0]).block)") PRINTS("56")),
+     NULL},
+    VALUE_CLOSED,
+    {NULL, NULL, NULL, NULL, NULL}};
+
+#define TREE_DOC                                                                                                       \
+    "Tree(degrees)\n--\n\n"                                                                                            \
+    "A tree in one block of memory, from the degree of each node, which is how many children it has. Nodes are "       \
+    "numbered level by level: the root is 0, and the children of a node follow one another." EXAMPLE(                  \
+        "tree = Tree([2, 0, 1, 0])") THEN("tree.parent(3), list(tree.children(0))") PRINTS("(2, [1, 2])")
+
+static PyType_Slot slots[] = {{Py_tp_doc, DOC(TREE_DOC)},
+                              {Py_tp_init, tree_init},
+                              {Py_tp_methods, methods},
+                              {Py_tp_getset, attributes},
+                              {Py_tp_repr, tree_repr},
+                              {Py_tp_hash, PyObject_HashNotImplemented},
+                              {Py_sq_length, tree_len},
+                              VALUE_SLOTS,
+                              {0, NULL}};
+PyType_Spec tree_spec = {"bitm.Tree", sizeof(Value), 0, VALUE_FLAGS, slots};

@@ -1,0 +1,112 @@
+"""Tree beside plain lists of parents and children; files and buffers of blocks, of which bytes were changed or cut off."""
+import copy
+import pickle
+import random
+
+import pytest
+
+import bitm
+from bitm import Tree
+
+
+def drawn(count, most, seed):
+    """The degrees of a drawn tree: a node has up to `most` children, as long as there are nodes left."""
+    draw, degrees, known = random.Random(seed), [], 1
+    for node in range(count):
+        degree = draw.randint(0, most)
+        if degree == 0 and known == node + 1:
+            degree = 1
+        degrees.append(min(degree, count - known))
+        known += degrees[-1]
+    return degrees
+
+
+def parents_of(degrees):
+    return [None] + [node for node, degree in enumerate(degrees) for _ in range(degree)]
+
+
+TREES = [drawn(count, 1 + count % 4, count) for count in range(1, 30)] + [drawn(900, most, most) for most in (1, 3, 60)] + [[499] + [0] * 499]
+
+
+@pytest.mark.parametrize("degrees", TREES, ids=len)
+def test_answers_are_those_of_plain_lists(degrees):
+    tree, parents = Tree(degrees), parents_of(degrees)
+    assert len(tree) == len(degrees) and tree.check()
+    for node, degree in enumerate(degrees):
+        children = [child for child, parent in enumerate(parents) if parent == node]
+        siblings = [it for it, parent in enumerate(parents) if parent == parents[node]]
+        at = siblings.index(node)
+        assert tree.parent(node) == parents[node] and tree.degree(node) == degree and tree.is_leaf(node) is (degree == 0)
+        assert list(tree.children(node)) == children and [tree.child(node, k) for k in range(degree + 1)] == children + [None]
+        assert tree.child_rank(node) == (at if node else None)
+        assert tree.next_sibling(node) == (siblings[at + 1] if node and at + 1 < len(siblings) else None)
+        assert tree.previous_sibling(node) == (siblings[at - 1] if at else None)
+    nodes = list(range(len(degrees) + 1))
+    assert tree.parent_list(nodes) == parents + [None]
+    assert tree.degree_list(nodes) == degrees + [None]
+    assert tree.degree_list(nodes, missing=7) == degrees + [7]
+
+
+def test_no_such_node_has_no_answer():
+    tree = Tree([1, 0])
+    for node in (2, 2**63, 2**64 - 1):
+        for ask in (tree.parent, tree.degree, tree.is_leaf, tree.next_sibling, tree.previous_sibling, tree.child_rank):
+            assert ask(node) is None
+        assert tree.child(node, 0) is None and tree.child(0, node) is None and list(tree.children(node)) == []
+    for wrong, error in ((-1, OverflowError), (2**64, OverflowError), ("1", TypeError), (1.0, TypeError), (None, TypeError)):
+        for ask in (tree.parent, tree.degree, tree.is_leaf, tree.children):
+            with pytest.raises(error):
+                ask(wrong)
+    with pytest.raises(TypeError):
+        tree.child(0)
+
+
+@pytest.mark.parametrize("degrees", [[], [0, 0], [1, 1], [0, 1], [2, 0], [1, 0, 1], [2**64 - 1, 1], [2**64 - 1, 2]])
+def test_degrees_of_no_tree_are_refused(degrees):
+    with pytest.raises(ValueError, match="no tree"):
+        Tree(degrees)
+
+
+def test_a_degree_is_a_number():
+    for wrong, error in (([1, -1], OverflowError), (["1", 0], TypeError), (3, TypeError), ([0.5], TypeError)):
+        with pytest.raises(error):
+            Tree(wrong)
+
+
+def test_files_and_copies(tmp_path):
+    tree = Tree(drawn(300, 4, 1))
+    tree.save(tmp_path / "tree")
+    everything = [tree.parent(node) for node in range(len(tree))]
+    data = (tmp_path / "tree").read_bytes()
+    assert data == bytes(tree.block)
+    others = [bitm.load(tmp_path / "tree"), bitm.load(tmp_path / "tree", mmap=True), bitm.loads(data), Tree.over(data), copy.copy(tree)]
+    others += [pickle.loads(pickle.dumps(tree, protocol)) for protocol in (2, 4, 5)]
+    for other in others:
+        assert isinstance(other, Tree) and other.check() and [other.parent(node) for node in range(len(other))] == everything
+        other.close()
+        with pytest.raises(ValueError, match="closed"):
+            other.parent(1)
+    assert tree.check()
+
+
+def test_each_changed_byte_and_each_prefix_is_seen():
+    data = bytes(Tree(drawn(9, 3, 5)).block)
+    for at in range(len(data)):
+        changed = bytearray(data)
+        changed[at] ^= 1 << at % 8
+        if at < 256:
+            with pytest.raises(ValueError):
+                Tree.over(changed)
+            continue
+        tree = Tree.over(changed)
+        assert not tree.check()
+        for node in range(10):
+            for ask in (tree.parent, tree.degree, tree.child_rank, tree.next_sibling, tree.previous_sibling):
+                try:
+                    answer = ask(node)
+                except bitm.WrongTables:
+                    continue
+                assert answer is None or 0 <= answer < 9
+    for end in range(0, len(data), 8):
+        with pytest.raises(ValueError):
+            Tree.over(data[:end])
