@@ -81,8 +81,8 @@ pub fn total_next_sibling_on<T: TableSource>(
 
 /// The child of a node's parent before it, by its number.
 ///
-/// Whatever the source holds, it is the number before that of the node. Where the source holds a tree, the answer is the
-/// previous sibling, `Absent` exactly at the first child, at the root and where there is no such node, and never
+/// Whatever the source holds, it is the number before that of the node. Where the source holds a tree, the answer is
+/// the previous sibling, `Absent` exactly at the first child, at the root and where there is no such node, and never
 /// `Wrong`.
 ///
 /// # Conditions

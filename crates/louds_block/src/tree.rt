@@ -85,8 +85,8 @@ impl<'a> LoudsView<'a> {
     }
 
     /// The tree in a block that is as it was written; `None` exactly where `open` says so, a section or the zeros after
-    /// it are not those that were written (`Block::verify`), or the sections hold no tree (`check`). So a block in which
-    /// one word was changed is refused, and every answer is that of the tree.
+    /// it are not those that were written (`Block::verify`), or the sections hold no tree (`check`). So a block in
+    /// which one word was changed is refused, and every answer is that of the tree.
     ///
     /// # Cost
     /// Three passes over the words, and one word more for each node (evident from the code).
@@ -308,8 +308,8 @@ impl<'a> LoudsView<'a> {
     }
 
     /// The child of a node's parent before it. Whatever the block holds, it is the node before this one. Where it holds
-    /// a tree, the answer is `Absent` exactly at the first child, at the root and where there is no such node, and never
-    /// `Wrong`.
+    /// a tree, the answer is `Absent` exactly at the first child, at the root and where there is no such node, and
+    /// never `Wrong`.
     ///
     /// # Cost
     /// That of `total_previous_sibling_on`.
@@ -327,8 +327,8 @@ impl<'a> LoudsView<'a> {
     }
 
     /// Which child of its parent a node is, counted from 0. Whatever the block holds, that is less than the number of
-    /// nodes, and the answer is `Absent` exactly at the root and where there is no such node. Where it holds a tree, the
-    /// answer is never `Wrong`.
+    /// nodes, and the answer is `Absent` exactly at the root and where there is no such node. Where it holds a tree,
+    /// the answer is never `Wrong`.
     ///
     /// # Cost
     /// That of `total_child_rank_on`.
