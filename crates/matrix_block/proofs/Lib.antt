@@ -1,0 +1,4 @@
+pub mod BlockLemmas
+pub mod CheckLemmas
+pub mod DecodeLemmas
+pub mod StepLemmas

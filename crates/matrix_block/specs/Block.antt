@@ -1,0 +1,144 @@
+-- A block that holds a wavelet matrix.
+use Rattle.std.specs.Prelude.{◌≡◌, ℕ, ◌+◌, ◌*◌, ◌^◌, ◌<◌, ◌≤◌, true, List, [], ◌∷◌, length, slice_index, slice_range, All}
+use Rattle.std.specs.Int.{div_ceil}
+use Rattle.bitm.specs.Tables.{HasSizes, Lists}
+use Rattle.bitm_block.specs.Header.{count_in, section_in, IsBlock, IsVerified}
+use Rattle.bitm_block.specs.Layout.{aligned}
+use Rattle.bitm_block.specs.declared.head.Head.{Head}
+use Rattle.bitm_block.specs.declared.layout.Section.{Section}
+use Rattle.bitm_view.specs.Sizes.{lists_of}
+use Rattle.wavelet_matrix.specs.Matrix.{numbers_in, words_of, IsMatrix, LevelTables}
+
+-- how many entries the upper and the lower table of n numbers of w bits have
+abbrev pub upper_of_numbers : ℕ → ℕ → ℕ
+upper_of_numbers n w = div_ceil (words_of n w) (2 ^ 26)
+
+abbrev pub lower_of_numbers : ℕ → ℕ → ℕ
+lower_of_numbers n w = div_ceil (words_of n w) 32
+
+-- a number can have so many bits
+abbrev pub IsWidth : ℕ → Type 0
+IsWidth w = (1 ≤ w) × (w ≤ 64)
+
+-- a block can hold n numbers of w bits
+pub record AreNumbers (n w : ℕ) : Type 0 where
+  pub some : 1 ≤ w
+  pub most : w ≤ 64
+  pub short : w * n < 2 ^ 63
+
+-- the numbers of the header of a matrix of n numbers of w bits
+abbrev pub matrix_head : ℕ → ℕ → Head
+matrix_head n w = record { kind = 6; len = n; width = w; ones_log2 = 0; zeros_log2 = 0; a = 0; b = 0; c = 0 }
+
+-- the sections of a matrix of n numbers of w bits: words, upper and lower table, and for each level the 1 bits before it
+-- and how many of its items have a 0 bit
+abbrev pub matrix_sections : ℕ → ℕ → List Section
+matrix_sections n w =
+    record { role = 1; count = words_of n w } ∷ record { role = 2; count = upper_of_numbers n w }
+    ∷ record { role = 3; count = lower_of_numbers n w } ∷ record { role = 11; count = w } ∷ record { role = 12; count = w } ∷ []
+
+-- where the sections after the first begin, and where the block ends
+abbrev pub upper_at : ℕ → ℕ → ℕ
+upper_at n w = 40 + aligned (words_of n w)
+
+abbrev pub lower_at : ℕ → ℕ → ℕ
+lower_at n w = upper_at n w + aligned (upper_of_numbers n w)
+
+abbrev pub ones_at : ℕ → ℕ → ℕ
+ones_at n w = lower_at n w + aligned (lower_of_numbers n w)
+
+abbrev pub zeros_at : ℕ → ℕ → ℕ
+zeros_at n w = ones_at n w + aligned w
+
+abbrev pub end_at : ℕ → ℕ → ℕ
+end_at n w = zeros_at n w + aligned w
+
+-- the levels of n numbers of w bits in a block: no high bits are known from a table of starts, and there are no quarters
+abbrev pub levels_of : ℕ → ℕ → List ℕ → List ℕ → LevelTables
+levels_of n w ones zeros =
+    record { len = n; width = w; ones = ones; zeros = zeros; known = 0; starts = 0 ∷ []; compact = true; quarters = [] }
+
+-- the levels are those of numbers that fit into a block, and their tables have an entry for each level, which may hold
+-- anything
+pub record HasLevels (levels : LevelTables) : Type 0 where
+  pub plain : levels ≡ levels_of levels.len levels.width levels.ones levels.zeros
+  pub numbers : AreNumbers levels.len levels.width
+  pub ones_len : length levels.ones ≡ levels.width
+  pub zeros_len : length levels.zeros ≡ levels.width
+
+-- the tables of levels, and words with two tables
+pub record MatrixParts : Type 0 where
+  pub levels : LevelTables
+  pub lists : Lists
+
+-- these levels, words and tables
+abbrev pub parts_of : LevelTables → List ℕ → List ℕ → List ℕ → MatrixParts
+parts_of levels words upper lower = record { levels = levels; lists = lists_of words upper lower }
+
+-- the matrix whose parts are the first five sections
+abbrev pub matrix_in : List ℕ → MatrixParts
+matrix_in block =
+    parts_of (levels_of (slice_index block 3) (slice_index block 4) (section_in block 3) (section_in block 4))
+    (section_in block 0) (section_in block 1) (section_in block 2)
+
+-- the parts are as long as those of the numbers: nothing is said of what they hold
+pub record HasLengths (parts : MatrixParts) : Type 0 where
+  pub levels : HasLevels parts.levels
+  pub words_len : length parts.lists.words ≡ words_of parts.levels.len parts.levels.width
+  pub sized : HasSizes parts.lists
+
+-- the block is of the kind of a matrix, and its first five sections are those of one
+pub record HasMatrixSections (block : List ℕ) : Type 0 where
+  pub kind : slice_index block 1 ≡ 6
+  pub five : 5 ≤ count_in block
+  pub words : slice_index block 16 ≡ 1
+  pub upper : slice_index block 20 ≡ 2
+  pub lower : slice_index block 24 ≡ 3
+  pub ones : slice_index block 28 ≡ 11
+  pub zeros : slice_index block 32 ≡ 12
+
+-- header and directory are right, and the sections are as long as those of the numbers
+pub record IsMatrixBlock (block : List ℕ) : Type 0 where
+  pub is_block : IsBlock block
+  pub sections : HasMatrixSections block
+  pub lengths : HasLengths (matrix_in block)
+
+-- the parts hold numbers, and the queries answer by these
+abbrev pub HoldsMatrix : MatrixParts → Type 0
+HoldsMatrix parts = IsMatrix parts.levels parts.lists
+
+-- the numbers that the parts hold
+abbrev pub items_in : MatrixParts → List ℕ
+items_in parts = numbers_in parts.levels parts.lists
+
+-- numbers of w bits that fit into a block
+pub record CanHold (xs : List ℕ) (w : ℕ) : Type 0 where
+  pub numbers : AreNumbers (length xs) w
+  pub fit : All (λ x. x < 2 ^ w) xs
+
+-- words and tables that hold these numbers of w bits
+pub record AreParts (numbers : List ℕ) (w : ℕ) (words upper lower ones zeros : List ℕ) : Type 0 where
+  pub words_len : length words ≡ words_of (length numbers) w
+  pub upper_len : length upper ≡ upper_of_numbers (length numbers) w
+  pub lower_len : length lower ≡ lower_of_numbers (length numbers) w
+  pub ones_len : length ones ≡ w
+  pub zeros_len : length zeros ≡ w
+  pub matrix : IsMatrix (levels_of (length numbers) w ones zeros) (lists_of words upper lower)
+  pub items : numbers_in (levels_of (length numbers) w ones zeros) (lists_of words upper lower) ≡ numbers
+
+-- they stand in a block where its sections are
+abbrev pub StandsIn : List ℕ → ℕ → List ℕ → Type 0
+StandsIn numbers w block =
+    let n = length numbers in
+    AreParts numbers w (slice_range block 40 (40 + words_of n w))
+    (slice_range block (upper_at n w) (upper_at n w + upper_of_numbers n w))
+    (slice_range block (lower_at n w) (lower_at n w + lower_of_numbers n w)) (slice_range block (ones_at n w) (ones_at n w + w))
+    (slice_range block (zeros_at n w) (zeros_at n w + w))
+
+-- the block is that of these numbers of w bits
+pub record IsBlockOf (numbers : List ℕ) (w : ℕ) (block : List ℕ) : Type 0 where
+  pub matrix_block : IsMatrixBlock block
+  pub verified : IsVerified block
+  pub width : slice_index block 4 ≡ w
+  pub matrix : HoldsMatrix (matrix_in block)
+  pub items : items_in (matrix_in block) ≡ numbers

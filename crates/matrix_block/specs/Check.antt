@@ -1,0 +1,13 @@
+-- What says that the tables of levels are those of the words.
+use Rattle.std.specs.Prelude.{◌≡◌, ℕ, ◌+◌, ◌*◌, ◌<◌, Bool, List, slice_index}
+use Rattle.bitm.specs.Count.{ones_before, zeros_before}
+use Rattle.wavelet_matrix.specs.Matrix.{LevelTables}
+
+-- the entries of level d are the 1 bits before it and its 0 bits
+pub record AreCountsAt (l : LevelTables) (b : List Bool) (d : ℕ) : Type 0 where
+  pub ones_are : slice_index l.ones d ≡ ones_before b (d * l.len)
+  pub zeros_are : zeros_before b (d * l.len) + slice_index l.zeros d ≡ zeros_before b (d * l.len + l.len)
+
+-- those of each level are
+abbrev pub AreCounts : LevelTables → List Bool → Type 0
+AreCounts l b = (d : ℕ) → d < l.width → AreCountsAt l b d

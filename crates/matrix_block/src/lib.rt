@@ -1,0 +1,31 @@
+//! A wavelet matrix in a block of memory, such as a mapped file: nothing is allocated or copied, and no call has a
+//! condition on what the memory holds.
+//!
+//! With the block of a matrix the answers are those of its numbers. If it is stale or hostile, every call still
+//! terminates within its read bound, and its answer is one that some numbers of that many bits could have.
+#![tactic(auto)]
+
+// What is in each file:
+// - `building`: the block of a matrix, written into the caller's memory
+// - `checking`: whether the tables of levels are those of the words
+// - `error`: why no block was written
+// - `levels`: the tables of levels, which may hold anything
+// - `matrix`: the view of a block, and its queries
+// - `queries`: a number by its index, and ranks, over any source
+// - `sections`: the sections of the block of a matrix
+// - `stepping`: the step from one level to the next
+mod building;
+mod checking;
+mod error;
+mod levels;
+mod matrix;
+mod queries;
+mod sections;
+mod stepping;
+
+pub use bitm::Answer;
+pub use building::build;
+pub use error::BuildError;
+pub use levels::LevelsView;
+pub use matrix::MatrixView;
+pub use sections::{MATRIX, size};

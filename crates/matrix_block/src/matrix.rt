@@ -1,0 +1,215 @@
+//! A matrix in a block that may hold anything.
+ghost use Rattle.std.specs.Prelude.{◌≡◌, ◌*◌, ◌≤◌, ◌↔◌, IsTrue, SomeIff, length};
+ghost use Rattle.bitm.specs.Reads.{none_read};
+ghost use Rattle.bitm.specs.Tables.{bits_in};
+ghost use Rattle.matrix_block.specs.Answers.{IsNumberOf, IsNumberWithin, IsRankOf, IsRankWithin};
+ghost use Rattle.matrix_block.specs.Block.{items_in, matrix_in, parts_of, HasLengths, HasMatrixSections, HoldsMatrix, IsMatrixBlock};
+
+use crate::checking::are_counts;
+use crate::levels::LevelsView;
+use crate::sections::{Lens, MATRIX};
+use bitm::Answer;
+use bitm_block::Block;
+use block_tables::{BlockProbe, are_tables};
+use std::marker::Model;
+
+/// Whether header and directory are those of a matrix.
+#[inline(always)]
+fn is_matrix_block(block: &Block<'_>) -> bool
+    ensures { IsTrue result ↔ HasMatrixSections block.now }
+{
+    let words = block.words();
+    words[1] == MATRIX
+        && words[11] >= 5
+        && words[16] == 1
+        && words[20] == 2
+        && words[24] == 3
+        && words[28] == 11
+        && words[32] == 12
+}
+
+/// A view of a wavelet matrix in a block, of which header and directory are right.
+///
+/// Contracts see the tables of the levels, the words and their two tables. These may hold anything: a call says what it
+/// answers where they are those of a matrix, and what it answers else.
+///
+/// ```
+/// let Some(matrix) = MatrixView::open(&block) else { .. };
+/// matrix.check();       // true of a block that `build` wrote
+/// matrix.get(4);        // Found(5), Absent or Wrong
+/// matrix.rank(1, 4);    // Found(2), Absent or Wrong
+/// ```
+#[derive(Drop)]
+pub struct MatrixView<'a> {
+    levels: LevelsView<'a>,
+    words: &'a [u64],
+    upper: &'a [u64],
+    lower: &'a [u64],
+}
+
+impl<'a> Model for MatrixView<'a> {
+    ghost use Rattle.matrix_block.specs.Block.{parts_of, HasLengths, MatrixParts};
+
+    ghost Value = { MatrixParts };
+
+    ghost view = { λ m. parts_of m.levels m.words.now m.upper.now m.lower.now };
+
+    ghost invariant = { λ m. HasLengths (parts_of m.levels m.words.now m.upper.now m.lower.now) };
+}
+
+impl<'a> MatrixView<'a> {
+    /// The matrix in a block; `None` exactly where the words are no block (`Block::open` says why), the block is of
+    /// another kind, or a section is not as long as that of the given numbers. What the sections hold is not looked at.
+    ///
+    /// # Cost
+    /// Header and directory are read, at most 80 words (evident from the code).
+    ///
+    /// ```
+    /// MatrixView::open(block.as_slice());   // Some(..)
+    /// ```
+    pub fn open(words: &'a [u64]) -> Option<MatrixView<'a>>
+        ensures { SomeIff result (IsMatrixBlock words.now) (matrix_in words.now) }
+    {
+        let Ok(block) = Block::open(words) else {
+            return None;
+        };
+        if !is_matrix_block(&block) || words[4] > 64 {
+            return None;
+        }
+        let levels = match (block.section(3), block.section(4)) {
+            (Some(ones), Some(zeros)) => {
+                LevelsView::over(words[3] as usize, words[4] as u8, ones, zeros)?
+            }
+            _ => return None,
+        };
+        match (block.section(0), block.section(1), block.section(2)) {
+            (Some(bits), Some(upper), Some(lower)) => MatrixView::over(levels, bits, upper, lower),
+            _ => None,
+        }
+    }
+
+    /// The levels of numbers in words with two tables; `None` exactly where a length is not that of the numbers.
+    ///
+    /// ```
+    /// MatrixView::over(levels, words, upper, lower);   // Some(..) of one word each, for six numbers of three bits
+    /// ```
+    #[inline]
+    pub fn over(
+        levels: LevelsView<'a>,
+        words: &'a [u64],
+        upper: &'a [u64],
+        lower: &'a [u64],
+    ) -> Option<MatrixView<'a>>
+        ensures { SomeIff result (HasLengths (parts_of levels.entry words.now upper.now lower.now))
+            (parts_of levels.entry words.now upper.now lower.now) }
+    {
+        let lens = Lens::of(levels.len(), levels.width() as usize);
+        if words.len() != lens.words || upper.len() != lens.upper || lower.len() != lens.lower {
+            return None;
+        }
+        Some(MatrixView {
+            levels,
+            words,
+            upper,
+            lower,
+        })
+    }
+
+    /// How many numbers the header announces.
+    ///
+    /// ```
+    /// matrix.len();   // 6
+    /// ```
+    #[inline(always)]
+    pub fn len(&self) -> usize
+        ensures { result ≡ self.now.levels.len }
+    {
+        self.levels.len()
+    }
+
+    /// How many bits each number has at most, as the header announces.
+    ///
+    /// ```
+    /// matrix.width();   // 3
+    /// ```
+    #[inline(always)]
+    pub fn width(&self) -> u8
+        ensures { result ≡ self.now.levels.width }
+    {
+        self.levels.width()
+    }
+
+    /// The levels, and a source over the words and tables whose reads are counted from 0.
+    ///
+    /// ```
+    /// let (levels, mut source) = matrix.parts();
+    /// levels.total_get_on(&mut source, 4);   // Found(5)
+    /// ```
+    #[tactic(auto, using(bitm::proofs::BitLaws::bits_are_counted))]
+    #[inline(always)]
+    pub fn parts(&self) -> (&LevelsView<'a>, BlockProbe<'_>)
+        ensures levels { result.0.now ≡ self.now.levels }
+        ensures lists { result.1.lists ≡ self.now.lists }
+        ensures lengths { HasLengths self.now }
+        ensures room { self.now.levels.width * self.now.levels.len
+            ≤ length (bits_in self.now.lists) }
+        ensures reads { result.1.reads ≡ none_read }
+    {
+        let source = BlockProbe::new(self.words, self.upper, self.lower);
+        (&self.levels, source)
+    }
+
+    /// Whether the block holds a matrix: then the answers are those of its numbers.
+    ///
+    /// # Cost
+    /// One pass over the words, and two ranks for each level (evident from the code).
+    ///
+    /// ```
+    /// matrix.check();   // true
+    /// ```
+    pub fn check(&self) -> bool
+        ensures { IsTrue result ↔ HoldsMatrix self.now }
+    {
+        if !are_tables(self.words, self.upper, self.lower) {
+            return false;
+        }
+        let (levels, mut source) = self.parts();
+        are_counts(levels, &mut source)
+    }
+
+    /// Number `i`. Whatever the block holds, it has no more bits than the width, and the answer is `Absent` exactly
+    /// where there is no such number. Where the block holds a matrix, the answer is never `Wrong`.
+    ///
+    /// # Cost
+    /// That of `LevelsView::total_get_on`.
+    ///
+    /// ```
+    /// matrix.get(4);   // Found(5)
+    /// ```
+    #[inline]
+    pub fn get(&self, i: usize) -> Answer<u64>
+        ensures inside { IsNumberWithin self.now.levels.len self.now.levels.width i result }
+        ensures answer { HoldsMatrix self.now → IsNumberOf (items_in self.now) i result }
+    {
+        let (levels, mut source) = self.parts();
+        levels.total_get_on(&mut source, i)
+    }
+
+    /// How many of the first `i` numbers are this one. Whatever the block holds, they are at most `i`, and the answer is
+    /// `Absent` exactly where there are fewer numbers. Where the block holds a matrix, the answer is never `Wrong`.
+    ///
+    /// # Cost
+    /// That of `LevelsView::total_rank_on`.
+    ///
+    /// ```
+    /// matrix.rank(1, 4);   // Found(2)
+    /// ```
+    #[inline]
+    pub fn rank(&self, number: u64, i: usize) -> Answer<usize>
+        ensures inside { IsRankWithin self.now.levels.len i result }
+        ensures answer { HoldsMatrix self.now → IsRankOf (items_in self.now) number i result }
+    {
+        let (levels, mut source) = self.parts();
+        levels.total_rank_on(&mut source, number, i)
+    }
+}
