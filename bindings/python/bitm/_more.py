@@ -131,6 +131,15 @@ def tree_over(cls: Any, block: Any) -> Any:
     return _core.over(cls, (), (block,))
 
 
+def block(self: Any) -> memoryview:
+    """The words of the block, to be read: what `Tree.over` takes, and the bytes of the file.
+
+    >>> len(Tree([2, 0, 1, 0]).block)
+    56
+    """
+    return memoryview(_core.parts(self)[1][0])
+
+
 def parts(self: Any) -> Any:
     """The width and the four parts, as `over` takes them after the length, to be read.
 
@@ -276,6 +285,7 @@ def complete() -> None:
     setattr(_core.Index, "over", classmethod(index_over))
     setattr(_core.EliasFano, "over", classmethod(sequence_over))
     setattr(_core.Tree, "over", classmethod(tree_over))
+    setattr(_core.Tree, "block", property(block))
     setattr(_core.EliasFano, "intersection", intersection)
     setattr(_core.EliasFano, "union", union)
     setattr(_core.EliasFano, "parts", property(parts))

@@ -161,15 +161,6 @@ static Py_ssize_t tree_len(PyObject *self)
     return it == NULL ? -1 : (Py_ssize_t)it->tree.len; /* below 2^60 */
 }
 
-static PyObject *tree_block(PyObject *self, void *none)
-{
-    (void)none;
-    Memory *it = memory_kept(self);
-    PyObject *window = it == NULL ? NULL : window_of(it, it->block, it->block_len, 8);
-    DROP(it);
-    return window;
-}
-
 static PyObject *tree_repr(PyObject *self)
 {
     Memory *it = ((Value *)self)->memory;
@@ -205,13 +196,7 @@ static PyMethodDef methods[] = {
     VALUE_METHODS,
     {NULL, NULL, 0, NULL}};
 
-static PyGetSetDef attributes[] = {
-    {"block", tree_block, NULL,
-     DOC("The words of the block, to be read: a buffer, which `Tree.over` takes, and which keeps the memory."
-         EXAMPLE("len(Tree([2, 0, 1, 0]).block)") PRINTS("56")),
-     NULL},
-    VALUE_CLOSED,
-    {NULL, NULL, NULL, NULL, NULL}};
+static PyGetSetDef attributes[] = {VALUE_CLOSED, {NULL, NULL, NULL, NULL, NULL}};
 
 #define TREE_DOC                                                                                                       \
     "Tree(degrees)\n--\n\n"                                                                                            \
