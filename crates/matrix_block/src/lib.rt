@@ -3,6 +3,21 @@
 //!
 //! With the block of a matrix the answers are those of its numbers. If it is stale or hostile, every call still
 //! terminates within its read bound, and its answer is one that some numbers of that many bits could have.
+//!
+//! ```
+//! let numbers = [3u64, 1, 4, 1, 5, 1];
+//! let mut block = [0u64; 80];                                   // size(6, 3) words
+//! let mut scratch = [0u64; 12];                                 // two words for each number
+//! build(numbers.as_slice(), 3, scratch.as_mut_slice(), block.as_mut_slice());   // Ok(())
+//! let Some(matrix) = MatrixView::open(block.as_slice()) else { .. };
+//! matrix.check();       // true
+//! matrix.get(4);        // Found(5), Absent or Wrong
+//! matrix.rank(1, 4);    // Found(2), Absent or Wrong
+//! ```
+//!
+//! # Source
+//! Claude, Navarro and Ordóñez, 'The wavelet matrix: An efficient wavelet tree for large alphabets'
+//! (Information Systems 47, 2015).
 #![tactic(auto)]
 
 // What is in each file:

@@ -3,7 +3,8 @@ ghost use Rattle.std.specs.Prelude.{◌≡◌, ◌*◌, ◌≤◌, ◌↔◌, Is
 ghost use Rattle.bitm.specs.Reads.{none_read};
 ghost use Rattle.bitm.specs.Tables.{bits_in};
 ghost use Rattle.matrix_block.specs.Answers.{IsNumberOf, IsNumberWithin, IsRankOf, IsRankWithin};
-ghost use Rattle.matrix_block.specs.Block.{items_in, matrix_in, parts_of, HasLengths, HasMatrixSections, HoldsMatrix, IsMatrixBlock};
+ghost use Rattle.matrix_block.specs.Block.{items_in, matrix_in, parts_of};
+ghost use Rattle.matrix_block.specs.Block.{HasLengths, HasMatrixSections, HoldsMatrix, IsMatrixBlock};
 
 use crate::checking::are_counts;
 use crate::levels::LevelsView;
@@ -195,8 +196,8 @@ impl<'a> MatrixView<'a> {
         levels.total_get_on(&mut source, i)
     }
 
-    /// How many of the first `i` numbers are this one. Whatever the block holds, they are at most `i`, and the answer is
-    /// `Absent` exactly where there are fewer numbers. Where the block holds a matrix, the answer is never `Wrong`.
+    /// How many of the first `i` numbers are this one. Whatever the block holds, they are at most `i`, and the answer
+    /// is `Absent` exactly where there are fewer numbers. Where the block holds a matrix, the answer is never `Wrong`.
     ///
     /// # Cost
     /// That of `LevelsView::total_rank_on`.
