@@ -1,0 +1,8 @@
+//! Tests of a wavelet matrix in a block: its bytes and answers beside those of another program, each bit of the block
+//! flipped, each length cut off.
+//!
+//! They stand in a crate of their own, since a crate with tests is proved twice.
+#![tactic(auto)]
+
+#[cfg(test)]
+mod matrices;
