@@ -1,0 +1,73 @@
+-- A block that holds a monotone sequence.
+use Rattle.std.specs.Prelude.{◌≡◌, ℕ, ◌^◌, ◌<◌, ◌≤◌, List, [], ◌∷◌, length, slice_index}
+use Rattle.std.specs.List.Sorted.{IsNonDecreasing}
+use Rattle.bitm_block.specs.Header.{count_in, section_in, IsBlock, IsVerified}
+use Rattle.bitm_block.specs.Layout.{end_of, part_in}
+use Rattle.bitm_block.specs.declared.head.Head.{Head}
+use Rattle.bitm_block.specs.declared.layout.Section.{Section}
+use Rattle.bitm_select.specs.Tables.{HasSizes}
+use Rattle.bitm_view.specs.Sizes.{lists_of}
+use Rattle.block_tables.specs.Sections.{section_of, tables_in, HasTableSections}
+use Rattle.elias_fano.specs.LentParts.{parts_of, AreParts, HasLengths, Holds, LentParts}
+use Rattle.elias_fano.specs.Parts.{width_of}
+use Rattle.elias_fano.specs.Sequence.{largest}
+use Rattle.elias_fano_view.specs.Sizes.{sizes_of, HasRoom}
+
+-- the numbers of the header of n numbers with l low bits
+abbrev pub sequence_head : ℕ → ℕ → Head
+sequence_head n l = record { kind = 3; len = n; width = l; ones_log2 = 0; zeros_log2 = 0; a = 0; b = 0; c = 0 }
+
+-- the sections of n numbers, the largest of them u: the words of the high bits, their tables, and the low bits
+abbrev pub sequence_sections : ℕ → ℕ → List Section
+sequence_sections n u =
+    section_of 1 (sizes_of n u).words ∷ section_of 2 (sizes_of n u).upper ∷ section_of 3 (sizes_of n u).lower ∷ section_of 9 (sizes_of n u).low
+    ∷ []
+
+-- the sections of these numbers
+abbrev pub sections_of : List ℕ → List Section
+sections_of xs = sequence_sections (length xs) (largest xs)
+
+-- the lists are the parts of the sequence xs, and as long as these need
+pub record AreWritten (xs low words upper lower : List ℕ) : Type 0 where
+  pub room : HasRoom xs low words upper lower
+  pub holds : Holds xs (parts_of (length xs) (width_of xs) low (lists_of words upper lower))
+
+-- they stand where the sections of the numbers are
+abbrev pub StandsIn : List ℕ → List ℕ → Type 0
+StandsIn xs block =
+    let ss = sections_of xs in AreWritten xs (part_in ss block 3) (part_in ss block 0) (part_in ss block 1) (part_in ss block 2)
+
+-- the sequence whose parts are the first four sections
+abbrev pub sequence_in : List ℕ → LentParts
+sequence_in block = parts_of (slice_index block 3) (slice_index block 4) (section_in block 3) (tables_in block)
+
+-- the block is of the kind of a sequence, and its first four sections are words, two tables and low bits
+pub record HasSequenceSections (block : List ℕ) : Type 0 where
+  pub tables : HasTableSections 3 block
+  pub four : 4 ≤ count_in block
+  pub low : slice_index block 28 ≡ 9
+
+-- header and directory are those of a sequence, and the sections are as long as its numbers need: nothing is said of
+-- what they hold
+pub record IsSequenceBlock (block : List ℕ) : Type 0 where
+  pub is_block : IsBlock block
+  pub sections : HasSequenceSections block
+  pub sized : HasSizes (tables_in block)
+  pub lengths : HasLengths (sequence_in block)
+
+-- and the sections are as they were written, and hold some sequence
+pub record IsSoundBlock (block : List ℕ) : Type 0 where
+  pub sequence_block : IsSequenceBlock block
+  pub verified : IsVerified block
+  pub parts : AreParts (sequence_in block)
+
+-- the block is that of the sequence xs
+pub record IsBlockOf (xs block : List ℕ) : Type 0 where
+  pub sound : IsSoundBlock block
+  pub holds : Holds xs (sequence_in block)
+
+-- numbers of a sequence, few enough, and a block as long as theirs
+pub record CanHold (xs block : List ℕ) : Type 0 where
+  pub short : length xs < 2 ^ 56
+  pub rising : IsNonDecreasing xs
+  pub room : length block ≡ end_of (sections_of xs)

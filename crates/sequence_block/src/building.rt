@@ -1,0 +1,120 @@
+//! The block of a sequence, written into the caller's memory.
+ghost use Rattle.std.specs.Prelude.{◌≡◌, ◌≢◌, ◌^◌, ◌<◌, ◌≤◌, ◌↔◌, IfErr, IfOk, IsErrOf, length};
+ghost use Rattle.std.specs.List.Sorted.{IsNonDecreasing};
+ghost use Rattle.bitm_block.specs.Layout.{end_of};
+ghost use Rattle.bitm_block.specs.Written.{IsSealed};
+ghost use Rattle.elias_fano.specs.Parts.{width_of};
+ghost use Rattle.elias_fano.specs.Sequence.{largest, HasFall};
+ghost use Rattle.elias_fano_view.specs.Sizes.{sizes_of, HasRoom};
+ghost use Rattle.sequence_block.specs.Block.{sections_of, sequence_head};
+ghost use Rattle.sequence_block.specs.Block.{AreWritten, CanHold, IsBlockOf, StandsIn};
+
+use crate::error::BuildError;
+use crate::sections::{sequence_head, sequence_sections, size};
+use bitm_block::{aligned, seal};
+use block_tables::as_entries_mut;
+use elias_fano::building::{is_rising, largest_of};
+use elias_fano_view::Sizes;
+
+/// Writes the parts of a sequence.
+fn write_numbers(
+    items: &[u64],
+    low: &mut [u64],
+    words: &mut [u64],
+    upper: &mut [u64],
+    lower: &mut [u64],
+)
+    requires room { HasRoom items.now low.old words.old upper.old lower.old }
+    requires rising { IsNonDecreasing items.now }
+    ensures { AreWritten items.now low.new words.new upper.new lower.new }
+{
+    match elias_fano_view::build(items, low, words, as_entries_mut(upper), lower) {
+        Ok(_) => {}
+        Err(_) => unreachable!(),
+    }
+}
+
+/// Writes the sections of a sequence where its block has them.
+fn write_parts(items: &[u64], sizes: &Sizes, block: &mut [u64])
+    requires sizes { sizes.now ≡ sizes_of (length items.now) (largest items.now) }
+    requires holds { CanHold items.now block.old }
+    ensures { StandsIn items.now block.new }
+{
+    let (_head, rest) = block.split_at_mut(32);
+    let (room, rest) = rest.split_at_mut(aligned(sizes.words));
+    let (words, _gap) = room.split_at_mut(sizes.words);
+    let (room, rest) = rest.split_at_mut(aligned(sizes.upper));
+    let (upper, _gap) = room.split_at_mut(sizes.upper);
+    let (room, rest) = rest.split_at_mut(aligned(sizes.lower));
+    let (lower, _gap) = room.split_at_mut(sizes.lower);
+    let (low, _gap) = rest.split_at_mut(sizes.low);
+    write_numbers(items, low, words, upper, lower);
+}
+
+/// Writes the header and the directory of a sequence.
+fn seal_sequence(items: &[u64], sizes: &Sizes, block: &mut [u64])
+    requires sizes { sizes.now ≡ sizes_of (length items.now) (largest items.now) }
+    requires short { length items.now < 2 ^ 56 }
+    requires rising { IsNonDecreasing items.now }
+    requires room { length block.old ≡ end_of (sections_of items.now) }
+    ensures { IsSealed (sequence_head (length items.now) (width_of items.now)) (sections_of items.now)
+        block.old block.new }
+{
+    let sections = sequence_sections(items.len(), largest_of(items), sizes);
+    match seal(
+        &sequence_head(items.len(), sizes.width),
+        sections.as_slice(),
+        block,
+    ) {
+        Ok(()) => {}
+        Err(_) => unreachable!(),
+    }
+}
+
+/// Writes the block of a sequence.
+fn write_block(items: &[u64], sizes: &Sizes, block: &mut [u64])
+    requires sizes { sizes.now ≡ sizes_of (length items.now) (largest items.now) }
+    requires holds { CanHold items.now block.old }
+    ensures { IsBlockOf items.now block.new }
+{
+    write_parts(items, sizes, &mut *block);
+    seal_sequence(items, sizes, block);
+}
+
+/// Writes the block of the given numbers, which `open` opens and `check` accepts.
+///
+/// # Errors
+/// `TooLong` exactly where there are 2^56 numbers or more; else `NotSorted` exactly where some number is less than the
+/// one before it; else `WrongLength` exactly where the words are not as many as the block takes (`size` of the number
+/// of numbers and the last of them). The words stay as they are then.
+/// # Cost
+/// Four passes over the numbers, and three over the block (evident from the code). Nothing is allocated.
+///
+/// ```
+/// let mut block = [0u64; 64];                               // size(7, 24): Some(64)
+/// build(&[2, 3, 5, 7, 11, 13, 24], block.as_mut_slice());   // Ok(())
+/// build(&[3, 2], block.as_mut_slice());                     // Err(BuildError::NotSorted)
+/// ```
+pub fn build(items: &[u64], block: &mut [u64]) -> Result<(), BuildError>
+    ensures too_long { IsErrOf result BuildError.TooLong ↔ (2 ^ 56 ≤ length items.now) }
+    ensures not_sorted { IsErrOf result BuildError.NotSorted
+        ↔ ((length items.now < 2 ^ 56) × HasFall items.now) }
+    ensures wrong_length { IsErrOf result BuildError.WrongLength ↔ ((length items.now < 2 ^ 56)
+        × IsNonDecreasing items.now × (length block.old ≢ end_of (sections_of items.now))) }
+    ensures block { IfOk result (λ _. IsBlockOf items.now block.new) }
+    ensures kept { IfErr result (λ _. block.new ≡ block.old) }
+{
+    let largest = largest_of(items);
+    let (Some(sizes), Some(words)) = (Sizes::of(items.len(), largest), size(items.len(), largest))
+    else {
+        return Err(BuildError::TooLong);
+    };
+    if !is_rising(items) {
+        return Err(BuildError::NotSorted);
+    }
+    if block.len() != words {
+        return Err(BuildError::WrongLength);
+    }
+    write_block(items, &sizes, block);
+    Ok(())
+}

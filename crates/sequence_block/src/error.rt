@@ -1,0 +1,32 @@
+//! Why no block of a sequence was written.
+
+use std::error::Error;
+use std::fmt;
+
+/// Why no block of a sequence was written; the words are as they were.
+#[derive(Clone, Copy, Debug, PartialEq, Eq)]
+pub enum BuildError {
+    /// There are 2^56 numbers or more.
+    TooLong,
+    /// Some number is less than the one before it.
+    NotSorted,
+    /// The words are not as many as the block takes.
+    WrongLength,
+}
+
+impl fmt::Display for BuildError {
+    ghost use Rattle.std.specs.Prelude.{Some};
+    ghost use Rattle.sequence_block.specs.Error.{build_error_text};
+
+    ghost output = { λ e. Some (build_error_text e) };
+
+    fn fmt<W: fmt::Write>(&self, f: &mut fmt::Formatter<W>) -> fmt::Result {
+        match self {
+            BuildError::TooLong => write!(f, "there are 2^56 numbers or more"),
+            BuildError::NotSorted => write!(f, "a number is less than the one before it"),
+            BuildError::WrongLength => write!(f, "not as long as the block"),
+        }
+    }
+}
+
+impl Error for BuildError {}

@@ -1,0 +1,60 @@
+//! The view of a block of a sequence, and whether the block holds what it says.
+ghost use Rattle.std.specs.Prelude.{◌↔◌, IsTrue, SomeIff};
+ghost use Rattle.sequence_block.specs.Block.{sequence_in, HasSequenceSections, IsSequenceBlock, IsSoundBlock};
+
+use crate::sections::SEQUENCE;
+use bitm_block::Block;
+use block_tables::{has_tables, tables_of};
+use elias_fano_view::LentSequence;
+
+/// Whether a block is of the kind of a sequence, and its first four sections are words, two tables and low bits.
+#[inline(always)]
+fn has_sequence(block: &Block<'_>) -> bool
+    ensures { IsTrue result ↔ HasSequenceSections block.now }
+{
+    let words = block.words();
+    has_tables(block, SEQUENCE) && words[11] >= 4 && words[28] == 9
+}
+
+/// The sequence in a block; `None` exactly where the words are no block (`Block::open` says why), the block is of
+/// another kind, or a section is not as long as that of the number of numbers. What the sections hold is not looked at:
+/// the queries of the view have no condition on it.
+///
+/// # Cost
+/// Header and directory are read, at most 80 words (evident from the code).
+///
+/// ```
+/// let Some(primes) = open(block.as_slice()) else { .. };
+/// primes.get(4);   // Found(11), Absent or Wrong
+/// ```
+pub fn open(block: &[u64]) -> Option<LentSequence<'_>>
+    ensures { SomeIff result (IsSequenceBlock block.now) (sequence_in block.now) }
+{
+    let Ok(opened) = Block::open(block) else {
+        return None;
+    };
+    if !has_sequence(&opened) || block[4] > 63 {
+        return None;
+    }
+    let low = opened.section(3)?;
+    let tables = tables_of(&opened)?;
+    LentSequence::over(block[3] as usize, block[4] as u8, low, tables)
+}
+
+/// Whether the block is opened, is as it was written, and holds the parts of a sequence: then each answer of the view
+/// is that of the sequence.
+///
+/// # Cost
+/// Four passes over the words of the block (evident from the code).
+///
+/// ```
+/// check(block.as_slice());   // true of a block that `build` wrote
+/// ```
+pub fn check(block: &[u64]) -> bool
+    ensures { IsTrue result ↔ IsSoundBlock block.now }
+{
+    match (open(block), Block::open(block)) {
+        (Some(sequence), Ok(opened)) => opened.verify() && sequence.check(),
+        _ => false,
+    }
+}

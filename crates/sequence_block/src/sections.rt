@@ -1,0 +1,66 @@
+//! The sections of the block of a sequence.
+ghost use Rattle.std.specs.Prelude.{◌≡◌, SomeIff};
+ghost use Rattle.bitm_block.specs.Layout.{end_of};
+ghost use Rattle.elias_fano_view.specs.Sizes.{sizes_of, IsLargest};
+ghost use Rattle.sequence_block.specs.Block.{sequence_head, sequence_sections};
+
+use bitm_block::{Head, Section, aligned};
+use elias_fano_view::Sizes;
+
+/// The kind of a sequence.
+pub const SEQUENCE: u64 = 3;
+
+/// The numbers of the header of the given number of numbers.
+pub(crate) fn sequence_head(len: usize, width: u8) -> Head
+    ensures { result ≡ sequence_head len width }
+{
+    Head {
+        kind: SEQUENCE,
+        len: len as u64,
+        width: width as u64,
+        ones_log2: 0,
+        zeros_log2: 0,
+        a: 0,
+        b: 0,
+        c: 0,
+    }
+}
+
+/// The sections of a sequence whose parts have these sizes: the words of the high bits, their two tables, the low bits.
+pub(crate) fn sequence_sections(len: usize, largest: u64, sizes: &Sizes) -> [Section; 4]
+    requires { sizes.now ≡ sizes_of len largest }
+    ensures { result ≡ sequence_sections len largest }
+{
+    [
+        Section {
+            role: 1,
+            count: sizes.words as u64,
+        },
+        Section {
+            role: 2,
+            count: sizes.upper as u64,
+        },
+        Section {
+            role: 3,
+            count: sizes.lower as u64,
+        },
+        Section {
+            role: 9,
+            count: sizes.low as u64,
+        },
+    ]
+}
+
+/// How many words the block of `len` numbers has, of which the last and largest is `largest`: 0 where there are no
+/// numbers. `None` exactly where there are 2^56 numbers or more, or where `len` is 0 and `largest` is not.
+///
+/// ```
+/// size(7, 24);   // Some(64)
+/// ```
+pub fn size(len: usize, largest: u64) -> Option<usize>
+    ensures { SomeIff result (IsLargest len largest) (end_of (sequence_sections len largest)) }
+{
+    let sizes = Sizes::of(len, largest)?;
+    let tables = aligned(sizes.words) + aligned(sizes.upper) + aligned(sizes.lower);
+    Some(32 + tables + aligned(sizes.low))
+}
