@@ -70,7 +70,7 @@ def test_lines_of_the_readme():
     needs("gcc", "g++", "make", "cargo", "dpkg")
     home, plain = room() / "home", "coreutils bash dash sed grep findutils gawk mawk"
     bash(f"""mkdir -p {room()}/bin {home}/work/src && cp -r {ready()} {home}/vokhuliza
-        for it in gcc g++ cc c++ as ld ar make python3 cargo rustc awk diff $(dpkg -L {plain} 2> /dev/null | sed -n 's|.*/bin/||p'); do
+        for it in gcc x86_64-linux-gnu-gcc g++ cc c++ as ld ar make python3 cargo rustc awk diff $(dpkg -L {plain} 2> /dev/null | sed -n 's|.*/bin/||p'); do
             if command -v $it > /dev/null; then ln -sf "$(command -v $it)" {room()}/bin/$it; fi
         done""")
     text = (home / "vokhuliza/README.md").read_text()
