@@ -34,8 +34,12 @@ IsIndexWithin n (Found p) = p < n
 IsIndexWithin n Absent = ⊤
 IsIndexWithin n Wrong = ⊤
 
+-- of the items: an index of v with k such before it, and Absent exactly where there are no more than k of them in the list
+abbrev pub IsIndexAmong : List ℕ → List ℕ → ℕ → ℕ → Answer ℕ → Type 0
+IsIndexAmong xs items v k (Found p) = PicksItem items v k p
+IsIndexAmong xs items v k Absent = count_before xs v (length xs) ≤ k
+IsIndexAmong xs items v k Wrong = ⊥
+
 -- the index of v with k such numbers before it, and Absent exactly where there are no more than k of them
 abbrev pub IsIndexOf : List ℕ → ℕ → ℕ → Answer ℕ → Type 0
-IsIndexOf xs v k (Found p) = PicksItem xs v k p
-IsIndexOf xs v k Absent = count_before xs v (length xs) ≤ k
-IsIndexOf xs v k Wrong = ⊥
+IsIndexOf xs = IsIndexAmong xs xs

@@ -13,6 +13,7 @@
 //! matrix.check();       // true
 //! matrix.get(4);        // Found(5), Absent or Wrong
 //! matrix.rank(1, 4);    // Found(2), Absent or Wrong
+//! matrix.select(1, 2);  // Found(5), Absent or Wrong
 //! ```
 //!
 //! # Source
@@ -28,6 +29,7 @@
 // - `matrix`: the view of a block, and its queries
 // - `queries`: a number by its index, and ranks, over any source
 // - `sections`: the sections of the block of a matrix
+// - `selecting`: the indices of a number, over any source
 // - `stepping`: the step from one level to the next
 mod building;
 mod checking;
@@ -36,6 +38,7 @@ mod levels;
 mod matrix;
 mod queries;
 mod sections;
+mod selecting;
 mod stepping;
 
 pub use bitm::Answer;

@@ -2,7 +2,8 @@
 ghost use Rattle.std.specs.Prelude.{◌≡◌, ◌*◌, ◌≤◌, ◌↔◌, IsTrue, SomeIff, length};
 ghost use Rattle.bitm.specs.Reads.{none_read};
 ghost use Rattle.bitm.specs.Tables.{bits_in};
-ghost use Rattle.matrix_block.specs.Answers.{IsNumberOf, IsNumberWithin, IsRankOf, IsRankWithin};
+ghost use Rattle.matrix_block.specs.Answers.{IsIndexOf, IsIndexWithin, IsNumberOf, IsNumberWithin};
+ghost use Rattle.matrix_block.specs.Answers.{IsRankOf, IsRankWithin};
 ghost use Rattle.matrix_block.specs.Block.{items_in, matrix_in, parts_of};
 ghost use Rattle.matrix_block.specs.Block.{HasLengths, HasMatrixSections, HoldsMatrix, IsMatrixBlock};
 
@@ -212,5 +213,24 @@ impl<'a> MatrixView<'a> {
     {
         let (levels, mut source) = self.parts();
         levels.total_rank_on(&mut source, number, i)
+    }
+
+    /// The index of this number with exactly `k` such numbers before it. Whatever the block holds, it is that of a
+    /// number. Where the block holds a matrix, the answer is `Absent` exactly where there are no more than `k` such
+    /// numbers, and never `Wrong`.
+    ///
+    /// # Cost
+    /// That of `LevelsView::total_select_on`.
+    ///
+    /// ```
+    /// matrix.select(1, 2);   // Found(5)
+    /// ```
+    #[inline]
+    pub fn select(&self, number: u64, k: usize) -> Answer<usize>
+        ensures inside { IsIndexWithin self.now.levels.len result }
+        ensures answer { HoldsMatrix self.now → IsIndexOf (items_in self.now) number k result }
+    {
+        let (levels, mut source) = self.parts();
+        levels.total_select_on(&mut source, number, k)
     }
 }
