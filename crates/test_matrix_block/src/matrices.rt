@@ -193,6 +193,9 @@ fn a_matrix_is_written_and_answers(rt: HostRuntime) -> Result<(), Fail> {
         return Ok(());
     };
     assert!(rt; matrix.check());
+    assert!(rt; told(matrix.select(1, 2)) == 5);
+    assert!(rt; told(matrix.select(5, 0)) == 4);
+    assert!(rt; told(matrix.select(4, 1)) == 100);
     assert!(rt; numbers(&matrix) == [3, 1, 4, 1, 5, 1, 100]);
     assert!(rt;
         ranks(&matrix)
