@@ -11,6 +11,7 @@ mod outcome;
 mod packed;
 mod sequences;
 mod simple;
+mod texts;
 mod trees;
 mod tries;
 mod uncopied;
@@ -27,6 +28,7 @@ fn main(rt: HostRuntime) -> io::Result<ExitCode> {
     wrong |= report(&rt, packed::ended(alloc).as_slice())?;
     wrong |= report(&rt, sequences::ended(alloc).as_slice())?;
     wrong |= report(&rt, numbers::ended(alloc).as_slice())?;
+    wrong |= report(&rt, texts::ended(alloc).as_slice())?;
     wrong |= report(&rt, trees::ended(alloc).as_slice())?;
     wrong |= report(&rt, tries::ended(alloc).as_slice())?;
     Ok(ExitCode::from(wrong as u8))

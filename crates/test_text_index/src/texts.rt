@@ -145,3 +145,35 @@ fn a_letter_outside_is_refused(rt: HostRuntime) -> Result<(), Fail> {
     assert!(rt; refused == BuildError::LetterOutside);
     Ok(())
 }
+
+#[test]
+fn an_order_from_elsewhere_is_taken_if_it_is_right(rt: HostRuntime) -> Result<(), Fail> {
+    // banana, with 0 for a, worked out by hand
+    let text = [1u64, 0, 2, 0, 2, 0];
+    let order = [6u32, 5, 3, 1, 0, 4, 2];
+    let index = TextIndex::build_from(rt.alloc(), text.as_slice(), 3, 2, order.as_slice())?;
+    assert!(rt; index.count([0, 2].as_slice()) == 2);
+    for (at, place) in [(0usize, 5u32), (1, 3), (2, 1), (3, 7), (6, u32::MAX)] {
+        let mut other = order;
+        other[at] = place;
+        assert!(rt; is_refused(rt.alloc(), other.as_slice()));
+    }
+    for at in 0..6usize {
+        let mut other = order;
+        other.swap(at, at + 1);
+        assert!(rt; is_refused(rt.alloc(), other.as_slice()));
+    }
+    assert!(rt; is_refused(rt.alloc(), [6, 5, 3, 1, 0, 4].as_slice()));
+    assert!(rt; is_refused(rt.alloc(), [6, 5, 3, 1, 0, 4, 2, 2].as_slice()));
+    assert!(rt; is_refused(rt.alloc(), [].as_slice()));
+    Ok(())
+}
+
+/// Whether these are refused as an order of the suffixes of banana.
+fn is_refused(alloc: Global, order: &[u32]) -> bool {
+    let text = [1u64, 0, 2, 0, 2, 0];
+    match TextIndex::build_from(alloc, text.as_slice(), 3, 2, order) {
+        Ok(_index) => false,
+        Err(error) => error == BuildError::OutOfOrder,
+    }
+}
