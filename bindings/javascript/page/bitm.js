@@ -1,4 +1,4 @@
-// src/web.js and all that it imports, in one file: made by one_file.mjs. sha256 of the sources: 31892a3085ed01e3869b5280d53807a17b56a1d856c1e9b2012b7c9f57ba5517
+// src/web.js and all that it imports, in one file: made by one_file.mjs. sha256 of the sources: 43607a2a0dea6b3a07755f5cbf2f4a8f86c536b25b259c269cfcc3c67355306c
 
 // src/core.js
 var VERSION = "0.3.0";
@@ -165,6 +165,16 @@ var BITM_STORED = {
   samples0_at: 168,
   samples0_len: 176,
   checksum: 184
+};
+var BITM_TREE = {
+  bytes: 72,
+  len: 0,
+  words: 8,
+  words_len: 16,
+  upper: 24,
+  upper_len: 32,
+  lower: 40,
+  lower_len: 48
 };
 
 // src/memory.js
@@ -1389,6 +1399,155 @@ function within(it, least, most, name) {
   return it;
 }
 
+// src/tree.js
+var BEFORE2 = 128;
+var Copied = class {
+  constructor(block) {
+    this.block = block;
+  }
+};
+var Tree = class {
+  #block;
+  #length;
+  /** The degree of each node, which is how many children it has: an array of numbers, in the order of the nodes. */
+  constructor(degrees) {
+    if (degrees instanceof Copied)
+      this.#hold(degrees.block, () => {
+      });
+    else {
+      const { items } = numbersOf(degrees, "degrees"), n = items.length;
+      withRoom(8 * n, (list) => {
+        copyIn(items, list, "degrees");
+        const words = orThrow(calls.bitm_tree_size(n), "the number of nodes", n);
+        this.#hold(new Block(BEFORE2 + 8 * words), (at) => {
+          if (calls.bitm_tree_build(list, n, at, words) !== 0)
+            throw new RangeError("bitm: the degrees are those of no tree");
+        });
+      });
+    }
+  }
+  /** Takes a block of memory: fills the block of the tree in it, and opens that. */
+  #hold(block, fill) {
+    this.#block = block.heldBy(this, (at) => {
+      fill(at + BEFORE2);
+      bytesAt(at, BEFORE2).fill(0);
+      if (calls.bitm_tree_open(at + BEFORE2, (block.bytes - BEFORE2) / 8, at) !== 0)
+        throw notATree();
+      this.#length = numberAt(at + BITM_TREE.len);
+    });
+  }
+  /**
+   * The tree in the bytes of a block, as toBytes() gives them and the C library writes them; they are copied once. Unless
+   * `check` is false, all of them are looked at, and WrongTables is thrown where they are not as they were written; without
+   * that, answers may be wrong, but a parent is less than its child, and no node is past the end.
+   */
+  static open(bytes2, options = {}) {
+    const from = bytesOf(bytes2, "a block");
+    if (from.length % 8 !== 0)
+      throw notATree();
+    const block = new Block(BEFORE2 + from.length);
+    bytesAt(block.at + BEFORE2, from.length).set(from);
+    const opened = new Tree(new Copied(block));
+    if (options.check === false || opened.check())
+      return opened;
+    opened.free();
+    throw new WrongTables("bitm: the block is not as it was written: it was damaged");
+  }
+  #live() {
+    const at = this.#block.at;
+    if (at === 0)
+      throw freed("Tree");
+    return at;
+  }
+  /** How many nodes there are. */
+  get length() {
+    return this.#length;
+  }
+  /** How many bytes the block has. */
+  get byteLength() {
+    return this.#block.at === 0 ? 0 : this.#block.bytes - BEFORE2;
+  }
+  /** The parent of a node; undefined at the root and where there is no such node. */
+  parent(node) {
+    return orNone(calls.bitm_tree_parent(this.#live(), place(node, "node")), "node", node);
+  }
+  /** Child k of a node, counted from 0; undefined where there is none. */
+  child(node, k) {
+    return orNone(calls.bitm_tree_child(this.#live(), place(node, "node"), place(k, "k")), "node or k", `${node}, ${k}`);
+  }
+  /** How many children a node has; undefined where there is no such node. */
+  degree(node) {
+    return orNone(calls.bitm_tree_degree(this.#live(), place(node, "node")), "node", node);
+  }
+  /** Whether a node has no children; undefined where there is no such node. */
+  isLeaf(node) {
+    const got = orNone(calls.bitm_tree_is_leaf(this.#live(), place(node, "node")), "node", node);
+    return got === void 0 ? void 0 : got === 1;
+  }
+  /** The child of a node's parent after it, and before it; undefined where there is none. */
+  nextSibling(node) {
+    return orNone(calls.bitm_tree_next_sibling(this.#live(), place(node, "node")), "node", node);
+  }
+  previousSibling(node) {
+    return orNone(calls.bitm_tree_previous_sibling(this.#live(), place(node, "node")), "node", node);
+  }
+  /** Which child of its parent a node is, counted from 0; undefined at the root and where there is no such node. */
+  childRank(node) {
+    return orNone(calls.bitm_tree_child_rank(this.#live(), place(node, "node")), "node", node);
+  }
+  /** The children of a node, in their order. */
+  *children(node) {
+    const n = this.degree(node) ?? 0, first = n === 0 ? 0 : this.child(node, 0);
+    if (first === void 0)
+      throw new WrongTables();
+    for (let k = 0; k < n; k++)
+      yield first + k;
+  }
+  /** Lists: an array of the same kind as the nodes, see README.md. */
+  parentList(nodes) {
+    return this.#list("bitm_tree_parent_list", nodes);
+  }
+  degreeList(nodes) {
+    return this.#list("bitm_tree_degree_list", nodes);
+  }
+  #list(name, nodes) {
+    return answers(nodes, "nodes", "fill", (at, n, out2, counts) => calls[name](this.#live(), at, n, out2, n, counts));
+  }
+  /** Child ks[i] of each node nodes[i]. */
+  childList(nodes, ks) {
+    const { items, form } = numbersOf(nodes, "nodes"), { items: ranks } = numbersOf(ks, "ks"), n = items.length;
+    if (ranks.length !== n)
+      throw new RangeError(`bitm: there are ${n} nodes, and ${ranks.length} ks`);
+    return withRoom(24 * n, (at) => {
+      copyIn(items, at, "nodes");
+      copyIn(ranks, at + 8 * n, "ks");
+      must(calls.bitm_tree_child_list(this.#live(), at, n, at + 8 * n, n, at + 16 * n, n, BESIDE), "nodes");
+      if (numberAt(BESIDE + BITM_LIST_COUNTS.wrong) !== 0)
+        throw new WrongTables();
+      return copyOut(at + 16 * n, n, form, true);
+    });
+  }
+  /** Whether the block is as it was written and holds a tree, by going over all of it. */
+  check() {
+    const at = this.#live();
+    return calls.bitm_tree_check(at + BEFORE2, this.byteLength / 8) === 0;
+  }
+  /** The bytes of the block: what open() takes, and the C library and its other bindings. */
+  toBytes() {
+    return bytesAt(this.#live() + BEFORE2, this.byteLength).slice();
+  }
+  /** Gives the memory back at once. */
+  free() {
+    this.#block.free();
+  }
+  [dispose]() {
+    this.free();
+  }
+};
+function notATree() {
+  return new WrongTables("bitm: it is not the block of a tree, or not all of it");
+}
+
 // src/open.js
 function open(bytes2, options = {}) {
   const from = bytesOf(bytes2, "a file"), words = Math.floor(from.length / 8);
@@ -1443,6 +1602,7 @@ export {
   Index,
   NO_ANSWER,
   PerfectHash,
+  Tree,
   VERSION,
   WrongTables,
   bitsToStore,
