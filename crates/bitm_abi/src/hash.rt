@@ -58,12 +58,6 @@ pub fn number_list(
         return false;
     }
     // A number is no code, whatever the number of keys.
-    total_numbers_on(
-        &mut lent.probe(),
-        sizes,
-        keys.min(WRONG_TABLES),
-        hashes,
-        out,
-    );
+    total_numbers_on(&mut lent.probe(), sizes, keys.min(WRONG_TABLES), hashes, out);
     true
 }
