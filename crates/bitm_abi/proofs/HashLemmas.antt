@@ -1,10 +1,13 @@
 -- The number of a hash that is sought below some limit.
 use Rattle.std.proofs.Common.{◌≡◌, ℕ, ◌-◌, ◌^◌, ◌≤◌, List, min, subst, arith}
 use Rattle.bitm.proofs.Callers.{few_ones, length-bits_of}
-use Rattle.bitm.specs.Tables.{Lists}
+use Rattle.bitm.specs.Count.{ones_of}
+use Rattle.bitm.specs.Tables.{HasTables, Lists, bits_in}
 use Rattle.bitm.specs.Answer.{Answer}
 use Rattle.bitm.specs.Answer.TheVariants.{Found, Absent, Wrong}
-use Rattle.perfect_hash.specs.Asking.{IsBelow, IsHashNumber}
+use Rattle.perfect_hash.specs.Asking.{IsBelow, IsNumbered}
+use Rattle.perfect_hash.specs.Parts.{number_by, AreSizes}
+use Rattle.bitm_abi.specs.Hash.{IsHashNumber}
 
 below_more : (m n : ℕ) (answer : Answer ℕ) → m ≤ n → IsBelow m answer → IsBelow n answer
 below_more m n (Found k) l below = omega (arith, l, below)
@@ -13,9 +16,11 @@ below_more m n Wrong l below = tt
 
 -- whatever the number of keys, no number is a code
 pub number_below : (sizes : List ℕ) (keys hash limit : ℕ) (lists view : Lists) (answer : Answer ℕ) → lists ≡ view → limit ≡ min keys (2 ^ 64 - 2)
-    → IsHashNumber sizes limit hash lists answer → IsHashNumber sizes keys hash view answer
-number_below sizes keys hash limit lists view answer same is number =
+    → IsBelow limit answer
+    → (HasTables lists → AreSizes sizes (bits_in lists) → ones_of (bits_in lists) ≤ limit → IsNumbered (number_by sizes (bits_in lists) hash) answer)
+    → IsHashNumber sizes keys hash view answer
+number_below sizes keys hash limit lists view answer same is below number =
     subst (λ (l : Lists). IsHashNumber sizes keys hash l answer) same (record {
-      below = below_more limit keys answer (omega arith) number.below;
-      counts = λ tables are few. number.counts tables are (omega (arith, few, few_ones lists.words, are.short, length-bits_of lists.words));
+      below = below_more limit keys answer (omega arith) below;
+      counts = λ tables are few. number tables are (omega (arith, few, few_ones lists.words, are.short, length-bits_of lists.words));
     })

@@ -2,12 +2,11 @@
 ghost use Rattle.std.specs.Prelude.{◌≡◌, ℕ, ◌<◌, ◌≤◌, ◌↔◌, IsTrue, false, length, slice_index, SomeIff};
 ghost use Rattle.bitm.specs.Tables.{HasSizes};
 ghost use Rattle.bitm_view.specs.Queries.{ranked_by};
-ghost use Rattle.bitm_abi.specs.Hash.{hash_lists};
-ghost use Rattle.perfect_hash.specs.Asking.{IsHashNumber};
+ghost use Rattle.bitm_abi.specs.Hash.{hash_lists, IsHashNumber};
 
 use crate::index::Index;
-use bitm_view::{Lent, WRONG_TABLES};
-use perfect_hash::total_numbers_on;
+use bitm_view::{Answer, Lent, NO_ANSWER, WRONG_TABLES};
+use perfect_hash::total_number_on;
 
 /// At most this many levels are queried.
 const LEVELS: usize = 256;
@@ -39,8 +38,7 @@ impl<'a> Hash<'a> {
     }
 }
 
-/// Writes the number of each hash, side by side. Returns false, and writes nothing, exactly where `out` is not as long
-/// as `hashes`.
+/// Writes the number of each hash. Returns false, and writes nothing, exactly where `out` is not as long as `hashes`.
 pub fn number_list(
     lent: &Lent<'_>,
     sizes: &[usize],
@@ -57,7 +55,32 @@ pub fn number_list(
     if out.len() != hashes.len() {
         return false;
     }
-    // A number is no code, whatever the number of keys.
-    total_numbers_on(&mut lent.probe(), sizes, keys.min(WRONG_TABLES), hashes, out);
+    number_each(lent, sizes, keys, hashes, out);
     true
+}
+
+/// The number of each hash.
+fn number_each(lent: &Lent<'_>, sizes: &[usize], keys: usize, hashes: &[u64], out: &mut [usize])
+    requires few { length sizes.now ≤ 256 }
+    requires same_length { length out.old ≡ length hashes.now }
+    ensures { (j : ℕ) → j < length hashes.now → IsHashNumber sizes.now keys
+        (slice_index hashes.now j) lent.now (ranked_by (slice_index out.new j)) }
+{
+    for at in 0..hashes.len() {
+        out[at] = number_code(lent, sizes, keys, hashes[at]);
+    }
+}
+
+/// The number of a hash, by the codes of lists.
+#[inline(always)]
+fn number_code(lent: &Lent<'_>, sizes: &[usize], keys: usize, hash: u64) -> usize
+    requires { length sizes.now ≤ 256 }
+    ensures { IsHashNumber sizes.now keys hash lent.now (ranked_by result) }
+{
+    // A number is no code, whatever the number of keys.
+    match total_number_on(&mut lent.probe(), sizes, keys.min(WRONG_TABLES), hash) {
+        Answer::Found(number) => number,
+        Answer::Absent => NO_ANSWER,
+        Answer::Wrong => WRONG_TABLES,
+    }
 }

@@ -10,8 +10,7 @@ ghost use Rattle.perfect_hash.specs.Levels.{left_of, AreSized, IsLevel, Leave};
 ghost use Rattle.perfect_hash.specs.Parts.{AreLevels};
 ghost use Rattle.perfect_hash.specs.Places.{place_in, words_for};
 ghost use Rattle.bitm_c.specs.Hash.{made_of, CanBeLevel, HashAnswered};
-ghost use Rattle.bitm_abi.specs.Hash.{hash_lists};
-ghost use Rattle.perfect_hash.specs.Asking.{IsHashNumber};
+ghost use Rattle.bitm_abi.specs.Hash.{hash_lists, IsHashNumber};
 ghost use Rattle.bitm_abi.specs.Lists.{AreCounted};
 
 use bitm_abi::{BAD_SIZE, Hash, ListCounts, OK, number_list, report, report_list};

@@ -8,7 +8,6 @@ pub mod GroupedLemmas
 pub mod InPlaceLemmas
 pub mod KeyLemmas
 pub mod LevelLemmas
-pub mod ListedLemmas
 pub mod ManyLemmas
 pub mod MarkLemmas
 pub mod NumberLemmas

@@ -25,8 +25,3 @@ WhereWrong Wrong known = known
 pub record FitIn (words : ℕ) (sizes : List ℕ) : Type 0 where
   pub some : All (λ size. 0 < size) sizes
   pub within : sum sizes ≤ words
-
--- and take all of them
-pub record Fill (words : ℕ) (sizes : List ℕ) : Type 0 where
-  pub some : All (λ size. 0 < size) sizes
-  pub all : sum sizes ≡ words

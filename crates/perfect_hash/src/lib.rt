@@ -19,7 +19,6 @@
 // - `hashing`: the traits of hashes that a user gives, and hashes that do
 // - `in_place`: levels built without an allocator
 // - `level`: one level: which bits exactly one hash falls on
-// - `listed`: the numbers of lists of hashes over any source
 // - `many`: many look-ups, side by side
 // - `places`: where a hash falls in a level, and the size of a level
 // - `placing`: how hashes fall on bits: by themselves, or with a seed for each word
@@ -33,7 +32,6 @@ mod grouped;
 mod hashing;
 mod in_place;
 mod level;
-mod listed;
 mod many;
 mod places;
 mod placing;
@@ -48,6 +46,5 @@ pub use grouped::Grouped;
 pub use hashing::{KeyHash, Seeded, SeededBytes};
 pub use in_place::{Made, build_in_place, level_len};
 pub use level::split_level;
-pub use listed::total_numbers_on;
 pub use placing::{Placing, Plain};
 pub use table::PerfectHash;

@@ -8,34 +8,30 @@ ghost use Rattle.perfect_hash.specs.Parts.{number_at, number_from, AreSizes};
 
 use crate::hashing::KeyHash;
 use crate::placing::{Placing, no_reads};
-use crate::querying::{ByIndex, Query, no_source};
 use crate::table::PerfectHash;
-use bitm::{Access, NO_ANSWER, TableSource};
+use bitm::{Access, NO_ANSWER};
 use tuning::LOOK_UPS_SIDE_BY_SIDE;
 
 /// The position of the 1 bit that a hash falls on at this level; `NO_ANSWER` where it falls on none.
 #[inline(always)]
-fn look<Q: Query, T: TableSource, P: Placing>(
+fn look<I: Access, P: Placing>(
     placing: &P,
-    query: &Q,
-    source: &mut T,
+    index: &I,
     sizes: &[usize],
     level: usize,
     begin: usize,
     hash: u64,
 ) -> usize
-    requires sizes { AreSizes sizes.now (Q.bits query.now (T.lists source.old)) }
+    requires sizes { AreSizes sizes.now (I.bits index.now) }
     requires level { level < length sizes.now }
-    requires goes_on { GoesOn (fall_in (P.fall placing.now) sizes.now hash)
-        (Q.bits query.now (T.lists source.old)) sizes.now level begin }
-    ensures looked_up { IsLookedUp (fall_in (P.fall placing.now) sizes.now hash)
-        (Q.bits query.now (T.lists source.old)) sizes.now
+    requires goes_on { GoesOn (fall_in (P.fall placing.now) sizes.now hash) (I.bits index.now)
+        sizes.now level begin }
+    ensures { IsLookedUp (fall_in (P.fall placing.now) sizes.now hash) (I.bits index.now) sizes.now
         (level + 1) (begin + slice_index sizes.now level) result }
-    ensures same { T.lists source.new ≡ T.lists source.old }
 {
     let reads = &mut no_reads();
     let place = 64 * begin + placing.place(begin, hash, level as u32, sizes[level], reads);
-    if query.is_one(source, place) {
+    if index.get_bit(place) {
         place
     } else {
         NO_ANSWER
@@ -45,10 +41,9 @@ fn look<Q: Query, T: TableSource, P: Placing>(
 /// Looks at one level for those of the hashes that wait, the first `count` of the list. Those that go on come to its
 /// start, without a branch that the processor would have to guess, and the answer is how many they are.
 #[inline(always)]
-fn look_at_level<Q: Query, T: TableSource, P: Placing>(
+fn look_at_level<I: Access, P: Placing>(
     placing: &P,
-    query: &Q,
-    source: &mut T,
+    index: &I,
     sizes: &[usize],
     level: usize,
     begin: usize,
@@ -57,20 +52,18 @@ fn look_at_level<Q: Query, T: TableSource, P: Placing>(
     waiting: &mut [usize],
     count: usize,
 ) -> usize
-    requires sizes { AreSizes sizes.now (Q.bits query.now (T.lists source.old)) }
+    requires sizes { AreSizes sizes.now (I.bits index.now) }
     requires level { level < length sizes.now }
     requires same_length { length places.old ≡ length hashes.now }
-    requires before { AreLookedUp (fall_in (P.fall placing.now) sizes.now)
-        (Q.bits query.now (T.lists source.old)) sizes.now level begin hashes.now places.old waiting.old count }
-    ensures after { AreLookedUp (fall_in (P.fall placing.now) sizes.now)
-        (Q.bits query.now (T.lists source.old)) sizes.now (level + 1)
-        (begin + slice_index sizes.now level) hashes.now places.new waiting.new result }
-    ensures same { T.lists source.new ≡ T.lists source.old }
+    requires before { AreLookedUp (fall_in (P.fall placing.now) sizes.now) (I.bits index.now)
+        sizes.now level begin hashes.now places.old waiting.old count }
+    ensures after { AreLookedUp (fall_in (P.fall placing.now) sizes.now) (I.bits index.now)
+        sizes.now (level + 1) (begin + slice_index sizes.now level) hashes.now places.new waiting.new result }
 {
     let mut kept = 0;
     for i in 0..count {
         let k = waiting[i];
-        let place = look(placing, query, source, sizes, level, begin, hashes[k]);
+        let place = look(placing, index, sizes, level, begin, hashes[k]);
         places[k] = place;
         waiting[kept] = k;
         if place == NO_ANSWER {
@@ -82,21 +75,19 @@ fn look_at_level<Q: Query, T: TableSource, P: Placing>(
 
 /// The position of each hash, or `NO_ANSWER`.
 #[inline(always)]
-pub(crate) fn find_places<Q: Query, T: TableSource, P: Placing>(
+fn find_places<I: Access, P: Placing>(
     placing: &P,
-    query: &Q,
-    source: &mut T,
+    index: &I,
     sizes: &[usize],
     hashes: &[u64],
     places: &mut [usize],
 )
-    requires sizes { AreSizes sizes.now (Q.bits query.now (T.lists source.old)) }
+    requires sizes { AreSizes sizes.now (I.bits index.now) }
     requires same_length { length places.old ≡ length hashes.now }
     requires few { length hashes.now ≤ 256 }
-    ensures places { (k : ℕ) → k < length hashes.now → slice_index places.new k
+    ensures { (k : ℕ) → k < length hashes.now → slice_index places.new k
         ≡ told (place_from (fall_in (P.fall placing.now) sizes.now (slice_index hashes.now k))
-        (Q.bits query.now (T.lists source.old)) 0 0 sizes.now) }
-    ensures same { T.lists source.new ≡ T.lists source.old }
+        (I.bits index.now) 0 0 sizes.now) }
 {
     let mut waiting = [0; LOOK_UPS_SIDE_BY_SIDE];
     for k in 0..hashes.len() {
@@ -111,8 +102,7 @@ pub(crate) fn find_places<Q: Query, T: TableSource, P: Placing>(
         }
         count = look_at_level(
             placing,
-            query,
-            &mut *source,
+            index,
             sizes,
             level,
             begin,
@@ -147,17 +137,7 @@ impl<H, I: Access, P: Placing> PerfectHash<H, I, P> {
         requires few { length hashes.now ≤ 256 }
         ensures { AreNumbersOf (number_from P.fall self.now) hashes.now numbers.new }
     {
-        let query = ByIndex {
-            index: self.index(),
-        };
-        find_places(
-            self.placing(),
-            &query,
-            &mut no_source(),
-            self.sizes(),
-            hashes,
-            numbers,
-        );
+        find_places(self.placing(), self.index(), self.sizes(), hashes, numbers);
         rank_places(self.index(), numbers);
     }
 

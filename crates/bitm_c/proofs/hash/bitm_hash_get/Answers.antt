@@ -1,7 +1,7 @@
 -- What is answered is told.
 use Rattle.std.proofs.Common.{◌∙◌}
 use Rattle.bitm_abi.proofs.ToldLemmas.{told}
-use Rattle.perfect_hash.specs.Asking.{IsHashNumber}
+use Rattle.bitm_abi.specs.Hash.{IsHashNumber}
 use Rattle.bitm_c.proofs.hash.bitm_hash_get.Goals as goal
 
 pub returns-in-Some : goal.returns-in-Some

@@ -17,6 +17,5 @@ abbrev pub invariant-loop-level : goal.invariant-loop-level
 invariant-loop-level g l = record {
   long : length l.places ≡ length l.hashes;
   begins : l.begin ≡ sum (take l.level l.sizes);
-  same : g.T.TableSource.lists l.source ≡ g.T.TableSource.lists l.fn.source;
-  each : AreLookedUp (fall_in (g.P.Placing.fall l.placing) l.sizes) (g.Q.Query.bits l.query (g.T.TableSource.lists l.fn.source)) l.sizes l.level l.begin l.hashes l.places l.waiting l.count;
+  each : AreLookedUp (fall_in (g.P.Placing.fall l.placing) l.sizes) (g.I.HasBits.bits l.index) l.sizes l.level l.begin l.hashes l.places l.waiting l.count;
 }

@@ -7,7 +7,6 @@ use Rattle.perfect_hash.proofs.many.look_at_level.Given as goal
 abbrev pub invariant-loop-i : goal.invariant-loop-i
 invariant-loop-i g l = record {
   long : length l.places ≡ length l.hashes;
-  same : g.T.TableSource.lists l.source ≡ g.T.TableSource.lists l.fn.source;
-  midway : Midway (fall_in (g.P.Placing.fall l.placing) l.sizes) (g.Q.Query.bits l.query (g.T.TableSource.lists l.fn.source)) l.sizes l.level l.begin (l.begin + slice_index l.sizes l.level) l.hashes l.places l.waiting
+  midway : Midway (fall_in (g.P.Placing.fall l.placing) l.sizes) (g.I.HasBits.bits l.index) l.sizes l.level l.begin (l.begin + slice_index l.sizes l.level) l.hashes l.places l.waiting
       l.kept l.i l.count;
 }

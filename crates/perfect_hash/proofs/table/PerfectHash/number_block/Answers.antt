@@ -14,7 +14,7 @@ rank_places-requires g c k less some =
     (λ hash level words some. g.met.P.Placing.inside placing (sum (take level sizes)) hash level words some)
     c.args.self.now.sizes sizes c.args.self.now.bits _ (slice_index c.args.hashes.now k) _
     c.sizes.ensures.sizes c.index.ensures.bits
-    (c.find_places.ensures.places k (omega (arith, less, c.find_places.auto.places, c.requires.same_length)))
+    (c.find_places.ensures k (omega (arith, less, c.find_places.auto.places, c.requires.same_length)))
     _ c.index-2.ensures.bits some
 
 pub returns : goal.returns
@@ -27,7 +27,7 @@ returns g c k less =
     number_is_told (fall_in (by placing) sizes)
     (λ h level words some. g.met.P.Placing.inside placing (sum (take level sizes)) h level words some)
     self.sizes sizes self.bits _ hash _
-    c.sizes.ensures.sizes c.index.ensures.bits (c.find_places.ensures.places k less) _ _ c.index-2.ensures.bits c.sizes.ensures.value
+    c.sizes.ensures.sizes c.index.ensures.bits (c.find_places.ensures k less) _ _ c.index-2.ensures.bits c.sizes.ensures.value
     (c.rank_places.ensures k (omega (arith, less, c.find_places.auto.places, c.requires.same_length)))
     ∙ ap (λ (s : List ℕ). told (number_in (fall_in (by placing) s) self.sizes self.bits hash)) c.sizes.ensures.value
     ∙ ap (λ p. told (number_in (fall_in (by p) self.sizes) self.sizes self.bits hash)) c.placing.ensures
