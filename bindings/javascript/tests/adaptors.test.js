@@ -86,6 +86,35 @@ function sums(spoilt) {
     return n;
 }
 
+/** A tree of 40 nodes in slot 24, of which a word after the directory may be wrong, and its struct: how many words it has. */
+function tree(spoilt) {
+    const degrees = words(slot(23), N), block = slot(24);
+    for (let node = 0, known = 1; node < N; node++) {
+        const left = N - known, most = Math.min(left, 3), least = node === known - 1 && left > 0 ? 1 : 0;
+        const degree = least + (r() % (most - least + 1));
+        degrees[node] = BigInt(degree);
+        known += degree;
+    }
+    assert.equal(library.bitm_tree_size(BigInt(N), BigInt(ANSWER)), 0);
+    const size = words(ANSWER, 1)[0];
+    assert.equal(library.bitm_tree_build(BigInt(slot(23)), BigInt(N), BigInt(block), size), 0);
+    assert.equal(library.bitm_tree_open(BigInt(block), size, BigInt(slot(25))), 0);
+    if (spoilt) words(block, Number(size))[32 + (r() % 24)] ^= BigInt(r());
+    return Number(size);
+}
+
+/** What a query of a tree is asked, and what lists of queries have in common. */
+const ofTree = () => (tree(r() % 3 === 0), { tree: slot(25), node: r() % (N + 5), k: r() % 4 });
+function ofTrees() {
+    const given = ofTree();
+    for (let i = 0; i < N; i++) words(slot(28), N)[i] = BigInt(r() % (N + 5));
+    for (let i = 0; i < N; i++) words(slot(29), N)[i] = BigInt(r() % 4);
+    return { ...given, nodes: slot(28), ks: slot(29), out: slot(30), counts: slot(31) };
+}
+
+/** A block for what opens and checks it. */
+const ofBlock = () => ({ block: slot(24), block_len: tree(r() % 3 === 0) - (r() % 7 ? 0 : 1), tree: slot(27) });
+
 const someLog2 = () => (r() % 5 ? [0, 7 + (r() % 8)][r() % 2] : r() % 40);
 // By export: arguments that have to fit together, by name.
 const FITTING = {
@@ -107,6 +136,19 @@ const FITTING = {
         const n = sums(r() % 3 === 0);
         return { numbers_len: n, sums: slot(16), sums_len: n + (r() % 7 ? 1 : 0) };
     },
+    bitm_tree_build: () => ({ degrees: slot(23), degrees_len: N, block: slot(26), block_len: tree(false) - (r() % 7 ? 0 : 1) }),
+    bitm_tree_open: ofBlock,
+    bitm_tree_check: ofBlock,
+    bitm_tree_parent: ofTree,
+    bitm_tree_child: ofTree,
+    bitm_tree_degree: ofTree,
+    bitm_tree_is_leaf: ofTree,
+    bitm_tree_next_sibling: ofTree,
+    bitm_tree_previous_sibling: ofTree,
+    bitm_tree_child_rank: ofTree,
+    bitm_tree_parent_list: ofTrees,
+    bitm_tree_degree_list: ofTrees,
+    bitm_tree_child_list: ofTrees,
     bitm_shards_find: () => ({ counts: shards(r() % 3 === 0) }),
     bitm_shards_rank: () => ({ shards: shards(r() % 3 === 0), position: r() % (2 * BITS + 60) }),
     bitm_shards_select: () => ({ shards: shards(r() % 3 === 0), rank: r() % (2 * BITS) }),
@@ -161,13 +203,13 @@ function both(call, parts) {
 }
 
 test("each adaptor does what its export does", () => {
-    assert.equal(exported.length, 83);
+    assert.equal(exported.length, 97);
     for (const call of exported) {
         let answered = 0;
         for (let round = 0; round < 60; round++) answered += both(call, prepare(round % 4 === 3));
         assert.ok(answered >= 5, `${call.name} answered ${answered} times of 60`);
     }
-    tally.atLeast(83 * 60);
+    tally.atLeast(97 * 60);
 });
 
 test("each adaptor refuses what is no whole number of its range", () => {
