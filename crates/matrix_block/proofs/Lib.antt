@@ -1,4 +1,5 @@
 pub mod BlockLemmas
 pub mod CheckLemmas
 pub mod DecodeLemmas
+pub mod RangeLemmas
 pub mod StepLemmas

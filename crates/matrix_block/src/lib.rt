@@ -14,6 +14,7 @@
 //! matrix.get(4);        // Found(5), Absent or Wrong
 //! matrix.rank(1, 4);    // Found(2), Absent or Wrong
 //! matrix.select(1, 2);  // Found(5), Absent or Wrong
+//! matrix.count_less(1, 5, 4);   // Found(2), Absent or Wrong: of 1 4 1 5 those less than 4
 //! ```
 //!
 //! # Source
@@ -28,6 +29,8 @@
 // - `levels`: the tables of levels, which may hold anything
 // - `matrix`: the view of a block, and its queries
 // - `queries`: a number by its index, and ranks, over any source
+// - `range_queries`: the queries of ranges of a view
+// - `ranges`: queries of ranges over any source
 // - `sections`: the sections of the block of a matrix
 // - `selecting`: the indices of a number, over any source
 // - `stepping`: the step from one level to the next
@@ -37,6 +40,8 @@ mod error;
 mod levels;
 mod matrix;
 mod queries;
+mod range_queries;
+mod ranges;
 mod sections;
 mod selecting;
 mod stepping;

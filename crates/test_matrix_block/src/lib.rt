@@ -6,3 +6,5 @@
 
 #[cfg(test)]
 mod matrices;
+#[cfg(test)]
+mod ranges;

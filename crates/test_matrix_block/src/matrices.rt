@@ -5,10 +5,10 @@ use std::process::Abort;
 use std::test::Fail;
 
 /// The numbers of the matrix.
-const NUMBERS: [u64; 6] = [3, 1, 4, 1, 5, 1];
+pub(crate) const NUMBERS: [u64; 6] = [3, 1, 4, 1, 5, 1];
 
 /// The block of these numbers of three bits, as a program in Python made it from the tables of docs/FORMAT.md.
-const MATRIX: [u64; 80] = [
+pub(crate) const MATRIX: [u64; 80] = [
     0x036261746d746962,
     0x0000000000000006,
     0x0000000000000280,
@@ -92,7 +92,7 @@ const MATRIX: [u64; 80] = [
 ];
 
 /// The number that was found, or 100 for `Absent`, 101 for `Wrong`.
-fn told(answer: Answer<usize>) -> usize {
+pub(crate) fn told(answer: Answer<usize>) -> usize {
     match answer {
         Answer::Found(number) => number,
         Answer::Absent => 100,

@@ -1,0 +1,63 @@
+//! The ranges of a matrix in a block, beside plain loops, and those of other words in its place.
+use crate::matrices::{MATRIX, NUMBERS, told};
+use matrix_block::{Answer, MatrixView};
+use std::process::Abort;
+use std::test::Fail;
+
+/// How many numbers are less than a bound.
+fn less(numbers: &[u64], bound: u64) -> usize {
+    let mut count = 0usize;
+    for number in numbers {
+        count = count.wrapping_add((*number < bound) as usize);
+    }
+    count
+}
+
+/// How many counts of a range, by bounds up to 9, are not those of a loop.
+fn wrong_counts_of(matrix: &MatrixView<'_>, numbers: &[u64], start: usize, end: usize) -> usize {
+    let mut wrong = 0usize;
+    for bound in 0..10u64 {
+        let count = matrix.count_less(start, end, bound);
+        wrong = wrong.wrapping_add((count != Answer::Found(less(numbers, bound))) as usize);
+    }
+    wrong
+}
+
+/// How many counts of ranges are not those of a loop.
+fn wrong_counts(matrix: &MatrixView<'_>, numbers: &[u64]) -> usize {
+    let mut wrong = 0usize;
+    for start in 0..numbers.len() {
+        for end in start..numbers.len() {
+            let of_range = wrong_counts_of(matrix, &numbers[start..end], start, end);
+            wrong = wrong.wrapping_add(of_range);
+        }
+    }
+    wrong
+}
+
+/// The counts of 1 4 1 5 that are less than 0, 1, 2, 4, 5, 6 and 9, as the matrix has them.
+fn counts(matrix: &MatrixView<'_>) -> [usize; 7] {
+    let bounds = [0u64, 1, 2, 4, 5, 6, 9];
+    let mut all = [0usize; 7];
+    for i in 0..7usize {
+        all[i] = told(matrix.count_less(1, 5, bounds[i]));
+    }
+    all
+}
+
+#[test]
+fn ranges_are_counted_as_a_loop_counts(rt: HostRuntime) -> Result<(), Fail> {
+    let words = MATRIX;
+    let Some(matrix) = MatrixView::open(words.as_slice()) else {
+        assert!(rt; false, "not opened");
+        return Ok(());
+    };
+    assert!(rt; counts(&matrix) == [0, 0, 2, 2, 3, 4, 4]);
+    assert!(rt; wrong_counts(&matrix, NUMBERS.as_slice()) == 0);
+    assert!(rt; told(matrix.count_less(0, 6, 4)) == 4);
+    assert!(rt; told(matrix.count_less(6, 6, 4)) == 0);
+    assert!(rt; told(matrix.count_less(2, 1, 4)) == 100);
+    assert!(rt; told(matrix.count_less(0, 7, 4)) == 100);
+    assert!(rt; told(matrix.count_less(usize::MAX, 3, u64::MAX)) == 100);
+    Ok(())
+}
