@@ -1,12 +1,14 @@
 -- A range one level on: how many of its items have each bit, and where these stand.
-use Rattle.std.proofs.Common.{◌≡◌, ℕ, ◌+◌, ◌-◌, ◌/◌, ◌^◌, ◌<◌, ◌≤◌, Bool, true, false, if◌then◌else◌, List, length, take, count_by, refl, ◌∙◌, arith}
+use Rattle.std.proofs.Common.{◌≡◌, ℕ, ◌+◌, ◌-◌, ◌*◌, ◌/◌, ◌^◌, ◌<◌, ◌≤◌, ◌⊎◌, inl, inr, nat_le, Bool, true, false, if◌then◌else◌, List, length, take, count_by, refl, ap, ◌∙◌, arith, ⊎_elim}
+use Rattle.std.proofs.lemmas.Bool.{cases_lt, le-leb, lt-leb}
 use Rattle.bitm.specs.Bits.{digit}
 use Rattle.wavelet_matrix.specs.Levels.{has_digit, has_lesser_prefix, level, partition_place}
 use Rattle.wavelet_matrix.specs.Matrix.{digit_place, IsMatrixOf, LevelTables}
 use Rattle.wavelet_matrix.proofs.lemmas.PartLemmas.{moved-both, moved-grows, moved-le, moved-one}
-use Rattle.wavelet_matrix.proofs.lemmas.PrefixLemmas.{IsPrefixRange}
+use Rattle.wavelet_matrix.proofs.lemmas.PrefixLemmas.{with_digit, IsPrefixRange}
 use Rattle.wavelet_matrix.proofs.lemmas.RangeLemmas.{less-number-one, less-number-zero}
 use Rattle.matrix_block.proofs.StepLemmas.{level-len}
+use mir.Val.{bool_byte}
 
 -- those of the bit v, of the two kinds
 pub of-digit : (P : Bool → ℕ) (v : Bool) (o z size : ℕ) → size ≡ (if v then o else z) → o ≡ P true → z ≡ P false → size ≡ P v
@@ -62,3 +64,36 @@ less-more xs w d x ys f l before n true dig z less count zs lesser cs =
     omega (arith, lesser, less-number-one xs w d x ys f l before n true dig refl z count zs cs)
 less-more xs w d x ys f l before n false dig z less count zs lesser cs =
     omega (arith, lesser, less-number-zero xs w d x ys f l before n false dig refl count cs)
+
+-- a number with one bit more
+pub digit-added : (n : ℕ) (v : Bool) → 2 * n + bool_byte v ≡ with_digit n v
+digit-added n true = refl
+digit-added n false = refl
+
+-- those of the bit 0 are passed where they are no more than are left to pass
+pub passed-is : (z left passed : ℕ) → passed ≡ (if nat_le z left then z else 0)
+    → ((nat_le z left ≡ true) × (z ≤ left) × (left - passed ≡ left - z)) ⊎ ((nat_le z left ≡ false) × (left < z) × (left - passed ≡ left))
+passed-is z left passed is =
+    ⊎_elim
+    (λ few. let less : left < z = omega (arith, few) in
+    let no = lt-leb z left less in
+    let none : passed ≡ 0 = is ∙ ap (λ (b : Bool). if b then z else 0) no in
+    inr (no, less, omega (arith, none)))
+    (λ more. let least : z ≤ left = omega (arith, more) in
+    let yes = le-leb z left least in
+    let all : passed ≡ z = is ∙ ap (λ (b : Bool). if b then z else 0) yes in
+    inl (yes, least, omega (arith, all)))
+    (cases_lt left z)
+
+-- what is left to pass is passed within those that remain
+pub left-within : (o z left size passed : ℕ) → size ≡ (if nat_le z left then o else z) → passed ≡ (if nat_le z left then z else 0)
+    → left < o + z → (left - passed < size) × (passed ≤ left)
+left-within o z left size passed is passes some =
+    ⊎_elim
+    (λ w. let all : size ≡ o = is ∙ ap (λ (b : Bool). if b then o else z) w.0 in
+    let past : passed ≡ z = passes ∙ ap (λ (b : Bool). if b then z else 0) w.0 in
+    (omega (arith, all, past, some, w.1), omega (arith, past, w.1)))
+    (λ w. let all : size ≡ z = is ∙ ap (λ (b : Bool). if b then o else z) w.0 in
+    let past : passed ≡ 0 = passes ∙ ap (λ (b : Bool). if b then z else 0) w.0 in
+    (omega (arith, all, past, w.1), omega (arith, past)))
+    (passed-is z left passed passes)

@@ -1,8 +1,10 @@
 -- What is answered of a range of a matrix's numbers, in memory that may hold anything, and in that of a matrix. A range
 -- has the numbers from index s on and before index e.
-use Rattle.std.specs.Prelude.{◌≡◌, ℕ, ◌-◌, ◌<◌, ◌≤◌, ◌⊎◌, List, length}
+use Rattle.std.specs.Prelude.{◌≡◌, ℕ, ◌-◌, ◌^◌, ◌<◌, ◌≤◌, ◌⊎◌, List, length, slice_range}
 use Rattle.bitm.specs.Answer.{Answer}
 use Rattle.bitm.specs.Answer.TheVariants.{Found, Absent, Wrong}
+use Rattle.wavelet_matrix.specs.Distinct.{count_equal}
+use Rattle.wavelet_matrix.specs.Numbers.{IsSmallest}
 
 -- of n numbers: no more are counted than the range has, and Absent is answered exactly where it ends before it starts, or
 -- past the numbers
@@ -16,3 +18,32 @@ abbrev pub IsCountOf : List ℕ → ℕ → ℕ → ℕ → Answer ℕ → Type 
 IsCountOf xs s e count (Found c) = (s ≤ e) × (e ≤ length xs) × (c ≡ count)
 IsCountOf xs s e count Absent = (e < s) ⊎ (length xs < e)
 IsCountOf xs s e count Wrong = ⊥
+
+-- of n numbers of w bits: a number has no more bits, and Absent is answered exactly where the range has no more than k
+-- numbers, or ends past the numbers
+abbrev pub IsSmallestWithin : ℕ → ℕ → ℕ → ℕ → ℕ → Answer ℕ → Type 0
+IsSmallestWithin n w s e k (Found x) = (k < e - s) × (e ≤ n) × (x < 2 ^ w)
+IsSmallestWithin n w s e k Absent = (e - s ≤ k) ⊎ (n < e)
+IsSmallestWithin n w s e k Wrong = (k < e - s) × (e ≤ n)
+
+-- the number that would stand at index k if the range were sorted, and Absent exactly where the range has no more than k
+-- numbers, or ends past the numbers
+abbrev pub IsSmallestOf : List ℕ → ℕ → ℕ → ℕ → Answer ℕ → Type 0
+IsSmallestOf xs s e k (Found x) = (k < e - s) × (e ≤ length xs) × IsSmallest (slice_range xs s e) k x
+IsSmallestOf xs s e k Absent = (e - s ≤ k) ⊎ (length xs < e)
+IsSmallestOf xs s e k Wrong = ⊥
+
+-- of n numbers of w bits: a number has no more bits, the range has it at least once and not more often than it has
+-- numbers, and Absent is answered exactly where the range has no more than k numbers, or ends past the numbers
+abbrev pub IsTallyWithin : ℕ → ℕ → ℕ → ℕ → ℕ → Answer (ℕ × ℕ) → Type 0
+IsTallyWithin n w s e k (Found t) = (k < e - s) × (e ≤ n) × (t.0 < 2 ^ w) × (1 ≤ t.1) × (t.1 ≤ e - s)
+IsTallyWithin n w s e k Absent = (e - s ≤ k) ⊎ (n < e)
+IsTallyWithin n w s e k Wrong = (k < e - s) × (e ≤ n)
+
+-- the number that would stand at index k if the range were sorted, with how often the range has it, and Absent exactly
+-- where the range has no more than k numbers, or ends past the numbers
+abbrev pub IsTallyOf : List ℕ → ℕ → ℕ → ℕ → Answer (ℕ × ℕ) → Type 0
+IsTallyOf xs s e k (Found t) =
+    (k < e - s) × (e ≤ length xs) × IsSmallest (slice_range xs s e) k t.0 × (t.1 ≡ count_equal (slice_range xs s e) t.0)
+IsTallyOf xs s e k Absent = (e - s ≤ k) ⊎ (length xs < e)
+IsTallyOf xs s e k Wrong = ⊥

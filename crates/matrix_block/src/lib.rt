@@ -15,6 +15,7 @@
 //! matrix.rank(1, 4);    // Found(2), Absent or Wrong
 //! matrix.select(1, 2);  // Found(5), Absent or Wrong
 //! matrix.count_less(1, 5, 4);   // Found(2), Absent or Wrong: of 1 4 1 5 those less than 4
+//! matrix.quantile(1, 5, 2);     // Found(4), Absent or Wrong: of 1 4 1 5 the third smallest
 //! ```
 //!
 //! # Source
@@ -28,6 +29,7 @@
 // - `error`: why no block was written
 // - `levels`: the tables of levels, which may hold anything
 // - `matrix`: the view of a block, and its queries
+// - `quantiles`: the numbers of a range in order, over any source
 // - `queries`: a number by its index, and ranks, over any source
 // - `range_queries`: the queries of ranges of a view
 // - `ranges`: queries of ranges over any source
@@ -39,6 +41,7 @@ mod checking;
 mod error;
 mod levels;
 mod matrix;
+mod quantiles;
 mod queries;
 mod range_queries;
 mod ranges;

@@ -2,7 +2,8 @@
 ghost use Rattle.std.specs.Prelude.{slice_range};
 ghost use Rattle.wavelet_matrix.specs.Numbers.{count_less};
 ghost use Rattle.matrix_block.specs.Block.{items_in, HoldsMatrix};
-ghost use Rattle.matrix_block.specs.Ranges.{IsCountOf, IsCountWithin};
+ghost use Rattle.matrix_block.specs.Ranges.{IsCountOf, IsCountWithin, IsSmallestOf, IsSmallestWithin};
+ghost use Rattle.matrix_block.specs.Ranges.{IsTallyOf, IsTallyWithin};
 
 use crate::matrix::MatrixView;
 use bitm::Answer;
@@ -26,5 +27,47 @@ impl<'a> MatrixView<'a> {
     {
         let (levels, mut source) = self.parts();
         levels.total_count_less_on(&mut source, start, end, bound)
+    }
+
+    /// The number from index `start` on and before index `end` that would stand at index `k` if they were sorted.
+    /// Whatever the block holds, it has no more bits than the width, and the answer is `Absent` exactly where the range
+    /// has no more than `k` numbers, or ends past the numbers. Where the block holds a matrix, the answer is never
+    /// `Wrong`.
+    ///
+    /// # Cost
+    /// That of `LevelsView::total_quantile_on`.
+    ///
+    /// ```
+    /// matrix.quantile(1, 5, 2);   // Found(4) of 1 4 1 5
+    /// ```
+    #[inline]
+    pub fn quantile(&self, start: usize, end: usize, k: usize) -> Answer<u64>
+        ensures inside { IsSmallestWithin self.now.levels.len self.now.levels.width start end k
+            result }
+        ensures answer { HoldsMatrix self.now → IsSmallestOf (items_in self.now) start end k
+            result }
+    {
+        let (levels, mut source) = self.parts();
+        levels.total_quantile_on(&mut source, start, end, k)
+    }
+
+    /// The number that `quantile` answers, and how often it is in the range. Whatever the block holds, it is there at
+    /// least once and at most `end - start` times, and the answer is `Absent` exactly where that of `quantile` is. Where
+    /// the block holds a matrix, the answer is never `Wrong`.
+    ///
+    /// # Cost
+    /// That of `LevelsView::total_quantile_and_count_on`.
+    ///
+    /// ```
+    /// matrix.quantile_and_count(1, 5, 1);   // Found((1, 2)) of 1 4 1 5
+    /// ```
+    #[inline]
+    pub fn quantile_and_count(&self, start: usize, end: usize, k: usize) -> Answer<(u64, usize)>
+        ensures inside { IsTallyWithin self.now.levels.len self.now.levels.width start end k
+            result }
+        ensures answer { HoldsMatrix self.now → IsTallyOf (items_in self.now) start end k result }
+    {
+        let (levels, mut source) = self.parts();
+        levels.total_quantile_and_count_on(&mut source, start, end, k)
     }
 }

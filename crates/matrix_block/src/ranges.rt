@@ -15,7 +15,7 @@ use wavelet_matrix::{digit_of, fits};
 
 /// How many of two kinds of items have this bit.
 #[inline(always)]
-fn with_digit(digit: bool, ones: usize, zeros: usize) -> usize
+pub(crate) fn with_digit(digit: bool, ones: usize, zeros: usize) -> usize
     ensures { result ≡ (if digit then ones else zeros) }
 {
     if digit { ones } else { zeros }
@@ -25,7 +25,7 @@ impl<'a> LevelsView<'a> {
     /// Of a range of a level: how many items before its start have a 1 bit, and how many of its own have a 1 bit and a
     /// 0 bit; `None` only where words and tables are not those of a matrix.
     #[inline(always)]
-    fn total_part_on<T: TableSource>(
+    pub(crate) fn total_part_on<T: TableSource>(
         &self,
         source: &mut T,
         depth: u8,
@@ -58,7 +58,7 @@ impl<'a> LevelsView<'a> {
     /// Where the items of a range that have this bit, as many as are given, stand at the next level; `None` only where
     /// the tables are not those of a matrix.
     #[inline(always)]
-    fn range_after(
+    pub(crate) fn range_after(
         &self,
         depth: u8,
         digit: bool,

@@ -101,7 +101,7 @@ pub(crate) fn told(answer: Answer<usize>) -> usize {
 }
 
 /// The number that was found, or 100 for `Absent`, 101 for `Wrong`.
-fn number_told(answer: Answer<u64>) -> u64 {
+pub(crate) fn number_told(answer: Answer<u64>) -> u64 {
     match answer {
         Answer::Found(number) => number,
         Answer::Absent => 100,

@@ -1,5 +1,5 @@
 //! The ranges of a matrix in a block, beside plain loops, and those of other words in its place.
-use crate::matrices::{MATRIX, NUMBERS, told};
+use crate::matrices::{MATRIX, NUMBERS, number_told, told};
 use matrix_block::{Answer, MatrixView};
 use std::process::Abort;
 use std::test::Fail;
@@ -59,5 +59,69 @@ fn ranges_are_counted_as_a_loop_counts(rt: HostRuntime) -> Result<(), Fail> {
     assert!(rt; told(matrix.count_less(2, 1, 4)) == 100);
     assert!(rt; told(matrix.count_less(0, 7, 4)) == 100);
     assert!(rt; told(matrix.count_less(usize::MAX, 3, u64::MAX)) == 100);
+    Ok(())
+}
+
+/// How many times a number is among the numbers.
+fn times(numbers: &[u64], number: u64) -> usize {
+    let mut count = 0usize;
+    for other in numbers {
+        count = count.wrapping_add((*other == number) as usize);
+    }
+    count
+}
+
+/// How many quantiles of a range, with their counts, are not those of a loop.
+fn wrong_quantiles_of(matrix: &MatrixView<'_>, range: &[u64], start: usize, end: usize) -> usize {
+    let mut wrong = 0usize;
+    let mut k = 0usize;
+    for number in 0..1000u64 {
+        let count = times(range, number);
+        for _ in 0..count {
+            let found = matrix.quantile(start, end, k);
+            let tally = matrix.quantile_and_count(start, end, k);
+            wrong = wrong.wrapping_add((found != Answer::Found(number)) as usize);
+            wrong = wrong.wrapping_add((tally != Answer::Found((number, count))) as usize);
+            k = k.wrapping_add(1);
+        }
+    }
+    wrong.wrapping_add((matrix.quantile(start, end, k) != Answer::Absent) as usize)
+}
+
+/// How many quantiles of ranges are not those of a loop.
+fn wrong_quantiles(matrix: &MatrixView<'_>, numbers: &[u64]) -> usize {
+    let mut wrong = 0usize;
+    for start in 0..numbers.len() {
+        for end in start..numbers.len() {
+            let of_range = wrong_quantiles_of(matrix, &numbers[start..end], start, end);
+            wrong = wrong.wrapping_add(of_range);
+        }
+    }
+    wrong
+}
+
+/// The quantiles of 1 4 1 5, and one past them, as the matrix has them.
+fn quantiles(matrix: &MatrixView<'_>) -> [u64; 5] {
+    let mut all = [0u64; 5];
+    for k in 0..5usize {
+        all[k] = number_told(matrix.quantile(1, 5, k));
+    }
+    all
+}
+
+#[test]
+fn the_numbers_of_a_range_come_in_order(rt: HostRuntime) -> Result<(), Fail> {
+    let words = MATRIX;
+    let Some(matrix) = MatrixView::open(words.as_slice()) else {
+        assert!(rt; false, "not opened");
+        return Ok(());
+    };
+    assert!(rt; quantiles(&matrix) == [1, 1, 4, 5, 100]);
+    assert!(rt; wrong_quantiles(&matrix, NUMBERS.as_slice()) == 0);
+    assert!(rt; matrix.quantile_and_count(0, 6, 2) == Answer::Found((1, 3)));
+    assert!(rt; number_told(matrix.quantile(0, 6, 5)) == 5);
+    assert!(rt; number_told(matrix.quantile(0, 7, 0)) == 100);
+    assert!(rt; number_told(matrix.quantile(5, 1, 0)) == 100);
+    assert!(rt; number_told(matrix.quantile(0, 6, usize::MAX)) == 100);
     Ok(())
 }
