@@ -16,6 +16,7 @@
 //! matrix.select(1, 2);  // Found(5), Absent or Wrong
 //! matrix.count_less(1, 5, 4);   // Found(2), Absent or Wrong: of 1 4 1 5 those less than 4
 //! matrix.quantile(1, 5, 2);     // Found(4), Absent or Wrong: of 1 4 1 5 the third smallest
+//! matrix.next_value(1, 5, 2);   // Found(4), Absent or Wrong: of 1 4 1 5 the least that is at least 2
 //! ```
 //!
 //! # Source
@@ -24,6 +25,7 @@
 #![tactic(auto)]
 
 // What is in each file:
+// - `bounds`: the number of a range beside a bound, over any source
 // - `building`: the block of a matrix, written into the caller's memory
 // - `checking`: whether the tables of levels are those of the words
 // - `error`: why no block was written
@@ -36,6 +38,7 @@
 // - `sections`: the sections of the block of a matrix
 // - `selecting`: the indices of a number, over any source
 // - `stepping`: the step from one level to the next
+mod bounds;
 mod building;
 mod checking;
 mod error;

@@ -2,6 +2,7 @@
 ghost use Rattle.std.specs.Prelude.{slice_range};
 ghost use Rattle.wavelet_matrix.specs.Numbers.{count_less};
 ghost use Rattle.matrix_block.specs.Block.{items_in, HoldsMatrix};
+ghost use Rattle.matrix_block.specs.Ranges.{IsNextOf, IsNextWithin, IsPreviousOf, IsPreviousWithin};
 ghost use Rattle.matrix_block.specs.Ranges.{IsCountOf, IsCountWithin, IsSmallestOf, IsSmallestWithin};
 ghost use Rattle.matrix_block.specs.Ranges.{IsTallyOf, IsTallyWithin};
 
@@ -69,5 +70,47 @@ impl<'a> MatrixView<'a> {
     {
         let (levels, mut source) = self.parts();
         levels.total_quantile_and_count_on(&mut source, start, end, k)
+    }
+
+    /// The least number from index `start` on and before index `end` that is at least `bound`. Whatever the block holds,
+    /// it is at least `bound`, has no more bits than the width, and the range lies within the numbers. Where the block
+    /// holds a matrix, the answer is `Absent` exactly where there is no such number, and never `Wrong`.
+    ///
+    /// # Cost
+    /// That of `LevelsView::total_next_value_on`.
+    ///
+    /// ```
+    /// matrix.next_value(1, 5, 2);   // Found(4) of 1 4 1 5
+    /// ```
+    #[inline]
+    pub fn next_value(&self, start: usize, end: usize, bound: u64) -> Answer<u64>
+        ensures inside { IsNextWithin self.now.levels.len self.now.levels.width start end bound
+            result }
+        ensures answer { HoldsMatrix self.now → IsNextOf (items_in self.now) start end bound
+            result }
+    {
+        let (levels, mut source) = self.parts();
+        levels.total_next_value_on(&mut source, start, end, bound)
+    }
+
+    /// The greatest number from index `start` on and before index `end` that is less than `bound`. Whatever the block
+    /// holds, it is less than `bound`, has no more bits than the width, and the range lies within the numbers. Where the
+    /// block holds a matrix, the answer is `Absent` exactly where there is no such number, and never `Wrong`.
+    ///
+    /// # Cost
+    /// That of `LevelsView::total_previous_value_on`.
+    ///
+    /// ```
+    /// matrix.previous_value(1, 5, 5);   // Found(4) of 1 4 1 5
+    /// ```
+    #[inline]
+    pub fn previous_value(&self, start: usize, end: usize, bound: u64) -> Answer<u64>
+        ensures inside { IsPreviousWithin self.now.levels.len self.now.levels.width start end bound
+            result }
+        ensures answer { HoldsMatrix self.now → IsPreviousOf (items_in self.now) start end bound
+            result }
+    {
+        let (levels, mut source) = self.parts();
+        levels.total_previous_value_on(&mut source, start, end, bound)
     }
 }

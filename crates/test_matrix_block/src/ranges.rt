@@ -27,7 +27,7 @@ fn wrong_counts_of(matrix: &MatrixView<'_>, numbers: &[u64], start: usize, end: 
 fn wrong_counts(matrix: &MatrixView<'_>, numbers: &[u64]) -> usize {
     let mut wrong = 0usize;
     for start in 0..numbers.len() {
-        for end in start..numbers.len() {
+        for end in start..numbers.len() + 1 {
             let of_range = wrong_counts_of(matrix, &numbers[start..end], start, end);
             wrong = wrong.wrapping_add(of_range);
         }
@@ -92,7 +92,7 @@ fn wrong_quantiles_of(matrix: &MatrixView<'_>, range: &[u64], start: usize, end:
 fn wrong_quantiles(matrix: &MatrixView<'_>, numbers: &[u64]) -> usize {
     let mut wrong = 0usize;
     for start in 0..numbers.len() {
-        for end in start..numbers.len() {
+        for end in start..numbers.len() + 1 {
             let of_range = wrong_quantiles_of(matrix, &numbers[start..end], start, end);
             wrong = wrong.wrapping_add(of_range);
         }
@@ -123,5 +123,118 @@ fn the_numbers_of_a_range_come_in_order(rt: HostRuntime) -> Result<(), Fail> {
     assert!(rt; number_told(matrix.quantile(0, 7, 0)) == 100);
     assert!(rt; number_told(matrix.quantile(5, 1, 0)) == 100);
     assert!(rt; number_told(matrix.quantile(0, 6, usize::MAX)) == 100);
+    Ok(())
+}
+
+/// The least of the numbers that is at least `bound`, or 100.
+fn next_of(numbers: &[u64], bound: u64) -> u64 {
+    let mut least = 100u64;
+    for number in numbers {
+        if *number >= bound && *number < least {
+            least = *number;
+        }
+    }
+    least
+}
+
+/// The greatest of the numbers that is less than `bound`, or 100.
+fn previous_of(numbers: &[u64], bound: u64) -> u64 {
+    let mut greatest = 100u64;
+    for number in numbers {
+        if *number < bound && (greatest == 100 || *number > greatest) {
+            greatest = *number;
+        }
+    }
+    greatest
+}
+
+/// How many numbers of ranges beside bounds up to 9 are not those of a loop.
+fn wrong_bounds(matrix: &MatrixView<'_>, numbers: &[u64]) -> usize {
+    let mut wrong = 0usize;
+    for start in 0..numbers.len() {
+        for end in start..numbers.len() + 1 {
+            let range = &numbers[start..end];
+            for bound in 0..10u64 {
+                let next = number_told(matrix.next_value(start, end, bound));
+                let previous = number_told(matrix.previous_value(start, end, bound));
+                wrong = wrong.wrapping_add((next != next_of(range, bound)) as usize);
+                wrong = wrong.wrapping_add((previous != previous_of(range, bound)) as usize);
+            }
+        }
+    }
+    wrong
+}
+
+/// The numbers of 1 4 1 5 beside 0, 1, 2, 4, 5, 6 and 9, as the matrix has them.
+fn beside(matrix: &MatrixView<'_>) -> [u64; 14] {
+    let bounds = [0u64, 1, 2, 4, 5, 6, 9];
+    let mut all = [0u64; 14];
+    for i in 0..7usize {
+        all[i] = number_told(matrix.next_value(1, 5, bounds[i]));
+        all[i + 7] = number_told(matrix.previous_value(1, 5, bounds[i]));
+    }
+    all
+}
+
+#[test]
+fn the_numbers_beside_a_bound_are_found(rt: HostRuntime) -> Result<(), Fail> {
+    let words = MATRIX;
+    let Some(matrix) = MatrixView::open(words.as_slice()) else {
+        assert!(rt; false, "not opened");
+        return Ok(());
+    };
+    assert!(rt; beside(&matrix) == [1, 1, 4, 4, 5, 100, 100, 100, 100, 1, 1, 4, 5, 5]);
+    assert!(rt; wrong_bounds(&matrix, NUMBERS.as_slice()) == 0);
+    assert!(rt; number_told(matrix.next_value(0, 7, 0)) == 100);
+    assert!(rt; number_told(matrix.next_value(3, 2, 0)) == 100);
+    assert!(rt; number_told(matrix.previous_value(0, 7, 9)) == 100);
+    assert!(rt; number_told(matrix.previous_value(0, 6, u64::MAX)) == 5);
+    Ok(())
+}
+
+/// Whether an answer is at most `most`, or there is none.
+fn is_within(answer: Answer<usize>, most: usize) -> bool {
+    match answer {
+        Answer::Found(count) => count <= most,
+        _ => true,
+    }
+}
+
+/// Whether a number has three bits and is at least `low`, or there is none.
+fn is_number(answer: Answer<u64>, low: u64) -> bool {
+    match answer {
+        Answer::Found(number) => number < 8 && number >= low,
+        _ => true,
+    }
+}
+
+/// Whether the answers of all ranges are those that some numbers could have.
+fn are_ranges_within(matrix: &MatrixView<'_>) -> bool {
+    let mut within = true;
+    for start in 0..7usize {
+        for end in start..7usize {
+            within &= is_within(matrix.count_less(start, end, 4), end - start);
+            within &= is_number(matrix.next_value(start, end, 4), 4);
+            within &= is_number(matrix.previous_value(start, end, 7), 0);
+            within &= is_number(matrix.quantile(start, end, 1), 0);
+        }
+    }
+    within
+}
+
+#[test]
+fn flipped_bits_leave_answers_of_ranges_in_bounds(rt: HostRuntime) -> Result<(), Fail> {
+    let mut words = MATRIX;
+    let mut outside = 0usize;
+    for i in [40usize, 48, 56, 64, 65, 66, 72, 73, 74] {
+        for bit in 0..64u32 {
+            words[i] ^= 1u64 << bit;
+            if let Some(matrix) = MatrixView::open(words.as_slice()) {
+                outside = outside.wrapping_add(!are_ranges_within(&matrix) as usize);
+            }
+            words[i] ^= 1u64 << bit;
+        }
+    }
+    assert!(rt; outside == 0);
     Ok(())
 }
