@@ -1,5 +1,6 @@
 /* Succinct bit vectors with rank and select: words, and two tables of counts beside them. And monotone integer
- * sequences (Elias-Fano), minimal perfect hashes and trees (LOUDS), in words with such tables.
+ * sequences (Elias-Fano), minimal perfect hashes, trees (LOUDS) and lists of numbers in any order (wavelet matrices),
+ * in words with such tables.
  *
  * Bit i is bit i % 64, lowest first, of words[i / 64]. You own the memory of words and tables, which may be a mapped
  * file. No call allocates, keeps a pointer or has state, so any number of threads may query at once.
@@ -13,8 +14,8 @@
  *     if (bitm_index_select(&index, true, 4, &position) != BITM_OK || position != 64) return 1;
  *
  * NAMES. The prefix says what is queried: bitm_bits_ (words without tables), bitm_index_ (words with tables),
- * bitm_sequence_, bitm_hash_, bitm_tree_, bitm_stored_. `bool one` says which bits are meant: true the 1 bits, false the
- * 0 bits. A position counts from 0; the rank of a bit is how many bits of its kind there are before it.
+ * bitm_sequence_, bitm_hash_, bitm_tree_, bitm_matrix_, bitm_stored_. `bool one` says which bits are meant: true the 1
+ * bits, false the 0 bits. A position counts from 0; the rank of a bit is how many bits of its kind there are before it.
  *
  * LENGTHS. words_len, upper_len, lower_len, samples_len, .. count the items of that pointer; bits_len counts bits, and
  * is at most 64 * words_len. What lies past the first bits_len bits is neither counted nor found nor changed.
@@ -113,7 +114,8 @@ enum bitm_status {
     BITM_NONE = 1,     /* there is no such position, bit or number */
     BITM_BAD_SIZE = 2, /* a length is wrong: see each call; bitm_index_fault, bitm_sequence_fault, .. say which one */
     BITM_WRONG = 3,    /* the tables or samples are not those of the words, the parts not those of a sequence, the
-                        * header is not one, or the degrees or the block are not those of a tree */
+                        * header or the block is not one, the degrees are those of no tree, or a number has more bits
+                        * than the width */
     BITM_UNSORTED = 4  /* a number is less than the one before it */
 };
 
@@ -1250,6 +1252,222 @@ BITM_MUST_USE uint32_t bitm_tree_degree_list(const struct bitm_tree *tree, const
 BITM_MUST_USE uint32_t bitm_tree_child_list(const struct bitm_tree *tree, const uint64_t *nodes, size_t nodes_len,
                                             const uint64_t *ks, size_t ks_len, uint64_t *out, size_t out_len,
                                             struct bitm_list_counts *counts);
+
+/* ---- matrices: lists of numbers in any order, each in one block of memory
+ *
+ * A wavelet matrix (Claude, Navarro and Ordonez, Information Systems 47, 2015) holds n numbers of at most `width` bits
+ * each in about 1.03 * width bits a number, and answers where and how often a number is in the list, and which numbers
+ * of a range are the least. A block of numbers is written and opened as that of a tree:
+ *
+ *     const uint64_t numbers[6] = {3, 1, 4, 1, 5, 1};
+ *     uint64_t matrix_len, scratch[12]; // two words for each number
+ *     if (bitm_matrix_size(6, 3, &matrix_len) != BITM_OK) return 1;
+ *     uint64_t *of_numbers = malloc(8 * matrix_len); // or a mapped file
+ *     struct bitm_matrix matrix = {0};
+ *     if (!of_numbers || bitm_matrix_build(numbers, 6, 3, scratch, 12, of_numbers, matrix_len) != BITM_OK ||
+ *         bitm_matrix_open(of_numbers, matrix_len, &matrix) != BITM_OK || matrix.len != 6 ||
+ *         bitm_matrix_rank(&matrix, 1, 4, &value) != BITM_OK || value != 2) return 1; // 1 is among 3, 1, 4, 1 twice
+ *
+ * Over any block that bitm_matrix_open takes, a stale or hostile one too, a query returns within the reads that are
+ * named below, a number has no more than matrix.width bits, a count is at most that of the numbers asked about, and an
+ * index that is found is less than matrix.len. If bitm_matrix_build wrote the block or bitm_matrix_check passes it, and
+ * it did not change afterwards, the answers are those of one list of numbers, and no query returns BITM_WRONG. */
+struct bitm_matrix {
+    size_t len;     /* how many numbers */
+    uint64_t width; /* how many bits each has at most */
+    const uint64_t *words;
+    size_t words_len;
+    const uint64_t *upper;
+    size_t upper_len;
+    const uint64_t *lower;
+    size_t lower_len;
+    const uint64_t *ones; /* for each bit of the width a count */
+    size_t ones_len;
+    const uint64_t *zeros; /* and another */
+    size_t zeros_len;
+    uint64_t reserved[2]; /* 0: not read */
+};
+
+/* How many words the block of `len` numbers of `width` bits takes. BITM_BAD_SIZE if width is not 1 to 64, or len *
+ * width is 2^63 or more. */
+BITM_MUST_USE uint32_t bitm_matrix_size(size_t len, uint32_t width, uint64_t *out);
+
+/* Writes the block of these numbers of `width` bits. BITM_WRONG exactly if a length and width that bitm_matrix_size
+ * takes are given, and a number has more bits. Else BITM_BAD_SIZE if bitm_matrix_size does not take them, block_len is
+ * not what it says, or scratch_len is not 2 * numbers_len. What scratch holds is overwritten. Allocates nothing.
+ * Numbers, scratch and block may not overlap one another. For each bit of the width two passes over the numbers, then
+ * three over the block (evident from the code).
+ *
+ *     // 4 has 3 bits:
+ *     if (bitm_matrix_build(numbers, 6, 2, scratch, 12, of_numbers, matrix_len) != BITM_WRONG) return 1; */
+BITM_MUST_USE uint32_t bitm_matrix_build(const uint64_t *numbers, size_t numbers_len, uint32_t width, uint64_t *scratch,
+                                         size_t scratch_len, uint64_t *block, size_t block_len);
+
+/* Opens a block: writes the matrix that queries take, which points into the block. *matrix has to be zeros, or a matrix
+ * whose block is still there. BITM_WRONG exactly if the header or the directory of the block is not right, or is that
+ * of no matrix, or block_len is not as they say. Reads at most 80 words, however long the block is (evident from the
+ * code); what its other words hold is not looked at.
+ *
+ *     if (bitm_matrix_open(of_numbers, matrix_len - 1, &matrix) != BITM_WRONG || matrix.len != 6) return 1; */
+BITM_MUST_USE uint32_t bitm_matrix_open(const uint64_t *block, size_t block_len, struct bitm_matrix *matrix);
+
+/* Whether a block is as it was written and holds a matrix: BITM_OK, or BITM_WRONG as bitm_matrix_open, if a checksum is
+ * not that of its words, or if words and tables are not those of a matrix. So a block in which one word was changed is
+ * refused. Two passes over the block (evident from the code).
+ *
+ *     of_numbers[40] ^= 1;
+ *     if (bitm_matrix_check(of_numbers, matrix_len) != BITM_WRONG) return 1;
+ *     of_numbers[40] ^= 1;
+ *     if (bitm_matrix_check(of_numbers, matrix_len) != BITM_OK) return 1; */
+BITM_MUST_USE uint32_t bitm_matrix_check(const uint64_t *block, size_t block_len);
+
+/* Each of these calls returns BITM_BAD_SIZE if a length in *matrix is not that of its numbers and their width, and
+ * BITM_WRONG only where the block is not that of a matrix.
+ *
+ * The number at an index. BITM_NONE exactly if index is len or more. Reads for each bit of the width at most one upper
+ * entry, one lower entry and nine words.
+ *
+ *     if (bitm_matrix_get(&matrix, 4, &value) != BITM_OK || value != 5) return 1; */
+BITM_MUST_USE uint32_t bitm_matrix_get(const struct bitm_matrix *matrix, size_t index, uint64_t *out);
+
+/* How many of the numbers before an index are this one: for index len, of all. At most index. BITM_NONE exactly if
+ * index is above len. Reads for each bit of the width at most two upper entries, two lower entries and 16 words.
+ *
+ *     if (bitm_matrix_rank(&matrix, 1, 6, &value) != BITM_OK || value != 3) return 1; */
+BITM_MUST_USE uint32_t bitm_matrix_rank(const struct bitm_matrix *matrix, uint64_t number, size_t index, uint64_t *out);
+
+/* The index of this number with exactly `rank` such numbers before it. BITM_NONE if there are no more than rank; over a
+ * block that is not that of a matrix it may be that of any number. Reads what bitm_matrix_rank does, and for each bit
+ * of the width what bitm_index_select reads without samples.
+ *
+ *     if (bitm_matrix_select(&matrix, 1, 2, &value) != BITM_OK || value != 5 ||
+ *         bitm_matrix_select(&matrix, 1, 3, &value) != BITM_NONE) return 1; */
+BITM_MUST_USE uint32_t bitm_matrix_select(const struct bitm_matrix *matrix, uint64_t number, size_t rank,
+                                          uint64_t *out);
+
+/* The numbers at a list of indices, as bitm_matrix_get answers them, up to the first for which it does not return
+ * BITM_OK; written is how many these are, and the rest of out stays as it was. BITM_BAD_SIZE also if out_len is not
+ * indices_len. out and written may not overlap each other or what the call reads.
+ *
+ *     const uint64_t at_each[3] = {4, 0, 6};
+ *     if (bitm_matrix_get_list(&matrix, at_each, 3, of_each, 3, &written) != BITM_OK || written != 2 ||
+ *         of_each[0] != 5 || of_each[1] != 3) return 1; // there is no number 6 */
+BITM_MUST_USE uint32_t bitm_matrix_get_list(const struct bitm_matrix *matrix, const uint64_t *indices,
+                                            size_t indices_len, uint64_t *out, size_t out_len, uint64_t *written);
+
+/* bitm_matrix_rank of each numbers[i] before indices[i], and bitm_matrix_select of each numbers[i] with ranks[i]:
+ * out[i] is the answer, or BITM_NO_ANSWER for BITM_NONE and BITM_WRONG_TABLES for BITM_WRONG; counts says how many of
+ * each there are. BITM_BAD_SIZE also if out_len, or indices_len or ranks_len, is not numbers_len. out and counts may
+ * overlap neither each other nor what the call reads.
+ *
+ *     const uint64_t asked[3] = {1, 5, 2}, before[3] = {4, 6, 7}, its[3] = {2, 0, 0};
+ *     if (bitm_matrix_rank_list(&matrix, asked, 3, before, 3, of_each, 3, &of_codes) != BITM_OK || of_each[0] != 2 ||
+ *         of_each[1] != 1 || of_each[2] != BITM_NO_ANSWER || of_codes.missing != 1 || // there are no 7 numbers
+ *         bitm_matrix_select_list(&matrix, asked, 3, its, 3, of_each, 3, &of_codes) != BITM_OK || of_each[0] != 5 ||
+ *         of_each[1] != 4 || of_each[2] != BITM_NO_ANSWER) return 1; // and no 2 */
+BITM_MUST_USE uint32_t bitm_matrix_rank_list(const struct bitm_matrix *matrix, const uint64_t *numbers,
+                                             size_t numbers_len, const uint64_t *indices, size_t indices_len,
+                                             uint64_t *out, size_t out_len, struct bitm_list_counts *counts);
+BITM_MUST_USE uint32_t bitm_matrix_select_list(const struct bitm_matrix *matrix, const uint64_t *numbers,
+                                               size_t numbers_len, const uint64_t *ranks, size_t ranks_len,
+                                               uint64_t *out, size_t out_len, struct bitm_list_counts *counts);
+
+/* Ranges: the numbers from index `start` on and before index `end`. Each of these calls returns BITM_NONE also if start
+ * is above end or end is above len.
+ *
+ * How many numbers of a range are less than bound: at most end - start. BITM_NONE exactly if there is no such range.
+ * Reads for each bit of the width at most two upper entries, two lower entries and 16 words.
+ *
+ *     if (bitm_matrix_count_less(&matrix, 1, 5, 4, &value) != BITM_OK || value != 2) return 1; // of 1, 4, 1, 5 */
+BITM_MUST_USE uint32_t bitm_matrix_count_less(const struct bitm_matrix *matrix, size_t start, size_t end,
+                                              uint64_t bound, uint64_t *out);
+
+/* The number of a range that would stand at index k if the range were sorted: the least one for k = 0, the median for
+ * k = (end - start) / 2. BITM_NONE exactly if there is no such range, or k is not less than end - start. Reads what
+ * bitm_matrix_count_less does.
+ *
+ *     if (bitm_matrix_quantile(&matrix, 1, 5, 2, &value) != BITM_OK || value != 4) return 1; // of 1, 1, 4, 5 */
+BITM_MUST_USE uint32_t bitm_matrix_quantile(const struct bitm_matrix *matrix, size_t start, size_t end, size_t k,
+                                            uint64_t *out);
+
+/* The least number of a range that is at least bound; the greatest that is less than bound. BITM_NONE if there is none.
+ * Each reads at most twice what bitm_matrix_count_less does.
+ *
+ *     if (bitm_matrix_next_value(&matrix, 1, 5, 2, &value) != BITM_OK || value != 4 ||
+ *         bitm_matrix_previous_value(&matrix, 1, 5, 4, &value) != BITM_OK || value != 1) return 1;
+ *     free(of_numbers); */
+BITM_MUST_USE uint32_t bitm_matrix_next_value(const struct bitm_matrix *matrix, size_t start, size_t end,
+                                              uint64_t bound, uint64_t *out);
+BITM_MUST_USE uint32_t bitm_matrix_previous_value(const struct bitm_matrix *matrix, size_t start, size_t end,
+                                                  uint64_t bound, uint64_t *out);
+
+/* ---- an index, and a sequence, in one block of memory
+ *
+ * A block as that of a tree, from which struct bitm_index is opened without samples, or struct bitm_sequence: every
+ * bitm_index_ or bitm_sequence_ call then works over a mapped file. bitm_index_build_samples adds samples to an index
+ * that was opened, in memory of yours.
+ *
+ *     uint64_t block_words;
+ *     if (bitm_index_block_size(100, &block_words) != BITM_OK) return 1;
+ *     uint64_t *of_bits = malloc(8 * block_words); // or a mapped file
+ *     struct bitm_index from_block = {0};
+ *     if (!of_bits || bitm_index_block_build(words, n, 100, of_bits, block_words) != BITM_OK ||
+ *         bitm_index_block_check(of_bits, block_words) != BITM_OK ||
+ *         bitm_index_block_open(of_bits, block_words, &from_block) != BITM_OK ||
+ *         bitm_index_select(&from_block, true, 4, &position) != BITM_OK || position != 64) return 1;
+ *     free(of_bits); */
+
+/* How many words the block of that many bits takes. BITM_BAD_SIZE if bits_len is above 2^64 - 64. */
+BITM_MUST_USE uint32_t bitm_index_block_size(uint64_t bits_len, uint64_t *out);
+
+/* Writes the block of the first bits_len bits of the words. BITM_BAD_SIZE if bitm_index_block_size does not take
+ * bits_len, it is above 64 * words_len, or block_len is not what that call says. words and block may not overlap. Two
+ * passes over the words and one over the block (evident from the code). */
+BITM_MUST_USE uint32_t bitm_index_block_build(const uint64_t *words, size_t words_len, uint64_t bits_len,
+                                              uint64_t *block, size_t block_len);
+
+/* Opens a block: writes the index that queries take, which points into the block. *index has to be zeros, or an index
+ * whose memory is still there. BITM_WRONG exactly if the header or the directory of the block is not right, or is that
+ * of no bits, or block_len is not as they say. Reads at most 80 words, however long the block is (evident from the
+ * code); what its other words hold is not looked at. */
+BITM_MUST_USE uint32_t bitm_index_block_open(const uint64_t *block, size_t block_len, struct bitm_index *index);
+
+/* Whether a block is as it was written and holds bits with their tables: BITM_OK, or BITM_WRONG as
+ * bitm_index_block_open, if a checksum is not that of its words, or if the tables are not those of the words. Two
+ * passes over the block (evident from the code). */
+BITM_MUST_USE uint32_t bitm_index_block_check(const uint64_t *block, size_t block_len);
+
+/* How many words the block of len numbers takes, of which the last, and so the largest, is largest (0 if there are
+ * none). BITM_BAD_SIZE as bitm_sequence_sizes.
+ *
+ *     if (bitm_sequence_block_size(5, 11, &block_words) != BITM_OK) return 1;
+ *     uint64_t *of_items = malloc(8 * block_words); // or a mapped file
+ *     struct bitm_sequence in_block = {0};
+ *     if (!of_items || bitm_sequence_block_build(items, 5, of_items, block_words) != BITM_OK ||
+ *         bitm_sequence_block_check(of_items, block_words) != BITM_OK ||
+ *         bitm_sequence_block_open(of_items, block_words, &in_block) != BITM_OK ||
+ *         bitm_sequence_first_at_least(&in_block, 6, &at) != BITM_OK || at != 3) return 1;
+ *     free(of_items); */
+BITM_MUST_USE uint32_t bitm_sequence_block_size(size_t len, uint64_t largest, uint64_t *out);
+
+/* Writes the block of a sequence of the items. BITM_BAD_SIZE if there are 2^56 or more; else BITM_UNSORTED if an item
+ * is less than the one before it; else BITM_BAD_SIZE if block_len is not what bitm_sequence_block_size says for
+ * items_len and the last item. items and block may not overlap. Four passes over the items, and three over the block
+ * (evident from the code). */
+BITM_MUST_USE uint32_t bitm_sequence_block_build(const uint64_t *items, size_t items_len, uint64_t *block,
+                                                 size_t block_len);
+
+/* Opens a block: writes the sequence that queries take, which points into the block. *sequence has to be zeros, or a
+ * sequence whose memory is still there. BITM_WRONG exactly if the header or the directory of the block is not right, or
+ * is that of no sequence, or block_len is not as they say. Reads at most 80 words, however long the block is (evident
+ * from the code); what its other words hold is not looked at. */
+BITM_MUST_USE uint32_t bitm_sequence_block_open(const uint64_t *block, size_t block_len,
+                                                struct bitm_sequence *sequence);
+
+/* Whether a block is as it was written and holds a sequence: BITM_OK, or BITM_WRONG as bitm_sequence_block_open, if a
+ * checksum is not that of its words, or if the parts are not those of a sequence. Four passes over the words of the
+ * block (evident from the code). */
+BITM_MUST_USE uint32_t bitm_sequence_block_check(const uint64_t *block, size_t block_len);
 
 #ifdef __cplusplus
 }
