@@ -179,21 +179,23 @@ block_is xs w old new can sealed parts =
       };
     } in
     record {
-      matrix_block = record {
-        is_block = sealed.is_block;
-        sections = record {
-          kind = ap (λ (h : Head). h.kind) sealed.head_is;
-          five = omega (arith, count_is head sections old new sealed);
-          words = ap (λ (s : Section). s.role) (entry_is head sections old new sealed 0 (omega arith));
-          upper = ap (λ (s : Section). s.role) (entry_is head sections old new sealed 1 (omega arith));
-          lower = ap (λ (s : Section). s.role) (entry_is head sections old new sealed 2 (omega arith));
-          ones = ap (λ (s : Section). s.role) (entry_is head sections old new sealed 3 (omega arith));
-          zeros = ap (λ (s : Section). s.role) (entry_is head sections old new sealed 4 (omega arith));
+      sound = record {
+        matrix_block = record {
+          is_block = sealed.is_block;
+          sections = record {
+            kind = ap (λ (h : Head). h.kind) sealed.head_is;
+            five = omega (arith, count_is head sections old new sealed);
+            words = ap (λ (s : Section). s.role) (entry_is head sections old new sealed 0 (omega arith));
+            upper = ap (λ (s : Section). s.role) (entry_is head sections old new sealed 1 (omega arith));
+            lower = ap (λ (s : Section). s.role) (entry_is head sections old new sealed 2 (omega arith));
+            ones = ap (λ (s : Section). s.role) (entry_is head sections old new sealed 3 (omega arith));
+            zeros = ap (λ (s : Section). s.role) (entry_is head sections old new sealed 4 (omega arith));
+          };
+          lengths = subst (λ (p : MatrixParts). HasLengths p) (sym parts_are) lengths;
         };
-        lengths = subst (λ (p : MatrixParts). HasLengths p) (sym parts_are) lengths;
+        verified = sealed.verified;
+        matrix = subst (λ (p : MatrixParts). HoldsMatrix p) (sym parts_are) parts.matrix;
       };
-      verified = sealed.verified;
       width = width;
-      matrix = subst (λ (p : MatrixParts). HoldsMatrix p) (sym parts_are) parts.matrix;
       items = ap (λ (p : MatrixParts). items_in p) parts_are ∙ parts.items;
     }

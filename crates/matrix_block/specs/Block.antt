@@ -135,10 +135,14 @@ StandsIn numbers w block =
     (slice_range block (lower_at n w) (lower_at n w + lower_of_numbers n w)) (slice_range block (ones_at n w) (ones_at n w + w))
     (slice_range block (zeros_at n w) (zeros_at n w + w))
 
--- the block is that of these numbers of w bits
-pub record IsBlockOf (numbers : List ℕ) (w : ℕ) (block : List ℕ) : Type 0 where
+-- the block is as it was written, and holds a matrix
+pub record IsSoundBlock (block : List ℕ) : Type 0 where
   pub matrix_block : IsMatrixBlock block
   pub verified : IsVerified block
-  pub width : slice_index block 4 ≡ w
   pub matrix : HoldsMatrix (matrix_in block)
+
+-- the block is that of these numbers of w bits
+pub record IsBlockOf (numbers : List ℕ) (w : ℕ) (block : List ℕ) : Type 0 where
+  pub sound : IsSoundBlock block
+  pub width : slice_index block 4 ≡ w
   pub items : items_in (matrix_in block) ≡ numbers

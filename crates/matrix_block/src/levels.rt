@@ -85,6 +85,30 @@ impl<'a> LevelsView<'a> {
         self.width
     }
 
+    /// The table of the 1 bits before each level.
+    ///
+    /// ```
+    /// levels.ones().len();   // 3
+    /// ```
+    #[inline(always)]
+    pub fn ones(&self) -> &'a [u64]
+        ensures { result.now ≡ self.now.ones }
+    {
+        self.ones
+    }
+
+    /// The table of the 0 bits of each level.
+    ///
+    /// ```
+    /// levels.zeros().len();   // 3
+    /// ```
+    #[inline(always)]
+    pub fn zeros(&self) -> &'a [u64]
+        ensures { result.now ≡ self.now.zeros }
+    {
+        self.zeros
+    }
+
     /// How many 1 bits stand before a level, as the table says.
     #[inline(always)]
     pub(crate) fn ones_before_level(&self, depth: u8) -> usize

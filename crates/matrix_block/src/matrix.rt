@@ -6,6 +6,7 @@ ghost use Rattle.matrix_block.specs.Answers.{IsIndexOf, IsIndexWithin, IsNumberO
 ghost use Rattle.matrix_block.specs.Answers.{IsRankOf, IsRankWithin};
 ghost use Rattle.matrix_block.specs.Block.{items_in, matrix_in, parts_of};
 ghost use Rattle.matrix_block.specs.Block.{HasLengths, HasMatrixSections, HoldsMatrix, IsMatrixBlock};
+ghost use Rattle.matrix_block.specs.Block.{IsSoundBlock};
 
 use crate::checking::are_counts;
 use crate::levels::LevelsView;
@@ -90,6 +91,30 @@ impl<'a> MatrixView<'a> {
         }
     }
 
+    /// The matrix in a block that is as it was written; `None` exactly where `open` says so, a section or the zeros after
+    /// it are not those that were written (`Block::verify`), or the sections hold no matrix (`check`). So a block in
+    /// which one word was changed is refused, and every answer is that of the numbers.
+    ///
+    /// # Cost
+    /// Two passes over the words, and two ranks for each level (evident from the code).
+    ///
+    /// ```
+    /// MatrixView::open_checked(block.as_slice());   // Some(..) of a block that `build` wrote
+    /// ```
+    pub fn open_checked(words: &'a [u64]) -> Option<MatrixView<'a>>
+        ensures { SomeIff result (IsSoundBlock words.now) (matrix_in words.now) }
+    {
+        let view = MatrixView::open(words)?;
+        let Ok(block) = Block::open(words) else {
+            return None;
+        };
+        if block.verify() && view.check() {
+            Some(view)
+        } else {
+            None
+        }
+    }
+
     /// The levels of numbers in words with two tables; `None` exactly where a length is not that of the numbers.
     ///
     /// ```
@@ -139,6 +164,42 @@ impl<'a> MatrixView<'a> {
         ensures { result ≡ self.now.levels.width }
     {
         self.levels.width()
+    }
+
+    /// The words that hold the bits of the numbers.
+    ///
+    /// ```
+    /// matrix.words().len();   // 1
+    /// ```
+    #[inline(always)]
+    pub fn words(&self) -> &'a [u64]
+        ensures { result.now ≡ self.now.lists.words }
+    {
+        self.words
+    }
+
+    /// The upper table of the words.
+    ///
+    /// ```
+    /// matrix.upper().len();   // 1
+    /// ```
+    #[inline(always)]
+    pub fn upper(&self) -> &'a [u64]
+        ensures { result.now ≡ self.now.lists.upper }
+    {
+        self.upper
+    }
+
+    /// The lower table of the words.
+    ///
+    /// ```
+    /// matrix.lower().len();   // 1
+    /// ```
+    #[inline(always)]
+    pub fn lower(&self) -> &'a [u64]
+        ensures { result.now ≡ self.now.lists.lower }
+    {
+        self.lower
     }
 
     /// The levels, and a source over the words and tables whose reads are counted from 0.
