@@ -2,7 +2,8 @@
 //! condition on what the memory holds.
 //!
 //! With the block of a matrix the answers are those of its numbers. If it is stale or hostile, every call still
-//! terminates within its read bound, and its answer is one that some numbers of that many bits could have.
+//! terminates within its read bound, a number has no more bits than the width, a count is at most the index that was
+//! given, and an index is that of a number.
 //!
 //! ```
 //! let numbers = [3u64, 1, 4, 1, 5, 1];
