@@ -68,7 +68,7 @@ impl<'a> SliceCursor<'a> {
     /// A cursor at the first number of a slice; `None` exactly where some number is less than the one before it.
     ///
     /// # Cost
-    /// One pass over the numbers.
+    /// One pass over the numbers (evident from the code).
     pub fn over(numbers: &'a [u64]) -> Option<SliceCursor<'a>>
         ensures { SomeIff result (IsNonDecreasing numbers.now)
             (record { left = numbers.now; calls = 0 }) }

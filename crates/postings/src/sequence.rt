@@ -1,10 +1,11 @@
 //! A cursor over a sequence.
 ghost use Rattle.std.specs.Prelude.{◌≡◌, ◌+◌, ◌*◌, ◌≤◌, ℕ, List, length};
 ghost use Rattle.bitm.specs.Bits.{digit_count};
-ghost use Rattle.bitm.specs.Reads.{ReadsAtMost};
-ghost use Rattle.bitm.specs.Tables.{HasSizes};
+ghost use Rattle.bitm.specs.Reads.{none_read, ReadsAtMost};
+ghost use Rattle.bitm.specs.Tables.{HasSizes, HasTables};
 ghost use Rattle.elias_fano.specs.LentParts.{parts_of, parts_with, AreParts, Holds};
 ghost use Rattle.elias_fano.specs.Low.{sharing};
+ghost use Rattle.elias_fano.specs.Parts.{width_of, IsUpper};
 ghost use Rattle.postings.specs.Next.{IsNextAtLeast, IsReached};
 
 use crate::cursor::{Cursor, no_calls};
@@ -59,6 +60,12 @@ impl<'a> Seeker<'a> {
         ensures left { (xs : List ℕ) → Holds xs (parts_with len low.entry source.entry.lists) → result.left ≡ xs }
         ensures items { (xs : List ℕ) → Holds xs (parts_with len low.entry source.entry.lists) → result.items ≡ xs }
         ensures calls { result.calls ≡ 0 }
+        ensures reads { ReadsAtMost source.entry.reads result.reads
+            (3 * (digit_count (length source.entry.lists.upper) + 1)) (3 * 23) (3 * 8) }
+        ensures fragments { (xs : List ℕ) → Holds xs (parts_with len low.entry source.entry.lists)
+            → result.fragments ≤ low.entry.read + (digit_count (sharing xs low.entry.width 0) + 1) }
+        ensures lists { result.lists ≡ source.entry.lists }
+        ensures width { result.width ≡ low.entry.width }
     {
         laws::parts_hold_items();
         let mut source = source;
@@ -83,13 +90,20 @@ impl<'a> Seeker<'a> {
     /// A cursor at the first number of a sequence.
     ///
     /// # Cost
-    /// Three selections.
+    /// At most what three selections by binary search read, and the low bits of one number, and of one for each binary
+    /// digit of how many numbers share the high bits 0.
     pub fn of<S: SelectForRank101111, S0: Select0ForRank101111>(
         list: &'a Sequence<S, S0>,
     ) -> Seeker<'a>
         ensures left { result.left ≡ list.now.items }
         ensures items { result.items ≡ list.now.items }
         ensures calls { result.calls ≡ 0 }
+        ensures reads { ReadsAtMost none_read result.reads
+            (3 * (digit_count (length result.lists.upper) + 1)) (3 * 23) (3 * 8) }
+        ensures fragments { result.fragments ≤ digit_count (sharing result.items result.width 0) + 1 }
+        ensures words { IsUpper list.now.items (width_of list.now.items) result.lists.words }
+        ensures tables { HasTables result.lists }
+        ensures width { result.width ≡ width_of list.now.items }
     {
         laws::numbers_rise(list);
         index_laws::tables_have_sizes();
@@ -103,12 +117,18 @@ impl<'a> Seeker<'a> {
     /// # Conditions
     /// The parts are those of a sequence, with the tables of its upper words.
     /// # Cost
-    /// Three selections.
+    /// That of `of`.
     pub fn over(len: usize, width: u8, low: &'a [u64], upper: &'a Lent<'_>) -> Seeker<'a>
         requires { AreParts (parts_of len width low.now upper.now) }
         ensures left { (xs : List ℕ) → Holds xs (parts_of len width low.now upper.now) → result.left ≡ xs }
         ensures items { (xs : List ℕ) → Holds xs (parts_of len width low.now upper.now) → result.items ≡ xs }
         ensures calls { result.calls ≡ 0 }
+        ensures reads { ReadsAtMost none_read result.reads
+            (3 * (digit_count (length result.lists.upper) + 1)) (3 * 23) (3 * 8) }
+        ensures fragments { (xs : List ℕ) → Holds xs (parts_of len width low.now upper.now)
+            → result.fragments ≤ digit_count (sharing xs width 0) + 1 }
+        ensures lists { result.lists ≡ upper.now }
+        ensures width { result.width ≡ width }
     {
         let source = upper.probe();
         Seeker::start(source, LowDigits::new(low, width), len)
