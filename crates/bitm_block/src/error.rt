@@ -47,7 +47,7 @@ impl Error for OpenError {}
 /// Why no block was written; the words are as they were.
 #[derive(Clone, Copy, Debug, PartialEq, Eq)]
 pub enum WriteError {
-    /// There are more than 16 sections, or one of them has 2^58 items or more.
+    /// There are more than 16 sections, one of them has 2^58 items or more, or the block would have 2^60 words or more.
     TooLarge,
     /// The words are not as many as the block takes.
     WrongLength,
