@@ -1,7 +1,8 @@
 //! Words and tables in the caller's memory, and the index over them: what the calls of an index take.
-ghost use Rattle.std.specs.Prelude.{◌≡◌, ◌^◌, ◌<◌, ◌≤◌, SomeIff, length};
+ghost use Rattle.std.specs.Prelude.{◌≡◌, ◌≢◌, ◌^◌, ◌<◌, ◌≤◌, SomeIff, length};
 ghost use Rattle.bitm_view.specs.Cut.{IsSizedCut};
 ghost use Rattle.bitm_abi.specs.Index.{cut_of};
+ghost use Rattle.bitm_abi.specs.Samples.{lent_samples};
 
 use crate::samples::Samples;
 use bitm_view::{IndexView, Lent, LentSamples};
@@ -74,7 +75,10 @@ impl<'a> Index<'a> {
 
     /// The samples of the 1 bits; of the 0 bits where `BIT` is 0.
     #[inline(always)]
-    pub fn samples<const BIT: u8>(&self) -> LentSamples<'a> {
+    pub fn samples<const BIT: u8>(&self) -> LentSamples<'a>
+        ensures zeros { BIT ≡ 0 → result ≡ lent_samples self.now.zeros }
+        ensures ones { BIT ≢ 0 → result ≡ lent_samples self.now.ones }
+    {
         if BIT == 0 {
             self.zeros.lent()
         } else {
