@@ -193,22 +193,60 @@ static void any_hash(FuzzedDataProvider &from)
     }
 }
 
+// Answers of a tree that may be any: inside, or an error.
+static void inside(const bitm::result<bitm::maybe_position> &found, u64 end)
+{
+    MUST(!found || !*found || **found < end);
+}
+
+static void any_tree(FuzzedDataProvider &from)
+{
+    std::vector<u64> degrees(from.ConsumeIntegralInRange<std::size_t>(1, 200));
+    u64 left = degrees.size() - 1, open = 1;
+    for (u64 &it : degrees) {
+        it = from.ConsumeIntegralInRange<u64>(open == 1 && left > 0, std::min<u64>(left, 9));
+        left -= it, open += it, open--;
+    }
+    degrees.back() += left; // of no tree where there are some left
+    const auto t = bitm::tree::try_of(degrees);
+    MUST(t.has_value() == (left == 0));
+    if (!t) return;
+    u64 known = 1;
+    for (u64 node = 0; node < degrees.size(); node++) {
+        MUST(t->degree(node) == degrees[node]);
+        for (const u64 child : t->children(node)) MUST(child == known++ && t->parent(child) == node);
+    }
+    // anything after the header and the directory
+    std::vector<u64> block(t->block().begin(), t->block().end());
+    while (from.remaining_bytes() > 0)
+        block[from.ConsumeIntegralInRange<std::size_t>(32, block.size() - 1)] = from.ConsumeIntegral<u64>();
+    const bitm::tree_view wrong = bitm::tree_view::in(block);
+    MUST(!wrong.check() || wrong == *t);
+    for (u64 node = 0; node <= wrong.size(); node++) {
+        inside(wrong.try_parent(node), node), inside(wrong.try_child(node, 1), wrong.size());
+        inside(wrong.try_degree(node), wrong.size()), inside(wrong.try_child_rank(node), wrong.size());
+        inside(wrong.try_next_sibling(node), wrong.size()), inside(wrong.try_previous_sibling(node), node);
+    }
+}
+
 static void any_file(const unsigned char *data, std::size_t size)
 {
     (void)bitm::rank_index::try_of_bytes({data, size}, bitm::verify::yes).has_value();
     (void)bitm::sequence::try_of_bytes({data, size}, bitm::verify::yes).has_value();
     (void)bitm::perfect_hash::try_of_bytes({data, size}, bitm::verify::yes).has_value();
+    (void)bitm::tree::try_of_bytes({data, size}, bitm::verify::yes).has_value();
 }
 
 extern "C" int LLVMFuzzerTestOneInput(const unsigned char *data, std::size_t size)
 {
     if (size == 0) return 0;
     FuzzedDataProvider from(data + 1, size - 1);
-    switch (data[0] % 5) {
+    switch (data[0] < 250 ? data[0] % 5 : 5) {
     case 0: changes(from); break;
     case 1: any_index(from); break;
     case 2: any_sequence(from); break;
     case 3: any_hash(from); break;
+    case 5: any_tree(from); break;
     default: any_file(data + 1, size - 1);
     }
     return 0;

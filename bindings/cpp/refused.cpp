@@ -12,6 +12,7 @@ using words = std::vector<std::uint64_t>;
 bitm::bits some() { return bitm::bits(1000, true); }
 bitm::rank_index made() { return bitm::rank_index(words(1000, 5)); }
 bitm::sequence numbers() { return {1, 2, 3}; }
+bitm::tree grown() { return {2, 0, 1, 0}; }
 struct held {
     words w;
     const std::uint64_t *data() const { return w.data(); }
@@ -57,6 +58,12 @@ bitm::words_in kept()
     const words w(5);
     return w;
 }
+#elif CASE == 108
+bitm::tree_view local()
+{
+    const bitm::tree t = grown();
+    return t.view();
+}
 #elif CASE == 107
 void kept() { bitm::words_in w = words(5); (void)w; }
 #endif
@@ -74,6 +81,7 @@ int main()
     for (auto p : x.ones()) (void)p;
     for (bool b : made()) (void)b; // the index lives as long as the loop
     (void)query(v), (void)query(made().rank(3) ? x.view() : y.view());
+    for (auto child : grown().children(0)) (void)child; // numbers, which need no tree
 #elif CASE == 1 // an owner becomes a view, which would point at what it owns
     bitm::rank_index_view v = made();
 #elif CASE == 2
@@ -155,6 +163,19 @@ int main()
     bitm::bits_view v(b);
 #elif CASE == 38
     auto it = numbers().lower_bound(2);
+#elif CASE == 39 // of trees
+    auto v = grown().view();
+#elif CASE == 40
+    auto w = grown().block();
+#elif CASE == 41
+    auto &r = grown().raw();
+#elif CASE == 42
+    auto v = bitm::tree_view::in(words(100));
+#elif CASE == 43
+    bitm::tree_view v = grown();
+#elif CASE == 44
+    std::vector<int> degrees{1, 0};
+    bitm::tree t(degrees.begin(), degrees.end());
 #elif CASE == 110 // an answer that is not looked at
     bitm::rank_index::try_load("a");
 #elif CASE >= 100

@@ -102,7 +102,8 @@ enum class errc : std::uint8_t {
     wrong_file,               // not a file of this format, or not a whole one
     no_file,                  // the system does not open, read, map or write it
     equal_keys,               // two keys of a perfect hash have one hash
-    overlap                   // memory that is written overlaps what is read
+    overlap,                  // memory that is written overlaps what is read
+    no_tree                   // the degrees are those of no tree
 };
 
 // What went wrong: position `at` of `of` where it is `outside`; `at` is errno where it is `no_file`. `which` says which
@@ -130,6 +131,7 @@ struct failure {
         case errc::no_file: return "bitm: the file cannot be opened, read or written";
         case errc::equal_keys: return "bitm: two keys are equal, or their hashes are";
         case errc::overlap: return "bitm: memory that is written overlaps what is read";
+        case errc::no_tree: return "bitm: the degrees are those of no tree";
         }
         return "bitm: not an error of this library";
     }

@@ -186,6 +186,14 @@ inline result<bitm_stored> header_of(const std::uint64_t *file, std::size_t word
     return header;
 }
 
+// How many words a structure in a block has, by the first words of its header: 0 where they are not those of a block.
+constexpr std::size_t block_head = 3;
+constexpr std::uint64_t block_mark = 0x036261746D746962; // "bitmtab" and the version
+inline std::size_t block_len(const std::uint64_t *file, std::size_t words) noexcept
+{
+    return words < block_head || file[0] != block_mark ? 0 : static_cast<std::size_t>(file[2] / 8);
+}
+
 // The value: fails where there is none, with the name of the file where it is one that the system or the format refuses.
 template <class T> T of_file(result<T> made, const path_of &path)
 {
