@@ -29,7 +29,7 @@ impl fmt::Display for NoMemory {
 
 impl Error for NoMemory {}
 
-/// The tables are not those of the words, or the parts not those of a sequence or a hash.
+/// The tables are not those of the words, or the parts not those of a sequence, a hash or a tree.
 ///
 /// ```
 /// use bitm_proved::{IndexView, Queries, WrongTables};
@@ -49,7 +49,7 @@ impl fmt::Display for WrongTables {
 
 impl Error for WrongTables {}
 
-/// Why an index, a sequence or a hash was not built.
+/// Why an index, a sequence, a hash or a tree was not built.
 ///
 /// ```
 /// use bitm_proved::{BuildError, EliasFano};
@@ -91,6 +91,13 @@ pub enum BuildError {
         /// How many hashes got no number.
         left: usize,
     },
+    /// The degrees are those of no tree.
+    ///
+    /// ```
+    /// use bitm_proved::{BuildError, Tree};
+    /// assert_eq!(Tree::build(&[1, 1]).err(), Some(BuildError::NotATree)); // two children of two nodes
+    /// ```
+    NotATree,
     /// Memory was refused.
     ///
     /// ```
@@ -109,6 +116,7 @@ impl fmt::Display for BuildError {
                 write!(f, "number {index} is less than the one before it")
             }
             BuildError::EqualHashes { left } => write!(f, "{left} hashes are equal to others"),
+            BuildError::NotATree => f.write_str("the degrees are those of no tree"),
             BuildError::NoMemory(why) => why.fmt(f),
         }
     }
@@ -221,6 +229,20 @@ pub enum ListError {
         /// How many answers there is room for.
         room: usize,
     },
+    /// There is not one `k` for each node; nothing was written.
+    ///
+    /// ```
+    /// use bitm_proved::{ListError, Tree};
+    /// let refused = Tree::build(&[1, 0])?.child_list(&[0, 1], &[0], &mut [0; 2]);
+    /// assert_eq!(refused, Err(ListError::Pairs { nodes: 2, ks: 1 }));
+    /// # Ok::<(), bitm_proved::BuildError>(())
+    /// ```
+    Pairs {
+        /// How many nodes there are.
+        nodes: usize,
+        /// How many numbers of children there are.
+        ks: usize,
+    },
     /// The tables are not those of the words; `WRONG_TABLES` stands for the answers that it shows in.
     ///
     /// ```
@@ -241,6 +263,7 @@ impl fmt::Display for ListError {
             ListError::Lengths { queries, room } => {
                 write!(f, "there is room for {room} answers to {queries} queries")
             }
+            ListError::Pairs { nodes, ks } => write!(f, "there are {ks} numbers of children for {nodes} nodes"),
             ListError::WrongTables { wrong } => write!(f, "{WrongTables}: {wrong} answers show it"),
         }
     }

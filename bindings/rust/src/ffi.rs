@@ -8,3 +8,5 @@ pub(crate) mod index;
 pub(crate) mod sequence;
 #[rustfmt::skip]
 pub(crate) mod shards;
+#[rustfmt::skip]
+pub(crate) mod tree;

@@ -1,8 +1,9 @@
-//! Indexes and sequences over mapped files.
+//! Indexes, sequences and trees over mapped files.
 use crate::errors::OpenError;
 use crate::sys::index::Index;
 use crate::sys::mapped::Mapped;
 use crate::sys::owned::Sequence;
+use crate::sys::tree::owned::Tree;
 use std::path::Path;
 
 /// An index over a file that is mapped: one value has the file and answers.
@@ -33,6 +34,20 @@ pub type IndexFile = Index<Mapped>;
 /// # }
 /// ```
 pub type SequenceFile = Sequence<Mapped>;
+
+/// A tree over a file that is mapped: one value has the file and answers.
+///
+/// ```
+/// use bitm_proved::{bytes_of, Tree, TreeFile};
+/// # fn main() -> Result<(), Box<dyn std::error::Error>> {
+/// let path = std::env::temp_dir().join(format!("bitm-tree-{}", std::process::id()));
+/// std::fs::write(&path, bytes_of(Tree::build(&[2, 0, 1, 0])?.block()))?;
+/// assert_eq!(TreeFile::open(&path)?.parent(3), Some(2));
+/// # std::fs::remove_file(&path)?;
+/// # Ok(())
+/// # }
+/// ```
+pub type TreeFile = Tree<Mapped>;
 
 impl IndexFile {
     /// The index in a file. The contents of its parts are not tested: `check` does that. The file has to stay as it is.
@@ -70,5 +85,24 @@ impl SequenceFile {
     /// ```
     pub fn open(path: impl AsRef<Path>) -> Result<Self, OpenError> {
         Ok(Sequence::from_bytes(Mapped::open(path)?)?)
+    }
+}
+
+impl TreeFile {
+    /// The tree in a file. What its block holds is not tested: `check` does that. The file has to stay as it is.
+    ///
+    /// ```
+    /// use bitm_proved::{bytes_of, Tree, TreeFile};
+    /// # fn main() -> Result<(), Box<dyn std::error::Error>> {
+    /// let path = std::env::temp_dir().join(format!("bitm-tree-open-{}", std::process::id()));
+    /// std::fs::write(&path, bytes_of(Tree::build(&[2, 0, 1, 0])?.block()))?;
+    /// let tree = TreeFile::open(&path)?;
+    /// assert!(tree.check() && tree.len() == 4 && tree.children(0).eq([1, 2]));
+    /// # std::fs::remove_file(&path)?;
+    /// # Ok(())
+    /// # }
+    /// ```
+    pub fn open(path: impl AsRef<Path>) -> Result<Self, OpenError> {
+        Ok(Tree::from_bytes(Mapped::open(path)?)?)
     }
 }

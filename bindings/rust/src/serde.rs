@@ -2,6 +2,7 @@
 use crate::queries::Queries;
 use crate::sys::index::Index;
 use crate::sys::owned::{EliasFano, Sequence};
+use crate::sys::tree::owned::Tree;
 use alloc::vec::Vec;
 use serde::{de::Error as _, ser::Error as _, Deserialize, Deserializer, Serialize, Serializer};
 
@@ -32,5 +33,19 @@ impl<'de> Deserialize<'de> for EliasFano {
         let numbers = Sequence::from_words(Vec::deserialize(from)?).map_err(D::Error::custom)?;
         let right = numbers.check();
         right.then_some(numbers).ok_or_else(|| D::Error::custom(crate::WrongTables))
+    }
+}
+
+impl<O> Serialize for Tree<O> {
+    fn serialize<S: Serializer>(&self, to: S) -> Result<S::Ok, S::Error> {
+        self.block().serialize(to)
+    }
+}
+
+impl<'de> Deserialize<'de> for Tree {
+    fn deserialize<D: Deserializer<'de>>(from: D) -> Result<Self, D::Error> {
+        let tree = Tree::from_words(Vec::deserialize(from)?).map_err(D::Error::custom)?;
+        let right = tree.check();
+        right.then_some(tree).ok_or_else(|| D::Error::custom(crate::WrongTables))
     }
 }

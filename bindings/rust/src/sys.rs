@@ -15,11 +15,12 @@ pub(crate) mod sequence;
 pub(crate) mod shards;
 pub(crate) mod stored;
 pub(crate) mod tables;
+pub(crate) mod tree;
 pub(crate) mod view;
 pub(crate) mod writes;
 
 use crate::errors::WrongTables;
-pub(crate) use crate::ffi::bits::{BITM_NONE as NONE, BITM_OK as OK, BITM_UNSORTED as UNSORTED};
+pub(crate) use crate::ffi::bits::{BITM_NONE as NONE, BITM_OK as OK, BITM_UNSORTED as UNSORTED, BITM_WRONG as WRONG};
 use core::mem::MaybeUninit;
 
 /// The number of the archive's version: 10000 times the major, 100 times the minor one, and the patch.

@@ -1,0 +1,337 @@
+//! Trees (LOUDS), each in one block of memory: views of borrowed blocks.
+pub(crate) mod owned;
+
+use crate::errors::{BuildError, ListError, StoredError, WrongTables};
+use crate::ffi::index::bitm_list_counts;
+use crate::ffi::tree::*;
+use crate::sys::memory::{as_u64, as_u64_mut, words_of, zeroed};
+use crate::sys::view::list_answer;
+use crate::sys::{query, OK, WRONG};
+use alloc::vec::Vec;
+use core::ops::Range;
+use core::{fmt, ptr};
+
+type One = unsafe extern "C" fn(*const bitm_tree, usize, *mut u64) -> u32;
+type Many = unsafe extern "C" fn(*const bitm_tree, *const u64, usize, *mut u64, usize, *mut bitm_list_counts) -> u32;
+
+/// The first word of each block: the letters `bitmtab`, and the version.
+const MARK: u64 = u64::from_ne_bytes(*b"bitmtab\x03");
+
+/// A tree in a borrowed block, whose header is right. Its other words may hold anything; `check` tests it.
+///
+/// Nodes are numbered level by level: the root is node 0, and the children of a node follow one another, after those of
+/// the node before it.
+///
+/// ```
+/// use bitm_proved::{Tree, TreeView};
+/// let made = Tree::build(&[2, 0, 1, 0])?; // how many children each node has: 0 has 1 and 2, and 2 has 3
+/// let tree = TreeView::from_words(made.block())?;
+/// assert_eq!((tree.parent(3), tree.child(0, 1), tree.degree(0), tree.children(0)), (Some(2), Some(2), Some(2), 1..3));
+/// assert!(tree.check() && tree.len() == 4);
+/// # Ok::<(), Box<dyn std::error::Error>>(())
+/// ```
+#[derive(Clone, Copy)]
+pub struct TreeView<'a> {
+    raw: bitm_tree,
+    block: &'a [u64],
+}
+
+// SAFETY: the pointers lie in a shared slice, and no call has state.
+unsafe impl Send for TreeView<'_> {}
+// SAFETY: as of `Send`.
+unsafe impl Sync for TreeView<'_> {}
+
+/// The words of the block that begins a file, by its first words.
+fn block_in(file: &[u64]) -> Option<&[u64]> {
+    match *file {
+        [MARK, _, bytes, ..] => file.get(..(bytes / 8) as usize),
+        _ => None,
+    }
+}
+
+const NONE: bitm_tree = bitm_tree {
+    len: 0,
+    words: ptr::null(),
+    words_len: 0,
+    upper: ptr::null(),
+    upper_len: 0,
+    lower: ptr::null(),
+    lower_len: 0,
+    reserved: [0; 2],
+};
+
+impl<'a> TreeView<'a> {
+    /// Of the block that begins the words of a file. What its sections hold is not tested: `check` does that.
+    ///
+    /// ```
+    /// use bitm_proved::{StoredError, Tree, TreeView};
+    /// let made = Tree::build(&[2, 0, 1, 0])?;
+    /// assert_eq!(TreeView::from_words(made.block())?.parent(3), Some(2));
+    /// assert_eq!(TreeView::from_words(&made.block()[1..]).err(), Some(StoredError::NotWhole));
+    /// # Ok::<(), Box<dyn std::error::Error>>(())
+    /// ```
+    pub fn from_words(file: &'a [u64]) -> Result<Self, StoredError> {
+        let (block, mut raw) = (block_in(file).ok_or(StoredError::NotWhole)?, NONE);
+        // SAFETY: a slice, and a struct of zeros, which the call may write.
+        match unsafe { bitm_tree_open(block.as_ptr(), block.len(), &mut raw) } {
+            OK => Ok(TreeView { raw, block }),
+            _ => Err(StoredError::NotWhole),
+        }
+    }
+
+    /// Of the bytes of a file, which begin at a multiple of 8.
+    ///
+    /// ```
+    /// use bitm_proved::{bytes_of, StoredError, Tree, TreeView};
+    /// let made = Tree::build(&[2, 0, 1, 0])?;
+    /// assert_eq!(TreeView::from_bytes(bytes_of(made.block()))?.len(), 4);
+    /// assert_eq!(TreeView::from_bytes(&bytes_of(made.block())[1..]).err(), Some(StoredError::Misaligned));
+    /// # Ok::<(), Box<dyn std::error::Error>>(())
+    /// ```
+    pub fn from_bytes(bytes: &'a [u8]) -> Result<Self, StoredError> {
+        Self::from_words(words_of(bytes).ok_or(StoredError::Misaligned)?)
+    }
+
+    /// The words of the block, which are those of a file of this tree.
+    ///
+    /// ```
+    /// use bitm_proved::{Tree, TreeView};
+    /// let made = Tree::build(&[1, 0])?;
+    /// let mut file = made.block().to_vec();
+    /// file.push(7); // no word of the block
+    /// assert_eq!(TreeView::from_words(&file)?.block(), made.block());
+    /// # Ok::<(), Box<dyn std::error::Error>>(())
+    /// ```
+    #[inline]
+    pub fn block(&self) -> &'a [u64] {
+        self.block
+    }
+
+    /// How many nodes there are.
+    ///
+    /// ```
+    /// assert_eq!(bitm_proved::Tree::build(&[2, 0, 1, 0])?.view().len(), 4);
+    /// # Ok::<(), bitm_proved::BuildError>(())
+    /// ```
+    #[inline]
+    pub fn len(&self) -> usize {
+        self.raw.len
+    }
+
+    /// Whether there are none, which is so of no tree that was built, and of no block that passes `check`.
+    ///
+    /// ```
+    /// assert!(!bitm_proved::Tree::build(&[0])?.view().is_empty());
+    /// # Ok::<(), bitm_proved::BuildError>(())
+    /// ```
+    #[inline]
+    pub fn is_empty(&self) -> bool {
+        self.len() == 0
+    }
+
+    /// Whether the block is as it was written and holds a tree: looks at all of it, three times.
+    ///
+    /// ```
+    /// use bitm_proved::{Tree, TreeView};
+    /// let mut block = Tree::build(&[2, 0, 1, 0])?.into_owner();
+    /// assert!(TreeView::from_words(&block)?.check());
+    /// block[40] ^= 1;
+    /// assert!(!TreeView::from_words(&block)?.check());
+    /// # Ok::<(), Box<dyn std::error::Error>>(())
+    /// ```
+    pub fn check(&self) -> bool {
+        // SAFETY: a slice.
+        unsafe { bitm_tree_check(self.block.as_ptr(), self.block.len()) == OK }
+    }
+
+    #[inline(always)]
+    fn call(&self, call: One, node: usize) -> Result<Option<usize>, WrongTables> {
+        // SAFETY: a view, which borrows its block, and room for the number that a call writes where it returns OK.
+        let found = unsafe { query(|out| call(&self.raw, node, out)) };
+        Ok(found?.map(|it| it as usize))
+    }
+
+    /// The parent of a node; `None` exactly at the root and where there is no such node.
+    ///
+    /// ```
+    /// let tree = bitm_proved::Tree::build(&[2, 0, 1, 0])?;
+    /// assert_eq!((tree.view().checked_parent(3), tree.view().checked_parent(0)), (Ok(Some(2)), Ok(None)));
+    /// # Ok::<(), bitm_proved::BuildError>(())
+    /// ```
+    #[inline]
+    pub fn checked_parent(&self, node: usize) -> Result<Option<usize>, WrongTables> {
+        self.call(bitm_tree_parent, node)
+    }
+
+    /// Child `k` of a node, counted from 0; `None` exactly where it has no more than `k` children, or there is no such
+    /// node.
+    ///
+    /// ```
+    /// let tree = bitm_proved::Tree::build(&[2, 0, 1, 0])?;
+    /// assert_eq!((tree.view().checked_child(0, 1), tree.view().checked_child(0, 2)), (Ok(Some(2)), Ok(None)));
+    /// # Ok::<(), bitm_proved::BuildError>(())
+    /// ```
+    #[inline]
+    pub fn checked_child(&self, node: usize, k: usize) -> Result<Option<usize>, WrongTables> {
+        // SAFETY: a view, which borrows its block, and room for the number that the call writes where it returns OK.
+        let found = unsafe { query(|out| bitm_tree_child(&self.raw, node, k, out)) };
+        Ok(found?.map(|it| it as usize))
+    }
+
+    /// How many children a node has; `None` exactly where there is no such node.
+    ///
+    /// ```
+    /// let tree = bitm_proved::Tree::build(&[2, 0, 1, 0])?;
+    /// assert_eq!((tree.view().checked_degree(0), tree.view().checked_degree(4)), (Ok(Some(2)), Ok(None)));
+    /// # Ok::<(), bitm_proved::BuildError>(())
+    /// ```
+    #[inline]
+    pub fn checked_degree(&self, node: usize) -> Result<Option<usize>, WrongTables> {
+        self.call(bitm_tree_degree, node)
+    }
+
+    /// The children of a node, which follow one another; none where there is no such node.
+    ///
+    /// ```
+    /// let tree = bitm_proved::Tree::build(&[2, 0, 1, 0])?;
+    /// assert_eq!((tree.view().checked_children(0), tree.view().checked_children(9)), (Ok(1..3), Ok(0..0)));
+    /// # Ok::<(), bitm_proved::BuildError>(())
+    /// ```
+    pub fn checked_children(&self, node: usize) -> Result<Range<usize>, WrongTables> {
+        let degree = self.checked_degree(node)?.unwrap_or(0);
+        let first = if degree > 0 { self.checked_child(node, 0)? } else { None };
+        Ok(first.map_or(0..0, |first| first..first + degree))
+    }
+
+    /// Whether a node has no children; `None` exactly where there is no such node.
+    ///
+    /// ```
+    /// let tree = bitm_proved::Tree::build(&[2, 0, 1, 0])?;
+    /// assert_eq!((tree.view().checked_is_leaf(1), tree.view().checked_is_leaf(4)), (Ok(Some(true)), Ok(None)));
+    /// # Ok::<(), bitm_proved::BuildError>(())
+    /// ```
+    #[inline]
+    pub fn checked_is_leaf(&self, node: usize) -> Result<Option<bool>, WrongTables> {
+        Ok(self.call(bitm_tree_is_leaf, node)?.map(|it| it == 1))
+    }
+
+    /// The child of a node's parent after it; `None` exactly at the last child, at the root and where there is no such
+    /// node.
+    ///
+    /// ```
+    /// let tree = bitm_proved::Tree::build(&[2, 0, 1, 0])?;
+    /// let view = tree.view();
+    /// assert_eq!((view.checked_next_sibling(1), view.checked_next_sibling(2)), (Ok(Some(2)), Ok(None)));
+    /// # Ok::<(), bitm_proved::BuildError>(())
+    /// ```
+    #[inline]
+    pub fn checked_next_sibling(&self, node: usize) -> Result<Option<usize>, WrongTables> {
+        self.call(bitm_tree_next_sibling, node)
+    }
+
+    /// The child of a node's parent before it; `None` exactly at the first child, at the root and where there is no such
+    /// node.
+    ///
+    /// ```
+    /// let tree = bitm_proved::Tree::build(&[2, 0, 1, 0])?;
+    /// let view = tree.view();
+    /// assert_eq!((view.checked_previous_sibling(2), view.checked_previous_sibling(1)), (Ok(Some(1)), Ok(None)));
+    /// # Ok::<(), bitm_proved::BuildError>(())
+    /// ```
+    #[inline]
+    pub fn checked_previous_sibling(&self, node: usize) -> Result<Option<usize>, WrongTables> {
+        self.call(bitm_tree_previous_sibling, node)
+    }
+
+    /// Which child of its parent a node is, counted from 0; `None` exactly at the root and where there is no such node.
+    ///
+    /// ```
+    /// let tree = bitm_proved::Tree::build(&[2, 0, 1, 0])?;
+    /// assert_eq!((tree.view().checked_child_rank(2), tree.view().checked_child_rank(0)), (Ok(Some(1)), Ok(None)));
+    /// # Ok::<(), bitm_proved::BuildError>(())
+    /// ```
+    #[inline]
+    pub fn checked_child_rank(&self, node: usize) -> Result<Option<usize>, WrongTables> {
+        self.call(bitm_tree_child_rank, node)
+    }
+
+    fn list(&self, call: Many, nodes: &[usize], out: &mut [usize]) -> Result<usize, ListError> {
+        let (len, room) = (nodes.len(), out.len());
+        let mut counts = bitm_list_counts { missing: 0, wrong: 0 };
+        let (from, to) = (as_u64(nodes).as_ptr(), as_u64_mut(out).as_mut_ptr());
+        // SAFETY: a view, a shared and a mutable slice, which do not overlap, and room for the counts.
+        let status = unsafe { call(&self.raw, from, len, to, room, &mut counts) };
+        list_answer(status, counts, len, room)
+    }
+
+    /// The parents of a list of nodes; how many have none, which `NO_ANSWER` stands for.
+    ///
+    /// ```
+    /// use bitm_proved::{Tree, NO_ANSWER};
+    /// let (tree, mut out) = (Tree::build(&[2, 0, 1, 0])?, [9; 3]);
+    /// assert_eq!(tree.view().parent_list(&[0, 1, 3], &mut out), Ok(1));
+    /// assert_eq!(out, [NO_ANSWER, 0, 2]);
+    /// # Ok::<(), bitm_proved::BuildError>(())
+    /// ```
+    pub fn parent_list(&self, nodes: &[usize], out: &mut [usize]) -> Result<usize, ListError> {
+        self.list(bitm_tree_parent_list, nodes, out)
+    }
+
+    /// How many children each node of a list has; of how many there is none, which `NO_ANSWER` stands for.
+    ///
+    /// ```
+    /// use bitm_proved::{Tree, NO_ANSWER};
+    /// let (tree, mut out) = (Tree::build(&[2, 0, 1, 0])?, [9; 3]);
+    /// assert_eq!(tree.view().degree_list(&[0, 1, 4], &mut out), Ok(1));
+    /// assert_eq!(out, [2, 0, NO_ANSWER]);
+    /// # Ok::<(), bitm_proved::BuildError>(())
+    /// ```
+    pub fn degree_list(&self, nodes: &[usize], out: &mut [usize]) -> Result<usize, ListError> {
+        self.list(bitm_tree_degree_list, nodes, out)
+    }
+
+    /// Child `ks[i]` of each node `nodes[i]` of a list; how many there are not, which `NO_ANSWER` stands for.
+    ///
+    /// ```
+    /// use bitm_proved::{ListError, Tree, NO_ANSWER};
+    /// let (tree, mut out) = (Tree::build(&[2, 0, 1, 0])?, [9; 3]);
+    /// assert_eq!(tree.view().child_list(&[0, 0, 2], &[1, 2, 0], &mut out), Ok(1));
+    /// assert_eq!(out, [2, NO_ANSWER, 3]);
+    /// assert_eq!(tree.view().child_list(&[0, 0, 2], &[1], &mut out), Err(ListError::Pairs { nodes: 3, ks: 1 }));
+    /// # Ok::<(), bitm_proved::BuildError>(())
+    /// ```
+    pub fn child_list(&self, nodes: &[usize], ks: &[usize], out: &mut [usize]) -> Result<usize, ListError> {
+        if ks.len() != nodes.len() {
+            return Err(ListError::Pairs { nodes: nodes.len(), ks: ks.len() });
+        }
+        let (len, room) = (nodes.len(), out.len());
+        let mut counts = bitm_list_counts { missing: 0, wrong: 0 };
+        let (from, of, to) = (as_u64(nodes).as_ptr(), as_u64(ks).as_ptr(), as_u64_mut(out).as_mut_ptr());
+        // SAFETY: a view, two shared slices and a mutable one, which overlaps neither, and room for the counts.
+        let status = unsafe { bitm_tree_child_list(&self.raw, from, len, of, len, to, room, &mut counts) };
+        list_answer(status, counts, len, room)
+    }
+}
+
+impl fmt::Debug for TreeView<'_> {
+    fn fmt(&self, f: &mut fmt::Formatter<'_>) -> fmt::Result {
+        write!(f, "a tree of {} nodes", self.len())
+    }
+}
+
+/// The block of the tree whose nodes have these degrees.
+pub(crate) fn build(degrees: &[u64]) -> Result<Vec<u64>, BuildError> {
+    let too_long = BuildError::TooLong { len: degrees.len() };
+    let mut words = 0;
+    // SAFETY: a number is passed, and room for one.
+    if unsafe { bitm_tree_size(degrees.len(), &mut words) } != OK {
+        return Err(too_long);
+    }
+    let mut block = zeroed(words as usize)?;
+    // SAFETY: a shared and a mutable slice, which do not overlap.
+    match unsafe { bitm_tree_build(degrees.as_ptr(), degrees.len(), block.as_mut_ptr(), block.len()) } {
+        OK => Ok(block),
+        WRONG => Err(BuildError::NotATree),
+        _ => Err(too_long),
+    }
+}
