@@ -267,6 +267,10 @@ PyObject *more(const char *name, PyObject *args);
 typedef uint32_t (*list_call)(const Memory *memory, bool one, const uint64_t *in, uint64_t *out, size_t count,
                               struct bitm_list_counts *counts);
 
+/* The same of pairs of numbers. */
+typedef uint32_t (*pairs_call)(const Memory *memory, const uint64_t *first, const uint64_t *second, uint64_t *out,
+                               size_t count, struct bitm_list_counts *counts);
+
 /* What is made of the answers: plain numbers (each item has one), or numbers of which some may be missing, or bools. */
 enum { EACH, SOME, BOOLS };
 
@@ -274,6 +278,11 @@ enum { EACH, SOME, BOOLS };
  * copied, and the GIL is given back while they are answered. */
 PyObject *ask_list(PyObject *self, list_call call, bool one, int kind, const char *name, const char *what,
                    PyObject *const *args, Py_ssize_t count, PyObject *keywords);
+
+/* Answers to pairs of queries, in the manner of the first of the two lists, each of which may have none. `names` are those
+ * of the two arguments and "*missing". ValueError where the lists are not as long as each other. */
+PyObject *ask_pairs(PyObject *self, pairs_call call, const char *name, const char *const names[3],
+                    const char *const whats[2], PyObject *const *args, Py_ssize_t count, PyObject *keywords);
 
 /* The room for answers and what they become: begin, room, then end or drop. */
 typedef struct {

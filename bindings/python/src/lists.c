@@ -93,20 +93,38 @@ typedef struct {
     uint64_t missing;
 } Outcome;
 
-static Outcome run(list_call call, bool one, int kind, const Memory *memory, const Integers *queries, uint64_t *out)
+/* The queries of a list: of one number each, answered by `call`, or of two, of which `second` has the other, by `pairs`. */
+typedef struct {
+    list_call call;
+    pairs_call pairs;
+    bool one;
+    int kind;
+    Integers first, second;
+} Queries;
+
+/* Copies queries as long as neither number is below 0, and says how many. */
+static size_t load(const Queries *it, size_t at, size_t count, uint64_t *first, uint64_t *second)
 {
-    uint64_t in[BLOCK];
+    size_t found = integers_load(&it->first, at, count, first);
+    return it->pairs == NULL ? found : integers_load(&it->second, at, found, second);
+}
+
+static Outcome run(const Queries *queries, const Memory *memory, uint64_t *out)
+{
+    uint64_t in[BLOCK], second[BLOCK];
     Outcome it = {DONE, 0, 0};
-    for (; it.at < queries->len; it.at += BLOCK) {
+    for (; it.at < queries->first.len; it.at += BLOCK) {
         struct bitm_list_counts counts = {0, 0};
-        size_t count = queries->len - it.at < BLOCK ? queries->len - it.at : BLOCK,
-               found = integers_load(queries, it.at, count, in);
-        uint32_t status = call(memory, one, in, out + it.at, found, &counts);
+        size_t left = queries->first.len - it.at, count = left < BLOCK ? left : BLOCK,
+               found = load(queries, it.at, count, in, second);
+        uint32_t status = queries->pairs == NULL
+                              ? queries->call(memory, queries->one, in, out + it.at, found, &counts)
+                              : queries->pairs(memory, in, second, out + it.at, found, &counts);
         it.missing += counts.missing;
-        it.why = counts.missing && kind != SOME      ? PAST
-                 : status != BITM_OK || counts.wrong ? WRONG
-                 : found < count                     ? BELOW
-                                                     : DONE;
+        it.why = counts.missing && queries->kind != SOME ? PAST
+                 : status != BITM_OK || counts.wrong     ? WRONG
+                 : found < count                         ? BELOW
+                                                         : DONE;
         if (it.why == PAST)
             while (out[it.at] != BITM_NO_ANSWER)
                 it.at++;
@@ -118,44 +136,75 @@ static Outcome run(list_call call, bool one, int kind, const Memory *memory, con
     return it;
 }
 
-static void refuse(const Outcome *it, const Integers *queries, const char *what)
+static void refuse(const Outcome *it, const Queries *queries, const char *const whats[2])
 {
     uint64_t query = 0;
     if (it->why == WRONG) {
         (void)wrong();
     } else if (it->why == BELOW) {
-        integers_below(queries, it->at, what);
+        int of_first = integers_load(&queries->first, it->at, 1, &query) == 0;
+        integers_below(of_first ? &queries->first : &queries->second, it->at, whats[of_first ? 0 : 1]);
     } else {
-        (void)integers_load(queries, it->at, 1, &query);
-        PyErr_Format(PyExc_IndexError, "%s is past the end: %llu, item %zu of the list", what,
+        (void)integers_load(&queries->first, it->at, 1, &query);
+        PyErr_Format(PyExc_IndexError, "%s is past the end: %llu, item %zu of the list", whats[0],
                      (unsigned long long)query, it->at);
     }
+}
+
+/* The answers to queries that were taken. */
+static PyObject *answered(PyObject *self, const Queries *queries, Answers *answers, const char *const whats[2])
+{
+    PyObject *made = NULL;
+    /* The Python code of the arguments has run; now the reference keeps the memory, whoever closes the value. */
+    Memory *memory = memory_kept(self);
+    if (memory != NULL && answers_room(answers, queries->first.len) == 0) {
+        Outcome outcome;
+        Py_BEGIN_ALLOW_THREADS
+        outcome = run(queries, memory, answers->out);
+        Py_END_ALLOW_THREADS
+        if (outcome.why == DONE)
+            made = answers_end(answers, outcome.missing);
+        else
+            refuse(&outcome, queries, whats);
+    }
+    answers_drop(answers);
+    DROP(memory);
+    return made;
 }
 
 PyObject *ask_list(PyObject *self, list_call call, bool one, int kind, const char *name, const char *what,
                    PyObject *const *args, Py_ssize_t count, PyObject *keywords)
 {
     static const char *const names[] = {"queries", "*missing"};
-    PyObject *given[2] = {NULL, NULL}, *made = NULL;
+    const char *const whats[2] = {what, what};
+    PyObject *given[2] = {NULL, NULL};
     Answers answers;
-    Integers queries;
+    Queries queries = {.call = call, .one = one, .kind = kind};
     if (pick(name, names, 1, kind == SOME ? 2 : 1, args, count, keywords, given) ||
-        answers_begin(&answers, given[0], given[1], kind) || integers_take(&queries, given[0], what))
+        answers_begin(&answers, given[0], given[1], kind) || integers_take(&queries.first, given[0], what))
         return NULL;
-    /* The Python code of the arguments has run; now the reference keeps the memory, whoever closes the value. */
-    Memory *memory = memory_kept(self);
-    if (memory != NULL && answers_room(&answers, queries.len) == 0) {
-        Outcome outcome;
-        Py_BEGIN_ALLOW_THREADS
-        outcome = run(call, one, kind, memory, &queries, answers.out);
-        Py_END_ALLOW_THREADS
-        if (outcome.why == DONE)
-            made = answers_end(&answers, outcome.missing);
+    PyObject *made = answered(self, &queries, &answers, whats);
+    integers_drop(&queries.first);
+    return made;
+}
+
+PyObject *ask_pairs(PyObject *self, pairs_call call, const char *name, const char *const names[3],
+                    const char *const whats[2], PyObject *const *args, Py_ssize_t count, PyObject *keywords)
+{
+    PyObject *given[3] = {NULL, NULL, NULL}, *made = NULL;
+    Answers answers;
+    Queries queries = {.pairs = call, .kind = SOME};
+    if (pick(name, names, 2, 3, args, count, keywords, given) || answers_begin(&answers, given[0], given[2], SOME) ||
+        integers_take(&queries.first, given[0], whats[0]))
+        return NULL;
+    if (integers_take(&queries.second, given[1], whats[1]) == 0) {
+        if (queries.first.len == queries.second.len)
+            made = answered(self, &queries, &answers, whats);
         else
-            refuse(&outcome, &queries, what);
+            PyErr_Format(PyExc_ValueError, "%zu %s and %zu %s: there has to be one for each", queries.first.len,
+                         names[0], queries.second.len, names[1]);
+        integers_drop(&queries.second);
     }
-    answers_drop(&answers);
-    DROP(memory);
-    integers_drop(&queries);
+    integers_drop(&queries.first);
     return made;
 }

@@ -139,6 +139,18 @@ static PyObject *tree_children(PyObject *self, PyObject *value)
 LIST(parent, bitm_tree_parent_list)
 LIST(degree, bitm_tree_degree_list)
 
+static uint32_t childs(const Memory *it, const uint64_t *nodes, const uint64_t *ks, uint64_t *out, size_t count,
+                       struct bitm_list_counts *counts)
+{
+    return bitm_tree_child_list(&it->tree, nodes, count, ks, count, out, count, counts);
+}
+
+static PyObject *tree_child_list(PyObject *self, PyObject *const *args, Py_ssize_t count, PyObject *keywords)
+{
+    static const char *const names[] = {"nodes", "ks", "*missing"}, *const whats[] = {"a node", "k"};
+    return ask_pairs(self, childs, "child_list", names, whats, args, count, keywords);
+}
+
 /* ---- the rest */
 
 static PyObject *tree_check(PyObject *self, PyObject *none)
@@ -190,6 +202,9 @@ static PyMethodDef methods[] = {
           EXAMPLE("Tree([2, 0, 1, 0]).parent_list([0, 1, 3])") PRINTS("[None, 0, 2]")),
     NAMED(degree_list, "($self, queries, *, missing=None)", "How many children each node of a list has, in its manner."
           EXAMPLE("Tree([2, 0, 1, 0]).degree_list([0, 1, 3])") PRINTS("[2, 0, 0]")),
+    NAMED(child_list, "($self, nodes, ks, *, missing=None)",
+          "Child ks[i] of each node nodes[i] of a list, in the manner of the nodes." EXAMPLE(
+              "Tree([2, 0, 1, 0]).child_list([0, 0, 2], [1, 2, 0])") PRINTS("[2, None, 3]")),
     METHOD("check", tree_check, METH_NOARGS, "($self, /)",
            "Whether the block is as it was written and holds a tree: looks at all of it."
            EXAMPLE("Tree([2, 0, 1, 0]).check()") PRINTS("True")),

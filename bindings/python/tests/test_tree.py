@@ -1,4 +1,5 @@
 """Tree beside plain lists of parents and children; files and buffers of blocks, of which bytes were changed or cut off."""
+import array
 import copy
 import pickle
 import random
@@ -45,6 +46,9 @@ def test_answers_are_those_of_plain_lists(degrees):
     assert tree.parent_list(nodes) == parents + [None]
     assert tree.degree_list(nodes) == degrees + [None]
     assert tree.degree_list(nodes, missing=7) == degrees + [7]
+    ks = [node % 3 for node in nodes]
+    wanted = [tree.child(node, k) for node, k in zip(nodes, ks)]
+    assert tree.child_list(nodes, ks) == wanted and tree.child_list(nodes=nodes, ks=iter(ks)) == wanted
 
 
 def test_no_such_node_has_no_answer():
@@ -59,6 +63,27 @@ def test_no_such_node_has_no_answer():
                 ask(wrong)
     with pytest.raises(TypeError):
         tree.child(0)
+
+
+def test_pairs_of_a_list_are_as_many_and_numbers():
+    tree = Tree([2, 0, 1, 0])
+    assert tree.child_list([], []) == [] and tree.child_list([0, 9, 2**64 - 1], [2**64 - 1, 0, 0]) == [None] * 3
+    assert tree.child_list((0, 0), b"\x00\x01") == [1, 2]
+    with pytest.raises(ValueError, match="2 nodes and 1 ks"):
+        tree.child_list([0, 0], [1])
+    with pytest.raises(IndexError):
+        tree.child_list([0, 0], [1, 2], missing="error")
+    for nodes, ks, error in (([-1], [0], OverflowError), ([0], [-1], OverflowError), (["0"], [0], TypeError), ([0], [0.5], TypeError), ([0], 3, TypeError)):
+        with pytest.raises(error):
+            tree.child_list(nodes, ks)
+    with pytest.raises(TypeError):
+        tree.child_list([0])
+    many = [0, 2] * 5000
+    assert tree.child_list(many, [0] * len(many)) == [1, 3] * 5000
+    below = array.array("q", [0] * 9999 + [-1])
+    for nodes, ks, which in ((many, below, "k"), (below, many, "a node")):
+        with pytest.raises(OverflowError, match=f"^{which} has to be at least 0"):
+            tree.child_list(nodes, ks)
 
 
 @pytest.mark.parametrize("degrees", [[], [0, 0], [1, 1], [0, 1], [2, 0], [1, 0, 1], [2**64 - 1, 1], [2**64 - 1, 2]])
