@@ -88,8 +88,10 @@ function firstAtLeast(items, x) {
     return low;
 }
 
-/** A loop of its own for each function, so that none slows down another. */
-const loop = () => new Function("queries", "ask", "let sum = 0; for (let k = 0; k < queries.length; k++) sum += ask(queries[k]); return sum;");
+/** A loop of its own for each function, so that none slows down another: of a text of its own, since V8 keeps what it learned
+ * of a loop for all functions of the same text. */
+let loops = 0;
+const loop = () => new Function("queries", "ask", `/* ${loops++} */ let sum = 0; for (let k = 0; k < queries.length; k++) sum += ask(queries[k]); return sum;`);
 const total = answers => answers.reduce((sum, it) => sum + it, 0);
 
 /** Times some ways to answer the same queries. The first ones are ours. */
