@@ -1,9 +1,10 @@
-// src/web.js and all that it imports, in one file: made by one_file.mjs. sha256 of the sources: 43607a2a0dea6b3a07755f5cbf2f4a8f86c536b25b259c269cfcc3c67355306c
+// src/web.js and all that it imports, in one file: made by one_file.mjs. sha256 of the sources: e3af69985708e972769b77fc2bee34bdf614cb292a24bd53fd198399a6b0810a
 
 // src/core.js
 var VERSION = "0.3.0";
 var VERSION_NUMBER = 300;
 var PAGE = 65536;
+var OURS = 2 * PAGE;
 var early = { get: () => {
   throw new Error("bitm: no value can be made before start() has ended");
 } };
@@ -12,6 +13,7 @@ var wasm = new Proxy({}, early);
 var calls = wasm;
 var ANSWER;
 var BESIDE;
+var PIECES;
 var firstFree;
 function has64() {
   return WebAssembly.validate(Uint8Array.of(0, 97, 115, 109, 1, 0, 0, 0, 5, 3, 1, 4, 1));
@@ -37,7 +39,7 @@ async function instance(from, given) {
 }
 function imports(library2) {
   const answer = library2.memory.buffer.byteLength;
-  grow(library2.memory, 1);
+  grow(library2.memory, OURS / PAGE);
   return { bitm: { ...library2, answer: new WebAssembly.Global({ value: "i64" }, BigInt(answer)) } };
 }
 function adopt(library2, linked) {
@@ -47,8 +49,9 @@ function adopt(library2, linked) {
   wasm = library2;
   calls = linked;
   firstFree = library2.memory.buffer.byteLength;
-  ANSWER = firstFree - PAGE;
+  ANSWER = firstFree - OURS;
   BESIDE = ANSWER + 64;
+  PIECES = ANSWER + PAGE / 2;
 }
 function grow(memory, pages) {
   try {
@@ -343,7 +346,7 @@ function must(got, name) {
     throw refused(-Math.abs(got), name);
 }
 function byBigInts(name, at, value) {
-  const status = wasm[name](BigInt(at), value, BigInt(ANSWER));
+  const status = wasm[name](BigInt(at), big(value, "value"), BigInt(ANSWER));
   return status === STATUS.OK ? numberAt(ANSWER) : -status;
 }
 function orNone(got, name, it) {
@@ -364,16 +367,19 @@ function orThrow(got, name, it) {
 // src/lists.js
 var SMALL = [Uint8Array, Uint8ClampedArray, Uint16Array, Int8Array, Int16Array, Int32Array, Float32Array];
 var MISSING = 2n ** 64n - 1n;
+var PIECE = 4096;
 var NO_ANSWER = MISSING;
 function numbersOf(given, name) {
   if (ArrayBuffer.isView(given)) {
     if (given instanceof DataView)
       throw new TypeError(`bitm: ${name}: a DataView is no list of numbers`);
     given.at(0);
+    if (given instanceof Float64Array)
+      return { items: new Float64Array(given.buffer, given.byteOffset, given.length), form: "doubles" };
+    if (given instanceof Uint32Array)
+      return { items: new Uint32Array(given.buffer, given.byteOffset, given.length), form: "doubles" };
     if (given instanceof BigUint64Array)
-      return { items: given, form: "words" };
-    if (given instanceof Uint32Array || given instanceof Float64Array)
-      return { items: given, form: "doubles" };
+      return { items: new BigUint64Array(given.buffer, given.byteOffset, given.length), form: "words" };
     if (SMALL.some((it) => given instanceof it))
       return { items: Float64Array.from(given), form: "doubles" };
   }
@@ -385,47 +391,111 @@ function numbersOf(given, name) {
       return { items: BigUint64Array.from(items, (it) => big(it, `an item of ${name}`)), form: "plain" };
   return { items: Float64Array.from(items), form: "plain" };
 }
-function copyIn(items, at, name) {
+var roomAt = (at, n) => ({ at, doubles: doublesAt(at, n), words: wordsAt(at, n), halves: halvesAt(at, n), bytes: bytesAt(at, n) });
+var pieces = { buffer: void 0 };
+function roomsOfPiece() {
+  const { buffer } = wasm.memory;
+  if (pieces.buffer !== buffer)
+    pieces = { buffer, rooms: [0, 1, 2].map((it) => roomAt(PIECES + 8 * PIECE * it, PIECE)) };
+  return pieces.rooms;
+}
+function put(items, room, name, index) {
   const n = items.length;
   if (items instanceof BigUint64Array)
-    wordsAt(at, n).set(items);
+    room.words.set(items);
   else if (items instanceof Uint32Array) {
-    halvesAt(at + 4 * n, n).set(items);
-    calls.from_32(at, n);
+    room.halves.set(items);
+    calls.from_32(room.at, n);
   } else {
-    doublesAt(at, n).set(items);
-    const good = calls.from_doubles(at, n);
+    room.doubles.set(items);
+    const good = calls.from_doubles(room.at, n);
     if (good < n)
-      throw notWhole(`item ${good} of ${name}`, items[good]);
+      throw notWhole(`item ${index + good} of ${name}`, items[good]);
   }
 }
-function copyOut(at, n, form, canMiss) {
+function answersIn(room, n, form, missing) {
+  if (missing === "flags") {
+    calls.to_bytes(room.at, n);
+    const flags = room.bytes.subarray(0, n);
+    return form === "plain" ? Array.from(flags, (it) => it === 1) : flags;
+  }
   if (form === "words")
-    return wordsAt(at, n).slice();
+    return room.words.subarray(0, n);
+  const canMiss = missing === "fill", good = calls.to_doubles(room.at, n, canMiss ? 1 : 0);
   if (form === "plain")
-    return Array.from(wordsAt(at, n), (it) => canMiss && it === MISSING ? void 0 : smallest(it));
-  const good = calls.to_doubles(at, n, canMiss ? 1 : 0);
+    return plainIn(room, good, n, canMiss);
   if (good < n)
     throw new RangeError("bitm: an answer is 2^53 or more: ask with a BigUint64Array");
-  return doublesAt(at, n).slice();
+  return room.doubles.subarray(0, n);
 }
-function flagsOut(at, n, form) {
-  calls.to_bytes(at, n);
-  return form === "plain" ? Array.from(bytesAt(at, n), (it) => it === 1) : bytesAt(at, n).slice();
+function plainIn({ doubles, words }, good, n, canMiss) {
+  const found = [];
+  for (let k = 0; k < good; k++)
+    found.push(canMiss && Number.isNaN(doubles[k]) ? void 0 : doubles[k]);
+  for (let k = good; k < n; k++)
+    found.push(canMiss && words[k] === MISSING ? void 0 : smallest(words[k]));
+  return found;
 }
-function answers(given, name, missing, ask) {
-  const { items, form } = numbersOf(given, name), n = items.length;
-  return withRoom(16 * n, (at) => {
-    copyIn(items, at, name);
-    const out2 = at + 8 * n;
-    must(ask(at, n, out2, BESIDE), name);
+function copyIn(items, at, name) {
+  put(items, roomAt(at, items.length), name, 0);
+}
+function copyOut(at, n, form, canMiss) {
+  const found = answersIn(roomAt(at, n), n, form, canMiss ? "fill" : "throw");
+  return form === "plain" ? found : found.slice();
+}
+function arrayFor(n, form, missing) {
+  if (form === "plain")
+    return [];
+  if (missing === "flags")
+    return new Uint8Array(n);
+  return form === "words" ? new BigUint64Array(n) : new Float64Array(n);
+}
+function pieceOf(items, k, n, name) {
+  if (n === items.length)
+    return items;
+  const piece = items.subarray(k, k + n);
+  if (piece.length !== n)
+    throw new TypeError(`bitm: ${name} lost items while they were read`);
+  return piece;
+}
+function secondOf(lists, length) {
+  if (lists.length < 2)
+    return void 0;
+  const [[, name], [given, other]] = lists, { items } = numbersOf(given, other);
+  if (items.length !== length)
+    throw new RangeError(`bitm: there are ${length} ${name}, and ${items.length} ${other}`);
+  return items;
+}
+function inPieces(lists, missing, ask) {
+  const [given, name] = lists[0], { items, form } = numbersOf(given, name), { length } = items;
+  const others = secondOf(lists, length), [out2, first, second] = roomsOfPiece(), found = arrayFor(length, form, missing);
+  let k = 0;
+  do {
+    const n = Math.min(length - k, PIECE);
+    put(pieceOf(items, k, n, name), first, name, k);
+    if (others)
+      put(pieceOf(others, k, n, lists[1][1]), second, lists[1][1], k);
+    ask(n, out2.at, first.at, second.at, k);
+    const here = answersIn(out2, n, form, missing);
+    if (form !== "plain")
+      found.set(here, k);
+    else if (n === length)
+      return here;
+    else
+      for (const it of here)
+        found.push(it);
+    k += n;
+  } while (k < length);
+  return found;
+}
+function answers(lists, missing, ask) {
+  return inPieces(lists, missing, (n, out2, first, second) => {
+    const name = lists[0][1];
+    must(ask(n, out2, first, second), name);
     if (numberAt(BESIDE + BITM_LIST_COUNTS.wrong) !== 0)
       throw new WrongTables();
-    if (missing === "flags")
-      return flagsOut(out2, n, form);
     if (missing === "throw" && numberAt(BESIDE + BITM_LIST_COUNTS.missing) !== 0)
       throw new RangeError(`bitm: an item of ${name} is past the end`);
-    return copyOut(out2, n, form, true);
   });
 }
 function bytesOf(given, name) {
@@ -789,7 +859,7 @@ function sequenceHeader(length, lens) {
 function putHeader(file) {
   bytesAt(file, BITM_STORED.bytes).set(bytesAt(BESIDE, BITM_STORED.bytes));
 }
-function put(at, layout, members) {
+function put2(at, layout, members) {
   bytesAt(at, layout.bytes).fill(0);
   for (const [name, value] of Object.entries(members))
     wordsAt(at + layout[name], 1)[0] = BigInt(value);
@@ -811,11 +881,11 @@ function putIndex(at, it) {
     members[`${kind}_starts_len`] = it[`starts${zero}_len`];
     members[`${kind}_log2`] = it[`${kind}_log2`];
   }
-  put(at, BITM_INDEX, members);
+  put2(at, BITM_INDEX, members);
 }
 function putSequence(at, it) {
   const file = at + BEFORE;
-  put(at, BITM_SEQUENCE, { ...tables(file, it), len: it.len, width: it.width, low: file + it.low_at, low_len: it.low_len });
+  put2(at, BITM_SEQUENCE, { ...tables(file, it), len: it.len, width: it.width, low: file + it.low_at, low_len: it.low_len });
 }
 
 // src/bit_index.js
@@ -924,7 +994,7 @@ var Index = class {
     return this.#list("bitm_index_select_list", 0, ranks, "ranks", "fill");
   }
   #list(name, one, given, what, missing) {
-    return answers(given, what, missing, (at, n, out2, counts) => calls[name](this.#live(), one, at, n, out2, n, counts));
+    return answers([[given, what]], missing, (n, out2, at) => calls[name](this.#live(), one, at, n, out2, n, BESIDE));
   }
   /** The positions of the 1 bits, or 0 bits, from `from` on, in increasing order. */
   ones(from = 0) {
@@ -1051,21 +1121,26 @@ var EliasFano = class {
   }
   /** The least index whose number is at least value; undefined where there is none. */
   firstAtLeast(value) {
-    return this.#seek("bitm_sequence_first_at_least", value);
-  }
-  /** The greatest index whose number is at most value; undefined where there is none. */
-  lastAtMost(value) {
-    return this.#seek("bitm_sequence_last_at_most", value);
-  }
-  has(value) {
-    return this.#seek("bitm_sequence_contains", value) === 1;
-  }
-  #seek(name, value) {
     const at = this.#block.at;
     if (at === 0)
       throw freed("EliasFano");
-    const got = typeof value === "number" ? calls[name](at, value) : byBigInts(name, at, big(value, "value"));
+    const got = typeof value === "number" ? calls.bitm_sequence_first_at_least(at, value) : byBigInts("bitm_sequence_first_at_least", at, value);
     return got >= 0 ? got : orNone(got, "value", value);
+  }
+  /** The greatest index whose number is at most value; undefined where there is none. */
+  lastAtMost(value) {
+    const at = this.#block.at;
+    if (at === 0)
+      throw freed("EliasFano");
+    const got = typeof value === "number" ? calls.bitm_sequence_last_at_most(at, value) : byBigInts("bitm_sequence_last_at_most", at, value);
+    return got >= 0 ? got : orNone(got, "value", value);
+  }
+  has(value) {
+    const at = this.#block.at;
+    if (at === 0)
+      throw freed("EliasFano");
+    const got = typeof value === "number" ? calls.bitm_sequence_contains(at, value) : byBigInts("bitm_sequence_contains", at, value);
+    return (got >= 0 ? got : orThrow(got, "value", value)) === 1;
   }
   /** The least number that is at least value, and the greatest that is at most value; undefined where there is none. */
   successor(value) {
@@ -1083,15 +1158,14 @@ var EliasFano = class {
   }
   /** Lists: an array of the same kind as the queries, see README.md. */
   atList(indices) {
-    const { items, form } = numbersOf(indices, "indices"), n = items.length;
-    return withRoom(16 * n, (at) => {
-      copyIn(items, at, "indices");
-      const written = orThrow(calls.bitm_sequence_get_list(this.#live(), at, n, at + 8 * n, n), "indices", n);
-      if (written < n && items[written] < this.length)
+    return inPieces([[indices, "indices"]], "throw", (n, out2, at, _, first) => {
+      const written = orThrow(calls.bitm_sequence_get_list(this.#live(), at, n, out2, n), "indices", n);
+      if (written === n)
+        return;
+      const index = numberAt(at + 8 * written);
+      if (index < this.length)
         throw new WrongTables();
-      if (written < n)
-        throw new RangeError(`bitm: index ${items[written]} is past the end`);
-      return copyOut(at + 8 * n, n, form, false);
+      throw new RangeError(`bitm: item ${first + written} of indices is past the end: ${index}`);
     });
   }
   firstAtLeastList(values) {
@@ -1104,7 +1178,7 @@ var EliasFano = class {
     return this.#list("bitm_sequence_contains_list", values, "flags");
   }
   #list(name, given, missing) {
-    return answers(given, "values", missing, (at, n, out2, counts) => calls[name](this.#live(), at, n, out2, n, counts));
+    return answers([[given, "values"]], missing, (n, out2, at) => calls[name](this.#live(), at, n, out2, n, BESIDE));
   }
   /** The numbers from an index on, or from the first that is at least value on. */
   *values(from = 0) {
@@ -1511,21 +1585,15 @@ var Tree = class {
     return this.#list("bitm_tree_degree_list", nodes);
   }
   #list(name, nodes) {
-    return answers(nodes, "nodes", "fill", (at, n, out2, counts) => calls[name](this.#live(), at, n, out2, n, counts));
+    return answers([[nodes, "nodes"]], "fill", (n, out2, at) => calls[name](this.#live(), at, n, out2, n, BESIDE));
   }
   /** Child ks[i] of each node nodes[i]. */
   childList(nodes, ks) {
-    const { items, form } = numbersOf(nodes, "nodes"), { items: ranks } = numbersOf(ks, "ks"), n = items.length;
-    if (ranks.length !== n)
-      throw new RangeError(`bitm: there are ${n} nodes, and ${ranks.length} ks`);
-    return withRoom(24 * n, (at) => {
-      copyIn(items, at, "nodes");
-      copyIn(ranks, at + 8 * n, "ks");
-      must(calls.bitm_tree_child_list(this.#live(), at, n, at + 8 * n, n, at + 16 * n, n, BESIDE), "nodes");
-      if (numberAt(BESIDE + BITM_LIST_COUNTS.wrong) !== 0)
-        throw new WrongTables();
-      return copyOut(at + 16 * n, n, form, true);
-    });
+    return answers(
+      [[nodes, "nodes"], [ks, "ks"]],
+      "fill",
+      (n, out2, at, ranks) => calls.bitm_tree_child_list(this.#live(), at, n, ranks, n, out2, n, BESIDE)
+    );
   }
   /** Whether the block is as it was written and holds a tree, by going over all of it. */
   check() {

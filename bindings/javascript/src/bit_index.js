@@ -1,4 +1,4 @@
-import { bytesAt, calls, wasm } from "./core.js";
+import { BESIDE, bytesAt, calls, wasm } from "./core.js";
 import { BitVector, wordsOf } from "./bit_vector.js";
 import { answers, chunks } from "./lists.js";
 import { Block, dispose, freed } from "./memory.js";
@@ -89,7 +89,7 @@ export class Index {
     select0List(ranks) { return this.#list("bitm_index_select_list", 0, ranks, "ranks", "fill"); }
 
     #list(name, one, given, what, missing) {
-        return answers(given, what, missing, (at, n, out, counts) => calls[name](this.#live(), one, at, n, out, n, counts));
+        return answers([[given, what]], missing, (n, out, at) => calls[name](this.#live(), one, at, n, out, n, BESIDE));
     }
 
     /** The positions of the 1 bits, or 0 bits, from `from` on, in increasing order. */

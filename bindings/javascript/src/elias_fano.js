@@ -1,9 +1,9 @@
 import { BESIDE, bytesAt, calls, numberAt, wasm, wordsAt } from "./core.js";
 import { Opened } from "./bit_index.js";
 import { BITM_LIST_COUNTS } from "./layout.js";
-import { answers, copyIn, copyOut, numbersOf } from "./lists.js";
+import { answers, copyIn, copyOut, inPieces, numbersOf } from "./lists.js";
 import { Block, dispose, freed, withRoom } from "./memory.js";
-import { WrongTables, big, byBigInts, must, notWhole, orNone, orThrow, place, refused, wrongType } from "./numbers.js";
+import { WrongTables, byBigInts, must, notWhole, orNone, orThrow, place, refused, wrongType } from "./numbers.js";
 import { BEFORE, putHeader, putSequence, sequenceHeader } from "./stored.js";
 
 const CHUNK = 4096;
@@ -74,16 +74,24 @@ export class EliasFano {
     }
 
     /** The least index whose number is at least value; undefined where there is none. */
-    firstAtLeast(value) { return this.#seek("bitm_sequence_first_at_least", value); }
-    /** The greatest index whose number is at most value; undefined where there is none. */
-    lastAtMost(value) { return this.#seek("bitm_sequence_last_at_most", value); }
-    has(value) { return this.#seek("bitm_sequence_contains", value) === 1; }
-
-    #seek(name, value) {
+    firstAtLeast(value) {
         const at = this.#block.at;
         if (at === 0) throw freed("EliasFano");
-        const got = typeof value === "number" ? calls[name](at, value) : byBigInts(name, at, big(value, "value"));
+        const got = typeof value === "number" ? calls.bitm_sequence_first_at_least(at, value) : byBigInts("bitm_sequence_first_at_least", at, value);
         return got >= 0 ? got : orNone(got, "value", value);
+    }
+    /** The greatest index whose number is at most value; undefined where there is none. */
+    lastAtMost(value) {
+        const at = this.#block.at;
+        if (at === 0) throw freed("EliasFano");
+        const got = typeof value === "number" ? calls.bitm_sequence_last_at_most(at, value) : byBigInts("bitm_sequence_last_at_most", at, value);
+        return got >= 0 ? got : orNone(got, "value", value);
+    }
+    has(value) {
+        const at = this.#block.at;
+        if (at === 0) throw freed("EliasFano");
+        const got = typeof value === "number" ? calls.bitm_sequence_contains(at, value) : byBigInts("bitm_sequence_contains", at, value);
+        return (got >= 0 ? got : orThrow(got, "value", value)) === 1;
     }
 
     /** The least number that is at least value, and the greatest that is at most value; undefined where there is none. */
@@ -104,13 +112,12 @@ export class EliasFano {
 
     /** Lists: an array of the same kind as the queries, see README.md. */
     atList(indices) {
-        const { items, form } = numbersOf(indices, "indices"), n = items.length;
-        return withRoom(16 * n, at => {
-            copyIn(items, at, "indices");
-            const written = orThrow(calls.bitm_sequence_get_list(this.#live(), at, n, at + 8 * n, n), "indices", n);
-            if (written < n && items[written] < this.length) throw new WrongTables();
-            if (written < n) throw new RangeError(`bitm: index ${items[written]} is past the end`);
-            return copyOut(at + 8 * n, n, form, false);
+        return inPieces([[indices, "indices"]], "throw", (n, out, at, _, first) => {
+            const written = orThrow(calls.bitm_sequence_get_list(this.#live(), at, n, out, n), "indices", n);
+            if (written === n) return;
+            const index = numberAt(at + 8 * written);
+            if (index < this.length) throw new WrongTables();
+            throw new RangeError(`bitm: item ${first + written} of indices is past the end: ${index}`);
         });
     }
     firstAtLeastList(values) { return this.#list("bitm_sequence_first_at_least_list", values, "fill"); }
@@ -118,7 +125,7 @@ export class EliasFano {
     hasList(values) { return this.#list("bitm_sequence_contains_list", values, "flags"); }
 
     #list(name, given, missing) {
-        return answers(given, "values", missing, (at, n, out, counts) => calls[name](this.#live(), at, n, out, n, counts));
+        return answers([[given, "values"]], missing, (n, out, at) => calls[name](this.#live(), at, n, out, n, BESIDE));
     }
 
     /** The numbers from an index on, or from the first that is at least value on. */

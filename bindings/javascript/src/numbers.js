@@ -68,7 +68,7 @@ export function must(got, name) {
 
 /** A call of the library by BigInts, whose answer stands at ANSWER: the answer, or minus the status. */
 export function byBigInts(name, at, value) {
-    const status = wasm[name](BigInt(at), value, BigInt(ANSWER));
+    const status = wasm[name](BigInt(at), big(value, "value"), BigInt(ANSWER));
     return status === STATUS.OK ? numberAt(ANSWER) : -status;
 }
 

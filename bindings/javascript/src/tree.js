@@ -1,8 +1,8 @@
 import { BESIDE, bytesAt, calls, numberAt } from "./core.js";
-import { BITM_LIST_COUNTS, BITM_TREE } from "./layout.js";
-import { answers, bytesOf, copyIn, copyOut, numbersOf } from "./lists.js";
+import { BITM_TREE } from "./layout.js";
+import { answers, bytesOf, copyIn, numbersOf } from "./lists.js";
 import { Block, dispose, freed, withRoom } from "./memory.js";
-import { WrongTables, must, orNone, orThrow, place } from "./numbers.js";
+import { WrongTables, orNone, orThrow, place } from "./numbers.js";
 
 /** How many bytes stand before the block: room for the struct that the calls take. */
 const BEFORE = 128;
@@ -106,20 +106,13 @@ export class Tree {
     degreeList(nodes) { return this.#list("bitm_tree_degree_list", nodes); }
 
     #list(name, nodes) {
-        return answers(nodes, "nodes", "fill", (at, n, out, counts) => calls[name](this.#live(), at, n, out, n, counts));
+        return answers([[nodes, "nodes"]], "fill", (n, out, at) => calls[name](this.#live(), at, n, out, n, BESIDE));
     }
 
     /** Child ks[i] of each node nodes[i]. */
     childList(nodes, ks) {
-        const { items, form } = numbersOf(nodes, "nodes"), { items: ranks } = numbersOf(ks, "ks"), n = items.length;
-        if (ranks.length !== n) throw new RangeError(`bitm: there are ${n} nodes, and ${ranks.length} ks`);
-        return withRoom(24 * n, at => {
-            copyIn(items, at, "nodes");
-            copyIn(ranks, at + 8 * n, "ks");
-            must(calls.bitm_tree_child_list(this.#live(), at, n, at + 8 * n, n, at + 16 * n, n, BESIDE), "nodes");
-            if (numberAt(BESIDE + BITM_LIST_COUNTS.wrong) !== 0) throw new WrongTables();
-            return copyOut(at + 16 * n, n, form, true);
-        });
+        return answers([[nodes, "nodes"], [ks, "ks"]], "fill",
+            (n, out, at, ranks) => calls.bitm_tree_child_list(this.#live(), at, n, ranks, n, out, n, BESIDE));
     }
 
     /** Whether the block is as it was written and holds a tree, by going over all of it. */
