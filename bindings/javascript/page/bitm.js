@@ -1,4 +1,4 @@
-// src/web.js and all that it imports, in one file: made by one_file.mjs. sha256 of the sources: e3af69985708e972769b77fc2bee34bdf614cb292a24bd53fd198399a6b0810a
+// src/web.js and all that it imports, in one file: made by one_file.mjs. sha256 of the sources: d606868bbad737e9c2cc16284bada4d3b1832bec07ebc172dceb14f07f697beb
 
 // src/core.js
 var VERSION = "0.3.0";
@@ -1473,41 +1473,88 @@ function within(it, least, most, name) {
   return it;
 }
 
-// src/tree.js
+// src/in_block.js
 var BEFORE2 = 128;
 var Copied = class {
-  constructor(block) {
-    this.block = block;
+  constructor(kind, bytes2) {
+    const from = bytesOf(bytes2, "a block");
+    if (from.length % 8 !== 0)
+      throw notOne(kind);
+    this.block = new Block(BEFORE2 + from.length);
+    bytesAt(this.block.at + BEFORE2, from.length).set(from);
   }
 };
-var Tree = class {
+var InBlock = class {
+  #kind;
   #block;
+  /** Of a copy, or of so many words, which fill(at) writes. They are freed once the owner is garbage. */
+  constructor(kind, owner, from, fill = () => {
+  }) {
+    const block = from instanceof Copied ? from.block : new Block(BEFORE2 + 8 * from);
+    this.#kind = kind;
+    this.#block = block.heldBy(owner, (at) => {
+      fill(at + BEFORE2);
+      bytesAt(at, BEFORE2).fill(0);
+      if (calls[`${kind.prefix}_open`](at + BEFORE2, (block.bytes - BEFORE2) / 8, at) !== 0)
+        throw notOne(kind);
+    });
+  }
+  /** Where the struct stands that the calls take. TypeError after free(). */
+  get at() {
+    const at = this.#block.at;
+    if (at === 0)
+      throw freed(this.#kind.name);
+    return at;
+  }
+  /** A member of the struct. */
+  member(name) {
+    return numberAt(this.at + this.#kind.layout[name]);
+  }
+  get byteLength() {
+    return this.#block.at === 0 ? 0 : this.#block.bytes - BEFORE2;
+  }
+  check() {
+    return calls[`${this.#kind.prefix}_check`](this.at + BEFORE2, this.byteLength / 8) === 0;
+  }
+  toBytes() {
+    return bytesAt(this.at + BEFORE2, this.byteLength).slice();
+  }
+  free() {
+    this.#block.free();
+  }
+};
+function checked(it, options) {
+  if (options.check === false || it.check())
+    return it;
+  it.free();
+  throw new WrongTables("bitm: the block is not as it was written: it was damaged");
+}
+function notOne(kind) {
+  return new WrongTables(`bitm: it is not the block of ${kind.what}, or not all of it`);
+}
+
+// src/tree.js
+var KIND2 = { name: "Tree", what: "a tree", prefix: "bitm_tree", layout: BITM_TREE };
+var Tree = class {
+  #held;
   #length;
   /** The degree of each node, which is how many children it has: an array of numbers, in the order of the nodes. */
   constructor(degrees) {
     if (degrees instanceof Copied)
-      this.#hold(degrees.block, () => {
-      });
-    else {
-      const { items } = numbersOf(degrees, "degrees"), n = items.length;
-      withRoom(8 * n, (list) => {
-        copyIn(items, list, "degrees");
-        const words = orThrow(calls.bitm_tree_size(n), "the number of nodes", n);
-        this.#hold(new Block(BEFORE2 + 8 * words), (at) => {
-          if (calls.bitm_tree_build(list, n, at, words) !== 0)
-            throw new RangeError("bitm: the degrees are those of no tree");
-        });
-      });
-    }
+      this.#held = new InBlock(KIND2, this, degrees);
+    else
+      this.#build(numbersOf(degrees, "degrees").items);
+    this.#length = this.#held.member("len");
   }
-  /** Takes a block of memory: fills the block of the tree in it, and opens that. */
-  #hold(block, fill) {
-    this.#block = block.heldBy(this, (at) => {
-      fill(at + BEFORE2);
-      bytesAt(at, BEFORE2).fill(0);
-      if (calls.bitm_tree_open(at + BEFORE2, (block.bytes - BEFORE2) / 8, at) !== 0)
-        throw notATree();
-      this.#length = numberAt(at + BITM_TREE.len);
+  #build(items) {
+    const n = items.length;
+    withRoom(8 * n, (list) => {
+      copyIn(items, list, "degrees");
+      const words = orThrow(calls.bitm_tree_size(n), "the number of nodes", n);
+      this.#held = new InBlock(KIND2, this, words, (at) => {
+        if (calls.bitm_tree_build(list, n, at, words) !== 0)
+          throw new RangeError("bitm: the degrees are those of no tree");
+      });
     });
   }
   /**
@@ -1516,22 +1563,7 @@ var Tree = class {
    * that, answers may be wrong, but a parent is less than its child, and no node is past the end.
    */
   static open(bytes2, options = {}) {
-    const from = bytesOf(bytes2, "a block");
-    if (from.length % 8 !== 0)
-      throw notATree();
-    const block = new Block(BEFORE2 + from.length);
-    bytesAt(block.at + BEFORE2, from.length).set(from);
-    const opened = new Tree(new Copied(block));
-    if (options.check === false || opened.check())
-      return opened;
-    opened.free();
-    throw new WrongTables("bitm: the block is not as it was written: it was damaged");
-  }
-  #live() {
-    const at = this.#block.at;
-    if (at === 0)
-      throw freed("Tree");
-    return at;
+    return checked(new Tree(new Copied(KIND2, bytes2)), options);
   }
   /** How many nodes there are. */
   get length() {
@@ -1539,35 +1571,36 @@ var Tree = class {
   }
   /** How many bytes the block has. */
   get byteLength() {
-    return this.#block.at === 0 ? 0 : this.#block.bytes - BEFORE2;
+    return this.#held.byteLength;
   }
   /** The parent of a node; undefined at the root and where there is no such node. */
   parent(node) {
-    return orNone(calls.bitm_tree_parent(this.#live(), place(node, "node")), "node", node);
+    return orNone(calls.bitm_tree_parent(this.#held.at, place(node, "node")), "node", node);
   }
   /** Child k of a node, counted from 0; undefined where there is none. */
   child(node, k) {
-    return orNone(calls.bitm_tree_child(this.#live(), place(node, "node"), place(k, "k")), "node or k", `${node}, ${k}`);
+    const got = calls.bitm_tree_child(this.#held.at, place(node, "node"), place(k, "k"));
+    return got >= 0 ? got : orNone(got, "node or k", `${node}, ${k}`);
   }
   /** How many children a node has; undefined where there is no such node. */
   degree(node) {
-    return orNone(calls.bitm_tree_degree(this.#live(), place(node, "node")), "node", node);
+    return orNone(calls.bitm_tree_degree(this.#held.at, place(node, "node")), "node", node);
   }
   /** Whether a node has no children; undefined where there is no such node. */
   isLeaf(node) {
-    const got = orNone(calls.bitm_tree_is_leaf(this.#live(), place(node, "node")), "node", node);
+    const got = orNone(calls.bitm_tree_is_leaf(this.#held.at, place(node, "node")), "node", node);
     return got === void 0 ? void 0 : got === 1;
   }
   /** The child of a node's parent after it, and before it; undefined where there is none. */
   nextSibling(node) {
-    return orNone(calls.bitm_tree_next_sibling(this.#live(), place(node, "node")), "node", node);
+    return orNone(calls.bitm_tree_next_sibling(this.#held.at, place(node, "node")), "node", node);
   }
   previousSibling(node) {
-    return orNone(calls.bitm_tree_previous_sibling(this.#live(), place(node, "node")), "node", node);
+    return orNone(calls.bitm_tree_previous_sibling(this.#held.at, place(node, "node")), "node", node);
   }
   /** Which child of its parent a node is, counted from 0; undefined at the root and where there is no such node. */
   childRank(node) {
-    return orNone(calls.bitm_tree_child_rank(this.#live(), place(node, "node")), "node", node);
+    return orNone(calls.bitm_tree_child_rank(this.#held.at, place(node, "node")), "node", node);
   }
   /** The children of a node, in their order. */
   *children(node) {
@@ -1585,36 +1618,32 @@ var Tree = class {
     return this.#list("bitm_tree_degree_list", nodes);
   }
   #list(name, nodes) {
-    return answers([[nodes, "nodes"]], "fill", (n, out2, at) => calls[name](this.#live(), at, n, out2, n, BESIDE));
+    return answers([[nodes, "nodes"]], "fill", (n, out2, at) => calls[name](this.#held.at, at, n, out2, n, BESIDE));
   }
   /** Child ks[i] of each node nodes[i]. */
   childList(nodes, ks) {
     return answers(
       [[nodes, "nodes"], [ks, "ks"]],
       "fill",
-      (n, out2, at, ranks) => calls.bitm_tree_child_list(this.#live(), at, n, ranks, n, out2, n, BESIDE)
+      (n, out2, at, ranks) => calls.bitm_tree_child_list(this.#held.at, at, n, ranks, n, out2, n, BESIDE)
     );
   }
   /** Whether the block is as it was written and holds a tree, by going over all of it. */
   check() {
-    const at = this.#live();
-    return calls.bitm_tree_check(at + BEFORE2, this.byteLength / 8) === 0;
+    return this.#held.check();
   }
   /** The bytes of the block: what open() takes, and the C library and its other bindings. */
   toBytes() {
-    return bytesAt(this.#live() + BEFORE2, this.byteLength).slice();
+    return this.#held.toBytes();
   }
   /** Gives the memory back at once. */
   free() {
-    this.#block.free();
+    this.#held.free();
   }
   [dispose]() {
     this.free();
   }
 };
-function notATree() {
-  return new WrongTables("bitm: it is not the block of a tree, or not all of it");
-}
 
 // src/open.js
 function open(bytes2, options = {}) {

@@ -1,0 +1,65 @@
+// What a block of memory holds, as the C library writes and opens it: a tree, or a wavelet matrix. kind says which:
+// `{ name, what, prefix, layout }`, the class, "a tree", the prefix of its calls, and where the members of its struct stand.
+import { bytesAt, calls, numberAt } from "./core.js";
+import { bytesOf } from "./lists.js";
+import { Block, freed } from "./memory.js";
+import { WrongTables } from "./numbers.js";
+
+/** How many bytes stand before the block: room for the struct that the calls take. */
+const BEFORE = 128;
+
+/** Memory with a copy of a block that a user gave, which is not looked at yet. */
+export class Copied {
+    constructor(kind, bytes) {
+        const from = bytesOf(bytes, "a block");
+        if (from.length % 8 !== 0) throw notOne(kind);
+        this.block = new Block(BEFORE + from.length);
+        bytesAt(this.block.at + BEFORE, from.length).set(from);
+    }
+}
+
+/** An open block, and its struct before it: what a value of the package holds. */
+export class InBlock {
+    #kind;
+    #block;
+
+    /** Of a copy, or of so many words, which fill(at) writes. They are freed once the owner is garbage. */
+    constructor(kind, owner, from, fill = () => {}) {
+        const block = from instanceof Copied ? from.block : new Block(BEFORE + 8 * from);
+        this.#kind = kind;
+        this.#block = block.heldBy(owner, at => {
+            fill(at + BEFORE);
+            bytesAt(at, BEFORE).fill(0);
+            if (calls[`${kind.prefix}_open`](at + BEFORE, (block.bytes - BEFORE) / 8, at) !== 0) throw notOne(kind);
+        });
+    }
+
+    /** Where the struct stands that the calls take. TypeError after free(). */
+    get at() {
+        const at = this.#block.at;
+        if (at === 0) throw freed(this.#kind.name);
+        return at;
+    }
+
+    /** A member of the struct. */
+    member(name) { return numberAt(this.at + this.#kind.layout[name]); }
+
+    get byteLength() { return this.#block.at === 0 ? 0 : this.#block.bytes - BEFORE; }
+
+    check() { return calls[`${this.#kind.prefix}_check`](this.at + BEFORE, this.byteLength / 8) === 0; }
+
+    toBytes() { return bytesAt(this.at + BEFORE, this.byteLength).slice(); }
+
+    free() { this.#block.free(); }
+}
+
+/** A value that was opened from a copy, once all of it was looked at, unless options say that it need not be. */
+export function checked(it, options) {
+    if (options.check === false || it.check()) return it;
+    it.free();
+    throw new WrongTables("bitm: the block is not as it was written: it was damaged");
+}
+
+function notOne(kind) {
+    return new WrongTables(`bitm: it is not the block of ${kind.what}, or not all of it`);
+}
