@@ -1,4 +1,4 @@
-// src/web.js and all that it imports, in one file: made by one_file.mjs. sha256 of the sources: d606868bbad737e9c2cc16284bada4d3b1832bec07ebc172dceb14f07f697beb
+// src/web.js and all that it imports, in one file: made by one_file.mjs. sha256 of the sources: 3b15a218d4ce98d8b07120fc9b509cfa6c33d5dc6c983f9866120d71196ecf54
 
 // src/core.js
 var VERSION = "0.3.0";
@@ -1495,7 +1495,7 @@ var InBlock = class {
     this.#block = block.heldBy(owner, (at) => {
       fill(at + BEFORE2);
       bytesAt(at, BEFORE2).fill(0);
-      if (calls[`${kind.prefix}_open`](at + BEFORE2, (block.bytes - BEFORE2) / 8, at) !== 0)
+      if (calls[kind.open](at + BEFORE2, (block.bytes - BEFORE2) / 8, at) !== 0)
         throw notOne(kind);
     });
   }
@@ -1514,7 +1514,7 @@ var InBlock = class {
     return this.#block.at === 0 ? 0 : this.#block.bytes - BEFORE2;
   }
   check() {
-    return calls[`${this.#kind.prefix}_check`](this.at + BEFORE2, this.byteLength / 8) === 0;
+    return calls[this.#kind.check](this.at + BEFORE2, this.byteLength / 8) === 0;
   }
   toBytes() {
     return bytesAt(this.at + BEFORE2, this.byteLength).slice();
@@ -1534,7 +1534,7 @@ function notOne(kind) {
 }
 
 // src/tree.js
-var KIND2 = { name: "Tree", what: "a tree", prefix: "bitm_tree", layout: BITM_TREE };
+var KIND2 = { name: "Tree", what: "a tree", open: "bitm_tree_open", check: "bitm_tree_check", layout: BITM_TREE };
 var Tree = class {
   #held;
   #length;

@@ -1,5 +1,5 @@
-// What a block of memory holds, as the C library writes and opens it: a tree, or a wavelet matrix. kind says which:
-// `{ name, what, prefix, layout }`, the class, "a tree", the prefix of its calls, and where the members of its struct stand.
+// What a block of memory holds, as the C library writes and opens it. kind says which: `{ name, what, open, check, layout }`,
+// the class, "a tree", two calls, and where the members of its struct stand.
 import { bytesAt, calls, numberAt } from "./core.js";
 import { bytesOf } from "./lists.js";
 import { Block, freed } from "./memory.js";
@@ -30,7 +30,7 @@ export class InBlock {
         this.#block = block.heldBy(owner, at => {
             fill(at + BEFORE);
             bytesAt(at, BEFORE).fill(0);
-            if (calls[`${kind.prefix}_open`](at + BEFORE, (block.bytes - BEFORE) / 8, at) !== 0) throw notOne(kind);
+            if (calls[kind.open](at + BEFORE, (block.bytes - BEFORE) / 8, at) !== 0) throw notOne(kind);
         });
     }
 
@@ -46,7 +46,7 @@ export class InBlock {
 
     get byteLength() { return this.#block.at === 0 ? 0 : this.#block.bytes - BEFORE; }
 
-    check() { return calls[`${this.#kind.prefix}_check`](this.at + BEFORE, this.byteLength / 8) === 0; }
+    check() { return calls[this.#kind.check](this.at + BEFORE, this.byteLength / 8) === 0; }
 
     toBytes() { return bytesAt(this.at + BEFORE, this.byteLength).slice(); }
 

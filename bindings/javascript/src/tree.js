@@ -5,7 +5,7 @@ import { answers, copyIn, numbersOf } from "./lists.js";
 import { dispose, withRoom } from "./memory.js";
 import { WrongTables, orNone, orThrow, place } from "./numbers.js";
 
-const KIND = { name: "Tree", what: "a tree", prefix: "bitm_tree", layout: BITM_TREE };
+const KIND = { name: "Tree", what: "a tree", open: "bitm_tree_open", check: "bitm_tree_check", layout: BITM_TREE };
 
 /** A tree whose nodes are numbered level by level: the root is 0, and the children of a node follow one another. */
 export class Tree {
