@@ -1,4 +1,4 @@
-// src/web.js and all that it imports, in one file: made by one_file.mjs. sha256 of the sources: 3b15a218d4ce98d8b07120fc9b509cfa6c33d5dc6c983f9866120d71196ecf54
+// src/web.js and all that it imports, in one file: made by one_file.mjs. sha256 of the sources: db9ccc3dcc5d3701a13d03e2d13eb5b2b3cf136ca4ed4d1ce1eae223e6842a53
 
 // src/core.js
 var VERSION = "0.3.0";
@@ -179,6 +179,21 @@ var BITM_TREE = {
   lower: 40,
   lower_len: 48
 };
+var BITM_MATRIX = {
+  bytes: 112,
+  len: 0,
+  width: 8,
+  words: 16,
+  words_len: 24,
+  upper: 32,
+  upper_len: 40,
+  lower: 48,
+  lower_len: 56,
+  ones: 64,
+  ones_len: 72,
+  zeros: 80,
+  zeros_len: 88
+};
 
 // src/memory.js
 var ALIGN = 64;
@@ -345,13 +360,21 @@ function must(got, name) {
   if (got !== 0)
     throw refused(-Math.abs(got), name);
 }
-function byBigInts(name, at, value) {
-  const status = wasm[name](BigInt(at), big(value, "value"), BigInt(ANSWER));
+function whole(it, name) {
+  return typeof it === "bigint" ? smallest(big(it, name)) : place(it, name);
+}
+function byBigInts(name, at, ...given) {
+  const status = wasm[name](BigInt(at), ...given.map((it) => big(it, "value")), BigInt(ANSWER));
   return status === STATUS.OK ? numberAt(ANSWER) : -status;
+}
+function answerOf(name, at, ...given) {
+  return given.every((it) => typeof it === "number") ? calls[name](at, ...given) : byBigInts(name, at, ...given);
 }
 function orNone(got, name, it) {
   if (got >= 0)
     return got;
+  if (got !== got)
+    return numberAt(ANSWER);
   if (got === -STATUS.NONE)
     return void 0;
   throw refused(got, name, it);
@@ -496,6 +519,17 @@ function answers(lists, missing, ask) {
       throw new WrongTables();
     if (missing === "throw" && numberAt(BESIDE + BITM_LIST_COUNTS.missing) !== 0)
       throw new RangeError(`bitm: an item of ${name} is past the end`);
+  });
+}
+function itemsAt(indices, length, ask) {
+  return inPieces([[indices, "indices"]], "throw", (n, out2, at, _, first) => {
+    const written = orThrow(ask(n, out2, at), "indices", n);
+    if (written === n)
+      return;
+    const index = numberAt(at + 8 * written);
+    if (index < length)
+      throw new WrongTables();
+    throw new RangeError(`bitm: item ${first + written} of indices is past the end: ${index}`);
   });
 }
 function bytesOf(given, name) {
@@ -1158,15 +1192,7 @@ var EliasFano = class {
   }
   /** Lists: an array of the same kind as the queries, see README.md. */
   atList(indices) {
-    return inPieces([[indices, "indices"]], "throw", (n, out2, at, _, first) => {
-      const written = orThrow(calls.bitm_sequence_get_list(this.#live(), at, n, out2, n), "indices", n);
-      if (written === n)
-        return;
-      const index = numberAt(at + 8 * written);
-      if (index < this.length)
-        throw new WrongTables();
-      throw new RangeError(`bitm: item ${first + written} of indices is past the end: ${index}`);
-    });
+    return itemsAt(indices, this.length, (n, out2, at) => calls.bitm_sequence_get_list(this.#live(), at, n, out2, n));
   }
   firstAtLeastList(values) {
     return this.#list("bitm_sequence_first_at_least_list", values, "fill");
@@ -1645,6 +1671,152 @@ var Tree = class {
   }
 };
 
+// src/words.js
+function selectInWord(word, rank) {
+  const status = wasm.bitm_bits_select_in_word(big(word, "word"), Math.min(place(rank, "rank"), 64), BigInt(ANSWER));
+  if (status > 1)
+    throw refused(-status, "rank", rank);
+  return status === 0 ? numberAt(ANSWER) : void 0;
+}
+function bitsToStore(value) {
+  return wasm.bitm_bits_to_store(big(value, "value"));
+}
+function optimalSampleLog2(items, length, most = 31) {
+  const got = calls.bitm_optimal_log2(place(items, "items"), place(length, "length"), Math.min(place(most, "most"), 31));
+  if (got < 0)
+    throw refused(got, "items", items);
+  return got;
+}
+
+// src/wavelet_matrix.js
+var KIND3 = { name: "WaveletMatrix", what: "a wavelet matrix", open: "bitm_matrix_open", check: "bitm_matrix_check", layout: BITM_MATRIX };
+var WaveletMatrix = class {
+  #held;
+  #length;
+  #width;
+  /** The numbers. Each is kept in `width` bits (1 to 64), which is as many as the largest has unless it is given. */
+  constructor(numbers, options = {}) {
+    if (numbers instanceof Copied)
+      this.#held = new InBlock(KIND3, this, numbers);
+    else
+      this.#build(numbersOf(numbers, "numbers").items, checkedWidth(options.width));
+    this.#length = this.#held.member("len");
+    this.#width = this.#held.member("width");
+  }
+  #build(items, given) {
+    const n = items.length;
+    withRoom(24 * n, (list) => {
+      copyIn(items, list, "numbers");
+      const width = given ?? widthOf2(items), words = orThrow(calls.bitm_matrix_size(n, width), "the numbers", n);
+      this.#held = new InBlock(KIND3, this, words, (at) => {
+        const got = calls.bitm_matrix_build(list, n, width, list + 8 * n, 2 * n, at, words);
+        if (got === -STATUS.WRONG)
+          throw new RangeError(`bitm: a number has more than ${width} bits`);
+        must(got, "the numbers");
+      });
+    });
+  }
+  /**
+   * The matrix in the bytes of a block, as toBytes() gives them and the C library writes them; they are copied once. Unless
+   * `check` is false, all of them are looked at, and WrongTables is thrown where they are not as they were written; without
+   * that, answers may be wrong, but no index is past the end, and no number has more bits than the width.
+   */
+  static open(bytes2, options = {}) {
+    return checked(new WaveletMatrix(new Copied(KIND3, bytes2)), options);
+  }
+  /** How many numbers there are. */
+  get length() {
+    return this.#length;
+  }
+  /** How many bits each has at most. */
+  get width() {
+    return this.#width;
+  }
+  /** How many bytes the block has. */
+  get byteLength() {
+    return this.#held.byteLength;
+  }
+  /** The number at an index. */
+  get(index) {
+    return orThrow(calls.bitm_matrix_get(this.#held.at, place(index, "index")), "index", index);
+  }
+  /** How many of the numbers before an index are this one; of all, unless the index is given. */
+  rank(number, index = this.#length) {
+    const got = answerOf("bitm_matrix_rank", this.#held.at, whole(number, "number"), upTo(index, this.#length, "index"));
+    return orThrow(got, "index", index);
+  }
+  /** The index of this number that has `rank` such numbers before it; undefined where there is none. */
+  select(number, rank) {
+    return orNone(answerOf("bitm_matrix_select", this.#held.at, whole(number, "number"), place(rank, "rank")), "rank", rank);
+  }
+  /** How many numbers from index begin on and before end are less than bound. */
+  countLess(bound, begin2 = 0, end2 = this.#length) {
+    return orThrow(this.#ofRange("bitm_matrix_count_less", begin2, end2, whole(bound, "bound")), "end", end2);
+  }
+  /** The number of a range that would stand at index k if the range were sorted; undefined where it has no more than k. */
+  quantile(k, begin2 = 0, end2 = this.#length) {
+    return orNone(this.#ofRange("bitm_matrix_quantile", begin2, end2, place(k, "k")), "k", k);
+  }
+  /** The least number of a range that is at least bound, and the greatest that is less; undefined where there is none. */
+  nextValue(bound, begin2 = 0, end2 = this.#length) {
+    return orNone(this.#ofRange("bitm_matrix_next_value", begin2, end2, whole(bound, "bound")), "bound", bound);
+  }
+  previousValue(bound, begin2 = 0, end2 = this.#length) {
+    return orNone(this.#ofRange("bitm_matrix_previous_value", begin2, end2, whole(bound, "bound")), "bound", bound);
+  }
+  #ofRange(name, begin2, end2, number) {
+    const to = upTo(end2, this.#length, "end");
+    return answerOf(name, this.#held.at, upTo(begin2, to, "begin"), to, number);
+  }
+  /** Lists: an array of the same kind as the first list, see README.md. */
+  getList(indices) {
+    return itemsAt(indices, this.#length, (n, out2, at) => calls.bitm_matrix_get_list(this.#held.at, at, n, out2, n));
+  }
+  /** rank of each numbers[i] before indices[i]; select of each numbers[i] with ranks[i]. */
+  rankList(numbers, indices) {
+    return answers(
+      [[numbers, "numbers"], [indices, "indices"]],
+      "throw",
+      (n, out2, at, before) => calls.bitm_matrix_rank_list(this.#held.at, at, n, before, n, out2, n, BESIDE)
+    );
+  }
+  selectList(numbers, ranks) {
+    return answers(
+      [[numbers, "numbers"], [ranks, "ranks"]],
+      "fill",
+      (n, out2, at, them) => calls.bitm_matrix_select_list(this.#held.at, at, n, them, n, out2, n, BESIDE)
+    );
+  }
+  *[Symbol.iterator]() {
+    for (let k = 0; k < this.#length; k++)
+      yield this.get(k);
+  }
+  /** Whether the block is as it was written and holds a wavelet matrix, by going over all of it. */
+  check() {
+    return this.#held.check();
+  }
+  /** The bytes of the block: what open() takes, and the C library and its other bindings. */
+  toBytes() {
+    return this.#held.toBytes();
+  }
+  /** Gives the memory back at once. */
+  free() {
+    this.#held.free();
+  }
+  [dispose]() {
+    this.free();
+  }
+};
+function widthOf2(items) {
+  const largest = items.reduce((most, it) => it > most ? it : most, items instanceof BigUint64Array ? 0n : 0);
+  return Math.max(bitsToStore(largest), 1);
+}
+function checkedWidth(it) {
+  if (it === void 0 || Number.isInteger(it) && it >= 1 && it <= 64)
+    return it;
+  throw new RangeError(`bitm: width is 1 to 64, and not ${String(it)}`);
+}
+
 // src/open.js
 function open(bytes2, options = {}) {
   const from = bytesOf(bytes2, "a file"), words = Math.floor(from.length / 8);
@@ -1667,23 +1839,6 @@ function open(bytes2, options = {}) {
   return opened;
 }
 
-// src/words.js
-function selectInWord(word, rank) {
-  const status = wasm.bitm_bits_select_in_word(big(word, "word"), Math.min(place(rank, "rank"), 64), BigInt(ANSWER));
-  if (status > 1)
-    throw refused(-status, "rank", rank);
-  return status === 0 ? numberAt(ANSWER) : void 0;
-}
-function bitsToStore(value) {
-  return wasm.bitm_bits_to_store(big(value, "value"));
-}
-function optimalSampleLog2(items, length, most = 31) {
-  const got = calls.bitm_optimal_log2(place(items, "items"), place(length, "length"), Math.min(place(most, "most"), 31));
-  if (got < 0)
-    throw refused(got, "items", items);
-  return got;
-}
-
 // src/web.js
 var [library, adaptors] = has64() ? [new URL("../wasm/bitm64.wasm", import.meta.url), new URL("../wasm/calls64.wasm", import.meta.url)] : [new URL("../wasm/bitm32.wasm", import.meta.url), new URL("../wasm/calls32.wasm", import.meta.url)];
 async function bytes(url) {
@@ -1701,6 +1856,7 @@ export {
   PerfectHash,
   Tree,
   VERSION,
+  WaveletMatrix,
   WrongTables,
   bitsToStore,
   has64,

@@ -4,6 +4,7 @@ export { Index } from "./bit_index.js";
 export { EliasFano } from "./elias_fano.js";
 export { PerfectHash } from "./perfect_hash.js";
 export { Tree } from "./tree.js";
+export { WaveletMatrix } from "./wavelet_matrix.js";
 export { open } from "./open.js";
 export { NO_ANSWER } from "./lists.js";
 export { WrongTables } from "./numbers.js";

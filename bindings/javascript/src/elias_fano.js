@@ -1,7 +1,7 @@
 import { BESIDE, bytesAt, calls, numberAt, wasm, wordsAt } from "./core.js";
 import { Opened } from "./bit_index.js";
 import { BITM_LIST_COUNTS } from "./layout.js";
-import { answers, copyIn, copyOut, inPieces, numbersOf } from "./lists.js";
+import { answers, copyIn, copyOut, itemsAt, numbersOf } from "./lists.js";
 import { Block, dispose, freed, withRoom } from "./memory.js";
 import { WrongTables, byBigInts, must, notWhole, orNone, orThrow, place, refused, wrongType } from "./numbers.js";
 import { BEFORE, putHeader, putSequence, sequenceHeader } from "./stored.js";
@@ -112,13 +112,7 @@ export class EliasFano {
 
     /** Lists: an array of the same kind as the queries, see README.md. */
     atList(indices) {
-        return inPieces([[indices, "indices"]], "throw", (n, out, at, _, first) => {
-            const written = orThrow(calls.bitm_sequence_get_list(this.#live(), at, n, out, n), "indices", n);
-            if (written === n) return;
-            const index = numberAt(at + 8 * written);
-            if (index < this.length) throw new WrongTables();
-            throw new RangeError(`bitm: item ${first + written} of indices is past the end: ${index}`);
-        });
+        return itemsAt(indices, this.length, (n, out, at) => calls.bitm_sequence_get_list(this.#live(), at, n, out, n));
     }
     firstAtLeastList(values) { return this.#list("bitm_sequence_first_at_least_list", values, "fill"); }
     lastAtMostList(values) { return this.#list("bitm_sequence_last_at_most_list", values, "fill"); }

@@ -158,3 +158,18 @@ export const BITM_TREE = {
     lower: 40,
     lower_len: 48,
 };
+export const BITM_MATRIX = {
+    bytes: 112,
+    len: 0,
+    width: 8,
+    words: 16,
+    words_len: 24,
+    upper: 32,
+    upper_len: 40,
+    lower: 48,
+    lower_len: 56,
+    ones: 64,
+    ones_len: 72,
+    zeros: 80,
+    zeros_len: 88,
+};

@@ -3,7 +3,7 @@
 import { BESIDE, PIECES, bytesAt, calls, doublesAt, halvesAt, numberAt, smallest, wasm, wordsAt } from "./core.js";
 import { BITM_LIST_COUNTS } from "./layout.js";
 import { withRoom } from "./memory.js";
-import { WrongTables, big, must, notWhole, refused } from "./numbers.js";
+import { WrongTables, big, must, notWhole, orThrow, refused } from "./numbers.js";
 
 const SMALL = [Uint8Array, Uint8ClampedArray, Uint16Array, Int8Array, Int16Array, Int32Array, Float32Array];
 const MISSING = 2n ** 64n - 1n;
@@ -123,7 +123,7 @@ function secondOf(lists, length) {
  * Answers of a call of one list or of two as long as each other, each `[given, name]`. ask(n, out, first, second, index)
  * calls it for n items from an index on: where the answers go, and where items of the first list stand, and of the second.
  */
-export function inPieces(lists, missing, ask) {
+function inPieces(lists, missing, ask) {
     const [given, name] = lists[0], { items, form } = numbersOf(given, name), { length } = items;
     const others = secondOf(lists, length), [out, first, second] = roomsOfPiece(), found = arrayFor(length, form, missing);
     let k = 0;
@@ -149,6 +149,17 @@ export function answers(lists, missing, ask) {
         if (numberAt(BESIDE + BITM_LIST_COUNTS.wrong) !== 0) throw new WrongTables();
         if (missing === "throw" && numberAt(BESIDE + BITM_LIST_COUNTS.missing) !== 0)
             throw new RangeError(`bitm: an item of ${name} is past the end`);
+    });
+}
+
+/** The items at indices: ask(n, out, at) says how many it wrote before the first index that has none. */
+export function itemsAt(indices, length, ask) {
+    return inPieces([[indices, "indices"]], "throw", (n, out, at, _, first) => {
+        const written = orThrow(ask(n, out, at), "indices", n);
+        if (written === n) return;
+        const index = numberAt(at + 8 * written);
+        if (index < length) throw new WrongTables();
+        throw new RangeError(`bitm: item ${first + written} of indices is past the end: ${index}`);
     });
 }
 

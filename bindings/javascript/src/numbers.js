@@ -1,6 +1,6 @@
 // Arguments: a whole number as a number below 2^53 or a BigInt below 2^64. Anything else is refused: TypeError for another
 // type, RangeError for another number.
-import { ANSWER, numberAt, wasm } from "./core.js";
+import { ANSWER, calls, numberAt, smallest, wasm } from "./core.js";
 import { BAD_ARGUMENT, STATUS } from "./layout.js";
 
 const MOST = 2n ** 64n - 1n;
@@ -66,15 +66,26 @@ export function must(got, name) {
     if (got !== 0) throw refused(-Math.abs(got), name);
 }
 
+/** A number below 2^53, or a BigInt from 2^53 to 2^64 - 1, of either. */
+export function whole(it, name) {
+    return typeof it === "bigint" ? smallest(big(it, name)) : place(it, name);
+}
+
 /** A call of the library by BigInts, whose answer stands at ANSWER: the answer, or minus the status. */
-export function byBigInts(name, at, value) {
-    const status = wasm[name](BigInt(at), big(value, "value"), BigInt(ANSWER));
+export function byBigInts(name, at, ...given) {
+    const status = wasm[name](BigInt(at), ...given.map(it => big(it, "value")), BigInt(ANSWER));
     return status === STATUS.OK ? numberAt(ANSWER) : -status;
 }
 
-/** The answer of an adaptor, which is below 2^53, or undefined where it says that there is none. */
+/** What an adaptor says of whole numbers, or the library where one is 2^53 or more: the answer, or minus the status. */
+export function answerOf(name, at, ...given) {
+    return given.every(it => typeof it === "number") ? calls[name](at, ...given) : byBigInts(name, at, ...given);
+}
+
+/** The answer of an adaptor, or undefined where it says that there is none. */
 export function orNone(got, name, it) {
     if (got >= 0) return got;
+    if (got !== got) return numberAt(ANSWER);
     if (got === -STATUS.NONE) return undefined;
     throw refused(got, name, it);
 }

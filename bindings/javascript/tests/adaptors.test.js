@@ -115,6 +115,41 @@ function ofTrees() {
 /** A block for what opens and checks it. */
 const ofBlock = () => ({ block: slot(24), block_len: tree(r() % 3 === 0) - (r() % 7 ? 0 : 1), tree: slot(27) });
 
+/** A matrix of 40 numbers of 7 bits in slot 42, of which a word after the directory may be wrong, and its struct: its words. */
+function matrix(spoilt) {
+    const block = slot(42);
+    for (let i = 0; i < N; i++) words(slot(40), N)[i] = BigInt(r() % 128);
+    assert.equal(library.bitm_matrix_size(BigInt(N), 7, BigInt(ANSWER)), 0);
+    const size = words(ANSWER, 1)[0];
+    assert.equal(library.bitm_matrix_build(BigInt(slot(40)), BigInt(N), 7, BigInt(slot(41)), BigInt(2 * N), BigInt(block), size), 0);
+    assert.equal(library.bitm_matrix_open(BigInt(block), size, BigInt(slot(43))), 0);
+    if (spoilt) words(block, Number(size))[32 + (r() % (Number(size) - 32))] ^= BigInt(r());
+    return Number(size);
+}
+
+/** What a query of a matrix is asked, and what lists of queries have in common. */
+const ofMatrix = () => (matrix(r() % 3 === 0), { matrix: slot(43), index: r() % (N + 5), number: r() % 140, rank: r() % 3, bound: r() % 140, start: r() % 30, end: 20 + (r() % 25), k: r() % 20 });
+function ofMatrices() {
+    const given = ofMatrix();
+    for (let i = 0; i < N; i++) words(slot(46), N)[i] = words(slot(40), N)[r() % N];
+    for (let i = 0; i < N; i++) words(slot(44), N)[i] = BigInt(r() % (N + 5));
+    for (let i = 0; i < N; i++) words(slot(45), N)[i] = BigInt(r() % 3);
+    return { ...given, numbers: slot(46), indices: slot(44), ranks: slot(45), out: slot(47), counts: slot(48) };
+}
+const ofMatrixBlock = () => ({ block: slot(42), block_len: matrix(r() % 3 === 0) - (r() % 7 ? 0 : 1), matrix: slot(49) });
+
+/** The block of the index in slot 3, or of the sequence in slot 8, in slot 51, of which a word may be wrong: its words. */
+function blockOf(kind, spoilt) {
+    const [first, second] = kind === "index" ? [BITS] : [60, Number(words(slot(14), 60)[59])], block = BigInt(slot(51));
+    const sized = [first, second].filter(it => it !== undefined).map(BigInt);
+    assert.equal(library[`bitm_${kind}_block_size`](...sized, BigInt(ANSWER)), 0);
+    const size = words(ANSWER, 1)[0], from = kind === "index" ? [slot(0), N, BITS] : [slot(14), 60];
+    assert.equal(library[`bitm_${kind}_block_build`](...from.map(BigInt), block, size), 0);
+    if (spoilt) words(slot(51), Number(size))[32 + (r() % (Number(size) - 32))] ^= BigInt(r());
+    return Number(size);
+}
+const ofBlockOf = kind => () => ({ block: slot(51), block_len: blockOf(kind, r() % 3 === 0) - (r() % 7 ? 0 : 1), index: slot(52), sequence: slot(52) });
+
 const someLog2 = () => (r() % 5 ? [0, 7 + (r() % 8)][r() % 2] : r() % 40);
 // By export: arguments that have to fit together, by name.
 const FITTING = {
@@ -149,6 +184,27 @@ const FITTING = {
     bitm_tree_parent_list: ofTrees,
     bitm_tree_degree_list: ofTrees,
     bitm_tree_child_list: ofTrees,
+    bitm_matrix_build: () => ({
+        numbers: slot(40), numbers_len: N, width: r() % 7 ? 7 : 6 + (r() % 60), scratch: slot(41), scratch_len: 2 * N, block: slot(50), block_len: matrix(false) - (r() % 7 ? 0 : 1),
+    }),
+    bitm_matrix_open: ofMatrixBlock,
+    bitm_matrix_check: ofMatrixBlock,
+    bitm_matrix_get: ofMatrix,
+    bitm_matrix_rank: ofMatrix,
+    bitm_matrix_select: ofMatrix,
+    bitm_matrix_count_less: ofMatrix,
+    bitm_matrix_quantile: ofMatrix,
+    bitm_matrix_next_value: ofMatrix,
+    bitm_matrix_previous_value: ofMatrix,
+    bitm_matrix_get_list: ofMatrices,
+    bitm_matrix_rank_list: ofMatrices,
+    bitm_matrix_select_list: ofMatrices,
+    bitm_index_block_build: () => ({ words: slot(0), words_len: N, bits_len: BITS, block: slot(53), block_len: blockOf("index", false) - (r() % 7 ? 0 : 1) }),
+    bitm_index_block_open: ofBlockOf("index"),
+    bitm_index_block_check: ofBlockOf("index"),
+    bitm_sequence_block_build: () => ({ items: slot(14), items_len: 60, block: slot(53), block_len: blockOf("sequence", false) - (r() % 7 ? 0 : 1) }),
+    bitm_sequence_block_open: ofBlockOf("sequence"),
+    bitm_sequence_block_check: ofBlockOf("sequence"),
     bitm_shards_find: () => ({ counts: shards(r() % 3 === 0) }),
     bitm_shards_rank: () => ({ shards: shards(r() % 3 === 0), position: r() % (2 * BITS + 60) }),
     bitm_shards_select: () => ({ shards: shards(r() % 3 === 0), rank: r() % (2 * BITS) }),
@@ -203,13 +259,13 @@ function both(call, parts) {
 }
 
 test("each adaptor does what its export does", () => {
-    assert.equal(exported.length, 97);
+    assert.equal(exported.length, 119);
     for (const call of exported) {
         let answered = 0;
         for (let round = 0; round < 60; round++) answered += both(call, prepare(round % 4 === 3));
         assert.ok(answered >= 5, `${call.name} answered ${answered} times of 60`);
     }
-    tally.atLeast(97 * 60);
+    tally.atLeast(119 * 60);
 });
 
 test("each adaptor refuses what is no whole number of its range", () => {
@@ -243,6 +299,10 @@ const LEFT_OUT = {
     bitm_stored_index: "bitm_stored_build writes the header of an index",
     bitm_index_build_samples: "bitm_stored_build writes the samples too",
     bitm_index_samples_len: "bitm_stored_index_room says how long all parts are",
+    bitm_index_block_size: "toBytes() writes the format of bitm_stored_, which has samples too",
+    bitm_index_block_build: "as bitm_index_block_size",
+    bitm_sequence_block_size: "toBytes() writes the format of bitm_stored_",
+    bitm_sequence_block_build: "as bitm_sequence_block_size",
     bitm_prefix_sums: "there are no shards here yet",
     bitm_prefix_sums_check: "as bitm_prefix_sums",
     bitm_shards_find: "as bitm_prefix_sums",

@@ -269,6 +269,59 @@ export class Tree {
     [Symbol.dispose](): void;
 }
 
+export interface WaveletMatrixOptions {
+    /** 1 to 64: how many bits each number is kept in; as many as the largest has unless it is given. */
+    width?: number;
+}
+
+/** Numbers in any order: where and how often each of them is, and which of a range are the least. Those from 2^53 on are BigInts. */
+export class WaveletMatrix implements Iterable<number | bigint> {
+    /** RangeError if a number has more bits than the width. */
+    constructor(numbers: Wholes, options?: WaveletMatrixOptions);
+    /** The matrix in the bytes of a block, which are copied once. */
+    static open(bytes: Bytes, options?: OpenOptions): WaveletMatrix;
+
+    readonly length: number;
+    /** How many bits each number has at most. */
+    readonly width: number;
+    readonly byteLength: number;
+    get(index: Whole): number | bigint;
+    /** How many of the numbers before an index, or of all, are this one. RangeError if the index is above length. */
+    rank(number: Whole, index?: Whole): number;
+    /** The index of this number that has `rank` such numbers before it. */
+    select(number: Whole, rank: Whole): number | undefined;
+
+    /** These are about the numbers from index begin on and before end, or about all. RangeError if there is no such range. */
+    /** How many are less than bound. */
+    countLess(bound: Whole, begin?: Whole, end?: Whole): number;
+    /** The one that would stand at index k if they were sorted. */
+    quantile(k: Whole, begin?: Whole, end?: Whole): number | bigint | undefined;
+    /** The least that is at least bound; the greatest that is less than bound. */
+    nextValue(bound: Whole, begin?: Whole, end?: Whole): number | bigint | undefined;
+    previousValue(bound: Whole, begin?: Whole, end?: Whole): number | bigint | undefined;
+
+    /** RangeError if an index is past the end, or an answer in doubles is 2^53 or more. */
+    getList(indices: NumberArray): Float64Array;
+    getList(indices: BigUint64Array): BigUint64Array;
+    getList(indices: Iterable<Whole>): (number | bigint)[];
+    /** rank of each numbers[i] before indices[i]. RangeError if an index is above length, or these are not as many. */
+    rankList(numbers: NumberArray, indices: Wholes): Float64Array;
+    rankList(numbers: BigUint64Array, indices: Wholes): BigUint64Array;
+    rankList(numbers: Iterable<Whole>, indices: Wholes): number[];
+    /** select of each numbers[i] with ranks[i]: NaN, NO_ANSWER or undefined where there is none. */
+    selectList(numbers: NumberArray, ranks: Wholes): Float64Array;
+    selectList(numbers: BigUint64Array, ranks: Wholes): BigUint64Array;
+    selectList(numbers: Iterable<Whole>, ranks: Wholes): (number | undefined)[];
+    [Symbol.iterator](): IterableIterator<number | bigint>;
+
+    /** Whether the block is as it was written and holds a wavelet matrix, by going over all of it. */
+    check(): boolean;
+    /** The bytes of the block. */
+    toBytes(): Uint8Array;
+    free(): void;
+    [Symbol.dispose](): void;
+}
+
 export interface OpenOptions {
     /** Whether to look at all parts, and throw WrongTables where they are not right: true unless given. */
     check?: boolean;
