@@ -1,4 +1,4 @@
-// src/web.js and all that it imports, in one file: made by one_file.mjs. sha256 of the sources: db9ccc3dcc5d3701a13d03e2d13eb5b2b3cf136ca4ed4d1ce1eae223e6842a53
+// src/web.js and all that it imports, in one file: made by one_file.mjs. sha256 of the sources: 8e9b1ac6aee6720272d4236428350cfc0e4d0350d35a0e844f18e3d2884835d5
 
 // src/core.js
 var VERSION = "0.3.0";
@@ -890,6 +890,9 @@ function sequenceHeader(length, lens) {
     throw refused(got, "the sequence", length);
   return headerAt();
 }
+function isWhole(at, it) {
+  return calls[it.check](at + BEFORE, it.size / 8) === 0;
+}
 function putHeader(file) {
   bytesAt(file, BITM_STORED.bytes).set(bytesAt(BESIDE, BITM_STORED.bytes));
 }
@@ -907,6 +910,8 @@ function tables(file, it) {
   return members;
 }
 function putIndex(at, it) {
+  if (it.check)
+    return;
   const file = at + BEFORE, members = { ...tables(file, it), bits_len: it.len };
   for (const [kind, zero] of [["ones", ""], ["zeros", "0"]]) {
     members[`${kind}_samples`] = file + it[`samples${zero}_at`];
@@ -918,6 +923,8 @@ function putIndex(at, it) {
   put2(at, BITM_INDEX, members);
 }
 function putSequence(at, it) {
+  if (it.check)
+    return;
   const file = at + BEFORE;
   put2(at, BITM_SEQUENCE, { ...tables(file, it), len: it.len, width: it.width, low: file + it.low_at, low_len: it.low_len });
 }
@@ -1052,6 +1059,8 @@ var Index = class {
   }
   /** Whether tables and samples are those of the bits, by going over all. */
   check() {
+    if (this.#header.check)
+      return isWhole(this.#live(), this.#header);
     const at = BigInt(this.#live()), sampled = [["ones", 1], ["zeros", 0]].filter((it) => this.#header[`${it[0]}_log2`]);
     return wasm.bitm_index_check(at) === 0 && sampled.every((it) => wasm.bitm_index_check_samples(at, it[1]) === 0);
   }
@@ -1282,7 +1291,8 @@ var EliasFano = class {
   }
   /** Whether all parts are those of some sequence, by going over all. */
   check() {
-    return wasm.bitm_sequence_check(BigInt(this.#live())) === 0;
+    const at = this.#live();
+    return this.#header.check ? isWhole(at, this.#header) : wasm.bitm_sequence_check(BigInt(at)) === 0;
   }
   /** The bytes of a file: what open() takes, and the C library and its other bindings. */
   toBytes() {
@@ -1823,11 +1833,12 @@ function open(bytes2, options = {}) {
   const block = new Block(BEFORE + 8 * words);
   let opened;
   try {
+    bytesAt(block.at, BEFORE).fill(0);
     bytesAt(block.at + BEFORE, 8 * words).set(from.subarray(0, 8 * words));
-    if (calls.bitm_stored_read(block.at + BEFORE, words, BESIDE) !== 0)
+    const header = ofFile(block.at, words) ?? ofBlock(block.at, words, from.length % 8);
+    if (!header)
       throw new WrongTables("bitm: it is not a file of an index or a sequence, or not all of it");
-    const header = headerAt(), Kind = header.kind === KIND.index ? Index : EliasFano;
-    opened = new Kind(new Opened(block, header));
+    opened = new (header.kind === KIND.index ? Index : EliasFano)(new Opened(block, header));
   } catch (it) {
     block.free();
     throw it;
@@ -1837,6 +1848,21 @@ function open(bytes2, options = {}) {
     throw new WrongTables("bitm: the parts of the file are not right: it was damaged");
   }
   return opened;
+}
+function ofFile(at, words) {
+  return calls.bitm_stored_read(at + BEFORE, words, BESIDE) === 0 ? headerAt() : void 0;
+}
+function ofBlock(at, words, more) {
+  const file = at + BEFORE, size = 8 * words;
+  if (more !== 0)
+    return void 0;
+  if (calls.bitm_index_block_open(file, words, at) === 0) {
+    const of = (name) => numberAt(at + BITM_INDEX[name]);
+    return { kind: KIND.index, size, len: of("bits_len"), words_at: of("words") - file, words_len: of("words_len"), check: "bitm_index_block_check" };
+  }
+  if (calls.bitm_sequence_block_open(file, words, at) === 0)
+    return { kind: KIND.sequence, size, len: numberAt(at + BITM_SEQUENCE.len), check: "bitm_sequence_block_check" };
+  return void 0;
 }
 
 // src/web.js

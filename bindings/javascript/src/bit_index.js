@@ -3,7 +3,7 @@ import { BitVector, wordsOf } from "./bit_vector.js";
 import { answers, chunks } from "./lists.js";
 import { Block, dispose, freed } from "./memory.js";
 import { orNone, orThrow, place } from "./numbers.js";
-import { BEFORE, buildIndex, indexRoom, putIndex } from "./stored.js";
+import { BEFORE, buildIndex, indexRoom, isWhole, putIndex } from "./stored.js";
 
 /** Bits that do not change, with tables to count and find them at once. */
 export class Index {
@@ -113,6 +113,7 @@ export class Index {
 
     /** Whether tables and samples are those of the bits, by going over all. */
     check() {
+        if (this.#header.check) return isWhole(this.#live(), this.#header);
         const at = BigInt(this.#live()), sampled = [["ones", 1], ["zeros", 0]].filter(it => this.#header[`${it[0]}_log2`]);
         return wasm.bitm_index_check(at) === 0 && sampled.every(it => wasm.bitm_index_check_samples(at, it[1]) === 0);
     }

@@ -4,7 +4,7 @@ import { BITM_LIST_COUNTS } from "./layout.js";
 import { answers, copyIn, copyOut, itemsAt, numbersOf } from "./lists.js";
 import { Block, dispose, freed, withRoom } from "./memory.js";
 import { WrongTables, byBigInts, must, notWhole, orNone, orThrow, place, refused, wrongType } from "./numbers.js";
-import { BEFORE, putHeader, putSequence, sequenceHeader } from "./stored.js";
+import { BEFORE, isWhole, putHeader, putSequence, sequenceHeader } from "./stored.js";
 
 const CHUNK = 4096;
 
@@ -186,7 +186,10 @@ export class EliasFano {
     }
 
     /** Whether all parts are those of some sequence, by going over all. */
-    check() { return wasm.bitm_sequence_check(BigInt(this.#live())) === 0; }
+    check() {
+        const at = this.#live();
+        return this.#header.check ? isWhole(at, this.#header) : wasm.bitm_sequence_check(BigInt(at)) === 0;
+    }
 
     /** The bytes of a file: what open() takes, and the C library and its other bindings. */
     toBytes() { return bytesAt(this.#live() + BEFORE, this.#header.size).slice(); }

@@ -43,6 +43,11 @@ export function sequenceHeader(length, lens) {
     return headerAt();
 }
 
+/** Whether a block that stands BEFORE bytes after its struct is as it was written. */
+export function isWhole(at, it) {
+    return calls[it.check](at + BEFORE, it.size / 8) === 0;
+}
+
 /** Copies the header at BESIDE to the front of the file. */
 export function putHeader(file) {
     bytesAt(file, BITM_STORED.bytes).set(bytesAt(BESIDE, BITM_STORED.bytes));
@@ -62,8 +67,9 @@ function tables(file, it) {
     return members;
 }
 
-/** Writes the struct of an index, or of a sequence, whose file stands BEFORE bytes after it. */
+/** Writes the struct of an index, or of a sequence, whose file stands BEFORE bytes after it; that of a block is there already. */
 export function putIndex(at, it) {
+    if (it.check) return;
     const file = at + BEFORE, members = { ...tables(file, it), bits_len: it.len };
     for (const [kind, zero] of [["ones", ""], ["zeros", "0"]]) {
         members[`${kind}_samples`] = file + it[`samples${zero}_at`];
@@ -76,6 +82,7 @@ export function putIndex(at, it) {
 }
 
 export function putSequence(at, it) {
+    if (it.check) return;
     const file = at + BEFORE;
     put(at, BITM_SEQUENCE, { ...tables(file, it), len: it.len, width: it.width, low: file + it.low_at, low_len: it.low_len });
 }

@@ -6,10 +6,12 @@ import { join } from "node:path";
 import { test } from "node:test";
 import { runInNewContext } from "node:vm";
 import { Worker } from "node:worker_threads";
-import { bitm, booleans, sorted } from "./plain.js";
+import { calls, bytesAt, wordsAt } from "../src/core.js";
+import { withRoom } from "../src/memory.js";
+import { bitm, booleans, counted, random, sorted } from "./plain.js";
 import { read, write } from "./stored_format.js";
 
-const { BitVector, EliasFano, Index, open } = bitm;
+const { BitVector, EliasFano, Index, WrongTables, open } = bitm;
 
 test("a folder of files, written and read", () => {
     const folder = mkdtempSync(join(tmpdir(), "bitm-js-"));
@@ -50,4 +52,60 @@ test("a worker opens what was built here", async () => {
     const got = await new Promise((done, fail) => worker.once("message", done).once("error", fail));
     await worker.terminate();
     assert.deepEqual(got, items);
+});
+
+/** The block of words that the library builds: build(at, n, block, size) calls it. */
+function built(words, size, build) {
+    return withRoom(8 * (words.length + size), at => {
+        const block = at + 8 * words.length;
+        wordsAt(at, words.length).set(words);
+        assert.equal(build(at, words.length, block, size), 0);
+        return bytesAt(block, 8 * size).slice();
+    });
+}
+
+const ofBits = it => built(it.toWords(), calls.bitm_index_block_size(it.length), (at, n, ...block) => calls.bitm_index_block_build(at, n, it.length, ...block));
+const ofNumbers = it => built(BigUint64Array.from(it, BigInt), calls.bitm_sequence_block_size(it.length, it.at(-1) ?? 0), calls.bitm_sequence_block_build);
+
+test("blocks of an index and of a sequence", () => {
+    for (const n of [0, 1, 64, 5000]) {
+        const bits = booleans(n, n + 1), { rank, ones, zeros } = counted(bits), block = ofBits(BitVector.fromBooleans(bits)), index = open(block);
+        assert.ok(index instanceof Index && index.check());
+        assert.deepEqual([index.length, index.byteLength], [n, block.length]);
+        assert.deepEqual(index.rankList(rank.map((_, k) => k)), rank);
+        assert.deepEqual([[...index], [...index.ones()], [...index.zeros()]], [bits, ones, zeros]);
+        assert.deepEqual([...index.toBitVector()], bits);
+        assert.deepEqual(index.toBytes(), block);
+        const items = Array.from(sorted(n, 1e9, n + 1)), own = ofNumbers(items), sequence = open(own);
+        assert.ok(sequence instanceof EliasFano && sequence.check());
+        assert.deepEqual([...sequence], items);
+        items.forEach((it, k) => assert.equal(sequence.at(sequence.firstAtLeast(it)), it, `number ${k}`));
+        assert.deepEqual(sequence.toBytes(), own);
+        assert.equal(open(block, { check: false }).length, n);
+    }
+});
+
+test("blocks of which a byte was changed, or some cut off", () => {
+    const bits = booleans(900, 3), r = random(4);
+    for (const block of [ofBits(BitVector.fromBooleans(bits)), ofNumbers(Array.from(sorted(60, 900, 4)))]) {
+        for (let at = 0; at < block.length; at++) {
+            const changed = block.slice();
+            changed[at] ^= 1 << r() % 8;
+            assert.throws(() => open(changed), WrongTables, `byte ${at}`);
+            if (at < 256) continue;
+            const it = open(changed, { check: false });
+            for (const name of ["select", "select0", "next", "previous", "firstAtLeast", "lastAtMost"]) {
+                try {
+                    const found = it[name]?.(r() % 900);
+                    if (found !== undefined) assert.ok(it instanceof Index ? it.get(found) === (name !== "select0") : found < 60);
+                } catch (error) {
+                    assert.ok(error instanceof WrongTables, error);
+                }
+            }
+            it.free();
+        }
+        for (let n = 0; n < block.length; n++) assert.throws(() => open(block.subarray(0, n)), WrongTables);
+        assert.throws(() => open(Uint8Array.from([...block, 0])), WrongTables);
+        assert.throws(() => bitm.Tree.open(block), WrongTables);
+    }
 });
