@@ -6,7 +6,7 @@ use std::test::Fail;
 use text_index::TextIndex;
 
 /// Whether the suffix at one position goes before that at another.
-fn goes_before(text: &[u64], first: usize, second: usize) -> bool {
+pub fn goes_before(text: &[u64], first: usize, second: usize) -> bool {
     for i in 0..=text.len() {
         let (a, b) = (first.saturating_add(i), second.saturating_add(i));
         if b >= text.len() {
