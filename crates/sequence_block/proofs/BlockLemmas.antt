@@ -20,7 +20,7 @@ use Rattle.elias_fano.specs.Sequence.{largest}
 use Rattle.elias_fano_view.proofs.RoomLemmas.{room-sizes}
 use Rattle.elias_fano_view.specs.Sizes.{sizes_of}
 use Rattle.elias_fano_view.specs.declared.sizes.Sizes.{Sizes}
-use Rattle.sequence_block.specs.Block.{sections_of, sequence_head, sequence_in, AreWritten, IsBlockOf, StandsIn}
+use Rattle.sequence_block.specs.Block.{numbers_head, sections_of, sequence_in, AreWritten, HoldsNumbers, StandsIn}
 
 -- the sections of a sequence are few and short
 module _ (xs : List ℕ) (short : length xs < 2 ^ 56) (rising : IsNonDecreasing xs) (fits : (k : ℕ) → get_or xs k 0 < 2 ^ 64) where
@@ -63,10 +63,11 @@ stands xs head words gap upper gap2 lower gap3 low tail head_len lens are =
     (subst (λ (l : List ℕ). AreWritten xs low words upper l) (sym (part_is ss ps head 2 lens from (omega arith))) are))))
 
 -- a sealed block whose sections hold the sequence is its block
-pub block_is : (xs old new : List ℕ) → IsSealed (sequence_head (length xs) (width_of xs)) (sections_of xs) old new → StandsIn xs old → IsBlockOf xs new
-block_is xs old new sealed are =
+pub block_is : (kind b : ℕ) (xs old new : List ℕ) → IsSealed (numbers_head kind b (length xs) (width_of xs)) (sections_of xs) old new → StandsIn xs old
+    → HoldsNumbers kind b xs new
+block_is kind b xs old new sealed are =
     let ss = sections_of xs in
-    let head : Head = sequence_head (length xs) (width_of xs) in
+    let head : Head = numbers_head kind b (length xs) (width_of xs) in
     let low = part_in ss old 3 in
     let words = part_in ss old 0 in
     let upper = part_in ss old 1 in
@@ -109,4 +110,5 @@ block_is xs old new sealed are =
         parts = (xs, holds);
       };
       holds = holds;
+      besides = ap (λ (h : Head). h.b) sealed.head_is;
     }

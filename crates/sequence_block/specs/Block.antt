@@ -1,4 +1,4 @@
--- A block that holds a monotone sequence.
+-- A block that holds a monotone sequence, and blocks of other kinds that hold one in the same sections.
 use Rattle.std.specs.Prelude.{◌≡◌, ℕ, ◌^◌, ◌<◌, ◌≤◌, List, [], ◌∷◌, length, slice_index}
 use Rattle.std.specs.List.Sorted.{IsNonDecreasing}
 use Rattle.bitm_block.specs.Header.{count_in, section_in, IsBlock, IsVerified}
@@ -13,9 +13,9 @@ use Rattle.elias_fano.specs.Parts.{width_of}
 use Rattle.elias_fano.specs.Sequence.{largest}
 use Rattle.elias_fano_view.specs.Sizes.{sizes_of, HasRoom}
 
--- the numbers of the header of n numbers with l low bits
-abbrev pub sequence_head : ℕ → ℕ → Head
-sequence_head n l = record { kind = 3; len = n; width = l; ones_log2 = 0; zeros_log2 = 0; a = 0; b = 0; c = 0 }
+-- the numbers of the header of n numbers with l low bits in a block of a kind, which has the number b besides
+abbrev pub numbers_head : ℕ → ℕ → ℕ → ℕ → Head
+numbers_head kind b n l = record { kind = kind; len = n; width = l; ones_log2 = 0; zeros_log2 = 0; a = 0; b = b; c = 0 }
 
 -- the sections of n numbers, the largest of them u: the words of the high bits, their tables, and the low bits
 abbrev pub sequence_sections : ℕ → ℕ → List Section
@@ -41,30 +41,41 @@ StandsIn xs block =
 abbrev pub sequence_in : List ℕ → LentParts
 sequence_in block = parts_of (slice_index block 3) (slice_index block 4) (section_in block 3) (tables_in block)
 
--- the block is of the kind of a sequence, and its first four sections are words, two tables and low bits
-pub record HasSequenceSections (block : List ℕ) : Type 0 where
-  pub tables : HasTableSections 3 block
+-- the block is of a kind, and its first four sections are words, two tables and low bits
+pub record HasSequenceSections (kind : ℕ) (block : List ℕ) : Type 0 where
+  pub tables : HasTableSections kind block
   pub four : 4 ≤ count_in block
   pub low : slice_index block 28 ≡ 9
 
--- header and directory are those of a sequence, and the sections are as long as its numbers need: nothing is said of
--- what they hold
-pub record IsSequenceBlock (block : List ℕ) : Type 0 where
+-- header and directory are those of a sequence in a block of a kind, and the sections are as long as its numbers need:
+-- nothing is said of what they hold
+pub record IsBlockOfKind (kind : ℕ) (block : List ℕ) : Type 0 where
   pub is_block : IsBlock block
-  pub sections : HasSequenceSections block
+  pub sections : HasSequenceSections kind block
   pub sized : HasSizes (tables_in block)
   pub lengths : HasLengths (sequence_in block)
 
 -- and the sections are as they were written, and hold some sequence
-pub record IsSoundBlock (block : List ℕ) : Type 0 where
-  pub sequence_block : IsSequenceBlock block
+pub record IsSoundOfKind (kind : ℕ) (block : List ℕ) : Type 0 where
+  pub sequence_block : IsBlockOfKind kind block
   pub verified : IsVerified block
   pub parts : AreParts (sequence_in block)
 
--- the block is that of the sequence xs
-pub record IsBlockOf (xs block : List ℕ) : Type 0 where
-  pub sound : IsSoundBlock block
+-- the block of a kind is that of the sequence xs, and its header has the number b besides
+pub record HoldsNumbers (kind b : ℕ) (xs block : List ℕ) : Type 0 where
+  pub sound : IsSoundOfKind kind block
   pub holds : Holds xs (sequence_in block)
+  pub besides : slice_index block 9 ≡ b
+
+-- the same of the kind of sequences, which has no number besides
+abbrev pub IsSequenceBlock : List ℕ → Type 0
+IsSequenceBlock = IsBlockOfKind 3
+
+abbrev pub IsSoundBlock : List ℕ → Type 0
+IsSoundBlock = IsSoundOfKind 3
+
+abbrev pub IsBlockOf : List ℕ → List ℕ → Type 0
+IsBlockOf = HoldsNumbers 3 0
 
 -- numbers of a sequence, few enough, and a block as long as theirs
 pub record CanHold (xs block : List ℕ) : Type 0 where

@@ -6,11 +6,11 @@ ghost use Rattle.bitm_block.specs.Written.{IsSealed};
 ghost use Rattle.elias_fano.specs.Parts.{width_of};
 ghost use Rattle.elias_fano.specs.Sequence.{largest, HasFall};
 ghost use Rattle.elias_fano_view.specs.Sizes.{sizes_of, HasRoom};
-ghost use Rattle.sequence_block.specs.Block.{sections_of, sequence_head};
-ghost use Rattle.sequence_block.specs.Block.{AreWritten, CanHold, IsBlockOf, StandsIn};
+ghost use Rattle.sequence_block.specs.Block.{numbers_head, sections_of};
+ghost use Rattle.sequence_block.specs.Block.{AreWritten, CanHold, HoldsNumbers, IsBlockOf, StandsIn};
 
 use crate::error::BuildError;
-use crate::sections::{sequence_head, sequence_sections, size};
+use crate::sections::{SEQUENCE, numbers_head, sequence_sections, size};
 use bitm_block::{aligned, seal};
 use block_tables::as_entries_mut;
 use elias_fano::building::{is_rising, largest_of};
@@ -51,18 +51,18 @@ fn write_parts(items: &[u64], sizes: &Sizes, block: &mut [u64])
     write_numbers(items, low, words, upper, lower);
 }
 
-/// Writes the header and the directory of a sequence.
-fn seal_sequence(items: &[u64], sizes: &Sizes, block: &mut [u64])
+/// Writes the header and the directory of a sequence in a block of a kind.
+fn seal_sequence(kind: u64, b: u64, items: &[u64], sizes: &Sizes, block: &mut [u64])
     requires sizes { sizes.now ≡ sizes_of (length items.now) (largest items.now) }
     requires short { length items.now < 2 ^ 56 }
     requires rising { IsNonDecreasing items.now }
     requires room { length block.old ≡ end_of (sections_of items.now) }
-    ensures { IsSealed (sequence_head (length items.now) (width_of items.now)) (sections_of items.now)
-        block.old block.new }
+    ensures { IsSealed (numbers_head kind b (length items.now) (width_of items.now))
+        (sections_of items.now) block.old block.new }
 {
     let sections = sequence_sections(items.len(), largest_of(items), sizes);
     match seal(
-        &sequence_head(items.len(), sizes.width),
+        &numbers_head(kind, b, items.len(), sizes.width),
         sections.as_slice(),
         block,
     ) {
@@ -71,14 +71,14 @@ fn seal_sequence(items: &[u64], sizes: &Sizes, block: &mut [u64])
     }
 }
 
-/// Writes the block of a sequence.
-fn write_block(items: &[u64], sizes: &Sizes, block: &mut [u64])
+/// Writes the block of a sequence, of a kind.
+fn write_block(kind: u64, b: u64, items: &[u64], sizes: &Sizes, block: &mut [u64])
     requires sizes { sizes.now ≡ sizes_of (length items.now) (largest items.now) }
     requires holds { CanHold items.now block.old }
-    ensures { IsBlockOf items.now block.new }
+    ensures { HoldsNumbers kind b items.now block.new }
 {
     write_parts(items, sizes, &mut *block);
-    seal_sequence(items, sizes, block);
+    seal_sequence(kind, b, items, sizes, block);
 }
 
 /// Writes the block of the given numbers, which `open` opens and `check` accepts.
@@ -104,6 +104,29 @@ pub fn build(items: &[u64], block: &mut [u64]) -> Result<(), BuildError>
     ensures block { IfOk result (λ _. IsBlockOf items.now block.new) }
     ensures kept { IfErr result (λ _. block.new ≡ block.old) }
 {
+    build_as(SEQUENCE, 0, items, block)
+}
+
+/// As `build`, for a block of another kind, whose first four sections are those of a sequence: its header has the number
+/// `b` besides.
+///
+/// # Errors
+/// Those of `build`.
+/// # Cost
+/// That of `build`.
+///
+/// ```
+/// build_as(SEQUENCE, 0, &[2, 3, 5], block.as_mut_slice());   // as build(&[2, 3, 5], block.as_mut_slice())
+/// ```
+pub fn build_as(kind: u64, b: u64, items: &[u64], block: &mut [u64]) -> Result<(), BuildError>
+    ensures too_long { IsErrOf result BuildError.TooLong ↔ (2 ^ 56 ≤ length items.now) }
+    ensures not_sorted { IsErrOf result BuildError.NotSorted
+        ↔ ((length items.now < 2 ^ 56) × HasFall items.now) }
+    ensures wrong_length { IsErrOf result BuildError.WrongLength ↔ ((length items.now < 2 ^ 56)
+        × IsNonDecreasing items.now × (length block.old ≢ end_of (sections_of items.now))) }
+    ensures block { IfOk result (λ _. HoldsNumbers kind b items.now block.new) }
+    ensures kept { IfErr result (λ _. block.new ≡ block.old) }
+{
     let largest = largest_of(items);
     let (Some(sizes), Some(words)) = (Sizes::of(items.len(), largest), size(items.len(), largest))
     else {
@@ -115,6 +138,6 @@ pub fn build(items: &[u64], block: &mut [u64]) -> Result<(), BuildError>
     if block.len() != words {
         return Err(BuildError::WrongLength);
     }
-    write_block(items, &sizes, block);
+    write_block(kind, b, items, &sizes, block);
     Ok(())
 }

@@ -28,8 +28,8 @@ mod error;
 mod opening;
 mod sections;
 
-pub use building::build;
+pub use building::{build, build_as};
 pub use elias_fano_view::{Answer, LentSequence, ListAnswer};
 pub use error::BuildError;
-pub use opening::{check, open};
+pub use opening::{check, check_as, open, open_as};
 pub use sections::{SEQUENCE, size};

@@ -1,19 +1,20 @@
 //! The view of a block of a sequence, and whether the block holds what it says.
 ghost use Rattle.std.specs.Prelude.{◌↔◌, IsTrue, SomeIff};
 ghost use Rattle.sequence_block.specs.Block.{sequence_in, HasSequenceSections, IsSequenceBlock, IsSoundBlock};
+ghost use Rattle.sequence_block.specs.Block.{IsBlockOfKind, IsSoundOfKind};
 
 use crate::sections::SEQUENCE;
 use bitm_block::Block;
 use block_tables::{has_tables, tables_of};
 use elias_fano_view::LentSequence;
 
-/// Whether a block is of the kind of a sequence, and its first four sections are words, two tables and low bits.
+/// Whether a block is of a kind, and its first four sections are words, two tables and low bits.
 #[inline(always)]
-fn has_sequence(block: &Block<'_>) -> bool
-    ensures { IsTrue result ↔ HasSequenceSections block.now }
+fn has_sequence(block: &Block<'_>, kind: u64) -> bool
+    ensures { IsTrue result ↔ HasSequenceSections kind block.now }
 {
     let words = block.words();
-    has_tables(block, SEQUENCE) && words[11] >= 4 && words[28] == 9
+    has_tables(block, kind) && words[11] >= 4 && words[28] == 9
 }
 
 /// The sequence in a block; `None` exactly where the words are no block (`Block::open` says why), the block is of
@@ -30,10 +31,24 @@ fn has_sequence(block: &Block<'_>) -> bool
 pub fn open(block: &[u64]) -> Option<LentSequence<'_>>
     ensures { SomeIff result (IsSequenceBlock block.now) (sequence_in block.now) }
 {
+    open_as(SEQUENCE, block)
+}
+
+/// The sequence in a block of another kind, whose first four sections are those of a sequence; else as `open`.
+///
+/// # Cost
+/// That of `open`.
+///
+/// ```
+/// open_as(SEQUENCE, block.as_slice());   // as open(block.as_slice())
+/// ```
+pub fn open_as(kind: u64, block: &[u64]) -> Option<LentSequence<'_>>
+    ensures { SomeIff result (IsBlockOfKind kind block.now) (sequence_in block.now) }
+{
     let Ok(opened) = Block::open(block) else {
         return None;
     };
-    if !has_sequence(&opened) || block[4] > 63 {
+    if !has_sequence(&opened, kind) || block[4] > 63 {
         return None;
     }
     let low = opened.section(3)?;
@@ -53,7 +68,21 @@ pub fn open(block: &[u64]) -> Option<LentSequence<'_>>
 pub fn check(block: &[u64]) -> bool
     ensures { IsTrue result ↔ IsSoundBlock block.now }
 {
-    match (open(block), Block::open(block)) {
+    check_as(SEQUENCE, block)
+}
+
+/// As `check`, of a block of another kind, whose first four sections are those of a sequence.
+///
+/// # Cost
+/// That of `check`.
+///
+/// ```
+/// check_as(SEQUENCE, block.as_slice());   // as check(block.as_slice())
+/// ```
+pub fn check_as(kind: u64, block: &[u64]) -> bool
+    ensures { IsTrue result ↔ IsSoundOfKind kind block.now }
+{
+    match (open_as(kind, block), Block::open(block)) {
         (Some(sequence), Ok(opened)) => opened.verify() && sequence.check(),
         _ => false,
     }

@@ -2,7 +2,7 @@
 ghost use Rattle.std.specs.Prelude.{◌≡◌, SomeIff};
 ghost use Rattle.bitm_block.specs.Layout.{end_of};
 ghost use Rattle.elias_fano_view.specs.Sizes.{sizes_of, IsLargest};
-ghost use Rattle.sequence_block.specs.Block.{sequence_head, sequence_sections};
+ghost use Rattle.sequence_block.specs.Block.{numbers_head, sequence_sections};
 
 use bitm_block::{Head, Section, aligned};
 use elias_fano_view::Sizes;
@@ -10,18 +10,18 @@ use elias_fano_view::Sizes;
 /// The kind of a sequence.
 pub const SEQUENCE: u64 = 3;
 
-/// The numbers of the header of the given number of numbers.
-pub(crate) fn sequence_head(len: usize, width: u8) -> Head
-    ensures { result ≡ sequence_head len width }
+/// The numbers of the header of the given number of numbers in a block of a kind, which has the number `b` besides.
+pub(crate) fn numbers_head(kind: u64, b: u64, len: usize, width: u8) -> Head
+    ensures { result ≡ numbers_head kind b len width }
 {
     Head {
-        kind: SEQUENCE,
+        kind,
         len: len as u64,
         width: width as u64,
         ones_log2: 0,
         zeros_log2: 0,
         a: 0,
-        b: 0,
+        b,
         c: 0,
     }
 }

@@ -36,7 +36,14 @@ fn ends_below(numbers: &[u64], end: usize) -> bool
 /// # Errors
 /// `TooLong` exactly where there are 2^56 numbers or more; else `NotRising` exactly where some number is not greater
 /// than the one before it; else `PastEnd` exactly where some number is not less than `len`.
-pub(crate) fn check(positions: &[u64], len: usize) -> Result<(), SparseError>
+/// # Cost
+/// One pass over the positions (evident from the code).
+///
+/// ```
+/// check_positions(&[3, 100, 101, 4000], 5000);   // Ok(())
+/// check_positions(&[3, 3], 5000);                // Err(SparseError::NotRising)
+/// ```
+pub fn check_positions(positions: &[u64], len: usize) -> Result<(), SparseError>
     ensures places { IfOk result (λ _. ArePlaces len 0 positions.now) }
     ensures short { IfOk result (λ _. length positions.now < 2 ^ 56) }
     ensures too_long { IsErrOf result SparseError.TooLong ↔ (2 ^ 56 ≤ length positions.now) }
@@ -44,6 +51,7 @@ pub(crate) fn check(positions: &[u64], len: usize) -> Result<(), SparseError>
         ↔ ((length positions.now < 2 ^ 56) × HasNoRise positions.now) }
     ensures past_end { IsErrOf result SparseError.PastEnd
         ↔ ((length positions.now < 2 ^ 56) × Rises positions.now × HasPast positions.now len) }
+    ensures memory { ¬ (IsErrOf result SparseError.OutOfMemory) }
 {
     if positions.len() >= TOO_MANY {
         return Err(SparseError::TooLong);

@@ -27,5 +27,6 @@ mod counted;
 mod error;
 mod sparse;
 
+pub use checking::check_positions;
 pub use error::SparseError;
 pub use sparse::{BinarySparseBits, SampledSparseBits, SparseBits};

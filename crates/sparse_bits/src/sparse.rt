@@ -6,7 +6,7 @@ ghost use Rattle.elias_fano.specs.Parts.{width_of, low_words_of, upper_words_of}
 ghost use Rattle.sparse_bits.specs.Positions.{HasNoRise, HasPast, Rises};
 ghost use Rattle.sparse_bits.specs.Value.{bytes_of};
 
-use crate::checking::{TOO_MANY, check};
+use crate::checking::{TOO_MANY, check_positions};
 use crate::counted::Ones;
 use crate::error::SparseError;
 use bitm::{
@@ -78,7 +78,7 @@ impl<S: SelectForRank101111, S0: Select0ForRank101111> SparseBits<S, S0> {
         ensures size { IfOk result (λ made. let xs = places true 0 made.bits in let l = width_of xs in
             64 * (low_words_of xs l + upper_words_of xs l) ≤ length xs * (l + 3) + 126) }
     {
-        check(positions, len)?;
+        check_positions(positions, len)?;
         match Sequence::build(alloc, positions) {
             Ok(ones) => Ok(SparseBits { ones, len }),
             Err(_) => Err(SparseError::OutOfMemory),

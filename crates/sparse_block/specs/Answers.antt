@@ -1,0 +1,30 @@
+-- What a query of sparse bits answers over parts that may hold anything.
+use Rattle.std.specs.Prelude.{◌≡◌, ℕ, ◌<◌, ◌≤◌, Bool, List, length}
+use Rattle.bit_lists.specs.Bits.{item}
+use Rattle.bitm.specs.Answer.{Answer}
+use Rattle.bitm.specs.Answer.TheVariants.{Found, Absent, Wrong}
+
+-- a bit is one of n, and the answer is Absent exactly where there is no such bit
+abbrev pub IsBitWithin : ℕ → ℕ → Answer Bool → Type 0
+IsBitWithin n i (Found x) = i < n
+IsBitWithin n i Absent = n ≤ i
+IsBitWithin n i Wrong = i < n
+
+-- bit i, and Absent exactly where there is none
+abbrev pub IsBitOf : List Bool → ℕ → Answer Bool → Type 0
+IsBitOf b i (Found x) = (i < length b) × (x ≡ item b i)
+IsBitOf b i Absent = length b ≤ i
+IsBitOf b i Wrong = ⊥
+
+-- a position that is found is one of n
+abbrev pub IsPositionWithin : ℕ → Answer ℕ → Type 0
+IsPositionWithin n (Found p) = p < n
+IsPositionWithin n Absent = ⊤
+IsPositionWithin n Wrong = ⊤
+
+-- of c bits, the position of the one with rank r is one of n, and the answer is Absent exactly where there are no more
+-- than r
+abbrev pub IsSelectedWithin : ℕ → ℕ → ℕ → Answer ℕ → Type 0
+IsSelectedWithin c n r (Found p) = (r < c) × (p < n)
+IsSelectedWithin c n r Absent = c ≤ r
+IsSelectedWithin c n r Wrong = r < c

@@ -1,0 +1,43 @@
+-- A block that holds sparse bits: the positions of their 1 bits as a monotone sequence.
+use Rattle.std.specs.Prelude.{◌≡◌, ℕ, List, Bool, slice_index}
+use Rattle.elias_fano.specs.LentParts.{Holds, LentParts}
+use Rattle.sequence_block.specs.Block.{sequence_in, IsBlockOfKind, IsSoundOfKind}
+use Rattle.sparse_bits.specs.Positions.{bits_at, ArePlaces}
+
+-- the parts of the sequence of positions, and how many bits there are: they may hold anything
+pub record SparseParts : Type 0 where
+  pub positions : LentParts
+  pub len : ℕ
+
+-- the parts are those of n bits whose 1 bits are at the positions xs, with n as they say
+pub record HoldsOnes (xs : List ℕ) (v : SparseParts) : Type 0 where
+  pub holds : Holds xs v.positions
+  pub places : ArePlaces v.len 0 xs
+
+-- the bits whose 1 bits are at these positions
+abbrev pub bits_of : List ℕ → SparseParts → List Bool
+bits_of xs v = bits_at v.len 0 xs
+
+-- the parts are those of some bits
+abbrev pub HoldsBits : SparseParts → Type 0
+HoldsBits v = (xs : List ℕ) × HoldsOnes xs v
+
+-- the positions are the first four sections, and the header has the number of bits
+abbrev pub sparse_in : List ℕ → SparseParts
+sparse_in block = record { positions = sequence_in block; len = slice_index block 9 }
+
+-- header and directory are those of sparse bits, and the sections are as long as the 1 bits need: nothing is said of
+-- what they hold
+abbrev pub IsSparseBlock : List ℕ → Type 0
+IsSparseBlock = IsBlockOfKind 4
+
+-- and the sections are as they were written, and hold some bits
+pub record IsSoundBlock (block : List ℕ) : Type 0 where
+  pub sequence : IsSoundOfKind 4 block
+  pub bits : HoldsBits (sparse_in block)
+
+-- the block is that of n bits whose 1 bits are at the positions xs
+pub record IsBlockOf (xs : List ℕ) (n : ℕ) (block : List ℕ) : Type 0 where
+  pub sound : IsSoundBlock block
+  pub ones : HoldsOnes xs (sparse_in block)
+  pub len : (sparse_in block).len ≡ n

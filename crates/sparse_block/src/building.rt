@@ -1,0 +1,65 @@
+//! The block of sparse bits, written into the caller's memory.
+ghost use Rattle.std.specs.Prelude.{◌≡◌, ◌≢◌, ◌^◌, ◌<◌, ◌≤◌, ◌↔◌, IfErr, IfOk, IsErrOf, length};
+ghost use Rattle.bitm_block.specs.Layout.{end_of};
+ghost use Rattle.sequence_block.specs.Block.{sections_of};
+ghost use Rattle.sparse_bits.specs.Positions.{ArePlaces, HasNoRise, HasPast, Rises};
+ghost use Rattle.sparse_block.specs.Block.{IsBlockOf};
+
+use crate::error::BuildError;
+use crate::view::SPARSE_BITS;
+use sequence_block::build_as;
+use sparse_bits::{SparseError, check_positions};
+
+/// Tests numbers that are to be the positions of the 1 bits among `len` bits.
+fn check_ones(positions: &[u64], len: usize) -> Result<(), BuildError>
+    ensures places { IfOk result (λ _. ArePlaces len 0 positions.now) }
+    ensures short { IfOk result (λ _. length positions.now < 2 ^ 56) }
+    ensures too_long { IsErrOf result BuildError.TooLong ↔ (2 ^ 56 ≤ length positions.now) }
+    ensures not_rising { IsErrOf result BuildError.NotRising
+        ↔ ((length positions.now < 2 ^ 56) × HasNoRise positions.now) }
+    ensures past_end { IsErrOf result BuildError.PastEnd
+        ↔ ((length positions.now < 2 ^ 56) × Rises positions.now × HasPast positions.now len) }
+    ensures length { ¬ (IsErrOf result BuildError.WrongLength) }
+{
+    match check_positions(positions, len) {
+        Ok(()) => Ok(()),
+        Err(SparseError::TooLong) => Err(BuildError::TooLong),
+        Err(SparseError::NotRising) => Err(BuildError::NotRising),
+        Err(SparseError::PastEnd) => Err(BuildError::PastEnd),
+        Err(SparseError::OutOfMemory) => unreachable!(),
+    }
+}
+
+/// Writes the block of `len` bits, of which those at the given positions are 1 bits. `SparseView::open` opens it and
+/// `check` accepts it.
+///
+/// # Errors
+/// `TooLong` exactly where there are 2^56 positions or more; else `NotRising` exactly where some position is not greater
+/// than the one before it; else `PastEnd` exactly where some position is not less than `len`; else `WrongLength` exactly
+/// where the words are not as many as the block takes (`size` of the number of positions and the last of them). The
+/// words stay as they are then.
+/// # Cost
+/// Six passes over the positions, and three over the block (evident from the code). Nothing is allocated.
+///
+/// ```
+/// let mut block = [0u64; 64];                                // size(4, 4000): Some(64)
+/// build(&[3, 100, 101, 4000], 5000, block.as_mut_slice());   // Ok(())
+/// build(&[3, 3], 5000, block.as_mut_slice());                // Err(BuildError::NotRising)
+/// ```
+pub fn build(positions: &[u64], len: usize, block: &mut [u64]) -> Result<(), BuildError>
+    ensures too_long { IsErrOf result BuildError.TooLong ↔ (2 ^ 56 ≤ length positions.now) }
+    ensures not_rising { IsErrOf result BuildError.NotRising
+        ↔ ((length positions.now < 2 ^ 56) × HasNoRise positions.now) }
+    ensures past_end { IsErrOf result BuildError.PastEnd
+        ↔ ((length positions.now < 2 ^ 56) × Rises positions.now × HasPast positions.now len) }
+    ensures wrong_length { IsErrOf result BuildError.WrongLength ↔ ((length positions.now < 2 ^ 56)
+        × ArePlaces len 0 positions.now × (length block.old ≢ end_of (sections_of positions.now))) }
+    ensures block { IfOk result (λ _. IsBlockOf positions.now len block.new) }
+    ensures kept { IfErr result (λ _. block.new ≡ block.old) }
+{
+    check_ones(positions, len)?;
+    match build_as(SPARSE_BITS, len as u64, positions, block) {
+        Ok(()) => Ok(()),
+        Err(_) => Err(BuildError::WrongLength),
+    }
+}

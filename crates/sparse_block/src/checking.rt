@@ -1,0 +1,45 @@
+//! Whether a block of sparse bits holds what it says.
+ghost use Rattle.std.specs.Prelude.{◌↔◌, IsTrue, List, ℕ};
+ghost use Rattle.elias_fano.specs.LentParts.{Holds};
+ghost use Rattle.sparse_bits.specs.Positions.{ArePlaces};
+ghost use Rattle.sparse_block.specs.Block.{IsSoundBlock};
+
+use crate::view::{SPARSE_BITS, SparseView};
+use bitm::Answer;
+use elias_fano_view::LentSequence;
+use sequence_block::check_as;
+
+/// Whether each number of a sequence is greater than the one before it, and less than `end`.
+fn rise_below(numbers: &LentSequence<'_>, end: u64) -> bool
+    ensures { (xs : List ℕ) → Holds xs numbers.now → IsTrue result ↔ ArePlaces end 0 xs }
+{
+    let mut next = 0;
+    for at in 0..numbers.len() {
+        match numbers.get(at) {
+            Answer::Found(number) if next <= number && number < end => next = number + 1,
+            _ => return false,
+        }
+    }
+    true
+}
+
+/// Whether the block is opened, is as it was written, and holds sparse bits: then each answer of the view is that of
+/// counting.
+///
+/// # Cost
+/// Four passes over the words of the block, and one selection for each 1 bit (evident from the code).
+///
+/// ```
+/// check(block.as_slice());   // true of a block that `build` wrote
+/// ```
+pub fn check(block: &[u64]) -> bool
+    ensures { IsTrue result ↔ IsSoundBlock block.now }
+{
+    if !check_as(SPARSE_BITS, block) {
+        return false;
+    }
+    match SparseView::open(block) {
+        Some(view) => rise_below(&view.positions, view.len() as u64),
+        None => false,
+    }
+}

@@ -1,0 +1,248 @@
+//! The block of four 1 bits among 5000: its words, its answers, and those of other words in its place.
+use bitm_block::{Block, checksum_of};
+use sparse_block::{Answer, BuildError, SparseView, build, check, size};
+use std::process::Abort;
+use std::test::Fail;
+
+/// The positions of the 1 bits.
+const POSITIONS: [u64; 4] = [3, 100, 101, 4000];
+
+/// Their block, as a program in Python made it from the tables of docs/FORMAT.md.
+const BLOCK: [u64; 64] = [
+    0x036261746d746962,
+    0x0000000000000004,
+    0x0000000000000200,
+    0x0000000000000004,
+    0x0000000000000009,
+    0x0000000000000000,
+    0x0000000000000000,
+    0x0000000000000000,
+    0x0000000000000000,
+    0x0000000000001388,
+    0x0000000000000000,
+    0x0000000000000004,
+    0x0000000000000000,
+    0x0000000000000000,
+    0x61538fd0bcef7873,
+    0xeff4edd143b6ca1e,
+    0x0000000000000001,
+    0x0000000000000100,
+    0x0000000000000001,
+    0x9333c056b69cfc28,
+    0x0000000000000002,
+    0x0000000000000140,
+    0x0000000000000001,
+    0x9e3779b9e17d05ac,
+    0x0000000000000003,
+    0x0000000000000180,
+    0x0000000000000001,
+    0xffe40a0d80ae7618,
+    0x0000000000000009,
+    0x00000000000001c0,
+    0x0000000000000001,
+    0x230d0d8223a46da8,
+    0x0000000000000407,
+    0x0000000000000000,
+    0x0000000000000000,
+    0x0000000000000000,
+    0x0000000000000000,
+    0x0000000000000000,
+    0x0000000000000000,
+    0x0000000000000000,
+    0x0000000000000000,
+    0x0000000000000000,
+    0x0000000000000000,
+    0x0000000000000000,
+    0x0000000000000000,
+    0x0000000000000000,
+    0x0000000000000000,
+    0x0000000000000000,
+    0x0100200400000000,
+    0x0000000000000000,
+    0x0000000000000000,
+    0x0000000000000000,
+    0x0000000000000000,
+    0x0000000000000000,
+    0x0000000000000000,
+    0x0000000000000000,
+    0x0000000d0194c803,
+    0x0000000000000000,
+    0x0000000000000000,
+    0x0000000000000000,
+    0x0000000000000000,
+    0x0000000000000000,
+    0x0000000000000000,
+    0x0000000000000000,
+];
+
+/// The number that was found, or 9000 for `Absent`, 9001 for `Wrong`.
+fn number_of(answer: Answer<usize>) -> usize {
+    match answer {
+        Answer::Found(number) => number,
+        Answer::Absent => 9000,
+        Answer::Wrong => 9001,
+    }
+}
+
+/// 0 or 1 for the bit that was found, or 9000 for `Absent`, 9001 for `Wrong`.
+fn digit_of(answer: Answer<bool>) -> usize {
+    match answer {
+        Answer::Found(bit) => bit as usize,
+        Answer::Absent => 9000,
+        Answer::Wrong => 9001,
+    }
+}
+
+/// How many of the first 0, 3, 4, 101, 102, 4001, 5000 and 5001 bits are 1 bits.
+fn ranks(bits: &SparseView<'_>) -> [usize; 8] {
+    [
+        number_of(bits.rank(0)),
+        number_of(bits.rank(3)),
+        number_of(bits.rank(4)),
+        number_of(bits.rank(101)),
+        number_of(bits.rank(102)),
+        number_of(bits.rank(4001)),
+        number_of(bits.rank(5000)),
+        number_of(bits.rank(5001)),
+    ]
+}
+
+/// How many of them are 0 bits.
+fn ranks0(bits: &SparseView<'_>) -> [usize; 8] {
+    [
+        number_of(bits.rank0(0)),
+        number_of(bits.rank0(3)),
+        number_of(bits.rank0(4)),
+        number_of(bits.rank0(101)),
+        number_of(bits.rank0(102)),
+        number_of(bits.rank0(4001)),
+        number_of(bits.rank0(5000)),
+        number_of(bits.rank0(5001)),
+    ]
+}
+
+/// The positions of the 1 bits with ranks 0 to 4, and of the 0 bits with ranks 0, 3, 98, 99, 3996, 3997, 4995 and 4996.
+fn selections(bits: &SparseView<'_>) -> [usize; 13] {
+    [
+        number_of(bits.select(0)),
+        number_of(bits.select(1)),
+        number_of(bits.select(2)),
+        number_of(bits.select(3)),
+        number_of(bits.select(4)),
+        number_of(bits.select0(0)),
+        number_of(bits.select0(3)),
+        number_of(bits.select0(98)),
+        number_of(bits.select0(99)),
+        number_of(bits.select0(3996)),
+        number_of(bits.select0(3997)),
+        number_of(bits.select0(4995)),
+        number_of(bits.select0(4996)),
+    ]
+}
+
+/// The bits at positions 3, 4, 100, 4999 and 5000.
+fn digits(bits: &SparseView<'_>) -> [usize; 5] {
+    [
+        digit_of(bits.get_bit(3)),
+        digit_of(bits.get_bit(4)),
+        digit_of(bits.get_bit(100)),
+        digit_of(bits.get_bit(4999)),
+        digit_of(bits.get_bit(5000)),
+    ]
+}
+
+/// How many bits of the words can be flipped, one at a time, so that they are accepted all the same.
+fn unseen_flips(words: &mut [u64]) -> usize {
+    let mut unseen = 0usize;
+    for i in 0..words.len() {
+        for bit in 0..64u32 {
+            words[i] ^= 1u64 << bit;
+            unseen = unseen.wrapping_add(check(&*words) as usize);
+            words[i] ^= 1u64 << bit;
+        }
+    }
+    unseen
+}
+
+#[test]
+fn positions_are_written_and_answer(rt: HostRuntime) -> Result<(), Fail> {
+    assert!(rt; size(4, 4000) == Some(64));
+    let mut block = [7u64; 64];
+    assert!(rt; build(POSITIONS.as_slice(), 5000, block.as_mut_slice()) == Ok(()));
+    assert!(rt; block == BLOCK);
+    assert!(rt; check(block.as_slice()));
+    let Some(bits) = SparseView::open(block.as_slice()) else {
+        assert!(rt; false, "not opened");
+        return Ok(());
+    };
+    assert!(rt; bits.len() == 5000 && bits.count_bit_ones() == 4);
+    assert!(rt; ranks(&bits) == [0, 0, 1, 2, 3, 4, 4, 9000]);
+    assert!(rt; ranks0(&bits) == [0, 3, 3, 99, 99, 3997, 4996, 9000]);
+    assert!(rt; selections(&bits)
+        == [3, 100, 101, 4000, 9000, 0, 4, 99, 102, 3999, 4001, 4999, 9000]);
+    assert!(rt; digits(&bits) == [1, 0, 1, 0, 9000]);
+    Ok(())
+}
+
+#[test]
+fn each_flipped_bit_is_seen(rt: HostRuntime) -> Result<(), Fail> {
+    let mut words = BLOCK;
+    assert!(rt; unseen_flips(words.as_mut_slice()) == 0);
+    for len in 0..64usize {
+        assert!(rt; SparseView::open(&BLOCK.as_slice()[..len]).is_none());
+    }
+    Ok(())
+}
+
+#[test]
+fn fewer_bits_than_positions_are_wrong(rt: HostRuntime) -> Result<(), Fail> {
+    // three bits, with the right checksum, in which no position but 0 to 2 is a bit
+    let mut words = BLOCK;
+    words[9] = 3;
+    words[15] = checksum_of(&words.as_slice()[..15]);
+    assert!(rt; Block::open(words.as_slice()).is_ok() && !check(words.as_slice()));
+    let Some(bits) = SparseView::open(words.as_slice()) else {
+        assert!(rt; false, "not opened");
+        return Ok(());
+    };
+    assert!(rt; bits.select(0) == Answer::Wrong && bits.select(4) == Answer::Absent);
+    assert!(rt; bits.select0(0) == Answer::Wrong);
+    assert!(rt; bits.rank(3) == Answer::Found(0) && bits.rank(4) == Answer::Absent);
+    Ok(())
+}
+
+#[test]
+fn other_words_are_no_sparse_bits(rt: HostRuntime) -> Result<(), Fail> {
+    // the kind of a sequence, with the right checksum
+    let mut words = BLOCK;
+    words[1] = 3;
+    words[15] = checksum_of(&words.as_slice()[..15]);
+    assert!(rt; Block::open(words.as_slice()).is_ok());
+    assert!(rt; SparseView::open(words.as_slice()).is_none());
+    Ok(())
+}
+
+#[test]
+fn nothing_is_written_where_there_is_no_block(rt: HostRuntime) -> Result<(), Fail> {
+    let mut block = [7u64; 64];
+    let all = block.as_mut_slice();
+    assert!(rt; build([3u64, 3].as_slice(), 5000, &mut *all) == Err(BuildError::NotRising));
+    assert!(rt; build(POSITIONS.as_slice(), 4000, &mut *all) == Err(BuildError::PastEnd));
+    assert!(rt; build(POSITIONS.as_slice(), 5000, &mut all[..56]) == Err(BuildError::WrongLength));
+    assert!(rt; block == [7u64; 64]);
+    Ok(())
+}
+
+#[test]
+fn all_bits_and_none(rt: HostRuntime) -> Result<(), Fail> {
+    let mut block = [0u64; 64];
+    assert!(rt; size(3, 2) == Some(56));
+    assert!(rt; build([0u64, 1, 2].as_slice(), 3, &mut block.as_mut_slice()[..56]) == Ok(()));
+    let Some(bits) = SparseView::open(&block.as_slice()[..56]) else {
+        assert!(rt; false, "not opened");
+        return Ok(());
+    };
+    assert!(rt; bits.rank(3) == Answer::Found(3) && bits.rank0(3) == Answer::Found(0));
+    assert!(rt; bits.select0(0) == Answer::Absent && bits.select(2) == Answer::Found(2));
+    Ok(())
+}
