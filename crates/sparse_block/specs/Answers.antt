@@ -16,12 +16,6 @@ IsBitOf b i (Found x) = (i < length b) × (x ≡ item b i)
 IsBitOf b i Absent = length b ≤ i
 IsBitOf b i Wrong = ⊥
 
--- a position that is found is one of n
-abbrev pub IsPositionWithin : ℕ → Answer ℕ → Type 0
-IsPositionWithin n (Found p) = p < n
-IsPositionWithin n Absent = ⊤
-IsPositionWithin n Wrong = ⊤
-
 -- of c bits, the position of the one with rank r is one of n, and the answer is Absent exactly where there are no more
 -- than r
 abbrev pub IsSelectedWithin : ℕ → ℕ → ℕ → Answer ℕ → Type 0

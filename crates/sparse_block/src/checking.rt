@@ -15,10 +15,13 @@ fn rise_below(numbers: &LentSequence<'_>, end: u64) -> bool
 {
     let mut next = 0;
     for at in 0..numbers.len() {
-        match numbers.get(at) {
-            Answer::Found(number) if next <= number && number < end => next = number + 1,
-            _ => return false,
+        let Answer::Found(number) = numbers.get(at) else {
+            return false;
+        };
+        if number < next || number >= end {
+            return false;
         }
+        next = number + 1;
     }
     true
 }

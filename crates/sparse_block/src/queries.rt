@@ -1,5 +1,6 @@
 //! Ranks, selections and bits of a view, whatever its block holds.
 ghost use Rattle.std.specs.Prelude.{◌≡◌, ◌-◌, ◌+◌, ◌≤◌, ◌<◌, List, ℕ, IfSome, IsSomeAnd, true, false};
+ghost use Rattle.bitm.specs.Answer.TheVariants.{Found, Wrong};
 ghost use Rattle.bitm_select.specs.Answers.{IsSelected};
 ghost use Rattle.bitm_view.specs.Ranks.{IsCountWithin, IsRanked};
 ghost use Rattle.sparse_bits.specs.Positions.{PartsZeros};
@@ -9,13 +10,14 @@ ghost use Rattle.sparse_block.specs.Block.{bits_of, HoldsOnes};
 use crate::view::SparseView;
 use bitm::Answer;
 
-/// A count of at most `most` bits, and `Wrong` for more.
+/// A count among the first `index` of `len` bits, and `Wrong` where it is more than these.
 #[inline(always)]
-fn count_within(count: usize, most: usize) -> Answer<usize>
-    ensures within { IsCountWithin most most result }
-    ensures count { count ≤ most → result ≡ Answer.Found count }
+fn count_within(count: usize, index: usize, _len: usize) -> Answer<usize>
+    requires { index ≤ _len }
+    ensures within { IsCountWithin _len index result }
+    ensures count { count ≤ index → result ≡ Found count }
 {
-    if count <= most {
+    if count <= index {
         Answer::Found(count)
     } else {
         Answer::Wrong
@@ -42,8 +44,8 @@ impl<'a> SparseView<'a> {
             return Answer::Absent;
         }
         match self.positions.first_at_least(index as u64) {
-            Answer::Found(count) => count_within(count, index),
-            Answer::Absent => count_within(self.count_bit_ones(), index),
+            Answer::Found(count) => count_within(count, index, self.len()),
+            Answer::Absent => count_within(self.count_bit_ones(), index, self.len()),
             Answer::Wrong => Answer::Wrong,
         }
     }
@@ -128,7 +130,6 @@ impl<'a> SparseView<'a> {
 
     /// How many 1 bits have at most `rank` 0 bits before them, by halving; `None` only where the block holds no bits.
     fn ones_within(&self, rank: usize) -> Option<usize>
-        requires { rank + self.now.positions.len < self.now.len }
         ensures within { IfSome result (λ c. c ≤ self.now.positions.len) }
         ensures parts { (xs : List ℕ) → HoldsOnes xs self.now
             → IsSomeAnd result (λ c. PartsZeros xs rank c) }
@@ -140,7 +141,7 @@ impl<'a> SparseView<'a> {
             let Answer::Found(one) = self.positions.get(low + half) else {
                 return None;
             };
-            if one <= (rank + low + half) as u64 {
+            if one.saturating_sub((low + half) as u64) <= rank as u64 {
                 low += half + 1;
                 left -= half + 1;
             } else {
@@ -163,18 +164,19 @@ impl<'a> SparseView<'a> {
     pub fn select0(&self, rank: usize) -> Answer<usize>
         ensures within { self.now.positions.len ≤ self.now.len → IsSelectedWithin
             (self.now.len - self.now.positions.len) self.now.len rank result }
-        ensures crowded { self.now.len < self.now.positions.len → result ≡ Answer.Wrong }
+        ensures crowded { self.now.len < self.now.positions.len → result ≡ Wrong }
         ensures counts { (xs : List ℕ) → HoldsOnes xs self.now
             → IsSelected (bits_of xs self.now) false rank result }
     {
-        let Some(zeros) = self.len().checked_sub(self.count_bit_ones()) else {
+        let ones = self.count_bit_ones();
+        if self.len() < ones {
             return Answer::Wrong;
-        };
-        if rank >= zeros {
+        }
+        if rank >= self.len() - ones {
             return Answer::Absent;
         }
         match self.ones_within(rank) {
-            Some(ones) => Answer::Found(rank + ones),
+            Some(before) => Answer::Found(rank + before),
             None => Answer::Wrong,
         }
     }

@@ -10,7 +10,7 @@ use Rattle.sparse_bits.proofs.sparse.SparseBits.build.Goals.{In-Ok}
 is : (g : _) (c : In-Ok g) → places true 0 (bits_at c.args.len 0 c.in-Ok.ones.items) ≡ c.in-Ok.ones.items
 is g c =
     bits_at-places c.args.len 0 c.in-Ok.ones.items
-    (subst (λ (xs : List ℕ). ArePlaces c.args.len 0 xs) (sym c.in-Ok.ensures.ok) c.in_ok-check.ensures.places)
+    (subst (λ (xs : List ℕ). ArePlaces c.args.len 0 xs) (sym c.in-Ok.ensures.ok) c.in_ok-check_positions.ensures.places)
 
 pub returns-in-Ok-clause-ones : goal.returns-in-Ok-clause-ones
 returns-in-Ok-clause-ones g c = is g (goal.at.returns-in-Ok-clause-ones g c).In-Ok ∙ c.in-Ok.ensures.ok
