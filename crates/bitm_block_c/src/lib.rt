@@ -9,9 +9,17 @@
 // What is in each file:
 // - `lists`: lists of queries of a tree
 // - `making`: the block of a tree, written, opened and checked
+// - `matrix`: a matrix as C passes it
+// - `matrix_lists`: lists of queries of a matrix
+// - `matrix_making`: the block of a matrix, written, opened and checked
+// - `matrix_queries`: a number by its index, and ranks and indices of a number
 // - `queries`: parents, children, degrees and siblings
 // - `tree`: a tree as C passes it
 mod lists;
 mod making;
+mod matrix;
+mod matrix_lists;
+mod matrix_making;
+mod matrix_queries;
 mod queries;
 mod tree;

@@ -21,7 +21,7 @@ pub enum Asked {
 
 /// An answer by the codes of lists.
 #[inline(always)]
-fn code_of(answer: Answer<usize>) -> usize
+pub(crate) fn code_of(answer: Answer<usize>) -> usize
     ensures { IsFoundBelow (2 ^ 64 - 2) answer → selected_by result ≡ answer }
 {
     match answer {

@@ -1,0 +1,53 @@
+-- A matrix in a block as C passes it, and what the exported calls answer.
+use Rattle.std.specs.Prelude.{ℕ, ◌⊎◌}
+use Rattle.bitm.specs.Answer.{Answer}
+use Rattle.bitm.specs.Answer.TheVariants.{Absent, Wrong}
+use Rattle.bitm_abi.specs.Status.{Exported}
+use Rattle.matrix_block.specs.Answers.{IsIndexOf, IsIndexWithin, IsNumberOf, IsNumberWithin, IsRankOf, IsRankWithin}
+use Rattle.matrix_block.specs.Block.{items_in, levels_of, parts_of, HasLengths, HoldsMatrix, MatrixParts}
+use Rattle.bitm_block_c.specs.declared.matrix.Matrix.{Matrix}
+use Rattle.bitm_block_c.specs.declared.matrix_lists.Sought.{Sought}
+use Rattle.bitm_block_c.specs.declared.matrix_lists.Sought.TheVariants.{Rank, Index}
+
+-- A status is 0 where the answer was written, 1 where there is no such number, 2 where a length is wrong, and 3 where the
+-- words and tables are not those of a matrix.
+
+-- the tables of the levels, and the words with their tables
+abbrev pub matrix_parts : Matrix → MatrixParts
+matrix_parts matrix =
+    parts_of (levels_of matrix.len matrix.width matrix.ones.now matrix.zeros.now) matrix.words.now matrix.upper.now matrix.lower.now
+
+-- number index: it has no more bits than the width, whatever the words and tables hold, and is that of the matrix where
+-- they hold one
+pub record IsNumber (index : ℕ) (parts : MatrixParts) (answer : Answer ℕ) : Type 0 where
+  pub inside : IsNumberWithin parts.levels.len parts.levels.width index answer
+  pub right : HoldsMatrix parts → IsNumberOf (items_in parts) index answer
+
+-- how many of the numbers before an index are this one, likewise: at most the index
+pub record IsRank (number index : ℕ) (parts : MatrixParts) (answer : Answer ℕ) : Type 0 where
+  pub inside : IsRankWithin parts.levels.len index answer
+  pub right : HoldsMatrix parts → IsRankOf (items_in parts) number index answer
+
+-- the index of this number with k such numbers before it, likewise: less than there are numbers
+pub record IsIndex (number k : ℕ) (parts : MatrixParts) (answer : Answer ℕ) : Type 0 where
+  pub inside : IsIndexWithin parts.levels.len answer
+  pub right : HoldsMatrix parts → IsIndexOf (items_in parts) number k answer
+
+-- there is no number index, or the words and tables are not those of a matrix
+abbrev pub IsUnanswered : ℕ → MatrixParts → Type 0
+IsUnanswered index parts = IsNumber index parts Absent ⊎ IsNumber index parts Wrong
+
+-- the answer to what is sought of a number
+abbrev pub Seeks : Sought → ℕ → ℕ → MatrixParts → Answer ℕ → Type 0
+Seeks Rank = IsRank
+Seeks Index = IsIndex
+
+-- the status, and the number before and after the call
+abbrev pub NumberAnswered : Matrix → ℕ → ℕ → ℕ → ℕ → Type 0
+NumberAnswered matrix index = Exported (HasLengths (matrix_parts matrix)) (IsNumber index (matrix_parts matrix))
+
+abbrev pub RankAnswered : Matrix → ℕ → ℕ → ℕ → ℕ → ℕ → Type 0
+RankAnswered matrix number index = Exported (HasLengths (matrix_parts matrix)) (IsRank number index (matrix_parts matrix))
+
+abbrev pub IndexAnswered : Matrix → ℕ → ℕ → ℕ → ℕ → ℕ → Type 0
+IndexAnswered matrix number k = Exported (HasLengths (matrix_parts matrix)) (IsIndex number k (matrix_parts matrix))
