@@ -107,8 +107,8 @@ pub fn build(items: &[u64], block: &mut [u64]) -> Result<(), BuildError>
     build_as(SEQUENCE, 0, items, block)
 }
 
-/// As `build`, for a block of another kind, whose first four sections are those of a sequence: its header has the number
-/// `b` besides.
+/// As `build`, for a block of another kind, whose first four sections are those of a sequence: its header has the
+/// number `b` besides.
 ///
 /// # Errors
 /// Those of `build`.

@@ -18,10 +18,10 @@ module _ (xs : List ℕ) (v : SparseParts) (h : HoldsOnes xs v) where
   -- no more positions are less than i than there are numbers below i
   pub few_before : (i c : ℕ) → c ≤ length xs → ((j : ℕ) → j < c → get_or xs j 0 < i) → c ≤ i
   few_before i c inside less = ⊎_elim
-    (λ (none : c < 1). omega (arith, none))
-    (λ (some : 1 ≤ c).
-    omega (arith, some, at_least_place xs (c - 1) h.places.rising (omega (arith, some, inside)), less (c - 1) (omega (arith, some))))
-    (cases_lt c 1)
+      (λ (none : c < 1). omega (arith, none))
+      (λ (some : 1 ≤ c).
+      omega (arith, some, at_least_place xs (c - 1) h.places.rising (omega (arith, some, inside)), less (c - 1) (omega (arith, some))))
+      (cases_lt c 1)
 
   pub ranked_at : (i c : ℕ) → i ≤ v.len → Reaches xs i c → IsRanked (bits_of xs v) true i (Found c)
   ranked_at i c inside reach = (omega (arith, inside, bits_count v.len xs h.places), sym (rank_some v.len xs h.places i c inside reach))

@@ -34,10 +34,10 @@ fn check_ones(positions: &[u64], len: usize) -> Result<(), BuildError>
 /// `check` accepts it.
 ///
 /// # Errors
-/// `TooLong` exactly where there are 2^56 positions or more; else `NotRising` exactly where some position is not greater
-/// than the one before it; else `PastEnd` exactly where some position is not less than `len`; else `WrongLength` exactly
-/// where the words are not as many as the block takes (`size` of the number of positions and the last of them). The
-/// words stay as they are then.
+/// `TooLong` exactly where there are 2^56 positions or more; else `NotRising` exactly where some position is not
+/// greater than the one before it; else `PastEnd` exactly where some position is not less than `len`; else
+/// `WrongLength` exactly where the words are not as many as the block takes (`size` of the number of positions and the
+/// last of them). The words stay as they are then.
 /// # Cost
 /// Six passes over the positions, and three over the block (evident from the code). Nothing is allocated.
 ///

@@ -25,8 +25,8 @@ fn count_within(count: usize, index: usize, _len: usize) -> Answer<usize>
 }
 
 impl<'a> SparseView<'a> {
-    /// How many of the first `index` bits are 1 bits. Whatever the block holds, they are at most `index`, and the answer
-    /// is `Absent` exactly where there are fewer bits. Where it holds bits, the answer is never `Wrong`.
+    /// How many of the first `index` bits are 1 bits. Whatever the block holds, they are at most `index`, and the
+    /// answer is `Absent` exactly where there are fewer bits. Where it holds bits, the answer is never `Wrong`.
     ///
     /// # Cost
     /// One search for a successor among the positions (`LentSequence::first_at_least`; evident from the code).
@@ -71,8 +71,8 @@ impl<'a> SparseView<'a> {
         }
     }
 
-    /// The bit at a position. Whatever the block holds, the answer is `Absent` exactly where there is no such bit. Where
-    /// it holds bits, the answer is never `Wrong`.
+    /// The bit at a position. Whatever the block holds, the answer is `Absent` exactly where there is no such bit.
+    /// Where it holds bits, the answer is never `Wrong`.
     ///
     /// # Cost
     /// One search for a successor, and one position is read (evident from the code).

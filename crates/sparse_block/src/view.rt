@@ -33,9 +33,9 @@ impl<'a> Model for SparseView<'a> {
 }
 
 impl<'a> SparseView<'a> {
-    /// The sparse bits in a block; `None` exactly where the words are no block (`Block::open` says why), the block is of
-    /// another kind, or a section is not as long as that of the number of 1 bits. What the sections hold is not looked
-    /// at.
+    /// The sparse bits in a block; `None` exactly where the words are no block (`Block::open` says why), the block is
+    /// of another kind, or a section is not as long as that of the number of 1 bits. What the sections hold is not
+    /// looked at.
     ///
     /// # Cost
     /// Header and directory are read, at most 80 words (evident from the code).

@@ -178,8 +178,12 @@ fn positions_are_written_and_answer(rt: HostRuntime) -> Result<(), Fail> {
     assert!(rt; bits.len() == 5000 && bits.count_bit_ones() == 4);
     assert!(rt; ranks(&bits) == [0, 0, 1, 2, 3, 4, 4, 9000]);
     assert!(rt; ranks0(&bits) == [0, 3, 3, 99, 99, 3997, 4996, 9000]);
-    assert!(rt; selections(&bits)
-        == [3, 100, 101, 4000, 9000, 0, 4, 99, 102, 3999, 4001, 4999, 9000]);
+    assert!(rt;
+        selections(&bits)
+            == [
+                3, 100, 101, 4000, 9000, 0, 4, 99, 102, 3999, 4001, 4999, 9000
+            ]
+    );
     assert!(rt; digits(&bits) == [1, 0, 1, 0, 9000]);
     Ok(())
 }

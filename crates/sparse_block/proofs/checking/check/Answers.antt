@@ -12,15 +12,15 @@ returns-in-Some c =
     let parts = ap (λ (v : SparseParts). v.positions) (c.view.view_is ∙ is) in
     let len = c.len.ensures ∙ ap (λ (v : SparseParts). v.len) is in (
       λ rise.
-      let xs = sound.parts.0 in
-      let places = (c.rise_below.ensures xs (subst (λ (p : LentParts). Holds xs p) (sym parts) sound.parts.1)).0 rise in
-      record {
-        sequence = sound;
-        bits = (xs, record { holds = sound.parts.1; places = subst (λ (n : ℕ). ArePlaces n 0 xs) len places });
-      },
+          let xs = sound.parts.0 in
+          let places = (c.rise_below.ensures xs (subst (λ (p : LentParts). Holds xs p) (sym parts) sound.parts.1)).0 rise in
+          record {
+            sequence = sound;
+            bits = (xs, record { holds = sound.parts.1; places = subst (λ (n : ℕ). ArePlaces n 0 xs) len places });
+          },
       λ whole.
-      let xs = whole.bits.0 in
-      let ones = whole.bits.1 in
-      (c.rise_below.ensures xs (subst (λ (p : LentParts). Holds xs p) (sym parts) ones.holds)).1
-      (subst (λ (n : ℕ). ArePlaces n 0 xs) (sym len) ones.places),
+          let xs = whole.bits.0 in
+          let ones = whole.bits.1 in
+          (c.rise_below.ensures xs (subst (λ (p : LentParts). Holds xs p) (sym parts) ones.holds)).1
+          (subst (λ (n : ℕ). ArePlaces n 0 xs) (sym len) ones.places),
     )

@@ -15,7 +15,7 @@ returns-in-Found-get-clause-bit c = λ xs h.
     let item = c.in-Found-get.ensures.answer xs holds in (
       omega (arith, bits_count v.len xs h.places, c.len.ensures, c.if-position-len.false),
       ap (λ (x : ℕ). nat_eq x c.args.position) item.1
-      ∙ bit_some v.len xs h.places c.args.position c.in-Found.rank (omega (arith, c.len.ensures, c.if-position-len.false)) reach,
+          ∙ bit_some v.len xs h.places c.args.position c.in-Found.rank (omega (arith, c.len.ensures, c.if-position-len.false)) reach,
     )
 
 pub returns-in-Absent-clause-bit : goal.returns-in-Absent-clause-bit

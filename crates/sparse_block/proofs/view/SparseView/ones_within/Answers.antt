@@ -10,8 +10,8 @@ loop-left-preserved-then-saturating_sub-rank c =
     record {
       to = omega (arith, c.loop-left.invariant.to, c.loop-left-test.true);
       few = λ xs h j l.
-      let item = c.in-Found.ensures.answer xs (holds_inside xs c.args.self.now h _ c.self.view_is) in
-      omega (arith, grow_to xs j m h.places.rising (omega (arith, l)) item.0, item.1, c.saturating_sub.ensures, c.if-saturating_sub-rank.true);
+          let item = c.in-Found.ensures.answer xs (holds_inside xs c.args.self.now h _ c.self.view_is) in
+          omega (arith, grow_to xs j m h.places.rising (omega (arith, l)) item.0, item.1, c.saturating_sub.ensures, c.if-saturating_sub-rank.true);
       more = λ xs h j from l. c.loop-left.invariant.more xs h j (omega (arith, from, c.loop-left-test.true)) l;
     }
 
@@ -22,6 +22,6 @@ loop-left-preserved c =
       to = omega (arith, c.loop-left.invariant.to);
       few = c.loop-left.invariant.few;
       more = λ xs h j from l.
-      let item = c.in-Found.ensures.answer xs (holds_inside xs c.args.self.now h _ c.self.view_is) in
-      omega (arith, grow_to xs m j h.places.rising from l, item.1, c.saturating_sub.ensures, c.if-saturating_sub-rank.false);
+          let item = c.in-Found.ensures.answer xs (holds_inside xs c.args.self.now h _ c.self.view_is) in
+          omega (arith, grow_to xs m j h.places.rising from l, item.1, c.saturating_sub.ensures, c.if-saturating_sub-rank.false);
     }
