@@ -26,7 +26,7 @@
 #![tactic(auto)]
 
 // What is in each file:
-// - `bounds`: the number of a range beside a bound, over any source
+// - `bounds`: the numbers of a range beside a bound or between two, over any source
 // - `building`: the block of a matrix, written into the caller's memory
 // - `checking`: whether the tables of levels are those of the words
 // - `error`: why no block was written

@@ -1,6 +1,6 @@
 //! Queries of the numbers of a range in a block that may hold anything.
 ghost use Rattle.std.specs.Prelude.{slice_range};
-ghost use Rattle.wavelet_matrix.specs.Numbers.{count_less};
+ghost use Rattle.wavelet_matrix.specs.Numbers.{count_between, count_less};
 ghost use Rattle.matrix_block.specs.Block.{items_in, HoldsMatrix};
 ghost use Rattle.matrix_block.specs.Ranges.{IsNextOf, IsNextWithin, IsPreviousOf, IsPreviousWithin};
 ghost use Rattle.matrix_block.specs.Ranges.{IsCountOf, IsCountWithin, IsSmallestOf, IsSmallestWithin};
@@ -112,5 +112,26 @@ impl<'a> MatrixView<'a> {
     {
         let (levels, mut source) = self.parts();
         levels.total_previous_value_on(&mut source, start, end, bound)
+    }
+
+    /// How many numbers from index `start` on and before index `end` are at least `low` and less than `high`; none where
+    /// `high` is no more than `low`. Whatever the block holds, they are at most `end - start`, and the answer is `Absent`
+    /// exactly where the range ends before it starts, or past the numbers. Where the block holds a matrix, the answer is
+    /// never `Wrong`.
+    ///
+    /// # Cost
+    /// That of `LevelsView::total_range_count_on`.
+    ///
+    /// ```
+    /// matrix.range_count(1, 5, 1, 5);   // Found(3) of 1 4 1 5
+    /// ```
+    #[inline]
+    pub fn range_count(&self, start: usize, end: usize, low: u64, high: u64) -> Answer<usize>
+        ensures inside { IsCountWithin self.now.levels.len start end result }
+        ensures answer { HoldsMatrix self.now → IsCountOf (items_in self.now) start end
+            (count_between (slice_range (items_in self.now) start end) low high) result }
+    {
+        let (levels, mut source) = self.parts();
+        levels.total_range_count_on(&mut source, start, end, low, high)
     }
 }

@@ -13,6 +13,28 @@ fn less(numbers: &[u64], bound: u64) -> usize {
     count
 }
 
+/// How many numbers are at least one bound, and less than another.
+fn between(numbers: &[u64], low: u64, high: u64) -> usize {
+    let mut count = 0usize;
+    for number in numbers {
+        count = count.wrapping_add((*number >= low && *number < high) as usize);
+    }
+    count
+}
+
+/// How many counts of a range between bounds up to 7 are not those of a loop.
+fn wrong_counts_between(m: &MatrixView<'_>, numbers: &[u64], start: usize, end: usize) -> usize {
+    let mut wrong = 0usize;
+    for low in 0..8u64 {
+        for high in 0..8u64 {
+            let count = m.range_count(start, end, low, high);
+            let counted = Answer::Found(between(numbers, low, high));
+            wrong = wrong.wrapping_add((count != counted) as usize);
+        }
+    }
+    wrong
+}
+
 /// How many counts of a range, by bounds up to 9, are not those of a loop.
 fn wrong_counts_of(matrix: &MatrixView<'_>, numbers: &[u64], start: usize, end: usize) -> usize {
     let mut wrong = 0usize;
@@ -28,8 +50,9 @@ fn wrong_counts(matrix: &MatrixView<'_>, numbers: &[u64]) -> usize {
     let mut wrong = 0usize;
     for start in 0..numbers.len() {
         for end in start..numbers.len() + 1 {
-            let of_range = wrong_counts_of(matrix, &numbers[start..end], start, end);
-            wrong = wrong.wrapping_add(of_range);
+            let range = &numbers[start..end];
+            wrong = wrong.wrapping_add(wrong_counts_of(matrix, range, start, end));
+            wrong = wrong.wrapping_add(wrong_counts_between(matrix, range, start, end));
         }
     }
     wrong
@@ -56,6 +79,10 @@ fn ranges_are_counted_as_a_loop_counts(rt: HostRuntime) -> Result<(), Fail> {
     assert!(rt; wrong_counts(&matrix, NUMBERS.as_slice()) == 0);
     assert!(rt; told(matrix.count_less(0, 6, 4)) == 4);
     assert!(rt; told(matrix.count_less(6, 6, 4)) == 0);
+    assert!(rt; told(matrix.range_count(1, 5, 1, 5)) == 3);
+    assert!(rt; told(matrix.range_count(1, 5, 4, u64::MAX)) == 2);
+    assert!(rt; told(matrix.range_count(1, 5, 5, 1)) == 0);
+    assert!(rt; told(matrix.range_count(1, 7, 5, 1)) == 100);
     assert!(rt; told(matrix.count_less(2, 1, 4)) == 100);
     assert!(rt; told(matrix.count_less(0, 7, 4)) == 100);
     assert!(rt; told(matrix.count_less(usize::MAX, 3, u64::MAX)) == 100);
