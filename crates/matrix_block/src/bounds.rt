@@ -68,8 +68,8 @@ impl<'a> LevelsView<'a> {
     /// The least number from index `start` on and before index `end` that is at least `bound`.
     ///
     /// Whatever words and tables hold, it is at least `bound` and has no more bits than the width, and the answer is
-    /// `Absent` where the range ends before it starts, or past the numbers. Where they are those of a matrix, the answer
-    /// is the number, `Absent` else exactly where all are less, and never `Wrong`.
+    /// `Absent` where the range ends before it starts, or past the numbers. Where they are those of a matrix, the
+    /// answer is the number, `Absent` else exactly where all are less, and never `Wrong`.
     ///
     /// # Conditions
     /// Those of `total_get_on`.
@@ -106,8 +106,8 @@ impl<'a> LevelsView<'a> {
     /// The greatest number from index `start` on and before index `end` that is less than `bound`.
     ///
     /// Whatever words and tables hold, it is less than `bound` and has no more bits than the width, and the answer is
-    /// `Absent` where the range ends before it starts, or past the numbers. Where they are those of a matrix, the answer
-    /// is the number, `Absent` else exactly where none is less, and never `Wrong`.
+    /// `Absent` where the range ends before it starts, or past the numbers. Where they are those of a matrix, the
+    /// answer is the number, `Absent` else exactly where none is less, and never `Wrong`.
     ///
     /// # Conditions
     /// Those of `total_get_on`.
@@ -144,8 +144,8 @@ impl<'a> LevelsView<'a> {
         before_bound(found, bound)
     }
 
-    /// How many numbers from index `start` on and before index `end` are at least `low` and less than `high`; none where
-    /// `high` is no more than `low`.
+    /// How many numbers from index `start` on and before index `end` are at least `low` and less than `high`; none
+    /// where `high` is no more than `low`.
     ///
     /// Whatever words and tables hold, they are at most `end - start`, and the answer is `Absent` exactly where the
     /// range ends before it starts, or past the numbers. Where they are those of a matrix, the answer is the count,

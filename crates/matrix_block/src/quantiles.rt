@@ -12,8 +12,8 @@ use crate::ranges::with_digit;
 use bitm::{Answer, TableSource};
 
 impl<'a> LevelsView<'a> {
-    /// The number that would stand at index `k` if the range were sorted, and how often it is in the range; `None` only
-    /// where words and tables are not those of a matrix.
+    /// The number that would stand at index `k` if the range were sorted, and how often it is in the range; `None`
+    /// only where words and tables are not those of a matrix.
     #[inline(always)]
     fn total_smallest_on<T: TableSource>(
         &self,
@@ -55,9 +55,10 @@ impl<'a> LevelsView<'a> {
     /// The number from index `start` on and before index `end` that would stand at index `k` if they were sorted, and
     /// how often it is among them.
     ///
-    /// Whatever words and tables hold, the number has no more bits than the width, it is there at least once and at most
-    /// `end - start` times, and the answer is `Absent` exactly where the range has no more than `k` numbers, or ends
-    /// past the numbers. Where they are those of a matrix, the answer is the number and its count, and never `Wrong`.
+    /// Whatever words and tables hold, the number has no more bits than the width, it is there at least once and at
+    /// most `end - start` times, and the answer is `Absent` exactly where the range has no more than `k` numbers, or
+    /// ends past the numbers. Where they are those of a matrix, the answer is the number and its count, and never
+    /// `Wrong`.
     ///
     /// # Conditions
     /// Those of `total_get_on`.
@@ -95,9 +96,9 @@ impl<'a> LevelsView<'a> {
 
     /// The number from index `start` on and before index `end` that would stand at index `k` if they were sorted.
     ///
-    /// Whatever words and tables hold, it has no more bits than the width, and the answer is `Absent` exactly where the
-    /// range has no more than `k` numbers, or ends past the numbers. Where they are those of a matrix, the answer is the
-    /// number, and never `Wrong`.
+    /// Whatever words and tables hold, it has no more bits than the width, and the answer is `Absent` exactly where
+    /// the range has no more than `k` numbers, or ends past the numbers. Where they are those of a matrix, the answer
+    /// is the number, and never `Wrong`.
     ///
     /// # Conditions
     /// Those of `total_get_on`.

@@ -31,9 +31,9 @@ impl<'a> MatrixView<'a> {
     }
 
     /// The number from index `start` on and before index `end` that would stand at index `k` if they were sorted.
-    /// Whatever the block holds, it has no more bits than the width, and the answer is `Absent` exactly where the range
-    /// has no more than `k` numbers, or ends past the numbers. Where the block holds a matrix, the answer is never
-    /// `Wrong`.
+    /// Whatever the block holds, it has no more bits than the width, and the answer is `Absent` exactly where the
+    /// range has no more than `k` numbers, or ends past the numbers. Where the block holds a matrix, the answer is
+    /// never `Wrong`.
     ///
     /// # Cost
     /// That of `LevelsView::total_quantile_on`.
@@ -53,8 +53,8 @@ impl<'a> MatrixView<'a> {
     }
 
     /// The number that `quantile` answers, and how often it is in the range. Whatever the block holds, it is there at
-    /// least once and at most `end - start` times, and the answer is `Absent` exactly where that of `quantile` is. Where
-    /// the block holds a matrix, the answer is never `Wrong`.
+    /// least once and at most `end - start` times, and the answer is `Absent` exactly where that of `quantile` is.
+    /// Where the block holds a matrix, the answer is never `Wrong`.
     ///
     /// # Cost
     /// That of `LevelsView::total_quantile_and_count_on`.
@@ -72,9 +72,9 @@ impl<'a> MatrixView<'a> {
         levels.total_quantile_and_count_on(&mut source, start, end, k)
     }
 
-    /// The least number from index `start` on and before index `end` that is at least `bound`. Whatever the block holds,
-    /// it is at least `bound`, has no more bits than the width, and the range lies within the numbers. Where the block
-    /// holds a matrix, the answer is `Absent` exactly where there is no such number, and never `Wrong`.
+    /// The least number from index `start` on and before index `end` that is at least `bound`. Whatever the block
+    /// holds, it is at least `bound`, has no more bits than the width, and the range lies within the numbers. Where
+    /// the block holds a matrix, the answer is `Absent` exactly where there is no such number, and never `Wrong`.
     ///
     /// # Cost
     /// That of `LevelsView::total_next_value_on`.
@@ -94,8 +94,8 @@ impl<'a> MatrixView<'a> {
     }
 
     /// The greatest number from index `start` on and before index `end` that is less than `bound`. Whatever the block
-    /// holds, it is less than `bound`, has no more bits than the width, and the range lies within the numbers. Where the
-    /// block holds a matrix, the answer is `Absent` exactly where there is no such number, and never `Wrong`.
+    /// holds, it is less than `bound`, has no more bits than the width, and the range lies within the numbers. Where
+    /// the block holds a matrix, the answer is `Absent` exactly where there is no such number, and never `Wrong`.
     ///
     /// # Cost
     /// That of `LevelsView::total_previous_value_on`.
@@ -114,10 +114,10 @@ impl<'a> MatrixView<'a> {
         levels.total_previous_value_on(&mut source, start, end, bound)
     }
 
-    /// How many numbers from index `start` on and before index `end` are at least `low` and less than `high`; none where
-    /// `high` is no more than `low`. Whatever the block holds, they are at most `end - start`, and the answer is `Absent`
-    /// exactly where the range ends before it starts, or past the numbers. Where the block holds a matrix, the answer is
-    /// never `Wrong`.
+    /// How many numbers from index `start` on and before index `end` are at least `low` and less than `high`; none
+    /// where `high` is no more than `low`. Whatever the block holds, they are at most `end - start`, and the answer is
+    /// `Absent` exactly where the range ends before it starts, or past the numbers. Where the block holds a matrix,
+    /// the answer is never `Wrong`.
     ///
     /// # Cost
     /// That of `LevelsView::total_range_count_on`.
