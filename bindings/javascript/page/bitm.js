@@ -1,10 +1,9 @@
-// src/web.js and all that it imports, in one file: made by one_file.mjs. sha256 of the sources: 8e9b1ac6aee6720272d4236428350cfc0e4d0350d35a0e844f18e3d2884835d5
+// src/web.js and all that it imports, in one file: made by one_file.mjs. sha256 of the sources: f34424bac302d6843d07521111a309a2954f6ab4c12153a83395a01a8b743759
 
 // src/core.js
 var VERSION = "0.3.0";
 var VERSION_NUMBER = 300;
 var PAGE = 65536;
-var OURS = 2 * PAGE;
 var early = { get: () => {
   throw new Error("bitm: no value can be made before start() has ended");
 } };
@@ -39,7 +38,7 @@ async function instance(from, given) {
 }
 function imports(library2) {
   const answer = library2.memory.buffer.byteLength;
-  grow(library2.memory, OURS / PAGE);
+  grow(library2.memory, 1);
   return { bitm: { ...library2, answer: new WebAssembly.Global({ value: "i64" }, BigInt(answer)) } };
 }
 function adopt(library2, linked) {
@@ -49,9 +48,9 @@ function adopt(library2, linked) {
   wasm = library2;
   calls = linked;
   firstFree = library2.memory.buffer.byteLength;
-  ANSWER = firstFree - OURS;
+  ANSWER = firstFree - PAGE;
   BESIDE = ANSWER + 64;
-  PIECES = ANSWER + PAGE / 2;
+  PIECES = ANSWER + 4096;
 }
 function grow(memory, pages) {
   try {
@@ -390,7 +389,7 @@ function orThrow(got, name, it) {
 // src/lists.js
 var SMALL = [Uint8Array, Uint8ClampedArray, Uint16Array, Int8Array, Int16Array, Int32Array, Float32Array];
 var MISSING = 2n ** 64n - 1n;
-var PIECE = 4096;
+var PIECE = 2048;
 var NO_ANSWER = MISSING;
 function numbersOf(given, name) {
   if (ArrayBuffer.isView(given)) {

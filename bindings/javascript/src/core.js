@@ -2,14 +2,14 @@
 // calls.wasm, its adaptors, which take and return numbers in place of BigInts.
 export const VERSION = "0.3.0";
 const VERSION_NUMBER = 300;
-const PAGE = 65536, OURS = 2 * PAGE;
+const PAGE = 65536;
 
 const early = { get: () => { throw new Error("bitm: no value can be made before start() has ended"); } };
 let isStarted = false;
 
 /** The exports of the library, which take BigInts, and those of the adaptors, which take numbers. */
 export let wasm = new Proxy({}, early), calls = wasm;
-/** Where the adaptors leave an answer; where calls may write what they say beside it (1024 bytes); and 96 KiB for lists. */
+/** Where the adaptors leave an answer; where calls may write what they say beside it (1024 bytes); and 48 KiB for lists. */
 export let ANSWER, BESIDE, PIECES;
 /** The address from which on memory is ours: below stands what the library itself uses. */
 export let firstFree;
@@ -42,7 +42,7 @@ async function instance(from, given) {
 
 function imports(library) {
     const answer = library.memory.buffer.byteLength;
-    grow(library.memory, OURS / PAGE);
+    grow(library.memory, 1);
     return { bitm: { ...library, answer: new WebAssembly.Global({ value: "i64" }, BigInt(answer)) } };
 }
 
@@ -52,9 +52,9 @@ function adopt(library, linked) {
     wasm = library;
     calls = linked;
     firstFree = library.memory.buffer.byteLength;
-    ANSWER = firstFree - OURS;
+    ANSWER = firstFree - PAGE;
     BESIDE = ANSWER + 64;
-    PIECES = ANSWER + PAGE / 2;
+    PIECES = ANSWER + 4096;
 }
 
 function grow(memory, pages) {

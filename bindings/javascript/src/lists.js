@@ -8,7 +8,7 @@ import { WrongTables, big, must, notWhole, orThrow, refused } from "./numbers.js
 const SMALL = [Uint8Array, Uint8ClampedArray, Uint16Array, Int8Array, Int16Array, Int32Array, Float32Array];
 const MISSING = 2n ** 64n - 1n;
 /** How many numbers of a list cross at once: so few that they, and their answers, stay in a cache near the processor. */
-const PIECE = 4096;
+const PIECE = 2048;
 
 /** What a list of answers in a BigUint64Array holds where there is none: 2^64 - 1. */
 export const NO_ANSWER = MISSING;

@@ -4,7 +4,7 @@ import { test } from "node:test";
 import { bitm, booleans, counted, random, Tally } from "./plain.js";
 
 const { BitVector, EliasFano, Index, NO_ANSWER, Tree } = bitm;
-const tally = new Tally(), LENGTHS = [0, 1, 4095, 4096, 4097, 8192, 10001];
+const tally = new Tally(), LENGTHS = [0, 1, 2047, 2048, 2049, 4096, 10001];
 const bits = booleans(30000, 7), { rank, ones } = counted(bits), index = new Index(BitVector.fromBooleans(bits));
 
 test("lists of one piece and of several, of each form", () => {
@@ -22,7 +22,7 @@ test("lists of one piece and of several, of each form", () => {
 
 test("the item that is wrong is named, in whichever piece it is", () => {
     const asked = new Float64Array(9000), sequence = new EliasFano([1, 2]);
-    for (const k of [0, 4095, 4096, 8999]) {
+    for (const k of [0, 2047, 2048, 8999]) {
         asked[k] = 0.5;
         assert.throws(() => index.rankList(asked), { name: "RangeError", message: new RegExp(`item ${k} of positions`) });
         asked[k] = 2;
