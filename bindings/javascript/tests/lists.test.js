@@ -4,7 +4,7 @@ import { test } from "node:test";
 import { bitm, booleans, counted, random, Tally } from "./plain.js";
 
 const { BitVector, EliasFano, Index, NO_ANSWER, Tree } = bitm;
-const tally = new Tally(), LENGTHS = [0, 1, 2047, 2048, 2049, 4096, 10001];
+const tally = new Tally(), LENGTHS = [0, 1, 2047, 2048, 2049, 4096, 4097, 8192, 10001];
 const bits = booleans(30000, 7), { rank, ones } = counted(bits), index = new Index(BitVector.fromBooleans(bits));
 
 test("lists of one piece and of several, of each form", () => {
