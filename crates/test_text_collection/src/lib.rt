@@ -1,0 +1,8 @@
+//! Tests of a collection of texts beside a walk over each document: counts, places and documents worked out by hand and
+//! by plain comparison.
+//!
+//! They stand in a crate of their own, since a crate with tests is proved twice.
+#![tactic(auto)]
+
+#[cfg(test)]
+mod collections;

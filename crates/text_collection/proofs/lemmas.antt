@@ -1,0 +1,5 @@
+pub mod CollectLemmas
+pub mod JoinLemmas
+pub mod OrderLemmas
+pub mod PartLemmas
+pub mod PlaceLemmas
