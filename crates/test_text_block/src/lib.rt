@@ -1,0 +1,8 @@
+//! Tests of the index of a text in a block: its answers beside those of a plain scan, each bit of the block flipped,
+//! each length cut off.
+//!
+//! They stand in a crate of their own, since a crate with tests is proved twice.
+#![tactic(auto)]
+
+#[cfg(test)]
+mod texts;

@@ -1,0 +1,262 @@
+//! The block of the index of a small text: its answers, and those of other words in its place.
+use std::process::Abort;
+use std::test::Fail;
+use text_block::{Answer, TextView};
+
+/// The block of the index of the text 1, 0, 2, 0, 2, 0 with a sample each four letters, as a program in Python made it
+/// from the tables of docs/FORMAT.md.
+const TEXT: [u64; 160] = [
+    0x036261746d746962,
+    0x0000000000000008,
+    0x0000000000000500,
+    0x0000000000000006,
+    0x0000000000000002,
+    0x0000000000000000,
+    0x0000000000000000,
+    0x0000000000000000,
+    0x0000000000000004,
+    0x0000000000000004,
+    0x0000000000000000,
+    0x000000000000000c,
+    0x0000000000000000,
+    0x0000000000000000,
+    0x87de7f9ec8de0f35,
+    0x4edb2f3c634f8137,
+    0x0000000000000001,
+    0x0000000000000200,
+    0x0000000000000001,
+    0x6f4130d24f065fc1,
+    0x0000000000000002,
+    0x0000000000000240,
+    0x0000000000000001,
+    0x9e3779b9e17d05ac,
+    0x0000000000000003,
+    0x0000000000000280,
+    0x0000000000000001,
+    0x2778e5f8583299ed,
+    0x000000000000000b,
+    0x00000000000002c0,
+    0x0000000000000002,
+    0x1351b4ce195732ac,
+    0x000000000000000c,
+    0x0000000000000300,
+    0x0000000000000002,
+    0xebff6ea84eba7e77,
+    0x000000000000000d,
+    0x0000000000000340,
+    0x0000000000000003,
+    0x706d5a8cd40c24e4,
+    0x0000000000000001,
+    0x0000000000000380,
+    0x0000000000000001,
+    0x489e4c8115df8c84,
+    0x0000000000000002,
+    0x00000000000003c0,
+    0x0000000000000001,
+    0x9e3779b9e17d05ac,
+    0x0000000000000003,
+    0x0000000000000400,
+    0x0000000000000001,
+    0x4f0dc1e33047bdf6,
+    0x000000000000000b,
+    0x0000000000000440,
+    0x0000000000000001,
+    0x9e3779b9e17d05ac,
+    0x000000000000000c,
+    0x0000000000000480,
+    0x0000000000000001,
+    0x78dde6e585f416b1,
+    0x000000000000000e,
+    0x00000000000004c0,
+    0x0000000000000002,
+    0x7dfce179276e4b71,
+    0x0000000000000086,
+    0x0000000000000000,
+    0x0000000000000000,
+    0x0000000000000000,
+    0x0000000000000000,
+    0x0000000000000000,
+    0x0000000000000000,
+    0x0000000000000000,
+    0x0000000000000000,
+    0x0000000000000000,
+    0x0000000000000000,
+    0x0000000000000000,
+    0x0000000000000000,
+    0x0000000000000000,
+    0x0000000000000000,
+    0x0000000000000000,
+    0x00c0180300000000,
+    0x0000000000000000,
+    0x0000000000000000,
+    0x0000000000000000,
+    0x0000000000000000,
+    0x0000000000000000,
+    0x0000000000000000,
+    0x0000000000000000,
+    0x0000000000000000,
+    0x0000000000000002,
+    0x0000000000000000,
+    0x0000000000000000,
+    0x0000000000000000,
+    0x0000000000000000,
+    0x0000000000000000,
+    0x0000000000000000,
+    0x0000000000000004,
+    0x0000000000000005,
+    0x0000000000000000,
+    0x0000000000000000,
+    0x0000000000000000,
+    0x0000000000000000,
+    0x0000000000000000,
+    0x0000000000000000,
+    0x0000000000000001,
+    0x0000000000000004,
+    0x0000000000000005,
+    0x0000000000000000,
+    0x0000000000000000,
+    0x0000000000000000,
+    0x0000000000000000,
+    0x0000000000000000,
+    0x0000000000000030,
+    0x0000000000000000,
+    0x0000000000000000,
+    0x0000000000000000,
+    0x0000000000000000,
+    0x0000000000000000,
+    0x0000000000000000,
+    0x0000000000000000,
+    0x0000000000000000,
+    0x0000000000000000,
+    0x0000000000000000,
+    0x0000000000000000,
+    0x0000000000000000,
+    0x0000000000000000,
+    0x0000000000000000,
+    0x0000000000000000,
+    0x0080100200000000,
+    0x0000000000000000,
+    0x0000000000000000,
+    0x0000000000000000,
+    0x0000000000000000,
+    0x0000000000000000,
+    0x0000000000000000,
+    0x0000000000000000,
+    0x0000000000000000,
+    0x0000000000000000,
+    0x0000000000000000,
+    0x0000000000000000,
+    0x0000000000000000,
+    0x0000000000000000,
+    0x0000000000000000,
+    0x0000000000000000,
+    0x0000000000000005,
+    0x0000000000000000,
+    0x0000000000000000,
+    0x0000000000000000,
+    0x0000000000000000,
+    0x0000000000000000,
+    0x0000000000000000,
+    0x0000000000000000,
+    0x0000000400000000,
+    0x0000000500000004,
+    0x0000000000000000,
+    0x0000000000000000,
+    0x0000000000000000,
+    0x0000000000000000,
+    0x0000000000000000,
+    0x0000000000000000,
+];
+
+/// The number that was found, or 100 for `Absent`, 101 for `Wrong`.
+fn told(answer: Answer<usize>) -> usize {
+    match answer {
+        Answer::Found(number) => number,
+        Answer::Absent => 100,
+        Answer::Wrong => 101,
+    }
+}
+
+/// The counts of ten patterns: none, 0, 1, 2, 3, then 0 2, 2 0, 2 0 2, 0 0, and one letter of many bits.
+fn counts(text: &TextView<'_>) -> [usize; 10] {
+    [
+        told(text.count([].as_slice())),
+        told(text.count([0u64].as_slice())),
+        told(text.count([1u64].as_slice())),
+        told(text.count([2u64].as_slice())),
+        told(text.count([3u64].as_slice())),
+        told(text.count([0u64, 2].as_slice())),
+        told(text.count([2u64, 0].as_slice())),
+        told(text.count([2u64, 0, 2].as_slice())),
+        told(text.count([0u64, 0].as_slice())),
+        told(text.count([1u64 << 40].as_slice())),
+    ]
+}
+
+/// Whether a pattern stands at no more positions than there are, with the end.
+fn are_within(counts: &[usize]) -> bool {
+    let mut within = counts.len() == 10;
+    for count in counts {
+        within &= *count == 101 || *count <= 7;
+    }
+    within
+}
+
+/// How many flipped bits of the sections give a count that no text of six letters could have.
+fn impossible_counts(words: &mut [u64]) -> usize {
+    let mut impossible = 0usize;
+    for i in 64..words.len() {
+        for bit in 0..64u32 {
+            words[i] ^= 1u64 << bit;
+            if let Some(text) = TextView::open(&*words) {
+                let within = are_within(counts(&text).as_slice());
+                impossible = impossible.wrapping_add(!within as usize);
+            }
+            words[i] ^= 1u64 << bit;
+        }
+    }
+    impossible
+}
+
+/// How many prefixes of the words, or flipped bits of header and directory, are opened.
+fn opened(words: &mut [u64]) -> usize {
+    let mut opened = 0usize;
+    for len in 0..words.len() {
+        opened = opened.wrapping_add(TextView::open(&words[..len]).is_some() as usize);
+    }
+    for i in 0..words.len().min(64) {
+        for bit in 0..64u32 {
+            words[i] ^= 1u64 << bit;
+            opened = opened.wrapping_add(TextView::open(&*words).is_some() as usize);
+            words[i] ^= 1u64 << bit;
+        }
+    }
+    opened
+}
+
+#[test]
+fn a_text_is_opened_and_counts(rt: HostRuntime) -> Result<(), Fail> {
+    let Some(text) = TextView::open(TEXT.as_slice()) else {
+        assert!(rt; false, "not opened");
+        return Ok(());
+    };
+    assert!(rt; text.len() == 6);
+    assert!(rt; counts(&text) == [7, 3, 1, 2, 0, 2, 2, 1, 0, 0]);
+    assert!(rt; told(text.count([1u64, 0, 2, 0, 2, 0].as_slice())) == 1);
+    assert!(rt; told(text.count([1u64, 0, 2, 0, 2, 0, 1].as_slice())) == 0);
+    Ok(())
+}
+
+#[test]
+fn no_other_words_of_header_and_directory_are_opened(rt: HostRuntime) -> Result<(), Fail> {
+    let mut words = TEXT;
+    assert!(rt; opened(words.as_mut_slice()) == 0);
+    Ok(())
+}
+
+#[test]
+fn each_flipped_bit_of_the_sections_leaves_a_possible_count(rt: HostRuntime) -> Result<(), Fail> {
+    let mut words = TEXT;
+    assert!(rt; impossible_counts(words.as_mut_slice()) == 0);
+    Ok(())
+}
