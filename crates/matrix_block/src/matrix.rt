@@ -91,9 +91,9 @@ impl<'a> MatrixView<'a> {
         }
     }
 
-    /// The matrix in a block that is as it was written; `None` exactly where `open` says so, a section or the zeros after
-    /// it are not those that were written (`Block::verify`), or the sections hold no matrix (`check`). So a block in
-    /// which one word was changed is refused, and every answer is that of the numbers.
+    /// The matrix in a block that is as it was written; `None` exactly where `open` says so, a section or the zeros
+    /// after it are not those that were written (`Block::verify`), or the sections hold no matrix (`check`). So a block
+    /// in which one word was changed is refused, and every answer is that of the numbers.
     ///
     /// # Cost
     /// Two passes over the words, and two ranks for each level (evident from the code).
