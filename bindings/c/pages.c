@@ -253,6 +253,33 @@ static void query_a_file(void)
     MUST(read->size == header->size);
 }
 
+/* A matrix in a block, whose words take 32 pages. For each bit of the width a number takes nine words, which may be of
+ * two pages here, a rank and a range twice as many, and a selection as a number; all take a page or two of tables. */
+static void query_a_matrix(uint64_t *one)
+{
+    enum { WIDTH = 4, TABLES = 4 };
+    const size_t len = WORDS / 2;
+    uint64_t *numbers = placed(OF_LOW, 8 * len), *scratch = placed(OF_OUT, 16 * len), words;
+    for (size_t i = 0; i < len; i++) numbers[i] = draw() >> (64 - WIDTH);
+    TOUCHES_ANY(bitm_matrix_size(len, WIDTH, one));
+    words = *one;
+    uint64_t *block = placed(OF_WORDS, 8 * words);
+    TOUCHES_ANY(bitm_matrix_build(numbers, len, WIDTH, scratch, 2 * len, block, words));
+    TOUCHES_ANY(bitm_matrix_check(block, words));
+    struct bitm_matrix *matrix = placed(OF_STARTS, sizeof *matrix);
+    *matrix = (struct bitm_matrix){0};
+    TOUCHES(2, 0, 0, bitm_matrix_open(block, words, matrix));
+    for (unsigned turn = 0; turn < 20; turn++) {
+        const size_t at = draw() % (len / 2), end = at + 1 + draw() % (len / 2);
+        const uint64_t number = draw() >> (64 - WIDTH);
+        TOUCHES(2 * WIDTH + TABLES, 0, 0, bitm_matrix_get(matrix, at, one));
+        TOUCHES(4 * WIDTH + TABLES, 0, 0, bitm_matrix_rank(matrix, number, at, one));
+        TOUCHES(6 * WIDTH + TABLES, 0, 0, bitm_matrix_select(matrix, number, at / 20, one));
+        TOUCHES(4 * WIDTH + TABLES, 0, 0, bitm_matrix_count_less(matrix, at, end, number, one));
+        TOUCHES(4 * WIDTH + TABLES, 0, 0, bitm_matrix_quantile(matrix, at, end, (end - at) / 2, one));
+    }
+}
+
 static void query_everything(void)
 {
     uint64_t *words = placed(OF_WORDS, 8 * WORDS), *upper = placed(OF_UPPER, 8), *lower = placed(OF_LOWER, 8 * LOWERS);
@@ -268,6 +295,7 @@ static void query_everything(void)
     query_bits(words, out, one);
     query_the_bytes(one);
     query_a_sequence(one);
+    query_a_matrix(one);
     query_a_file();
 }
 

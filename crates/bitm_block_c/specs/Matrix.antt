@@ -1,10 +1,13 @@
 -- A matrix in a block as C passes it, and what the exported calls answer.
-use Rattle.std.specs.Prelude.{ℕ, ◌⊎◌}
+use Rattle.std.specs.Prelude.{ℕ, ◌⊎◌, slice_range}
 use Rattle.bitm.specs.Answer.{Answer}
 use Rattle.bitm.specs.Answer.TheVariants.{Absent, Wrong}
 use Rattle.bitm_abi.specs.Status.{Exported}
 use Rattle.matrix_block.specs.Answers.{IsIndexOf, IsIndexWithin, IsNumberOf, IsNumberWithin, IsRankOf, IsRankWithin}
+use Rattle.matrix_block.specs.Ranges.{IsCountOf, IsCountWithin, IsNextOf, IsNextWithin, IsPreviousOf, IsPreviousWithin}
+use Rattle.matrix_block.specs.Ranges.{IsSmallestOf, IsSmallestWithin}
 use Rattle.matrix_block.specs.Block.{items_in, levels_of, parts_of, HasLengths, HoldsMatrix, MatrixParts}
+use Rattle.wavelet_matrix.specs.Numbers.{count_less}
 use Rattle.bitm_block_c.specs.declared.matrix.Matrix.{Matrix}
 use Rattle.bitm_block_c.specs.declared.matrix_lists.Sought.{Sought}
 use Rattle.bitm_block_c.specs.declared.matrix_lists.Sought.TheVariants.{Rank, Index}
@@ -33,6 +36,26 @@ pub record IsIndex (number k : ℕ) (parts : MatrixParts) (answer : Answer ℕ) 
   pub inside : IsIndexWithin parts.levels.len answer
   pub right : HoldsMatrix parts → IsIndexOf (items_in parts) number k answer
 
+-- how many numbers of a range are less than a bound, likewise: at most all of them. A range has the numbers from index s on
+-- and before index e
+pub record IsCount (s e bound : ℕ) (parts : MatrixParts) (answer : Answer ℕ) : Type 0 where
+  pub inside : IsCountWithin parts.levels.len s e answer
+  pub right : HoldsMatrix parts → IsCountOf (items_in parts) s e (count_less (slice_range (items_in parts) s e) bound) answer
+
+-- the number that would stand at index k if a range were sorted, likewise: of no more bits than the width
+pub record IsSmallestIn (s e k : ℕ) (parts : MatrixParts) (answer : Answer ℕ) : Type 0 where
+  pub inside : IsSmallestWithin parts.levels.len parts.levels.width s e k answer
+  pub right : HoldsMatrix parts → IsSmallestOf (items_in parts) s e k answer
+
+-- the least number of a range that is at least a bound, and the greatest that is less, likewise: on that side of it
+pub record IsNextIn (s e bound : ℕ) (parts : MatrixParts) (answer : Answer ℕ) : Type 0 where
+  pub inside : IsNextWithin parts.levels.len parts.levels.width s e bound answer
+  pub right : HoldsMatrix parts → IsNextOf (items_in parts) s e bound answer
+
+pub record IsPreviousIn (s e bound : ℕ) (parts : MatrixParts) (answer : Answer ℕ) : Type 0 where
+  pub inside : IsPreviousWithin parts.levels.len parts.levels.width s e bound answer
+  pub right : HoldsMatrix parts → IsPreviousOf (items_in parts) s e bound answer
+
 -- there is no number index, or the words and tables are not those of a matrix
 abbrev pub IsUnanswered : ℕ → MatrixParts → Type 0
 IsUnanswered index parts = IsNumber index parts Absent ⊎ IsNumber index parts Wrong
@@ -51,3 +74,15 @@ RankAnswered matrix number index = Exported (HasLengths (matrix_parts matrix)) (
 
 abbrev pub IndexAnswered : Matrix → ℕ → ℕ → ℕ → ℕ → ℕ → Type 0
 IndexAnswered matrix number k = Exported (HasLengths (matrix_parts matrix)) (IsIndex number k (matrix_parts matrix))
+
+abbrev pub CountAnswered : Matrix → ℕ → ℕ → ℕ → ℕ → ℕ → ℕ → Type 0
+CountAnswered matrix s e bound = Exported (HasLengths (matrix_parts matrix)) (IsCount s e bound (matrix_parts matrix))
+
+abbrev pub SmallestAnswered : Matrix → ℕ → ℕ → ℕ → ℕ → ℕ → ℕ → Type 0
+SmallestAnswered matrix s e k = Exported (HasLengths (matrix_parts matrix)) (IsSmallestIn s e k (matrix_parts matrix))
+
+abbrev pub NextAnswered : Matrix → ℕ → ℕ → ℕ → ℕ → ℕ → ℕ → Type 0
+NextAnswered matrix s e bound = Exported (HasLengths (matrix_parts matrix)) (IsNextIn s e bound (matrix_parts matrix))
+
+abbrev pub PreviousAnswered : Matrix → ℕ → ℕ → ℕ → ℕ → ℕ → ℕ → Type 0
+PreviousAnswered matrix s e bound = Exported (HasLengths (matrix_parts matrix)) (IsPreviousIn s e bound (matrix_parts matrix))

@@ -13,6 +13,7 @@
 // - `matrix_lists`: lists of queries of a matrix
 // - `matrix_making`: the block of a matrix, written, opened and checked
 // - `matrix_queries`: a number by its index, and ranks and indices of a number
+// - `matrix_ranges`: queries of a range of the numbers of a matrix
 // - `queries`: parents, children, degrees and siblings
 // - `tree`: a tree as C passes it
 mod lists;
@@ -21,5 +22,6 @@ mod matrix;
 mod matrix_lists;
 mod matrix_making;
 mod matrix_queries;
+mod matrix_ranges;
 mod queries;
 mod tree;
