@@ -11,7 +11,7 @@ macro_rules! answers {
             ///
             /// ```
             /// let tree = bitm_proved::Tree::build(&[2, 0, 1, 0])?;
-            /// assert_eq!((tree.parent(3), tree.parent(1), tree.parent(0), tree.parent(4)), (Some(2), Some(0), None, None));
+            /// assert_eq!((tree.parent(3), tree.parent(1), tree.parent(0)), (Some(2), Some(0), None));
             /// # Ok::<(), bitm_proved::BuildError>(())
             /// ```
             #[inline]
@@ -86,8 +86,8 @@ macro_rules! answers {
                 sure($view.checked_next_sibling(node))
             }
 
-            /// The child of a node's parent before it; `None` exactly at the first child, at the root and where there is
-            /// no such node. One proved call.
+            /// The child of a node's parent before it; `None` exactly at the first child, at the root and where there
+            /// is no such node. One proved call.
             ///
             /// ```
             /// let tree = bitm_proved::Tree::build(&[2, 0, 1, 0])?;

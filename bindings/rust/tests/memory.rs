@@ -3,7 +3,7 @@
 #![cfg(target_os = "linux")]
 use bitm_proved::{
     BitVec, BuildError, CombinedSampling, EliasFano, Index, NoMemory, PerfectHash, Queries, RankSelect101111,
-    RankSimple, Sampling, StoredError,
+    RankSimple, Sampling, StoredError, Tree,
 };
 use std::process::Command;
 
@@ -78,8 +78,10 @@ fn under_a_limit() {
     refused("RankSimple", RankSimple::try_build(&words[..]));
     refused("EliasFano", EliasFano::build(&words));
     refused("PerfectHash", PerfectHash::build(kept));
+    refused("Tree", Tree::build(&words));
     assert!(matches!(index.to_stored(64 << 20), Err(StoredError::NoMemory(_))));
     rest.clear();
     assert_eq!(PerfectHash::build(hashes()).map(|it| it.len()).ok(), Some(1_000_000));
     assert!(EliasFano::build(&words).is_ok_and(|it| it.len() == 1 << 24));
+    assert_eq!(Tree::build(&words).err(), Some(BuildError::NotATree)); // three children of each node
 }

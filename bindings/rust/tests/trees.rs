@@ -186,8 +186,8 @@ fn inside(tree: &TreeView<'_>) -> usize {
             tree.checked_previous_sibling(node),
             tree.checked_child_rank(node),
         ];
-        assert!(found.iter().all(|it| it.map_or(true, |it| it.map_or(true, |it| it < len))));
-        assert!(found[0].map_or(true, |it| it.map_or(true, |it| it < node)));
+        assert!(found.iter().all(|it| it.map_or(true, |it| it.is_none_or(|it| it < len))));
+        assert!(found[0].map_or(true, |it| it.is_none_or(|it| it < node)));
         wrong += found.iter().filter(|it| **it == Err(WrongTables)).count();
         wrong += usize::from(tree.checked_is_leaf(node).is_err()) + usize::from(tree.checked_children(node).is_err());
     }

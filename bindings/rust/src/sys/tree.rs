@@ -229,8 +229,8 @@ impl<'a> TreeView<'a> {
         self.call(bitm_tree_next_sibling, node)
     }
 
-    /// The child of a node's parent before it; `None` exactly at the first child, at the root and where there is no such
-    /// node.
+    /// The child of a node's parent before it; `None` exactly at the first child, at the root and where there is no
+    /// such node.
     ///
     /// ```
     /// let tree = bitm_proved::Tree::build(&[2, 0, 1, 0])?;
