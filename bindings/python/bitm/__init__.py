@@ -1,5 +1,5 @@
-"""Bit vectors with rank and select, monotone integer sequences (Elias-Fano), minimal perfect hashes and trees (LOUDS), over a
-library proved correct.
+"""Bit vectors with rank and select, monotone integer sequences (Elias-Fano), lists of numbers in any order (wavelet matrices),
+minimal perfect hashes and trees (LOUDS), over a library proved correct.
 
 >>> import bitm
 >>> bits = bitm.BitVector.from_indices([1, 3, 4, 6], 7)
@@ -16,16 +16,19 @@ arguments, Python's conventions) is tested.
 from collections.abc import MutableSequence, Sequence
 
 from . import _more, _shard_docs
-from ._core import BitVector, EliasFano, Index, PerfectHash, Tree, WrongTables
+from ._core import BitVector, EliasFano, Index, PerfectHash, Tree, WaveletMatrix, WrongTables
 from ._files import load, loads
 from ._more import tables_of
 from .shards import ShardError, Shards
 
 __version__ = "0.3.0"
-__all__ = ["BitVector", "EliasFano", "Index", "PerfectHash", "ShardError", "Shards", "Tree", "WrongTables", "load", "loads", "tables_of"]
+__all__ = [
+    "BitVector", "EliasFano", "Index", "PerfectHash", "ShardError", "Shards", "Tree", "WaveletMatrix", "WrongTables", "load", "loads", "tables_of",
+]
 
 _more.complete()
 _shard_docs.complete(Shards)
 Sequence.register(Index)
 Sequence.register(EliasFano)
+Sequence.register(WaveletMatrix)
 MutableSequence.register(BitVector)

@@ -131,13 +131,45 @@ def tree_over(cls: Any, block: Any) -> Any:
     return _core.over(cls, (), (block,))
 
 
-def block(self: Any) -> memoryview:
+def tree_block(self: Any) -> memoryview:
     """The words of the block, to be read: what `Tree.over` takes, and the bytes of the file.
 
     >>> len(Tree([2, 0, 1, 0]).block)
     56
     """
     return memoryview(_core.parts(self)[1][0])
+
+
+def matrix_over(cls: Any, block: Any) -> Any:
+    """A list of numbers in a block that exists already, in a buffer that it holds. ValueError where its header or directory
+    is not right; the rest is not looked at: call `check`.
+
+    >>> numbers = WaveletMatrix([3, 1, 4, 1, 5, 1])
+    >>> WaveletMatrix.over(numbers.block)[2]
+    4
+    """
+    return _core.over(cls, (), (block,))
+
+
+def matrix_block(self: Any) -> memoryview:
+    """The words of the block, to be read: what `WaveletMatrix.over` takes, and the bytes of the file.
+
+    >>> numbers = WaveletMatrix([3, 1, 4, 1, 5, 1])
+    >>> list(numbers.block[3:5])  # words of the header: the length and the width
+    [6, 3]
+    """
+    return memoryview(_core.parts(self)[1][0])
+
+
+def matrix_to_numpy(self: Any, dtype: Any = None, copy: Optional[bool] = None) -> Any:
+    """All numbers as a new array of uint64, or of dtype. ValueError for copy=False.
+
+    >>> WaveletMatrix([3, 1, 4]).to_numpy()
+    array([3, 1, 4], dtype=uint64)
+    """
+    import numpy
+
+    return _as(self.get_list(numpy.arange(len(self), dtype=numpy.uint64)), dtype, copy)
 
 
 def parts(self: Any) -> Any:
@@ -270,10 +302,10 @@ def _copy(share: Callable[[Any], Any]) -> Callable[[Any], Any]:
 
 def complete() -> None:
     """Gives the types of the extension those methods that stand here."""
-    for kind in (_core.Index, _core.EliasFano, _core.PerfectHash, _core.Tree):
+    for kind in (_core.Index, _core.EliasFano, _core.PerfectHash, _core.Tree, _core.WaveletMatrix):
         setattr(kind, "save", save)
         setattr(kind, "__copy__", _copy(getattr(kind, "__copy__")))
-    for each in (_core.BitVector, _core.Index, _core.EliasFano, _core.PerfectHash, _core.Tree):
+    for each in (_core.BitVector, _core.Index, _core.EliasFano, _core.PerfectHash, _core.Tree, _core.WaveletMatrix):
         setattr(each, "__reduce_ex__", reduce)
     setattr(_core.BitVector, "to_numpy", vector_to_numpy)
     setattr(_core.BitVector, "reverse", vector_reverse)
@@ -282,10 +314,13 @@ def complete() -> None:
     for name in ("to_numpy", "__array__"):
         setattr(_core.Index, name, index_to_numpy)
         setattr(_core.EliasFano, name, sequence_to_numpy)
+        setattr(_core.WaveletMatrix, name, matrix_to_numpy)
     setattr(_core.Index, "over", classmethod(index_over))
     setattr(_core.EliasFano, "over", classmethod(sequence_over))
     setattr(_core.Tree, "over", classmethod(tree_over))
-    setattr(_core.Tree, "block", property(block))
+    setattr(_core.Tree, "block", property(tree_block))
+    setattr(_core.WaveletMatrix, "over", classmethod(matrix_over))
+    setattr(_core.WaveletMatrix, "block", property(matrix_block))
     setattr(_core.EliasFano, "intersection", intersection)
     setattr(_core.EliasFano, "union", union)
     setattr(_core.EliasFano, "parts", property(parts))

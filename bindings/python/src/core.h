@@ -37,9 +37,9 @@
 
 extern PyObject *WrongTables;
 extern PyTypeObject *Memory_Type, *Window_Type, *Positions_Type, *Numbers_Type, *Vector_Type, *Index_Type,
-    *Sequence_Type, *Hash_Type, *Tree_Type, *ShardSet_Type;
+    *Sequence_Type, *Hash_Type, *Tree_Type, *Matrix_Type, *ShardSet_Type;
 extern PyType_Spec memory_spec, window_spec, positions_spec, numbers_spec, vector_spec, index_spec, sequence_spec,
-    hash_spec, tree_spec, shard_set_spec;
+    hash_spec, tree_spec, matrix_spec, shard_set_spec;
 
 /* ---- arguments.c */
 
@@ -162,7 +162,8 @@ typedef struct {
     struct bitm_sequence sequence;
     struct bitm_hash hash;
     struct bitm_tree tree;
-    const uint64_t *block; /* the words of the block of a tree */
+    struct bitm_matrix matrix;
+    const uint64_t *block; /* the words of the block of a tree or a matrix */
     size_t block_len;
     const uint64_t *prints; /* the fingerprints of a hash: hash.keys numbers of print_width bits */
     size_t prints_len;
@@ -328,8 +329,12 @@ PyObject *index_over(PyObject *type, Memory *memory);
 PyObject *sequence_over(PyObject *type, Memory *memory);
 PyObject *hash_over(PyObject *type, Memory *memory);
 
-/* The same over memory whose block is filled in: ValueError where it is not that of a tree. */
+/* The same over memory whose block is filled in: ValueError where it is not that of a tree, or of a matrix. */
 PyObject *tree_over(PyObject *type, Memory *memory);
+PyObject *matrix_over(PyObject *type, Memory *memory);
+
+/* What equals a whole number of 64 bits: 1 and the number, 0 where it cannot be one, -1 and an error. */
+int equal_number(PyObject *value, uint64_t *out);
 
 PyObject *numbers_new(PyObject *sequence, uint64_t from, uint64_t stop, int is_reversed);
 PyObject *numbers_from(PyObject *sequence, PyObject *const *args, Py_ssize_t count, PyObject *keywords);

@@ -20,14 +20,15 @@ typedef struct {
         (const void **)&(pointer), &(length), size                                                                     \
     }
 
-/* Whether it is a class of Index, EliasFano, PerfectHash or Tree; TypeError else. */
+/* Whether it is a class of Index, EliasFano, PerfectHash, Tree or WaveletMatrix; TypeError else. */
 static int is_value(PyObject *type)
 {
     PyTypeObject *it = (PyTypeObject *)type;
     if (PyType_IsSubtype(it, Index_Type) || PyType_IsSubtype(it, Sequence_Type) || PyType_IsSubtype(it, Hash_Type) ||
-        PyType_IsSubtype(it, Tree_Type))
+        PyType_IsSubtype(it, Tree_Type) || PyType_IsSubtype(it, Matrix_Type))
         return 1;
-    PyErr_Format(PyExc_TypeError, "an Index, an EliasFano, a PerfectHash or a Tree is needed, not %R", type);
+    PyErr_Format(PyExc_TypeError, "an Index, an EliasFano, a PerfectHash, a Tree or a WaveletMatrix is needed, not %R",
+                 type);
     return 0;
 }
 
@@ -55,12 +56,12 @@ static void layout_of(PyObject *type, Memory *it, Layout *out)
                       {PART(words->words, words->words_len, 8), PART(words->upper, words->upper_len, 8),
                        PART(words->lower, words->lower_len, 8), PART(it->hash.sizes, it->hash.sizes_len, 8),
                        PART(it->prints, it->prints_len, 8)}};
-    Layout of_tree = {0, 1, {NULL}, {PART(it->block, it->block_len, 8)}};
+    Layout of_block = {0, 1, {NULL}, {PART(it->block, it->block_len, 8)}};
     PyTypeObject *kind = (PyTypeObject *)type;
     *out = PyType_IsSubtype(kind, Index_Type)      ? of_index
            : PyType_IsSubtype(kind, Sequence_Type) ? of_sequence
-           : PyType_IsSubtype(kind, Tree_Type)     ? of_tree
-                                                   : of_hash;
+           : PyType_IsSubtype(kind, Hash_Type)     ? of_hash
+                                                   : of_block;
 }
 
 /* parts(value): its numbers and windows of its memory, as two tuples, which are what over takes. */
@@ -137,5 +138,7 @@ PyObject *parts_over(PyObject *module, PyObject *args)
         return sequence_over(type, it);
     if (PyType_IsSubtype((PyTypeObject *)type, Tree_Type))
         return tree_over(type, it);
+    if (PyType_IsSubtype((PyTypeObject *)type, Matrix_Type))
+        return matrix_over(type, it);
     return hash_over(type, it);
 }

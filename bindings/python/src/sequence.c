@@ -136,8 +136,7 @@ static PyObject *sequence_subscript(PyObject *self, PyObject *key)
     return index_of(key, &index) ? NULL : item_of(self, index, 1);
 }
 
-/* What equals a whole number of 64 bits: 1 and the number, 0 where it cannot be one, -1 and an error. */
-static int equal_number(PyObject *value, uint64_t *out)
+int equal_number(PyObject *value, uint64_t *out)
 {
     int is_text = PyUnicode_Check(value) || PyBytes_Check(value), is_index = PyIndex_Check(value);
     PyObject *whole = is_index ? PyNumber_Index(value) : is_text ? NULL : PyNumber_Long(value);
