@@ -229,24 +229,57 @@ static void any_tree(FuzzedDataProvider &from)
     }
 }
 
+static void any_matrix(FuzzedDataProvider &from)
+{
+    const std::uint32_t width = from.ConsumeIntegralInRange(1u, 64u);
+    std::vector<u64> numbers(from.ConsumeIntegralInRange<std::size_t>(0, 150));
+    for (u64 &it : numbers) it = from.ConsumeIntegral<u64>() >> (64 - width);
+    const bitm::wavelet_matrix m(numbers, width);
+    MUST(m.check() && m.width() == width && std::equal(m.begin(), m.end(), numbers.begin(), numbers.end()));
+    const u64 n = numbers.size(), a = from.ConsumeIntegralInRange<u64>(0, n), b = from.ConsumeIntegralInRange(a, n),
+              asked = n ? numbers[a % n] : 0;
+    const auto to = [&](u64 i) { return numbers.begin() + static_cast<std::ptrdiff_t>(i); };
+    std::vector<u64> part(to(a), to(b));
+    std::sort(part.begin(), part.end());
+    const auto bound = std::lower_bound(part.begin(), part.end(), asked);
+    MUST(m.count_less(a, b, asked) == static_cast<u64>(bound - part.begin()));
+    MUST(m.next_value(a, b, asked) == (bound == part.end() ? bitm::maybe_position() : *bound));
+    for (u64 k = 0; k < part.size(); k++) MUST(m.quantile(a, b, k) == part[k]);
+    MUST(m.rank(asked, b) == static_cast<u64>(std::count(numbers.begin(), to(b), asked)));
+    // anything after the header and the directory
+    const std::size_t start = static_cast<std::size_t>(m.raw().words - m.block().data());
+    std::vector<u64> block(m.block().begin(), m.block().end());
+    while (from.remaining_bytes() > 0 && start < block.size())
+        block[from.ConsumeIntegralInRange<std::size_t>(start, block.size() - 1)] = from.ConsumeIntegral<u64>();
+    const auto wrong = bitm::wavelet_matrix_view::in(block);
+    MUST(!wrong.check() || wrong == m);
+    for (u64 i = 0; i < n; i++) {
+        inside(wrong.try_select(numbers[i], i % 4), n);
+        const auto rank = wrong.try_rank(numbers[i], i), less = wrong.try_count_less(0, i, numbers[i]);
+        MUST((!rank || *rank <= i) && (!less || *less <= i));
+    }
+}
+
 static void any_file(const unsigned char *data, std::size_t size)
 {
     (void)bitm::rank_index::try_of_bytes({data, size}, bitm::verify::yes).has_value();
     (void)bitm::sequence::try_of_bytes({data, size}, bitm::verify::yes).has_value();
     (void)bitm::perfect_hash::try_of_bytes({data, size}, bitm::verify::yes).has_value();
     (void)bitm::tree::try_of_bytes({data, size}, bitm::verify::yes).has_value();
+    (void)bitm::wavelet_matrix::try_of_bytes({data, size}, bitm::verify::yes).has_value();
 }
 
 extern "C" int LLVMFuzzerTestOneInput(const unsigned char *data, std::size_t size)
 {
     if (size == 0) return 0;
     FuzzedDataProvider from(data + 1, size - 1);
-    switch (data[0] < 250 ? data[0] % 5 : 5) {
+    switch (data[0] < 250 ? data[0] % 5 : 5 + data[0] % 2) {
     case 0: changes(from); break;
     case 1: any_index(from); break;
     case 2: any_sequence(from); break;
     case 3: any_hash(from); break;
     case 5: any_tree(from); break;
+    case 6: any_matrix(from); break;
     default: any_file(data + 1, size - 1);
     }
     return 0;

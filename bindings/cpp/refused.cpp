@@ -13,6 +13,7 @@ bitm::bits some() { return bitm::bits(1000, true); }
 bitm::rank_index made() { return bitm::rank_index(words(1000, 5)); }
 bitm::sequence numbers() { return {1, 2, 3}; }
 bitm::tree grown() { return {2, 0, 1, 0}; }
+bitm::wavelet_matrix listed() { return {3, 1, 4}; }
 struct held {
     words w;
     const std::uint64_t *data() const { return w.data(); }
@@ -176,6 +177,16 @@ int main()
 #elif CASE == 44
     std::vector<int> degrees{1, 0};
     bitm::tree t(degrees.begin(), degrees.end());
+#elif CASE == 45 // of lists of numbers
+    auto v = listed().view();
+#elif CASE == 46
+    auto w = listed().block();
+#elif CASE == 47
+    auto it = listed().begin();
+#elif CASE == 48
+    auto v = bitm::wavelet_matrix_view::in(words(100));
+#elif CASE == 49
+    bitm::wavelet_matrix_view v = listed();
 #elif CASE == 110 // an answer that is not looked at
     bitm::rank_index::try_load("a");
 #elif CASE >= 100

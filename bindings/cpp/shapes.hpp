@@ -16,12 +16,14 @@ static_assert(regular<bitm::bits>() && regular<bitm::bits_view>() && regular<bit
               regular<bitm::rank_index_view>());
 static_assert(regular<bitm::sequence>() && regular<bitm::sequence_view>() && regular<bitm::perfect_hash>());
 static_assert(regular<bitm::tree>() && regular<bitm::tree_view>());
+static_assert(regular<bitm::wavelet_matrix>() && regular<bitm::wavelet_matrix_view>());
 // No owner is, or converts by itself to, a view.
 template <class Owner, class View>
 constexpr bool apart = !std::is_convertible_v<Owner, View> && !std::is_convertible_v<Owner &, View> &&
                        !std::is_convertible_v<Owner *, View *> && !std::is_constructible_v<View, Owner>;
 static_assert(apart<bitm::bits, bitm::bits_view> && apart<bitm::rank_index, bitm::rank_index_view> &&
-              apart<bitm::sequence, bitm::sequence_view> && apart<bitm::tree, bitm::tree_view>);
+              apart<bitm::sequence, bitm::sequence_view> && apart<bitm::tree, bitm::tree_view> &&
+              apart<bitm::wavelet_matrix, bitm::wavelet_matrix_view>);
 // Bits are no container of words: their size counts bits.
 static_assert(!std::is_convertible_v<bitm::bits &, bitm::words_in> &&
               !std::is_constructible_v<bitm::words_in, bitm::bits_view &> &&
@@ -47,6 +49,8 @@ static_assert(sr::random_access_range<bitm::fragments_range> && sr::view<bitm::f
 static_assert(sr::input_range<bitm::sequence_walk>);
 static_assert(sr::random_access_range<bitm::node_range> && sr::borrowed_range<bitm::node_range> &&
               sr::view<bitm::node_range> && sr::sized_range<bitm::node_range>);
+static_assert(sr::random_access_range<bitm::wavelet_matrix> && sr::sized_range<bitm::wavelet_matrix> &&
+              sr::view<bitm::wavelet_matrix_view> && !sr::borrowed_range<bitm::wavelet_matrix>);
 #endif
 // The names are not those of <strings.h>, which has a function `index`.
 static void by_using()

@@ -1,0 +1,248 @@
+// Lists of numbers in C++ beside plain vectors: owners, views, ranges, lists, files, threads; numbers that are too
+// wide, blocks that are spoilt or cut, and what is left of an owner that was moved.
+#include <bitm.hpp>
+
+#include <algorithm>
+#include <cstdio>
+#include <cstdlib>
+#include <list>
+#include <random>
+#include <sstream>
+#include <string>
+#include <thread>
+#include <vector>
+
+using u64 = std::uint64_t;
+using Words = std::vector<u64>;
+using Matrix = bitm::wavelet_matrix;
+using View = bitm::wavelet_matrix_view;
+using bitm::maybe_position;
+
+[[noreturn]] static void broken(int line, const char *what)
+{
+    std::fprintf(stderr, "matrices.cpp:%d: not so: %s\n", line, what), std::exit(1);
+}
+#define MUST(...) ((__VA_ARGS__) ? void() : broken(__LINE__, #__VA_ARGS__))
+
+template <class Error, class Call> static bool throws(Call call)
+{
+    try {
+        call();
+    } catch (const Error &) {
+        return true;
+    }
+    return false;
+}
+
+static std::mt19937_64 draw(29);
+
+static Words drawn(u64 count, unsigned bits)
+{
+    Words numbers(count);
+    for (u64 &it : numbers) it = draw() % 3 ? draw() >> (64 - bits) : draw() % 3 & ((u64{1} << (bits - 1)) * 2 - 1);
+    return numbers;
+}
+
+// The answers about a range, by sorting it.
+template <class M> static void range(const M &m, const Words &plain, u64 from, u64 to, u64 asked)
+{
+    const auto at = [&](u64 i) { return plain.begin() + static_cast<std::ptrdiff_t>(i); };
+    Words part(at(from), at(to));
+    std::sort(part.begin(), part.end());
+    const auto bound = std::lower_bound(part.begin(), part.end(), asked);
+    MUST(m.count_less(from, to, asked) == static_cast<u64>(bound - part.begin()));
+    MUST(m.next_value(from, to, asked) == (bound == part.end() ? maybe_position() : *bound));
+    MUST(m.previous_value(from, to, asked) == (bound == part.begin() ? maybe_position() : bound[-1]));
+    for (const u64 k : {u64{0}, u64{part.size() / 2}, u64{part.size()}, ~u64{}})
+        MUST(m.quantile(from, to, k) == (k < part.size() ? maybe_position(part[k]) : std::nullopt));
+    MUST(m.try_count_less(from, to, asked).value() == m.count_less(from, to, asked));
+    MUST(m.try_next_value(from, to, asked).value() == m.next_value(from, to, asked));
+    MUST(m.try_previous_value(from, to, asked).value() == m.previous_value(from, to, asked));
+    MUST(m.try_quantile(from, to, 0).value() == m.quantile(from, to, 0));
+}
+
+template <class M> static void outside(const M &m)
+{
+    const u64 n = m.size();
+    const std::pair<u64, u64> ranges[] = {{0, n + 1}, {n + 1, n + 1}, {1, 0}, {0, ~u64{}}, {~u64{}, 0}};
+    for (const auto &it : ranges) {
+        MUST(throws<std::out_of_range>([&] { (void)m.count_less(it.first, it.second, 1); }));
+        MUST(throws<std::out_of_range>([&] { (void)m.quantile(it.first, it.second, 0); }));
+        MUST(m.try_next_value(it.first, it.second, 1).error().code == bitm::errc::outside);
+        MUST(m.try_previous_value(it.first, it.second, 1).error().code == bitm::errc::outside);
+    }
+    for (const u64 index : {n, n + 1, ~u64{}}) {
+        MUST(throws<std::out_of_range>([&] { (void)m[index]; }) &&
+             throws<std::out_of_range>([&] { (void)m.at(index); }));
+        MUST(m.try_at(index).error() == bitm::failure{bitm::errc::outside, index, n, nullptr});
+        MUST(index == n || throws<std::out_of_range>([&] { (void)m.rank(1, index); }));
+        MUST(index == n || m.try_rank(1, index).error().code == bitm::errc::outside);
+    }
+}
+
+template <class M> static void lists(const M &m, const Words &plain)
+{
+    const u64 n = plain.size();
+    Words numbers(300), ends(300), ranks(300), at, out(300), wanted(300);
+    for (u64 i = 0; i < 300; i++) {
+        numbers[i] = n && i % 3 ? plain[draw() % n] : draw() % 5, ends[i] = draw() % (n + 2), ranks[i] = draw() % 4;
+        if (n) at.push_back(draw() % n);
+    }
+    m.rank(numbers, ends, out);
+    for (u64 i = 0; i < 300; i++) MUST(out[i] == (ends[i] <= n ? m.rank(numbers[i], ends[i]) : bitm::no_answer));
+    m.select(numbers, ranks, out);
+    for (u64 i = 0; i < 300; i++) MUST(out[i] == m.select(numbers[i], ranks[i]).value_or(bitm::no_answer));
+    m.at(at, bitm::words_out(out.data(), at.size()));
+    for (u64 i = 0; i < at.size(); i++) MUST(out[i] == plain[at[i]]);
+    at.assign(300, n);
+    MUST(throws<std::out_of_range>([&] { m.at(at, out); }));
+    Words less(299);
+    MUST(throws<std::invalid_argument>([&] { m.at(at, less); }) &&
+         throws<std::invalid_argument>([&] { m.at(at, at); }));
+    MUST(throws<std::invalid_argument>([&] { m.rank(numbers, ends, less); }));
+    MUST(throws<std::invalid_argument>([&] { m.rank(numbers, less, out); }));
+    MUST(throws<std::invalid_argument>([&] { m.select(numbers, ranks, ranks); }));
+    MUST(throws<std::invalid_argument>([&] { m.select(numbers, ranks, numbers); }));
+    m.rank(bitm::words_in(), bitm::words_in(), bitm::words_out());
+}
+
+template <class M> static void same(const M &m, const Words &plain)
+{
+    const u64 n = plain.size();
+    MUST(m.size() == n && m.empty() == plain.empty() && m.check() &&
+         std::equal(m.begin(), m.end(), plain.begin(), plain.end()));
+    Words asked{0, 1, ~u64{}};
+    for (u64 i = 0; i < std::min<u64>(n, 6); i++) asked.push_back(plain[draw() % n]), asked.push_back(asked.back() + 1);
+    for (const u64 number : asked) {
+        Words places;
+        for (u64 i = 0; i < n; i++)
+            if (plain[i] == number) places.push_back(i);
+        MUST(m.count(number) == places.size() && m.contains(number) == !places.empty());
+        for (u64 rank = 0; rank < std::min<u64>(places.size(), 20); rank++)
+            MUST(m.select(number, rank) == places[rank]);
+        MUST(!m.select(number, places.size()) && !m.try_select(number, ~u64{}).value());
+        const u64 a = draw() % (n + 1), b = a + draw() % (n - a + 1);
+        MUST(m.rank(number, a) == static_cast<u64>(std::lower_bound(places.begin(), places.end(), a) - places.begin()));
+        range(m, plain, a, b, number), range(m, plain, 0, n, number), range(m, plain, a, a, number);
+    }
+    for (u64 i = 0; i < n; i += 1 + n / 50)
+        MUST(m[i] == plain[i] && m.at(i) == plain[i] && m.try_at(i).value() == plain[i]);
+    outside(m), lists(m, plain);
+}
+
+static void refused()
+{
+    const Words wide{1, 8};
+    for (const std::uint32_t width : {1u, 3u}) {
+        MUST(Matrix::try_of(wide, width).error().code == bitm::errc::bad_size);
+        MUST(throws<std::invalid_argument>([&] { Matrix m(wide, width); }));
+    }
+    for (const std::uint32_t width : {65u, ~0u}) MUST(!Matrix::try_of(wide, width) && !Matrix::try_of({}, width));
+    MUST(Matrix(wide, 4).width() == 4 && Matrix(wide, 64).width() == 64 && Matrix(wide).width() == 4);
+    MUST(Matrix({0, 0}).width() == 1 && Matrix({~u64{}}).width() == 64 && Matrix(bitm::words_in()).width() == 1);
+    const Words short_of(2);
+    MUST(!Matrix::try_of_bytes({}) && !View::try_in(short_of) && !View::try_in({}));
+    MUST(throws<bitm::wrong_file>([&] { (void)View::in(short_of); }));
+    MUST(Matrix::try_load("no/such/file").error().code == bitm::errc::no_file);
+}
+
+static void owners(const Words &plain)
+{
+    Matrix a(plain), b(plain.begin(), plain.end(), 64), none;
+    const std::list<u64> listed(plain.begin(), plain.end());
+    MUST(a == Matrix(listed.begin(), listed.end()) && a != none && b.width() == 64);
+    Matrix copy = a, moved = std::move(a);
+    same(copy, plain), same(moved, plain), same(moved.view(), plain), same(b, plain);
+    same(a, {}), same(none, {}), same(none.view(), {}), same(View(), {}), same(Matrix(none), {});
+    a = copy, copy = Matrix(), same(copy, {}), same(a, plain);
+    swap(a, copy), same(a, {}), same(copy, plain);
+    a = std::move(copy), same(a, plain), same(copy, {});
+    MUST(a.view() == a && a.view() != none.view() && none.bytes().size() == 0);
+}
+
+static void files(const Words &plain, const std::string &path)
+{
+    const Matrix m(plain);
+    m.save(path);
+    std::stringstream stream, cut;
+    m.save(stream) << "more";
+    cut.write(reinterpret_cast<const char *>(m.bytes().data()), static_cast<std::streamsize>(m.bytes().size() - 1));
+    same(Matrix::load(path, bitm::verify::yes), plain), same(Matrix::map(path, bitm::verify::yes), plain);
+    same(Matrix::load(stream, bitm::verify::yes), plain), MUST(stream.get() == 'm' && !Matrix::try_load(cut));
+    MUST(Matrix::map(path) == m && Matrix::of_bytes(m.bytes()) == m && Matrix(Matrix::map(path)) == m);
+    MUST(!bitm::tree::try_load(path) && !bitm::sequence::try_map(path));
+    Words file(m.block().begin(), m.block().end());
+    file.resize(file.size() + 7, 5); // words after the block are not its own
+    const View view = View::in(file);
+    same(view, plain), MUST(view == m && view.block().data() == file.data());
+    bitm::tree{1, 0}.save(path);
+    MUST(Matrix::try_load(path).error().code == bitm::errc::wrong_file && !Matrix::try_map(path));
+    std::remove(path.c_str());
+}
+
+// Answers of a block that may hold anything: inside, or an error.
+static void any(const View &m)
+{
+    const u64 n = m.size(), end = (u64{1} << (m.width() - 1)) * 2 - 1;
+    for (u64 i = 0; i <= n; i += 3) {
+        const u64 number = draw() & end, from = draw() % (i + 1);
+        const auto value = m.try_at(i);
+        MUST(!value || (i < n && *value <= end));
+        const auto rank = m.try_rank(number, i), less = m.try_count_less(from, i, number);
+        MUST((!rank || *rank <= i) && (!less || *less <= i - from));
+        const auto found = m.try_select(number, i % 3);
+        MUST(!found || !*found || **found < n);
+        for (const auto &it :
+             {m.try_quantile(from, i, 0), m.try_next_value(from, i, number), m.try_previous_value(from, i, number)})
+            MUST(!it || !*it || **it <= end);
+    }
+}
+
+static void spoilt()
+{
+    const Matrix m(drawn(90, 5));
+    const Words good(m.block().begin(), m.block().end());
+    const std::size_t start = static_cast<std::size_t>(m.raw().words - m.block().data());
+    for (std::size_t word = 0; word < good.size(); word++)
+        for (unsigned bit = 0; bit < 64; bit += 1 + bit % 5) {
+            Words block = good;
+            block[word] ^= u64{1} << bit;
+            const auto view = View::try_in(block);
+            MUST(view.has_value() ==
+                 (word >= start)); // the header and the directory have checksums that opening compares
+            if (view) MUST(!view->check()), any(*view);
+        }
+    for (std::size_t len = 0; len < good.size(); len++) MUST(!View::try_in(bitm::words_in(good.data(), len)));
+    for (int turn = 0; turn < 300; turn++) {
+        Words block = good;
+        for (std::size_t word = start; word < block.size(); word++) block[word] = draw() & draw();
+        any(View::in(block));
+    }
+}
+
+static void threads()
+{
+    const Words plain = drawn(2000, 9);
+    const Matrix m(plain);
+    const View view = m.view();
+    std::vector<std::thread> all;
+    for (int i = 0; i < 6; i++)
+        all.emplace_back([&] {
+            for (u64 at = 0; at < 2000; at++)
+                MUST(m[at] == plain[at] && view.select(plain[at], 0) <= maybe_position(at));
+        });
+    for (std::thread &it : all) it.join();
+}
+
+int main(int, char **argv)
+{
+    const std::string path = argv[0] + std::string(".numbers");
+    refused(), spoilt(), threads();
+    std::vector<Words> all{{}, {0}, {~u64{}}, {3, 1, 4, 1, 5, 1}, Words(700, 6)};
+    for (u64 count = 1; count < 20; count++) all.push_back(drawn(count * count, 1 + static_cast<unsigned>(count * 3)));
+    all.push_back(drawn(3000, 12));
+    for (const Words &plain : all) same(Matrix(plain), plain), files(plain, path);
+    owners(all[3]), owners(all.back());
+    std::puts("matrices: ok");
+    return 0;
+}

@@ -1,0 +1,389 @@
+// Lists of numbers in any order (wavelet matrices), each in one block of memory: an owner, and a view of a block in
+// memory of the caller's.
+//
+//     const bitm::wavelet_matrix m{3, 1, 4, 1, 5, 1};  // or of a vector, a span, iterators; with a width or without
+//     std::cout << m[4] << ' ' << m.rank(1, 4) << ' ' << m.select(1, 2).value() << '\n';                 // 5 2 5
+//     std::cout << m.quantile(1, 5, 2).value() << ' ' << m.count_less(1, 5, 4) << '\n';                  // 4 2
+//
+// A number of `width` bits takes about 1.03 times as many. The file of a matrix is its block, the same bytes from each
+// language.
+#ifndef BITM_MATRIX_HPP
+#define BITM_MATRIX_HPP
+
+#include <bitm/file.hpp>
+
+BITM_NAMESPACE_BEGIN
+
+// The numbers of a matrix, read one at a time.
+class matrix_iterator : public detail::at_position<matrix_iterator, std::uint64_t> {
+public:
+    // Of no matrix.
+    matrix_iterator() noexcept = default;
+    // At an index.
+    matrix_iterator(const bitm_matrix &of, std::uint64_t at) noexcept : at_position(at), of_(of) {}
+
+private:
+    friend class detail::at_position<matrix_iterator, std::uint64_t>;
+    std::uint64_t read(std::uint64_t at) const
+    {
+        std::uint64_t out = 0;
+        const std::uint32_t status = bitm_matrix_get(&of_, at, &out);
+        if (BITM_RARELY(status != BITM_OK)) detail::fail_status(status, at, of_.len);
+        return out;
+    }
+    bitm_matrix of_{};
+};
+
+namespace detail {
+
+// The words and counts of a matrix of no numbers, of one bit each: what an owner or a view that was default constructed
+// queries.
+inline constexpr std::uint64_t no_numbers[1] = {0};
+inline bitm_matrix empty_matrix() noexcept
+{
+    bitm_matrix raw{};
+    raw.width = 1;
+    raw.words = raw.upper = raw.lower = raw.ones = raw.zeros = no_numbers;
+    raw.ones_len = raw.zeros_len = 1;
+    return raw;
+}
+
+// The matrix whose block begins these words, and how many words the block has.
+struct opened_matrix {
+    bitm_matrix raw{};
+    std::size_t len = 0;
+};
+inline result<opened_matrix> matrix_in(const std::uint64_t *file, std::size_t words) noexcept
+{
+    opened_matrix found;
+    found.len = block_len(file, words);
+    if (found.len == 0 || found.len > words || bitm_matrix_open(file, found.len, &found.raw) != BITM_OK)
+        return failure{errc::wrong_file};
+    return found;
+}
+
+template <class Self> class matrix_calls {
+public:
+    // How many numbers there are, and whether there are none; how many bits each has at most; all of it as C takes it,
+    // and the block.
+    std::uint64_t size() const noexcept { return raw().len; }
+    bool empty() const noexcept { return size() == 0; }
+    std::uint32_t width() const noexcept { return static_cast<std::uint32_t>(raw().width); }
+    const bitm_matrix &raw() const noexcept BITM_LIFETIMEBOUND { return self().raw_; }
+    words_in block() const noexcept BITM_LIFETIMEBOUND { return self().block_of(); }
+
+    // The number at an index: fails past the end.
+    std::uint64_t operator[](std::uint64_t index) const { return try_at(index).value(); }
+    std::uint64_t at(std::uint64_t index) const { return try_at(index).value(); }
+    result<std::uint64_t> try_at(std::uint64_t index) const noexcept
+    {
+        std::uint64_t out = 0;
+        const std::uint32_t status = bitm_matrix_get(&raw(), index, &out);
+        if (status != BITM_OK) return error_of(status, index, size());
+        return out;
+    }
+    // How many of the numbers before an index are this one: fails where the index is past the end.
+    std::uint64_t rank(std::uint64_t number, std::uint64_t index) const { return try_rank(number, index).value(); }
+    result<std::uint64_t> try_rank(std::uint64_t number, std::uint64_t index) const noexcept
+    {
+        std::uint64_t out = 0;
+        const std::uint32_t status = bitm_matrix_rank(&raw(), number, index, &out);
+        if (status != BITM_OK) return error_of(status, index, size());
+        return out;
+    }
+    // How often a number is there, and whether it is.
+    std::uint64_t count(std::uint64_t number) const { return rank(number, size()); }
+    bool contains(std::uint64_t number) const { return count(number) > 0; }
+    // The index of this number with exactly `rank` such numbers before it; none where there are no more than rank.
+    maybe_position select(std::uint64_t number, std::uint64_t rank) const { return try_select(number, rank).value(); }
+    result<maybe_position> try_select(std::uint64_t number, std::uint64_t rank) const noexcept
+    {
+        std::uint64_t out = 0;
+        const std::uint32_t status = bitm_matrix_select(&raw(), number, rank, &out);
+        return tried(status, out);
+    }
+
+    // Of the numbers from one index on and before another: how many are less than a bound; the one that would stand at
+    // index k if they were sorted; the least that is at least a bound, and the greatest that is less; none where there
+    // is none. Each fails where the range is not inside.
+    std::uint64_t count_less(std::uint64_t from, std::uint64_t to, std::uint64_t bound) const
+    {
+        return try_count_less(from, to, bound).value();
+    }
+    maybe_position quantile(std::uint64_t from, std::uint64_t to, std::uint64_t k) const
+    {
+        return try_quantile(from, to, k).value();
+    }
+    maybe_position next_value(std::uint64_t from, std::uint64_t to, std::uint64_t bound) const
+    {
+        return try_next_value(from, to, bound).value();
+    }
+    maybe_position previous_value(std::uint64_t from, std::uint64_t to, std::uint64_t bound) const
+    {
+        return try_previous_value(from, to, bound).value();
+    }
+    result<std::uint64_t> try_count_less(std::uint64_t from, std::uint64_t to, std::uint64_t bound) const noexcept
+    {
+        const result<maybe_position> found = of_range(bitm_matrix_count_less, from, to, bound);
+        if (!found) return found.error();
+        return (*found).value_or(0);
+    }
+    result<maybe_position> try_quantile(std::uint64_t from, std::uint64_t to, std::uint64_t k) const noexcept
+    {
+        return of_range(bitm_matrix_quantile, from, to, k);
+    }
+    result<maybe_position> try_next_value(std::uint64_t from, std::uint64_t to, std::uint64_t bound) const noexcept
+    {
+        return of_range(bitm_matrix_next_value, from, to, bound);
+    }
+    result<maybe_position> try_previous_value(std::uint64_t from, std::uint64_t to, std::uint64_t bound) const noexcept
+    {
+        return of_range(bitm_matrix_previous_value, from, to, bound);
+    }
+
+    // Lists, into memory of the caller's as long as the queries. The numbers at indices: fails where one is past the
+    // end.
+    void at(words_in indices, words_out out) const
+    {
+        std::uint64_t written = 0;
+        need_apart(indices, out);
+        need(bitm_matrix_get_list(&raw(), indices.data(), indices.size(), out.data(), out.size(), &written),
+             "there is not room for one answer a query");
+        if (BITM_RARELY(written < indices.size())) (void)at(indices.data()[written]), fail({errc::wrong});
+    }
+    // rank and select of numbers[i] with another number of its own: bitm::no_answer where there is none. Where the
+    // block is noticed to be wrong, the call fails once all is answered.
+    void rank(words_in numbers, words_in indices, words_out out) const
+    {
+        pairs(bitm_matrix_rank_list, numbers, indices, out);
+    }
+    void select(words_in numbers, words_in ranks, words_out out) const
+    {
+        pairs(bitm_matrix_select_list, numbers, ranks, out);
+    }
+
+    // Whether the block is as it was written and holds a matrix: looks at all of it, twice.
+    bool check() const noexcept
+    {
+        const words_in all = block();
+        return all.empty() || bitm_matrix_check(all.data(), all.size()) == BITM_OK;
+    }
+
+    // The same numbers in the same width: the same block.
+    template <class Other> friend bool operator==(const matrix_calls &a, const matrix_calls<Other> &b) noexcept
+    {
+        const words_in x = a.block(), y = b.block();
+        return x.size() == y.size() && (x.empty() || std::memcmp(x.data(), y.data(), 8 * x.size()) == 0);
+    }
+    template <class Other> friend bool operator!=(const matrix_calls &a, const matrix_calls<Other> &b) noexcept
+    {
+        return !(a == b);
+    }
+
+protected:
+    matrix_calls() noexcept = default;
+    ~matrix_calls() = default;
+    matrix_calls(const matrix_calls &) noexcept = default;
+    matrix_calls &operator=(const matrix_calls &) noexcept = default;
+
+private:
+    using range_call = std::uint32_t (*)(const bitm_matrix *, std::size_t, std::size_t, std::uint64_t, std::uint64_t *);
+    using pairs_call = std::uint32_t (*)(const bitm_matrix *, const std::uint64_t *, std::size_t, const std::uint64_t *,
+                                         std::size_t, std::uint64_t *, std::size_t, bitm_list_counts *);
+    const Self &self() const noexcept { return static_cast<const Self &>(*this); }
+    result<maybe_position> of_range(range_call call, std::uint64_t from, std::uint64_t to,
+                                    std::uint64_t asked) const noexcept
+    {
+        if (BITM_RARELY(from > to)) return failure{errc::outside, from, to, "the start of a range"};
+        if (BITM_RARELY(to > size())) return failure{errc::outside, to, size(), "the end of a range"};
+        std::uint64_t out = 0;
+        const std::uint32_t status = call(&raw(), from, to, asked, &out);
+        return tried(status, out);
+    }
+    void pairs(pairs_call call, words_in numbers, words_in others, words_out out) const
+    {
+        need_apart(numbers, out), need_apart(others, out);
+        if (BITM_RARELY(others.size() != numbers.size()))
+            fail(bad_size("there is not one index or rank for each number"));
+        bitm_list_counts counts{};
+        const std::uint32_t status =
+            call(&raw(), numbers.data(), numbers.size(), others.data(), others.size(), out.data(), out.size(), &counts);
+        need_list(status, counts);
+    }
+};
+
+} // namespace detail
+
+// A list of numbers whose block is in memory of the caller's, who keeps it: a mapped file, say.
+class BITM_POINTER wavelet_matrix_view : public detail::matrix_calls<wavelet_matrix_view> {
+public:
+    // The types of a range.
+    using value_type = std::uint64_t;
+    using const_iterator = matrix_iterator;
+    using iterator = matrix_iterator;
+
+    // Of no numbers; of the block that begins the words: fails where it is none of a matrix, or not all of it.
+    wavelet_matrix_view() noexcept = default;
+    static result<wavelet_matrix_view> try_in(detail::kept<const std::uint64_t> file BITM_LIFETIMEBOUND) noexcept
+    {
+        const result<detail::opened_matrix> found = detail::matrix_in(file.data(), file.size());
+        if (!found) return found.error();
+        wavelet_matrix_view view;
+        view.raw_ = found->raw, view.block_ = words_in(file.data(), found->len);
+        return view;
+    }
+    static wavelet_matrix_view in(detail::kept<const std::uint64_t> file BITM_LIFETIMEBOUND)
+    {
+        return try_in(file).value();
+    }
+
+    // The numbers in their order, and backwards.
+    matrix_iterator begin() const noexcept { return {raw_, 0}; }
+    matrix_iterator end() const noexcept { return {raw_, raw_.len}; }
+
+private:
+    friend class wavelet_matrix;
+    friend class detail::matrix_calls<wavelet_matrix_view>;
+    words_in block_of() const noexcept { return block_; }
+
+    bitm_matrix raw_ = detail::empty_matrix();
+    words_in block_;
+};
+
+// A list of numbers that owns its block.
+class BITM_OWNER wavelet_matrix : public detail::matrix_calls<wavelet_matrix>,
+                                  public detail::stored_calls<wavelet_matrix> {
+public:
+    // The types of a container.
+    using value_type = std::uint64_t;
+    using const_iterator = matrix_iterator;
+    using iterator = matrix_iterator;
+
+    // No numbers; those of words, a list or iterators, of `width` bits at most, or 0 for as many as the largest one
+    // has: fails where one has more.
+    wavelet_matrix() noexcept = default;
+    explicit wavelet_matrix(words_in numbers, std::uint32_t width = 0) : wavelet_matrix(try_of(numbers, width).value())
+    {
+    }
+    wavelet_matrix(std::initializer_list<std::uint64_t> numbers)
+        : wavelet_matrix(words_in(numbers.begin(), numbers.size()))
+    {
+    }
+    template <class It, class = typename std::iterator_traits<It>::iterator_category>
+    wavelet_matrix(It first, It last, std::uint32_t width = 0) : wavelet_matrix(gather(first, last), width)
+    {
+        static_assert(std::is_unsigned_v<typename std::iterator_traits<It>::value_type>, "numbers without a sign");
+    }
+    static result<wavelet_matrix> try_of(words_in numbers, std::uint32_t width = 0)
+    {
+        std::uint64_t len = 0;
+        if (width == 0) width = width_of(numbers);
+        if (bitm_matrix_size(numbers.size(), width, &len) != BITM_OK)
+            return detail::bad_size("the width is above 64, or the numbers have 2^63 bits or more");
+        detail::block all(len), scratch(2 * numbers.size());
+        const std::uint32_t status = bitm_matrix_build(numbers.data(), numbers.size(), width, scratch.data(),
+                                                       scratch.size(), all.data(), all.size());
+        if (status == BITM_WRONG) return detail::bad_size("a number has more bits than the width");
+        if (status != BITM_OK) return detail::error_of(status);
+        return opened(std::move(all), verify::no);
+    }
+
+    // A copy; or all of another, which has no numbers then; an exchange.
+    wavelet_matrix(const wavelet_matrix &other) : matrix_calls(), stored_calls()
+    {
+        if (other.used_)
+            *this = opened(detail::copied(other.block_.data(), 8 * other.used_).value(), verify::no).value();
+    }
+    wavelet_matrix(wavelet_matrix &&other) noexcept { swap(other); }
+    wavelet_matrix &operator=(const wavelet_matrix &other)
+    {
+        wavelet_matrix copy(other);
+        swap(copy);
+        return *this;
+    }
+    wavelet_matrix &operator=(wavelet_matrix &&other) noexcept
+    {
+        wavelet_matrix moved(std::move(other));
+        swap(moved);
+        return *this;
+    }
+    ~wavelet_matrix() = default;
+    void swap(wavelet_matrix &other) noexcept
+    {
+        block_.swap(other.block_), std::swap(used_, other.used_), std::swap(raw_, other.raw_);
+    }
+    friend void swap(wavelet_matrix &a, wavelet_matrix &b) noexcept { a.swap(b); }
+
+    // Views and iterators, which the owner has to outlive; the block, and all of it as C takes it. Deleted for
+    // temporaries.
+    wavelet_matrix_view view() const &noexcept BITM_LIFETIMEBOUND
+    {
+        wavelet_matrix_view view;
+        view.raw_ = raw_, view.block_ = block_of();
+        return view;
+    }
+    words_in block() const &noexcept BITM_LIFETIMEBOUND { return block_of(); }
+    const bitm_matrix &raw() const &noexcept BITM_LIFETIMEBOUND { return raw_; }
+    matrix_iterator begin() const &noexcept BITM_LIFETIMEBOUND { return {raw_, 0}; }
+    matrix_iterator end() const &noexcept BITM_LIFETIMEBOUND { return {raw_, raw_.len}; }
+    void view() const && = delete;
+    void block() const && = delete;
+    void raw() const && = delete;
+    void begin() const && = delete;
+    void end() const && = delete;
+
+private:
+    friend class detail::matrix_calls<wavelet_matrix>;
+    friend class detail::stored_calls<wavelet_matrix>;
+    wavelet_matrix(const detail::gathered &numbers, std::uint32_t width)
+        : wavelet_matrix(words_in(numbers.data(), numbers.size()), width)
+    {
+    }
+    template <class It> static detail::gathered gather(It first, It last)
+    {
+        detail::gathered numbers;
+        for (; first != last; ++first) numbers.push(*first);
+        return numbers;
+    }
+    // How many bits the largest number has, and at least 1.
+    static std::uint32_t width_of(words_in numbers) noexcept
+    {
+        std::uint64_t all = 1;
+        std::uint32_t width = 0;
+        for (const std::uint64_t number : numbers) all |= number;
+        for (; all > 0; all >>= 1) width++;
+        return width;
+    }
+    words_in block_of() const noexcept { return {block_.data(), used_}; }
+    static std::size_t needed(const std::uint64_t *file, std::size_t have) noexcept
+    {
+        return detail::block_len(file, have);
+    }
+    static result<std::size_t> size_of(const std::uint64_t *file, std::size_t words) noexcept
+    {
+        const result<detail::opened_matrix> found = detail::matrix_in(file, words);
+        if (!found) return found.error();
+        return found->len;
+    }
+    static result<wavelet_matrix> opened(detail::block &&all, verify how) noexcept
+    {
+        const result<detail::opened_matrix> found = detail::matrix_in(all.data(), all.size());
+        if (!found) return found.error();
+        wavelet_matrix made;
+        made.block_.swap(all), made.used_ = found->len, made.raw_ = found->raw;
+        if (how == verify::yes && !made.check()) return failure{errc::wrong};
+        return made;
+    }
+
+    detail::block block_;
+    std::size_t used_ = 0;
+    bitm_matrix raw_ = detail::empty_matrix();
+};
+
+BITM_NAMESPACE_END
+
+#if __cplusplus >= 202002L
+template <> inline constexpr bool std::ranges::enable_view<bitm::wavelet_matrix_view> = true;
+#endif
+
+#endif
