@@ -49,7 +49,7 @@ impl fmt::Display for WrongTables {
 
 impl Error for WrongTables {}
 
-/// Why an index, a sequence, a hash or a tree was not built.
+/// Why an index, a sequence, a hash, a tree or a list of numbers was not built.
 ///
 /// ```
 /// use bitm_proved::{BuildError, EliasFano};
@@ -98,6 +98,26 @@ pub enum BuildError {
     /// assert_eq!(Tree::build(&[1, 1]).err(), Some(BuildError::NotATree)); // two children of two nodes
     /// ```
     NotATree,
+    /// The number at an index has more bits than the width.
+    ///
+    /// ```
+    /// use bitm_proved::{BuildError, WaveletMatrix};
+    /// assert_eq!(WaveletMatrix::build_with(&[3, 4], 2).err(), Some(BuildError::TooWide { index: 1 }));
+    /// ```
+    TooWide {
+        /// That index.
+        index: usize,
+    },
+    /// The width is not 1 to 64.
+    ///
+    /// ```
+    /// use bitm_proved::{BuildError, WaveletMatrix};
+    /// assert_eq!(WaveletMatrix::build_with(&[0], 0).err(), Some(BuildError::WrongWidth { width: 0 }));
+    /// ```
+    WrongWidth {
+        /// It.
+        width: u32,
+    },
     /// Memory was refused.
     ///
     /// ```
@@ -116,6 +136,8 @@ impl fmt::Display for BuildError {
                 write!(f, "number {index} is less than the one before it")
             }
             BuildError::EqualHashes { left } => write!(f, "{left} hashes are equal to others"),
+            BuildError::TooWide { index } => write!(f, "number {index} has more bits than the width"),
+            BuildError::WrongWidth { width } => write!(f, "a width is 1 to 64 bits, not {width}"),
             BuildError::NotATree => f.write_str("the degrees are those of no tree"),
             BuildError::NoMemory(why) => why.fmt(f),
         }
@@ -229,19 +251,19 @@ pub enum ListError {
         /// How many answers there is room for.
         room: usize,
     },
-    /// There is not one `k` for each node; nothing was written.
+    /// The two lists of pairs are not as long as each other; nothing was written.
     ///
     /// ```
     /// use bitm_proved::{ListError, Tree};
     /// let refused = Tree::build(&[1, 0])?.child_list(&[0, 1], &[0], &mut [0; 2]);
-    /// assert_eq!(refused, Err(ListError::Pairs { nodes: 2, ks: 1 }));
+    /// assert_eq!(refused, Err(ListError::Pairs { first: 2, second: 1 }));
     /// # Ok::<(), bitm_proved::BuildError>(())
     /// ```
     Pairs {
-        /// How many nodes there are.
-        nodes: usize,
-        /// How many numbers of children there are.
-        ks: usize,
+        /// How many numbers the first list has.
+        first: usize,
+        /// How many the second has.
+        second: usize,
     },
     /// The tables are not those of the words; `WRONG_TABLES` stands for the answers that it shows in.
     ///
@@ -263,7 +285,7 @@ impl fmt::Display for ListError {
             ListError::Lengths { queries, room } => {
                 write!(f, "there is room for {room} answers to {queries} queries")
             }
-            ListError::Pairs { nodes, ks } => write!(f, "there are {ks} numbers of children for {nodes} nodes"),
+            ListError::Pairs { first, second } => write!(f, "the lists of pairs have {first} and {second} numbers"),
             ListError::WrongTables { wrong } => write!(f, "{WrongTables}: {wrong} answers show it"),
         }
     }

@@ -5,6 +5,8 @@ pub(crate) mod bits;
 #[rustfmt::skip]
 pub(crate) mod index;
 #[rustfmt::skip]
+pub(crate) mod matrix;
+#[rustfmt::skip]
 pub(crate) mod sequence;
 #[rustfmt::skip]
 pub(crate) mod shards;

@@ -1,7 +1,8 @@
-//! Indexes, sequences and trees over mapped files.
+//! Indexes, sequences, trees and lists of numbers over mapped files.
 use crate::errors::OpenError;
 use crate::sys::index::Index;
 use crate::sys::mapped::Mapped;
+use crate::sys::matrix::owned::WaveletMatrix;
 use crate::sys::owned::Sequence;
 use crate::sys::tree::owned::Tree;
 use std::path::Path;
@@ -48,6 +49,20 @@ pub type SequenceFile = Sequence<Mapped>;
 /// # }
 /// ```
 pub type TreeFile = Tree<Mapped>;
+
+/// A list of numbers over a file that is mapped: one value has the file and answers.
+///
+/// ```
+/// use bitm_proved::{bytes_of, WaveletMatrix, WaveletMatrixFile};
+/// # fn main() -> Result<(), Box<dyn std::error::Error>> {
+/// let path = std::env::temp_dir().join(format!("bitm-matrix-{}", std::process::id()));
+/// std::fs::write(&path, bytes_of(WaveletMatrix::build(&[3, 1, 4])?.block()))?;
+/// assert_eq!(WaveletMatrixFile::open(&path)?.get(2), Some(4));
+/// # std::fs::remove_file(&path)?;
+/// # Ok(())
+/// # }
+/// ```
+pub type WaveletMatrixFile = WaveletMatrix<Mapped>;
 
 impl IndexFile {
     /// The index in a file. The contents of its parts are not tested: `check` does that. The file has to stay as it is.
@@ -104,5 +119,24 @@ impl TreeFile {
     /// ```
     pub fn open(path: impl AsRef<Path>) -> Result<Self, OpenError> {
         Ok(Tree::from_bytes(Mapped::open(path)?)?)
+    }
+}
+
+impl WaveletMatrixFile {
+    /// The list in a file. What its block holds is not tested: `check` does that. The file has to stay as it is.
+    ///
+    /// ```
+    /// use bitm_proved::{bytes_of, WaveletMatrix, WaveletMatrixFile};
+    /// # fn main() -> Result<(), Box<dyn std::error::Error>> {
+    /// let path = std::env::temp_dir().join(format!("bitm-matrix-open-{}", std::process::id()));
+    /// std::fs::write(&path, bytes_of(WaveletMatrix::build(&[3, 1, 4])?.block()))?;
+    /// let numbers = WaveletMatrixFile::open(&path)?;
+    /// assert!(numbers.check() && numbers.len() == 3 && numbers.count_less(0..3, 4) == Some(2));
+    /// # std::fs::remove_file(&path)?;
+    /// # Ok(())
+    /// # }
+    /// ```
+    pub fn open(path: impl AsRef<Path>) -> Result<Self, OpenError> {
+        Ok(WaveletMatrix::from_bytes(Mapped::open(path)?)?)
     }
 }

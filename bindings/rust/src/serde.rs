@@ -1,6 +1,7 @@
 //! Values by `serde`, with the feature of that name: as the words of a file.
 use crate::queries::Queries;
 use crate::sys::index::Index;
+use crate::sys::matrix::owned::WaveletMatrix;
 use crate::sys::owned::{EliasFano, Sequence};
 use crate::sys::tree::owned::Tree;
 use alloc::vec::Vec;
@@ -47,5 +48,19 @@ impl<'de> Deserialize<'de> for Tree {
         let tree = Tree::from_words(Vec::deserialize(from)?).map_err(D::Error::custom)?;
         let right = tree.check();
         right.then_some(tree).ok_or_else(|| D::Error::custom(crate::WrongTables))
+    }
+}
+
+impl<O> Serialize for WaveletMatrix<O> {
+    fn serialize<S: Serializer>(&self, to: S) -> Result<S::Ok, S::Error> {
+        self.block().serialize(to)
+    }
+}
+
+impl<'de> Deserialize<'de> for WaveletMatrix {
+    fn deserialize<D: Deserializer<'de>>(from: D) -> Result<Self, D::Error> {
+        let numbers = WaveletMatrix::from_words(Vec::deserialize(from)?).map_err(D::Error::custom)?;
+        let right = numbers.check();
+        right.then_some(numbers).ok_or_else(|| D::Error::custom(crate::WrongTables))
     }
 }

@@ -7,6 +7,7 @@ pub(crate) mod huge;
 pub(crate) mod index;
 #[cfg(all(feature = "mmap", unix))]
 pub(crate) mod mapped;
+pub(crate) mod matrix;
 pub(crate) mod memory;
 pub(crate) mod owned;
 pub(crate) mod parts;

@@ -3,7 +3,7 @@
 #![cfg(target_os = "linux")]
 use bitm_proved::{
     BitVec, BuildError, CombinedSampling, EliasFano, Index, NoMemory, PerfectHash, Queries, RankSelect101111,
-    RankSimple, Sampling, StoredError, Tree,
+    RankSimple, Sampling, StoredError, Tree, WaveletMatrix,
 };
 use std::process::Command;
 
@@ -79,6 +79,7 @@ fn under_a_limit() {
     refused("EliasFano", EliasFano::build(&words));
     refused("PerfectHash", PerfectHash::build(kept));
     refused("Tree", Tree::build(&words));
+    refused("WaveletMatrix", WaveletMatrix::build(&words));
     assert!(matches!(index.to_stored(64 << 20), Err(StoredError::NoMemory(_))));
     rest.clear();
     assert_eq!(PerfectHash::build(hashes()).map(|it| it.len()).ok(), Some(1_000_000));

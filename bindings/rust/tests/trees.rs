@@ -83,7 +83,7 @@ fn lists(tree: &Tree, degrees: &[u64], random: &mut Random) {
     assert_eq!(tree.parent_list(&nodes, &mut out[1..]), short);
     assert_eq!(tree.degree_list(&nodes, &mut out[1..]), short);
     assert_eq!(tree.child_list(&nodes, &ks, &mut out[1..]), short);
-    let pairs = Err(ListError::Pairs { nodes: queries, ks: room });
+    let pairs = Err(ListError::Pairs { first: queries, second: room });
     assert_eq!(tree.child_list(&nodes, &ks[1..], &mut out), pairs);
     assert_eq!((tree.parent_list(&[], &mut []), tree.child_list(&[], &[], &mut [])), (Ok(0), Ok(0)));
 }
@@ -110,8 +110,8 @@ fn degrees_of_no_tree_are_refused() {
         assert_eq!(Tree::build(degrees).err(), Some(BuildError::NotATree));
     }
     assert_eq!(BuildError::NotATree.to_string(), "the degrees are those of no tree");
-    let pairs = ListError::Pairs { nodes: 3, ks: 2 };
-    assert_eq!(pairs.to_string(), "there are 2 numbers of children for 3 nodes");
+    let pairs = ListError::Pairs { first: 3, second: 2 };
+    assert_eq!(pairs.to_string(), "the lists of pairs have 3 and 2 numbers");
 }
 
 #[test]

@@ -186,3 +186,21 @@ extern "C" {
 extern "C" {
     pub fn bitm_stored_read(file: *const u64, file_len: usize, out: *mut bitm_stored) -> u32;
 }
+extern "C" {
+    pub fn bitm_index_block_size(bits_len: u64, out: *mut u64) -> u32;
+}
+extern "C" {
+    pub fn bitm_index_block_build(
+        words: *const u64,
+        words_len: usize,
+        bits_len: u64,
+        block: *mut u64,
+        block_len: usize,
+    ) -> u32;
+}
+extern "C" {
+    pub fn bitm_index_block_open(block: *const u64, block_len: usize, index: *mut bitm_index) -> u32;
+}
+extern "C" {
+    pub fn bitm_index_block_check(block: *const u64, block_len: usize) -> u32;
+}

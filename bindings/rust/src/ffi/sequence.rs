@@ -159,3 +159,15 @@ extern "C" {
         counts: *mut bitm_list_counts,
     ) -> u32;
 }
+extern "C" {
+    pub fn bitm_sequence_block_size(len: usize, largest: u64, out: *mut u64) -> u32;
+}
+extern "C" {
+    pub fn bitm_sequence_block_build(items: *const u64, items_len: usize, block: *mut u64, block_len: usize) -> u32;
+}
+extern "C" {
+    pub fn bitm_sequence_block_open(block: *const u64, block_len: usize, sequence: *mut bitm_sequence) -> u32;
+}
+extern "C" {
+    pub fn bitm_sequence_block_check(block: *const u64, block_len: usize) -> u32;
+}

@@ -42,7 +42,7 @@ unsafe impl Send for TreeView<'_> {}
 unsafe impl Sync for TreeView<'_> {}
 
 /// The words of the block that begins a file, by its first words.
-fn block_in(file: &[u64]) -> Option<&[u64]> {
+pub(crate) fn block_in(file: &[u64]) -> Option<&[u64]> {
     match *file {
         [MARK, _, bytes, ..] => file.get(..(bytes / 8) as usize),
         _ => None,
@@ -297,12 +297,12 @@ impl<'a> TreeView<'a> {
     /// let (tree, mut out) = (Tree::build(&[2, 0, 1, 0])?, [9; 3]);
     /// assert_eq!(tree.view().child_list(&[0, 0, 2], &[1, 2, 0], &mut out), Ok(1));
     /// assert_eq!(out, [2, NO_ANSWER, 3]);
-    /// assert_eq!(tree.view().child_list(&[0, 0, 2], &[1], &mut out), Err(ListError::Pairs { nodes: 3, ks: 1 }));
+    /// assert_eq!(tree.view().child_list(&[0, 0, 2], &[1], &mut out), Err(ListError::Pairs { first: 3, second: 1 }));
     /// # Ok::<(), bitm_proved::BuildError>(())
     /// ```
     pub fn child_list(&self, nodes: &[usize], ks: &[usize], out: &mut [usize]) -> Result<usize, ListError> {
         if ks.len() != nodes.len() {
-            return Err(ListError::Pairs { nodes: nodes.len(), ks: ks.len() });
+            return Err(ListError::Pairs { first: nodes.len(), second: ks.len() });
         }
         let (len, room) = (nodes.len(), out.len());
         let mut counts = bitm_list_counts { missing: 0, wrong: 0 };
