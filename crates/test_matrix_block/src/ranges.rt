@@ -249,19 +249,27 @@ fn are_ranges_within(matrix: &MatrixView<'_>) -> bool {
     within
 }
 
+/// How many flipped bits of the words and tables leave answers of ranges that no numbers could have.
+fn flips_outside(words: &mut [u64]) -> usize {
+    let mut outside = 0usize;
+    for i in 40..words.len() {
+        let is_part = i == 40 || i == 48 || i == 56 || i / 8 >= 8 && i % 8 < 3;
+        if is_part {
+            for bit in 0..64u32 {
+                words[i] ^= 1u64 << bit;
+                if let Some(matrix) = MatrixView::open(&*words) {
+                    outside = outside.wrapping_add(!are_ranges_within(&matrix) as usize);
+                }
+                words[i] ^= 1u64 << bit;
+            }
+        }
+    }
+    outside
+}
+
 #[test]
 fn flipped_bits_leave_answers_of_ranges_in_bounds(rt: HostRuntime) -> Result<(), Fail> {
     let mut words = MATRIX;
-    let mut outside = 0usize;
-    for i in [40usize, 48, 56, 64, 65, 66, 72, 73, 74] {
-        for bit in 0..64u32 {
-            words[i] ^= 1u64 << bit;
-            if let Some(matrix) = MatrixView::open(words.as_slice()) {
-                outside = outside.wrapping_add(!are_ranges_within(&matrix) as usize);
-            }
-            words[i] ^= 1u64 << bit;
-        }
-    }
-    assert!(rt; outside == 0);
+    assert!(rt; flips_outside(words.as_mut_slice()) == 0);
     Ok(())
 }
