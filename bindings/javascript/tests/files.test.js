@@ -8,7 +8,7 @@ import { runInNewContext } from "node:vm";
 import { Worker } from "node:worker_threads";
 import { calls, bytesAt, wordsAt } from "../src/core.js";
 import { withRoom } from "../src/memory.js";
-import { bitm, booleans, counted, random, sorted } from "./plain.js";
+import { bitm, booleans, counted, random, sorted, unlessWrong } from "./plain.js";
 import { read, write } from "./stored_format.js";
 
 const { BitVector, EliasFano, Index, WrongTables, open } = bitm;
@@ -88,22 +88,21 @@ test("blocks of an index and of a sequence", () => {
 test("blocks of which a byte was changed, or some cut off", () => {
     const bits = booleans(900, 3), r = random(4);
     for (const block of [ofBits(BitVector.fromBooleans(bits)), ofNumbers(Array.from(sorted(60, 900, 4)))]) {
+        let opened = 0;
         for (let at = 0; at < block.length; at++) {
             const changed = block.slice();
             changed[at] ^= 1 << r() % 8;
             assert.throws(() => open(changed), WrongTables, `byte ${at}`);
-            if (at < 256) continue;
-            const it = open(changed, { check: false });
+            const it = unlessWrong(() => open(changed, { check: false }));
+            if (!it) continue;
+            opened++;
             for (const name of ["select", "select0", "next", "previous", "firstAtLeast", "lastAtMost"]) {
-                try {
-                    const found = it[name]?.(r() % 900);
-                    if (found !== undefined) assert.ok(it instanceof Index ? it.get(found) === (name !== "select0") : found < 60);
-                } catch (error) {
-                    assert.ok(error instanceof WrongTables, error);
-                }
+                const found = unlessWrong(() => it[name]?.(r() % 900));
+                if (found !== undefined) assert.ok(it instanceof Index ? it.get(found) === (name !== "select0") : found < 60);
             }
             it.free();
         }
+        assert.ok(opened > 0, "no changed block was opened");
         for (let n = 0; n < block.length; n++) assert.throws(() => open(block.subarray(0, n)), WrongTables);
         assert.throws(() => open(Uint8Array.from([...block, 0])), WrongTables);
         assert.throws(() => bitm.Tree.open(block), WrongTables);

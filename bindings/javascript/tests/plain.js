@@ -2,6 +2,7 @@
 import assert from "node:assert/strict";
 import { readFileSync } from "node:fs";
 import { has64, startSync } from "../src/core.js";
+import { WrongTables } from "../src/numbers.js";
 
 export function random(seed) {
     let x = seed >>> 0 || 1;
@@ -53,6 +54,16 @@ export function lowerBound(items, x) {
         else high = middle;
     }
     return low;
+}
+
+/** What a call answers; undefined where it throws the error of wrong tables. */
+export function unlessWrong(call) {
+    try {
+        return call();
+    } catch (it) {
+        assert.ok(it instanceof WrongTables, it);
+        return undefined;
+    }
 }
 
 /** Counts answers that are as they should be; throws at the first that is not. */
