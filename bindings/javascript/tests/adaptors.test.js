@@ -128,7 +128,11 @@ function matrix(spoilt) {
 }
 
 /** What a query of a matrix is asked, and what lists of queries have in common. */
-const ofMatrix = () => (matrix(r() % 3 === 0), { matrix: slot(43), index: r() % (N + 5), number: r() % 140, rank: r() % 3, bound: r() % 140, start: r() % 30, end: 20 + (r() % 25), k: r() % 20 });
+function ofMatrix() {
+    matrix(r() % 3 === 0);
+    const number = r() % 4 ? Number(words(slot(40), N)[r() % N]) : r() % 140;
+    return { matrix: slot(43), index: r() % (N + 5), number, rank: r() % 2, bound: r() % 140, start: r() % 30, end: 20 + (r() % 25), k: r() % 20 };
+}
 function ofMatrices() {
     const given = ofMatrix();
     for (let i = 0; i < N; i++) words(slot(46), N)[i] = words(slot(40), N)[r() % N];
