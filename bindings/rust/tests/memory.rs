@@ -77,9 +77,9 @@ fn under_a_limit() {
     refused("RankSelect101111", RankSelect101111::<CombinedSampling, CombinedSampling, _>::try_build(&words[..]));
     refused("RankSimple", RankSimple::try_build(&words[..]));
     refused("EliasFano", EliasFano::build(&words));
-    refused("PerfectHash", PerfectHash::build(kept));
     refused("Tree", Tree::build(&words));
     refused("WaveletMatrix", WaveletMatrix::build(&words));
+    refused("PerfectHash", PerfectHash::build(kept)); // the last: it gives back the memory of its keys
     assert!(matches!(index.to_stored(64 << 20), Err(StoredError::NoMemory(_))));
     rest.clear();
     assert_eq!(PerfectHash::build(hashes()).map(|it| it.len()).ok(), Some(1_000_000));
