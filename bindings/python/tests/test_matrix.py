@@ -222,7 +222,7 @@ def test_the_block_lives_as_long_as_a_view_of_it():
 def test_each_changed_byte_and_each_prefix_is_seen():
     plain = drawn(9, 4, 5)
     data = bytes(WaveletMatrix(plain, width=4).block)
-    start = next(at for at in range(256, len(data), 64) if any(data[at : at + 64]))
+    start = int.from_bytes(data[136:144], "little")  # where the first section begins, by the directory
     for at in range(len(data)):
         changed = bytearray(data)
         changed[at] ^= 1 << at % 8
