@@ -1281,9 +1281,9 @@ struct bitm_matrix {
     size_t upper_len;
     const uint64_t *lower;
     size_t lower_len;
-    const uint64_t *ones; /* for each bit of the width a count */
+    const uint64_t *ones; /* for each bit of the width: how many 1 bits stand before its level of the words */
     size_t ones_len;
-    const uint64_t *zeros; /* and another */
+    const uint64_t *zeros; /* and how many of the numbers have a 0 bit at that level */
     size_t zeros_len;
     uint64_t reserved[2]; /* 0: not read */
 };
