@@ -1,2 +1,3 @@
+pub mod IndexBlock
 pub mod Matrix
 pub mod Tree

@@ -7,6 +7,7 @@
 #![tactic(auto)]
 
 // What is in each file:
+// - `index_blocks`: the block of bits with their index, written, opened as an index and checked
 // - `lists`: lists of queries of a tree
 // - `making`: the block of a tree, written, opened and checked
 // - `matrix`: a matrix as C passes it
@@ -15,7 +16,9 @@
 // - `matrix_queries`: a number by its index, and ranks and indices of a number
 // - `matrix_ranges`: queries of a range of the numbers of a matrix
 // - `queries`: parents, children, degrees and siblings
+// - `sequence_blocks`: the block of a sequence, written, opened as a sequence and checked
 // - `tree`: a tree as C passes it
+mod index_blocks;
 mod lists;
 mod making;
 mod matrix;
@@ -24,4 +27,5 @@ mod matrix_making;
 mod matrix_queries;
 mod matrix_ranges;
 mod queries;
+mod sequence_blocks;
 mod tree;

@@ -1,0 +1,96 @@
+"""Blocks that C writes, beside those that are written here by docs/FORMAT.md, from the same bits and numbers."""
+import itertools
+import struct
+import subprocess
+
+from common import compiled
+from shell import needs
+
+WORD = 2**64
+MARK = int.from_bytes(b"bitmtab\x03", "little")
+
+
+def checksum(words):
+    h = len(words)
+    for word in words:
+        h = (h ^ word) * 0x9E3779B97F4A7C15 % WORD
+        h ^= h >> 32
+    return h
+
+
+def packed(bits):
+    """Bits as words, lowest bit first."""
+    number = sum(1 << i for i, bit in enumerate(bits) if bit)
+    return [number >> 64 * i & (WORD - 1) for i in range(-(-len(bits) // 64))]
+
+
+def tables(words):
+    """The upper and the lower table of fewer than 2^26 words: an entry for each 32 words, of four counts."""
+    ones = [0, *itertools.accumulate(word.bit_count() for word in words)]
+    before = lambda at: ones[min(at, len(words))]  # noqa: E731
+    lower = []
+    for at in range(0, len(words), 32):
+        a, b, c = (before(at + 8 * k) - before(at) for k in (1, 2, 3))
+        lower.append(before(at) + (c << 32) + (b << 43) + (a << 54))
+    return [0] * bool(words), lower
+
+
+def block(kind, length, width, sections):
+    """The header, the directory and the sections, each of a role and of words."""
+    head = -(-(16 + 4 * len(sections)) // 8) * 8
+    directory, body = [], []
+    for role, words in sections:
+        directory += [role, 8 * (head + len(body)), len(words), checksum(words)]
+        body += words + [0] * (-len(words) % 8)
+    directory += [0] * (head - 16 - len(directory))
+    header = [MARK, kind, 8 * (head + len(body)), length, width, 0, 0, 0, 0, 0, 0, len(sections), 0, 0, checksum(directory)]
+    return header + [checksum(header)] + directory + body
+
+
+def of_bits(length, _width, words):
+    bits = [words[i // 64] >> i % 64 & 1 for i in range(length)]
+    own = packed(bits)
+    upper, lower = tables(own)
+    return block(2, length, 0, [(1, own), (2, upper), (3, lower)])
+
+
+def of_sequence(length, _width, items):
+    """The width of the low bits is that of the largest item divided by how many items there are."""
+    largest = items[-1] if items else 0
+    width = max((largest // length).bit_length() - 1, 0) if length else 0
+    ones = {(item >> width) + i for i, item in enumerate(items)}
+    high = packed([i in ones for i in range(length + (largest >> width) + 1)])
+    low = packed([item >> k & 1 for item in items for k in range(width)])
+    upper, lower = tables(high)
+    return block(3, length, width, [(1, high), (2, upper), (3, lower), (9, low)])
+
+
+def of_matrix(length, width, numbers):
+    bits, ones, zeros, level = [], [], [], numbers
+    for depth in range(width):
+        digits = [number >> (width - 1 - depth) & 1 for number in level]
+        ones.append(sum(bits))
+        zeros.append(digits.count(0))
+        bits += digits
+        level = [n for n, d in zip(level, digits) if not d] + [n for n, d in zip(level, digits) if d]
+    words = packed(bits)
+    upper, lower = tables(words)
+    return block(6, length, width, [(1, words), (2, upper), (3, lower), (11, ones), (12, zeros)])
+
+
+WRITERS = {2: of_bits, 3: of_sequence, 6: of_matrix}
+
+
+def test_blocks_are_those_of_the_format(tmp_path):
+    needs("gcc")
+    it = compiled("gcc -O2 -std=c11", "bindings/c/formats.c", tmp_path)
+    printed = subprocess.run([it], capture_output=True, check=True).stdout
+    words = list(struct.unpack(f"<{len(printed) // 8}Q", printed))
+    kinds = []
+    while words:
+        kind, length, width, given, size, _ = words[:6]
+        made = WRITERS[kind](length, width, words[6 : 6 + given])
+        assert words[6 + given : 6 + given + size] == made, (kind, length, width)
+        kinds.append(kind)
+        del words[: 6 + given + size]
+    assert {kind: kinds.count(kind) for kind in WRITERS} == {2: 9, 3: 9, 6: 24}
