@@ -40,6 +40,41 @@ fn collected(
     Ok(TextCollection::build(alloc, &all, step.max(1))?)
 }
 
+/// Adds the places that one call writes, and answers how many these are.
+fn push_page(
+    collection: &TextCollection,
+    pattern: &[u64],
+    found: &mut Vec<(usize, usize)>,
+    documents: &mut [usize],
+    offsets: &mut [usize],
+) -> Result<usize, Fail> {
+    if documents.len() != offsets.len() {
+        return Err("there is not as much room for both".into());
+    }
+    let came = collection.locate(pattern, found.len(), documents, offsets);
+    for (document, offset) in documents.iter().zip(offsets.iter()).take(came) {
+        found.push((*document, *offset))?;
+    }
+    Ok(came)
+}
+
+/// Whether the pattern stands at each of these places, and no place comes twice.
+fn are_places(documents: &[&[u64]], pattern: &[u64], found: &[(usize, usize)]) -> bool {
+    let mut right = true;
+    for i in 0..found.len() {
+        let (document, offset) = found[i];
+        if document >= documents.len() {
+            return false;
+        }
+        let text = documents[document];
+        right &= offset <= text.len() && goes_on(text, offset, pattern);
+        for before in &found[..i] {
+            right &= before.0 != document || before.1 != offset;
+        }
+    }
+    right
+}
+
 /// Whether a collection finds all places of a pattern, each once, by calls with room for `room` of them.
 fn finds(
     alloc: Global,
@@ -49,41 +84,17 @@ fn finds(
     room: usize,
 ) -> Result<bool, Fail> {
     let count = walk(documents, pattern);
-    let mut right = collection.count(pattern) == count;
-    let mut in_documents = vec![in alloc; 0usize; room]?;
+    let mut places = vec![in alloc; 0usize; room]?;
     let mut offsets = vec![in alloc; 0usize; room]?;
     let mut found = Vec::new(alloc);
     for _ in 0..=count {
-        let from = found.len();
-        if in_documents.as_slice().len() != offsets.as_slice().len() {
-            return Ok(false);
-        }
-        let came = collection.locate(
-            pattern,
-            from,
-            in_documents.as_mut_slice(),
-            offsets.as_mut_slice(),
-        );
-        for k in 0..came {
-            if k >= in_documents.len() || k >= offsets.len() {
-                return Ok(false);
-            }
-            let (document, offset) = (in_documents[k], offsets[k]);
-            if document >= documents.len() {
-                return Ok(false);
-            }
-            right &= offset <= documents[document].len();
-            right &= goes_on(documents[document], offset, pattern);
-            for before in found.as_slice() {
-                right &= *before != (document, offset);
-            }
-            found.push((document, offset))?;
-        }
-        if came < room {
+        let (first, second) = (places.as_mut_slice(), offsets.as_mut_slice());
+        if push_page(collection, pattern, &mut found, first, second)? < room {
             break;
         }
     }
-    Ok(right && found.len() == count)
+    let all = are_places(documents, pattern, found.as_slice()) && found.len() == count;
+    Ok(all && collection.count(pattern) == count)
 }
 
 /// Whether the collection agrees with a walk for each piece of up to three letters, and for patterns across ends.
