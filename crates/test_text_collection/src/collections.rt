@@ -58,7 +58,7 @@ fn push_page(
     Ok(came)
 }
 
-/// Whether the pattern stands at each of these places, and no place comes twice.
+/// Whether the pattern stands at each of these places, and none comes twice.
 fn are_places(documents: &[&[u64]], pattern: &[u64], found: &[(usize, usize)]) -> bool {
     let mut right = true;
     for i in 0..found.len() {
