@@ -260,3 +260,45 @@ fn each_flipped_bit_of_the_sections_leaves_a_possible_count(rt: HostRuntime) -> 
     assert!(rt; impossible_counts(words.as_mut_slice()) == 0);
     Ok(())
 }
+
+/// The positions of a pattern without the first `from` of them, at most four, or 9 where none was written.
+fn located(text: &TextView<'_>, pattern: &[u64], from: usize) -> [usize; 5] {
+    let mut out = [9usize; 4];
+    let count = told(text.locate(pattern, from, out.as_mut_slice()));
+    [count, out[0], out[1], out[2], out[3]]
+}
+
+#[test]
+fn patterns_are_located(rt: HostRuntime) -> Result<(), Fail> {
+    let Some(text) = TextView::open(TEXT.as_slice()) else {
+        assert!(rt; false, "not opened");
+        return Ok(());
+    };
+    assert!(rt; located(&text, [].as_slice(), 0) == [4, 6, 5, 3, 1]);
+    assert!(rt; located(&text, [].as_slice(), 4) == [3, 0, 4, 2, 9]);
+    assert!(rt; located(&text, [0u64].as_slice(), 0) == [3, 5, 3, 1, 9]);
+    assert!(rt; located(&text, [0u64, 2].as_slice(), 0) == [2, 3, 1, 9, 9]);
+    assert!(rt; located(&text, [0u64, 2].as_slice(), 1) == [1, 1, 9, 9, 9]);
+    assert!(rt; located(&text, [0u64, 2].as_slice(), 2) == [0, 9, 9, 9, 9]);
+    assert!(rt; located(&text, [3u64].as_slice(), 0) == [0, 9, 9, 9, 9]);
+    Ok(())
+}
+
+#[test]
+fn parts_are_extracted(rt: HostRuntime) -> Result<(), Fail> {
+    let Some(text) = TextView::open(TEXT.as_slice()) else {
+        assert!(rt; false, "not opened");
+        return Ok(());
+    };
+    let mut all = [9u64; 6];
+    assert!(rt; told(text.extract(0, all.as_mut_slice())) == 6);
+    assert!(rt; all == [1, 0, 2, 0, 2, 0]);
+    let mut three = [9u64; 3];
+    assert!(rt; told(text.extract(2, three.as_mut_slice())) == 3);
+    assert!(rt; three == [2, 0, 2]);
+    assert!(rt; told(text.extract(4, three.as_mut_slice())) == 100);
+    let mut none = [0u64; 0];
+    assert!(rt; told(text.extract(6, none.as_mut_slice())) == 0);
+    assert!(rt; told(text.extract(7, none.as_mut_slice())) == 100);
+    Ok(())
+}
