@@ -40,7 +40,7 @@ fn collected(
     Ok(TextCollection::build(alloc, &all, step.max(1))?)
 }
 
-/// Adds the places that one call writes, and answers how many these are.
+/// Adds what one call finds, and answers how many that is.
 fn push_page(
     collection: &TextCollection,
     pattern: &[u64],
@@ -58,7 +58,7 @@ fn push_page(
     Ok(came)
 }
 
-/// Whether the pattern stands at each of these places, and none comes twice.
+/// Whether the pattern stands at each of these documents and offsets, and none comes twice.
 fn are_places(documents: &[&[u64]], pattern: &[u64], found: &[(usize, usize)]) -> bool {
     let mut right = true;
     for i in 0..found.len() {
