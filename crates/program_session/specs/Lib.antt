@@ -1,7 +1,5 @@
 pub mod Answer
 pub mod Failure
 pub mod Index
-pub mod Lines
 pub mod Request
 pub mod Session
-pub mod Text

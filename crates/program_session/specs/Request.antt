@@ -1,7 +1,8 @@
 -- What a line asks for.
-use Rattle.std.specs.Prelude.{ℕ, ◌≤◌, nat_le, length, ⊤, List, [], ◌∷◌, codes, Option, None, Some, option_map, option_and_then, if◌then◌else◌}
+use Rattle.std.specs.Prelude.{ℕ, ◌≤◌, ◌&&◌, nat_le, is_some, length, ⊤, List, [], ◌∷◌, codes, Option, None, Some, option_map, option_and_then, if◌then◌else◌}
 use Rattle.std.specs.Str.{bytes_eq}
-use Rattle.program_session.specs.Text.{parts_of, only_part, words_of, decimal_of}
+use Rattle.std.specs.List.{filter_map, list_all}
+use Rattle.program_text.specs.Text.{parts_of, only_part, decimal_of, hexadecimal_of}
 use Rattle.program_session.specs.declared.command.Kind.{Kind}
 use Rattle.program_session.specs.declared.command.Kind.TheVariants.{Simple, Binary, Sampled}
 use Rattle.program_session.specs.declared.command.Command.{Command}
@@ -30,6 +31,12 @@ request (command.Bits begin len) = Bits begin len
 request (command.Rank0 index) = Rank0 index
 request (command.Select rank) = Select rank
 request (command.Select0 rank) = Select0 rank
+
+-- the words that the parts write, where each part is one and there are at most 65536
+abbrev pub words_of : List (List ℕ) → Option (List ℕ)
+words_of parts =
+    if nat_le (length parts) 65536 && list_all (λ part. is_some (hexadecimal_of part)) parts
+    then Some (filter_map hexadecimal_of parts) else None
 
 -- the kind of index that has this name
 abbrev pub kind_of : List ℕ → Option Kind

@@ -2,12 +2,12 @@
 ghost use Rattle.std.specs.Prelude.{◌≡◌, ◌≤◌, length, option_map};
 ghost use Rattle.std.specs.Prelude.{IfOk, OnErr, IfSome, IsSome, is_some};
 ghost use Rattle.std.specs.List.{filter_map, list_all};
-ghost use Rattle.program_session.specs.Text.{parts_of, parts_left, only_part};
-ghost use Rattle.program_session.specs.Text.{words_of, hexadecimal_of};
-ghost use Rattle.program_session.specs.Request.{request, request_of, range_request, kind_of};
+ghost use Rattle.program_text.specs.Text.{parts_of, parts_left, hexadecimal_of};
+ghost use Rattle.program_session.specs.Request.{request, request_of, range_request, kind_of, words_of};
 ghost use Rattle.program_session.specs.Request.{AsksForWords, IsWithinLimits};
 
-use crate::text::{decimal, first_part, hexadecimal};
+use program_text::digits::{decimal, hexadecimal};
+use program_text::{first_part, only_part};
 use std::alloc::{AllocError, Global};
 
 /// The most words that a line may give.
@@ -47,33 +47,23 @@ pub(crate) fn parse(alloc: Global, line: &[u8]) -> Result<Option<Command>, Alloc
     if name == b"words".as_slice() {
         Ok(words(alloc, rest)?.map(Command::Words))
     } else if name == b"set".as_slice() {
-        Ok(only(rest).and_then(decimal).map(Command::Set))
+        Ok(only_part(rest).and_then(decimal).map(Command::Set))
     } else if name == b"clear".as_slice() {
-        Ok(only(rest).and_then(decimal).map(Command::Clear))
+        Ok(only_part(rest).and_then(decimal).map(Command::Clear))
     } else if name == b"build".as_slice() {
-        Ok(only(rest).and_then(kind_named).map(Command::Build))
+        Ok(only_part(rest).and_then(kind_named).map(Command::Build))
     } else if name == b"rank".as_slice() {
-        Ok(only(rest).and_then(decimal).map(Command::Rank))
+        Ok(only_part(rest).and_then(decimal).map(Command::Rank))
     } else if name == b"bits".as_slice() {
         Ok(range(rest))
     } else if name == b"rank0".as_slice() {
-        Ok(only(rest).and_then(decimal).map(Command::Rank0))
+        Ok(only_part(rest).and_then(decimal).map(Command::Rank0))
     } else if name == b"select".as_slice() {
-        Ok(only(rest).and_then(decimal).map(Command::Select))
+        Ok(only_part(rest).and_then(decimal).map(Command::Select))
     } else if name == b"select0".as_slice() {
-        Ok(only(rest).and_then(decimal).map(Command::Select0))
+        Ok(only_part(rest).and_then(decimal).map(Command::Select0))
     } else {
         Ok(None)
-    }
-}
-
-/// The one part that is left, where there is just one.
-fn only(rest: Option<&[u8]>) -> Option<&[u8]>
-    ensures { option_map (λ part. part.now) result ≡ only_part (parts_left rest.entry) }
-{
-    match first_part(rest?, b' ') {
-        (part, None) => Some(part),
-        (_, Some(_)) => None,
     }
 }
 
@@ -84,7 +74,7 @@ fn range(rest: Option<&[u8]>) -> Option<Command>
 {
     let (first, rest) = first_part(rest?, b' ');
     let begin = decimal(first)?;
-    let len = decimal(only(rest)?)?;
+    let len = decimal(only_part(rest)?)?;
     if len <= 63 {
         Some(Command::Bits(begin, len as u8))
     } else {

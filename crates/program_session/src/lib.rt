@@ -7,12 +7,10 @@
 // - `index`: an index over a copy of the vector
 // - `program`: the program without its process
 // - `session`: the vector and its index, and what a line does to them
-// - `text`: the words and numbers of a line
 mod answer;
 mod command;
 mod index;
 mod program;
 mod session;
-mod text;
 
 pub use program::{CANNOT_READ, WriteFailed, run, start};

@@ -2,10 +2,10 @@
 ghost use Rattle.std.specs.Prelude.{◌≡◌, ◌≢◌, ◌≤◌, ◌↔◌, ℕ, List, length, nat_eq, IfOk, IsErr, IsErrOf, IsOkAnd};
 ghost use Rattle.program_session.specs.Failure.{failure_text};
 ghost use Rattle.program_session.specs.Session.{State, Wrote, WroteAnswer};
-ghost use Rattle.program_session.specs.Text.{lines_of};
+ghost use Rattle.program_text.specs.Text.{lines_of};
 
 use crate::session::Session;
-use crate::text::Lines;
+use program_text::Lines;
 use std::alloc::Global;
 use std::io::Write;
 use std::rt::Files;

@@ -1,7 +1,7 @@
 use Rattle.std.proofs.Common.{nat_eq, is_some, rules, tests}
 use Rattle.std.proofs.lemmas.Iterator.Search.{all_from_yields_List}
 use Rattle.std.proofs.lemmas.Iterator.Splits.{YieldsList-from_slice_split}
-use Rattle.program_session.specs.Text.{hexadecimal_of}
+use Rattle.program_text.specs.Text.{hexadecimal_of}
 use Rattle.program_session.proofs.command.are_words.Goals as goal
 
 pub returns : goal.returns

@@ -3,7 +3,7 @@ use Rattle.std.proofs.lemmas.Iterator.Adapters.{items_from_extend}
 use Rattle.std.proofs.lemmas.Iterator.Consumers.{YieldsList-from_filter_map, YieldsList-at}
 use Rattle.std.proofs.lemmas.Iterator.Splits.{YieldsList-from_slice_split}
 use Rattle.std.specs.List.{filter_map}
-use Rattle.program_session.specs.Text.{hexadecimal_of, parts_of}
+use Rattle.program_text.specs.Text.{hexadecimal_of, parts_of}
 use Rattle.program_session.proofs.command.collect_words.Goals as goal
 
 pub returns : goal.returns

@@ -1,8 +1,8 @@
 use Rattle.std.proofs.Common.{sym, ap, ◌∙◌, Some, arith}
 use Rattle.std.proofs.lemmas.Grind.{common_steps}
 use Rattle.std.proofs.lemmas.List.{take_all}
-use Rattle.program_session.proofs.lemmas.NumeralLemmas.{number_length, number_digit, number_large_at, number_is, number_more}
-use Rattle.program_session.proofs.text.number.Goals as goal
+use Rattle.program_text.proofs.lemmas.NumeralLemmas.{number_length, number_digit, number_large_at, number_is, number_more}
+use Rattle.program_text.proofs.digits.number.Goals as goal
 
 pub returns-then-is_empty : goal.returns-then-is_empty
 returns-then-is_empty c = grind (arith, common_steps, number_length)

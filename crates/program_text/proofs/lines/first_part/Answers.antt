@@ -1,8 +1,8 @@
 use Rattle.std.proofs.Common.{nat_eq, sym, ◌∙◌, rules, tests}
 use Rattle.std.proofs.lemmas.Iterator.{YieldsList-from_slice}
 use Rattle.std.proofs.lemmas.Iterator.Search.{position_from_yields_List}
-use Rattle.program_session.proofs.lemmas.LineLemmas.{first_of_many, first_alone}
-use Rattle.program_session.proofs.text.first_part.Goals as goal
+use Rattle.program_text.proofs.lemmas.LineLemmas.{first_of_many, first_alone}
+use Rattle.program_text.proofs.lines.first_part.Goals as goal
 
 pub returns-in-Some-clause-parts : goal.returns-in-Some-clause-parts
 returns-in-Some-clause-parts c =

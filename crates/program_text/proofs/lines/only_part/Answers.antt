@@ -1,7 +1,7 @@
 use Rattle.std.proofs.Common.{nat_eq, arith}
 use Rattle.std.proofs.lemmas.Grind.{common_steps}
-use Rattle.program_session.proofs.lemmas.LineLemmas.{only_of_many}
-use Rattle.program_session.proofs.command.only.Goals as goal
+use Rattle.program_text.proofs.lemmas.LineLemmas.{only_of_many}
+use Rattle.program_text.proofs.lines.only_part.Goals as goal
 
 pub returns-in_default-Some : goal.returns-in_default-Some
 returns-in_default-Some c =

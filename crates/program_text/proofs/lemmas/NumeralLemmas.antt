@@ -6,7 +6,7 @@ use Rattle.std.proofs.lemmas.Int.Digits.{digits_value_more, digits_more}
 use Rattle.std.specs.Char.{digit_value}
 use Rattle.std.specs.List.{list_all}
 use Rattle.std.specs.Str.Parse.{digits_value, AllDigits}
-use Rattle.program_session.specs.Text.{number_of, digit_of}
+use Rattle.program_text.specs.Text.{number_of, digit_of}
 
 -- over a variable, so that no tactic opens the value of a digit
 some_digit : (radix n d : ℕ) → cond (nat_lt n radix) (Some n) None ≡ Some d → (n < radix) × (n ≡ d)

@@ -1,6 +1,6 @@
 use Rattle.std.proofs.Common.{sym, ◌∙◌}
-use Rattle.program_session.proofs.lemmas.NumeralLemmas.{digit_none, digit_some}
-use Rattle.program_session.proofs.text.digit_value.Goals as goal
+use Rattle.program_text.proofs.lemmas.NumeralLemmas.{digit_none, digit_some}
+use Rattle.program_text.proofs.digits.digit_value.Goals as goal
 
 pub returns : goal.returns
 returns c =

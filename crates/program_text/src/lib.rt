@@ -1,0 +1,13 @@
+//! The text that the programs read: its lines, the parts of a line, and the numbers that they write.
+#![tactic(auto)]
+
+// What is in each file:
+// - `digits`: the numbers that digits write
+// - `lines`: the lines of a text, and the parts of a line
+// - `list`: the numbers of a text, one a line
+pub mod digits;
+mod lines;
+mod list;
+
+pub use lines::{Lines, first_part, only_part};
+pub use list::{ListError, numbers};

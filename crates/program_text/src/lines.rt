@@ -1,0 +1,88 @@
+//! The lines of a text, and the parts of a line.
+ghost use Rattle.std.specs.Prelude.{◌≡◌, ◌<◌, ◌∷◌, IfSome, length, option_map};
+ghost use Rattle.std.specs.Iterator.{YieldsFirstBy, item_count};
+ghost use Rattle.program_text.specs.Text.{lines_of, only_part, parts_left, split_at, split_left};
+
+use std::marker::Model;
+
+/// The first part of a text, and what follows the separator after it, if one stands there.
+///
+/// ```
+/// first_part(b"rank 5".as_slice(), b' ');   // (b"rank", Some(b"5"))
+/// ```
+pub fn first_part(text: &[u8], separator: u8) -> (&[u8], Option<&[u8]>)
+    ensures parts { split_at separator text.now ≡ result.0.now ∷ split_left separator result.1 }
+    ensures shorter { IfSome result.1 (λ rest. length rest.now < length text.now) }
+{
+    match text.iter().position(|byte| *byte == separator) {
+        Some(at) => (&text[..at], Some(&text[at + 1..])),
+        None => (text, None),
+    }
+}
+
+/// The one part that is left of a line, where there is just one: parts are separated by single spaces.
+///
+/// ```
+/// only_part(Some(b"5".as_slice()));     // Some(b"5")
+/// only_part(Some(b"5 6".as_slice()));   // None
+/// ```
+pub fn only_part(rest: Option<&[u8]>) -> Option<&[u8]>
+    ensures { option_map (λ part. part.now) result ≡ only_part (parts_left rest.entry) }
+{
+    match first_part(rest?, b' ') {
+        (part, None) => Some(part),
+        (_, Some(_)) => None,
+    }
+}
+
+/// The lines of a text that are not empty. Lines end with a line feed; the last one may lack it. Contracts see the
+/// lines that are left.
+///
+/// ```
+/// Lines::new(b"1\n\n2".as_slice()).next();   // Some(b"1")
+/// ```
+#[derive(Drop)]
+pub struct Lines<'a> {
+    rest: Option<&'a [u8]>,
+}
+
+impl<'a> Model for Lines<'a> {
+    ghost use Rattle.std.specs.Prelude.{ℕ, List};
+    ghost use Rattle.program_text.specs.Text.{split_left, without_empty};
+
+    ghost Value = { List (List ℕ) };
+
+    ghost view = { λ lines. without_empty (split_left 10 lines.rest) };
+}
+
+impl<'a> Lines<'a> {
+    /// The lines of a text, from its first one on.
+    ///
+    /// ```
+    /// for line in Lines::new(input) { .. }
+    /// ```
+    pub fn new(text: &'a [u8]) -> Lines<'a>
+        ensures { result ≡ lines_of text.now }
+    {
+        Lines { rest: Some(text) }
+    }
+}
+
+impl<'a> Iterator for Lines<'a> {
+    type Item = &'a [u8];
+
+    ghost next_gives = { YieldsFirstBy (λ line. line.now) (λ lines. lines) };
+
+    ghost remaining = { item_count (λ lines. lines) };
+
+    fn next(&mut self) -> Option<&'a [u8]> {
+        while let Some(text) = self.rest {
+            let (line, rest) = first_part(text, b'\n');
+            self.rest = rest;
+            if !line.is_empty() {
+                return Some(line);
+            }
+        }
+        None
+    }
+}
