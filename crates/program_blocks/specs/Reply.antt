@@ -1,0 +1,31 @@
+-- The text of each reply, and what it answers.
+use Rattle.std.specs.Prelude.{ℕ, List, [], ◌∷◌, ◌++◌, codes, Bool, true, false}
+use Rattle.std.specs.Fmt.{decimal}
+use Rattle.std.specs.List.{flat_map}
+use Rattle.bitm.specs.Answer as answer
+use Rattle.bitm.specs.Answer.TheVariants as answers
+use Rattle.program_blocks.specs.declared.reply.Reply.{Reply}
+use Rattle.program_blocks.specs.declared.reply.Reply.TheVariants.{Number, Absent, Wrong, BadQuestion}
+
+abbrev pub reply_text : Reply → List ℕ
+reply_text (Number number) = decimal number
+reply_text Absent = codes "none"
+reply_text Wrong = codes "wrong block"
+reply_text BadQuestion = codes "bad question"
+
+-- the replies, each with a line feed after it
+abbrev pub text_of : List Reply → List ℕ
+text_of replies = flat_map (λ reply. reply_text reply ++ 10 ∷ []) replies
+
+abbrev pub is_good : Reply → Bool
+is_good (Number number) = true
+is_good Absent = true
+is_good Wrong = true
+is_good BadQuestion = false
+
+-- the answer that a reply says, and Wrong where it says none
+abbrev pub answer_of : Reply → answer.Answer ℕ
+answer_of (Number number) = answers.Found number
+answer_of Absent = answers.Absent
+answer_of Wrong = answers.Wrong
+answer_of BadQuestion = answers.Wrong

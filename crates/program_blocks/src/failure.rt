@@ -1,0 +1,86 @@
+//! Why there is no answer.
+
+use program_text::ListError;
+use std::alloc::AllocError;
+use std::error::Error;
+use std::{fmt, io};
+
+/// Why there is no answer.
+#[derive(Clone, Copy, Debug, PartialEq, Eq)]
+pub enum Failure {
+    /// This line, the first being 0, neither is empty nor has just a number.
+    WrongLine(usize),
+    /// The numbers are too many for a block.
+    TooLarge,
+    /// The bytes are no block that the program reads, or are not as they were written.
+    WrongBlock,
+    /// Memory was refused.
+    NoMemory,
+    /// A write failed.
+    CannotWrite,
+}
+
+/// A write failed.
+#[derive(Clone, Copy)]
+pub(crate) struct CannotWrite;
+
+impl From<io::Error> for CannotWrite {
+    fn from(_error: io::Error) -> CannotWrite {
+        CannotWrite
+    }
+}
+
+impl From<CannotWrite> for Failure {
+    ghost use Rattle.std.specs.Prelude.{◌≡◌};
+    ghost use Rattle.program_blocks.specs.declared.failure.Failure.TheVariants.{CannotWrite};
+
+    ghost from_gives = { λ _ f. f ≡ CannotWrite };
+
+    fn from(_error: CannotWrite) -> Failure {
+        Failure::CannotWrite
+    }
+}
+
+impl From<ListError> for Failure {
+    ghost use Rattle.std.specs.Prelude.{◌≡◌};
+    ghost use Rattle.program_blocks.specs.Failure.{failure_of};
+
+    ghost from_gives = { λ e f. f ≡ failure_of e };
+
+    fn from(error: ListError) -> Failure {
+        match error {
+            ListError::WrongLine(line) => Failure::WrongLine(line),
+            ListError::NoMemory => Failure::NoMemory,
+        }
+    }
+}
+
+impl From<AllocError> for Failure {
+    ghost use Rattle.std.specs.Prelude.{◌≡◌};
+    ghost use Rattle.program_blocks.specs.declared.failure.Failure.TheVariants.{NoMemory};
+
+    ghost from_gives = { λ _ f. f ≡ NoMemory };
+
+    fn from(_error: AllocError) -> Failure {
+        Failure::NoMemory
+    }
+}
+
+impl fmt::Display for Failure {
+    ghost use Rattle.std.specs.Prelude.{Some};
+    ghost use Rattle.program_blocks.specs.Failure.{failure_text};
+
+    ghost output = { λ e. Some (failure_text e) };
+
+    fn fmt<W: fmt::Write>(&self, f: &mut fmt::Formatter<W>) -> fmt::Result {
+        match self {
+            Failure::WrongLine(line) => write!(f, "{}", ListError::WrongLine(*line)),
+            Failure::TooLarge => write!(f, "the numbers are too many for a block"),
+            Failure::WrongBlock => write!(f, "not a block, or not as it was written"),
+            Failure::NoMemory => write!(f, "memory was refused"),
+            Failure::CannotWrite => write!(f, "cannot write"),
+        }
+    }
+}
+
+impl Error for Failure {}

@@ -1,0 +1,65 @@
+//! The answer to a line.
+ghost use Rattle.std.specs.Prelude.{◌≡◌};
+ghost use Rattle.program_blocks.specs.Reply.{answer_of, reply_text, is_good};
+
+use matrix_block::Answer;
+use std::fmt;
+
+/// The answer to a line.
+#[derive(Clone, Copy)]
+pub(crate) enum Reply {
+    /// The number that is requested.
+    Number(u64),
+    /// There is none.
+    Absent,
+    /// The block is not as it was written.
+    Wrong,
+    /// The line is no question.
+    BadQuestion,
+}
+
+impl fmt::Display for Reply {
+    ghost use Rattle.std.specs.Prelude.{Some};
+
+    ghost output = { λ r. Some (reply_text r) };
+
+    fn fmt<W: fmt::Write>(&self, f: &mut fmt::Formatter<W>) -> fmt::Result {
+        match self {
+            Reply::Number(number) => write!(f, "{number}"),
+            Reply::Absent => write!(f, "none"),
+            Reply::Wrong => write!(f, "wrong block"),
+            Reply::BadQuestion => write!(f, "bad question"),
+        }
+    }
+}
+
+impl Reply {
+    /// The reply that says a number.
+    pub(crate) fn of_number(answer: Answer<u64>) -> Reply
+        ensures { answer_of result ≡ answer }
+    {
+        match answer {
+            Answer::Found(number) => Reply::Number(number),
+            Answer::Absent => Reply::Absent,
+            Answer::Wrong => Reply::Wrong,
+        }
+    }
+
+    /// The reply that says a count or an index.
+    pub(crate) fn of_index(answer: Answer<usize>) -> Reply
+        ensures { answer_of result ≡ answer }
+    {
+        match answer {
+            Answer::Found(index) => Reply::Number(index as u64),
+            Answer::Absent => Reply::Absent,
+            Answer::Wrong => Reply::Wrong,
+        }
+    }
+
+    /// Whether the line was a question.
+    pub(crate) fn is_good(&self) -> bool
+        ensures { result ≡ is_good self.now }
+    {
+        !matches!(self, Reply::BadQuestion)
+    }
+}
