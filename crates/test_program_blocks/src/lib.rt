@@ -1,0 +1,7 @@
+//! Tests of the program `bitm` less its process: what it builds, checks, answers and says, worked out by hand.
+//!
+//! They stand in a crate of their own, since a crate with tests is proved twice.
+#![tactic(auto)]
+
+#[cfg(test)]
+mod runs;

@@ -1,0 +1,224 @@
+//! A block that is built of a text, checked, queried and described; other texts and other bytes in its place.
+use program_blocks::{Failure, build_matrix, check, info, query, start};
+use std::io::{Input, Write};
+use std::process::Abort;
+use std::rt::Files;
+use std::test::Fail;
+use std::{fs, io};
+
+/// Six numbers of three bits.
+const NUMBERS: &str = "3\n1\n\n4\n1\n5\n1";
+
+/// A writer whose writes fail, or whose flush does.
+#[derive(Drop)]
+struct Failing {
+    writes: bool,
+}
+
+impl Write for Failing {
+    fn write(&mut self, buf: &[u8]) -> io::Result<usize> {
+        if self.writes {
+            return Ok(buf.len());
+        }
+        Err(io::Error::from(io::ErrorKind::BrokenPipe))
+    }
+
+    fn flush(&mut self) -> io::Result<()> {
+        Err(io::Error::from(io::ErrorKind::BrokenPipe))
+    }
+}
+
+/// The block of the numbers in a text.
+fn built(rt: &(impl Abort + AllocGlobal), text: &str) -> Result<Vec<u8>, Fail> {
+    let mut out = Vec::new(rt.alloc());
+    build_matrix(rt.alloc(), text.as_bytes(), &mut out)?;
+    Ok(out)
+}
+
+/// Compares what a block answers to the lines of a text, and whether each is a question.
+fn expect_answers(
+    rt: &(impl Abort + AllocGlobal),
+    block: &[u8],
+    text: &str,
+    answers: &str,
+    good: bool,
+) -> Result<(), Fail> {
+    let mut out = Vec::new(rt.alloc());
+    assert_eq!(rt; query(rt.alloc(), block, text.as_bytes(), &mut out)?, good);
+    assert!(rt; out.as_slice() == answers.as_bytes());
+    Ok(())
+}
+
+#[test]
+fn a_block_answers_by_the_numbers_of_its_text(rt: HostRuntime) -> Result<(), Fail> {
+    let block = built(&rt, NUMBERS)?;
+    assert_eq!(rt; block.len(), 640);
+    assert!(rt; check(rt.alloc(), block.as_slice())?);
+    let text = "get 0\nget 5\nget 6\nrank 1 4\nrank 1 7\nselect 1 2\nselect 1 3\nselect 9 0\n";
+    let answers = "3\n1\nnone\n2\nnone\n5\nnone\nnone\n";
+    expect_answers(&rt, block.as_slice(), text, answers, true)
+}
+
+#[test]
+fn a_line_that_asks_nothing_is_a_bad_question(rt: HostRuntime) -> Result<(), Fail> {
+    let block = built(&rt, NUMBERS)?;
+    let text = "get\n\nget 0 \nrank 1\nGet 0\nselect 1 2 3\nget 18446744073709551616\nget 2\n";
+    let bad =
+        "bad question\nbad question\nbad question\nbad question\nbad question\nbad question\n4\n";
+    expect_answers(&rt, block.as_slice(), text, bad, false)
+}
+
+#[test]
+fn numbers_have_up_to_64_bits(rt: HostRuntime) -> Result<(), Fail> {
+    let block = built(&rt, "18446744073709551615\n0\n")?;
+    expect_answers(
+        &rt,
+        block.as_slice(),
+        "get 0\nget 1\nget 2\n",
+        "18446744073709551615\n0\nnone\n",
+        true,
+    )?;
+    let block = built(&rt, "")?;
+    expect_answers(
+        &rt,
+        block.as_slice(),
+        "get 0\nrank 0 0\n",
+        "none\n0\n",
+        true,
+    )
+}
+
+#[test]
+fn a_wrong_line_is_named_and_nothing_is_written(rt: HostRuntime) -> Result<(), Fail> {
+    for (text, line) in [
+        ("x", 0),
+        ("1\n\n2 3\n", 2),
+        ("1\n-1\ny\n", 1),
+        ("18446744073709551616", 0),
+    ] {
+        let mut out = Vec::new(rt.alloc());
+        let failure = build_matrix(rt.alloc(), text.as_bytes(), &mut out);
+        assert_eq!(rt; failure, Err(Failure::WrongLine(line)));
+        assert!(rt; out.is_empty());
+    }
+    Ok(())
+}
+
+#[test]
+fn other_bytes_are_a_wrong_block(rt: HostRuntime) -> Result<(), Fail> {
+    let mut block = built(&rt, NUMBERS)?;
+    let mut out = Vec::new(rt.alloc());
+    for at in 0..block.len() {
+        block[at] ^= 1;
+        assert!(rt; !check(rt.alloc(), block.as_slice())?, "at byte {at}");
+        block[at] ^= 1;
+        assert!(rt;
+            !check(rt.alloc(), &block.as_slice()[..at])?,
+            "at length {at}"
+        );
+    }
+    let part = &block.as_slice()[..639];
+    assert_eq!(rt;
+        query(rt.alloc(), part, b"get 0".as_slice(), &mut out),
+        Err(Failure::WrongBlock)
+    );
+    assert_eq!(rt; info(rt.alloc(), part, &mut out), Err(Failure::WrongBlock));
+    assert!(rt; out.is_empty());
+    Ok(())
+}
+
+#[test]
+fn the_kind_and_the_sizes_are_said(rt: HostRuntime) -> Result<(), Fail> {
+    let block = built(&rt, NUMBERS)?;
+    let mut out = Vec::new(rt.alloc());
+    info(rt.alloc(), block.as_slice(), &mut out)?;
+    assert!(rt; out.as_slice() == b"kind matrix\nlen 6\nwidth 3\nbytes 640\n".as_slice());
+    Ok(())
+}
+
+#[test]
+fn a_write_that_fails_is_told(rt: HostRuntime) -> Result<(), Fail> {
+    let block = built(&rt, NUMBERS)?;
+    let block = block.as_slice();
+    let mut out = Failing { writes: false };
+    let text = NUMBERS.as_bytes();
+    assert_eq!(rt;
+        build_matrix(rt.alloc(), text, &mut out),
+        Err(Failure::CannotWrite)
+    );
+    let question = b"get 0".as_slice();
+    assert_eq!(rt;
+        query(rt.alloc(), block, question, &mut out),
+        Err(Failure::CannotWrite)
+    );
+    assert_eq!(rt;
+        info(rt.alloc(), block, &mut out),
+        Err(Failure::CannotWrite)
+    );
+    Ok(())
+}
+
+/// Runs `start` and compares its status and what it writes.
+fn expect_start(
+    rt: &(impl Abort + Files + Input + AllocGlobal),
+    args: (&str, &str),
+    status: u8,
+    out_text: &str,
+    err_text: &str,
+) -> Result<(), Fail> {
+    let args = [
+        String::from_str(rt.alloc(), args.0)?,
+        String::from_str(rt.alloc(), args.1)?,
+    ];
+    let mut out = Vec::new(rt.alloc());
+    let mut err = Vec::new(rt.alloc());
+    assert_eq!(rt; start(rt, &args, &mut out, &mut err), status);
+    assert!(rt; out.as_slice() == out_text.as_bytes());
+    assert!(rt; err.as_slice() == err_text.as_bytes());
+    Ok(())
+}
+
+#[test]
+fn start_ends_with_the_status_and_text_of_its_file(rt: HostRuntime) -> Result<(), Fail> {
+    let usage =
+        "usage: bitm build matrix | bitm query BLOCK | bitm check BLOCK | bitm info BLOCK\n";
+    expect_start(&rt, ("build", "tree"), 2, "", usage)?;
+    expect_start(&rt, ("show", "."), 2, "", usage)?;
+    expect_start(&rt, ("info", "."), 2, "", "bitm: cannot read\n")?;
+    expect_start(&rt, ("check", "no_such_file"), 2, "", "bitm: cannot read\n")?;
+
+    let path = "bitm_statuses.block";
+    let mut block = built(&rt, NUMBERS)?;
+    fs::write(&rt, path, block.as_slice())?;
+    expect_start(&rt, ("check", path), 0, "good\n", "")?;
+    expect_start(
+        &rt,
+        ("info", path),
+        0,
+        "kind matrix\nlen 6\nwidth 3\nbytes 640\n",
+        "",
+    )?;
+    block[320] ^= 1;
+    fs::write(&rt, path, block.as_slice())?;
+    expect_start(&rt, ("check", path), 1, "wrong\n", "")?;
+    let wrong = "bitm: not a block, or not as it was written\n";
+    expect_start(&rt, ("info", path), 2, "", wrong)?;
+    fs::remove_file(&rt, path)?;
+    Ok(())
+}
+
+#[test]
+fn start_tells_that_a_flush_failed(rt: HostRuntime) -> Result<(), Fail> {
+    let path = "bitm_flushes.block";
+    fs::write(&rt, path, built(&rt, NUMBERS)?.as_slice())?;
+    let args = [
+        String::from_str(rt.alloc(), "info")?,
+        String::from_str(rt.alloc(), path)?,
+    ];
+    let mut out = Failing { writes: true };
+    let mut err = Vec::new(rt.alloc());
+    assert_eq!(rt; start(&rt, &args, &mut out, &mut err), 2);
+    assert!(rt; err.as_slice() == b"bitm: cannot write\n".as_slice());
+    fs::remove_file(&rt, path)?;
+    Ok(())
+}
