@@ -23,11 +23,13 @@
 // - `building`: the block of sparse bits, written into the caller's memory
 // - `checking`: whether a block holds what it says
 // - `error`: why no block was written
+// - `nearest`: the nearest bits of a position
 // - `queries`: ranks, selections and bits
 // - `view`: the view of a block
 mod building;
 mod checking;
 mod error;
+mod nearest;
 mod queries;
 mod view;
 

@@ -151,6 +151,21 @@ fn digits(bits: &SparseView<'_>) -> [usize; 5] {
     ]
 }
 
+/// The nearest bits: the 1 bits from 4 and 4001 on, the 0 bits from 100 and 5000 on, the 1 bits up to 99, 2 and 9000, and
+/// the 0 bits up to 101.
+fn neighbours(bits: &SparseView<'_>) -> [usize; 8] {
+    [
+        number_of(bits.next(true, 4)),
+        number_of(bits.next(true, 4001)),
+        number_of(bits.next(false, 100)),
+        number_of(bits.next(false, 5000)),
+        number_of(bits.previous(true, 99)),
+        number_of(bits.previous(true, 2)),
+        number_of(bits.previous(true, 9000)),
+        number_of(bits.previous(false, 101)),
+    ]
+}
+
 /// How many bits of the words can be flipped, one at a time, so that they are accepted all the same.
 fn unseen_flips(words: &mut [u64]) -> usize {
     let mut unseen = 0usize;
@@ -185,6 +200,7 @@ fn positions_are_written_and_answer(rt: HostRuntime) -> Result<(), Fail> {
             ]
     );
     assert!(rt; digits(&bits) == [1, 0, 1, 0, 9000]);
+    assert!(rt; neighbours(&bits) == [100, 9000, 102, 9000, 3, 9000, 4000, 99]);
     Ok(())
 }
 
