@@ -94,8 +94,8 @@ impl<'a> SparseView<'a> {
     }
 
     /// The least position from `from` on with a 1 bit, or with a 0 bit. Whatever the block holds, a position that is
-    /// found is one of the bits, and not before `from`. Where the block holds bits, the answer is `Absent` exactly where
-    /// there is none, and never `Wrong`.
+    /// found is one of the bits, and not before `from`. Where the block holds bits, the answer is `Absent` exactly
+    /// where there is none, and never `Wrong`.
     ///
     /// # Cost
     /// A rank and a selection (evident from the code).

@@ -151,8 +151,8 @@ fn digits(bits: &SparseView<'_>) -> [usize; 5] {
     ]
 }
 
-/// The nearest bits: the 1 bits from 4 and 4001 on, the 0 bits from 100 and 5000 on, the 1 bits up to 99, 2 and 9000, and
-/// the 0 bits up to 101.
+/// The nearest bits: the 1 bits from 4 and 4001 on, the 0 bits from 100 and 5000 on, the 1 bits up to 99, 2 and 9000,
+/// and the 0 bits up to 101.
 fn neighbours(bits: &SparseView<'_>) -> [usize; 8] {
     [
         number_of(bits.next(true, 4)),
