@@ -117,6 +117,7 @@ fn other_bytes_are_a_wrong_block(rt: HostRuntime) -> Result<(), Fail> {
             "at length {at}"
         );
     }
+    assert!(rt; block.len() == 640);
     let part = &block.as_slice()[..639];
     assert_eq!(rt;
         query(rt.alloc(), part, b"get 0".as_slice(), &mut out),
@@ -198,6 +199,7 @@ fn start_ends_with_the_status_and_text_of_its_file(rt: HostRuntime) -> Result<()
         "kind matrix\nlen 6\nwidth 3\nbytes 640\n",
         "",
     )?;
+    assert!(rt; block.len() == 640);
     block[320] ^= 1;
     fs::write(&rt, path, block.as_slice())?;
     expect_start(&rt, ("check", path), 1, "wrong\n", "")?;

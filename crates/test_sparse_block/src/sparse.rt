@@ -255,10 +255,10 @@ fn nothing_is_written_where_there_is_no_block(rt: HostRuntime) -> Result<(), Fai
 
 #[test]
 fn all_bits_and_none(rt: HostRuntime) -> Result<(), Fail> {
-    let mut block = [0u64; 64];
+    let mut block = [0u64; 56];
     assert!(rt; size(3, 2) == Some(56));
-    assert!(rt; build([0u64, 1, 2].as_slice(), 3, &mut block.as_mut_slice()[..56]) == Ok(()));
-    let Some(bits) = SparseView::open(&block.as_slice()[..56]) else {
+    assert!(rt; build([0u64, 1, 2].as_slice(), 3, block.as_mut_slice()) == Ok(()));
+    let Some(bits) = SparseView::open(block.as_slice()) else {
         assert!(rt; false, "not opened");
         return Ok(());
     };
