@@ -9,6 +9,7 @@
                             the original, rt this library), value and unit
     sdsl [RUNS]             sdsl.csv: beside sdsl-lite (Debian: libsdsl-dev)
     limits [RUNS]           limits.csv: beside one random word and a rank by hand, in small pages and huge ones
+    javascript [RUNS]       javascript.csv: the package beside plain JavaScript, by both modules (Node)
 
 A value is the least of RUNS programs (3) one after the other. Plots are drawn anew where matplotlib is installed. The
 rows are those of the state that stands here, so commit first, stop all other work on the machine, and write the day and
@@ -133,15 +134,27 @@ def limits(runs):
     write("limits", found)
 
 
+def javascript(runs):
+    """Beside what one writes without a library, in 32-bit memory and in 64-bit memory, for which older Nodes need a flag."""
+    flag, found = "--experimental-wasm-memory64", {}
+    flags = [flag] if subprocess.run(["node", flag, "-e", "0"], stderr=subprocess.DEVNULL).returncode == 0 else []
+    for _ in range(runs):
+        for form in (32, 64):
+            for it in csv.reader(said("node", *flags, BENCH / "calls.mjs", 20, 400, form).splitlines()):
+                if len(it) == 7:
+                    found.setdefault((it[0], f'"{it[1]}, {form}-bit"', 20), []).append((float(it[4]), it[5], it[6]))
+    write("javascript", found)
+
+
 def main(arguments):
     what, rest = arguments[0] if arguments else "", arguments[1:]
     folder = [rest.pop(0)] if what == "original" and rest else []
-    known = folder or what in ("sdsl", "limits")
+    known = folder or what in ("sdsl", "limits", "javascript")
     if not known or len(rest) > 1 or not all(it.isdigit() for it in rest):
         print(__doc__)
         return 2
     ROOM.mkdir(exist_ok=True)
-    {"original": original, "sdsl": sdsl, "limits": limits}[what](*folder, int(rest[0]) if rest else 3)
+    {"original": original, "sdsl": sdsl, "limits": limits, "javascript": javascript}[what](*folder, int(rest[0]) if rest else 3)
     said(BENCH / "page")
     return 0
 
