@@ -117,8 +117,9 @@ fn other_bytes_are_a_wrong_block(rt: HostRuntime) -> Result<(), Fail> {
             "at length {at}"
         );
     }
-    assert!(rt; block.len() == 640);
-    let part = &block.as_slice()[..639];
+    let whole = block.as_slice();
+    assert!(rt; whole.len() == 640);
+    let part = &whole[..639];
     assert_eq!(rt;
         query(rt.alloc(), part, b"get 0".as_slice(), &mut out),
         Err(Failure::WrongBlock)
