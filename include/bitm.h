@@ -1259,12 +1259,12 @@ BITM_MUST_USE uint32_t bitm_tree_child_list(const struct bitm_tree *tree, const 
  * each in about 1.03 * width bits a number, and answers where and how often a number is in the list, and which numbers
  * of a range are the least. A block of numbers is written and opened as that of a tree:
  *
- *     const uint64_t numbers[6] = {3, 1, 4, 1, 5, 1};
+ *     const uint64_t any_order[6] = {3, 1, 4, 1, 5, 1};
  *     uint64_t matrix_len, scratch[12]; // two words for each number
  *     if (bitm_matrix_size(6, 3, &matrix_len) != BITM_OK) return 1;
  *     uint64_t *of_numbers = malloc(8 * matrix_len); // or a mapped file
  *     struct bitm_matrix matrix = {0};
- *     if (!of_numbers || bitm_matrix_build(numbers, 6, 3, scratch, 12, of_numbers, matrix_len) != BITM_OK ||
+ *     if (!of_numbers || bitm_matrix_build(any_order, 6, 3, scratch, 12, of_numbers, matrix_len) != BITM_OK ||
  *         bitm_matrix_open(of_numbers, matrix_len, &matrix) != BITM_OK || matrix.len != 6 ||
  *         bitm_matrix_rank(&matrix, 1, 4, &value) != BITM_OK || value != 2) return 1; // 1 is among 3, 1, 4, 1 twice
  *
@@ -1299,7 +1299,7 @@ BITM_MUST_USE uint32_t bitm_matrix_size(size_t len, uint32_t width, uint64_t *ou
  * three over the block (evident from the code).
  *
  *     // 4 has 3 bits:
- *     if (bitm_matrix_build(numbers, 6, 2, scratch, 12, of_numbers, matrix_len) != BITM_WRONG) return 1; */
+ *     if (bitm_matrix_build(any_order, 6, 2, scratch, 12, of_numbers, matrix_len) != BITM_WRONG) return 1; */
 BITM_MUST_USE uint32_t bitm_matrix_build(const uint64_t *numbers, size_t numbers_len, uint32_t width, uint64_t *scratch,
                                          size_t scratch_len, uint64_t *block, size_t block_len);
 
