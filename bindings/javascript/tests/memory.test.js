@@ -41,15 +41,27 @@ test("a call that throws gives its memory back", () => {
     assert.ok(before < there);
 });
 
-test("garbage is freed", async () => {
+/** Has garbage collected until it has given back all its memory: none for twenty turns. A busy engine frees late. */
+async function settled() {
     setFlagsFromString("--expose-gc");
-    const collect = runInNewContext("gc"), before = memoryUse().used;
+    const collect = runInNewContext("gc");
+    for (let same = 0; same < 20; ) {
+        const used = memoryUse().used;
+        collect();
+        await new Promise(done => setTimeout(done, 5));
+        same = memoryUse().used === used ? same + 1 : 0;
+    }
+    return collect;
+}
+
+test("garbage is freed", async () => {
+    const collect = await settled(), before = memoryUse().used;
     for (let k = 0; k < 200; k++) {
         new Index(BitVector.fromPositions([k], 1e6));
         new EliasFano(sorted(100, 1000, k + 1));
         new PerfectHash([k]);
     }
-    for (let k = 0; k < 50 && memoryUse().used > before; k++) {
+    for (let k = 0; k < 2000 && memoryUse().used > before; k++) {
         collect();
         await new Promise(done => setTimeout(done, 5));
     }
@@ -57,8 +69,7 @@ test("garbage is freed", async () => {
 });
 
 test("what was freed by hand is not freed again as garbage", async () => {
-    setFlagsFromString("--expose-gc");
-    const collect = runInNewContext("gc"), before = memoryUse().used;
+    const collect = await settled(), before = memoryUse().used;
     for (let k = 0; k < 300; k++) new BitVector(3000).free();
     const held = Array.from({ length: 300 }, (_, k) => new BitVector(3000).fill(true, 0, k)), there = memoryUse().used;
     for (let k = 0; k < 20; k++) {
