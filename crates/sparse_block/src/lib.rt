@@ -2,8 +2,8 @@
 //! on what the memory holds.
 //!
 //! A bit vector of which few bits are 1 is kept as the positions of its 1 bits, an Elias-Fano sequence. With the block
-//! of bits the answers are those of counting; if it is stale or hostile, every call still terminates within its read
-//! bound, and its answer is inside the bits or `Wrong`.
+//! of bits the answers are those of counting; if it is stale or hostile, every call still ends, and its answer is
+//! inside the bits or `Wrong`.
 //!
 //! ```
 //! let mut block = [0u64; 64];                                       // size(4, 4000): Some(64) words
