@@ -6,7 +6,7 @@ use Rattle.bitm.specs.Tables.{HasTables, Lists, bits_in}
 use Rattle.bitm.specs.Answer.{Answer}
 use Rattle.bitm.specs.Answer.TheVariants.{Found, Absent, Wrong}
 use Rattle.perfect_hash.specs.Asking.{IsBelow, IsNumbered}
-use Rattle.perfect_hash.specs.Parts.{number_by, AreSizes}
+use Rattle.hash_levels.specs.Numbers.{number_by, AreSizes}
 use Rattle.bitm_abi.specs.Hash.{IsHashNumber}
 
 below_more : (m n : ℕ) (answer : Answer ℕ) → m ≤ n → IsBelow m answer → IsBelow n answer

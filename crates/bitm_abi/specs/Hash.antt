@@ -5,7 +5,7 @@ use Rattle.bitm.specs.Count.{ones_of}
 use Rattle.bitm.specs.Tables.{HasTables, Lists, bits_in}
 use Rattle.bitm_view.specs.Sizes.{lists_of}
 use Rattle.perfect_hash.specs.Asking.{IsBelow, IsNumbered}
-use Rattle.perfect_hash.specs.Parts.{number_by, AreSizes}
+use Rattle.hash_levels.specs.Numbers.{number_by, AreSizes}
 use Rattle.bitm_abi.specs.declared.hash.Hash.{Hash}
 
 -- the words of all levels and their tables

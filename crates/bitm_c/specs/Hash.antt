@@ -1,7 +1,7 @@
 -- What the exported calls of perfect hashes answer.
 use Rattle.std.specs.Prelude.{◌≡◌, ℕ, ◌^◌, ◌<◌, ◌≤◌, List, length}
 use Rattle.bitm.specs.Tables.{HasSizes}
-use Rattle.perfect_hash.specs.declared.in_place.Made.{Made}
+use Rattle.hash_levels.specs.declared.in_place.Made.{Made}
 use Rattle.bitm_abi.specs.Hash.{hash_lists, IsHashNumber}
 use Rattle.bitm_abi.specs.Status.{Exported}
 use Rattle.bitm_abi.specs.declared.hash.Hash.{Hash}

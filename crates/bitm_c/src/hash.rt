@@ -5,17 +5,18 @@ ghost use Rattle.bitm.specs.Bits.{bits_of, IsShort};
 ghost use Rattle.bitm.specs.Count.{ones_of};
 ghost use Rattle.bitm.specs.Tables.{HasSizes};
 ghost use Rattle.bitm_view.specs.Queries.{ranked_by};
-ghost use Rattle.perfect_hash.specs.InPlace.{IsMade};
-ghost use Rattle.perfect_hash.specs.Levels.{left_of, AreSized, IsLevel, Leave};
-ghost use Rattle.perfect_hash.specs.Parts.{AreLevels};
-ghost use Rattle.perfect_hash.specs.Places.{place_in, words_for};
+ghost use Rattle.hash_levels.specs.InPlace.{IsMade};
+ghost use Rattle.hash_levels.specs.Levels.{left_of, AreSized, IsLevel, Leave};
+ghost use Rattle.hash_levels.specs.Numbers.{AreLevels};
+ghost use Rattle.hash_levels.specs.Places.{place_in, words_for};
 ghost use Rattle.bitm_c.specs.Hash.{made_of, CanBeLevel, HashAnswered};
 ghost use Rattle.bitm_abi.specs.Hash.{hash_lists, IsHashNumber};
 ghost use Rattle.bitm_abi.specs.Lists.{AreCounted};
 
 use bitm_abi::{BAD_SIZE, Hash, ListCounts, OK, number_list, report, report_list};
 use bitm_view::clear;
-use perfect_hash::{build_in_place, level_len, split_level, total_number_on};
+use hash_levels::{build_in_place, level_len, split_level};
+use perfect_hash::total_number_on;
 
 /// The number of words of the next level for `left` hashes: `percent` bits for each 100 hashes, where less than 50
 /// counts as 50; at least one word and at most 2^64 - 1.

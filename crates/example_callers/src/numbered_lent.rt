@@ -3,7 +3,7 @@ ghost use Rattle.std.specs.Prelude.{◌≡◌, ◌≤◌, length, slice_index};
 ghost use Rattle.std.specs.Option.{option_map};
 ghost use Rattle.bitm.specs.Count.{ones_of};
 ghost use Rattle.bitm.specs.Tables.{bits_in, HasTables};
-ghost use Rattle.perfect_hash.specs.Parts.{number_by, AreSizes};
+ghost use Rattle.perfect_hash.specs.Numbers.{number_by, AreSizes};
 
 use bitm_view::{Answer, Lent};
 use perfect_hash::total_number_on;

@@ -6,14 +6,14 @@ ghost use Rattle.bitm.specs.Count.{ones_of, IsRank};
 ghost use Rattle.bitm.specs.Reads.{word_read, OnlyReads, ReadsAtMost};
 ghost use Rattle.bitm.specs.Tables.{bits_in, HasSizes, HasTables, IsIndexed};
 ghost use Rattle.perfect_hash.specs.Asking.{IfAbsent, IsBelow, IsNumbered};
-ghost use Rattle.perfect_hash.specs.Levels.{fall_in, looked, place_from, IsWithin};
-ghost use Rattle.perfect_hash.specs.Parts.{number_by, number_in, AreSizes};
-ghost use Rattle.perfect_hash.specs.Places.{place_in};
+ghost use Rattle.hash_levels.specs.Levels.{fall_in, looked, place_from, IsWithin};
+ghost use Rattle.hash_levels.specs.Numbers.{number_by, number_in, AreSizes};
+ghost use Rattle.hash_levels.specs.Places.{place_in};
 ghost use Rattle.perfect_hash.specs.Placed.{FitIn, IsPlaced, WhereAbsent, WhereWrong};
 
-use crate::placing::{Placing, Plain, no_reads};
 use crate::querying::{BySource, Query};
 use bitm::{Answer, ReadCounts, TableSource, total_rank_on, words};
+use hash_levels::{Placing, Plain, no_reads};
 
 /// Whether the bit at `place` of the source's words is 1.
 ///

@@ -5,13 +5,11 @@ ghost use Rattle.std.specs.Int.{div_ceil};
 ghost use Rattle.bitm.specs.Count.{ones_of};
 ghost use Rattle.perfect_hash.specs.Dictionary.{found_of, print_of, ArePrints, HasRoom, IsDictionary};
 ghost use Rattle.perfect_hash.specs.Parts.{number_at};
-ghost use Rattle.perfect_hash.specs.Perfect.{IsMinimalPerfect};
+ghost use Rattle.hash_levels.specs.Perfect.{IsMinimalPerfect};
 
-use crate::hashing::KeyHash;
-use crate::places::spread_at;
-use crate::placing::{Placing, Plain};
 use crate::table::PerfectHash;
 use bitm::{Access, ArrayWithRank101111, BitVec, n_lowest_bits, words};
+use hash_levels::{KeyHash, Placing, Plain, spread_at};
 use std::alloc::{AllocError, Global};
 use std::boxed::BoxedSlice;
 use std::marker::Model;

@@ -10,41 +10,25 @@
 //! ```
 #![tactic(auto)]
 
-// What is in each file:
+// What is in each file, over the levels of `hash_levels`:
 // - `asking`: the number of a hash over any source of words and tables
-// - `building`: how the levels are built
+// - `building`: levels, and an index over their words
 // - `dictionary`: numbers with fingerprints, so that almost all values that are no keys have none
-// - `error`: why keys were refused
-// - `grouped`: a seed for each word of a level
-// - `hashing`: the traits of hashes that a user gives, and hashes that do
-// - `in_place`: levels built without an allocator
-// - `level`: one level: which bits exactly one hash falls on
 // - `many`: many look-ups, side by side
-// - `places`: where a hash falls in a level, and the size of a level
-// - `placing`: how hashes fall on bits: by themselves, or with a seed for each word
 // - `querying`: how bits are queried: of a source, or of an index
 // - `table`: the levels, and their queries
 mod asking;
 mod building;
 mod dictionary;
-mod error;
-mod grouped;
-mod hashing;
-mod in_place;
-mod level;
 mod many;
-mod places;
-mod placing;
 mod querying;
 mod table;
 
 pub use asking::{number_on, total_number_on};
-pub use building::{Levels, build, build_by};
+pub use building::{Refused, build, build_by};
 pub use dictionary::Dictionary;
-pub use error::{BuildError, Refused};
-pub use grouped::Grouped;
-pub use hashing::{KeyHash, Seeded, SeededBytes};
-pub use in_place::{Made, build_in_place, level_len};
-pub use level::split_level;
-pub use placing::{Placing, Plain};
+pub use hash_levels::{
+    BuildError, Grouped, KeyHash, Levels, Made, Placing, Plain, Seeded, SeededBytes,
+    build_in_place, level_len, split_level,
+};
 pub use table::PerfectHash;

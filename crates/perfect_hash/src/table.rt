@@ -4,18 +4,18 @@ ghost use Rattle.bitm.specs.Bits.{bits_of};
 ghost use Rattle.bitm.specs.Count.{ones_of};
 ghost use Rattle.bitm.specs.Size.{saturated_size};
 ghost use Rattle.bitm.specs.Reads.{none_read, ReadsAtMost};
-ghost use Rattle.perfect_hash.specs.Levels.{IsWithin};
-ghost use Rattle.perfect_hash.specs.Places.{place_in};
-ghost use Rattle.perfect_hash.specs.Parts.{levels_looked, number_at, number_from, number_of, AreSizes};
+ghost use Rattle.hash_levels.specs.Levels.{IsWithin};
+ghost use Rattle.hash_levels.specs.Places.{place_in};
+ghost use Rattle.perfect_hash.specs.Parts.{levels_looked, number_at, number_from, number_of};
+ghost use Rattle.hash_levels.specs.Numbers.{AreSizes};
 
 use crate::asking::{number_by, number_by_on};
-use crate::hashing::KeyHash;
-use crate::placing::{Placing, Plain, no_reads};
 use crate::querying::{ByIndex, no_source};
 use bitm::{
     Access, ArrayWithRank101111, CloneWords, GetSize, RankSelect101111, ReadCounts,
     Select0ForRank101111, SelectForRank101111,
 };
+use hash_levels::{KeyHash, Placing, Plain, no_reads};
 use std::alloc::{AllocError, Global};
 use std::boxed::BoxedSlice;
 use std::convert::AsSlice;
@@ -40,7 +40,8 @@ pub struct PerfectHash<H, I: Access = ArrayWithRank101111, P: Placing = Plain> {
 
 impl<H, I: Access, P: Placing> Model for PerfectHash<H, I, P> {
     ghost use Rattle.std.specs.Box.{boxed_slice_items};
-    ghost use Rattle.perfect_hash.specs.Parts.{Parts, AreSizes};
+    ghost use Rattle.perfect_hash.specs.Parts.{Parts};
+    ghost use Rattle.hash_levels.specs.Numbers.{AreSizes};
 
     ghost Value = { Parts H I P };
 

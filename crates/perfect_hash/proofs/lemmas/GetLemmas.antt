@@ -7,9 +7,9 @@ use Rattle.std.specs.List.{sum}
 use Rattle.bitm.specs.Bits.{item}
 use Rattle.bitm.specs.Count.{ones_before, ones_of}
 use Rattle.bitm.proofs.BitLaws.{counts_grow}
-use Rattle.perfect_hash.specs.Parts.{AreSizes}
+use Rattle.hash_levels.specs.Numbers.{AreSizes}
 use Rattle.perfect_hash.specs.Placed.{FitIn}
-use Rattle.perfect_hash.proofs.lemmas.LevelLemmas.{one_more_after}
+use Rattle.hash_levels.proofs.lemmas.LevelLemmas.{one_more_after}
 
 -- the rank of a one is less than the count of ones
 pub one_counted : (b : List Bool) (p : ℕ) → item b p ≡ true → ones_before b p < ones_of b

@@ -1,7 +1,7 @@
 use Rattle.std.proofs.Common.{◌≡◌, ℕ, ◌+◌, ◌*◌, ◌<◌, ◌≤◌, drop, length, slice_index}
 use Rattle.bitm.specs.Reads.{ReadsAtMost}
 use Rattle.bitm.specs.Tables.{bits_in}
-use Rattle.perfect_hash.specs.Levels.{fall_in, looked, GoesOn}
+use Rattle.hash_levels.specs.Levels.{fall_in, looked, GoesOn}
 use Rattle.perfect_hash.proofs.asking.place_on.Given as goal
 
 -- the look-up goes on from here, and one word was read for each level, and so many seeds

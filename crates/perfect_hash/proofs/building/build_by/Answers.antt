@@ -2,9 +2,9 @@
 use Rattle.std.proofs.Common.{[], map, ap, ◌∙◌}
 use Rattle.std.specs.Box.{boxed_slice_items}
 use Rattle.bitm.specs.Bits.{bits_of}
-use Rattle.perfect_hash.specs.Levels.{fall_in, AreChosen, AreSized, LeadTo}
-use Rattle.perfect_hash.specs.Places.{words_for}
-use Rattle.perfect_hash.proofs.lemmas.KeyLemmas.{of_parts, perfect_parts}
+use Rattle.hash_levels.specs.Levels.{fall_in, AreChosen, AreSized, LeadTo}
+use Rattle.hash_levels.specs.Places.{words_for}
+use Rattle.perfect_hash.proofs.lemmas.PartsLemmas.{of_parts, perfect_parts}
 use Rattle.perfect_hash.proofs.building.build_by.Goals as goal
 
 pub returns-in-Ok-build-clause-perfect : goal.returns-in-Ok-build-clause-perfect

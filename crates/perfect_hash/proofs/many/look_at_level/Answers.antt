@@ -1,7 +1,7 @@
 -- The one that was looked up goes on, or was found.
 use Rattle.std.proofs.Common.{ℕ, ◌+◌, ◌∙◌, slice_index, slice_set, subst, sym}
 use Rattle.std.proofs.lemmas.List.{length-set}
-use Rattle.perfect_hash.specs.Levels.{fall_in}
+use Rattle.hash_levels.specs.Levels.{fall_in}
 use Rattle.perfect_hash.proofs.lemmas.ManyLemmas.{Midway, Midway-found, Midway-on}
 use Rattle.perfect_hash.proofs.many.look_at_level.Goals as goal
 use Rattle.perfect_hash.proofs.many.look_at_level.Goals.{then-place, else-place}

@@ -1,5 +1,5 @@
 use Rattle.std.proofs.Common.{◌≡◌, ◌+◌, length, slice_index}
-use Rattle.perfect_hash.specs.Levels.{fall_in}
+use Rattle.hash_levels.specs.Levels.{fall_in}
 use Rattle.perfect_hash.proofs.lemmas.ManyLemmas.{Midway}
 use Rattle.perfect_hash.proofs.many.look_at_level.Given as goal
 

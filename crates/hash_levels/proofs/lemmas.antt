@@ -1,0 +1,15 @@
+pub mod AloneLemmas
+pub mod BuildLemmas
+pub mod CollideLemmas
+pub mod CountingLemmas
+pub mod GroupedLemmas
+pub mod InPlaceLemmas
+pub mod KeyLemmas
+pub mod LevelLemmas
+pub mod MarkLemmas
+pub mod NumberLemmas
+pub mod PerfectLemmas
+pub mod PlaceLemmas
+pub mod PlacingLemmas
+pub mod SortLemmas
+pub mod WordLemmas

@@ -1,0 +1,10 @@
+pub mod Collisions
+pub mod Error
+pub mod Hashing
+pub mod InPlace
+pub mod Inside
+pub mod Levels
+pub mod Numbers
+pub mod Perfect
+pub mod Places
+pub mod Seeds
