@@ -7,7 +7,7 @@ use Rattle.matrix_block.specs.Answers.{IsIndexOf, IsIndexWithin, IsNumberOf, IsN
 use Rattle.matrix_block.specs.Ranges.{IsCountOf, IsCountWithin, IsNextOf, IsNextWithin, IsPreviousOf, IsPreviousWithin}
 use Rattle.matrix_block.specs.Ranges.{IsSmallestOf, IsSmallestWithin}
 use Rattle.matrix_block.specs.Block.{items_in, levels_of, parts_of, HasLengths, HoldsMatrix, MatrixParts}
-use Rattle.wavelet_matrix.specs.Numbers.{count_less}
+use Rattle.matrix_levels.specs.Numbers.{count_less}
 use Rattle.bitm_block_c.specs.declared.matrix.Matrix.{Matrix}
 use Rattle.bitm_block_c.specs.declared.matrix_lists.Sought.{Sought}
 use Rattle.bitm_block_c.specs.declared.matrix_lists.Sought.TheVariants.{Rank, Index}

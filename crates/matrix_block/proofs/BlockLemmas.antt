@@ -14,9 +14,9 @@ use Rattle.bitm_block.specs.Written.{IsSealed}
 use Rattle.bitm_block.specs.declared.head.Head.{Head}
 use Rattle.bitm_block.specs.declared.layout.Section.{Section}
 use Rattle.bitm_view.specs.Sizes.{lists_of}
-use Rattle.wavelet_matrix.specs.Levels.{columns}
-use Rattle.wavelet_matrix.specs.Matrix.{words_of, IsMatrixOf}
-use Rattle.wavelet_matrix.proofs.lemmas.MatrixLemmas.{is-matrix, items_of-is, made-matrix}
+use Rattle.matrix_levels.specs.Levels.{columns}
+use Rattle.matrix_levels.specs.Matrix.{words_of, IsMatrixOf}
+use Rattle.matrix_levels.proofs.lemmas.MatrixLemmas.{is-matrix, items_of-is, made-matrix}
 use Rattle.matrix_block.specs.Block.{items_in, levels_of, lower_at, lower_of_numbers, matrix_head, matrix_in, matrix_sections, ones_at, parts_of, upper_at, upper_of_numbers, zeros_at, AreParts, CanHold, HasLengths, HoldsMatrix, IsBlockOf, MatrixParts, StandsIn}
 use Rattle.matrix_block.specs.Check.{AreCounts}
 

@@ -2,9 +2,9 @@
 use Rattle.std.proofs.Common.{◌≡◌, ℕ, ◌*◌, ◌≤◌, Bool, true, false, List, length, refl, sym, subst, arith}
 use Rattle.std.proofs.lemmas.Bool.{true≢false}
 use Rattle.bitm.specs.Tables.{bits_in, IsIndexed, Lists}
-use Rattle.wavelet_matrix.specs.Matrix.{items_of, IsMatrix, LevelTables}
-use Rattle.wavelet_matrix.proofs.lemmas.MatrixLemmas.{count-whole}
-use Rattle.wavelet_matrix.proofs.lemmas.StartLemmas.{starts-of-none}
+use Rattle.matrix_levels.specs.Matrix.{items_of, IsMatrix, LevelTables}
+use Rattle.matrix_levels.proofs.lemmas.MatrixLemmas.{count-whole}
+use Rattle.matrix_levels.proofs.lemmas.StartLemmas.{starts-of-none}
 use Rattle.matrix_block.specs.Block.{levels_of, HasLevels}
 use Rattle.matrix_block.specs.Check.{AreCounts}
 use Rattle.matrix_block.proofs.DecodeLemmas.{any-levels, items-fit, items-len}

@@ -11,10 +11,10 @@ use Rattle.std.proofs.Math.Seq.{take-add}
 use Rattle.bitm.specs.Bits.{digit, item}
 use Rattle.bitm.specs.Count.{count_before, count_of, ones_before, zeros_before, zeros_of, Picks}
 use Rattle.bitm.proofs.BitLaws.{one_picked_for_each_rank}
-use Rattle.wavelet_matrix.specs.Levels.{has_digit, partition, column, columns, level, partition_place}
-use Rattle.wavelet_matrix.specs.Matrix.{items_of, low_part, next_place}
-use Rattle.wavelet_matrix.proofs.lemmas.ColumnLemmas.{count-column, item-column, length-column, length-level}
-use Rattle.wavelet_matrix.proofs.lemmas.PartLemmas.{both-digits, item-moved}
+use Rattle.matrix_levels.specs.Levels.{has_digit, partition, column, columns, level, partition_place}
+use Rattle.matrix_levels.specs.Matrix.{items_of, low_part, next_place}
+use Rattle.matrix_levels.proofs.lemmas.ColumnLemmas.{count-column, item-column, length-column, length-level}
+use Rattle.matrix_levels.proofs.lemmas.PartLemmas.{both-digits, item-moved}
 
 -- two numbers below 2^r, each with digit r before it: both are the same where the sums are
 same_parts : (u v : Bool) (a c m : ℕ) → a < m → c < m → (if u then m else 0) + a ≡ (if v then m else 0) + c → (u ≡ v) × (a ≡ c)

@@ -2,9 +2,9 @@
 use Rattle.std.proofs.Common.{◌≡◌, ℕ, ◌+◌, ◌-◌, ◌<◌, ◌≤◌, ◌⊎◌, inl, inr, nat_lt, List, length, slice_range, All, sym, ap, arith, ⊎_elim}
 use Rattle.std.proofs.lemmas.Bool.{cases_lt}
 use Rattle.std.proofs.lemmas.List.Sums.{count_by-le-length}
-use Rattle.wavelet_matrix.specs.Numbers.{count_between, count_less}
-use Rattle.wavelet_matrix.proofs.lemmas.CountLemmas.{length-range}
-use Rattle.wavelet_matrix.proofs.lemmas.OrderLemmas.{all-less, between-is, between-none, count_less-grows}
+use Rattle.matrix_levels.specs.Numbers.{count_between, count_less}
+use Rattle.matrix_levels.proofs.lemmas.CountLemmas.{length-range}
+use Rattle.matrix_levels.proofs.lemmas.OrderLemmas.{all-less, between-is, between-none, count_less-grows}
 
 -- where no more than those that are less are in the range, all are less
 pub next-none : (xs : List ℕ) (s e v : ℕ) → (e - s ≤ count_less (slice_range xs s e) v) ⊎ (length xs < e)

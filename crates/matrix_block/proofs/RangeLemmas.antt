@@ -2,11 +2,11 @@
 use Rattle.std.proofs.Common.{◌≡◌, ℕ, ◌+◌, ◌-◌, ◌*◌, ◌/◌, ◌^◌, ◌<◌, ◌≤◌, ◌⊎◌, inl, inr, nat_le, Bool, true, false, if◌then◌else◌, List, length, take, count_by, refl, ap, ◌∙◌, arith, ⊎_elim}
 use Rattle.std.proofs.lemmas.Bool.{cases_lt, le-leb, lt-leb}
 use Rattle.bitm.specs.Bits.{digit}
-use Rattle.wavelet_matrix.specs.Levels.{has_digit, has_lesser_prefix, level, partition_place}
-use Rattle.wavelet_matrix.specs.Matrix.{digit_place, IsMatrixOf, LevelTables}
-use Rattle.wavelet_matrix.proofs.lemmas.PartLemmas.{moved-both, moved-grows, moved-le, moved-one}
-use Rattle.wavelet_matrix.proofs.lemmas.PrefixLemmas.{with_digit, IsPrefixRange}
-use Rattle.wavelet_matrix.proofs.lemmas.RangeLemmas.{less-number-one, less-number-zero}
+use Rattle.matrix_levels.specs.Levels.{has_digit, has_lesser_prefix, level, partition_place}
+use Rattle.matrix_levels.specs.Matrix.{digit_place, IsMatrixOf, LevelTables}
+use Rattle.matrix_levels.proofs.lemmas.PartLemmas.{moved-both, moved-grows, moved-le, moved-one}
+use Rattle.matrix_levels.proofs.lemmas.PrefixLemmas.{with_digit, IsPrefixRange}
+use Rattle.matrix_levels.proofs.lemmas.RangeLemmas.{less-number-one, less-number-zero}
 use Rattle.matrix_block.proofs.StepLemmas.{level-len}
 use mir.Val.{bool_byte}
 

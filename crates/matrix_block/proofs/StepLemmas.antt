@@ -6,11 +6,11 @@ use Rattle.bitm.specs.Bits.{digit, item}
 use Rattle.bitm.specs.ReadCounts.{ReadCounts}
 use Rattle.bitm.specs.Reads.{OnlyReads}
 use Rattle.bitm.specs.Tables.{Lists}
-use Rattle.wavelet_matrix.specs.Levels.{has_digit, level, partition_place}
-use Rattle.wavelet_matrix.specs.Matrix.{digit_place, IsMatrixOf, LevelTables}
-use Rattle.wavelet_matrix.proofs.lemmas.ColumnLemmas.{length-level}
-use Rattle.wavelet_matrix.proofs.lemmas.MatrixLemmas.{digit-is}
-use Rattle.wavelet_matrix.proofs.lemmas.PartLemmas.{both-digits, moved-inside}
+use Rattle.matrix_levels.specs.Levels.{has_digit, level, partition_place}
+use Rattle.matrix_levels.specs.Matrix.{digit_place, IsMatrixOf, LevelTables}
+use Rattle.matrix_levels.proofs.lemmas.ColumnLemmas.{length-level}
+use Rattle.matrix_levels.proofs.lemmas.MatrixLemmas.{digit-is}
+use Rattle.matrix_levels.proofs.lemmas.PartLemmas.{both-digits, moved-inside}
 use mir.Val.{bool_byte}
 
 -- one digit more

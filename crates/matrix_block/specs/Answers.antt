@@ -2,7 +2,7 @@
 use Rattle.std.specs.Prelude.{◌≡◌, ⊤, ℕ, ◌^◌, ◌<◌, ◌≤◌, List, length, slice_index}
 use Rattle.bitm.specs.Answer.{Answer}
 use Rattle.bitm.specs.Answer.TheVariants.{Found, Absent, Wrong}
-use Rattle.wavelet_matrix.specs.Numbers.{count_before, PicksItem}
+use Rattle.matrix_levels.specs.Numbers.{count_before, PicksItem}
 
 -- of n numbers of w bits: a number has no more bits, and Absent is answered exactly where there is no number i
 abbrev pub IsNumberWithin : ℕ → ℕ → ℕ → Answer ℕ → Type 0

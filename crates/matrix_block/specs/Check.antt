@@ -1,7 +1,7 @@
 -- What says that the tables of levels are those of the words.
 use Rattle.std.specs.Prelude.{◌≡◌, ℕ, ◌+◌, ◌*◌, ◌<◌, Bool, List, slice_index}
 use Rattle.bitm.specs.Count.{ones_before, zeros_before}
-use Rattle.wavelet_matrix.specs.Matrix.{LevelTables}
+use Rattle.matrix_levels.specs.Matrix.{LevelTables}
 
 -- the entries of level d are the 1 bits before it and its 0 bits
 pub record AreCountsAt (l : LevelTables) (b : List Bool) (d : ℕ) : Type 0 where

@@ -3,8 +3,8 @@
 use Rattle.std.specs.Prelude.{◌≡◌, ⊤, ℕ, ◌-◌, ◌^◌, ◌<◌, ◌≤◌, ◌⊎◌, List, Some, None, length, slice_range}
 use Rattle.bitm.specs.Answer.{Answer}
 use Rattle.bitm.specs.Answer.TheVariants.{Found, Absent, Wrong}
-use Rattle.wavelet_matrix.specs.Distinct.{count_equal}
-use Rattle.wavelet_matrix.specs.Numbers.{IsNextItem, IsPreviousItem, IsSmallest}
+use Rattle.matrix_levels.specs.Numbers.{count_equal}
+use Rattle.matrix_levels.specs.Numbers.{IsNextItem, IsPreviousItem, IsSmallest}
 
 -- of n numbers: no more are counted than the range has, and Absent is answered exactly where it ends before it starts, or
 -- past the numbers

@@ -2,8 +2,8 @@
 ghost use Rattle.std.specs.Prelude.{◌≡◌, ◌+◌, ◌*◌, ◌≤◌, ℕ, List, length, slice_range};
 ghost use Rattle.bitm.specs.Reads.{OnlyReads};
 ghost use Rattle.bitm.specs.Tables.{HasSizes, bits_in};
-ghost use Rattle.wavelet_matrix.specs.Matrix.{IsMatrix, numbers_in};
-ghost use Rattle.wavelet_matrix.specs.Numbers.{count_between, count_less};
+ghost use Rattle.matrix_levels.specs.Matrix.{IsMatrix, numbers_in};
+ghost use Rattle.matrix_levels.specs.Numbers.{count_between, count_less};
 ghost use Rattle.matrix_block.specs.Ranges.{IsCountOf, IsCountWithin};
 ghost use Rattle.matrix_block.specs.Ranges.{IsNextOf, IsNextWithin, IsPreviousOf, IsPreviousWithin};
 ghost use Rattle.matrix_block.specs.Ranges.{IsSmallestOf, IsSmallestWithin};

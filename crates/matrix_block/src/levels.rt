@@ -8,7 +8,7 @@ use std::marker::Model;
 /// The tables of the levels of a matrix: how many 1 bits stand before each level, and how many of its items have a 0
 /// bit. They may hold anything.
 ///
-/// Contracts see the levels as those of a `wavelet_matrix`, compact and with no bits known from a table of starts.
+/// Contracts see the levels as those of `matrix_levels`, compact and with no bits known from a table of starts.
 ///
 /// ```
 /// let Some(levels) = LevelsView::over(6, 3, ones, zeros) else { .. };   // of three words each
@@ -23,7 +23,7 @@ pub struct LevelsView<'a> {
 }
 
 impl<'a> Model for LevelsView<'a> {
-    ghost use Rattle.wavelet_matrix.specs.Matrix.{LevelTables};
+    ghost use Rattle.matrix_levels.specs.Matrix.{LevelTables};
     ghost use Rattle.matrix_block.specs.Block.{levels_of, HasLevels};
 
     ghost Value = { LevelTables };

@@ -2,9 +2,9 @@
 ghost use Rattle.std.specs.Prelude.{◌≡◌, ◌*◌, ◌-◌, ◌^◌, ◌<◌, ◌≤◌, IfSome, IsSomeAnd, length, slice_range};
 ghost use Rattle.bitm.specs.Reads.{OnlyReads};
 ghost use Rattle.bitm.specs.Tables.{HasSizes, bits_in};
-ghost use Rattle.wavelet_matrix.specs.Distinct.{count_equal};
-ghost use Rattle.wavelet_matrix.specs.Matrix.{IsMatrix, numbers_in};
-ghost use Rattle.wavelet_matrix.specs.Numbers.{IsSmallest};
+ghost use Rattle.matrix_levels.specs.Numbers.{count_equal};
+ghost use Rattle.matrix_levels.specs.Matrix.{IsMatrix, numbers_in};
+ghost use Rattle.matrix_levels.specs.Numbers.{IsSmallest};
 ghost use Rattle.matrix_block.specs.Ranges.{IsSmallestOf, IsSmallestWithin, IsTallyOf, IsTallyWithin};
 
 use crate::levels::LevelsView;

@@ -2,15 +2,15 @@
 ghost use Rattle.std.specs.Prelude.{◌≡◌, ◌*◌, ◌^◌, ◌<◌, ◌≤◌, Some, IfSome, IsSomeAnd, length};
 ghost use Rattle.bitm.specs.Reads.{OnlyReads};
 ghost use Rattle.bitm.specs.Tables.{HasSizes, bits_in};
-ghost use Rattle.wavelet_matrix.specs.Levels.{level_place};
-ghost use Rattle.wavelet_matrix.specs.Matrix.{IsMatrix, numbers_in};
-ghost use Rattle.wavelet_matrix.specs.Numbers.{count_before};
+ghost use Rattle.matrix_levels.specs.Levels.{level_place};
+ghost use Rattle.matrix_levels.specs.Matrix.{IsMatrix, numbers_in};
+ghost use Rattle.matrix_levels.specs.Numbers.{count_before};
 ghost use Rattle.matrix_block.specs.Answers.{IsNumberOf, IsNumberWithin, IsRankOf, IsRankWithin};
 
 use crate::levels::LevelsView;
 use crate::stepping::difference;
 use bitm::{Answer, TableSource};
-use wavelet_matrix::{digit_of, fits};
+use matrix_levels::{digit_of, fits};
 
 impl<'a> LevelsView<'a> {
     /// Number `i`.

@@ -1,6 +1,6 @@
 //! Queries of the numbers of a range in a block that may hold anything.
 ghost use Rattle.std.specs.Prelude.{slice_range};
-ghost use Rattle.wavelet_matrix.specs.Numbers.{count_between, count_less};
+ghost use Rattle.matrix_levels.specs.Numbers.{count_between, count_less};
 ghost use Rattle.matrix_block.specs.Block.{items_in, HoldsMatrix};
 ghost use Rattle.matrix_block.specs.Ranges.{IsNextOf, IsNextWithin, IsPreviousOf, IsPreviousWithin};
 ghost use Rattle.matrix_block.specs.Ranges.{IsCountOf, IsCountWithin, IsSmallestOf, IsSmallestWithin};

@@ -3,15 +3,15 @@ ghost use Rattle.std.specs.Prelude.{◌≡◌, ◌+◌, ◌*◌, ◌-◌, ◌^�
 ghost use Rattle.std.specs.Prelude.{IfSome, IsSomeAnd, count_by, if◌then◌else◌, length, slice_range, take};
 ghost use Rattle.bitm.specs.Reads.{OnlyReads};
 ghost use Rattle.bitm.specs.Tables.{HasSizes, bits_in};
-ghost use Rattle.wavelet_matrix.specs.Levels.{ArePlacesAfter, has_digit, level, partition_place};
-ghost use Rattle.wavelet_matrix.specs.Matrix.{IsMatrix, IsMatrixOf, digit_place, level_in, numbers_in};
-ghost use Rattle.wavelet_matrix.specs.Numbers.{count_less};
+ghost use Rattle.matrix_levels.specs.Levels.{ArePlacesAfter, has_digit, level, partition_place};
+ghost use Rattle.matrix_levels.specs.Matrix.{IsMatrix, IsMatrixOf, digit_place, level_in, numbers_in};
+ghost use Rattle.matrix_levels.specs.Numbers.{count_less};
 ghost use Rattle.matrix_block.specs.Ranges.{IsCountOf, IsCountWithin};
 
 use crate::levels::LevelsView;
 use crate::stepping::{difference, sum_within};
 use bitm::{Answer, TableSource};
-use wavelet_matrix::{digit_of, fits};
+use matrix_levels::{digit_of, fits};
 
 /// How many of two kinds of items have this bit.
 #[inline(always)]

@@ -5,15 +5,15 @@ ghost use Rattle.bitm.specs.Count.{count_of, Picks};
 ghost use Rattle.bitm.specs.Reads.{OnlyReads};
 ghost use Rattle.bitm.specs.Tables.{HasSizes, HasTables, bits_in};
 ghost use Rattle.bitm_selection.specs.Selection.{by_halves, OnlySelectsBy};
-ghost use Rattle.wavelet_matrix.specs.Levels.{level};
-ghost use Rattle.wavelet_matrix.specs.Matrix.{IsBitOf, IsMatrix, IsMatrixOf, level_in, numbers_in};
-ghost use Rattle.wavelet_matrix.specs.Numbers.{PicksItem};
+ghost use Rattle.matrix_levels.specs.Levels.{level};
+ghost use Rattle.matrix_levels.specs.Matrix.{IsBitOf, IsMatrix, IsMatrixOf, level_in, numbers_in};
+ghost use Rattle.matrix_levels.specs.Numbers.{PicksItem};
 ghost use Rattle.matrix_block.specs.Answers.{IsIndexAmong, IsIndexOf, IsIndexWithin};
 
 use crate::levels::LevelsView;
 use crate::stepping::difference;
 use bitm::{Answer, TableSource, total_select_on};
-use wavelet_matrix::{digit_of, fits};
+use matrix_levels::{digit_of, fits};
 
 /// The position that was found, if one was.
 #[inline(always)]

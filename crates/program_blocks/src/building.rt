@@ -6,10 +6,10 @@ ghost use Rattle.program_blocks.specs.Building.{HasLeastWidth, IsMatrixOf, IsWro
 use crate::bytes::write_words;
 use crate::failure::Failure;
 use matrix_block::{build, size};
+use matrix_levels::all_fit;
 use program_text::numbers;
 use std::alloc::Global;
 use std::io::Write;
-use wavelet_matrix::all_fit;
 
 /// The bits that a number has at most, at least 1.
 fn least_width(numbers: &[u64]) -> u8

@@ -1,17 +1,2 @@
-pub mod BackLemmas
-pub mod ColumnLemmas
-pub mod CountLemmas
 pub mod DistinctLemmas
-pub mod FilterLemmas
 pub mod FrequentLemmas
-pub mod MakeLemmas
-pub mod ManyLemmas
-pub mod MatrixLemmas
-pub mod OrderLemmas
-pub mod PartLemmas
-pub mod PrefixLemmas
-pub mod RangeLemmas
-pub mod ReadsLemmas
-pub mod SharedLemmas
-pub mod StartLemmas
-pub mod WalkLemmas

@@ -1,11 +1,7 @@
 -- The distinct numbers of a list, and how often each is in it.
 use Rattle.std.specs.Prelude.{◌≡◌, ℕ, ◌+◌, ◌<◌, ◌≤◌, ◌==◌, ◌&&◌, nat_lt, nat_le, Bool, List, map, filter, count_by, All, Contains}
 use Rattle.std.specs.List.{AllPairs, range_with_len}
-use Rattle.wavelet_matrix.specs.Numbers.{count_less}
-
--- how many items are v
-abbrev pub count_equal : List ℕ → ℕ → ℕ
-count_equal xs v = count_by (λ x. x == v) xs
+use Rattle.matrix_levels.specs.Numbers.{count_equal, count_less}
 
 -- a number, and how often it is in the list
 abbrev pub tally : List ℕ → ℕ → ℕ × ℕ

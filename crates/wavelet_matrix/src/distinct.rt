@@ -1,8 +1,8 @@
 //! The distinct numbers of a range, as an iterator.
 ghost use Rattle.std.specs.Prelude.{◌≡◌, ◌-◌, ◌<◌, ◌≤◌, length, slice_range};
 ghost use Rattle.std.specs.Iterator.{YieldsFirst, item_count};
-ghost use Rattle.wavelet_matrix.specs.Distinct.{AreDistinct, count_equal};
-ghost use Rattle.wavelet_matrix.specs.Numbers.{IsSmallest};
+ghost use Rattle.wavelet_matrix.specs.Distinct.{AreDistinct};
+ghost use Rattle.matrix_levels.specs.Numbers.{count_equal, IsSmallest};
 
 use crate::matrix::WaveletMatrix;
 use bitm::{Select0ForRank101111, SelectForRank101111};

@@ -15,39 +15,19 @@
 //! ```
 #![tactic(auto)]
 
-// What is in each file:
-// - `asking`: a number by its index, and the ranks of a number
-// - `digits`: the bits of a number
+// What is in each file, over the levels of `matrix_levels`:
 // - `distinct`: the distinct numbers of a range, as an iterator
 // - `frequent`: the most frequent numbers of a range
 // - `iterating`: the numbers as an iterator
-// - `many`: many queries, side by side
 // - `matrix`: the type of a matrix
 // - `range_queries`: the calls of a matrix on ranges
-// - `ranges`: queries of ranges over any source
-// - `ranking`: ranks on the levels, by quarters or by the index alone
-// - `selecting`: the indices of a number
-// - `shared`: the numbers that two ranges share
-// - `walk`: the levels, and the step from one to the next
-// - `writing`: how a level is partitioned for the next
-mod asking;
-mod digits;
 mod distinct;
 mod frequent;
 mod iterating;
-mod many;
 mod matrix;
 mod range_queries;
-mod ranges;
-mod ranking;
-mod selecting;
-mod shared;
-mod walk;
-mod writing;
 
-pub use digits::{all_fit, digit_of, fits};
 pub use distinct::DistinctValues;
 pub use iterating::Numbers;
 pub use matrix::{BinaryWaveletMatrix, WaveletMatrix};
-pub use walk::Levels;
-pub use writing::write_levels;
+pub use matrix_levels::{Levels, all_fit, digit_of, fits, write_levels};

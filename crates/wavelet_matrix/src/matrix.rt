@@ -5,16 +5,14 @@ ghost use Rattle.std.specs.Box.{boxed_slice_items};
 ghost use Rattle.std.specs.Int.{div_ceil};
 ghost use Rattle.bitm.specs.Reads.{none_read};
 ghost use Rattle.bitm.specs.Size.{saturated_size};
-ghost use Rattle.wavelet_matrix.specs.Levels.{known_of};
-ghost use Rattle.wavelet_matrix.specs.Matrix.{IsMatrix, numbers_in, quarters_for, words_of};
-ghost use Rattle.wavelet_matrix.specs.Numbers.{count_before, GetsEach, PicksItem, IsItemRank, IsItemSelect};
+ghost use Rattle.matrix_levels.specs.Levels.{known_of};
+ghost use Rattle.matrix_levels.specs.Matrix.{IsMatrix, numbers_in, quarters_for, words_of};
+ghost use Rattle.matrix_levels.specs.Numbers.{count_before, GetsEach, PicksItem, RanksEach, IsItemRank, IsItemSelect};
 
-use crate::digits::known_for;
-use crate::walk::Levels;
-use crate::writing::{make_levels, quarters_unless};
 use bitm::{
     BinaryRankSearch, GetSize, Probe, RankSelect101111, Select0ForRank101111, SelectForRank101111,
 };
+use matrix_levels::{Levels, known_for, make_levels, quarters_unless};
 use std::alloc::{AllocError, Global};
 use std::boxed::BoxedSlice;
 use std::marker::Model;
@@ -53,7 +51,8 @@ pub struct WaveletMatrix<S: SelectForRank101111, S0: Select0ForRank101111> {
 impl<S: SelectForRank101111, S0: Select0ForRank101111> Model for WaveletMatrix<S, S0> {
     ghost use Rattle.std.specs.Box.{boxed_slice_items};
     ghost use Rattle.bitm.specs.Bits.{bits_of};
-    ghost use Rattle.wavelet_matrix.specs.Matrix.{Numbers, items_of, IsMatrixOf, IsTight};
+    ghost use Rattle.matrix_levels.specs.Matrix.{items_of, IsMatrixOf, IsTight};
+    ghost use Rattle.wavelet_matrix.specs.MatrixValue.{Numbers};
 
     ghost Value = { Numbers S S0 };
 
@@ -294,6 +293,23 @@ impl<S: SelectForRank101111, S0: Select0ForRank101111> WaveletMatrix<S, S0> {
         }
     }
 
+    /// For each number and its index in `places`, how many numbers before that index equal it; the counts go to `ranks`
+    /// in this order.
+    ///
+    /// # Conditions
+    /// There are as many `numbers` and `ranks` as `places`, and no index is past the end.
+    /// # Cost
+    /// That of `Levels::rank_many_on`: all go from level to level together.
+    pub fn rank_many(&self, numbers: &[u64], places: &[usize], ranks: &mut [usize])
+        requires numbers { length numbers.now ≡ length places.now }
+        requires ranks { length ranks.old ≡ length places.now }
+        requires inside { All (λ p. p ≤ length self.now.items) places.now }
+        ensures { RanksEach self.now.items numbers.now places.now ranks.new }
+    {
+        let (levels, mut probe) = self.parts();
+        levels.rank_many_on(&mut probe, numbers, places, ranks);
+    }
+
     /// Number `i`, and how many of the numbers before it are equal to it.
     ///
     /// # Conditions
@@ -354,7 +370,7 @@ impl<S: SelectForRank101111 + GetSize, S0: Select0ForRank101111 + GetSize> GetSi
 
     const USES_DYN_MEM: bool = true;
 
-    #[tactic(auto, using(crate::proofs::lemmas::MatrixLemmas::quarters_of_words))]
+    #[tactic(auto, using(matrix_levels::proofs::lemmas::MatrixLemmas::quarters_of_words))]
     fn size_bytes_dyn(&self) -> usize {
         self.index
             .size_bytes_dyn()

@@ -1,9 +1,11 @@
 //! Queries of the numbers of a range.
-ghost use Rattle.std.specs.Prelude.{◌≡◌, ◌+◌, ◌-◌, ◌<◌, ◌≤◌, length, slice_range};
-ghost use Rattle.wavelet_matrix.specs.Numbers.{count_less, count_between, IsSmallest, IsNextItem, IsPreviousItem};
+ghost use Rattle.std.specs.Prelude.{◌≡◌, ◌+◌, ◌-◌, ◌<◌, ◌≤◌, length, slice_range, IfOk};
+ghost use Rattle.matrix_levels.specs.Numbers.{count_less, count_between, IsSmallest, IsNextItem, IsPreviousItem};
+ghost use Rattle.matrix_levels.specs.Shared.{AreShared};
 
 use crate::matrix::WaveletMatrix;
 use bitm::{Select0ForRank101111, SelectForRank101111};
+use std::alloc::{AllocError, Global};
 use std::ops::Range;
 
 impl<S: SelectForRank101111, S0: Select0ForRank101111> WaveletMatrix<S, S0> {
@@ -87,5 +89,31 @@ impl<S: SelectForRank101111, S0: Select0ForRank101111> WaveletMatrix<S, S0> {
     {
         let (levels, mut probe) = self.parts();
         levels.previous_value_on(&mut probe, range.start, range.end, bound)
+    }
+
+    /// The numbers that are in both ranges, each once, rising.
+    ///
+    /// # Conditions
+    /// No range ends before it starts, nor past the numbers.
+    /// # Errors
+    /// `AllocError` if memory was refused.
+    /// # Cost
+    /// That of `Levels::intersect_on`: one walk down both ranges, which stops where either is empty.
+    pub fn intersect(
+        &self,
+        alloc: Global,
+        first: Range<usize>,
+        second: Range<usize>,
+    ) -> Result<Vec<u64>, AllocError>
+        requires first_order { first.start ≤ first.end }
+        requires first_inside { first.end ≤ length self.now.items }
+        requires second_order { second.start ≤ second.end }
+        requires second_inside { second.end ≤ length self.now.items }
+        ensures { IfOk result (λ found. AreShared
+            (slice_range self.now.items first.start first.end)
+            (slice_range self.now.items second.start second.end) found.items) }
+    {
+        let (levels, mut probe) = self.parts();
+        levels.intersect_on(alloc, &mut probe, first, second)
     }
 }

@@ -8,11 +8,11 @@ use Rattle.std.proofs.lemmas.List.Kept.{AllPairs-from_increasing, IsStrictlyIncr
 use Rattle.std.proofs.lemmas.List.Sums.{length-filter, count_by-le-length, get_or-le-sum_by}
 use Rattle.std.specs.List.{AllPairs, range_with_len}
 use Rattle.std.specs.List.Sorted.{IsStrictlyIncreasing}
-use Rattle.wavelet_matrix.specs.Distinct.{AreDistinct, StandsBetween, coming_tallies, count_equal, is_coming, tally}
-use Rattle.wavelet_matrix.specs.Numbers.{count_less, IsSmallest}
-use Rattle.wavelet_matrix.proofs.lemmas.FilterLemmas.{filter-at, count-at}
-use Rattle.wavelet_matrix.proofs.lemmas.OrderLemmas.{at_most-is, count_less-grows}
-use Rattle.wavelet_matrix.proofs.lemmas.RangeLemmas.{at-most, contained}
+use Rattle.wavelet_matrix.specs.Distinct.{AreDistinct, StandsBetween, coming_tallies, is_coming, tally}
+use Rattle.matrix_levels.specs.Numbers.{count_equal, count_less, IsSmallest}
+use Rattle.matrix_levels.proofs.lemmas.FilterLemmas.{contains-filter, filter-at, count-at}
+use Rattle.matrix_levels.proofs.lemmas.OrderLemmas.{at_most-is, count_less-grows}
+use Rattle.matrix_levels.proofs.lemmas.RangeLemmas.{at-most, contained}
 
 -- ---- filters
 
@@ -42,11 +42,6 @@ filter-first p q (x ∷ xs) (suc k) inside is none passed later =
     ap (λ b. cond b (x ∷ filter p xs) (filter p xs)) (none 0 (omega arith))
     ∙ filter-first p q xs k (omega arith) is (λ j h. none (suc j) (omega arith)) (λ j h. passed (suc j) (omega arith)) (λ j h i. later (suc j) (omega arith) (omega arith))
     ∙ ap (λ b. get_or xs k 0 ∷ cond b (x ∷ filter q xs) (filter q xs)) (sym (passed 0 (omega arith)))
-
-pub contains-filter : (p : ℕ → Bool) (xs : List ℕ) (k x : ℕ) → k < length xs → get_or xs k x ≡ x → p x ≡ true → Contains (filter p xs) x
-contains-filter p xs k x inside is passes =
-    let yes = ap p is ∙ passes in
-    (count_by p (take k xs), omega (arith, count-at p k xs x inside yes, length-filter p xs), filter-at p k xs x inside yes ∙ is)
 
 -- ---- counts
 

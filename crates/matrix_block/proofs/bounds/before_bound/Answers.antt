@@ -1,7 +1,7 @@
 -- The last of those that are less is the greatest of them.
 use Rattle.std.proofs.Common.{ℕ, ⊎_elim, inl, inr, slice_range, subst, arith}
 use Rattle.bitm.specs.Answer.{Answer}
-use Rattle.wavelet_matrix.proofs.lemmas.OrderLemmas.{previous-smallest}
+use Rattle.matrix_levels.proofs.lemmas.OrderLemmas.{previous-smallest}
 use Rattle.matrix_block.specs.Ranges.{IsSmallestOf, IsSmallestWithin}
 use Rattle.matrix_block.proofs.NextLemmas.{previous-none}
 use Rattle.matrix_block.proofs.bounds.before_bound.Goals as goal

@@ -1,8 +1,8 @@
 -- The number after all that are less is the least that is not.
 use Rattle.std.proofs.Common.{ℕ, slice_range, refl, subst, arith}
 use Rattle.bitm.specs.Answer.{Answer}
-use Rattle.wavelet_matrix.specs.Numbers.{count_less}
-use Rattle.wavelet_matrix.proofs.lemmas.OrderLemmas.{next-smallest}
+use Rattle.matrix_levels.specs.Numbers.{count_less}
+use Rattle.matrix_levels.proofs.lemmas.OrderLemmas.{next-smallest}
 use Rattle.matrix_block.specs.Ranges.{IsSmallestOf, IsSmallestWithin}
 use Rattle.matrix_block.proofs.NextLemmas.{next-none}
 use Rattle.matrix_block.proofs.bounds.from_bound.Goals as goal

@@ -1,8 +1,8 @@
 -- The rank of a number's bit, from its place on the next level.
 use Rattle.std.proofs.Common.{◌≡◌, ℕ, ◌-◌, ◌*◌, true, false, sym, ap, ◌∙◌, arith}
 use Rattle.bitm.specs.Bits.{digit}
-use Rattle.wavelet_matrix.specs.Matrix.{digit_place}
-use Rattle.wavelet_matrix.proofs.lemmas.BackLemmas.{from-one, from-zero, ranks-fit, zeros-le-place, ones-le-start}
+use Rattle.matrix_levels.specs.Matrix.{digit_place}
+use Rattle.matrix_levels.proofs.lemmas.BackLemmas.{from-one, from-zero, ranks-fit, zeros-le-place, ones-le-start}
 use Rattle.matrix_block.proofs.levels.LevelsView.bit_before.Goals as goal
 
 pub returns-then-digit_of : goal.returns-then-digit_of

@@ -1,8 +1,8 @@
 -- By the 1 bits before it an item moves to where it stands, or would, at the next level.
 use Rattle.std.proofs.Common.{◌≡◌, ◌+◌, ◌≤◌, length, Some, ap, ◌∙◌, arith}
-use Rattle.wavelet_matrix.specs.Levels.{level, partition_place}
-use Rattle.wavelet_matrix.specs.Matrix.{digit_place}
-use Rattle.wavelet_matrix.proofs.lemmas.PartLemmas.{moved-le, moved-one, moved-zero}
+use Rattle.matrix_levels.specs.Levels.{level, partition_place}
+use Rattle.matrix_levels.specs.Matrix.{digit_place}
+use Rattle.matrix_levels.proofs.lemmas.PartLemmas.{moved-le, moved-one, moved-zero}
 use Rattle.matrix_block.proofs.StepLemmas.{level-len}
 use Rattle.matrix_block.proofs.levels.LevelsView.place_after.Goals as goal
 

@@ -1,8 +1,8 @@
 -- The selected bit is that of the number's item on this level.
 use Rattle.std.proofs.Common.{◌≡◌, ℕ, ◌-◌, ◌*◌, ◌≤◌, IsSomeAnd, Option, sym, ap, subst, arith}
 use Rattle.bitm.specs.Tables.{bits_in}
-use Rattle.wavelet_matrix.specs.Matrix.{level_in, numbers_in}
-use Rattle.wavelet_matrix.specs.Numbers.{PicksItem}
+use Rattle.matrix_levels.specs.Matrix.{level_in, numbers_in}
+use Rattle.matrix_levels.specs.Numbers.{PicksItem}
 use Rattle.matrix_block.proofs.StepLemmas.{level-len}
 use Rattle.matrix_block.proofs.levels.LevelsView.total_back_on.Goals as goal
 

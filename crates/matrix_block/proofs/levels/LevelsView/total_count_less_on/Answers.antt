@@ -2,8 +2,8 @@
 use Rattle.std.proofs.Common.{ℕ, ◌^◌, ◌<◌, ◌≤◌, length, sym, subst, ◌∙◌, arith}
 use Rattle.std.proofs.lemmas.Bool.{true≢false}
 use Rattle.std.proofs.lemmas.Option.{same_Some}
-use Rattle.wavelet_matrix.specs.Matrix.{numbers_in}
-use Rattle.wavelet_matrix.proofs.lemmas.RangeLemmas.{less-all-wide}
+use Rattle.matrix_levels.specs.Matrix.{numbers_in}
+use Rattle.matrix_levels.proofs.lemmas.RangeLemmas.{less-all-wide}
 use Rattle.matrix_block.proofs.levels.LevelsView.total_count_less_on.Goals as goal
 
 pub returns-then-not-fits-clause-answer : goal.returns-then-not-fits-clause-answer

@@ -2,9 +2,9 @@
 use Rattle.std.proofs.Common.{◌≤◌, ◌==◌, length, take, arith}
 use Rattle.std.proofs.lemmas.List.{length-take-le}
 use Rattle.std.proofs.lemmas.List.Sums.{count_by-le-length}
-use Rattle.wavelet_matrix.specs.Matrix.{numbers_in}
-use Rattle.wavelet_matrix.specs.Numbers.{count_before}
-use Rattle.wavelet_matrix.proofs.lemmas.WalkLemmas.{rank-is, rank-order}
+use Rattle.matrix_levels.specs.Matrix.{numbers_in}
+use Rattle.matrix_levels.specs.Numbers.{count_before}
+use Rattle.matrix_levels.proofs.lemmas.WalkLemmas.{rank-is, rank-order}
 use Rattle.matrix_block.proofs.levels.LevelsView.total_count_on.Goals as goal
 
 pub returns-clause-answer : goal.returns-clause-answer

@@ -2,9 +2,9 @@
 use Rattle.std.proofs.Common.{◌≡◌, ◌+◌, ◌-◌, ◌*◌, ◌<◌, subst, sym, arith}
 use Rattle.bitm.specs.Tables.{Lists}
 use Rattle.bitm_selection.specs.Selection.{by_halves, OnlySelectsBy}
-use Rattle.wavelet_matrix.specs.Matrix.{level_in, numbers_in, IsMatrix}
-use Rattle.wavelet_matrix.specs.Numbers.{PicksItem}
-use Rattle.wavelet_matrix.proofs.lemmas.WalkLemmas.{Picks-down, Picks-first, Picks-last, Picks-up}
+use Rattle.matrix_levels.specs.Matrix.{level_in, numbers_in, IsMatrix}
+use Rattle.matrix_levels.specs.Numbers.{PicksItem}
+use Rattle.matrix_levels.proofs.lemmas.WalkLemmas.{Picks-down, Picks-first, Picks-last, Picks-up}
 use Rattle.matrix_block.proofs.StepLemmas.{reads-more, reads-none}
 use Rattle.matrix_block.proofs.levels.LevelsView.total_first_place_on.Goals as goal
 

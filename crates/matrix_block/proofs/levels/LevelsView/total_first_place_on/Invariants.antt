@@ -1,7 +1,7 @@
 use Rattle.std.proofs.Common.{ℕ, ◌-◌, ◌<◌}
 use Rattle.bitm_selection.specs.Selection.{by_halves, OnlySelectsBy}
-use Rattle.wavelet_matrix.specs.Matrix.{level_in, IsMatrix}
-use Rattle.wavelet_matrix.specs.Numbers.{PicksItem}
+use Rattle.matrix_levels.specs.Matrix.{level_in, IsMatrix}
+use Rattle.matrix_levels.specs.Numbers.{PicksItem}
 use Rattle.matrix_block.proofs.levels.LevelsView.total_first_place_on.Given as goal
 
 -- in a matrix where the number stands so many levels above the last, and as many selections were made

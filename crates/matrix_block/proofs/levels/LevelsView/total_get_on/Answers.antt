@@ -1,8 +1,8 @@
 -- The item moves from level to level, and its bits come one by one.
 use Rattle.std.proofs.Common.{◌+◌, ◌*◌, ap, subst, sym, arith}
 use Rattle.bitm.specs.Tables.{Lists}
-use Rattle.wavelet_matrix.specs.Matrix.{IsMatrix, level_in, numbers_in}
-use Rattle.wavelet_matrix.proofs.lemmas.ManyLemmas.{level-first, level-next-item}
+use Rattle.matrix_levels.specs.Matrix.{IsMatrix, level_in, numbers_in}
+use Rattle.matrix_levels.proofs.lemmas.ManyLemmas.{level-first, level-next-item}
 use Rattle.matrix_block.proofs.StepLemmas.{digits_more, reads-more, reads-none}
 use Rattle.matrix_block.proofs.levels.LevelsView.total_get_on.Goals as goal
 

@@ -1,7 +1,7 @@
 use Rattle.std.proofs.Common.{◌*◌, ◌^◌, ◌<◌}
 use Rattle.bitm.specs.Reads.{OnlyReads}
-use Rattle.wavelet_matrix.specs.Matrix.{IsMatrix, numbers_in}
-use Rattle.wavelet_matrix.proofs.lemmas.ManyLemmas.{IsAtLevel}
+use Rattle.matrix_levels.specs.Matrix.{IsMatrix, numbers_in}
+use Rattle.matrix_levels.proofs.lemmas.ManyLemmas.{IsAtLevel}
 use Rattle.matrix_block.proofs.levels.LevelsView.total_get_on.Given as goal
 
 -- the item stands inside, its bits so far fit, and in a matrix they are those of the number

@@ -1,9 +1,9 @@
 -- The numbers that are equal stand side by side after the last level.
 use Rattle.std.proofs.Common.{◌≡◌, ◌+◌, ◌-◌, ◌≤◌, length, subst, sym, ap, ◌∙◌, arith}
-use Rattle.wavelet_matrix.specs.Levels.{level_place}
-use Rattle.wavelet_matrix.specs.Matrix.{level_in, numbers_in}
-use Rattle.wavelet_matrix.specs.Numbers.{PicksItem}
-use Rattle.wavelet_matrix.proofs.lemmas.WalkLemmas.{picked-last, rank-is}
+use Rattle.matrix_levels.specs.Levels.{level_place}
+use Rattle.matrix_levels.specs.Matrix.{level_in, numbers_in}
+use Rattle.matrix_levels.specs.Numbers.{PicksItem}
+use Rattle.matrix_levels.proofs.lemmas.WalkLemmas.{picked-last, rank-is}
 use Rattle.matrix_block.proofs.levels.LevelsView.total_last_place_on.Goals as goal
 
 pub returns-then-count-k-clause-answer : goal.returns-then-count-k-clause-answer

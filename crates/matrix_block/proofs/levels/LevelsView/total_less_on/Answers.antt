@@ -2,12 +2,12 @@
 use Rattle.std.proofs.Common.{◌≡◌, ℕ, ◌+◌, ◌-◌, ◌*◌, ◌<◌, Some, slice_range, ap, sym, subst, ◌∙◌, arith}
 use Rattle.bitm.specs.Bits.{digit}
 use Rattle.bitm.specs.Tables.{bits_in, Lists}
-use Rattle.wavelet_matrix.specs.Levels.{partition_place}
-use Rattle.wavelet_matrix.specs.Matrix.{digit_place, level_in, numbers_in, IsMatrix}
-use Rattle.wavelet_matrix.specs.Numbers.{count_less}
-use Rattle.wavelet_matrix.proofs.lemmas.PrefixLemmas.{prefix-all}
-use Rattle.wavelet_matrix.proofs.lemmas.RangeLemmas.{less-first, less-last, part-zeros}
-use Rattle.wavelet_matrix.proofs.lemmas.WalkLemmas.{digits-first, level_place-first, level_place-range, step-place}
+use Rattle.matrix_levels.specs.Levels.{partition_place}
+use Rattle.matrix_levels.specs.Matrix.{digit_place, level_in, numbers_in, IsMatrix}
+use Rattle.matrix_levels.specs.Numbers.{count_less}
+use Rattle.matrix_levels.proofs.lemmas.PrefixLemmas.{prefix-all}
+use Rattle.matrix_levels.proofs.lemmas.RangeLemmas.{less-first, less-last, part-zeros}
+use Rattle.matrix_levels.proofs.lemmas.WalkLemmas.{digits-first, level_place-first, level_place-range, step-place}
 use Rattle.matrix_block.proofs.RangeLemmas.{less-more, of-digit, parts-within}
 use Rattle.matrix_block.proofs.StepLemmas.{reads-more, reads-none}
 use Rattle.matrix_block.proofs.levels.LevelsView.total_less_on.Goals as goal

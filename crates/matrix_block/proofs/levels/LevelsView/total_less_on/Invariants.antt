@@ -1,7 +1,7 @@
 use Rattle.std.proofs.Common.{◌≡◌, ◌+◌, ◌*◌, ◌-◌, ◌/◌, ◌^◌, ◌≤◌, count_by, slice_range}
 use Rattle.bitm.specs.Reads.{OnlyReads}
-use Rattle.wavelet_matrix.specs.Levels.{has_lesser_prefix, level_place}
-use Rattle.wavelet_matrix.specs.Matrix.{IsMatrix, numbers_in}
+use Rattle.matrix_levels.specs.Levels.{has_lesser_prefix, level_place}
+use Rattle.matrix_levels.specs.Matrix.{IsMatrix, numbers_in}
 use Rattle.matrix_block.proofs.levels.LevelsView.total_less_on.Given as goal
 
 -- the range is inside, and no more are counted or left than it had; in a matrix it has what begins as the bound does, and

@@ -1,7 +1,7 @@
 -- The level's 1 bits before the place say where it moves.
 use Rattle.bitm.specs.Tables.{bits_in}
 use Rattle.std.proofs.lemmas.Option.{same_Some}
-use Rattle.wavelet_matrix.specs.Matrix.{numbers_in}
+use Rattle.matrix_levels.specs.Matrix.{numbers_in}
 use Rattle.matrix_block.proofs.levels.LevelsView.total_next_on.Goals as goal
 
 pub returns-clause-answer : goal.returns-clause-answer

@@ -1,7 +1,7 @@
 -- The number after all that are less.
 use Rattle.std.proofs.Common.{subst, sym, inl, inr, ⊎_elim}
 use Rattle.bitm.specs.Tables.{Lists}
-use Rattle.wavelet_matrix.specs.Matrix.{numbers_in, IsMatrix}
+use Rattle.matrix_levels.specs.Matrix.{numbers_in, IsMatrix}
 use Rattle.matrix_block.specs.Ranges.{IsSmallestOf}
 use Rattle.matrix_block.proofs.levels.LevelsView.total_next_value_on.Goals as goal
 

@@ -2,9 +2,9 @@
 use Rattle.std.proofs.Common.{◌≡◌, ◌+◌, ◌*◌, take, count_by, true, ap, ◌∙◌, arith}
 use Rattle.bitm.specs.Count.{ones_before}
 use Rattle.bitm.specs.Tables.{bits_in}
-use Rattle.wavelet_matrix.specs.Levels.{has_digit, level}
-use Rattle.wavelet_matrix.specs.Matrix.{digit_place, numbers_in}
-use Rattle.wavelet_matrix.proofs.lemmas.MatrixLemmas.{ones-are}
+use Rattle.matrix_levels.specs.Levels.{has_digit, level}
+use Rattle.matrix_levels.specs.Matrix.{digit_place, numbers_in}
+use Rattle.matrix_levels.proofs.lemmas.MatrixLemmas.{ones-are}
 use Rattle.matrix_block.proofs.StepLemmas.{ones-few}
 use Rattle.matrix_block.proofs.levels.LevelsView.total_ones_on.Goals as goal
 

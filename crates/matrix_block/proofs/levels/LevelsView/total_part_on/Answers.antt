@@ -2,8 +2,8 @@
 use Rattle.std.proofs.Common.{◌-◌, true, take, count_by, sym, ap, subst, ◌∙◌, arith}
 use Rattle.std.proofs.lemmas.Option.{same_Some}
 use Rattle.bitm.specs.Tables.{bits_in, Lists}
-use Rattle.wavelet_matrix.specs.Levels.{has_digit, level, partition_place}
-use Rattle.wavelet_matrix.specs.Matrix.{digit_place, level_in, numbers_in, IsMatrix}
+use Rattle.matrix_levels.specs.Levels.{has_digit, level, partition_place}
+use Rattle.matrix_levels.specs.Matrix.{digit_place, level_in, numbers_in, IsMatrix}
 use Rattle.matrix_block.proofs.RangeLemmas.{ones-more, parts-are}
 use Rattle.matrix_block.proofs.levels.LevelsView.total_part_on.Goals as goal
 

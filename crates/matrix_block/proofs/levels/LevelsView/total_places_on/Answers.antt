@@ -3,9 +3,9 @@ use Rattle.std.proofs.Common.{◌≡◌, ℕ, ◌+◌, ◌-◌, ◌*◌, ap, sym
 use Rattle.std.proofs.lemmas.Option.{same_Some}
 use Rattle.bitm.specs.Bits.{digit}
 use Rattle.bitm.specs.Tables.{Lists}
-use Rattle.wavelet_matrix.specs.Levels.{level_place}
-use Rattle.wavelet_matrix.specs.Matrix.{level_in, numbers_in, IsMatrix}
-use Rattle.wavelet_matrix.proofs.lemmas.WalkLemmas.{level_place-first, step-place}
+use Rattle.matrix_levels.specs.Levels.{level_place}
+use Rattle.matrix_levels.specs.Matrix.{level_in, numbers_in, IsMatrix}
+use Rattle.matrix_levels.proofs.lemmas.WalkLemmas.{level_place-first, step-place}
 use Rattle.matrix_block.proofs.StepLemmas.{reads-more, reads-none}
 use Rattle.matrix_block.proofs.levels.LevelsView.total_places_on.Goals as goal
 

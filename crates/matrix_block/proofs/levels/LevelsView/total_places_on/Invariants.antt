@@ -1,7 +1,7 @@
 use Rattle.std.proofs.Common.{◌≡◌, ◌*◌, ◌≤◌}
 use Rattle.bitm.specs.Reads.{OnlyReads}
-use Rattle.wavelet_matrix.specs.Levels.{level_place}
-use Rattle.wavelet_matrix.specs.Matrix.{IsMatrix, numbers_in}
+use Rattle.matrix_levels.specs.Levels.{level_place}
+use Rattle.matrix_levels.specs.Matrix.{IsMatrix, numbers_in}
 use Rattle.matrix_block.proofs.levels.LevelsView.total_places_on.Given as goal
 
 -- both places are inside, and in a matrix those of the number on this level

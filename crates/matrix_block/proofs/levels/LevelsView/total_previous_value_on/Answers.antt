@@ -1,9 +1,9 @@
 -- The last of those that are less.
 use Rattle.std.proofs.Common.{◌≡◌, ◌+◌, ◌-◌, slice_range, subst, sym, inl, inr, ⊎_elim, arith}
 use Rattle.bitm.specs.Tables.{Lists}
-use Rattle.wavelet_matrix.specs.Matrix.{numbers_in, IsMatrix}
-use Rattle.wavelet_matrix.specs.Numbers.{count_less}
-use Rattle.wavelet_matrix.proofs.lemmas.OrderLemmas.{none-less}
+use Rattle.matrix_levels.specs.Matrix.{numbers_in, IsMatrix}
+use Rattle.matrix_levels.specs.Numbers.{count_less}
+use Rattle.matrix_levels.proofs.lemmas.OrderLemmas.{none-less}
 use Rattle.matrix_block.specs.Ranges.{IsSmallestOf}
 use Rattle.matrix_block.proofs.levels.LevelsView.total_previous_value_on.Goals as goal
 

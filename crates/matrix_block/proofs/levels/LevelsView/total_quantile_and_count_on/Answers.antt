@@ -1,6 +1,6 @@
 -- What is found is the number, with its count.
 use Rattle.std.proofs.Common.{◌-◌, ◌<◌, ◌≤◌, length, arith}
-use Rattle.wavelet_matrix.specs.Matrix.{numbers_in}
+use Rattle.matrix_levels.specs.Matrix.{numbers_in}
 use Rattle.matrix_block.proofs.levels.LevelsView.total_quantile_and_count_on.Goals as goal
 
 pub returns-in-Some-clause-answer : goal.returns-in-Some-clause-answer

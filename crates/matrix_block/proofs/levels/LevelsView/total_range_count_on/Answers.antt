@@ -2,8 +2,8 @@
 use Rattle.std.proofs.Common.{◌≡◌, ◌+◌, ◌-◌, ◌≤◌, slice_range, subst, sym, ap, ◌∙◌, arith}
 use Rattle.std.proofs.lemmas.Option.{same_Some}
 use Rattle.bitm.specs.Tables.{Lists}
-use Rattle.wavelet_matrix.specs.Matrix.{numbers_in, IsMatrix}
-use Rattle.wavelet_matrix.specs.Numbers.{count_between, count_less}
+use Rattle.matrix_levels.specs.Matrix.{numbers_in, IsMatrix}
+use Rattle.matrix_levels.specs.Numbers.{count_between, count_less}
 use Rattle.matrix_block.proofs.NextLemmas.{between-more}
 use Rattle.matrix_block.proofs.levels.LevelsView.total_range_count_on.Goals as goal
 use Rattle.matrix_block.proofs.levels.LevelsView.total_range_count_on.Goals.{In-Found-total_count_less_on}

@@ -2,9 +2,9 @@
 use Rattle.std.proofs.Common.{ℕ, ◌^◌, ◌<◌, length, sym, subst, ◌∙◌, arith}
 use Rattle.std.proofs.lemmas.Bool.{true≢false}
 use Rattle.bitm.specs.Tables.{Lists}
-use Rattle.wavelet_matrix.specs.Matrix.{level_in, numbers_in, IsMatrix}
-use Rattle.wavelet_matrix.specs.Numbers.{PicksItem}
-use Rattle.wavelet_matrix.proofs.lemmas.WalkLemmas.{count_before-wide}
+use Rattle.matrix_levels.specs.Matrix.{level_in, numbers_in, IsMatrix}
+use Rattle.matrix_levels.specs.Numbers.{PicksItem}
+use Rattle.matrix_levels.proofs.lemmas.WalkLemmas.{count_before-wide}
 use Rattle.matrix_block.proofs.levels.LevelsView.total_select_on.Goals as goal
 
 pub returns-then-not-fits-clause-answer : goal.returns-then-not-fits-clause-answer

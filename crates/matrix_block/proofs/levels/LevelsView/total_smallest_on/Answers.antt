@@ -1,11 +1,11 @@
 -- From level to level the bit is 1 where as many have a 0 as are still to be passed.
 use Rattle.std.proofs.Common.{◌≡◌, ◌+◌, ◌-◌, ◌*◌, ◌<◌, ◌≤◌, slice_range, nat_le, refl, ap, sym, subst, arith}
 use Rattle.bitm.specs.Tables.{bits_in, Lists}
-use Rattle.wavelet_matrix.specs.Levels.{partition_place}
-use Rattle.wavelet_matrix.specs.Matrix.{digit_place, level_in, numbers_in, IsMatrix}
-use Rattle.wavelet_matrix.proofs.lemmas.PrefixLemmas.{IsPrefixRange-first}
-use Rattle.wavelet_matrix.proofs.lemmas.RangeLemmas.{IsQuantilePrefix-next, equal-last, less-first, part-zeros, smallest}
-use Rattle.wavelet_matrix.proofs.lemmas.WalkLemmas.{place-same}
+use Rattle.matrix_levels.specs.Levels.{partition_place}
+use Rattle.matrix_levels.specs.Matrix.{digit_place, level_in, numbers_in, IsMatrix}
+use Rattle.matrix_levels.proofs.lemmas.PrefixLemmas.{IsPrefixRange-first}
+use Rattle.matrix_levels.proofs.lemmas.RangeLemmas.{IsQuantilePrefix-next, equal-last, less-first, part-zeros, smallest}
+use Rattle.matrix_levels.proofs.lemmas.WalkLemmas.{place-same}
 use Rattle.matrix_block.proofs.RangeLemmas.{digit-added, left-within, of-digit, parts-within, passed-is}
 use Rattle.matrix_block.proofs.StepLemmas.{digits_more, reads-more, reads-none}
 use Rattle.matrix_block.proofs.levels.LevelsView.total_smallest_on.Goals as goal

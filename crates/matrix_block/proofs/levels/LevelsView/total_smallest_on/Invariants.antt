@@ -1,7 +1,7 @@
 use Rattle.std.proofs.Common.{◌*◌, ◌-◌, ◌^◌, ◌<◌, ◌≤◌, slice_range}
 use Rattle.bitm.specs.Reads.{OnlyReads}
-use Rattle.wavelet_matrix.specs.Matrix.{IsMatrix, numbers_in}
-use Rattle.wavelet_matrix.proofs.lemmas.RangeLemmas.{IsQuantilePrefix}
+use Rattle.matrix_levels.specs.Matrix.{IsMatrix, numbers_in}
+use Rattle.matrix_levels.proofs.lemmas.RangeLemmas.{IsQuantilePrefix}
 use Rattle.matrix_block.proofs.levels.LevelsView.total_smallest_on.Given as goal
 
 -- the range is inside, has more numbers than are left to pass, and no more than it had; in a matrix it has those that

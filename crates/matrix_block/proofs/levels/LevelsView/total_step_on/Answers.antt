@@ -3,8 +3,8 @@ use Rattle.std.proofs.Common.{◌≡◌, ◌+◌, ◌*◌, sym, ap, subst, ◌�
 use Rattle.std.proofs.lemmas.Option.{same_Some}
 use Rattle.bitm.specs.Bits.{digit, item}
 use Rattle.bitm.specs.Tables.{bits_in, Lists}
-use Rattle.wavelet_matrix.specs.Levels.{partition_place}
-use Rattle.wavelet_matrix.specs.Matrix.{digit_place, level_in, numbers_in, IsMatrix}
+use Rattle.matrix_levels.specs.Levels.{partition_place}
+use Rattle.matrix_levels.specs.Matrix.{digit_place, level_in, numbers_in, IsMatrix}
 use Rattle.matrix_block.proofs.StepLemmas.{step-is}
 use Rattle.matrix_block.proofs.levels.LevelsView.total_step_on.Goals as goal
 use Rattle.matrix_block.proofs.levels.LevelsView.total_step_on.Goals.{After-len-2}

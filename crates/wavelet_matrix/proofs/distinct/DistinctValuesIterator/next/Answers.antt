@@ -1,6 +1,6 @@
 -- The number after all that are less comes first.
 use Rattle.std.proofs.Common.{◌^◌, length, slice_range, sym, ap, ◌∙◌, arith}
-use Rattle.wavelet_matrix.proofs.lemmas.CountLemmas.{length-range}
+use Rattle.matrix_levels.proofs.lemmas.CountLemmas.{length-range}
 use Rattle.wavelet_matrix.proofs.lemmas.DistinctLemmas.{after-inside, coming-first, coming-none, stands-after}
 use Rattle.wavelet_matrix.proofs.distinct.DistinctValuesIterator.next.Goals as goal
 

@@ -4,9 +4,9 @@ use Rattle.std.specs.Box.{boxed_slice_items}
 use Rattle.bitm.specs.Bits.{bits_of}
 use Rattle.bitm.specs.Quarters.{AreQuartersOf}
 use Rattle.bitm.proofs.BitLaws.{bits_are_counted}
-use Rattle.wavelet_matrix.specs.Matrix.{IsMatrixOf}
-use Rattle.wavelet_matrix.proofs.lemmas.MakeLemmas.{words-enough}
-use Rattle.wavelet_matrix.proofs.lemmas.MatrixLemmas.{is-matrix, items_of-is, made-matrix, matrix-from, matrix-of-items, tight}
+use Rattle.matrix_levels.specs.Matrix.{IsMatrixOf}
+use Rattle.matrix_levels.proofs.lemmas.MakeLemmas.{words-enough}
+use Rattle.matrix_levels.proofs.lemmas.MatrixLemmas.{is-matrix, items_of-is, made-matrix, matrix-from, matrix-of-items, tight}
 use Rattle.wavelet_matrix.proofs.matrix.WaveletMatrix.build_by.Goals as goal
 use Rattle.wavelet_matrix.proofs.matrix.WaveletMatrix.build_by.Goals.{In_ok-levels, In_ok-keep_starts}
 
