@@ -3,7 +3,7 @@ use Rattle.std.specs.Prelude.{ℕ, ◌≤◌, List}
 use Rattle.bitm.specs.Answer.{Answer}
 use Rattle.bitm.specs.Count.{ones_of}
 use Rattle.bitm.specs.Tables.{HasTables, Lists, bits_in}
-use Rattle.bitm_view.specs.Sizes.{lists_of}
+use Rattle.lent_tables.specs.Sizes.{lists_of}
 use Rattle.perfect_hash.specs.Asking.{IsBelow, IsNumbered}
 use Rattle.hash_levels.specs.Numbers.{number_by, AreSizes}
 use Rattle.bitm_abi.specs.declared.hash.Hash.{Hash}

@@ -1,6 +1,6 @@
 -- An index as C passes it.
 use Rattle.bitm_view.specs.Cut.{Cut, cut_at}
-use Rattle.bitm_view.specs.Sizes.{lists_of}
+use Rattle.lent_tables.specs.Sizes.{lists_of}
 use Rattle.bitm_abi.specs.declared.index.Index.{Index}
 
 -- the words and tables of an index, and the length of the bit vector

@@ -1,6 +1,6 @@
 -- Samples as C passes them.
 use Rattle.std.specs.Prelude.{Bool, min, if◌then◌else◌}
-use Rattle.bitm_view.specs.declared.samples.LentSamples.{LentSamples}
+use Rattle.lent_tables.specs.declared.samples.LentSamples.{LentSamples}
 use Rattle.bitm_abi.specs.declared.samples.Samples.{Samples}
 use Rattle.bitm_abi.specs.declared.index.Index.{Index}
 

@@ -4,7 +4,7 @@ use Rattle.std.specs.List.{Contains}
 use Rattle.bitm.specs.Answer.{Answer}
 use Rattle.bitm.specs.Tables.{HasSizes}
 use Rattle.bitm_view.specs.Queries.{selected_by}
-use Rattle.bitm_view.specs.Sizes.{lists_of}
+use Rattle.lent_tables.specs.Sizes.{lists_of}
 use Rattle.elias_fano_view.specs.Answers.{IsLast, IsPlaceOf}
 use Rattle.elias_fano_view.specs.LentParts.{parts_of, HasLengths, LentParts, Holds}
 use Rattle.elias_fano_view.specs.Lists.{written_count}

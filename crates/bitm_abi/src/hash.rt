@@ -5,7 +5,8 @@ ghost use Rattle.bitm_view.specs.Queries.{ranked_by};
 ghost use Rattle.bitm_abi.specs.Hash.{hash_lists, IsHashNumber};
 
 use crate::index::Index;
-use bitm_view::{Answer, Lent, NO_ANSWER, WRONG_TABLES};
+use bitm_view::{Answer, NO_ANSWER, WRONG_TABLES};
+use lent_tables::Lent;
 use perfect_hash::total_number_on;
 
 /// At most this many levels are queried.

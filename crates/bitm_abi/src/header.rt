@@ -5,7 +5,7 @@ ghost use Rattle.bitm_abi.specs.Stored.{IsIndex, IsIndexOf, IsLaidOut, IsSequenc
 
 use crate::layout::{Span, Stored};
 use crate::sequence::SequenceLens;
-use bitm_view::samples_len;
+use lent_tables::samples_len;
 
 /// The size of the header in words.
 pub const HEADER_WORDS: usize = 24;

@@ -5,7 +5,8 @@ ghost use Rattle.bitm_abi.specs.Index.{cut_of};
 ghost use Rattle.bitm_abi.specs.Samples.{lent_samples};
 
 use crate::samples::Samples;
-use bitm_view::{IndexView, Lent, LentSamples};
+use bitm_view::IndexView;
+use lent_tables::{Lent, LentSamples};
 
 /// An index in the caller's memory: words with their two tables, of which the first `bits_len` bits are the bit vector,
 /// and samples of either kind of bit, which may be none. For C each slice is a pointer and a length.

@@ -4,7 +4,7 @@ ghost use Rattle.bitm_view.specs.Block.{starts_of};
 ghost use Rattle.bitm_abi.specs.Stored.{checksum_of, mixed, span_from, span_mixed};
 ghost use Rattle.bitm_abi.specs.Stored.{IsAlike, IsBounded, IsLaidOut};
 
-use bitm_view::{lower_len, upper_len};
+use lent_tables::{lower_len, upper_len};
 
 /// The letters `bitm` and `tab`, and version 2. A processor with the other byte order reads another number.
 const MARK: u64 = 0x0262_6174_6d74_6962;

@@ -1,9 +1,9 @@
 //! Samples as C passes them, and as the library takes them.
 ghost use Rattle.std.specs.Prelude.{◌≡◌, min};
-ghost use Rattle.bitm_view.specs.Samples.{enough_samples};
+ghost use Rattle.lent_tables.specs.Samples.{enough_samples};
 ghost use Rattle.bitm_abi.specs.Samples.{lent_samples};
 
-use bitm_view::{LentSamples, samples_len};
+use lent_tables::{LentSamples, samples_len};
 
 /// Samples of one kind of bit: for C two pairs of a pointer and a length, and a number.
 #[repr(C)]

@@ -3,8 +3,8 @@ ghost use Rattle.std.specs.Prelude.{SomeIff};
 ghost use Rattle.bitm_abi.specs.Sequence.{lent_parts, IsListTold, IsSized};
 
 use crate::answer::{BAD_SIZE, OK};
-use bitm_view::Lent;
 use elias_fano_view::{LentSequence, ListAnswer};
+use lent_tables::Lent;
 
 /// A sequence in the caller's memory: for C two numbers, four pairs of a pointer and a length, and room.
 #[repr(C)]

@@ -2,8 +2,8 @@
 use Rattle.std.specs.Prelude.{◌≡◌, ℕ, ◌+◌, ◌-◌, ◌^◌, ◌<◌, Bool, List, Option, Some, None}
 use Rattle.bitm.specs.Answer.{Answer}
 use Rattle.bitm_view.specs.Answers.{IsFoundFrom, IsSelected}
-use Rattle.bitm_view.specs.Queries.{IsNext, IsPrevious}
-use Rattle.bitm_view.specs.Ranks.{IsCountWithin, IsRanked}
+use Rattle.lent_tables.specs.Nearest.{IsNext, IsPrevious}
+use Rattle.lent_tables.specs.Ranks.{IsCountWithin, IsRanked}
 use Rattle.sharded_index.specs.Joined.{joined, kind_of}
 use Rattle.sharded_index.specs.Prefixes.{claimed_in_all, ArePrefixes, HasLengths, IsClaimedBy, IsPlaced}
 use Rattle.sharded_index.specs.Prefixes.{Prefixes as Counts}

@@ -14,8 +14,8 @@ ghost use Rattle.bitm_abi.specs.Hash.{hash_lists, IsHashNumber};
 ghost use Rattle.bitm_abi.specs.Lists.{AreCounted};
 
 use bitm_abi::{BAD_SIZE, Hash, ListCounts, OK, number_list, report, report_list};
-use bitm_view::clear;
 use hash_levels::{build_in_place, level_len, split_level};
+use lent_tables::clear;
 use perfect_hash::total_number_on;
 
 /// The number of words of the next level for `left` hashes: `percent` bits for each 100 hashes, where less than 50

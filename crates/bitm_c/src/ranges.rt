@@ -10,7 +10,7 @@ ghost use Rattle.bitm_abi.specs.Lengths.{HasBits, HasCountedBits};
 use bit_slices::{count_in, count_range_in, next_in, positions_in, previous_in};
 use bitm::words;
 use bitm_abi::{BAD_SIZE, NONE, OK, has_bits, has_counted_bits, tell};
-use bitm_view::clear_from;
+use lent_tables::clear_from;
 
 /// The number of 1 bits, or of 0 bits, among the first `bits_len` bits.
 #[unsafe(no_mangle)]

@@ -6,7 +6,8 @@ ghost use Rattle.bitm_abi.specs.Index.{cut_of};
 
 use bitm::Probe;
 use bitm_abi::{BAD_SIZE, Index, report};
-use bitm_view::{Answer, ByGuess, IndexView};
+use bitm_view::{Answer, IndexView};
+use lent_tables::ByGuess;
 use tuning::WORDS_AT_HAND;
 
 /// `bitm_index_select` of 1 bits; of 0 bits where `BIT` is 0.

@@ -1,6 +1,6 @@
 //! Monotone integer sequences (Elias-Fano) whose parts lie in the caller's memory.
 ghost use Rattle.std.specs.Prelude.{◌≡◌, ◌≢◌, ◌<◌, ◌≤◌, ◌↔◌, ◌⊎◌, ℕ, List, length, slice_index};
-ghost use Rattle.bitm_view.specs.Sizes.{lists_of};
+ghost use Rattle.lent_tables.specs.Sizes.{lists_of};
 ghost use Rattle.elias_fano.specs.Parts.{width_of};
 ghost use Rattle.elias_fano.specs.Sequence.{HasFall};
 ghost use Rattle.elias_fano_view.specs.LentParts.{parts_of, AreParts, Holds};

@@ -9,8 +9,9 @@ use Rattle.bit_lists.specs.Count.{count_before, count_of, Picks}
 use Rattle.bitm_select.specs.Tables.{bits_in}
 use Rattle.bitm.specs.Answer.TheVariants.{Found, Absent, Wrong}
 use Rattle.bitm_view.specs.Cut.{Cut, bits_of_cut, IsWithin}
-use Rattle.bitm_view.specs.Queries.{Ranks, RanksIn, Selects, SelectsIn}
-use Rattle.bitm_view.specs.Ranks.{IsRanked}
+use Rattle.bitm_view.specs.Queries.{RanksIn, SelectsIn}
+use Rattle.lent_tables.specs.Counting.{Ranks, Selects}
+use Rattle.lent_tables.specs.Ranks.{IsRanked}
 use Rattle.bitm.specs.Answer.{Answer}
 use Rattle.bitm.specs.Answer.TheVariants.{Found, Absent, Wrong}
 

@@ -1,10 +1,4 @@
 pub mod BlockLemmas
-pub mod BoundsLemmas
-pub mod ClearingLemmas
 pub mod CodeLemmas
 pub mod CutLemmas
-pub mod FilledLemmas
-pub mod GuessLemmas
 pub mod NearLemmas
-pub mod SampleCheckLemmas
-pub mod SamplingLemmas

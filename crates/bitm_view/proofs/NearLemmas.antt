@@ -1,27 +1,14 @@
 -- The bit that a rank selects is the nearest of its kind.
-use Rattle.std.proofs.Common.{◌≡◌, ℕ, ◌+◌, ◌-◌, ◌<◌, ◌≤◌, Bool, true, false, not, List, length, min, refl, subst, sym, arith}
+use Rattle.std.proofs.Common.{◌≡◌, ℕ, ◌+◌, ◌-◌, ◌<◌, ◌≤◌, Bool, length, min, subst, sym, arith}
 use Rattle.std.proofs.lemmas.List.{length-take-le}
 use Rattle.bit_lists.proofs.lemmas.CountLemmas.{count_before-le}
-use Rattle.bit_lists.proofs.lemmas.PickLemmas.{rank_below, Picks-rank, IsFirstFrom-Picks, IsLastTo-Picks, none_to}
-use Rattle.bit_lists.specs.Bits.{item}
-use Rattle.bit_lists.specs.Count.{count_before, count_of, IsFirstFrom, IsLastTo, Picks}
+use Rattle.bit_lists.proofs.lemmas.PickLemmas.{IsFirstFrom-Picks, IsLastTo-Picks, none_to}
+use Rattle.bit_lists.specs.Count.{count_before, IsFirstFrom, IsLastTo, Picks}
 use Rattle.bitm_select.specs.Tables.{HasTables, bits_in}
 use Rattle.bitm.specs.Answer.TheVariants.{Found, Absent, Wrong}
 use Rattle.bitm_view.specs.Cut.{Cut, bits_of_cut, IsWithin}
 use Rattle.bitm_view.specs.Queries.{NextIn, PreviousIn, RanksIn, SelectsIn}
-
--- a bit that is not v
-not_v : (v x : Bool) → ¬ (x ≡ v) → x ≡ not v
-not_v true true is_not = absurd (is_not refl)
-not_v true false is_not = refl
-not_v false true is_not = refl
-not_v false false is_not = absurd (is_not refl)
-
--- where no more bits v are than stand before a position there are none from it on
-none_after : (b : List Bool) (v : Bool) (s p : ℕ) → count_of b v ≤ count_before b v s → s ≤ p → p < length b → item b p ≡ not v
-none_after b v s p none from inside =
-    not_v v (item b p)
-    (λ is. absurd (omega (arith, none, count_before-le b v s p from, rank_below b v _ p (Picks-rank b v p inside is))))
+use Rattle.lent_tables.proofs.NearestLemmas.{none_after}
 
 module _ (v : Bool) (c : Cut) (within : IsWithin c) where
   long : length (bits_of_cut c) ≡ c.len

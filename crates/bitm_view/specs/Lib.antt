@@ -1,9 +1,6 @@
 pub mod Block
 pub mod Cut
 pub mod Queries
-pub mod Ranks
-pub mod Samples
-pub mod Sizes
 pub use Rattle.bit_lists.specs.Bits
 pub use Rattle.bit_lists.specs.Count
 pub use Rattle.bitm.specs.Density
@@ -14,3 +11,8 @@ pub use Rattle.bitm_select.specs.Reads
 pub use Rattle.bitm_select.specs.Search
 pub use Rattle.bitm_select.specs.Tables
 pub use Rattle.bitm_select.specs.Told
+pub use Rattle.lent_tables.specs.Counting
+pub use Rattle.lent_tables.specs.Nearest
+pub use Rattle.lent_tables.specs.Ranks
+pub use Rattle.lent_tables.specs.Samples
+pub use Rattle.lent_tables.specs.Sizes

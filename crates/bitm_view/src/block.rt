@@ -6,13 +6,10 @@ ghost use Rattle.bit_lists.specs.Count.{as_bit};
 ghost use Rattle.bitm.specs.Density.{clamped_log};
 ghost use Rattle.bitm_select.specs.Tables.{bits_in, HasTables};
 ghost use Rattle.bitm_view.specs.Block.{sample_room, starts_of, AreFirst, HasBlockRoom, IsBlock};
-ghost use Rattle.bitm_view.specs.Samples.{AreSamples, HasRoom};
+ghost use Rattle.lent_tables.specs.Samples.{AreSamples, HasRoom};
 
-use crate::clearing::clear_from;
-use crate::filling::build;
-use crate::lent::{Lent, lower_len, upper_len};
-use crate::samples::samples_len;
 use bit_slices::copy_range;
+use lent_tables::{Lent, build, clear_from, lower_len, samples_len, upper_len};
 
 /// Copies the first `len` bits; those after them become 0 bits.
 fn copy_first(words: &[u64], len: usize, to: &mut [u64])

@@ -18,36 +18,10 @@
 //! ```
 #![tactic(auto)]
 
-// What is in each file:
+// What is in each file, over the tables of `lent_tables`:
 // - `block`: words, tables and samples of an index, built in one call
-// - `checking`: whether tables are those of the words
-// - `clearing`: clearing words and bits
-// - `filling`: the two tables, written in one pass over the words
-// - `guessed`: the entry of a rank by interpolation between two samples
-// - `lent`: borrowed words and tables
-// - `lists`: lists of selections in all the words
-// - `places`: the positions of 1 bits
-// - `ranked`: rank over any tables
-// - `sample_checks`: whether samples are those of the tables
-// - `sampled`: selection from samples over any tables
-// - `sampled_many`: selections from samples, side by side
-// - `samples`: borrowed samples
-// - `sampling`: samples, written from the tables
 // - `view`: an index over borrowed memory, and its queries
 mod block;
-mod checking;
-mod clearing;
-mod filling;
-mod guessed;
-mod lent;
-mod lists;
-mod places;
-mod ranked;
-mod sample_checks;
-mod sampled;
-mod sampled_many;
-mod samples;
-mod sampling;
 mod view;
 
 pub use bitm_select::answer::Answer;
@@ -56,12 +30,8 @@ pub use bitm_select::search::ranking::total_rank_on;
 pub use bitm_select::search::selected::{NO_ANSWER, WRONG_TABLES};
 pub use bitm_select::search::selecting::total_select_on;
 pub use block::{build_block, has_block_room};
-pub use clearing::{clear, clear_from};
-pub use filling::build;
-pub use guessed::ByGuess;
-pub use lent::{Lent, lower_len, upper_len};
-pub use places::ones_from;
-pub use ranked::ranked_on;
-pub use sampled::sampled_select_on;
-pub use samples::{LentSamples, samples_len};
+pub use lent_tables::{
+    ByGuess, Lent, LentSamples, build, clear, clear_from, lower_len, ones_from, ranked_on,
+    sampled_select_on, samples_len, upper_len,
+};
 pub use view::IndexView;

@@ -5,24 +5,22 @@ ghost use Rattle.bit_lists.specs.Count.{count_before, count_of, as_bit, Picks};
 ghost use Rattle.bitm_select.specs.Tables.{HasTables, bits_in};
 ghost use Rattle.bitm_select.specs.Told.{IfAbsent};
 ghost use Rattle.bitm_view.specs.Cut.{bits_of_cut, cut_at, Cut, IsWithin, TellsNoneOf};
-ghost use Rattle.bitm_view.specs.Queries.{RanksIn, Selects, SelectsIn};
-ghost use Rattle.bitm_view.specs.Ranks.{IsCountWithin, IsRanked};
+ghost use Rattle.bitm_view.specs.Queries.{RanksIn, SelectsIn};
+ghost use Rattle.lent_tables.specs.Counting.{Selects};
+ghost use Rattle.lent_tables.specs.Ranks.{IsCountWithin, IsRanked};
 ghost use Rattle.bitm_select.specs.Answers.{HasBit, IsSelected};
 ghost use Rattle.bitm_select.specs.Reads.{OnlyReads, ReadsAtMost};
 
 mod many;
 mod near;
 
-use crate::guessed::ByGuess;
-use crate::lent::{Lent, is_one};
-use crate::ranked::ranked_on;
-use crate::samples::LentSamples;
 use bit_slices::positions_in;
 use bitm::words;
 use bitm_select::answer::Answer;
 use bitm_select::search::many::ByTables;
 use bitm_select::search::selecting::{FindsEntry, search_on};
 use bitm_select::source::{Probe, TableSource};
+use lent_tables::{ByGuess, Lent, LentSamples, is_one, ranked_on};
 use std::marker::Model;
 
 /// The answer of a selection, with `Absent` in place of a position at or after `len`.

@@ -8,7 +8,7 @@ use Rattle.bitm_block.specs.declared.layout.Section.{Section}
 use Rattle.bitm_select.specs.Tables.{bits_in, HasSizes, HasTables, Lists}
 use Rattle.bitm_view.specs.Block.{AreFirst}
 use Rattle.bitm_view.specs.Cut.{cut_at, Cut}
-use Rattle.bitm_view.specs.Sizes.{lists_of}
+use Rattle.lent_tables.specs.Sizes.{lists_of}
 use Rattle.block_tables.specs.Sections.{table_sections, tables_in, HasTableSections}
 
 -- the numbers of the header of n bits

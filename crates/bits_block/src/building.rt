@@ -4,14 +4,15 @@ ghost use Rattle.std.specs.Int.{div_ceil};
 ghost use Rattle.bit_lists.specs.Bits.{bits_of};
 ghost use Rattle.bitm_block.specs.Layout.{end_of};
 ghost use Rattle.bitm_block.specs.Written.{IsSealed};
-ghost use Rattle.bitm_view.specs.Sizes.{lists_of};
+ghost use Rattle.lent_tables.specs.Sizes.{lists_of};
 ghost use Rattle.bits_block.specs.Block.{bits_head, bits_sections, lists_at, AreBits, CanHold, IsBlockOf};
 
 use crate::error::BuildError;
 use crate::sections::{bits_head, size};
 use bitm_block::{aligned, seal};
-use bitm_view::{build_block, lower_len, upper_len};
+use bitm_view::build_block;
 use block_tables::{as_entries_mut, table_sections};
+use lent_tables::{lower_len, upper_len};
 
 /// Writes the first `len` bits, 0 bits after them, and their tables.
 fn write_bits(words: &[u64], len: usize, to: &mut [u64], upper: &mut [u64], lower: &mut [u64])

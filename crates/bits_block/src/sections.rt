@@ -4,7 +4,7 @@ ghost use Rattle.bitm_block.specs.Layout.{end_of};
 ghost use Rattle.bits_block.specs.Block.{bits_head, bits_sections};
 
 use bitm_block::{Head, aligned};
-use bitm_view::{lower_len, upper_len};
+use lent_tables::{lower_len, upper_len};
 
 /// The kind of bits.
 pub const BITS: u64 = 2;

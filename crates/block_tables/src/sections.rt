@@ -6,7 +6,7 @@ ghost use Rattle.block_tables.specs.Sections.{table_sections, tables_in, HasTabl
 
 use crate::entries::as_entries;
 use bitm_block::{Block, Section};
-use bitm_view::{Lent, lower_len, upper_len};
+use lent_tables::{Lent, lower_len, upper_len};
 
 /// The sections of the given number of words: these, their upper and their lower table.
 ///

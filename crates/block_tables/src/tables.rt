@@ -3,10 +3,10 @@ ghost use Rattle.std.specs.Prelude.{◌≡◌, ◌↔◌, IsTrue};
 ghost use Rattle.bit_lists.specs.Bits.{bits_of};
 ghost use Rattle.bit_lists.specs.Count.{ones_of};
 ghost use Rattle.bitm_select.specs.Tables.{HasSizes, HasTables};
-ghost use Rattle.bitm_view.specs.Sizes.{lists_of};
+ghost use Rattle.lent_tables.specs.Sizes.{lists_of};
 
 use crate::entries::{as_entries, as_entries_mut};
-use bitm_view::{Lent, build};
+use lent_tables::{Lent, build};
 
 /// Writes both tables of the words and returns the number of 1 bits.
 ///

@@ -13,7 +13,7 @@ ghost use Rattle.elias_fano_view.specs.Lists.{EndsTold};
 ghost use Rattle.elias_fano_view.specs.Low.{sharing, HasFragments, ReadsFragments};
 ghost use Rattle.elias_fano_view.specs.Told.{IfPlace, TellsBelow, TellsLess, TellsTo};
 
-use bitm_view::{NO_ANSWER, WRONG_TABLES};
+use bitm::{NO_ANSWER, WRONG_TABLES};
 use elias_fano::building::{count_at_zero, place_in_bucket};
 use elias_fano::{Answer, LowDigits};
 

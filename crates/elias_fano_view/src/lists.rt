@@ -5,7 +5,7 @@ ghost use Rattle.elias_fano_view.specs.Lists.{written_count, AreItems, EndsTold,
 ghost use Rattle.elias_fano_view.specs.Lists.{PlaceTold};
 
 use crate::sequence::LentSequence;
-use bitm_view::{NO_ANSWER, WRONG_TABLES};
+use bitm::{NO_ANSWER, WRONG_TABLES};
 use elias_fano::Answer;
 use tuning::SELECTIONS_SIDE_BY_SIDE;
 

@@ -15,9 +15,10 @@ mod items;
 
 use crate::bucket::{place_of, rank_each};
 use crate::checking::are_parts;
-use bitm_view::{Lent, WRONG_TABLES};
+use bitm::WRONG_TABLES;
 use elias_fano::building::item_at_one;
 use elias_fano::{Answer, LowDigits, total_first_at_least_on, total_item_on};
+use lent_tables::Lent;
 use std::marker::Model;
 use tuning::SELECTIONS_SIDE_BY_SIDE;
 

@@ -11,8 +11,8 @@ use crate::error::BuildError;
 use crate::sections::{Lens, aligned, size, tree_head, tree_sections};
 use crate::writing::write_degrees;
 use bitm_block::seal;
-use bitm_view::clear;
 use block_tables::fill_tables;
+use lent_tables::clear;
 use louds::is_tree;
 
 /// Writes the bits of a tree, where all bits are 0, and their tables.

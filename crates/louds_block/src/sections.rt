@@ -5,7 +5,7 @@ ghost use Rattle.bitm_block.specs.Layout.{end_of};
 ghost use Rattle.louds_block.specs.Block.{end_at, lower_of_nodes, tree_head, tree_sections, upper_of_nodes};
 
 use bitm_block::{Head, Section};
-use bitm_view::{lower_len, upper_len};
+use lent_tables::{lower_len, upper_len};
 
 /// The kind of a tree.
 pub const LOUDS: u64 = 7;

@@ -13,7 +13,7 @@ use Rattle.bitm_block.specs.Layout.{words_of as item_words_of}
 use Rattle.bitm_block.specs.Written.{IsSealed}
 use Rattle.bitm_block.specs.declared.head.Head.{Head}
 use Rattle.bitm_block.specs.declared.layout.Section.{Section}
-use Rattle.bitm_view.specs.Sizes.{lists_of}
+use Rattle.lent_tables.specs.Sizes.{lists_of}
 use Rattle.matrix_levels.specs.Levels.{columns}
 use Rattle.matrix_levels.specs.Matrix.{words_of, IsMatrixOf}
 use Rattle.matrix_levels.proofs.lemmas.MatrixLemmas.{is-matrix, items_of-is, made-matrix}

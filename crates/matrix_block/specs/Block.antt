@@ -6,7 +6,7 @@ use Rattle.bitm_block.specs.Header.{count_in, section_in, IsBlock, IsVerified}
 use Rattle.bitm_block.specs.Layout.{aligned}
 use Rattle.bitm_block.specs.declared.head.Head.{Head}
 use Rattle.bitm_block.specs.declared.layout.Section.{Section}
-use Rattle.bitm_view.specs.Sizes.{lists_of}
+use Rattle.lent_tables.specs.Sizes.{lists_of}
 use Rattle.matrix_levels.specs.Matrix.{numbers_in, words_of, IsMatrix, LevelTables}
 
 -- how many entries the upper and the lower table of n numbers of w bits have

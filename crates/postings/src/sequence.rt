@@ -11,8 +11,8 @@ ghost use Rattle.postings.specs.Next.{IsNextAtLeast, IsReached};
 use crate::cursor::{Cursor, no_calls};
 use crate::near::{Spot, far_on, seek_on};
 use bitm::{Probe, ReadCounts, Select0ForRank101111, SelectForRank101111, index_laws};
-use bitm_view::Lent;
 use elias_fano::{LowDigits, Sequence, laws};
+use lent_tables::Lent;
 use std::marker::Model;
 
 /// A cursor over the numbers of an Elias-Fano sequence, which it borrows.

@@ -7,21 +7,9 @@ use Rattle.bit_lists.specs.Count.{count_before, count_of, Picks}
 use Rattle.bitm_tables.specs.declared.answer.Answer.{Answer}
 use Rattle.bitm_tables.specs.declared.answer.Answer.TheVariants.{Found, Absent, Wrong}
 use Rattle.bitm_select.specs.Answers.{IsSelected}
-use Rattle.bitm_view.specs.Queries.{IsNext, IsPrevious}
+use Rattle.lent_tables.specs.Nearest.{IsNext, IsPrevious}
 use Rattle.sharded_index.specs.Shards.{IsKeptBefore, IsKeptFrom}
-
--- a bit that is not v
-not_v : (v x : Bool) → ¬ (x ≡ v) → x ≡ not v
-not_v true true is_not = absurd (is_not refl)
-not_v true false is_not = refl
-not_v false true is_not = refl
-not_v false false is_not = absurd (is_not refl)
-
--- where no more bits v are than stand before a position there are none from it on
-none_after : (b : List Bool) (v : Bool) (s p : ℕ) → count_of b v ≤ count_before b v s → s ≤ p → p < length b → item b p ≡ not v
-none_after b v s p none from inside =
-    not_v v (item b p)
-    (λ is. absurd (omega (arith, none, count_before-le b v s p from, rank_below b v _ p (Picks-rank b v p inside is))))
+use Rattle.lent_tables.proofs.NearestLemmas.{none_after}
 
 few : (b : List Bool) (v : Bool) (i : ℕ) → i ≤ length b → count_before b v i ≤ i
 few b true i l = omega (arith, ones_before-add-zeros_before b i l)

@@ -1,7 +1,7 @@
 //! The nearest bit of a kind on either side of a position of the joined bits: a rank and a selection.
 ghost use Rattle.std.specs.Prelude.{◌≡◌, ◌+◌, map};
 ghost use Rattle.bitm_select.specs.Answers.{IsFoundFrom};
-ghost use Rattle.bitm_view.specs.Queries.{IsNext, IsPrevious};
+ghost use Rattle.lent_tables.specs.Nearest.{IsNext, IsPrevious};
 ghost use Rattle.sharded_index.specs.Joined.{joined};
 ghost use Rattle.sharded_index.specs.Prefixes.{claimed_in_all};
 ghost use Rattle.sharded_index.specs.Shards.{IfFoundHasBit, IsKeptBefore, IsKeptFrom};

@@ -6,15 +6,9 @@ use Rattle.bit_lists.proofs.lemmas.PickLemmas.{rank_below, Picks-rank, IsFirstFr
 use Rattle.bit_lists.specs.Bits.{item}
 use Rattle.bit_lists.specs.Count.{count_before, count_of, IsFirstFrom, IsLastTo, Picks}
 use Rattle.bitm.specs.Answer.TheVariants.{Found, Absent, Wrong}
-use Rattle.bitm_view.specs.Queries.{IsNext, IsPrevious}
-use Rattle.bitm_view.specs.Ranks.{IsRanked}
-
--- a bit that is not v
-not_v : (v x : Bool) → ¬ (x ≡ v) → x ≡ not v
-not_v true true is_not = absurd (is_not refl)
-not_v true false is_not = refl
-not_v false true is_not = refl
-not_v false false is_not = absurd (is_not refl)
+use Rattle.lent_tables.specs.Nearest.{IsNext, IsPrevious}
+use Rattle.lent_tables.specs.Ranks.{IsRanked}
+use Rattle.lent_tables.proofs.NearestLemmas.{none_after}
 
 module _ (b : List Bool) (v : Bool) where
   module _ (from r : ℕ) (ranked : IsRanked b v from (Found r)) where
@@ -26,9 +20,7 @@ module _ (b : List Bool) (v : Bool) where
     next_before p early is = absurd (omega (arith, early, (next_found p is).from))
 
     pub next_none : count_of b v ≤ r → IsNext b v from Absent
-    next_none none = λ p after inside.
-        not_v v (item b p)
-        (λ is. absurd (omega (arith, none, ranked.1, count_before-le b v from p after, rank_below b v _ p (Picks-rank b v p inside is))))
+    next_none none = λ p after inside. none_after b v from p (omega (arith, none, ranked.1)) after inside
 
   -- no 1 bits up to the end
   pub previous_none : (from end : ℕ) → end ≡ min (from + 1) (length b) → IsRanked b v end (Found 0) → IsPrevious b v from Absent

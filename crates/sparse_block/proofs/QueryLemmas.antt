@@ -7,7 +7,7 @@ use Rattle.bitm.specs.Answer.{Answer}
 use Rattle.bitm.specs.Answer.TheVariants.{Found, Absent, Wrong}
 use Rattle.bit_lists.specs.Count.{count_before, ones_before, zeros_before, Picks}
 use Rattle.bit_lists.specs.Bits.{item}
-use Rattle.bitm_view.specs.Ranks.{IsRanked}
+use Rattle.lent_tables.specs.Ranks.{IsRanked}
 use Rattle.elias_fano.specs.LentParts.{Holds}
 use Rattle.elias_fano.specs.Sequence.{Reaches}
 use Rattle.sparse_bits.proofs.lemmas.PositionLemmas.{at_least_place, bits_count, bit_none, bit_some, few_ones, ones_count, rank_none, rank_some, select_some, select0_some, zeros_count}

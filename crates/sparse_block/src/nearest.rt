@@ -2,8 +2,8 @@
 ghost use Rattle.std.specs.Prelude.{◌≡◌, ◌+◌, ◌≤◌, List, ℕ, Bool, min, length};
 ghost use Rattle.bitm.specs.Answer.TheVariants.{Found};
 ghost use Rattle.bitm_select.specs.Answers.{IsFoundFrom, IsSelected};
-ghost use Rattle.bitm_view.specs.Queries.{IsNext, IsPrevious};
-ghost use Rattle.bitm_view.specs.Ranks.{IsCountWithin, IsRanked};
+ghost use Rattle.lent_tables.specs.Nearest.{IsNext, IsPrevious};
+ghost use Rattle.lent_tables.specs.Ranks.{IsCountWithin, IsRanked};
 ghost use Rattle.elias_fano.specs.Answers.{IsPlaceOf};
 ghost use Rattle.sparse_block.specs.Block.{bits_of, HoldsOnes};
 

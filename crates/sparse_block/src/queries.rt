@@ -2,7 +2,7 @@
 ghost use Rattle.std.specs.Prelude.{◌≡◌, ◌-◌, ◌+◌, ◌≤◌, ◌<◌, List, ℕ, IfSome, IsSomeAnd, true, false};
 ghost use Rattle.bitm.specs.Answer.TheVariants.{Found, Wrong};
 ghost use Rattle.bitm_select.specs.Answers.{IsSelected};
-ghost use Rattle.bitm_view.specs.Ranks.{IsCountWithin, IsRanked};
+ghost use Rattle.lent_tables.specs.Ranks.{IsCountWithin, IsRanked};
 ghost use Rattle.sparse_bits.specs.Positions.{PartsZeros};
 ghost use Rattle.sparse_block.specs.Answers.{IsBitOf, IsBitWithin, IsSelectedWithin};
 ghost use Rattle.sparse_block.specs.Block.{bits_of, HoldsOnes};

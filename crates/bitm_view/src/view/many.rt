@@ -6,12 +6,11 @@ ghost use Rattle.bitm_view.specs.Queries.{ranked_by, selected_by, RanksIn, Selec
 ghost use Rattle.bitm_select.specs.Answers.{RanksTold, RankTold, SelectTold, ToldEach};
 ghost use Rattle.bitm_select.specs.Reads.{OnlyReads};
 
-use crate::lists::select_list_on;
-use crate::samples::LentSamples;
 use crate::view::IndexView;
 use bitm_select::search::many::{ByTables, FindsEntries, total_rank_many_on};
 use bitm_select::search::selected::{NO_ANSWER, WRONG_TABLES};
 use bitm_select::source::{Probe, TableSource};
+use lent_tables::{LentSamples, select_list_on};
 
 impl<'a> IndexView<'a> {
     /// `rank_each` over a source of the view's words and tables.

@@ -6,16 +6,16 @@ ghost use Rattle.bitm_select.specs.Answers.{HasBit, IsFoundFrom};
 ghost use Rattle.bitm_select.specs.Reads.{OnlyReads};
 ghost use Rattle.bitm_select.specs.Tables.{HasTables};
 ghost use Rattle.bitm_view.specs.Cut.{bits_of_cut, Cut, IsWithin};
-ghost use Rattle.bitm_view.specs.Queries.{IsNext, IsPrevious, NextIn, PreviousIn, RanksIn, SelectsIn};
+ghost use Rattle.bitm_view.specs.Queries.{NextIn, PreviousIn, RanksIn, SelectsIn};
+ghost use Rattle.lent_tables.specs.Nearest.{IsNext, IsPrevious};
 ghost use Rattle.bitm.specs.Answer.TheVariants.{Found, Absent, Wrong};
 
-use crate::guessed::ByGuess;
-use crate::lent::is_one;
 use crate::view::IndexView;
 use bitm_select::answer::Answer;
 use bitm_select::search::many::ByTables;
 use bitm_select::search::selecting::FindsEntry;
 use bitm_select::source::{Probe, TableSource};
+use lent_tables::{ByGuess, is_one};
 
 /// The selected position, where it is not before `from`: else the tables are not those of the words.
 #[inline(always)]

@@ -11,8 +11,7 @@ ghost use Rattle.elias_fano_view.specs.Lists.{AreItemsFrom, IsKeptFrom};
 ghost use Rattle.elias_fano_view.specs.Low.{ReadsFragments};
 
 use crate::sequence::LentSequence;
-use bitm::{TableSource, words};
-use bitm_view::Answer;
+use bitm::{Answer, TableSource, words};
 use elias_fano::LowDigits;
 use elias_fano::building::item_at_one;
 

@@ -1,7 +1,7 @@
 -- There is room for the bits and their tables, and what is written are these.
 use Rattle.std.proofs.Common.{length, ap, ◌∙◌, arith, rules}
 use Rattle.bit_lists.specs.Bits.{bits_of}
-use Rattle.bitm_view.specs.Sizes.{lists_of}
+use Rattle.lent_tables.specs.Sizes.{lists_of}
 use Rattle.bits_block.specs.Block.{AreBits}
 use Rattle.bits_block.proofs.building.write_bits.Goals as goal
 

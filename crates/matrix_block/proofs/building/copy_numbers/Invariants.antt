@@ -1,5 +1,5 @@
 use Rattle.std.proofs.Common.{◌*◌, slice_index}
-use Rattle.bitm_view.specs.Sizes.{IsFilled}
+use Rattle.lent_tables.specs.Sizes.{IsFilled}
 use Rattle.matrix_block.proofs.building.copy_numbers.Given as goal
 
 -- the numbers of the pairs so far

@@ -1,7 +1,7 @@
 use Rattle.std.proofs.Common.{◌≡◌, ◌+◌, ◌-◌, ◌*◌}
 use Rattle.bitm.specs.Count.{ones_before, zeros_before}
 use Rattle.bitm.specs.Tables.{bits_in}
-use Rattle.bitm_view.specs.Sizes.{IsFilled}
+use Rattle.lent_tables.specs.Sizes.{IsFilled}
 use Rattle.matrix_block.proofs.building.write_counts.Given as goal
 
 -- the entries of the levels up to this one, and the words are those that were given

@@ -1,7 +1,7 @@
 -- One less than the rank of the end selects the previous one.
 use Rattle.std.proofs.Common.{◌≡◌, ◌+◌, ◌-◌, ℕ, List, length, min, subst, arith}
 use Rattle.bitm.specs.Answer.TheVariants.{Found}
-use Rattle.bitm_view.specs.Ranks.{IsRanked}
+use Rattle.lent_tables.specs.Ranks.{IsRanked}
 use Rattle.sparse_bits.proofs.lemmas.PositionLemmas.{bits_count}
 use Rattle.sparse_block.specs.Block.{bits_of}
 use Rattle.sparse_block.proofs.NearLemmas.{previous_none}

@@ -2,7 +2,7 @@
 use Rattle.std.proofs.Common.{◌≡◌, ◌≤◌, ◌<◌, ℕ, true, length, sym, ◌∙◌, subst, arith}
 use Rattle.bitm.specs.Answer.{Answer}
 use Rattle.bitm.specs.Answer.TheVariants.{Found}
-use Rattle.bitm_view.specs.Ranks.{IsRanked}
+use Rattle.lent_tables.specs.Ranks.{IsRanked}
 use Rattle.sparse_bits.proofs.lemmas.PositionLemmas.{bits_count}
 use Rattle.sparse_block.specs.Block.{bits_of}
 use Rattle.sparse_block.proofs.QueryLemmas.{few_before, holds_inside, ranked_at, ranked_past}

@@ -1,0 +1,20 @@
+use Rattle.std.proofs.Common.{◌≡◌, ◌+◌, ◌-◌, ◌*◌, ◌^◌, ◌<◌, ◌≤◌}
+use Rattle.bitm_select.specs.Entry.{before_in_part}
+use Rattle.bitm_select.specs.Search.{sought_in}
+use Rattle.bitm_select.specs.Tables.{HasTables}
+use Rattle.lent_tables.proofs.guessed.steps_back.Given as goal
+
+-- the entry that is reached has more than the rank before it if the tables are right; one read for each
+abbrev pub invariant-loop-k : goal.invariant-loop-k
+invariant-loop-k g l =
+    let T = g.T.TableSource in
+    let lists = T.lists l.fn.source in
+    record {
+      at : l.k ≤ l.at;
+      few : l.k ≤ 4;
+      above : HasTables lists → l.rank < before_in_part (sought_in g.row.BIT lists.words) (l.part * 2 ^ 21 + (l.at - l.k));
+      lower : (T.reads l.source).lower ≡ (T.reads l.fn.source).lower + l.k;
+      upper : (T.reads l.source).upper ≡ (T.reads l.fn.source).upper;
+      words : (T.reads l.source).words ≡ (T.reads l.fn.source).words;
+      same : T.lists l.source ≡ lists;
+    }

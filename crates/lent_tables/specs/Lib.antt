@@ -1,0 +1,5 @@
+pub mod Counting
+pub mod Nearest
+pub mod Ranks
+pub mod Samples
+pub mod Sizes

@@ -1,0 +1,36 @@
+-- Borrowed samples.
+use Rattle.std.specs.Prelude.{◌≡◌, ℕ, ◌-◌, ◌*◌, ◌^◌, ◌<◌, ◌≤◌, Bool, List, length, slice_index}
+use Rattle.std.specs.Int.{div_ceil}
+use Rattle.bit_lists.specs.Count.{count_before}
+use Rattle.bitm.specs.Density.{clamped_log}
+use Rattle.bitm.specs.Samples.{samples_of, sample_starts_of}
+use Rattle.bitm_select.specs.Tables.{Lists}
+use Rattle.lent_tables.specs.declared.samples.LentSamples.{LentSamples}
+
+-- the two lists are the samples of the bits v of b at logarithm d, and how many there are before each upper block
+pub record AreSamples (b : List Bool) (v : Bool) (d : ℕ) (samples starts : List ℕ) : Type 0 where
+  pub samples_are : samples ≡ samples_of b v d
+  pub starts_are : starts ≡ sample_starts_of b v d
+
+-- the borrowed lists are the samples of the bits v of b
+abbrev pub AreSamplesOf : List Bool → Bool → LentSamples → Type 0
+AreSamplesOf b v lent = AreSamples b v (clamped_log lent.log2) lent.samples.now lent.starts.now
+
+-- sample number j of the bits v of b, over all upper blocks
+abbrev pub sample_number : List Bool → Bool → ℕ → ℕ → ℕ
+sample_number b v d j = slice_index (samples_of b v d) j
+
+-- how many samples are enough for the given number of words
+abbrev pub enough_samples : ℕ → ℕ → ℕ
+enough_samples words log = div_ceil words (2 ^ (clamped_log log - 6))
+
+-- there is room for the samples of any words of this number, and for one start for each upper block
+pub record HasRoom (lists : Lists) (log : ℕ) (samples starts : List ℕ) : Type 0 where
+  pub samples_len : enough_samples (length lists.words) log ≤ length samples
+  pub starts_len : length starts ≡ length lists.upper
+
+-- the bit v with rank r of the upper block c is in an entry from low on and before end, of the given number of entries;
+-- or there is no such bit
+pub record IsBounded (c : List Bool) (v : Bool) (r entries low end : ℕ) : Type 0 where
+  pub at_most : count_before c v (2048 * low) ≤ r
+  pub above : end < entries → r < count_before c v (2048 * end)

@@ -1,0 +1,287 @@
+//! Interpolation between two samples, over a source with any tables and samples: the search for the lower block of a
+//! rank first looks near the guess, entry by entry or in a window, and then searches as `sampled` does.
+ghost use Rattle.std.specs.Prelude.{◌≡◌, ◌+◌, ◌*◌, ◌^◌, ◌<◌, ◌≤◌, length, IfSome};
+ghost use Rattle.bit_lists.specs.Count.{as_bit};
+ghost use Rattle.bitm_select.specs.Entry.{before_in_part};
+ghost use Rattle.bitm_select.specs.Reads.{ReadsAtMost};
+ghost use Rattle.bitm_select.specs.Search.{entries_from, entry_in, sought_in, IsLastFound};
+ghost use Rattle.bitm_select.specs.Tables.{HasSizes, HasTables, bits_in};
+ghost use Rattle.lent_tables.specs.Samples.{AreSamplesOf};
+ghost use Rattle.bitm_select.specs.Told.{told_entry};
+
+use crate::sampled::{Bounds, entry_between, entry_by_samples, samples_to};
+use crate::samples::{LentSamples, clamped_log};
+use bitm_select::entry::{entries_of_part, ones_to_entry};
+use bitm_select::levels::L2_ENTRIES_PER_L1_ENTRY;
+use bitm_select::search::entries::{last_entry, sought_entry};
+use bitm_select::search::selecting::FindsEntry;
+use bitm_select::source::TableSource;
+use tuning::{ENTRIES_TO_STEP, ENTRIES_TOO_FAR};
+
+/// The number of entries on either side of a guess that are read one after another.
+const STEPS: usize = 4;
+
+/// Entries in a window around a guess.
+const WINDOW: usize = 8;
+
+/// The number of them before the guess.
+const BEFORE: usize = 3;
+
+/// Finds entries by interpolation between two samples; by the tables alone where there are no samples.
+#[derive(Clone, Copy)]
+pub struct ByGuess<'a> {
+    /// The samples. They may hold anything.
+    pub samples: LentSamples<'a>,
+}
+
+/// Where the search for the entry of a rank starts.
+#[derive(Clone, Copy)]
+struct Guess {
+    /// The guessed entry, by number in its upper block: near the right one where the bits lie evenly between two
+    /// samples and the samples are those of the words; any number otherwise.
+    at: usize,
+    /// The number of entries between the two samples, if these are those of the words; any number otherwise.
+    between: usize,
+}
+
+/// The guess for the bit with rank `rank` in an upper block.
+#[inline(always)]
+fn guess_of(lent: &LentSamples<'_>, part: usize, rank: usize) -> Guess
+    requires { part < 2 ^ 60 }
+{
+    let log2 = clamped_log(lent.log2);
+    let begin = samples_to(lent, part).wrapping_add(rank >> log2);
+    let Some(sample) = lent.samples.get(begin) else {
+        return Guess {
+            at: 0,
+            between: ENTRIES_TOO_FAR,
+        };
+    };
+    let low = (*sample & 0x1F_FFFF) as usize;
+    let between = match lent.samples.get(begin.wrapping_add(1)) {
+        Some(next) => ((*next & 0x1F_FFFF) as usize).wrapping_sub(low),
+        // The sample holds how many entries later the bit in the middle of its interval is.
+        None => 2 * (*sample >> 21) as usize,
+    };
+    let interval = 1usize << log2;
+    let items = rank & interval.wrapping_sub(1);
+    let passed = items.wrapping_mul(between).wrapping_add(interval >> 1) >> log2;
+    Guess {
+        at: low.wrapping_add(passed),
+        between,
+    }
+}
+
+/// The last entry of an upper block with at most `rank` bits of the kind before it there, and what it packs: the right
+/// one where the tables are those of the words. The search starts at entry `at`, which packs `packed` and has at most
+/// `rank` before it. `None` where the right entry is neither `at` nor one of the three after it.
+#[inline(always)]
+fn steps_on<const BIT: u8, T: TableSource>(
+    source: &mut T,
+    part: usize,
+    at: usize,
+    packed: u64,
+    rank: usize,
+) -> Option<(usize, u64)>
+    requires sized { HasSizes (T.lists source.old) }
+    requires inside { part < length (T.lists source.old).upper }
+    requires at { at < entries_from (length (T.lists source.old).lower) part }
+    requires at_most { HasTables (T.lists source.old)
+        → before_in_part (sought_in BIT (T.lists source.old).words) (entry_in part at) ≤ rank }
+    requires packed { packed ≡ told_entry (as_bit BIT) (T.lists source.old) (entry_in part at) }
+    ensures last { IfSome result (IsLastFound BIT (T.lists source.old) part rank) }
+    ensures reads { ReadsAtMost (T.reads source.old) (T.reads source.new) 0 4 0 }
+    ensures same { T.lists source.new ≡ T.lists source.old }
+{
+    let first = part * L2_ENTRIES_PER_L1_ENTRY;
+    let end = entries_of_part(source.lower_len(), part);
+    let mut packed = packed;
+    for k in 0..STEPS {
+        let next = at + k + 1;
+        if next >= end {
+            return Some((at + k, packed));
+        }
+        let entry = sought_entry::<BIT, T>(source, first + next);
+        if rank < ones_to_entry(entry) {
+            return Some((at + k, packed));
+        }
+        packed = entry;
+    }
+    None
+}
+
+/// The last entry of an upper block with at most `rank` bits of the kind before it there, and what it packs: the right
+/// one where the tables are those of the words. The search starts at entry `at`, which has more than `rank` before it.
+/// `None` where the right entry is not one of the four before it.
+#[inline(always)]
+fn steps_back<const BIT: u8, T: TableSource>(
+    source: &mut T,
+    part: usize,
+    at: usize,
+    rank: usize,
+) -> Option<(usize, u64)>
+    requires sized { HasSizes (T.lists source.old) }
+    requires inside { part < length (T.lists source.old).upper }
+    requires at { at < entries_from (length (T.lists source.old).lower) part }
+    requires above { HasTables (T.lists source.old)
+        → rank < before_in_part (sought_in BIT (T.lists source.old).words) (entry_in part at) }
+    ensures last { IfSome result (IsLastFound BIT (T.lists source.old) part rank) }
+    ensures reads { ReadsAtMost (T.reads source.old) (T.reads source.new) 0 4 0 }
+    ensures same { T.lists source.new ≡ T.lists source.old }
+{
+    let first = part * L2_ENTRIES_PER_L1_ENTRY;
+    for k in 0..STEPS {
+        if at <= k {
+            return None;
+        }
+        let next = at - k - 1;
+        let entry = sought_entry::<BIT, T>(source, first + next);
+        if ones_to_entry(entry) <= rank {
+            return Some((next, entry));
+        }
+    }
+    None
+}
+
+/// The last entry of an upper block with at most `rank` bits of the kind before it there, and what it packs: the right
+/// one where the tables are those of the words. The search looks at entry `about` and at most four entries before or
+/// after it, and returns `None` where this does not find it.
+#[inline(always)]
+fn entry_by_steps<const BIT: u8, T: TableSource>(
+    source: &mut T,
+    part: usize,
+    about: usize,
+    rank: usize,
+) -> Option<(usize, u64)>
+    requires sized { HasSizes (T.lists source.old) }
+    requires inside { part < length (T.lists source.old).upper }
+    ensures last { IfSome result (IsLastFound BIT (T.lists source.old) part rank) }
+    ensures reads { ReadsAtMost (T.reads source.old) (T.reads source.new) 0 5 0 }
+    ensures same { T.lists source.new ≡ T.lists source.old }
+{
+    let entries = entries_of_part(source.lower_len(), part);
+    let at = about.min(entries - 1);
+    let packed = sought_entry::<BIT, T>(source, part * L2_ENTRIES_PER_L1_ENTRY + at);
+    if ones_to_entry(packed) <= rank {
+        steps_on::<BIT, T>(source, part, at, packed, rank)
+    } else {
+        steps_back::<BIT, T>(source, part, at, rank)
+    }
+}
+
+/// Like `entry_by_steps`, by three halvings of the eight entries around entry `about`, without a branch on where the
+/// entry is. `None` where it is not among these.
+#[inline(always)]
+fn entry_in_window<const BIT: u8, T: TableSource>(
+    source: &mut T,
+    part: usize,
+    about: usize,
+    rank: usize,
+) -> Option<(usize, u64)>
+    requires sized { HasSizes (T.lists source.old) }
+    requires inside { part < length (T.lists source.old).upper }
+    ensures last { IfSome result (IsLastFound BIT (T.lists source.old) part rank) }
+    ensures reads { ReadsAtMost (T.reads source.old) (T.reads source.new) 0 5 0 }
+    ensures same { T.lists source.new ≡ T.lists source.old }
+{
+    let entries = entries_of_part(source.lower_len(), part);
+    if entries < WINDOW {
+        return None;
+    }
+    let low = about.saturating_sub(BEFORE).min(entries - WINDOW);
+    let bounds = Bounds {
+        low,
+        end: low + WINDOW,
+    };
+    entry_between::<BIT, T>(source, part, bounds, rank)
+}
+
+/// The last entry of an upper block with at most `rank` bits of the kind before it there, and what it packs: the right
+/// one where the tables are those of the words. `None` where it is not near the guess. A `SIDE_BY_SIDE` of 0 takes the
+/// way that is fastest for one query, any other the one that is fastest for many: without a branch on where the entry
+/// is.
+#[inline(always)]
+fn guessed_entry<const BIT: u8, const SIDE_BY_SIDE: u8, T: TableSource>(
+    source: &mut T,
+    lent: &LentSamples<'_>,
+    part: usize,
+    rank: usize,
+) -> Option<(usize, u64)>
+    requires sized { HasSizes (T.lists source.old) }
+    requires inside { part < length (T.lists source.old).upper }
+    ensures last { IfSome result (IsLastFound BIT (T.lists source.old) part rank) }
+    ensures reads { ReadsAtMost (T.reads source.old) (T.reads source.new) 0 5 0 }
+    ensures same { T.lists source.new ≡ T.lists source.old }
+{
+    let Guess { at, between } = guess_of(lent, part, rank);
+    if between >= ENTRIES_TOO_FAR {
+        return None;
+    }
+    if SIDE_BY_SIDE == 0 && between < ENTRIES_TO_STEP {
+        entry_by_steps::<BIT, T>(source, part, at, rank)
+    } else {
+        entry_in_window::<BIT, T>(source, part, at, rank)
+    }
+}
+
+/// The last entry of an upper block with at most `rank` bits of the kind before it there, and what it packs: the right
+/// one where the tables are those of the words, some entry of the upper block otherwise. The search looks near the
+/// guess first, then between the samples, and last without them.
+#[inline(always)]
+pub(crate) fn entry_by_guess<const BIT: u8, const SIDE_BY_SIDE: u8, T: TableSource>(
+    source: &mut T,
+    lent: &LentSamples<'_>,
+    part: usize,
+    rank: usize,
+) -> (usize, u64)
+    requires sized { HasSizes (T.lists source.old) }
+    requires inside { part < length (T.lists source.old).upper }
+    ensures last { IsLastFound BIT (T.lists source.old) part rank result }
+    ensures reads { ReadsAtMost (T.reads source.old) (T.reads source.new) 0 51 0 }
+    ensures reads_by_samples { HasTables (T.lists source.old)
+        → AreSamplesOf (bits_in (T.lists source.old)) (as_bit BIT) lent.now
+        → ReadsAtMost (T.reads source.old) (T.reads source.new) 0 28 0 }
+    ensures same { T.lists source.new ≡ T.lists source.old }
+{
+    match guessed_entry::<BIT, SIDE_BY_SIDE, T>(source, lent, part, rank) {
+        Some(found) => found,
+        None => entry_far_off::<BIT, T>(source, lent, part, rank),
+    }
+}
+
+/// Calls `entry_by_samples` after a wrong guess. Not inlined, so that the code of the guess stays small enough to be.
+#[inline(never)]
+fn entry_far_off<const BIT: u8, T: TableSource>(
+    source: &mut T,
+    lent: &LentSamples<'_>,
+    part: usize,
+    rank: usize,
+) -> (usize, u64)
+    requires sized { HasSizes (T.lists source.old) }
+    requires inside { part < length (T.lists source.old).upper }
+    ensures last { IsLastFound BIT (T.lists source.old) part rank result }
+    ensures reads { ReadsAtMost (T.reads source.old) (T.reads source.new) 0 46 0 }
+    ensures reads_by_samples { HasTables (T.lists source.old)
+        → AreSamplesOf (bits_in (T.lists source.old)) (as_bit BIT) lent.now
+        → ReadsAtMost (T.reads source.old) (T.reads source.new) 0 23 0 }
+    ensures same { T.lists source.new ≡ T.lists source.old }
+{
+    entry_by_samples::<BIT, T>(source, lent, part, rank)
+}
+
+impl<'a, const BIT: u8, T: TableSource> FindsEntry<BIT, T> for ByGuess<'a> {
+    ghost lowers = { 51 };
+
+    ghost lowers_led = { 28 };
+
+    ghost leads = { λ by lists. HasTables lists
+        × AreSamplesOf (bits_in lists) (as_bit BIT) by.samples };
+
+    #[inline(always)]
+    fn entry(&self, source: &mut T, part: usize, rank: usize) -> (usize, u64) {
+        if self.samples.samples.is_empty() {
+            return last_entry::<BIT, T>(source, part, rank);
+        }
+        entry_by_guess::<BIT, 0, T>(source, &self.samples, part, rank)
+    }
+}
