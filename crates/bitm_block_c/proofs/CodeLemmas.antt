@@ -3,7 +3,7 @@ use Rattle.std.proofs.Common.{ℕ, ◌-◌, ◌^◌, ◌<◌, arith, mul-le-mul_
 use Rattle.bitm.specs.Answer.{Answer}
 use Rattle.bitm.specs.Answer.TheVariants.{Found, Absent, Wrong}
 use Rattle.louds_block.specs.Answers.{IsChildWithin, IsDegreeWithin, IsParentWithin}
-use Rattle.matrix_block.specs.Answers.{IsIndexWithin, IsRankWithin}
+use Rattle.lent_levels.specs.Answers.{IsIndexWithin, IsRankWithin}
 use Rattle.matrix_block.specs.Block.{HasLengths, MatrixParts}
 use Rattle.bitm_block_c.specs.Tree.{IsFoundBelow}
 

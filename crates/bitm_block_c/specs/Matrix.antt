@@ -3,10 +3,11 @@ use Rattle.std.specs.Prelude.{ℕ, ◌⊎◌, slice_range}
 use Rattle.bitm.specs.Answer.{Answer}
 use Rattle.bitm.specs.Answer.TheVariants.{Absent, Wrong}
 use Rattle.bitm_abi.specs.Status.{Exported}
-use Rattle.matrix_block.specs.Answers.{IsIndexOf, IsIndexWithin, IsNumberOf, IsNumberWithin, IsRankOf, IsRankWithin}
-use Rattle.matrix_block.specs.Ranges.{IsCountOf, IsCountWithin, IsNextOf, IsNextWithin, IsPreviousOf, IsPreviousWithin}
-use Rattle.matrix_block.specs.Ranges.{IsSmallestOf, IsSmallestWithin}
-use Rattle.matrix_block.specs.Block.{items_in, levels_of, parts_of, HasLengths, HoldsMatrix, MatrixParts}
+use Rattle.lent_levels.specs.Answers.{IsIndexOf, IsIndexWithin, IsNumberOf, IsNumberWithin, IsRankOf, IsRankWithin}
+use Rattle.lent_levels.specs.Ranges.{IsCountOf, IsCountWithin, IsNextOf, IsNextWithin, IsPreviousOf, IsPreviousWithin}
+use Rattle.lent_levels.specs.Ranges.{IsSmallestOf, IsSmallestWithin}
+use Rattle.lent_levels.specs.Levels.{levels_of}
+use Rattle.matrix_block.specs.Block.{items_in, parts_of, HasLengths, HoldsMatrix, MatrixParts}
 use Rattle.matrix_levels.specs.Numbers.{count_less}
 use Rattle.bitm_block_c.specs.declared.matrix.Matrix.{Matrix}
 use Rattle.bitm_block_c.specs.declared.matrix_lists.Sought.{Sought}

@@ -3,7 +3,8 @@ ghost use Rattle.std.specs.Prelude.{◌≡◌, SomeIff};
 ghost use Rattle.matrix_block.specs.Block.{HasLengths};
 ghost use Rattle.bitm_block_c.specs.Matrix.{matrix_parts};
 
-use matrix_block::{LevelsView, MatrixView};
+use lent_levels::LevelsView;
+use matrix_block::MatrixView;
 
 /// A matrix in the caller's memory: how many numbers it holds and of how many bits, and the words and tables of its
 /// block, for C five pairs of a pointer and a length.

@@ -3,6 +3,7 @@ use Rattle.std.proofs.Common.{◌≡◌, ℕ, ◌+◌, ◌-◌, ◌^◌, ◌<◌
 use Rattle.std.proofs.Math.Seq.{take-append_seam, drop-append_seam}
 use Rattle.std.specs.List.{slice_range}
 use Rattle.bitm_block.proofs.HeaderLemmas.{section_at, sections_len}
+use Rattle.bitm_block.proofs.PartsLemmas.{cut}
 use Rattle.bitm_block.specs.Header.{begin_in, count_in, entry_in, section_in}
 use Rattle.bitm_block.specs.Layout.{begin_of}
 use Rattle.bitm_block.specs.Layout.{words_of as item_words_of}
@@ -12,15 +13,6 @@ use Rattle.bitm_block.specs.declared.layout.Section.{Section}
 use Rattle.louds.specs.Counted.{degrees_in, IsLouds}
 use Rattle.louds.specs.Held.{words_of}
 use Rattle.louds_block.specs.Block.{lower_at, lower_of_nodes, parts_of, tree_head, tree_in, tree_sections, upper_at, upper_of_nodes, IsBlockOf, IsTreeOf, StandsIn, TreeParts}
-
--- a part between two others
-cut : (front part back : List ℕ) (i j : ℕ) → i ≡ length front → j ≡ i + length part → slice_range (front ++ (part ++ back)) i j ≡ part
-cut front part back i j from to =
-    let len : j - i ≡ length part = omega (arith, to) in
-    ap (λ k. take (j - i) (drop k (front ++ (part ++ back)))) from
-    ∙ ap (take (j - i)) (drop-append_seam front (part ++ back))
-    ∙ ap (λ k. take k (part ++ back)) len
-    ∙ take-append_seam part back
 
 -- the lengths of a header, words, tables and what stands between them
 pub record HaveLengths (n : ℕ) (head words gap upper gap2 lower tail : List ℕ) : Type 0 where

@@ -7,6 +7,7 @@ use Rattle.bitm.specs.Bits.{bits_of}
 use Rattle.bitm.specs.Tables.{IsIndexed}
 use Rattle.bitm.proofs.BitLaws.{bits_are_counted}
 use Rattle.bitm_block.proofs.HeaderLemmas.{section_at, sections_len}
+use Rattle.bitm_block.proofs.PartsLemmas.{cut}
 use Rattle.bitm_block.specs.Header.{begin_in, count_in, entry_in, section_in}
 use Rattle.bitm_block.specs.Layout.{begin_of}
 use Rattle.bitm_block.specs.Layout.{words_of as item_words_of}
@@ -17,18 +18,13 @@ use Rattle.lent_tables.specs.Sizes.{lists_of}
 use Rattle.matrix_levels.specs.Levels.{columns}
 use Rattle.matrix_levels.specs.Matrix.{words_of, IsMatrixOf}
 use Rattle.matrix_levels.proofs.lemmas.MatrixLemmas.{is-matrix, items_of-is, made-matrix}
-use Rattle.matrix_block.specs.Block.{items_in, levels_of, lower_at, lower_of_numbers, matrix_head, matrix_in, matrix_sections, ones_at, parts_of, upper_at, upper_of_numbers, zeros_at, AreParts, CanHold, HasLengths, HoldsMatrix, IsBlockOf, MatrixParts, StandsIn}
-use Rattle.matrix_block.specs.Check.{AreCounts}
+use Rattle.lent_levels.specs.Levels.{levels_of}
+use Rattle.matrix_block.specs.Block.{items_in, lower_at, lower_of_numbers, matrix_head, matrix_in, matrix_sections, ones_at, parts_of, upper_at, upper_of_numbers, zeros_at, AreParts, CanHold, HasLengths, HoldsMatrix, IsBlockOf, MatrixParts, StandsIn}
+use Rattle.lent_levels.specs.Check.{AreCounts}
 
--- a part between two others
-cut : (block front part back : List ℕ) (i j : ℕ) → block ≡ front ++ (part ++ back) → i ≡ length front → j ≡ i + length part → slice_range block i j ≡ part
-cut block front part back i j is from to =
-    let len : j - i ≡ length part = omega (arith, to) in
-    ap (λ b. take (j - i) (drop i b)) is
-    ∙ ap (λ k. take (j - i) (drop k (front ++ (part ++ back)))) from
-    ∙ ap (take (j - i)) (drop-append_seam front (part ++ back))
-    ∙ ap (λ k. take k (part ++ back)) len
-    ∙ take-append_seam part back
+-- a part between two others, in a block that is these
+part_of_block : (block front part back : List ℕ) (i j : ℕ) → block ≡ front ++ (part ++ back) → i ≡ length front → j ≡ i + length part → slice_range block i j ≡ part
+part_of_block block front part back i j is from to = ap (λ b. slice_range b i j) is ∙ cut front part back i j from to
 
 -- the lengths of a header, of the sections of a matrix and of what stands between them
 pub record HaveLengths (n w : ℕ) (head words gap upper gap2 lower gap3 ones gap4 zeros : List ℕ) : Type 0 where
@@ -71,15 +67,15 @@ stands xs w head words gap upper gap2 lower gap3 ones gap4 zeros tail lens parts
     let len5 : length f5 ≡ zeros_at n w =
     omega (arith, length-append f4 (ones ++ gap4), length-append ones gap4, len4, lens.ones_len, lens.gap4_len) in
     let words_are : slice_range block 40 (40 + words_of n w) ≡ words =
-    cut block head words (gap ++ r2) 40 _ (ap (λ r. head ++ r) (append_assoc words gap r2)) (sym lens.head_len) (omega (arith, lens.words_len)) in
+    part_of_block block head words (gap ++ r2) 40 _ (ap (λ r. head ++ r) (append_assoc words gap r2)) (sym lens.head_len) (omega (arith, lens.words_len)) in
     let upper_are : slice_range block (upper_at n w) (upper_at n w + upper_of_numbers n w) ≡ upper =
-    cut block f2 upper (gap2 ++ r3) (upper_at n w) _ (at2 ∙ ap (λ r. f2 ++ r) (append_assoc upper gap2 r3)) (sym len2) (omega (arith, lens.upper_len)) in
+    part_of_block block f2 upper (gap2 ++ r3) (upper_at n w) _ (at2 ∙ ap (λ r. f2 ++ r) (append_assoc upper gap2 r3)) (sym len2) (omega (arith, lens.upper_len)) in
     let lower_are : slice_range block (lower_at n w) (lower_at n w + lower_of_numbers n w) ≡ lower =
-    cut block f3 lower (gap3 ++ r4) (lower_at n w) _ (at3 ∙ ap (λ r. f3 ++ r) (append_assoc lower gap3 r4)) (sym len3) (omega (arith, lens.lower_len)) in
+    part_of_block block f3 lower (gap3 ++ r4) (lower_at n w) _ (at3 ∙ ap (λ r. f3 ++ r) (append_assoc lower gap3 r4)) (sym len3) (omega (arith, lens.lower_len)) in
     let ones_are : slice_range block (ones_at n w) (ones_at n w + w) ≡ ones =
-    cut block f4 ones (gap4 ++ r5) (ones_at n w) _ (at4 ∙ ap (λ r. f4 ++ r) (append_assoc ones gap4 r5)) (sym len4) (omega (arith, lens.ones_len)) in
+    part_of_block block f4 ones (gap4 ++ r5) (ones_at n w) _ (at4 ∙ ap (λ r. f4 ++ r) (append_assoc ones gap4 r5)) (sym len4) (omega (arith, lens.ones_len)) in
     let zeros_are : slice_range block (zeros_at n w) (zeros_at n w + w) ≡ zeros =
-    cut block f5 zeros tail (zeros_at n w) _ at5 (sym len5) (omega (arith, lens.zeros_len)) in
+    part_of_block block f5 zeros tail (zeros_at n w) _ at5 (sym len5) (omega (arith, lens.zeros_len)) in
     let u = slice_range block (upper_at n w) (upper_at n w + upper_of_numbers n w) in
     let l = slice_range block (lower_at n w) (lower_at n w + lower_of_numbers n w) in
     let o = slice_range block (ones_at n w) (ones_at n w + w) in

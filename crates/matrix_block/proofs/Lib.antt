@@ -1,6 +1,1 @@
 pub mod BlockLemmas
-pub mod CheckLemmas
-pub mod DecodeLemmas
-pub mod NextLemmas
-pub mod RangeLemmas
-pub mod StepLemmas

@@ -7,6 +7,7 @@ use Rattle.bitm_block.specs.Layout.{aligned}
 use Rattle.bitm_block.specs.declared.head.Head.{Head}
 use Rattle.bitm_block.specs.declared.layout.Section.{Section}
 use Rattle.lent_tables.specs.Sizes.{lists_of}
+use Rattle.lent_levels.specs.Levels.{levels_of, AreNumbers, HasLevels}
 use Rattle.matrix_levels.specs.Matrix.{numbers_in, words_of, IsMatrix, LevelTables}
 
 -- how many entries the upper and the lower table of n numbers of w bits have
@@ -19,12 +20,6 @@ lower_of_numbers n w = div_ceil (words_of n w) 32
 -- a number can have so many bits
 abbrev pub IsWidth : ℕ → Type 0
 IsWidth w = (1 ≤ w) × (w ≤ 64)
-
--- a block can hold n numbers of w bits
-pub record AreNumbers (n w : ℕ) : Type 0 where
-  pub some : 1 ≤ w
-  pub most : w ≤ 64
-  pub short : w * n < 2 ^ 63
 
 -- the numbers of the header of a matrix of n numbers of w bits
 abbrev pub matrix_head : ℕ → ℕ → Head
@@ -52,19 +47,6 @@ zeros_at n w = ones_at n w + aligned w
 
 abbrev pub end_at : ℕ → ℕ → ℕ
 end_at n w = zeros_at n w + aligned w
-
--- the levels of n numbers of w bits in a block: no high bits are known from a table of starts, and there are no quarters
-abbrev pub levels_of : ℕ → ℕ → List ℕ → List ℕ → LevelTables
-levels_of n w ones zeros =
-    record { len = n; width = w; ones = ones; zeros = zeros; known = 0; starts = 0 ∷ []; compact = true; quarters = [] }
-
--- the levels are those of numbers that fit into a block, and their tables have an entry for each level, which may hold
--- anything
-pub record HasLevels (levels : LevelTables) : Type 0 where
-  pub plain : levels ≡ levels_of levels.len levels.width levels.ones levels.zeros
-  pub numbers : AreNumbers levels.len levels.width
-  pub ones_len : length levels.ones ≡ levels.width
-  pub zeros_len : length levels.zeros ≡ levels.width
 
 -- the tables of levels, and words with two tables
 pub record MatrixParts : Type 0 where

@@ -1,5 +1,6 @@
-pub mod Answers
 pub mod Block
-pub mod Check
 pub mod Error
-pub mod Ranges
+pub use Rattle.lent_levels.specs.Answers
+pub use Rattle.lent_levels.specs.Check
+pub use Rattle.lent_levels.specs.Levels
+pub use Rattle.lent_levels.specs.Ranges

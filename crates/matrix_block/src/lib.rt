@@ -25,37 +25,21 @@
 //! (Information Systems 47, 2015).
 #![tactic(auto)]
 
-// What is in each file:
-// - `bounds`: the numbers of a range beside a bound or between two, over any source
+// What is in each file, over the levels of `lent_levels`:
 // - `building`: the block of a matrix, written into the caller's memory
-// - `checking`: whether the tables of levels are those of the words
 // - `error`: why no block was written
-// - `levels`: the tables of levels, which may hold anything
 // - `matrix`: the view of a block, and its queries
-// - `quantiles`: the numbers of a range in order, over any source
-// - `queries`: a number by its index, and ranks, over any source
 // - `range_queries`: the queries of ranges of a view
-// - `ranges`: queries of ranges over any source
 // - `sections`: the sections of the block of a matrix
-// - `selecting`: the indices of a number, over any source
-// - `stepping`: the step from one level to the next
-mod bounds;
 mod building;
-mod checking;
 mod error;
-mod levels;
 mod matrix;
-mod quantiles;
-mod queries;
 mod range_queries;
-mod ranges;
 mod sections;
-mod selecting;
-mod stepping;
 
 pub use bitm::Answer;
 pub use building::build;
 pub use error::BuildError;
-pub use levels::LevelsView;
+pub use lent_levels::LevelsView;
 pub use matrix::MatrixView;
 pub use sections::{MATRIX, size};

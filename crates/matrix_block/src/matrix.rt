@@ -2,18 +2,17 @@
 ghost use Rattle.std.specs.Prelude.{◌≡◌, ◌*◌, ◌≤◌, ◌↔◌, IsTrue, SomeIff, length};
 ghost use Rattle.bitm.specs.Reads.{none_read};
 ghost use Rattle.bitm.specs.Tables.{bits_in};
-ghost use Rattle.matrix_block.specs.Answers.{IsIndexOf, IsIndexWithin, IsNumberOf, IsNumberWithin};
-ghost use Rattle.matrix_block.specs.Answers.{IsRankOf, IsRankWithin};
+ghost use Rattle.lent_levels.specs.Answers.{IsIndexOf, IsIndexWithin, IsNumberOf, IsNumberWithin};
+ghost use Rattle.lent_levels.specs.Answers.{IsRankOf, IsRankWithin};
 ghost use Rattle.matrix_block.specs.Block.{items_in, matrix_in, parts_of};
 ghost use Rattle.matrix_block.specs.Block.{HasLengths, HasMatrixSections, HoldsMatrix, IsMatrixBlock};
 ghost use Rattle.matrix_block.specs.Block.{IsSoundBlock};
 
-use crate::checking::are_counts;
-use crate::levels::LevelsView;
 use crate::sections::{Lens, MATRIX};
 use bitm::Answer;
 use bitm_block::Block;
 use block_tables::{BlockProbe, are_tables};
+use lent_levels::{LevelsView, are_counts};
 use std::marker::Model;
 
 /// Whether header and directory are those of a matrix.

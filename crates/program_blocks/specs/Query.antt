@@ -3,7 +3,7 @@ use Rattle.std.specs.Prelude.{◌≡◌, ⊤, ℕ, List, [], ◌∷◌, ◌++◌
 use Rattle.std.specs.List.{list_all}
 use Rattle.std.specs.Io.KnownBytes.{Appends}
 use Rattle.bitm_block.specs.Header.{IsVerified}
-use Rattle.matrix_block.specs.Answers.{IsIndexOf, IsNumberOf, IsRankOf}
+use Rattle.lent_levels.specs.Answers.{IsIndexOf, IsNumberOf, IsRankOf}
 use Rattle.matrix_block.specs.Block.{items_in, matrix_in, HoldsMatrix, IsMatrixBlock}
 use Rattle.program_text.specs.Text.{lines_of}
 use Rattle.program_blocks.specs.Bytes.{words_of_bytes}

@@ -2,7 +2,7 @@
 use Rattle.std.proofs.Common.{subst, sym, rules}
 use Rattle.bitm.specs.Tables.{HasTables, IsIndexed}
 use Rattle.matrix_block.specs.Block.{MatrixParts}
-use Rattle.matrix_block.proofs.CheckLemmas.{tells}
+use Rattle.lent_levels.proofs.CheckLemmas.{tells}
 use Rattle.matrix_block.proofs.matrix.MatrixView.check.Goals as goal
 
 pub returns-then-not-are_tables : goal.returns-then-not-are_tables

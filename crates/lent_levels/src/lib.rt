@@ -1,0 +1,32 @@
+//! The levels of a wavelet matrix over any source of words and tables, where the tables of levels may hold anything:
+//! nothing is allocated or copied, and no call has a condition on what the memory holds.
+//!
+//! With the levels of a matrix the answers are those of its numbers. If they are stale or hostile, every call still
+//! terminates within its read bound, a number has no more bits than the width, a count is at most the index that was
+//! given, and an index is that of a number. `matrix_block` finds the parts of a matrix in a block.
+//!
+//! # Source
+//! Claude, Navarro and Ordóñez, 'The wavelet matrix: An efficient wavelet tree for large alphabets'
+//! (Information Systems 47, 2015).
+#![tactic(auto)]
+
+// What is in each file:
+// - `bounds`: the numbers of a range beside a bound or between two
+// - `checking`: whether the tables of levels are those of the words
+// - `levels`: the tables of levels, which may hold anything
+// - `quantiles`: the numbers of a range in order
+// - `queries`: a number by its index, and ranks
+// - `ranges`: queries of ranges
+// - `selecting`: the indices of a number
+// - `stepping`: the step from one level to the next
+mod bounds;
+mod checking;
+mod levels;
+mod quantiles;
+mod queries;
+mod ranges;
+mod selecting;
+mod stepping;
+
+pub use checking::{are_counts, counts_of};
+pub use levels::{LevelsView, are_numbers};

@@ -1,0 +1,194 @@
+//! The indices of a number, over any source: words and tables may hold anything.
+ghost use Rattle.std.specs.Prelude.{◌≡◌, ◌+◌, ◌*◌, ◌^◌, ◌<◌, ◌≤◌, ℕ, List, Bool, IfSome, IsSomeAnd, length};
+ghost use Rattle.bitm.specs.Answers.{place_in};
+ghost use Rattle.bitm.specs.Count.{count_of, Picks};
+ghost use Rattle.bitm.specs.Reads.{OnlyReads};
+ghost use Rattle.bitm.specs.Tables.{HasSizes, HasTables, bits_in};
+ghost use Rattle.bitm_selection.specs.Selection.{by_halves, OnlySelectsBy};
+ghost use Rattle.matrix_levels.specs.Levels.{level};
+ghost use Rattle.matrix_levels.specs.Matrix.{IsBitOf, IsMatrix, IsMatrixOf, level_in, numbers_in};
+ghost use Rattle.matrix_levels.specs.Numbers.{PicksItem};
+ghost use Rattle.lent_levels.specs.Answers.{IsIndexAmong, IsIndexOf, IsIndexWithin};
+
+use crate::levels::LevelsView;
+use crate::stepping::difference;
+use bitm::{Answer, TableSource, total_select_on};
+use matrix_levels::{digit_of, fits};
+
+/// The position that was found, if one was.
+#[inline(always)]
+fn found(answer: Answer<usize>) -> Option<usize>
+    ensures { result ≡ place_in answer }
+{
+    match answer {
+        Answer::Found(place) => Some(place),
+        Answer::Absent => None,
+        Answer::Wrong => None,
+    }
+}
+
+/// The position of the bit of this kind and rank among the words of a source; `None` only where there is none, or the
+/// tables are not those of the words.
+#[inline(always)]
+fn selected_on<T: TableSource>(source: &mut T, digit: bool, rank: usize) -> Option<usize>
+    requires { HasSizes (T.lists source.old) }
+    ensures answer { HasTables (T.lists source.old)
+        → rank < count_of (bits_in (T.lists source.old)) digit
+        → IsSomeAnd result (Picks (bits_in (T.lists source.old)) digit rank) }
+    ensures reads { OnlySelectsBy T.lists T.reads source.old source.new
+        (by_halves (T.lists source.old)) 1 0 }
+{
+    if digit {
+        found(total_select_on::<1, T>(source, rank))
+    } else {
+        found(total_select_on::<0, T>(source, rank))
+    }
+}
+
+impl<'a> LevelsView<'a> {
+    /// Which bit of the source is that of the number that stands at an index of the level after this one, where the
+    /// tables are those of a matrix: its kind and its rank.
+    #[inline(always)]
+    fn bit_before(&self, depth: u8, number: u64, place: usize) -> (bool, usize)
+        requires { depth < self.now.width }
+        ensures { (xs : List ℕ) → (b : List Bool) → (k : ℕ) → IsMatrixOf xs self.now b
+            → PicksItem (level xs self.now.width (depth + 1)) number k place
+            → IsBitOf xs self.now b depth number k result.0 result.1 }
+    {
+        let ones = self.ones_before_level(depth);
+        if digit_of(number, self.width() - 1 - depth) {
+            let among = place.saturating_sub(self.zeros_of_level(depth));
+            (true, ones.saturating_add(among))
+        } else {
+            let zeros = (depth as usize * self.len()).saturating_sub(ones);
+            (false, zeros.saturating_add(place))
+        }
+    }
+
+    /// From where a number came to an index of the next level; `None` only where words and tables are not those of a
+    /// matrix, or the number does not stand there.
+    #[inline(always)]
+    fn total_back_on<T: TableSource>(
+        &self,
+        source: &mut T,
+        depth: u8,
+        number: u64,
+        place: usize,
+    ) -> Option<usize>
+        requires sized { HasSizes (T.lists source.old) }
+        requires depth { depth < self.now.width }
+        requires inside { place < self.now.len }
+        ensures inside { IfSome result (λ back. back < self.now.len) }
+        ensures answer { (k : ℕ) → IsMatrix self.now (T.lists source.old)
+            → PicksItem (level_in self.now (T.lists source.old) (depth + 1)) number k place
+            → IsSomeAnd result (PicksItem (level_in self.now (T.lists source.old) depth) number k) }
+        ensures reads { OnlySelectsBy T.lists T.reads source.old source.new
+            (by_halves (T.lists source.old)) 1 0 }
+    {
+        let len = self.len();
+        let (digit, rank) = self.bit_before(depth, number, place);
+        match selected_on(source, digit, rank) {
+            Some(bit) => difference(depth as usize * len, bit, len - 1),
+            None => None,
+        }
+    }
+
+    /// From where a number came to an index after the last level; `None` only where words and tables are not those of a
+    /// matrix, or the number does not stand there.
+    #[inline(always)]
+    fn total_first_place_on<T: TableSource>(
+        &self,
+        source: &mut T,
+        number: u64,
+        place: usize,
+    ) -> Option<usize>
+        requires sized { HasSizes (T.lists source.old) }
+        requires inside { place < self.now.len }
+        ensures inside { IfSome result (λ first. first < self.now.len) }
+        ensures answer { (k : ℕ) → IsMatrix self.now (T.lists source.old)
+            → PicksItem (level_in self.now (T.lists source.old) self.now.width) number k place
+            → IsSomeAnd result (PicksItem (numbers_in self.now (T.lists source.old)) number k) }
+        ensures reads { OnlySelectsBy T.lists T.reads source.old source.new
+            (by_halves (T.lists source.old)) self.now.width 0 }
+    {
+        let width = self.width();
+        let mut at = place;
+        for up in 0..width {
+            let Some(back) = self.total_back_on(source, width - 1 - up, number, at) else {
+                return None;
+            };
+            at = back;
+        }
+        Some(at)
+    }
+
+    /// The index after the last level of this number with exactly `k` such numbers before it.
+    #[inline(always)]
+    fn total_last_place_on<T: TableSource>(
+        &self,
+        source: &mut T,
+        number: u64,
+        k: usize,
+    ) -> Answer<usize>
+        requires sized { HasSizes (T.lists source.old) }
+        requires room { self.now.width * self.now.len ≤ length (bits_in (T.lists source.old)) }
+        requires fit { number < 2 ^ self.now.width }
+        ensures inside { IsIndexWithin self.now.len result }
+        ensures answer { IsMatrix self.now (T.lists source.old)
+            → IsIndexAmong (numbers_in self.now (T.lists source.old))
+            (level_in self.now (T.lists source.old) self.now.width) number k result }
+        ensures reads { OnlyReads T.lists T.reads source.old source.new
+            (2 * self.now.width) (2 * self.now.width) (16 * self.now.width) }
+    {
+        let len = self.len();
+        let Some((first, last)) = self.total_places_on(source, number, 0, len) else {
+            return Answer::Wrong;
+        };
+        let count = last.saturating_sub(first);
+        if count <= k {
+            return Answer::Absent;
+        }
+        Answer::Found(first + k)
+    }
+
+    /// The index of this number with exactly `k` such numbers before it.
+    ///
+    /// Whatever words and tables hold, it is that of a number. Where they are those of a matrix, it is the right one,
+    /// and the answer is `Absent` exactly where there are no more than `k` such numbers, and never `Wrong`.
+    ///
+    /// # Conditions
+    /// Those of `total_get_on`.
+    /// # Cost
+    /// For each level what two ranks read, and what a selection by binary search reads, whatever they hold.
+    ///
+    /// ```
+    /// levels.total_select_on(&mut source, 1, 2);   // Found(5), Absent or Wrong
+    /// ```
+    pub fn total_select_on<T: TableSource>(
+        &self,
+        source: &mut T,
+        number: u64,
+        k: usize,
+    ) -> Answer<usize>
+        requires sized { HasSizes (T.lists source.old) }
+        requires room { self.now.width * self.now.len ≤ length (bits_in (T.lists source.old)) }
+        ensures inside { IsIndexWithin self.now.len result }
+        ensures answer { IsMatrix self.now (T.lists source.old)
+            → IsIndexOf (numbers_in self.now (T.lists source.old)) number k result }
+        ensures reads { let each = by_halves (T.lists source.old) in let w = self.now.width in
+            OnlyReads T.lists T.reads source.old source.new
+            (2 * w + w * each.upper) (2 * w + w * each.lower) (16 * w + (w * each.words + 0)) }
+    {
+        if !fits(number, self.width()) {
+            return Answer::Absent;
+        }
+        let place = match self.total_last_place_on(source, number, k) {
+            Answer::Found(place) => place,
+            other => return other,
+        };
+        match self.total_first_place_on(source, number, place) {
+            Some(first) => Answer::Found(first),
+            None => Answer::Wrong,
+        }
+    }
+}
