@@ -3,7 +3,7 @@ use Rattle.std.proofs.Common.{◌≡◌, ℕ, ◌+◌, ◌-◌, ◌^◌, ◌<◌
 use Rattle.std.proofs.Math.Seq.{take-append_seam, drop-append_seam}
 use Rattle.std.specs.List.{slice_range}
 use Rattle.bitm_block.proofs.HeaderLemmas.{section_at, sections_len}
-use Rattle.bitm_block.proofs.PartsLemmas.{cut}
+use Rattle.bitm_block.proofs.PartsLemmas.{count_is, cut, entry_is, section_is}
 use Rattle.bitm_block.specs.Header.{begin_in, count_in, entry_in, section_in}
 use Rattle.bitm_block.specs.Layout.{begin_of}
 use Rattle.bitm_block.specs.Layout.{words_of as item_words_of}
@@ -52,29 +52,8 @@ stands d head words gap upper gap2 lower tail lens tree =
     (subst (λ (u : List ℕ). IsTreeOf d words u (slice_range block (lower_at n) (lower_at n + lower_of_nodes n))) (sym upper_are)
     (subst (IsTreeOf d words upper) (sym lower_are) tree))
 
--- the sections of a sealed tree are the words that stood in their places
+-- the numbers of the header of a sealed tree
 module _ (n : ℕ) (old new : List ℕ) (sealed : IsSealed (tree_head n) (tree_sections n) old new) where
-  none : Section
-  none = record { role = 0; count = 0 }
-
-  pub count_is : count_in new ≡ 3
-  count_is = sym (sections_len new) ∙ ap length sealed.sections_are
-
-  pub entry_is : (i : ℕ) → i < 3 → entry_in new i ≡ get_or (tree_sections n) i (record { role = 0; count = 0 })
-  entry_is i less =
-      sym (section_at new i (record { role = 0; count = 0 }) (omega (arith, less, count_is)))
-      ∙ ap (λ (l : List Section). get_or l i (record { role = 0; count = 0 })) sealed.sections_are
-
-  begin_is : (i : ℕ) → begin_in new i ≡ begin_of (tree_sections n) i
-  begin_is i = ap (λ (l : List Section). begin_of l i) sealed.sections_are
-
-  pub section_is : (i : ℕ) → i < 3
-      → section_in new i ≡ slice_range old (begin_of (tree_sections n) i) (begin_of (tree_sections n) i + item_words_of (get_or (tree_sections n) i (record { role = 0; count = 0 })))
-  section_is i less =
-      sealed.kept i less
-      ∙ ap (λ p. slice_range old p (p + item_words_of (entry_in new i))) (begin_is i)
-      ∙ ap (λ (s : Section). slice_range old (begin_of (tree_sections n) i) (begin_of (tree_sections n) i + item_words_of s)) (entry_is i less)
-
   nodes_are : slice_index new 3 ≡ n
   nodes_are = ap (λ (h : Head). h.len) sealed.head_is
 
@@ -89,13 +68,13 @@ block_is d old new short sealed tree =
     let words = slice_range old 32 (32 + words_of n) in
     let upper = slice_range old (upper_at n) (upper_at n + upper_of_nodes n) in
     let lower = slice_range old (lower_at n) (lower_at n + lower_of_nodes n) in
-    let w : section_in new 0 ≡ words = section_is n old new sealed 0 (omega arith) in
+    let w : section_in new 0 ≡ words = section_is (tree_head n) (tree_sections n) old new sealed 0 (omega arith) in
     let second : begin_of (tree_sections n) 1 ≡ upper_at n = omega arith in
     let third : begin_of (tree_sections n) 2 ≡ lower_at n = omega arith in
     let u : section_in new 1 ≡ upper =
-    section_is n old new sealed 1 (omega arith) ∙ ap (λ p. slice_range old p (p + upper_of_nodes n)) second in
+    section_is (tree_head n) (tree_sections n) old new sealed 1 (omega arith) ∙ ap (λ p. slice_range old p (p + upper_of_nodes n)) second in
     let l : section_in new 2 ≡ lower =
-    section_is n old new sealed 2 (omega arith) ∙ ap (λ p. slice_range old p (p + lower_of_nodes n)) third in
+    section_is (tree_head n) (tree_sections n) old new sealed 2 (omega arith) ∙ ap (λ p. slice_range old p (p + lower_of_nodes n)) third in
     let parts : tree_in new ≡ parts_of n words upper lower =
     ap (λ m. parts_of m (section_in new 0) (section_in new 1) (section_in new 2)) (nodes_are n old new sealed)
     ∙ ap (λ x. parts_of n x (section_in new 1) (section_in new 2)) w
@@ -107,10 +86,10 @@ block_is d old new short sealed tree =
           is_block = sealed.is_block;
           sections = record {
             kind = kind_is n old new sealed;
-            three = omega (arith, count_is n old new sealed);
-            words = ap (λ (s : Section). s.role) (entry_is n old new sealed 0 (omega arith));
-            upper = ap (λ (s : Section). s.role) (entry_is n old new sealed 1 (omega arith));
-            lower = ap (λ (s : Section). s.role) (entry_is n old new sealed 2 (omega arith));
+            three = omega (arith, count_is (tree_head n) (tree_sections n) old new sealed);
+            words = ap (λ (s : Section). s.role) (entry_is (tree_head n) (tree_sections n) old new sealed 0 (omega arith));
+            upper = ap (λ (s : Section). s.role) (entry_is (tree_head n) (tree_sections n) old new sealed 1 (omega arith));
+            lower = ap (λ (s : Section). s.role) (entry_is (tree_head n) (tree_sections n) old new sealed 2 (omega arith));
           };
           lengths = record {
             short = omega (arith, short, nodes_are n old new sealed);

@@ -8,9 +8,9 @@ ghost use Rattle.louds_block.specs.Block.{lower_of_nodes, tree_head, tree_sectio
 ghost use Rattle.louds_block.specs.Block.{CanHold, IsBlockOf, IsTreeOf, StandsIn};
 
 use crate::error::BuildError;
-use crate::sections::{Lens, aligned, size, tree_head, tree_sections};
+use crate::sections::{Lens, size, tree_head, tree_sections};
 use crate::writing::write_degrees;
-use bitm_block::seal;
+use bitm_block::{aligned, seal};
 use block_tables::fill_tables;
 use lent_tables::clear;
 use louds::is_tree;

@@ -1,10 +1,10 @@
 //! The sections of the block of a tree.
-ghost use Rattle.std.specs.Prelude.{◌≡◌, ◌+◌, ◌*◌, ◌/◌, ◌^◌, ◌<◌};
+ghost use Rattle.std.specs.Prelude.{◌≡◌, ◌^◌, ◌<◌};
 ghost use Rattle.louds.specs.Held.{words_of};
 ghost use Rattle.bitm_block.specs.Layout.{end_of};
 ghost use Rattle.louds_block.specs.Block.{end_at, lower_of_nodes, tree_head, tree_sections, upper_of_nodes};
 
-use bitm_block::{Head, Section};
+use bitm_block::{Head, Section, aligned};
 use lent_tables::{lower_len, upper_len};
 
 /// The kind of a tree.
@@ -35,15 +35,6 @@ impl Lens {
             lower: lower_len(words),
         }
     }
-}
-
-/// The first multiple of 8 from a number on.
-#[inline(always)]
-pub(crate) fn aligned(at: usize) -> usize
-    requires { at < 2 ^ 60 }
-    ensures { result ≡ (at + 7) / 8 * 8 }
-{
-    (at + 7) / 8 * 8
 }
 
 /// The numbers of the header of a tree of the given number of nodes.

@@ -7,7 +7,7 @@ use Rattle.bitm.specs.Bits.{bits_of}
 use Rattle.bitm.specs.Tables.{IsIndexed}
 use Rattle.bitm.proofs.BitLaws.{bits_are_counted}
 use Rattle.bitm_block.proofs.HeaderLemmas.{section_at, sections_len}
-use Rattle.bitm_block.proofs.PartsLemmas.{cut}
+use Rattle.bitm_block.proofs.PartsLemmas.{count_is, cut, entry_is, section_is}
 use Rattle.bitm_block.specs.Header.{begin_in, count_in, entry_in, section_in}
 use Rattle.bitm_block.specs.Layout.{begin_of}
 use Rattle.bitm_block.specs.Layout.{words_of as item_words_of}
@@ -109,28 +109,6 @@ parts-are xs w k words upper lower ones zeros can words_len upper_len lower_len 
       matrix = is-matrix xs l (lists_of words upper lower) words indexed refl made;
       items = items_of-is xs w (length xs) b refl room levels can.fit;
     }
-
--- the sections of a sealed block are the words that stood in their places
-module _ (head : Head) (sections : List Section) (old new : List ℕ) (sealed : IsSealed head sections old new) where
-  abbrev blank : Section
-  blank = record { role = 0; count = 0 }
-
-  count_is : count_in new ≡ length sections
-  count_is = sym (sections_len new) ∙ ap length sealed.sections_are
-
-  entry_is : (i : ℕ) → i < length sections → entry_in new i ≡ get_or sections i blank
-  entry_is i less =
-      sym (section_at new i blank (omega (arith, less, count_is))) ∙ ap (λ (l : List Section). get_or l i blank) sealed.sections_are
-
-  begin_is : (i : ℕ) → begin_in new i ≡ begin_of sections i
-  begin_is i = ap (λ (l : List Section). begin_of l i) sealed.sections_are
-
-  section_is : (i : ℕ) → i < length sections
-      → section_in new i ≡ slice_range old (begin_of sections i) (begin_of sections i + item_words_of (get_or sections i blank))
-  section_is i less =
-      sealed.kept i less
-      ∙ ap (λ p. slice_range old p (p + item_words_of (entry_in new i))) (begin_is i)
-      ∙ ap (λ (s : Section). slice_range old (begin_of sections i) (begin_of sections i + item_words_of s)) (entry_is i less)
 
 -- a sealed block whose sections hold a matrix is its block
 pub block_is : (xs : List ℕ) (w : ℕ) (old new : List ℕ) → CanHold xs w → IsSealed (matrix_head (length xs) w) (matrix_sections (length xs) w) old new
