@@ -1,5 +1,5 @@
 -- The distinct numbers of a list, and how often each is in it.
-use Rattle.std.specs.Prelude.{◌≡◌, ℕ, ◌+◌, ◌<◌, ◌≤◌, ◌==◌, ◌&&◌, nat_lt, nat_le, Bool, List, map, filter, count_by, All, Contains}
+use Rattle.std.specs.Prelude.{◌≡◌, ℕ, ◌+◌, ◌<◌, ◌≤◌, ◌&&◌, nat_lt, nat_le, Bool, List, map, filter, All, Contains}
 use Rattle.std.specs.List.{AllPairs, range_with_len}
 use Rattle.matrix_levels.specs.Numbers.{count_equal, count_less}
 

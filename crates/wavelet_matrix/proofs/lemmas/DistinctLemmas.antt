@@ -1,16 +1,16 @@
 -- The distinct numbers of a list: the next one, and what all of them are.
-use Rattle.std.proofs.Common.{◌≡◌, ℕ, zero, suc, ◌+◌, ◌<◌, ◌≤◌, nat_lt, nat_le, ◌==◌, ◌&&◌, Bool, true, false, cond, List, [], ◌∷◌, length, map, take, get_or, count_by, All, Contains, filter, refl, sym, ap, ◌∙◌, arith, ⊎_elim, zero-add}
+use Rattle.std.proofs.Common.{◌≡◌, ℕ, zero, suc, ◌+◌, ◌<◌, ◌≤◌, nat_lt, nat_le, ◌==◌, ◌&&◌, Bool, true, false, cond, List, [], ◌∷◌, length, map, get_or, All, Contains, filter, refl, sym, ap, ◌∙◌, arith, ⊎_elim, zero-add}
 use Rattle.std.proofs.lemmas.Bool.{lt-ltb, le-ltb, le-leb, lt-leb, ltb-true, eq-eqb, cases_lt, and_from, and_left, and_parts, and_right}
 use Rattle.std.proofs.lemmas.List.{length-map, get_or-map}
 use Rattle.std.proofs.lemmas.List.Elements.{All-map, All-weaker, All-contains, Contains-get_or, filter_passes}
 use Rattle.std.proofs.lemmas.List.FromFn.{length-range_with_len, get_or-range_with_len}
 use Rattle.std.proofs.lemmas.List.Kept.{AllPairs-from_increasing, IsStrictlyIncreasing-filter}
-use Rattle.std.proofs.lemmas.List.Sums.{length-filter, count_by-le-length, get_or-le-sum_by}
+use Rattle.std.proofs.lemmas.List.Sums.{count_by-le-length, get_or-le-sum_by}
 use Rattle.std.specs.List.{AllPairs, range_with_len}
 use Rattle.std.specs.List.Sorted.{IsStrictlyIncreasing}
 use Rattle.wavelet_matrix.specs.Distinct.{AreDistinct, StandsBetween, coming_tallies, is_coming, tally}
 use Rattle.matrix_levels.specs.Numbers.{count_equal, count_less, IsSmallest}
-use Rattle.matrix_levels.proofs.lemmas.FilterLemmas.{contains-filter, filter-at, count-at}
+use Rattle.matrix_levels.proofs.lemmas.FilterLemmas.{contains-filter}
 use Rattle.matrix_levels.proofs.lemmas.OrderLemmas.{at_most-is, count_less-grows}
 use Rattle.matrix_levels.proofs.lemmas.RangeLemmas.{at-most, contained}
 
