@@ -1,4 +1,4 @@
-# `make` alone prints the targets. The version stands in VERSION; scripts/headers compares it with all the other places.
+# `make` alone prints the targets. The version stands in VERSION; scripts/version compares it with all the other places.
 SHELL = /bin/bash
 .SHELLFLAGS = -eu -o pipefail -c
 PREFIX = /usr/local
@@ -105,7 +105,7 @@ lint: ## what linters say of each language whose tool is here, and of the layout
 	try "Python" flake8 flake8 --max-line-length 160 --extend-ignore=E203,E402,E501 \
 	    --per-file-ignores=docs/site/rattle.py:E302,E305,E401 $(IN_PYTHON); \
 	try "shell" shellcheck shellcheck --severity=error $(IN_BASH); \
-	try "versions" python3 scripts/headers; \
+	try "versions" python3 scripts/version; \
 	if command -v clang-format > /dev/null; then \
 	    echo "lint: C and C++ (layout): make format would change $$(for it in $(IN_C); do clang-format "$$it" | cmp -s - "$$it" || echo "$$it"; done | wc -l) files"; fi; \
 	echo "lint: the layout of Rattle is looked at by rt ci, which refuses files that rt fmt would change"; \

@@ -1,4 +1,4 @@
-/* The declarations of version 0.3.0, which stay within its series. Made by `scripts/headers --release`. */
+/* The declarations of version 0.3.0, which stay within its series. */
 #include <stdbool.h>
 #include <stddef.h>
 #include <stdint.h>

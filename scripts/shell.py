@@ -3,6 +3,7 @@ the tests of a folder, with these words for pytest."""
 import concurrent.futures
 import os
 import pathlib
+import re
 import shutil
 import subprocess
 import sys
@@ -36,6 +37,14 @@ def python_with_pytest():
     return next((it for it in there if not subprocess.run([it, "-c", "import pytest"], capture_output=True, check=False).returncode), None)
 
 
+def grouped(names):
+    """The names of tests, with one name and a number for those that differ in their parameters."""
+    groups = {}
+    for name in names:
+        groups.setdefault(re.sub(r"\[.*\]", "", name), []).append(name)
+    return ", ".join(them[0] if len(them) == 1 else f"{name} x {len(them)}" for name, them in groups.items()) or "none"
+
+
 def run_tests(folder, *words, before=()):
     """Runs each file of tests by a pytest of its own, side by side, after the words `before`, and shows what fails. Names
     the tests that were run and those that were skipped, and counts them."""
@@ -63,7 +72,7 @@ def run_tests(folder, *words, before=()):
                 else:
                     run.append(name)
                     counts[it.find("failure") is not None or it.find("error") is not None] += 1
-    print(f"run: {', '.join(run) or 'none'}; not run: {', '.join(skipped) or 'none'}")
+    print(f"run: {grouped(run)}; not run: {grouped(skipped)}")
     counts[1] += not run
     return conclude()
 

@@ -9,6 +9,7 @@ from shell import bash
 ARCHIVE = TOP / "crates/bitm_c/out/libbitm_c.a"
 LARGE = os.environ.get("LARGE", "0") != "0"
 large = pytest.mark.skipif(not LARGE, reason="with LARGE=1")
+PYTHON = "/usr/bin/python3"
 SEEDS = int(os.environ.get("SEEDS", "0"))
 WARNINGS = "-Wall -Wextra -Wconversion -pedantic -Werror"
 SANITIZED = "-g -O1 -fsanitize=address,undefined -fno-sanitize-recover=all"

@@ -5,6 +5,20 @@ import os
 import pathlib
 import sys
 
+import pytest
+
 TOP = pathlib.Path(__file__).resolve().parents[2]
 sys.path.insert(0, str(TOP / "scripts"))
 os.environ |= {"BITM_LIB": str(TOP / "crates/bitm_c/out"), "BITM_INCLUDE": str(TOP / "include")}
+
+
+@pytest.fixture(scope="session")
+def site(tmp_path_factory):
+    """The Python package as its wheel lays it, found by the programs that get these variables."""
+    from common import PYTHON
+    from shell import bash, needs
+    needs(f"{PYTHON}:setuptools", f"{PYTHON}:wheel")
+    room = tmp_path_factory.mktemp("python")
+    bash(f"bindings/python/wheel {room}/wheel")
+    bash(f"{PYTHON} -m pip install --quiet --disable-pip-version-check --no-index --no-deps --target {room}/site {room}/wheel/bitm-*.whl")
+    return {"PYTHONPATH": f"{room}/site", "MYPYPATH": f"{room}/site", "PYTHONDONTWRITEBYTECODE": "1"}

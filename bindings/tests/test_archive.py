@@ -1,4 +1,4 @@
-"""The archive, the libraries of Rattle below it, and the code of the documents."""
+"""The archive, and the libraries of Rattle below it."""
 import re
 import shutil
 
@@ -33,8 +33,3 @@ def test_rattle_in_another_repository(tmp_path):
         bash(f"source scripts/below && FOLDER={tmp_path}/crates/example_primes rattle_over example_primes check src/main.rt")
     printed = bash("rt try -- data/primes_below_1000.txt", tmp_path / "crates/example_primes")
     assert printed == read("crates/example_primes/stdout") == read("examples/primes.txt")
-
-
-def test_code_of_the_documents():
-    needs("gcc")
-    bash("scripts/blocks" + (" --rattle" if shutil.which("rt") else ""))

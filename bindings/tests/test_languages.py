@@ -4,10 +4,9 @@ import os
 
 import pytest
 from checks import TOP, read
-from common import LARGE, compiled, large
+from common import LARGE, PYTHON, compiled, large
 from shell import bash, needs
 
-PYTHON = "/usr/bin/python3"
 RUST = TOP / "bindings/rust"
 CARGO = "cargo {} --quiet --release --offline --locked"
 
@@ -56,15 +55,6 @@ def test_rust_without_std_and_as_the_original_at_the_end(room):
 def test_clippy(room):
     needs("cargo-clippy")
     bash("cargo clippy --quiet --offline --locked --all-targets --features mmap -- -D warnings", RUST)
-
-
-@pytest.fixture(scope="module")
-def site(room):
-    """The Python package as its wheel lays it, found by this and the programs after it."""
-    needs(f"{PYTHON}:pytest", f"{PYTHON}:hypothesis", f"{PYTHON}:setuptools")
-    bash(f"bindings/python/wheel {room}/wheel")
-    bash(f"{PYTHON} -m pip install --quiet --disable-pip-version-check --no-index --no-deps --target {room}/site {room}/wheel/bitm-*.whl")
-    return {"PYTHONPATH": f"{room}/site", "MYPYPATH": f"{room}/site", "PYTHONDONTWRITEBYTECODE": "1"}
 
 
 def test_python(site, of):

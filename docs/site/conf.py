@@ -71,7 +71,7 @@ class Rattle(RegexLexer):
 
 
 class Output(TextLexer):
-    """What a guide's programs print: scripts/blocks compares it."""
+    """What a guide's programs print: test_blocks compares it."""
 
     name, aliases = "Output", ["output"]
 

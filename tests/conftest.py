@@ -1,0 +1,6 @@
+"""Tests of the programs in Rattle, proved and built: each request for memory refused, each read and each write failing, odd
+arguments, answers that are replayed. `pytest tests -k NAME` runs some; with LARGE=1 they take 2 GB and longer."""
+import pathlib
+import sys
+
+sys.path.insert(0, str(pathlib.Path(__file__).resolve().parents[1] / "scripts"))
