@@ -1,4 +1,5 @@
-"""What the scripts in Python share: the files of the repository, its crates, and the count of what passed and failed."""
+"""What the scripts in Python share: the files of the repository, its crates, and the count of what passed and failed.
+`checks.py CRATE..` prints the libraries below crates, for scripts in bash."""
 import pathlib
 import re
 import subprocess
@@ -53,3 +54,7 @@ def below(name):
     for one in (it for it in listed[name] if it in listed):
         found += [it for it in [*below(one), one] if it not in found]
     return found
+
+
+if __name__ == "__main__":
+    print("".join(f"{it}\n" for it in dict.fromkeys(it for name in sys.argv[1:] for it in below(name))), end="")
