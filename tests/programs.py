@@ -1,5 +1,6 @@
 """Runs a program with memory.c loaded before it, which counts, and refuses what it is told to."""
 import collections
+import fcntl
 import functools
 import os
 import pathlib
@@ -24,12 +25,15 @@ def room():
 
 @functools.lru_cache(None)
 def built(name):
-    """The file of a program, which is built anew (and proved) only where it is older than a source of any crate."""
+    """The file of a program, which is built anew (and proved) only where it is older than a source of any crate; one program
+    at a time."""
     program = TOP / f"crates/{name}/out/{name}"
     sources = [TOP / "crates.txt", *TOP.glob("crates/*/src/**/*.rt")]
-    if not program.is_file() or program.stat().st_mtime < max(it.stat().st_mtime for it in sources):
-        program.unlink(missing_ok=True)
-        bash("rt run < /dev/null 2>&1 || test -x out/$CRATE", program.parents[1], CRATE=name)
+    with open(TOP / "crates.txt", encoding="utf-8") as lock:
+        fcntl.flock(lock, fcntl.LOCK_EX)
+        if not program.is_file() or program.stat().st_mtime < max(it.stat().st_mtime for it in sources):
+            program.unlink(missing_ok=True)
+            bash(f"rt run < /dev/null 2>&1 || test -x out/{name}", program.parents[1])
     return program
 
 

@@ -61,7 +61,7 @@ def test_all_memory_is_given_back(name, n):
 def test_outcome(name, n):
     found, earlier = outcomes(name, [n])[0], outcomes(name, range(BEFORE + 1, n))
     if n <= BEFORE:
-        assert found in ([0] if n == BEFORE else [0, "told"])  # the last of these is for the buffer
+        assert found in (0, "told")
     elif found == "told":
         assert set(earlier) <= {"told"}
     else:
@@ -74,7 +74,12 @@ def test_each_line_is_refused_once(name, line):
 
 
 @pytest.mark.parametrize("name", LISTS)
-def test_each_request_before_the_lines_is_refused_once(name):
-    """Those for arguments, the buffer, and the bytes of the file."""
-    assert {0, "told"} <= set(outcomes(name, range(1, BEFORE + 1)))
-    assert "told" in outcomes(name, range(BEFORE + 1, AMPLE[name].requests + 1))
+def test_room_for_a_buffer_can_be_done_without(name):
+    assert outcomes(name, [BEFORE]) == [0]
+
+
+@pytest.mark.parametrize("name", LISTS)
+@pytest.mark.parametrize("found, is_before", [(0, True), ("told", True), ("told", False)])
+def test_each_request_beside_the_lines_is_refused_once(name, found, is_before):
+    """Those that can be done without, those for arguments, and those for the bytes of the file."""
+    assert found in outcomes(name, range(1, BEFORE + 1) if is_before else range(BEFORE + 1, AMPLE[name].requests + 1))
