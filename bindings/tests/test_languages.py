@@ -89,6 +89,15 @@ def test_dask(example, site, tmp_path):
     bash(f"{PYTHON} examples/dask/{example}.py {tmp_path}/{example}", **site)
 
 
+@large
+@pytest.mark.parametrize("text", ["README.md", "''"])
+def test_demonstration(text, site, tmp_path):
+    """Over this repository's documents; it compares its answers with the plain way."""
+    needs(f"{PYTHON}:matplotlib", f"{PYTHON}:numpy")
+    bash(f"{PYTHON} examples/demo/demo.py {text} {tmp_path}/picture.svg", **site)
+    assert (tmp_path / "picture.svg").stat().st_size > 0
+
+
 def test_javascript(of):
     needs("node")
     bash(f"node bindings/javascript/tests/stored_format.js {of('javascript')}")
