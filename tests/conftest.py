@@ -1,5 +1,6 @@
-"""Tests of the programs in Rattle, proved and built: each request for memory refused, each read and each write failing, odd
-arguments, answers that are replayed. `pytest tests -k NAME` runs some; with LARGE=1 they take 2 GB and longer."""
+"""Tests of the programs in Rattle, proved and built: each request for memory refused, each read and each write failing,
+odd arguments, answers that are replayed. `pytest tests/test_odd_runs.py` runs some, once its program is built or where
+`rt` is; with LARGE=1 they take 2 GB and longer."""
 import pathlib
 import sys
 
