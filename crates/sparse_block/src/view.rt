@@ -1,6 +1,6 @@
 //! The view of a block of sparse bits, which may hold anything.
 ghost use Rattle.std.specs.Prelude.{◌≡◌, ◌^◌, ◌<◌, SomeIff};
-ghost use Rattle.sparse_block.specs.Block.{sparse_in, IsSparseBlock};
+ghost use Rattle.sparse_block.specs.Block.{parts_of, sparse_in, IsSparseBlock};
 
 use elias_fano_view::LentSequence;
 use sequence_block::open_as;
@@ -51,6 +51,19 @@ impl<'a> SparseView<'a> {
             positions,
             len: block[9] as usize,
         })
+    }
+
+    /// The sparse bits of which there are `len`, the positions of the 1 bits being these numbers. What the numbers are
+    /// is not looked at.
+    ///
+    /// ```
+    /// SparseView::over(positions, 5000);   // of a LentSequence over 3, 100, 101, 4000
+    /// ```
+    #[inline(always)]
+    pub fn over(positions: LentSequence<'a>, len: usize) -> SparseView<'a>
+        ensures { result ≡ parts_of positions.entry len }
+    {
+        SparseView { positions, len }
     }
 
     /// How many bits there are, as the header says.
