@@ -1,8 +1,14 @@
 //! Tests of the index of a text in a block: its answers beside those of a plain scan, each bit of the block flipped,
-//! each length cut off.
+//! each length cut off, each byte of a checked block changed, and other words with right checksums.
 //!
 //! They stand in a crate of their own, since a crate with tests is proved twice.
 #![tactic(auto)]
 
+#[cfg(test)]
+mod checking;
+#[cfg(test)]
+mod empty;
+#[cfg(test)]
+mod mississippi;
 #[cfg(test)]
 mod texts;

@@ -5,7 +5,7 @@ use text_block::{Answer, TextView};
 
 /// The block of the index of the text 1, 0, 2, 0, 2, 0 with a sample each four letters, as a program in Python made it
 /// from the tables of docs/FORMAT.md.
-const TEXT: [u64; 160] = [
+pub(crate) const TEXT: [u64; 160] = [
     0x036261746d746962,
     0x0000000000000008,
     0x0000000000000500,
