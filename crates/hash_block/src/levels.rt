@@ -1,0 +1,35 @@
+//! Whether sizes are those of levels.
+ghost use Rattle.std.specs.Prelude.{◌≡◌, ◌*◌, ◌^◌, ◌<◌, ◌≤◌, ◌↔◌, IsTrue, length, SomeIff, sum};
+ghost use Rattle.bitm.specs.Bits.{bits_of};
+ghost use Rattle.perfect_hash.specs.Numbers.{AreSizes};
+ghost use Rattle.perfect_hash.specs.Placed.{FitIn};
+
+use crate::sections::LEVELS;
+
+/// How many words levels of these sizes take; `None` exactly where a level has none, or all have more than there are.
+fn fitting(words: usize, sizes: &[usize]) -> Option<usize>
+    requires { words < 2 ^ 58 }
+    ensures { SomeIff result (FitIn words sizes.now) (sum sizes.now) }
+{
+    let mut used = 0;
+    for size in sizes {
+        if *size == 0 || *size > words - used {
+            return None;
+        }
+        used += *size;
+    }
+    Some(used)
+}
+
+/// Whether the sizes are those of levels of these words: each level has a word, all have as many as there are, and
+/// there are at most 256 levels.
+#[tactic(auto, using(bitm::proofs::BitLaws::bits_are_counted))]
+pub(crate) fn are_levels(words: &[u64], sizes: &[usize]) -> bool
+    requires { length words.now < 2 ^ 58 }
+    ensures { IsTrue result ↔ AreSizes sizes.now (bits_of words.now) }
+{
+    match fitting(words.len(), sizes) {
+        Some(used) => used == words.len() && sizes.len() <= LEVELS,
+        None => false,
+    }
+}
