@@ -1,3 +1,6 @@
+pub mod BitsLemmas
 pub mod BuildingLemmas
+pub mod CommandLemmas
+pub mod OpenedLemmas
 pub mod ProgramLemmas
 pub mod ReplyLemmas

@@ -1,36 +1,53 @@
 -- The blocks of numbers that a text lists.
-use Rattle.std.specs.Prelude.{◌≡◌, ⊤, ℕ, ◌^◌, ◌<◌, ◌≤◌, List, Option, None, Some, All}
+use Rattle.std.specs.Prelude.{◌≡◌, ℕ, Bool, List, Option, None, Some}
 use Rattle.std.specs.Io.KnownBytes.{Appends}
-use Rattle.matrix_block.specs.Block as matrix
+use Rattle.louds.specs.Tree.{IsTree}
+use Rattle.louds_block.specs.Block as louds
+use Rattle.sequence_block.specs.Block as sequence
 use Rattle.program_text.specs.List.{numbers_of, wrong_line}
+use Rattle.program_text.specs.Order.{fall_line}
+use Rattle.program_blocks.specs.Bits.{IsBitsOf}
 use Rattle.program_blocks.specs.Bytes.{bytes_of}
+use Rattle.program_blocks.specs.Kind.{order_of}
+use Rattle.program_blocks.specs.Matrix.{IsMatrixOf}
+use Rattle.program_blocks.specs.Sparse.{IsSparseOf}
+use Rattle.program_blocks.specs.declared.kind.Kind.{Kind}
+use Rattle.program_blocks.specs.declared.kind.Kind.TheVariants.{Bits, Sequence, Sparse, Matrix, Tree}
 use Rattle.program_blocks.specs.declared.failure.Failure.{Failure}
-use Rattle.program_blocks.specs.declared.failure.Failure.TheVariants.{WrongLine, TooLarge, WrongBlock, NoMemory, CannotWrite}
+use Rattle.program_blocks.specs.declared.failure.Failure.TheVariants.{WrongLine, OutOfOrder, NotATree, TooLarge, WrongBlock, NoMemory, CannotWrite}
 
--- the width is 1 to 64, and no smaller one has room for the numbers
-pub record HasLeastWidth (xs : List ℕ) (w : ℕ) : Type 0 where
-  pub positive : 1 ≤ w
-  pub most : w ≤ 64
-  pub least : (v : ℕ) → 1 ≤ v → All (λ x. x < 2 ^ v) xs → w ≤ v
+-- the block is that of these numbers, of the kind
+abbrev pub IsBlockOf : Kind → List ℕ → List ℕ → Type 0
+IsBlockOf Bits xs block = IsBitsOf xs block
+IsBlockOf Sequence xs block = sequence.IsBlockOf xs block
+IsBlockOf Sparse xs block = IsSparseOf xs block
+IsBlockOf Matrix xs block = IsMatrixOf xs block
+IsBlockOf Tree xs block = louds.IsBlockOf xs block
 
--- the block is that of a matrix of these numbers, of the least width
-pub record IsMatrixOf (xs block : List ℕ) : Type 0 where
-  pub width : ℕ
-  pub least : HasLeastWidth xs width
-  pub block_of : matrix.IsBlockOf xs width block
-
--- each line of the text is empty or has just a number, and the bytes of the block of a matrix of these were written:
+-- each line of the text is empty or has just a number, and the bytes of the block of these, of the kind, were written:
 -- the writer's bytes, where the writer shows them, went from before to after by just them
-pub record WroteMatrix (text : List ℕ) (before after : Option (List ℕ)) : Type 0 where
+pub record WroteBlock (kind : Kind) (text : List ℕ) (before after : Option (List ℕ)) : Type 0 where
   pub right : wrong_line text ≡ None
   pub block : List ℕ
-  pub block_of : IsMatrixOf (numbers_of text) block
+  pub block_of : IsBlockOf kind (numbers_of text) block
   pub written : Appends before after (bytes_of block)
 
--- a failure that names a line names the first wrong one of the text, and any other says that there is none
-abbrev pub IsWrongLine : List ℕ → Failure → Type 0
-IsWrongLine text (WrongLine line) = wrong_line text ≡ Some line
-IsWrongLine text TooLarge = wrong_line text ≡ None
-IsWrongLine text WrongBlock = ⊥
-IsWrongLine text NoMemory = wrong_line text ≡ None
-IsWrongLine text CannotWrite = wrong_line text ≡ None
+-- the first line whose number is out of the order, if there is one
+abbrev pub fall_by : Option Bool → List ℕ → Option ℕ
+fall_by None text = None
+fall_by (Some strict) text = fall_line strict text
+
+-- the first line whose number is out of the order that the kind needs
+abbrev pub first_out : Kind → List ℕ → Option ℕ
+first_out kind text = fall_by (order_of kind) text
+
+-- why there is no block of the kind of the numbers in a text: a failure that names a line names the first wrong one, or
+-- where there is none the first one out of order, and any other says that there is no wrong one
+abbrev pub IsTextFailure : Kind → List ℕ → Failure → Type 0
+IsTextFailure kind text (WrongLine line) = wrong_line text ≡ Some line
+IsTextFailure kind text (OutOfOrder line) = (wrong_line text ≡ None) × (first_out kind text ≡ Some line)
+IsTextFailure kind text NotATree = (wrong_line text ≡ None) × (kind ≡ Tree) × (¬ (IsTree (numbers_of text)))
+IsTextFailure kind text TooLarge = (wrong_line text ≡ None) × (first_out kind text ≡ None)
+IsTextFailure kind text WrongBlock = ⊥
+IsTextFailure kind text NoMemory = wrong_line text ≡ None
+IsTextFailure kind text CannotWrite = (wrong_line text ≡ None) × (first_out kind text ≡ None)

@@ -1,14 +1,20 @@
 -- What a failure says of itself.
-use Rattle.std.specs.Prelude.{ℕ, List, codes}
+use Rattle.std.specs.Prelude.{◌≡◌, ◌⊎◌, ℕ, ◌+◌, List, ◌++◌, codes}
+use Rattle.std.specs.Fmt.{decimal}
+use Rattle.louds.specs.Tree.{IsTree}
 use Rattle.program_text.specs.List.{list_error_text}
 use Rattle.program_text.specs.declared.list.ListError.{ListError}
 use Rattle.program_text.specs.declared.list.ListError.TheVariants as list
+use Rattle.program_blocks.specs.declared.kind.Kind.{Kind}
+use Rattle.program_blocks.specs.declared.kind.Kind.TheVariants.{Tree}
 use Rattle.program_blocks.specs.declared.failure.Failure.{Failure}
-use Rattle.program_blocks.specs.declared.failure.Failure.TheVariants.{WrongLine, TooLarge, WrongBlock, NoMemory, CannotWrite}
+use Rattle.program_blocks.specs.declared.failure.Failure.TheVariants.{WrongLine, OutOfOrder, NotATree, TooLarge, WrongBlock, NoMemory, CannotWrite}
 
 -- the characters of its text
 abbrev pub failure_text : Failure → List ℕ
 failure_text (WrongLine line) = list_error_text (list.WrongLine line)
+failure_text (OutOfOrder line) = codes "line " ++ decimal (line + 1) ++ codes ": out of order"
+failure_text NotATree = codes "the degrees are those of no tree"
 failure_text TooLarge = codes "the numbers are too many for a block"
 failure_text WrongBlock = codes "not a block, or not as it was written"
 failure_text NoMemory = codes "memory was refused"
@@ -18,3 +24,7 @@ failure_text CannotWrite = codes "cannot write"
 abbrev pub failure_of : ListError → Failure
 failure_of (list.WrongLine line) = WrongLine line
 failure_of list.NoMemory = NoMemory
+
+-- why there is no block of the kind of these numbers
+abbrev pub IsBlockFailure : Kind → List ℕ → Failure → Type 0
+IsBlockFailure kind xs e = (e ≡ TooLarge) ⊎ ((e ≡ NoMemory) ⊎ ((e ≡ NotATree) × (kind ≡ Tree) × (¬ (IsTree xs))))

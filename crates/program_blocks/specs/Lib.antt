@@ -1,8 +1,16 @@
+pub mod Bits
 pub mod Building
 pub mod Bytes
+pub mod Command
 pub mod Failure
 pub mod Info
+pub mod Kind
+pub mod Matrix
 pub mod Program
 pub mod Query
 pub mod Question
 pub mod Reply
+pub mod Sequence
+pub mod Sound
+pub mod Sparse
+pub mod Tree

@@ -1,5 +1,5 @@
 -- The text of each reply, and what it answers.
-use Rattle.std.specs.Prelude.{ℕ, List, [], ◌∷◌, ◌++◌, codes, Bool, true, false}
+use Rattle.std.specs.Prelude.{ℕ, List, [], ◌∷◌, ◌++◌, codes, Bool, true, false, if◌then◌else◌}
 use Rattle.std.specs.Fmt.{decimal}
 use Rattle.std.specs.List.{flat_map}
 use Rattle.bitm.specs.Answer as answer
@@ -29,3 +29,9 @@ answer_of (Number number) = answers.Found number
 answer_of Absent = answers.Absent
 answer_of Wrong = answers.Wrong
 answer_of BadQuestion = answers.Wrong
+
+-- the number 0 or 1 of a bit
+abbrev pub as_number : answer.Answer Bool → answer.Answer ℕ
+as_number (answers.Found bit) = answers.Found (if bit then 1 else 0)
+as_number answers.Absent = answers.Absent
+as_number answers.Wrong = answers.Wrong

@@ -1,15 +1,21 @@
 //! The answers to the lines of a text.
-ghost use Rattle.std.specs.Prelude.{◌≡◌, ◌↔◌, IfOk, IsErrOf, IsTrue};
-ghost use Rattle.matrix_block.specs.Block.{items_in, HoldsMatrix};
+ghost use Rattle.std.specs.Prelude.{◌≡◌, ◌↔◌, IfOk, IfSome, IsErrOf, IsNone, IsSomeAnd, IsTrue};
 ghost use Rattle.program_text.specs.Text.{lines_of};
-ghost use Rattle.program_blocks.specs.Query.{IsSoundFile, Told, WroteReplies, WroteReply};
+ghost use Rattle.program_blocks.specs.Query.{Told, WroteAnswers, WroteReplies, WroteReply};
+ghost use Rattle.program_blocks.specs.Sound.{IsSoundFile, IsSoundOf};
 
+use crate::bits::open_bits;
 use crate::bytes::words_of_bytes;
 use crate::failure::{CannotWrite, Failure};
-use crate::opened::{answer, open};
+use crate::kind::{Kind, kind_in};
+use crate::matrix::open_matrix;
+use crate::opened::is_sound;
+use crate::queryable::Queryable;
 use crate::question::asked;
 use crate::reply::Reply;
-use matrix_block::MatrixView;
+use crate::sequence::open_sequence;
+use crate::sparse::open_sparse;
+use crate::tree::open_tree;
 use program_text::Lines;
 use std::alloc::{AllocError, Global};
 use std::io::Write;
@@ -19,16 +25,16 @@ use std::io::Write;
 /// # Errors
 /// `AllocError` where memory was refused.
 /// # Cost
-/// Three passes over the block (evident from the code).
+/// A few passes over the block; of sparse bits a selection for each 1 bit (evident from the code).
 ///
 /// ```
-/// check(alloc, bytes);   // Ok(true) of what `build_matrix` wrote
+/// check(alloc, bytes);   // Ok(true) of what `build` wrote
 /// ```
 pub fn check(alloc: Global, block: &[u8]) -> Result<bool, AllocError>
     ensures { IfOk result (λ good. IsTrue good ↔ IsSoundFile block.now) }
 {
     match words_of_bytes(alloc, block)? {
-        Some(words) => Ok(open(words.as_slice()).is_some()),
+        Some(words) => Ok(is_sound(words.as_slice())),
         None => Ok(false),
     }
 }
@@ -57,41 +63,81 @@ pub fn query<W: Write>(
     let Some(words) = words_of_bytes(alloc, block)? else {
         return Err(Failure::WrongBlock);
     };
-    match open(words.as_slice()) {
-        Some(matrix) => Ok(answer_lines(&matrix, text, out)?),
+    match kind_in(words.as_slice()) {
+        Some(kind) => answer_kind(kind, words.as_slice(), text, out),
         None => Err(Failure::WrongBlock),
     }
 }
 
-/// Writes what a matrix answers to the lines of a text, and answers whether each was a question.
-fn answer_lines<W: Write>(
-    matrix: &MatrixView<'_>,
+/// Writes what a block of a kind answers to the lines of a text, and answers whether each was a question.
+fn answer_kind<W: Write>(
+    kind: Kind,
+    block: &[u64],
+    text: &[u8],
+    out: &mut W,
+) -> Result<bool, Failure>
+    ensures sound { IfOk result (λ _. IsSoundOf kind block.now) }
+    ensures answers { IfOk result (λ good. WroteAnswers kind block.now text.now
+        (W.contents out.old) (W.contents out.new) good) }
+    ensures wrong { IsErrOf result Failure.WrongBlock → ¬ (IsSoundOf kind block.now) }
+    ensures nothing { IsErrOf result Failure.WrongBlock → out.new ≡ out.old }
+{
+    match kind {
+        Kind::Bits => answer_opened(open_bits(block), text, out),
+        Kind::Sequence => answer_opened(open_sequence(block), text, out),
+        Kind::Sparse => answer_opened(open_sparse(block), text, out),
+        Kind::Matrix => answer_opened(open_matrix(block), text, out),
+        Kind::Tree => answer_opened(open_tree(block), text, out),
+    }
+}
+
+/// Writes what an opened structure answers to the lines of a text, and answers whether each was a question.
+fn answer_opened<Q: Queryable, W: Write>(
+    opened: Option<Q>,
+    text: &[u8],
+    out: &mut W,
+) -> Result<bool, Failure>
+    requires { IfSome opened Q.holds }
+    ensures answers { IfOk result (λ good. IsSomeAnd opened (λ view. WroteReplies (Q.replies view)
+        (lines_of text.now) (W.contents out.old) (W.contents out.new) good)) }
+    ensures wrong { IsErrOf result Failure.WrongBlock → IsNone opened }
+    ensures nothing { IsErrOf result Failure.WrongBlock → out.new ≡ out.old }
+{
+    match opened {
+        Some(view) => Ok(answer_lines(&view, text, out)?),
+        None => Err(Failure::WrongBlock),
+    }
+}
+
+/// Writes what a structure answers to the lines of a text, and answers whether each was a question.
+fn answer_lines<Q: Queryable, W: Write>(
+    view: &Q,
     text: &[u8],
     out: &mut W,
 ) -> Result<bool, CannotWrite>
-    requires { HoldsMatrix matrix.now }
-    ensures { IfOk result (λ good. WroteReplies (items_in matrix.now) (lines_of text.now)
+    requires { Q.holds view.now }
+    ensures { IfOk result (λ good. WroteReplies (Q.replies view.now) (lines_of text.now)
         (W.contents out.old) (W.contents out.new) good) }
 {
     let mut good = true;
     for line in Lines::new(text) {
-        good &= answer_line(matrix, line, out)?;
+        good &= answer_line(view, line, out)?;
     }
     Ok(good)
 }
 
-/// Writes what a matrix answers to a line, and answers whether it was a question.
-fn answer_line<W: Write>(
-    matrix: &MatrixView<'_>,
+/// Writes what a structure answers to a line, and answers whether it was a question.
+fn answer_line<Q: Queryable, W: Write>(
+    view: &Q,
     line: &[u8],
     out: &mut W,
 ) -> Result<bool, CannotWrite>
-    requires { HoldsMatrix matrix.now }
-    ensures { IfOk result (WroteReply (items_in matrix.now) line.now
+    requires { Q.holds view.now }
+    ensures { IfOk result (WroteReply (Q.replies view.now) line.now
         (W.contents out.old) (W.contents out.new)) }
 {
     let reply = match asked(line) {
-        Some(question) => answer(matrix, &question),
+        Some(question) => view.reply(&question),
         None => Reply::BadQuestion,
     };
     writeln!(out, "{reply}")?;

@@ -1,74 +1,80 @@
 //! The block of the numbers in a text.
-ghost use Rattle.std.specs.Prelude.{◌≡◌, ◌≢◌, ◌⊎◌, IfErr, IfOk, None, OnOk};
+ghost use Rattle.std.specs.Prelude.{◌≡◌, ◌≢◌, IfErr, IfOk, None, OnOk};
 ghost use Rattle.program_text.specs.List.{numbers_of, wrong_line};
-ghost use Rattle.program_blocks.specs.Building.{HasLeastWidth, IsMatrixOf, IsWrongLine, WroteMatrix};
+ghost use Rattle.program_blocks.specs.Building.{first_out, IsBlockOf, IsTextFailure, WroteBlock};
+ghost use Rattle.program_blocks.specs.Failure.{IsBlockFailure};
 
+use crate::bits::block_of_bits;
 use crate::bytes::write_words;
 use crate::failure::Failure;
-use matrix_block::{build, size};
-use matrix_levels::all_fit;
-use program_text::numbers;
+use crate::kind::Kind;
+use crate::matrix::block_of_matrix;
+use crate::sequence::block_of_sequence;
+use crate::sparse::block_of_sparse;
+use crate::tree::block_of_tree;
+use program_text::{first_fall, numbers};
 use std::alloc::Global;
 use std::io::Write;
 
-/// The bits that a number has at most, at least 1.
-fn least_width(numbers: &[u64]) -> u8
-    ensures { HasLeastWidth numbers.now result }
+/// The block of these numbers, of a kind.
+fn block_of(alloc: Global, kind: Kind, numbers: &[u64]) -> Result<Vec<u64>, Failure>
+    ensures block { IfOk result (λ block. IsBlockOf kind numbers.now block.items) }
+    ensures failure { IfErr result (IsBlockFailure kind numbers.now) }
 {
-    let mut width = 1;
-    while width < 64 && !all_fit(numbers, width) {
-        width += 1;
-    }
-    width
-}
-
-/// The block of a matrix of these numbers.
-fn matrix_of(alloc: Global, numbers: &[u64]) -> Result<Vec<u64>, Failure>
-    ensures block { IfOk result (λ block. IsMatrixOf numbers.now block.items) }
-    ensures failure { IfErr result (λ e. (e ≡ Failure.TooLarge) ⊎ (e ≡ Failure.NoMemory)) }
-{
-    let width = least_width(numbers);
-    let Some(words) = size(numbers.len(), width) else {
-        return Err(Failure::TooLarge);
-    };
-    let mut scratch = Vec::new(alloc);
-    scratch.resize(2 * numbers.len(), 0)?;
-    let mut block = Vec::new(alloc);
-    block.resize(words, 0)?;
-    match build(numbers, width, scratch.as_mut_slice(), block.as_mut_slice()) {
-        Ok(()) => Ok(block),
-        Err(_) => Err(Failure::TooLarge),
+    match kind {
+        Kind::Bits => block_of_bits(alloc, numbers),
+        Kind::Sequence => block_of_sequence(alloc, numbers),
+        Kind::Sparse => block_of_sparse(alloc, numbers),
+        Kind::Matrix => block_of_matrix(alloc, numbers),
+        Kind::Tree => block_of_tree(alloc, numbers),
     }
 }
 
-/// The block of a matrix of the numbers in a text.
-#[tactic(auto, using(crate::proofs::lemmas::BuildingLemmas::line_named, crate::proofs::lemmas::BuildingLemmas::no_line))]
-fn matrix_of_text(alloc: Global, text: &[u8]) -> Result<Vec<u64>, Failure>
+/// The first line whose number is out of the order that the kind needs, if there is one.
+fn first_out(kind: Kind, text: &[u8]) -> Option<usize>
+    ensures { result ≡ first_out kind text.now }
+{
+    first_fall(text, kind.order()?)
+}
+
+/// The block of the numbers in a text, of a kind.
+#[tactic(auto, using(crate::proofs::lemmas::BuildingLemmas::line_named, crate::proofs::lemmas::BuildingLemmas::no_block))]
+fn block_of_text(alloc: Global, kind: Kind, text: &[u8]) -> Result<Vec<u64>, Failure>
     ensures right { IfOk result (λ _. wrong_line text.now ≡ None) }
-    ensures block { IfOk result (λ block. IsMatrixOf (numbers_of text.now) block.items) }
-    ensures wrong_line { IfErr result (λ e. IsWrongLine text.now e) }
+    ensures block { IfOk result (λ block. IsBlockOf kind (numbers_of text.now) block.items) }
+    ensures order { IfOk result (λ _. first_out kind text.now ≡ None) }
+    ensures failure { IfErr result (IsTextFailure kind text.now) }
 {
     let numbers = numbers(alloc, text)?;
-    matrix_of(alloc, numbers.as_slice())
+    if let Some(line) = first_out(kind, text) {
+        return Err(Failure::OutOfOrder(line));
+    }
+    block_of(alloc, kind, numbers.as_slice())
 }
 
-/// Writes the block of a matrix of the numbers in a text, as bytes; a number has the fewest bits that all of them fit.
+/// Writes the block of a kind of the numbers in a text, as bytes. The numbers are positions of 1 bits for `Bits` and
+/// `Sparse`, whose bits end with the last 1 bit; the numbers of a list for `Sequence` and `Matrix`, where those of a
+/// matrix have the fewest bits that all of them fit; and the degrees of nodes, level by level, for `Tree`.
 ///
 /// # Errors
-/// `WrongLine` where a line neither is empty nor has just a number, with the first such line; `TooLarge` where the
-/// numbers are too many for a block; `NoMemory` where memory was refused. Nothing is written then. `CannotWrite` where
-/// a write failed; what was written before stays.
+/// `WrongLine` where a line neither is empty nor has just a number, with the first such line; else `OutOfOrder` where
+/// the numbers of a `Sequence` fall or those of `Sparse` do not rise, with the first line that does it; `NotATree`
+/// where degrees are those of no tree; `TooLarge` where the numbers are too many or too large for a block; `NoMemory`
+/// where memory was refused. Nothing is written then. `CannotWrite` where a write failed; what was written before that
+/// stays.
 /// # Cost
-/// At most 64 passes over the numbers to find their width, and those of `matrix_block::build` (evident from the code).
+/// At most 64 passes over the numbers of a matrix to find their width, and those of the kind's `build` (evident from
+/// the code).
 ///
 /// ```
-/// build_matrix(alloc, b"3\n1\n4\n".as_slice(), &mut out);   // Ok(()): out has the bytes of the block
+/// build(alloc, Kind::Matrix, b"3\n1\n4\n".as_slice(), &mut out);   // Ok(()): out has the bytes of the block
+/// build(alloc, Kind::Sequence, b"3\n1\n".as_slice(), &mut out);    // Err(Failure::OutOfOrder(1))
 /// ```
-pub fn build_matrix<W: Write>(alloc: Global, text: &[u8], out: &mut W) -> Result<(), Failure>
-    ensures written { OnOk result (WroteMatrix text.now (W.contents out.old) (W.contents out.new)) }
-    ensures wrong_line { IfErr result (λ e. IsWrongLine text.now e) }
+pub fn build<W: Write>(alloc: Global, kind: Kind, text: &[u8], out: &mut W) -> Result<(), Failure>
+    ensures written { OnOk result (WroteBlock kind text.now (W.contents out.old) (W.contents out.new)) }
+    ensures failure { IfErr result (IsTextFailure kind text.now) }
     ensures nothing { IfErr result (λ e. e ≢ Failure.CannotWrite → out.new ≡ out.old) }
 {
-    let block = matrix_of_text(alloc, text)?;
+    let block = block_of_text(alloc, kind, text)?;
     Ok(write_words(block.as_slice(), out)?)
 }

@@ -10,7 +10,11 @@ use std::{fmt, io};
 pub enum Failure {
     /// This line, the first being 0, neither is empty nor has just a number.
     WrongLine(usize),
-    /// The numbers are too many for a block.
+    /// The number of this line, the first being 0, may not follow those before it.
+    OutOfOrder(usize),
+    /// The numbers are the degrees of no tree.
+    NotATree,
+    /// The numbers are too many, or too large, for a block.
     TooLarge,
     /// The bytes are no block that the program reads, or are not as they were written.
     WrongBlock,
@@ -75,6 +79,8 @@ impl fmt::Display for Failure {
     fn fmt<W: fmt::Write>(&self, f: &mut fmt::Formatter<W>) -> fmt::Result {
         match self {
             Failure::WrongLine(line) => write!(f, "{}", ListError::WrongLine(*line)),
+            Failure::OutOfOrder(line) => write!(f, "line {}: out of order", *line as u128 + 1),
+            Failure::NotATree => write!(f, "the degrees are those of no tree"),
             Failure::TooLarge => write!(f, "the numbers are too many for a block"),
             Failure::WrongBlock => write!(f, "not a block, or not as it was written"),
             Failure::NoMemory => write!(f, "memory was refused"),

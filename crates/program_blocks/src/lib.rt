@@ -3,26 +3,45 @@
 
 // What is in each file:
 // - `answering`: the answers to the lines of a text
+// - `bits`: blocks of bits with their index
 // - `building`: the block of the numbers in a text
 // - `bytes`: the words of a block as bytes
+// - `command`: the command that the arguments are
 // - `describing`: what a block's header says
 // - `failure`: why there is no answer
-// - `opened`: a block that is as it was written
+// - `indices`: lists of numbers in memory that is found for them
+// - `kind`: the kinds of blocks
+// - `matrix`: blocks of a wavelet matrix
+// - `opened`: whether a block is as it was written
 // - `program`: the program without its process
+// - `queryable`: what answers questions
 // - `question`: the question of a line
 // - `reply`: the answer to a line
+// - `sequence`: blocks of a monotone sequence
+// - `sparse`: blocks of bits of which few are 1
+// - `tree`: blocks of a tree
 mod answering;
+mod bits;
 mod building;
 mod bytes;
+mod command;
 mod describing;
 mod failure;
+mod indices;
+mod kind;
+mod matrix;
 mod opened;
 mod program;
+mod queryable;
 mod question;
 mod reply;
+mod sequence;
+mod sparse;
+mod tree;
 
 pub use answering::{check, query};
-pub use building::build_matrix;
+pub use building::build;
 pub use describing::info;
 pub use failure::Failure;
+pub use kind::Kind;
 pub use program::{CANNOT_READ, start};

@@ -1,16 +1,15 @@
-//! A block that is as it was written.
-ghost use Rattle.std.specs.Prelude.{◌↔◌, IsTrue, SomeIff};
+//! Whether a block is as it was written.
+ghost use Rattle.std.specs.Prelude.{◌↔◌, IsTrue};
 ghost use Rattle.bitm_block.specs.Header.{IsBlock, IsVerified};
-ghost use Rattle.matrix_block.specs.Block.{items_in, matrix_in, HoldsMatrix};
-ghost use Rattle.program_blocks.specs.Query.{IsReply, IsSound};
+ghost use Rattle.program_blocks.specs.Sound.{IsSound, IsSoundOf};
 
-use crate::question::Question;
-use crate::reply::Reply;
+use crate::kind::{Kind, kind_in};
+use crate::matrix::open_matrix;
+use crate::tree::open_tree;
 use bitm_block::Block;
-use matrix_block::MatrixView;
 
 /// Whether the words are a block whose sections are as they were written.
-fn is_verified(block: &[u64]) -> bool
+pub(crate) fn is_verified(block: &[u64]) -> bool
     ensures { IsTrue result ↔ (IsBlock block.now × IsVerified block.now) }
 {
     match Block::open(block) {
@@ -19,26 +18,26 @@ fn is_verified(block: &[u64]) -> bool
     }
 }
 
-/// The matrix in a block that is as it was written.
-pub(crate) fn open(block: &[u64]) -> Option<MatrixView<'_>>
-    ensures { SomeIff result (IsSound block.now) (matrix_in block.now) }
+/// Whether the words are a block of the kind that they say, as it was written.
+#[tactic(auto, using(crate::proofs::lemmas::OpenedLemmas::same_kind, crate::proofs::lemmas::OpenedLemmas::no_kind))]
+pub(crate) fn is_sound(block: &[u64]) -> bool
+    ensures { IsTrue result ↔ IsSound block.now }
 {
-    let matrix = MatrixView::open(block)?;
-    if is_verified(block) && matrix.check() {
-        Some(matrix)
-    } else {
-        None
+    match kind_in(block) {
+        Some(kind) => is_sound_of(kind, block),
+        None => false,
     }
 }
 
-/// What a matrix answers.
-pub(crate) fn answer(matrix: &MatrixView<'_>, question: &Question) -> Reply
-    requires { HoldsMatrix matrix.now }
-    ensures { IsReply (items_in matrix.now) question.now result }
+/// Whether the words are a block of the kind, as it was written.
+fn is_sound_of(kind: Kind, block: &[u64]) -> bool
+    ensures { IsTrue result ↔ IsSoundOf kind block.now }
 {
-    match *question {
-        Question::Get(index) => Reply::of_number(matrix.get(index as usize)),
-        Question::Rank(number, index) => Reply::of_index(matrix.rank(number, index as usize)),
-        Question::Select(number, before) => Reply::of_index(matrix.select(number, before as usize)),
+    match kind {
+        Kind::Bits => bits_block::check(block),
+        Kind::Sequence => sequence_block::check(block),
+        Kind::Sparse => sparse_block::check(block),
+        Kind::Matrix => open_matrix(block).is_some(),
+        Kind::Tree => open_tree(block).is_some(),
     }
 }

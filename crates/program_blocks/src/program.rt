@@ -1,19 +1,22 @@
 //! The program without its process: its arguments, the files and the input that it reads, and the statuses and texts.
-ghost use Rattle.std.specs.Prelude.{◌≡◌, ◌≢◌, ◌≤◌, IfOk, length, nat_eq};
-ghost use Rattle.program_blocks.specs.Program.{Did, WroteCheck};
+ghost use Rattle.std.specs.Prelude.{◌≡◌, ◌≢◌, ◌≤◌, IfOk, None, length, map, nat_eq, string_bytes};
+ghost use Rattle.program_blocks.specs.Command as command;
+ghost use Rattle.program_blocks.specs.Program.{Did, DidAsAsked, WroteCheck};
 
 use crate::answering::{check, query};
-use crate::building::build_matrix;
+use crate::building::build;
+use crate::command::{Command, command_in};
 use crate::describing::info;
 use crate::failure::Failure;
+use crate::kind::Kind;
 use std::alloc::Global;
 use std::fs;
 use std::io::{Input, Read, Write};
 use std::rt::Files;
 
 /// What is written where the arguments are not those of a command.
-const USAGE: &str =
-    "usage: bitm build matrix | bitm query BLOCK | bitm check BLOCK | bitm info BLOCK";
+const USAGE: &str = "usage: bitm build KIND | bitm query BLOCK | bitm check BLOCK | bitm info BLOCK
+KIND is bits, sequence, sparse, matrix or tree";
 
 /// What is written where the arguments, a file or the standard input can't be read.
 pub const CANNOT_READ: &str = "bitm: cannot read";
@@ -37,9 +40,9 @@ impl From<Failure> for Stop {
 
 /// Does what the two arguments say, and answers the status that the program ends with.
 ///
-/// `args` are the arguments without the program's name: `build matrix` reads numbers, and `query BLOCK` questions, from
+/// `args` are the arguments without the program's name: `build KIND` reads numbers, and `query BLOCK` questions, from
 /// the standard input; `check BLOCK` and `info BLOCK` read the file alone. The status is 0 where all went well, and 1
-/// where a line is no question or a block is wrong; then nothing was written to `err`.
+/// where a line is no question or a block is wrong; then the command was done, and nothing was written to `err`.
 ///
 /// # Errors
 /// The status is 2, and a text goes to `err`, where the arguments are no command, where something can't be read, where
@@ -53,27 +56,30 @@ pub fn start<R: Files + Input + AllocGlobal, W: Write, E: Write>(
     ensures status { result ≤ 2 }
     ensures usage { length args.now ≢ 2
         → (result ≡ 2) × (W.contents out.new ≡ W.contents out.old) }
-    ensures did { result ≤ 1 → Did (W.contents out.old) (W.contents out.new) (nat_eq result 0) }
+    ensures unknown { command.command_in (map string_bytes args.now) ≡ None
+        → (result ≡ 2) × (W.contents out.new ≡ W.contents out.old) }
+    ensures did { result ≤ 1 → DidAsAsked (map string_bytes args.now)
+        (W.contents out.old) (W.contents out.new) (nat_eq result 0) }
     ensures quiet { result ≤ 1 → E.contents err.new ≡ E.contents err.old }
 {
-    let [command, operand] = args else {
+    let Some((command, operand)) = command_in(args) else {
         return fail(err, Stop::Usage);
     };
-    match run(rt, command.as_str(), operand.as_str(), out) {
+    match run(rt, command, operand, out) {
         Ok(true) => 0,
         Ok(false) => 1,
         Err(stop) => fail(err, stop),
     }
 }
 
-/// Does what the command and its operand say, flushes that, and answers whether all went well.
+/// Does a command on its operand, flushes that, and answers whether all went well.
 fn run<R: Files + Input + AllocGlobal, W: Write>(
     rt: &R,
-    command: &str,
+    command: Command,
     operand: &str,
     out: &mut W,
 ) -> Result<bool, Stop>
-    ensures { IfOk result (Did (W.contents out.old) (W.contents out.new)) }
+    ensures { IfOk result (Did command (W.contents out.old) (W.contents out.new)) }
 {
     let good = perform(rt, command, operand, out)?;
     match out.flush() {
@@ -82,30 +88,69 @@ fn run<R: Files + Input + AllocGlobal, W: Write>(
     }
 }
 
-/// Does what the command and its operand say, and answers whether all went well.
+/// Does a command on its operand, and answers whether all went well.
 fn perform<R: Files + Input + AllocGlobal, W: Write>(
     rt: &R,
-    command: &str,
+    command: Command,
     operand: &str,
     out: &mut W,
 ) -> Result<bool, Stop>
-    ensures { IfOk result (Did (W.contents out.old) (W.contents out.new)) }
+    ensures { IfOk result (Did command (W.contents out.old) (W.contents out.new)) }
 {
-    if command == "build" && operand == "matrix" {
-        build_matrix(rt.alloc(), input(rt)?.as_slice(), out)?;
-        Ok(true)
-    } else if command == "query" {
-        let block = file(rt, operand)?;
-        let questions = input(rt)?;
-        Ok(query(rt.alloc(), block.as_slice(), questions.as_slice(), out)?)
-    } else if command == "check" {
-        Ok(write_check(rt.alloc(), file(rt, operand)?.as_slice(), out)?)
-    } else if command == "info" {
-        info(rt.alloc(), file(rt, operand)?.as_slice(), out)?;
-        Ok(true)
-    } else {
-        Err(Stop::Usage)
+    match command {
+        Command::Build(kind) => build_input(rt, kind, out),
+        Command::Query => query_file(rt, operand, out),
+        Command::Check => check_file(rt, operand, out),
+        Command::Info => info_file(rt, operand, out),
     }
+}
+
+/// Writes the block of a kind of the numbers in the standard input.
+fn build_input<R: Input + AllocGlobal, W: Write>(
+    rt: &R,
+    kind: Kind,
+    out: &mut W,
+) -> Result<bool, Stop>
+    ensures { IfOk result (Did (Command.Build kind) (W.contents out.old) (W.contents out.new)) }
+{
+    build(rt.alloc(), kind, input(rt)?.as_slice(), out)?;
+    Ok(true)
+}
+
+/// Writes what the block in a file answers to the lines of the standard input.
+fn query_file<R: Files + Input + AllocGlobal, W: Write>(
+    rt: &R,
+    path: &str,
+    out: &mut W,
+) -> Result<bool, Stop>
+    ensures { IfOk result (Did Command.Query (W.contents out.old) (W.contents out.new)) }
+{
+    let block = file(rt, path)?;
+    let questions = input(rt)?;
+    Ok(query(rt.alloc(), block.as_slice(), questions.as_slice(), out)?)
+}
+
+/// Writes whether a file is a block that is as it was written.
+fn check_file<R: Files + AllocGlobal, W: Write>(
+    rt: &R,
+    path: &str,
+    out: &mut W,
+) -> Result<bool, Stop>
+    ensures { IfOk result (Did Command.Check (W.contents out.old) (W.contents out.new)) }
+{
+    Ok(write_check(rt.alloc(), file(rt, path)?.as_slice(), out)?)
+}
+
+/// Writes what the header of the block in a file has.
+fn info_file<R: Files + AllocGlobal, W: Write>(
+    rt: &R,
+    path: &str,
+    out: &mut W,
+) -> Result<bool, Stop>
+    ensures { IfOk result (Did Command.Info (W.contents out.old) (W.contents out.new)) }
+{
+    info(rt.alloc(), file(rt, path)?.as_slice(), out)?;
+    Ok(true)
 }
 
 /// Writes whether the bytes are a block that is as it was written, and answers that.

@@ -1,20 +1,98 @@
 //! The question of a line.
 ghost use Rattle.std.specs.Prelude.{◌≡◌, option_map};
 ghost use Rattle.program_text.specs.Text.{parts_left};
-ghost use Rattle.program_blocks.specs.Question.{pair_of, question_of};
+ghost use Rattle.program_blocks.specs.Question.{list_word, near_word, pair_of, question_of, tree_word};
 
 use program_text::digits::decimal;
 use program_text::{first_part, only_part};
 
-/// The question of a line.
+/// The first word of a question.
+#[derive(Clone, Copy)]
+pub(crate) enum Word {
+    Get,
+    Rank,
+    Rank0,
+    Select,
+    Select0,
+    Next,
+    Next0,
+    Previous,
+    Previous0,
+    Parent,
+    Child,
+    ChildRank,
+    Degree,
+    NextSibling,
+    PreviousSibling,
+}
+
+/// The question of a line: a word and one number, or two.
 #[derive(Clone, Copy)]
 pub(crate) enum Question {
-    /// The number at an index.
-    Get(u64),
-    /// How many of the first numbers are this one: the number, and how many are the first.
-    Rank(u64, u64),
-    /// The index of this number that has the given number of it before it.
-    Select(u64, u64),
+    /// One number.
+    One(Word, u64),
+    /// Two numbers.
+    Two(Word, u64, u64),
+}
+
+/// The word of this name for a bit or a number, or a count; else what `near_word` says.
+#[tactic(auto, unfolding(crate::specs::Question::list_word))]
+fn list_word(name: &[u8]) -> Option<Word>
+    ensures { result ≡ list_word name.now }
+{
+    if name == b"get".as_slice() {
+        Some(Word::Get)
+    } else if name == b"rank".as_slice() {
+        Some(Word::Rank)
+    } else if name == b"rank0".as_slice() {
+        Some(Word::Rank0)
+    } else if name == b"select".as_slice() {
+        Some(Word::Select)
+    } else if name == b"select0".as_slice() {
+        Some(Word::Select0)
+    } else {
+        near_word(name)
+    }
+}
+
+/// The word of this name for what is beside a position or a value; else what `tree_word` says.
+#[tactic(auto, unfolding(crate::specs::Question::near_word))]
+fn near_word(name: &[u8]) -> Option<Word>
+    ensures { result ≡ near_word name.now }
+{
+    if name == b"next".as_slice() {
+        Some(Word::Next)
+    } else if name == b"next0".as_slice() {
+        Some(Word::Next0)
+    } else if name == b"previous".as_slice() {
+        Some(Word::Previous)
+    } else if name == b"previous0".as_slice() {
+        Some(Word::Previous0)
+    } else {
+        tree_word(name)
+    }
+}
+
+/// The word of this name for a node of a tree or the number of its children, if there is one.
+#[tactic(auto, unfolding(crate::specs::Question::tree_word))]
+fn tree_word(name: &[u8]) -> Option<Word>
+    ensures { result ≡ tree_word name.now }
+{
+    if name == b"parent".as_slice() {
+        Some(Word::Parent)
+    } else if name == b"child".as_slice() {
+        Some(Word::Child)
+    } else if name == b"child_rank".as_slice() {
+        Some(Word::ChildRank)
+    } else if name == b"degree".as_slice() {
+        Some(Word::Degree)
+    } else if name == b"next_sibling".as_slice() {
+        Some(Word::NextSibling)
+    } else if name == b"previous_sibling".as_slice() {
+        Some(Word::PreviousSibling)
+    } else {
+        None
+    }
 }
 
 /// The question of a line, or `None` where it is none.
@@ -22,16 +100,16 @@ pub(crate) fn asked(line: &[u8]) -> Option<Question>
     ensures { result ≡ question_of line.now }
 {
     let (name, rest) = first_part(line, b' ');
-    if name == b"get".as_slice() {
-        only_part(rest).and_then(decimal).map(Question::Get)
-    } else if name == b"rank".as_slice() {
-        let (number, index) = pair(rest)?;
-        Some(Question::Rank(number, index))
-    } else if name == b"select".as_slice() {
-        let (number, before) = pair(rest)?;
-        Some(Question::Select(number, before))
-    } else {
-        None
+    let word = list_word(name)?;
+    match only_part(rest) {
+        Some(number) => {
+            let number = decimal(number)?;
+            Some(Question::One(word, number))
+        }
+        None => {
+            let (first, second) = pair(rest)?;
+            Some(Question::Two(word, first, second))
+        }
     }
 }
 

@@ -1,6 +1,6 @@
 //! The answer to a line.
 ghost use Rattle.std.specs.Prelude.{◌≡◌};
-ghost use Rattle.program_blocks.specs.Reply.{answer_of, reply_text, is_good};
+ghost use Rattle.program_blocks.specs.Reply.{answer_of, as_number, reply_text, is_good};
 
 use matrix_block::Answer;
 use std::fmt;
@@ -51,6 +51,17 @@ impl Reply {
     {
         match answer {
             Answer::Found(index) => Reply::Number(index as u64),
+            Answer::Absent => Reply::Absent,
+            Answer::Wrong => Reply::Wrong,
+        }
+    }
+
+    /// The reply that says a bit, by 0 or 1.
+    pub(crate) fn of_bit(answer: Answer<bool>) -> Reply
+        ensures { answer_of result ≡ as_number answer }
+    {
+        match answer {
+            Answer::Found(bit) => Reply::Number(bit as u64),
             Answer::Absent => Reply::Absent,
             Answer::Wrong => Reply::Wrong,
         }

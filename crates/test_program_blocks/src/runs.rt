@@ -1,5 +1,5 @@
 //! A block that is built of a text, checked, queried and described; other texts and other bytes in its place.
-use program_blocks::{Failure, build_matrix, check, info, query, start};
+use program_blocks::{Failure, Kind, build, check, info, query, start};
 use std::io::{Input, Write};
 use std::process::Abort;
 use std::rt::Files;
@@ -31,7 +31,7 @@ impl Write for Failing {
 /// The block of the numbers in a text.
 fn built(rt: &(impl Abort + AllocGlobal), text: &str) -> Result<Vec<u8>, Fail> {
     let mut out = Vec::new(rt.alloc());
-    build_matrix(rt.alloc(), text.as_bytes(), &mut out)?;
+    build(rt.alloc(), Kind::Matrix, text.as_bytes(), &mut out)?;
     Ok(out)
 }
 
@@ -97,7 +97,7 @@ fn a_wrong_line_is_named_and_nothing_is_written(rt: HostRuntime) -> Result<(), F
         ("18446744073709551616", 0),
     ] {
         let mut out = Vec::new(rt.alloc());
-        let failure = build_matrix(rt.alloc(), text.as_bytes(), &mut out);
+        let failure = build(rt.alloc(), Kind::Matrix, text.as_bytes(), &mut out);
         assert_eq!(rt; failure, Err(Failure::WrongLine(line)));
         assert!(rt; out.is_empty());
     }
@@ -138,7 +138,10 @@ fn the_kind_and_the_sizes_are_said(rt: HostRuntime) -> Result<(), Fail> {
     let block = built(&rt, NUMBERS)?;
     let mut out = Vec::new(rt.alloc());
     info(rt.alloc(), block.as_slice(), &mut out)?;
-    assert!(rt; out.as_slice() == b"kind matrix\nlen 6\nwidth 3\nbytes 640\n".as_slice());
+    assert!(rt;
+        out.as_slice()
+            == b"kind matrix\nlen 6\nwidth 3\nbytes 640\nbits_per_item 853.33\n".as_slice()
+    );
     Ok(())
 }
 
@@ -149,7 +152,7 @@ fn a_write_that_fails_is_told(rt: HostRuntime) -> Result<(), Fail> {
     let mut out = Failing { writes: false };
     let text = NUMBERS.as_bytes();
     assert_eq!(rt;
-        build_matrix(rt.alloc(), text, &mut out),
+        build(rt.alloc(), Kind::Matrix, text, &mut out),
         Err(Failure::CannotWrite)
     );
     let question = b"get 0".as_slice();
@@ -186,9 +189,9 @@ fn expect_start(
 
 #[test]
 fn start_ends_with_the_status_and_text_of_its_file(rt: HostRuntime) -> Result<(), Fail> {
-    let usage =
-        "usage: bitm build matrix | bitm query BLOCK | bitm check BLOCK | bitm info BLOCK\n";
-    expect_start(&rt, ("build", "tree"), 2, "", usage)?;
+    let usage = "usage: bitm build KIND | bitm query BLOCK | bitm check BLOCK | bitm info BLOCK\n\
+         KIND is bits, sequence, sparse, matrix or tree\n";
+    expect_start(&rt, ("build", "forest"), 2, "", usage)?;
     expect_start(&rt, ("show", "."), 2, "", usage)?;
     expect_start(&rt, ("info", "."), 2, "", "bitm: cannot read\n")?;
     expect_start(&rt, ("check", "no_such_file"), 2, "", "bitm: cannot read\n")?;
@@ -201,7 +204,7 @@ fn start_ends_with_the_status_and_text_of_its_file(rt: HostRuntime) -> Result<()
         &rt,
         ("info", path),
         0,
-        "kind matrix\nlen 6\nwidth 3\nbytes 640\n",
+        "kind matrix\nlen 6\nwidth 3\nbytes 640\nbits_per_item 853.33\n",
         "",
     )?;
     assert!(rt; block.len() == 640);

@@ -1,17 +1,19 @@
--- Which failure names the first wrong line.
+-- Which failure names which line.
 use Rattle.std.proofs.Common.{◌≡◌, ◌⊎◌, ℕ, List, None, sym, subst, inl, inr}
-use Rattle.program_text.specs.List.{wrong_line, IsListError}
+use Rattle.program_text.specs.List.{numbers_of, wrong_line, IsListError}
 use Rattle.program_text.specs.declared.list.ListError.{ListError}
 use Rattle.program_text.specs.declared.list.ListError.TheVariants as list
-use Rattle.program_blocks.specs.Building.{IsWrongLine}
-use Rattle.program_blocks.specs.Failure.{failure_of}
+use Rattle.program_blocks.specs.Building.{first_out, IsTextFailure}
+use Rattle.program_blocks.specs.Failure.{failure_of, IsBlockFailure}
 use Rattle.program_blocks.specs.declared.failure.Failure.{Failure}
-use Rattle.program_blocks.specs.declared.failure.Failure.TheVariants.{TooLarge, NoMemory}
+use Rattle.program_blocks.specs.declared.kind.Kind.{Kind}
 
-pub line_named : (text : List ℕ) (e : ListError) (f : Failure) → IsListError text e → f ≡ failure_of e → IsWrongLine text f
-line_named text (list.WrongLine line) f h k = subst (λ e. IsWrongLine text e) (sym k) h
-line_named text list.NoMemory f h k = subst (λ e. IsWrongLine text e) (sym k) h
+pub line_named : (kind : Kind) (text : List ℕ) (e : ListError) (f : Failure) → IsListError text e → f ≡ failure_of e → IsTextFailure kind text f
+line_named kind text (list.WrongLine line) f h k = subst (λ e. IsTextFailure kind text e) (sym k) h
+line_named kind text list.NoMemory f h k = subst (λ e. IsTextFailure kind text e) (sym k) h
 
-pub no_line : (text : List ℕ) (e : Failure) → wrong_line text ≡ None → (e ≡ TooLarge) ⊎ (e ≡ NoMemory) → IsWrongLine text e
-no_line text e h (inl k) = subst (λ e. IsWrongLine text e) (sym k) h
-no_line text e h (inr k) = subst (λ e. IsWrongLine text e) (sym k) h
+pub no_block : (kind : Kind) (text : List ℕ) (e : Failure) → wrong_line text ≡ None → first_out kind text ≡ None → IsBlockFailure kind (numbers_of text) e
+    → IsTextFailure kind text e
+no_block kind text e h o (inl k) = subst (λ e. IsTextFailure kind text e) (sym k) (h, o)
+no_block kind text e h o (inr (inl k)) = subst (λ e. IsTextFailure kind text e) (sym k) h
+no_block kind text e h o (inr (inr k)) = subst (λ e. IsTextFailure kind text e) (sym k.0) (h, k.1, k.2)

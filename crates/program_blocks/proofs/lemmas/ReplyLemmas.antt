@@ -8,18 +8,19 @@ use Rattle.std.specs.List.{list_all}
 use Rattle.program_blocks.specs.Query.{AreReplies, IsReplyTo, WroteReplies, WroteReply}
 use Rattle.program_blocks.specs.Question.{question_of}
 use Rattle.program_blocks.specs.Reply.{is_good, reply_text, text_of}
+use Rattle.program_blocks.specs.declared.question.Question.{Question}
 use Rattle.program_blocks.specs.declared.reply.Reply.{Reply}
 
 and_true : (b : Bool) → (b && true) ≡ b
 and_true true = refl
 and_true false = refl
 
-replies_more : (xs : List ℕ) (lines : List (List ℕ)) (replies : List Reply) (line : List ℕ) (reply : Reply) → AreReplies xs lines replies
-    → IsReplyTo xs (question_of line) reply → AreReplies xs (lines ++ line ∷ []) (replies ++ reply ∷ [])
-replies_more xs [] [] line reply h one = (one, h)
-replies_more xs [] (r ∷ replies) line reply h one = absurd h
-replies_more xs (l ∷ lines) [] line reply h one = absurd h
-replies_more xs (l ∷ lines) (r ∷ replies) line reply h one = (h.0, replies_more xs lines replies line reply h.1 one)
+replies_more : (R : Question → Reply → Type 0) (lines : List (List ℕ)) (replies : List Reply) (line : List ℕ) (reply : Reply) → AreReplies R lines replies
+    → IsReplyTo R (question_of line) reply → AreReplies R (lines ++ line ∷ []) (replies ++ reply ∷ [])
+replies_more R [] [] line reply h one = (one, h)
+replies_more R [] (r ∷ replies) line reply h one = absurd h
+replies_more R (l ∷ lines) [] line reply h one = absurd h
+replies_more R (l ∷ lines) (r ∷ replies) line reply h one = (h.0, replies_more R lines replies line reply h.1 one)
 
 text_more : (replies : List Reply) (reply : Reply) → text_of (replies ++ reply ∷ []) ≡ text_of replies ++ (reply_text reply ++ 10 ∷ [])
 text_more replies reply =
@@ -30,11 +31,11 @@ told_more replies reply good told h one =
     ap (λ b. b && told) h ∙ ap (λ b. list_all is_good replies && b) one
     ∙ sym (list_all-append is_good replies (reply ∷ []) ∙ ap (λ b. list_all is_good replies && b) (and_true (is_good reply)))
 
-pub wrote_more : (xs : List ℕ) (lines : List (List ℕ)) (line : List ℕ) (a b c : Option (List ℕ)) (good told : Bool) → WroteReplies xs lines a b good
-    → WroteReply xs line b c told → WroteReplies xs (lines ++ line ∷ []) a c (good && told)
-wrote_more xs lines line a b c good told h one = record {
+pub wrote_more : (R : Question → Reply → Type 0) (lines : List (List ℕ)) (line : List ℕ) (a b c : Option (List ℕ)) (good told : Bool) → WroteReplies R lines a b good
+    → WroteReply R line b c told → WroteReplies R (lines ++ line ∷ []) a c (good && told)
+wrote_more R lines line a b c good told h one = record {
   replies = h.replies ++ one.reply ∷ [];
-  answers = replies_more xs lines h.replies line one.reply h.answers one.answers;
+  answers = replies_more R lines h.replies line one.reply h.answers one.answers;
   written = subst (λ l. Appends a c l) (sym (text_more h.replies one.reply)) (Appends-trans a b c _ _ h.written one.written);
   told = told_more h.replies one.reply good told h.told one.told;
 }

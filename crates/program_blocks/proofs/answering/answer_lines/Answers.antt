@@ -1,6 +1,5 @@
 use Rattle.std.proofs.Common.{map}
 use Rattle.std.proofs.lemmas.List.{map-append}
-use Rattle.matrix_block.specs.Block.{items_in}
 use Rattle.program_blocks.proofs.lemmas.ReplyLemmas.{wrote_more}
 use Rattle.program_blocks.proofs.answering.answer_lines.Goals as goal
 
@@ -8,5 +7,5 @@ pub loop-line-preserved : goal.loop-line-preserved
 loop-line-preserved g c =
     let contents = g.W.Write.contents in
     rw (map-append)
-    (wrote_more (items_in c.args.matrix.now) (map (λ x. x.now) c.loop-line.yielded) c.in-Some.line.now (contents c.args.out.now) (contents c.loop-line.out) (contents c.answer_line.new.out) c.loop-line.good _
-    c.loop-line.invariant c.in_ok-good.ensures)
+    (wrote_more (g.Q.Queryable.replies c.args.view.now) (map (λ x. x.now) c.loop-line.yielded) c.in-Some.line.now (contents c.args.out.now) (contents c.loop-line.out)
+    (contents c.answer_line.new.out) c.loop-line.good _ c.loop-line.invariant c.in_ok-good.ensures)

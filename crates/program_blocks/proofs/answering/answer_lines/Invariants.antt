@@ -1,7 +1,7 @@
 use Rattle.std.proofs.Common.{map}
-use Rattle.matrix_block.specs.Block.{items_in}
 use Rattle.program_blocks.specs.Query.{WroteReplies}
 use Rattle.program_blocks.proofs.answering.answer_lines.Given as goal
 
 abbrev pub invariant-loop-line : goal.invariant-loop-line
-invariant-loop-line g l = WroteReplies (items_in l.matrix) (map (λ x. x.now) l.yielded) (g.W.Write.contents l.fn.out) (g.W.Write.contents l.out) l.good
+invariant-loop-line g l =
+    WroteReplies (g.Q.Queryable.replies l.view) (map (λ x. x.now) l.yielded) (g.W.Write.contents l.fn.out) (g.W.Write.contents l.out) l.good

@@ -1,0 +1,42 @@
+-- What is known of a block that was opened, or was not.
+use Rattle.std.proofs.Common.{◌≡◌, List, ℕ, Bool, Option, None, Some, Result, Ok, Err, subst, SomeIff, IsSomeAnd, IsNone, IfOk}
+use Rattle.program_blocks.specs.Bytes.{words_of_bytes}
+use Rattle.program_blocks.specs.Kind.{kind_in}
+use Rattle.program_blocks.specs.Query.{Told, WroteAnswers, WroteReplies}
+use Rattle.program_blocks.specs.Sound.{IsSound, IsSoundOf}
+use Rattle.program_blocks.specs.declared.kind.Kind.{Kind}
+use Rattle.program_blocks.specs.declared.question.Question.{Question}
+use Rattle.program_blocks.specs.declared.reply.Reply.{Reply}
+
+pub opened_has : {T : Type 0} (o : Option T) (S : Type 0) (v : T) (P : T → Type 0) → SomeIff o S v → IsSomeAnd o P → S × P v
+opened_has None S v P iff some = absurd some
+opened_has (Some x) S v P iff some = (iff.0, subst P iff.1 some)
+
+pub not_opened : {T : Type 0} (o : Option T) (S : Type 0) (v : T) → SomeIff o S v → IsNone o → ¬ S
+not_opened None S v iff none = iff
+not_opened (Some x) S v iff none = cc
+
+-- a block is sound where it is so as one of the kind that it says
+pub same_kind : (block : List ℕ) (kind : Kind) → kind_in block ≡ Some kind → IsSound block → IsSoundOf kind block
+same_kind block kind says h = let same : h.kind ≡ kind = cc in subst (λ k. IsSoundOf k block) same h.sound
+
+pub no_kind : (block : List ℕ) → kind_in block ≡ None → ¬ (IsSound block)
+no_kind block says h = cc
+
+-- what was written by an opened structure was written by what the block holds
+pub answers_kept : {E V : Type 0} (r : Result Bool E) (o : Option V) (S : Type 0) (v : V) (R : V → Question → Reply → Type 0) (lines : List (List ℕ))
+    (a b : Option (List ℕ)) → SomeIff o S v → IfOk r (λ good. IsSomeAnd o (λ view. WroteReplies (R view) lines a b good))
+    → IfOk r (λ good. WroteReplies (R v) lines a b good)
+answers_kept (Ok good) o S v R lines a b iff h = (opened_has o S v (λ view. WroteReplies (R view) lines a b good) iff h).1
+answers_kept (Err e) o S v R lines a b iff h = tt
+
+pub told_of_kind : {E : Type 0} (r : Result Bool E) (bytes text block : List ℕ) (kind : Kind) (a b : Option (List ℕ)) → words_of_bytes bytes ≡ Some block
+    → kind_in block ≡ Some kind → IfOk r (λ good. IsSoundOf kind block) → IfOk r (λ good. WroteAnswers kind block text a b good)
+    → IfOk r (λ good. Told bytes text a b good)
+told_of_kind (Ok good) bytes text block kind a b words says sound wrote = record {
+  block = block;
+  words = words;
+  sound = record { kind = kind; says = says; sound = sound };
+  wrote = wrote;
+}
+told_of_kind (Err e) bytes text block kind a b words says sound wrote = tt

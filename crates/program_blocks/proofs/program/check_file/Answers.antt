@@ -1,0 +1,5 @@
+use Rattle.program_blocks.proofs.lemmas.ProgramLemmas.{did_check}
+use Rattle.program_blocks.proofs.program.check_file.Goals as goal
+
+pub returns : goal.returns
+returns g c = did_check _ _ _ _ c.in_ok-write_check.ensures

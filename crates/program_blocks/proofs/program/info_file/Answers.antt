@@ -1,0 +1,5 @@
+use Rattle.program_blocks.proofs.lemmas.ProgramLemmas.{did_info}
+use Rattle.program_blocks.proofs.program.info_file.Goals as goal
+
+pub returns : goal.returns
+returns g c = did_info _ _ _ c.in_ok-info.ensures

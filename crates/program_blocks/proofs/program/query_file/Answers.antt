@@ -1,0 +1,5 @@
+use Rattle.program_blocks.proofs.lemmas.ProgramLemmas.{did_query}
+use Rattle.program_blocks.proofs.program.query_file.Goals as goal
+
+pub returns : goal.returns
+returns g c = did_query _ _ _ _ _ c.in_ok-query.ensures.answers

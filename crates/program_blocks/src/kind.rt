@@ -1,0 +1,86 @@
+//! The kinds of blocks that the program reads.
+ghost use Rattle.std.specs.Prelude.{◌≡◌};
+ghost use Rattle.program_blocks.specs.Kind.{kind_in, kind_named, order_of};
+
+use std::fmt;
+
+/// A kind of block that the program reads.
+#[derive(Clone, Copy, Debug, PartialEq, Eq)]
+pub enum Kind {
+    /// Bits with their index.
+    Bits,
+    /// A monotone sequence.
+    Sequence,
+    /// Bits of which few are 1.
+    Sparse,
+    /// Numbers that are queried by value.
+    Matrix,
+    /// A tree.
+    Tree,
+}
+
+impl fmt::Display for Kind {
+    ghost use Rattle.std.specs.Prelude.{Some};
+    ghost use Rattle.program_blocks.specs.Kind.{kind_text};
+
+    ghost output = { λ k. Some (kind_text k) };
+
+    fn fmt<W: fmt::Write>(&self, f: &mut fmt::Formatter<W>) -> fmt::Result {
+        match self {
+            Kind::Bits => write!(f, "bits"),
+            Kind::Sequence => write!(f, "sequence"),
+            Kind::Sparse => write!(f, "sparse"),
+            Kind::Matrix => write!(f, "matrix"),
+            Kind::Tree => write!(f, "tree"),
+        }
+    }
+}
+
+/// The kind of this name, if there is one.
+pub(crate) fn kind_named(name: &str) -> Option<Kind>
+    ensures { result ≡ kind_named name.now }
+{
+    if name == "bits" {
+        Some(Kind::Bits)
+    } else if name == "sequence" {
+        Some(Kind::Sequence)
+    } else if name == "sparse" {
+        Some(Kind::Sparse)
+    } else if name == "matrix" {
+        Some(Kind::Matrix)
+    } else if name == "tree" {
+        Some(Kind::Tree)
+    } else {
+        None
+    }
+}
+
+/// The kind that a block says it is of, if the program reads that kind.
+pub(crate) fn kind_in(block: &[u64]) -> Option<Kind>
+    ensures { result ≡ kind_in block.now }
+{
+    if block.len() < 2 {
+        return None;
+    }
+    match block[1] {
+        2 => Some(Kind::Bits),
+        3 => Some(Kind::Sequence),
+        4 => Some(Kind::Sparse),
+        6 => Some(Kind::Matrix),
+        7 => Some(Kind::Tree),
+        _ => None,
+    }
+}
+
+impl Kind {
+    /// Whether the numbers of a text have an order, and if so whether no two of them may be the same.
+    pub(crate) fn order(self) -> Option<bool>
+        ensures { result ≡ order_of self }
+    {
+        match self {
+            Kind::Sequence => Some(false),
+            Kind::Sparse => Some(true),
+            _ => None,
+        }
+    }
+}
