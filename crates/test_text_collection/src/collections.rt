@@ -16,7 +16,7 @@ fn goes_on(text: &[u64], from: usize, pattern: &[u64]) -> bool {
 }
 
 /// At how many positions of the documents the pattern stands, by a walk over all, the ends too.
-fn walk(documents: &[&[u64]], pattern: &[u64]) -> usize {
+pub(crate) fn walk(documents: &[&[u64]], pattern: &[u64]) -> usize {
     let mut count = 0usize;
     for document in documents {
         for from in 0..=document.len() {
@@ -27,7 +27,7 @@ fn walk(documents: &[&[u64]], pattern: &[u64]) -> usize {
 }
 
 /// A collection of these documents.
-fn collected(
+pub(crate) fn collected(
     alloc: Global,
     documents: &[&[u64]],
     letters: u16,

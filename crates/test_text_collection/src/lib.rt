@@ -6,3 +6,5 @@
 
 #[cfg(test)]
 mod collections;
+#[cfg(test)]
+mod found;

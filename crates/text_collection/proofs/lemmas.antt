@@ -1,4 +1,5 @@
 pub mod CollectLemmas
+pub mod FoundLemmas
 pub mod JoinLemmas
 pub mod OrderLemmas
 pub mod PartLemmas
