@@ -9,15 +9,18 @@ TIERS = (("mutants", "must-fail"), ("mutants/thorough",))
 
 
 class Edit:
-    """A mutant of a crate: the goal that it names, and its changes, each a file, a line of it and what takes its place."""
+    """A mutant of a crate: the goal that it names, other goals that fail with it, and its changes, each a file, a line of
+    it and what takes its place."""
 
     def __init__(self, path):
-        self.path, self.crate, self.goal, self.pairs = path, path.split("/")[1], None, []
+        self.path, self.crate, self.goal, self.also, self.pairs = path, path.split("/")[1], None, [], []
         self.text = read(path)
         file = old = None
-        for key, value in re.findall(r"^(goal|file|old|new): ?(.*)$", self.text, re.M):
+        for key, value in re.findall(r"^(goal|also|file|old|new): ?(.*)$", self.text, re.M):
             if key == "goal":
                 self.goal = value
+            elif key == "also":
+                self.also = value.split(", ")
             elif key == "file":
                 file = value
             elif key == "old":
