@@ -1,6 +1,5 @@
 pub mod BitsLemmas
 pub mod BuildingLemmas
-pub mod CommandLemmas
 pub mod OpenedLemmas
 pub mod ProgramLemmas
 pub mod ReplyLemmas

@@ -1,5 +1,5 @@
 -- Blocks that are as they were written.
-use Rattle.std.specs.Prelude.{◌≡◌, ℕ, List, Option, Some, IsSomeAnd}
+use Rattle.std.specs.Prelude.{◌≡◌, ℕ, List, Some, IsSomeAnd}
 use Rattle.bitm_block.specs.Header.{IsVerified}
 use Rattle.bits_block.specs.Block as bits
 use Rattle.louds_block.specs.Block as louds

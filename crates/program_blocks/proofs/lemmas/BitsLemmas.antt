@@ -1,8 +1,8 @@
 -- Where positions end, and bits of which those at positions are made 1.
-use Rattle.std.proofs.Common.{◌≡◌, ℕ, ◌+◌, ◌<◌, ◌≤◌, max, List, Bool, true, false, length, get_or, take, replicate, ◌∙◌, arith}
-use Rattle.std.specs.List.{All, Contains}
+use Rattle.std.proofs.Common.{◌≡◌, ℕ, ◌+◌, ◌<◌, ◌≤◌, max, List, Bool, true, length, get_or, take, replicate, ◌∙◌, arith}
+use Rattle.std.specs.List.{All}
 use Rattle.std.proofs.lemmas.List.Elements.{All-contains, All-more, Contains-get_or}
-use Rattle.bit_lists.specs.Bits.{bits_of, item}
+use Rattle.bit_lists.specs.Bits.{bits_of}
 use Rattle.bit_lists.proofs.lemmas.BesideLemmas.{item-zeros}
 use Rattle.bit_slices.specs.Listed.{IsSetAt}
 use Rattle.program_blocks.specs.Bits.{HasOnesAt}

@@ -1,5 +1,5 @@
 -- Which failure names which line.
-use Rattle.std.proofs.Common.{◌≡◌, ◌⊎◌, ℕ, List, None, sym, subst, inl, inr}
+use Rattle.std.proofs.Common.{◌≡◌, ℕ, List, None, sym, subst, inl, inr}
 use Rattle.program_text.specs.List.{numbers_of, wrong_line, IsListError}
 use Rattle.program_text.specs.declared.list.ListError.{ListError}
 use Rattle.program_text.specs.declared.list.ListError.TheVariants as list

@@ -1,5 +1,5 @@
 -- What is known of a block that was opened, or was not.
-use Rattle.std.proofs.Common.{◌≡◌, List, ℕ, Bool, Option, None, Some, Result, Ok, Err, subst, SomeIff, IsSomeAnd, IsNone, IfOk}
+use Rattle.std.proofs.Common.{◌≡◌, List, ℕ, Bool, Option, None, Some, Result, Ok, Err, subst, SomeIff, IsSomeAnd, IfOk}
 use Rattle.program_blocks.specs.Bytes.{words_of_bytes}
 use Rattle.program_blocks.specs.Kind.{kind_in}
 use Rattle.program_blocks.specs.Query.{Told, WroteAnswers, WroteReplies}
@@ -11,10 +11,6 @@ use Rattle.program_blocks.specs.declared.reply.Reply.{Reply}
 pub opened_has : {T : Type 0} (o : Option T) (S : Type 0) (v : T) (P : T → Type 0) → SomeIff o S v → IsSomeAnd o P → S × P v
 opened_has None S v P iff some = absurd some
 opened_has (Some x) S v P iff some = (iff.0, subst P iff.1 some)
-
-pub not_opened : {T : Type 0} (o : Option T) (S : Type 0) (v : T) → SomeIff o S v → IsNone o → ¬ S
-not_opened None S v iff none = iff
-not_opened (Some x) S v iff none = cc
 
 -- a block is sound where it is so as one of the kind that it says
 pub same_kind : (block : List ℕ) (kind : Kind) → kind_in block ≡ Some kind → IsSound block → IsSoundOf kind block
