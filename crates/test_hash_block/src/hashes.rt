@@ -257,12 +257,12 @@ fn hostile_sections_are_opened_and_refused_by_check(rt: HostRuntime) -> Result<(
 fn nothing_is_written_where_there_is_no_hash(rt: HostRuntime) -> Result<(), Fail> {
     let mut block = [7u64; 64];
     let words = WORDS.as_slice();
+    let short = &mut block.as_mut_slice()[..56];
+    assert!(rt; build(words, SIZES.as_slice(), 7, short) == Err(BuildError::WrongLength));
     for sizes in [[1usize, 2], [2, 0], [usize::MAX, 3]] {
         let refused = build(words, sizes.as_slice(), 7, block.as_mut_slice());
         assert!(rt; refused == Err(BuildError::NotLevels));
     }
-    let short = &mut block.as_mut_slice()[..56];
-    assert!(rt; build(words, SIZES.as_slice(), 7, short) == Err(BuildError::WrongLength));
     assert!(rt; block == [7u64; 64]);
     assert!(rt; size(1, 257).is_none());
     assert!(rt; size(1 << 58, 1).is_none());
