@@ -1,4 +1,4 @@
-"""Runs a program with memory.c loaded before it, which counts, and refuses what it is told to."""
+"""Runs a program with memory.c loaded before it: that counts, and refuses the request, the read or the write that is named."""
 import collections
 import fcntl
 import functools
