@@ -38,8 +38,8 @@ mod range_queries;
 mod sections;
 
 pub use bitm::Answer;
-pub use building::build;
+pub use building::{build, write_tables};
 pub use error::BuildError;
 pub use lent_levels::LevelsView;
 pub use matrix::MatrixView;
-pub use sections::{MATRIX, size};
+pub use sections::{Lens, MATRIX, matrix_sections, size};
