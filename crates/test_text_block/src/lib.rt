@@ -1,5 +1,6 @@
-//! Tests of the index of a text in a block: its answers beside those of a plain scan, each bit of the block flipped,
-//! each length cut off, each byte of a checked block changed, and other words with right checksums.
+//! Tests of the index of a text in a block: blocks that are written, beside those of a program in Python; answers
+//! beside those of a plain scan, each bit of the block flipped, each length cut off, each byte of a checked block
+//! changed, and other words with right checksums.
 //!
 //! They stand in a crate of their own, since a crate with tests is proved twice.
 #![tactic(auto)]
@@ -12,3 +13,5 @@ mod empty;
 mod mississippi;
 #[cfg(test)]
 mod texts;
+#[cfg(test)]
+mod writing;
