@@ -1,9 +1,10 @@
-//! Builds blocks of the numbers in a text, checks them, and answers questions to them (`docs/PROGRAM.md`).
+//! Builds blocks of the numbers in a text and the index of a text, checks them, and answers questions to them
+//! (`docs/PROGRAM.md`).
 #![tactic(auto)]
 
-use program_blocks::{CANNOT_READ, start};
+use program_blocks::CANNOT_READ;
 use std::env::Env;
-use std::io::BufWriter;
+use std::io::{BufWriter, Write};
 use std::process::ExitCode;
 use std::{env, io};
 
@@ -14,10 +15,20 @@ fn main(rt: HostRuntime) -> ExitCode {
     };
     // Without memory for a buffer each word and each answer is written by itself.
     let status = match BufWriter::new(rt.alloc(), rt.stdout()) {
-        Ok(mut out) => start(&rt, args.as_slice(), &mut out, &mut rt.stderr()),
-        Err(_) => start(&rt, args.as_slice(), &mut rt.stdout(), &mut rt.stderr()),
+        Ok(mut out) => run(&rt, args.as_slice(), &mut out),
+        Err(_) => run(&rt, args.as_slice(), &mut rt.stdout()),
     };
     ExitCode::from(status)
+}
+
+/// Does what the arguments say, those after `text` to a text, and answers the status.
+fn run<W: Write>(rt: &HostRuntime, args: &[String], out: &mut W) -> u8 {
+    match args.split_first() {
+        Some((word, rest)) if word.as_str() == "text" => {
+            program_texts::start(rt, rest, out, &mut rt.stderr())
+        }
+        _ => program_blocks::start(rt, args, out, &mut rt.stderr()),
+    }
 }
 
 /// The arguments without the name that the program is called by.

@@ -7,8 +7,15 @@ use crate::failure::CannotWrite;
 use std::alloc::{AllocError, Global};
 use std::io::Write;
 
-/// The words that the bytes are; `None` exactly where these are not eight for each word.
-pub(crate) fn words_of_bytes(alloc: Global, bytes: &[u8]) -> Result<Option<Vec<u64>>, AllocError>
+/// The words that the bytes are, the lowest byte of each first; `None` exactly where these are not eight for each word.
+///
+/// # Errors
+/// `AllocError` where memory was refused.
+///
+/// ```
+/// words_of_bytes(alloc, &[1, 0, 0, 0, 0, 0, 0, 0]);   // Ok(Some(..)) of the word 1
+/// ```
+pub fn words_of_bytes(alloc: Global, bytes: &[u8]) -> Result<Option<Vec<u64>>, AllocError>
     ensures { IfOk result (λ words. option_map (λ v. v.items) words ≡ words_of_bytes bytes.now) }
 {
     let (chunks, rest) = bytes.as_chunks::<8>();
@@ -22,8 +29,15 @@ pub(crate) fn words_of_bytes(alloc: Global, bytes: &[u8]) -> Result<Option<Vec<u
     Ok(Some(words))
 }
 
-/// Writes the bytes of the words.
-pub(crate) fn write_words<W: Write>(words: &[u64], out: &mut W) -> Result<(), CannotWrite>
+/// Writes the bytes of the words, the lowest byte of each first.
+///
+/// # Errors
+/// `CannotWrite` where a write failed; what was written before that stays.
+///
+/// ```
+/// write_words(&[1], &mut out);   // Ok(()): out has the bytes 1, 0, 0, 0, 0, 0, 0, 0
+/// ```
+pub fn write_words<W: Write>(words: &[u64], out: &mut W) -> Result<(), CannotWrite>
     ensures { OnOk result (Appends (W.contents out.old) (W.contents out.new) (bytes_of words.now)) }
 {
     for word in words {

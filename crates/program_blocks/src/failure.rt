@@ -26,7 +26,7 @@ pub enum Failure {
 
 /// A write failed.
 #[derive(Clone, Copy)]
-pub(crate) struct CannotWrite;
+pub struct CannotWrite;
 
 impl From<io::Error> for CannotWrite {
     fn from(_error: io::Error) -> CannotWrite {

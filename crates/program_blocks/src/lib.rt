@@ -16,6 +16,7 @@
 // - `program`: the program without its process
 // - `queryable`: what answers questions
 // - `question`: the question of a line
+// - `reading`: the bytes of files and of the standard input
 // - `reply`: the answer to a line
 // - `sequence`: blocks of a monotone sequence
 // - `sparse`: blocks of bits of which few are 1
@@ -34,6 +35,7 @@ mod opened;
 mod program;
 mod queryable;
 mod question;
+mod reading;
 mod reply;
 mod sequence;
 mod sparse;
@@ -41,7 +43,9 @@ mod tree;
 
 pub use answering::{check, query};
 pub use building::build;
+pub use bytes::{words_of_bytes, write_words};
 pub use describing::info;
-pub use failure::Failure;
+pub use failure::{CannotWrite, Failure};
 pub use kind::Kind;
-pub use program::{CANNOT_READ, start};
+pub use program::start;
+pub use reading::{CANNOT_READ, CannotRead, file, input};

@@ -9,17 +9,14 @@ use crate::command::{Command, command_in};
 use crate::describing::info;
 use crate::failure::Failure;
 use crate::kind::Kind;
+use crate::reading::{CANNOT_READ, CannotRead, file, input};
 use std::alloc::Global;
-use std::fs;
-use std::io::{Input, Read, Write};
+use std::io::{Input, Write};
 use std::rt::Files;
 
 /// What is written where the arguments are not those of a command.
 const USAGE: &str = "usage: bitm build KIND | bitm query BLOCK | bitm check BLOCK | bitm info BLOCK
-KIND is bits, sequence, sparse, matrix or tree";
-
-/// What is written where the arguments, a file or the standard input can't be read.
-pub const CANNOT_READ: &str = "bitm: cannot read";
+KIND is bits, sequence, sparse, matrix or tree; bitm text says what it does with a text";
 
 /// Why the program ends with status 2.
 #[derive(Clone, Copy)]
@@ -35,6 +32,12 @@ enum Stop {
 impl From<Failure> for Stop {
     fn from(failure: Failure) -> Stop {
         Stop::Failed(failure)
+    }
+}
+
+impl From<CannotRead> for Stop {
+    fn from(_error: CannotRead) -> Stop {
+        Stop::CannotRead
     }
 }
 
@@ -162,23 +165,6 @@ fn write_check<W: Write>(alloc: Global, block: &[u8], out: &mut W) -> Result<boo
     match writeln!(out, "{text}") {
         Ok(()) => Ok(good),
         Err(_) => Err(Failure::CannotWrite),
-    }
-}
-
-/// The bytes of a file.
-fn file<R: Files + AllocGlobal>(rt: &R, path: &str) -> Result<Vec<u8>, Stop> {
-    match fs::read(rt, path) {
-        Ok(bytes) => Ok(bytes),
-        Err(_) => Err(Stop::CannotRead),
-    }
-}
-
-/// The bytes of the standard input.
-fn input<R: Input + AllocGlobal>(rt: &R) -> Result<Vec<u8>, Stop> {
-    let mut bytes = Vec::new(rt.alloc());
-    match rt.reader().read_to_end(&mut bytes) {
-        Ok(_) => Ok(bytes),
-        Err(_) => Err(Stop::CannotRead),
     }
 }
 

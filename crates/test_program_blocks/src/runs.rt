@@ -190,7 +190,7 @@ fn expect_start(
 #[test]
 fn start_ends_with_the_status_and_text_of_its_file(rt: HostRuntime) -> Result<(), Fail> {
     let usage = "usage: bitm build KIND | bitm query BLOCK | bitm check BLOCK | bitm info BLOCK\n\
-         KIND is bits, sequence, sparse, matrix or tree\n";
+         KIND is bits, sequence, sparse, matrix or tree; bitm text says what it does with a text\n";
     expect_start(&rt, ("build", "forest"), 2, "", usage)?;
     expect_start(&rt, ("show", "."), 2, "", usage)?;
     expect_start(&rt, ("info", "."), 2, "", "bitm: cannot read\n")?;

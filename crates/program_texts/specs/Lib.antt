@@ -1,0 +1,6 @@
+pub mod Answers
+pub mod Building
+pub mod Command
+pub mod Failure
+pub mod File
+pub mod Program

@@ -1,0 +1,95 @@
+//! How often patterns stand in texts, and where.
+use program_texts::{Failure, build, count, locate};
+use std::process::Abort;
+use std::test::Fail;
+
+/// The file of a text.
+fn built(rt: &(impl Abort + AllocGlobal), text: &[u8]) -> Result<Vec<u8>, Fail> {
+    let mut out = Vec::new(rt.alloc());
+    build(rt.alloc(), text, &mut out)?;
+    Ok(out)
+}
+
+/// Compares at how many positions of a file's text a pattern stands, and at which.
+fn expect_found(
+    rt: &(impl Abort + AllocGlobal),
+    file: &[u8],
+    (pattern, times, positions): (&[u8], &str, &str),
+) -> Result<(), Fail> {
+    let mut out = Vec::new(rt.alloc());
+    count(rt.alloc(), file, pattern, &mut out)?;
+    assert!(rt; out.as_slice() == times.as_bytes());
+    let mut out = Vec::new(rt.alloc());
+    locate(rt.alloc(), file, pattern, &mut out)?;
+    assert!(rt; out.as_slice() == positions.as_bytes());
+    Ok(())
+}
+
+#[test]
+fn a_pattern_stands_where_the_text_has_it(rt: HostRuntime) -> Result<(), Fail> {
+    let file = built(&rt, b"banana".as_slice())?;
+    let file = file.as_slice();
+    expect_found(&rt, file, (b"ana".as_slice(), "2\n", "1\n3\n"))?;
+    expect_found(&rt, file, (b"a".as_slice(), "3\n", "1\n3\n5\n"))?;
+    expect_found(&rt, file, (b"banana".as_slice(), "1\n", "0\n"))?;
+    expect_found(&rt, file, (b"nab".as_slice(), "0\n", ""))?;
+    expect_found(&rt, file, (b"bananas".as_slice(), "0\n", ""))
+}
+
+#[test]
+fn the_empty_pattern_stands_at_each_position_and_the_end(rt: HostRuntime) -> Result<(), Fail> {
+    let file = built(&rt, b"abc".as_slice())?;
+    expect_found(
+        &rt,
+        file.as_slice(),
+        (b"".as_slice(), "4\n", "0\n1\n2\n3\n"),
+    )?;
+    let file = built(&rt, b"".as_slice())?;
+    expect_found(&rt, file.as_slice(), (b"".as_slice(), "1\n", "0\n"))?;
+    expect_found(&rt, file.as_slice(), (b"a".as_slice(), "0\n", ""))
+}
+
+#[test]
+fn all_bytes_are_letters(rt: HostRuntime) -> Result<(), Fail> {
+    let file = built(&rt, &[0, 255, 10, 255, 10, 0])?;
+    let file = file.as_slice();
+    expect_found(&rt, file, (&[255, 10], "2\n", "1\n3\n"))?;
+    expect_found(&rt, file, (&[0], "2\n", "0\n5\n"))?;
+    expect_found(&rt, file, (&[128], "0\n", ""))
+}
+
+#[test]
+fn positions_rise_in_a_text_of_one_letter(rt: HostRuntime) -> Result<(), Fail> {
+    let file = built(&rt, &[b'x'; 12])?;
+    let positions = "0\n1\n2\n3\n4\n5\n6\n7\n8\n9\n10\n";
+    expect_found(&rt, file.as_slice(), (b"xx".as_slice(), "11\n", positions))
+}
+
+/// Whether both calls say that these bytes are no file of a text, and write nothing.
+fn is_refused(rt: &impl AllocGlobal, file: &[u8]) -> bool {
+    let mut out = Vec::new(rt.alloc());
+    count(rt.alloc(), file, b"a".as_slice(), &mut out) == Err(Failure::WrongBlock)
+        && locate(rt.alloc(), file, b"a".as_slice(), &mut out) == Err(Failure::WrongBlock)
+        && out.is_empty()
+}
+
+/// Turns the lowest bit of a byte over.
+fn flip(file: &mut [u8], at: usize) {
+    if let Some(byte) = file.get_mut(at) {
+        *byte ^= 1;
+    }
+}
+
+#[test]
+fn other_bytes_are_a_wrong_block(rt: HostRuntime) -> Result<(), Fail> {
+    let mut file = built(&rt, b"mississippi".as_slice())?;
+    for at in 0..file.len() {
+        flip(file.as_mut_slice(), at);
+        assert!(rt; is_refused(&rt, file.as_slice()), "at byte {at}");
+        flip(file.as_mut_slice(), at);
+    }
+    for len in [0, 1, 8, 512, 1000] {
+        assert!(rt; is_refused(&rt, file.as_slice().get(..len).unwrap_or(&[])));
+    }
+    Ok(())
+}
