@@ -70,6 +70,56 @@ fn goes_up<S: SelectForRank101111, S0: Select0ForRank101111>(
     }
 }
 
+/// Whether child `k` of node `i`, by its number and by its place, has the number `child`.
+fn has_child<S: SelectForRank101111, S0: Select0ForRank101111>(
+    tree: &Louds<S, S0>,
+    i: usize,
+    k: usize,
+    child: Option<usize>,
+) -> bool {
+    if i >= tree.len() {
+        return false;
+    }
+    tree.child(i, k) == child && number_of(tree.child_of(tree.node(i), k)) == child
+}
+
+/// Whether the children of a node are the given number of nodes from the given one on.
+fn has_children<S: SelectForRank101111, S0: Select0ForRank101111>(
+    tree: &Louds<S, S0>,
+    i: usize,
+    degree: usize,
+    first: usize,
+) -> bool {
+    let mut agrees = true;
+    for k in 0..degree {
+        agrees &= has_child(tree, i, k, Some(first.wrapping_add(k)));
+    }
+    agrees
+}
+
+/// Whether a node has as many children as it should, by its number and by its place.
+fn has_degree<S: SelectForRank101111, S0: Select0ForRank101111>(
+    tree: &Louds<S, S0>,
+    i: usize,
+    degree: usize,
+) -> bool {
+    if i >= tree.len() {
+        return false;
+    }
+    let node = tree.node(i);
+    let by_number = (tree.degree(i), tree.is_leaf(i)) == (degree, degree == 0);
+    by_number && (tree.degree_of(node), tree.is_leaf_of(node)) == (degree, degree == 0)
+}
+
+/// Whether a node has no children from this one on.
+fn has_no_more<S: SelectForRank101111, S0: Select0ForRank101111>(
+    tree: &Louds<S, S0>,
+    i: usize,
+    degree: usize,
+) -> bool {
+    i < tree.len() && (tree.child(i, degree), tree.child(i, usize::MAX)) == (None, None)
+}
+
 /// Whether what each node says of its children is what the list says.
 fn goes_down<S: SelectForRank101111, S0: Select0ForRank101111>(
     tree: &Louds<S, S0>,
@@ -78,51 +128,61 @@ fn goes_down<S: SelectForRank101111, S0: Select0ForRank101111>(
     let mut agrees = tree.len() == degrees.len();
     let mut number = 1usize;
     for (i, degree) in degrees.iter().enumerate() {
-        if i >= tree.len() {
-            return false;
-        }
-        let node = tree.node(i);
-        agrees &= (tree.degree(i), tree.is_leaf(i)) == (*degree, *degree == 0);
-        agrees &= (tree.degree_of(node), tree.is_leaf_of(node)) == (*degree, *degree == 0);
-        for k in 0..*degree {
-            agrees &= tree.child(i, k) == Some(number);
-            agrees &= number_of(tree.child_of(node, k)) == Some(number);
-            number = number.wrapping_add(1);
-        }
-        agrees &= (tree.child(i, *degree), tree.child(i, usize::MAX)) == (None, None);
-        agrees &= goes_up(tree, degrees, i);
+        agrees &= has_degree(tree, i, *degree) && has_no_more(tree, i, *degree);
+        agrees &= has_children(tree, i, *degree, number) && goes_up(tree, degrees, i);
+        number = number.wrapping_add(*degree);
     }
     agrees
+}
+
+/// The tree of these degrees, by binary search.
+fn binary(alloc: Global, degrees: &[usize]) -> Result<BinaryLouds, LoudsError> {
+    BinaryLouds::build(alloc, degrees)
+}
+
+/// The tree of these degrees, by samples.
+fn sampled(alloc: Global, degrees: &[usize]) -> Result<SampledLouds, LoudsError> {
+    SampledLouds::build(alloc, degrees)
 }
 
 /// Whether degrees are taken exactly where they are those of a tree, which agrees with them; with whether they are.
 fn agrees(alloc: Global, degrees: &[usize]) -> (bool, bool) {
     let right = has_parents(degrees);
     let told = is_tree(degrees) == right;
-    match BinaryLouds::build(alloc, degrees) {
+    match binary(alloc, degrees) {
         Ok(tree) => (told && right && goes_down(&tree, degrees), right),
         Err(error) => (told && !right && error == LoudsError::NotATree, right),
     }
+}
+
+/// Writes the digits of a code in the given base, and answers their sum.
+fn write_digits(degrees: &mut [usize], code: usize, base: usize) -> usize {
+    let (mut rest, mut sum) = (code, 0usize);
+    for degree in degrees {
+        *degree = rest % base.max(1);
+        sum = sum.wrapping_add(*degree);
+        rest /= base.max(1);
+    }
+    sum
+}
+
+/// Whether the list of degrees below `len` of a code is a tree; `None` where it does not agree, `Some(false)` where
+/// its sum is not below `len`.
+fn is_coded(alloc: Global, len: usize, code: usize) -> Option<bool> {
+    let mut degrees = [0usize; 7];
+    let sum = write_digits(&mut degrees[..len.min(7)], code, len);
+    if sum >= len.max(1) {
+        return Some(false);
+    }
+    let (good, is_tree) = agrees(alloc, &degrees[..len.min(7)]);
+    if good { Some(is_tree) } else { None }
 }
 
 /// How many of the lists of `len` degrees below it, with a sum below it, are trees; `None` where one does not agree.
 fn trees_of(alloc: Global, len: usize) -> Option<u32> {
     let mut trees = 0u32;
     for code in 0..len.checked_pow(len.min(7) as u32)? {
-        let mut degrees = [0usize; 7];
-        let (mut rest, mut sum) = (code, 0usize);
-        for degree in &mut degrees[..len.min(7)] {
-            *degree = rest % len.max(1);
-            sum = sum.wrapping_add(*degree);
-            rest /= len.max(1);
-        }
-        if sum < len.max(1) {
-            let (good, is_tree) = agrees(alloc, &degrees[..len.min(7)]);
-            if !good {
-                return None;
-            }
-            trees = trees.wrapping_add(is_tree as u32);
-        }
+        trees = trees.wrapping_add(is_coded(alloc, len, code)? as u32);
     }
     Some(trees)
 }
@@ -148,69 +208,107 @@ fn wide(alloc: Global, len: usize, width: usize) -> Result<Vec<usize>, AllocErro
     Ok(degrees)
 }
 
+/// Whether what each node says of its parent and siblings is what the list says.
+fn all_go_up(tree: &SampledLouds, degrees: &[usize]) -> bool {
+    let mut agrees = true;
+    for i in 0..degrees.len() {
+        agrees &= goes_up(tree, degrees, i);
+    }
+    agrees
+}
+
+/// Whether these degrees are taken, and the nodes of their tree do so.
+fn is_walked_up(alloc: Global, degrees: &[usize]) -> bool {
+    match sampled(alloc, degrees) {
+        Ok(tree) => all_go_up(&tree, degrees),
+        Err(_) => false,
+    }
+}
+
+/// Whether those of a tree of `len` nodes, each of which has `width` children while there are nodes left, do so.
+fn wide_agrees(alloc: Global, len: usize, width: usize) -> Result<bool, AllocError> {
+    let degrees = wide(alloc, len, width)?;
+    Ok(degrees.len() == len && is_walked_up(alloc, degrees.as_slice()))
+}
+
 #[test]
 fn paths_stars_and_wide_trees_agree(rt: HostRuntime) -> Result<(), Fail> {
     for len in [1usize, 2, 64, 300, 1100] {
         for width in [1usize, 2, 63, 64, 2000] {
-            let degrees = wide(rt.alloc(), len, width)?;
-            let Ok(tree) = SampledLouds::build(rt.alloc(), degrees.as_slice()) else {
-                return Err("refused".into());
-            };
-            for i in 0..len {
-                assert!(rt; goes_up(&tree, degrees.as_slice(), i));
-            }
+            assert!(rt; wide_agrees(rt.alloc(), len, width)?);
         }
     }
     Ok(())
 }
 
-/// Stops where a tree says otherwise than by hand: 0 has the children 1 2 3; 1 has 4 5; 3 has 6.
-fn is_as_by_hand(rt: &impl Abort, tree: &SampledLouds) {
-    assert!(rt; tree.len() == 7);
-    let children = [
-        tree.child(0, 2),
-        tree.child(1, 1),
-        tree.child(3, 0),
-        tree.child(2, 0),
-    ];
-    assert!(rt; children == [Some(3), Some(5), Some(6), None]);
-    let up = [tree.parent(6), tree.parent(5), tree.child_rank(5)];
-    assert!(rt; up == [Some(3), Some(1), Some(1)]);
-    assert!(rt; [tree.next_sibling(4), tree.next_sibling(5)] == [Some(5), None]);
-    assert!(rt; [tree.is_leaf(2), tree.is_leaf(3)] == [true, false]);
+/// Nodes of a tree in which 0 has the children 1 2 3, 1 has 4 5, and 3 has 6; each with the index of a child and that.
+const CHILDREN: [(usize, usize, Option<usize>); 4] = [
+    (0, 2, Some(3)),
+    (1, 1, Some(5)),
+    (3, 0, Some(6)),
+    (2, 0, None),
+];
+
+/// Whether the children of this tree's nodes are those by hand.
+fn children_are_by_hand(tree: &SampledLouds) -> bool {
+    let mut agrees = tree.len() == 7;
+    for (node, k, child) in CHILDREN {
+        agrees &= node < tree.len() && tree.child(node, k) == child;
+    }
+    agrees
+}
+
+/// Whether the parents, siblings and leaves of this tree are those by hand.
+fn others_are_by_hand(tree: &SampledLouds) -> bool {
+    if tree.len() != 7 {
+        return false;
+    }
+    let mut agrees = tree.parent(6) == Some(3) && tree.parent(5) == Some(1);
+    agrees &= tree.child_rank(5) == Some(1);
+    agrees &= tree.next_sibling(4) == Some(5) && tree.next_sibling(5) == None;
+    agrees && tree.is_leaf(2) && !tree.is_leaf(3)
+}
+
+/// Whether a tree of these degrees answers as by hand.
+fn is_by_hand(alloc: Global, degrees: &[usize]) -> bool {
+    match sampled(alloc, degrees) {
+        Ok(tree) => children_are_by_hand(&tree) && others_are_by_hand(&tree),
+        Err(_) => false,
+    }
 }
 
 #[test]
 fn answers_are_those_worked_by_hand(rt: HostRuntime) -> Result<(), Fail> {
-    match SampledLouds::build(rt.alloc(), [3usize, 2, 0, 1, 0, 0, 0].as_slice()) {
-        Ok(tree) => {
-            is_as_by_hand(&rt, &tree);
-            Ok(())
-        }
-        Err(_) => Err("refused".into()),
-    }
+    assert!(rt; is_by_hand(rt.alloc(), [3usize, 2, 0, 1, 0, 0, 0].as_slice()));
+    Ok(())
+}
+
+/// Why degrees are refused; `None` where they are not.
+fn refused(alloc: Global, degrees: &[usize]) -> Option<LoudsError> {
+    binary(alloc, degrees).err()
 }
 
 #[test]
 fn too_great_degrees_are_no_tree(rt: HostRuntime) -> Result<(), Fail> {
     for degrees in [[usize::MAX, 0, 0], [1, usize::MAX, 1], [3, 0, 0]] {
-        match BinaryLouds::build(rt.alloc(), degrees.as_slice()) {
-            Ok(_) => return Err("taken".into()),
-            Err(error) => assert!(rt; error == LoudsError::NotATree),
-        }
+        assert!(rt; refused(rt.alloc(), degrees.as_slice()) == Some(LoudsError::NotATree));
     }
     Ok(())
 }
 
+/// Whether an error prints this text.
+fn says(alloc: Global, error: LoudsError, text: &str) -> Result<bool, Fail> {
+    Ok(format!(in alloc; "{}", error)?.as_str() == text)
+}
+
 #[test]
 fn an_error_says_what_it_is(rt: HostRuntime) -> Result<(), Fail> {
-    let alloc = rt.alloc();
     for (error, text) in [
         (LoudsError::NotATree, "the degrees are those of no tree"),
         (LoudsError::TooLong, "there are 2^60 degrees or more"),
         (LoudsError::OutOfMemory, "no memory"),
     ] {
-        assert!(rt; format!(in alloc; "{}", error)?.as_str() == text);
+        assert!(rt; says(rt.alloc(), error, text)?);
     }
     Ok(())
 }

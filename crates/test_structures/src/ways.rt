@@ -5,6 +5,11 @@ use std::alloc::Global;
 use std::process::Abort;
 use std::test::Fail;
 
+/// The parent of a node.
+fn parent_in(parents: &[usize], node: usize) -> Option<usize> {
+    parents.get(node.checked_sub(1)?).copied()
+}
+
 /// How many steps up lead from one node to another; `None` where none do.
 fn steps(parents: &[usize], node: usize, above: usize) -> Option<usize> {
     let mut at = node;
@@ -12,7 +17,7 @@ fn steps(parents: &[usize], node: usize, above: usize) -> Option<usize> {
         if at == above {
             return Some(count);
         }
-        at = parents.get(at.checked_sub(1)?).copied()?;
+        at = parent_in(parents, at)?;
     }
     None
 }
@@ -28,24 +33,50 @@ fn lowest(parents: &[usize], one: usize, other: usize) -> usize {
     low
 }
 
-/// Whether what a tree says of each two of its nodes is what the list of parents says.
-fn agrees(tree: &BinaryLouds, parents: &[usize]) -> bool {
-    let len = tree.len();
-    let mut agrees = len == parents.len().saturating_add(1);
-    for one in 0..len {
-        let parent = one.checked_sub(1).and_then(|at| parents.get(at).copied());
-        agrees &= tree.parent(one) == parent && Some(tree.depth(one)) == steps(parents, one, 0);
-        for other in 0..len {
-            agrees &= tree.is_ancestor(one, other) == steps(parents, other, one).is_some();
-            agrees &= tree.lowest_common_ancestor(one, other) == lowest(parents, one, other);
-        }
+/// Whether what a tree says of two nodes is what the list of parents says.
+fn two_agree(tree: &BinaryLouds, parents: &[usize], one: usize, other: usize) -> bool {
+    if one >= tree.len() || other >= tree.len() {
+        return false;
+    }
+    let is_above = tree.is_ancestor(one, other) == steps(parents, other, one).is_some();
+    is_above && tree.lowest_common_ancestor(one, other) == lowest(parents, one, other)
+}
+
+/// Whether what a tree says of one node is what the list of parents says.
+fn one_agrees(tree: &BinaryLouds, parents: &[usize], one: usize) -> bool {
+    if one >= tree.len() {
+        return false;
+    }
+    let is_below = tree.parent(one) == parent_in(parents, one);
+    is_below && Some(tree.depth(one)) == steps(parents, one, 0)
+}
+
+/// Whether what a tree says of one node and each of its nodes is what the list of parents says.
+fn all_agree(tree: &BinaryLouds, parents: &[usize], one: usize) -> bool {
+    let mut agrees = one_agrees(tree, parents, one);
+    for other in 0..tree.len() {
+        agrees &= two_agree(tree, parents, one, other);
     }
     agrees
 }
 
+/// Whether what a tree says of each two of its nodes is what the list of parents says.
+fn agrees(tree: &BinaryLouds, parents: &[usize]) -> bool {
+    let mut agrees = tree.len() == parents.len().saturating_add(1);
+    for one in 0..tree.len() {
+        agrees &= all_agree(tree, parents, one);
+    }
+    agrees
+}
+
+/// The tree of a list of parents.
+fn tree_of(alloc: Global, parents: &[usize]) -> Result<BinaryLouds, LoudsError> {
+    BinaryLouds::from_parents(alloc, parents)
+}
+
 /// Whether a list of parents is taken, and the tree agrees with it; `None` where it is not taken, though it should be.
 fn taken(alloc: Global, parents: &[usize]) -> Option<bool> {
-    match BinaryLouds::from_parents(alloc, parents) {
+    match tree_of(alloc, parents) {
         Ok(tree) => agrees(&tree, parents).then_some(true),
         Err(error) => (error == LoudsError::NotATree && !are_parents(parents)).then_some(false),
     }
@@ -95,49 +126,79 @@ fn all_lists_of_four_parents_give_trees_or_none(rt: HostRuntime) {
     assert!(rt; trees == 14);
 }
 
-/// Stops where a tree's ways are others than by hand: 0 has the children 1 2 3; 1 has 4 5; 3 has 6.
-fn leads_as_by_hand(rt: &impl Abort, tree: &BinaryLouds) {
-    assert!(rt; tree.len() == 7);
-    assert!(rt; [tree.degree(0), tree.degree(3), tree.depth(6)] == [3, 1, 2]);
-    let low = [
-        tree.lowest_common_ancestor(4, 5),
-        tree.lowest_common_ancestor(5, 6),
-        tree.lowest_common_ancestor(3, 6),
-    ];
-    assert!(rt; low == [1, 0, 3]);
-    assert!(rt; [tree.is_ancestor(3, 6), tree.is_ancestor(1, 6)] == [true, false]);
-    let before = [
-        tree.previous_sibling(5),
-        tree.previous_sibling(4),
-        tree.previous_sibling(0),
-    ];
-    assert!(rt; before == [Some(4), None, None]);
-    let below = tree.children_of_range(1..3);
-    assert!(rt; (below.start, below.end) == (4, 6));
+/// Two nodes of a tree in which 0 has the children 1 2 3, 1 has 4 5, and 3 has 6; and the lowest node above both.
+const LOWEST: [(usize, usize, usize); 3] = [(4, 5, 1), (5, 6, 0), (3, 6, 3)];
+
+/// Whether the lowest nodes above two nodes are those by hand.
+fn lowest_are_by_hand(tree: &BinaryLouds) -> bool {
+    let mut agrees = true;
+    for (one, other, low) in LOWEST {
+        agrees &= one < tree.len() && other < tree.len();
+        agrees = agrees && tree.lowest_common_ancestor(one, other) == low;
+    }
+    agrees
 }
 
-/// Stops where a counted walk of the same tree is another than by hand.
-fn counts_as_by_hand(rt: &impl Abort, tree: &BinaryLouds) {
+/// Whether a tree's other ways are those by hand.
+fn leads_as_by_hand(tree: &BinaryLouds) -> bool {
+    if tree.len() != 7 {
+        return false;
+    }
+    let mut agrees = tree.degree(0) == 3 && tree.degree(3) == 1 && tree.depth(6) == 2;
+    agrees &= tree.is_ancestor(3, 6) && !tree.is_ancestor(1, 6);
+    agrees &= tree.previous_sibling(5) == Some(4);
+    agrees &= tree.previous_sibling(4) == None && tree.previous_sibling(0) == None;
+    agrees
+}
+
+/// Whether the children of a range of its nodes are those by hand.
+fn range_is_by_hand(tree: &BinaryLouds) -> bool {
+    if tree.len() != 7 {
+        return false;
+    }
+    let below = tree.children_of_range(1..3);
+    below.start == 4 && below.end == 6
+}
+
+/// Whether a counted walk down the same tree is that by hand.
+fn counts_down_as_by_hand(tree: &BinaryLouds) -> bool {
     let len = tree.len();
-    assert!(rt; len == 7);
+    if len != 7 {
+        return false;
+    }
     let probe = &mut tree.probe();
-    assert!(rt; (degree_on(probe, len, 1), is_leaf_on(probe, len, 2)) == (2, true));
-    assert!(rt; (child_on(probe, len, 3, 0), parent_on(probe, len, 5)) == (Some(6), Some(1)));
-    let next = (
+    let (degree, is_leaf) = (degree_on(probe, len, 1), is_leaf_on(probe, len, 2));
+    let child = child_on(probe, len, 3, 0);
+    degree == 2 && is_leaf && child == Some(6)
+}
+
+/// Whether a counted walk up it and across it is that by hand.
+fn counts_up_as_by_hand(tree: &BinaryLouds) -> bool {
+    let len = tree.len();
+    if len != 7 {
+        return false;
+    }
+    let probe = &mut tree.probe();
+    let parent = parent_on(probe, len, 5);
+    let (next, none) = (
         next_sibling_on(probe, len, 4),
         next_sibling_on(probe, len, 5),
     );
-    assert!(rt; next == (Some(5), None));
+    parent == Some(1) && next == Some(5) && none == None
+}
+
+/// Whether all ways of the tree of these parents are those by hand.
+fn is_by_hand(alloc: Global, parents: &[usize]) -> bool {
+    let Ok(tree) = tree_of(alloc, parents) else {
+        return false;
+    };
+    let mut agrees = lowest_are_by_hand(&tree) && leads_as_by_hand(&tree);
+    agrees &= range_is_by_hand(&tree);
+    agrees && counts_down_as_by_hand(&tree) && counts_up_as_by_hand(&tree)
 }
 
 #[test]
 fn ways_are_those_worked_by_hand(rt: HostRuntime) -> Result<(), Fail> {
-    match BinaryLouds::from_parents(rt.alloc(), [0usize, 0, 0, 1, 1, 3].as_slice()) {
-        Ok(tree) => {
-            leads_as_by_hand(&rt, &tree);
-            counts_as_by_hand(&rt, &tree);
-            Ok(())
-        }
-        Err(_) => Err("refused".into()),
-    }
+    assert!(rt; is_by_hand(rt.alloc(), [0usize, 0, 0, 1, 1, 3].as_slice()));
+    Ok(())
 }
