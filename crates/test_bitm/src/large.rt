@@ -32,6 +32,13 @@ fn expect_places<I: Select + Select0>(rt: &impl Abort, index: &I) {
     }
 }
 
+/// Queries an index, and compares the number of 1 bits.
+fn expect_all<I: Rank + Select + Select0>(rt: &impl Abort, index: &I, total: usize) {
+    assert!(rt; total == 0x200_0000);
+    expect_ranks(rt, index);
+    expect_places(rt, index);
+}
+
 /// Builds an index with these strategies, and queries it.
 fn expect_answers<S: SelectForRank101111, S0: Select0ForRank101111>(
     rt: &impl Abort,
@@ -43,9 +50,7 @@ fn expect_answers<S: SelectForRank101111, S0: Select0ForRank101111>(
     }
     match RankSelect101111::<S, S0, Words>::build(alloc, content) {
         Ok((index, total)) => {
-            assert!(rt; total == 0x200_0000);
-            expect_ranks(rt, &index);
-            expect_places(rt, &index);
+            expect_all(rt, &index, total);
             Ok(())
         }
         Err(_) => Err(AllocError),

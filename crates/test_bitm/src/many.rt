@@ -77,6 +77,58 @@ fn ask(index: &Index<'_>, call: Call, queries: &[usize], answers: &mut [usize]) 
     }
 }
 
+/// The given number of queries below the limit, far apart, and one at the limit.
+fn queries_to(alloc: Global, limit: usize, count: usize) -> Result<Vec<usize>, AllocError> {
+    let mut queries = Vec::new(alloc);
+    for k in 0..count {
+        let below = k.wrapping_mul(1_000_003) % limit.max(1);
+        queries.push(limit.wrapping_sub(1).wrapping_sub(below))?;
+    }
+    queries.push(limit)?;
+    Ok(queries)
+}
+
+/// Whether queries are answered rightly, into as many entries.
+fn are_answered(
+    index: &Index<'_>,
+    content: Content,
+    call: Call,
+    queries: &[usize],
+    answers: &mut [usize],
+) -> bool {
+    let mut agrees = ask(index, call, queries, &mut *answers);
+    for (query, answer) in queries.iter().zip(answers.iter()) {
+        agrees &= *answer == content.expected(call, *query);
+    }
+    agrees
+}
+
+/// Whether these queries but the last are answered rightly, and whether all are refused together, into as many entries.
+fn all_agree(
+    index: &Index<'_>,
+    content: Content,
+    call: Call,
+    queries: &[usize],
+    answers: &mut [usize],
+) -> bool {
+    let below = queries.len().saturating_sub(1);
+    if below >= answers.len() {
+        return false;
+    }
+    let agrees = are_answered(
+        index,
+        content,
+        call,
+        &queries[..below],
+        &mut answers[..below],
+    );
+    if let Some(last) = answers.last_mut() {
+        *last = 7;
+    }
+    let is_refused = !ask(index, call, queries, &mut *answers);
+    agrees && is_refused && answers.last().copied() == Some(7)
+}
+
 /// Whether the given number of queries below the limit, far apart, are answered rightly, and whether the same queries
 /// and one at the limit are refused together.
 fn agrees(
@@ -86,38 +138,30 @@ fn agrees(
     call: Call,
     count: usize,
 ) -> Result<bool, AllocError> {
-    let limit = content.limit(call);
-    let mut queries = Vec::new(alloc);
-    for k in 0..count {
-        let below = k.wrapping_mul(1_000_003) % limit.max(1);
-        queries.push(limit.wrapping_sub(1).wrapping_sub(below))?;
-    }
-    let mut answers = vec![in alloc; usize::MAX; count]?;
-    let mut agrees = ask(index, call, queries.as_slice(), answers.as_mut_slice());
-    for (query, answer) in queries.iter().zip(answers.iter()) {
-        agrees &= *answer == content.expected(call, *query);
-    }
-    queries.push(limit)?;
-    answers.push(7)?;
-    agrees &= !ask(index, call, queries.as_slice(), answers.as_mut_slice());
-    Ok(agrees && answers.last().copied() == Some(7))
+    let queries = queries_to(alloc, content.limit(call), count)?;
+    let mut answers = vec![in alloc; usize::MAX; queries.len()]?;
+    Ok(all_agree(
+        index,
+        content,
+        call,
+        queries.as_slice(),
+        answers.as_mut_slice(),
+    ))
 }
 
 /// Whether each of the calls agrees, for no queries up to a thousand.
 fn calls_agree(alloc: Global, index: &Index<'_>, content: Content) -> Result<bool, AllocError> {
     let mut all = true;
-    for call in [Call::Rank, Call::Select, Call::Select0] {
-        for count in [0, 1, 16, 17, 33, 1000] {
-            all &= agrees(alloc, index, content, call, count)?;
-        }
+    for count in [0, 1, 16, 17, 33, 1000] {
+        all &= agrees(alloc, index, content, Call::Rank, count)?;
+        all &= agrees(alloc, index, content, Call::Select, count)?;
+        all &= agrees(alloc, index, content, Call::Select0, count)?;
     }
     Ok(all)
 }
 
-/// The same over an index that is built for them.
-fn content_agrees(alloc: Global, content: Content) -> Result<bool, AllocError> {
-    let words = content.words(alloc)?;
-    let words = words.as_slice();
+/// The same over an index that is built over the content's words.
+fn words_agree(alloc: Global, words: &[u64], content: Content) -> Result<bool, AllocError> {
     if words.len() >= 1_000_000 {
         return Ok(false);
     }
@@ -125,6 +169,12 @@ fn content_agrees(alloc: Global, content: Content) -> Result<bool, AllocError> {
         Ok((index, _)) => calls_agree(alloc, &index, content),
         Err(_) => Err(AllocError),
     }
+}
+
+/// The same with the words made for it.
+fn content_agrees(alloc: Global, content: Content) -> Result<bool, AllocError> {
+    let words = content.words(alloc)?;
+    words_agree(alloc, words.as_slice(), content)
 }
 
 #[test]

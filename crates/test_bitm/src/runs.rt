@@ -46,12 +46,11 @@ impl Write for Failing {
     }
 }
 
-/// The answers to an input, and whether each line was a command.
-fn answers(rt: &(impl Abort + AllocGlobal), input: &str) -> Result<(String, bool), Fail> {
-    let mut out = Vec::new(rt.alloc());
-    let good = run(rt.alloc(), input.as_bytes(), &mut out)?;
-    let text = String::from_utf8(out)?;
-    Ok((text, good))
+/// Whether the answers to an input are `text`, and whether each line was a command is `good`.
+fn is_answered(alloc: Global, input: &str, text: &str, good: bool) -> Result<bool, Fail> {
+    let mut out = Vec::new(alloc);
+    let got_good = run(alloc, input.as_bytes(), &mut out)?;
+    Ok(out.as_slice() == text.as_bytes() && got_good == good)
 }
 
 /// Compares the answers to an input with `text`, and whether each line was a command with `good`.
@@ -61,10 +60,29 @@ fn expect_answers(
     text: &str,
     good: bool,
 ) -> Result<(), Fail> {
-    let (got, got_good) = answers(rt, input)?;
-    assert_eq!(rt; got.as_str(), text, "at {input:?}");
-    assert_eq!(rt; got_good, good, "at {input:?}");
+    assert!(rt; is_answered(rt.alloc(), input, text, good)?, "at {input:?}");
     Ok(())
+}
+
+/// The lines of rows, or the answers, one below the other.
+fn column(alloc: Global, rows: &[(&str, &str)], of_answers: bool) -> Result<String, Fail> {
+    let mut text = String::new(alloc);
+    for (line, answer) in rows {
+        text.push_str(if of_answers { answer } else { line })?;
+        text.push_str("\n")?;
+    }
+    Ok(text)
+}
+
+/// Compares the answers to an input with those of rows.
+fn expect_rows(
+    rt: &(impl Abort + AllocGlobal),
+    input: &str,
+    rows: &[(&str, &str)],
+    good: bool,
+) -> Result<(), Fail> {
+    let text = column(rt.alloc(), rows, true)?;
+    expect_answers(rt, input, text.as_str(), good)
 }
 
 /// Compares the answer to each line with the one beside it, in one session.
@@ -73,15 +91,8 @@ fn expect_session(
     rows: &[(&str, &str)],
     good: bool,
 ) -> Result<(), Fail> {
-    let mut input = String::new(rt.alloc());
-    let mut text = String::new(rt.alloc());
-    for (line, answer) in rows {
-        input.push_str(line)?;
-        input.push_str("\n")?;
-        text.push_str(answer)?;
-        text.push_str("\n")?;
-    }
-    expect_answers(rt, input.as_str(), text.as_str(), good)
+    let input = column(rt.alloc(), rows, false)?;
+    expect_rows(rt, input.as_str(), rows, good)
 }
 
 #[test]
@@ -227,15 +238,27 @@ fn empty_lines_are_passed_over_and_the_last_may_end_open(rt: HostRuntime) -> Res
     expect_answers(&rt, input, "ok 2\n", true)
 }
 
-#[test]
-fn a_vector_has_at_most_65536_words(rt: HostRuntime) -> Result<(), Fail> {
-    let mut input = String::from_str(rt.alloc(), "words")?;
+/// A line of 65,536 words, and what follows them.
+fn most_words(alloc: Global, after: &str) -> Result<String, Fail> {
+    let mut input = String::from_str(alloc, "words")?;
     for _ in 0..65536 {
         input.push_str(" 0")?;
     }
-    assert!(rt; answers(&rt, input.as_str())?.0.as_str() == "ok 65536\n");
-    input.push_str(" 0\nset 0\n")?;
-    assert!(rt; answers(&rt, input.as_str())?.0.as_str() == "bad command\nnone\n");
+    input.push_str(after)?;
+    Ok(input)
+}
+
+/// Whether the answers to 65,536 words and what follows them are `text`.
+fn are_words_answered(alloc: Global, after: &str, text: &str, good: bool) -> Result<bool, Fail> {
+    let input = most_words(alloc, after)?;
+    is_answered(alloc, input.as_str(), text, good)
+}
+
+#[test]
+fn a_vector_has_at_most_65536_words(rt: HostRuntime) -> Result<(), Fail> {
+    assert!(rt; are_words_answered(rt.alloc(), "", "ok 65536\n", true)?);
+    let (after, text) = (" 0\nset 0\n", "bad command\nnone\n");
+    assert!(rt; are_words_answered(rt.alloc(), after, text, false)?);
     Ok(())
 }
 
@@ -245,62 +268,93 @@ const FOUR_LINES: &str = "words 5\nrank 1\nbuild simple\nrank 3\n";
 /// The answers to the four lines.
 const FOUR_ANSWERS: &str = "ok 1\nnot built\nones 2\n2\n";
 
-#[test]
-fn run_tells_that_a_write_failed_and_else_answers_all(rt: HostRuntime) -> Result<(), Fail> {
-    let mut enough = None;
-    for writes_left in 0..100 {
-        let mut out = Failing::new(rt.alloc(), writes_left, true);
-        match run(rt.alloc(), FOUR_LINES.as_bytes(), &mut out) {
-            Err(WriteFailed) => {}
-            Ok(good) => {
-                assert!(rt; good);
-                assert!(rt; out.written.as_slice() == FOUR_ANSWERS.as_bytes());
-                enough = Some(writes_left);
-                break;
-            }
+/// Whether `run` answers the four lines over a writer that fails after the given number of writes; `None` where an
+/// answer is another than by hand.
+fn answers_over(alloc: Global, writes_left: u32) -> Option<bool> {
+    let mut out = Failing::new(alloc, writes_left, true);
+    match run(alloc, FOUR_LINES.as_bytes(), &mut out) {
+        Err(WriteFailed) => Some(false),
+        Ok(good) => {
+            let is_right = good && out.written.as_slice() == FOUR_ANSWERS.as_bytes();
+            if is_right { Some(true) } else { None }
         }
     }
-    assert!(rt; enough.is_some_and(|writes| writes >= 4));
+}
+
+/// The least number of writes by which `run` answers, below 100; `None` where one before it is another than by hand.
+fn enough_to_run(alloc: Global) -> Option<u32> {
+    for writes_left in 0..100 {
+        if answers_over(alloc, writes_left)? {
+            return Some(writes_left);
+        }
+    }
+    None
+}
+
+#[test]
+fn run_tells_that_a_write_failed_and_else_answers_all(rt: HostRuntime) -> Result<(), Fail> {
+    assert!(rt; enough_to_run(rt.alloc()).is_some_and(|writes| writes >= 4));
     Ok(())
 }
 
-/// Runs `start` and compares its status and what it writes.
-fn expect_start(
-    rt: &(impl Abort + Files + AllocGlobal),
+/// These words, as arguments of a program.
+fn strings(alloc: Global, words: &[&str]) -> Result<Vec<String>, Fail> {
+    let mut args = Vec::new(alloc);
+    for word in words {
+        args.push(String::from_str(alloc, word)?)?;
+    }
+    Ok(args)
+}
+
+/// Whether `start` ends with this status and writes these texts.
+fn starts(
+    rt: &(impl Files + AllocGlobal),
     args: &[String],
     status: u8,
     out_text: &str,
     err_text: &str,
-) {
+) -> bool {
     let mut out = Vec::new(rt.alloc());
     let mut err = Vec::new(rt.alloc());
-    assert!(rt; start(rt, args, &mut out, &mut err) == status);
-    assert!(rt; out.as_slice() == out_text.as_bytes());
-    assert!(rt; err.as_slice() == err_text.as_bytes());
+    let is_status = start(rt, args, &mut out, &mut err) == status;
+    let is_out = out.as_slice() == out_text.as_bytes();
+    is_status && is_out && err.as_slice() == err_text.as_bytes()
+}
+
+/// Runs `start` with these arguments and compares its status and what it writes.
+fn expect_start(
+    rt: &(impl Abort + Files + AllocGlobal),
+    words: &[&str],
+    status: u8,
+    out_text: &str,
+    err_text: &str,
+) -> Result<(), Fail> {
+    let args = strings(rt.alloc(), words)?;
+    assert!(rt; starts(rt, args.as_slice(), status, out_text, err_text));
+    Ok(())
 }
 
 #[test]
 fn start_ends_with_the_status_and_text_of_its_file(rt: HostRuntime) -> Result<(), Fail> {
     let usage = "usage: bitm_vectors FILE\n";
     let cannot_read = "bitm_vectors: cannot read the file\n";
-    expect_start(&rt, &[], 2, "", usage);
+    expect_start(&rt, &[], 2, "", usage)?;
 
     let path = "bitm_vectors_statuses.txt";
-    let args = [String::from_str(rt.alloc(), path)?];
-    let missing = [String::from_str(rt.alloc(), "no_such_file.txt")?];
-    let folder = [String::from_str(rt.alloc(), ".")?];
-    let two = [args[0].clone()?, missing[0].clone()?];
-    expect_start(&rt, &two, 2, "", usage);
-    expect_start(&rt, &missing, 2, "", cannot_read);
-    expect_start(&rt, &folder, 2, "", cannot_read);
+    expect_start(&rt, &[path, "no_such_file.txt"], 2, "", usage)?;
+    expect_start(&rt, &["no_such_file.txt"], 2, "", cannot_read)?;
+    expect_start(&rt, &["."], 2, "", cannot_read)?;
 
     fs::write(&rt, path, "word 5\n")?;
-    expect_start(&rt, &args, 1, "bad command\n", "");
+    expect_start(&rt, &[path], 1, "bad command\n", "")?;
     fs::write(&rt, path, "words 5\n")?;
-    expect_start(&rt, &args, 0, "ok 1\n", "");
+    expect_start(&rt, &[path], 0, "ok 1\n", "")?;
     fs::remove_file(&rt, path)?;
     Ok(())
 }
+
+/// What `start` says where it cannot write.
+const CANNOT_WRITE: &str = "bitm_vectors: cannot write\n";
 
 /// What `start` answers over this writer, and what it writes to the other one.
 fn start_over(
@@ -313,42 +367,69 @@ fn start_over(
     (status, err)
 }
 
+/// Whether `start` answers the four lines over a writer that fails after the given number of writes; `None` where its
+/// status or a text is another than by hand.
+fn starts_over(rt: &(impl Files + AllocGlobal), args: &[String], writes_left: u32) -> Option<bool> {
+    let mut out = Failing::new(rt.alloc(), writes_left, true);
+    let (status, text) = start_over(rt, args, &mut out);
+    let is_answered = status == 0 && text.is_empty();
+    if is_answered && out.written.as_slice() == FOUR_ANSWERS.as_bytes() {
+        return Some(true);
+    }
+    if status == 2 && text.as_slice() == CANNOT_WRITE.as_bytes() {
+        return Some(false);
+    }
+    None
+}
+
+/// The least number of writes by which `start` answers, below 100; `None` where one before it is another than by hand.
+fn enough_to_start(rt: &(impl Files + AllocGlobal), args: &[String]) -> Option<u32> {
+    for writes_left in 0..100 {
+        if starts_over(rt, args, writes_left)? {
+            return Some(writes_left);
+        }
+    }
+    None
+}
+
+/// The least number of writes by which `start` answers the four lines in this file.
+fn enough_for_file(rt: &(impl Files + AllocGlobal), path: &str) -> Result<Option<u32>, Fail> {
+    let args = strings(rt.alloc(), &[path])?;
+    Ok(enough_to_start(rt, args.as_slice()))
+}
+
 #[test]
 fn start_tells_that_a_write_failed_and_else_answers_all(rt: HostRuntime) -> Result<(), Fail> {
     let path = "bitm_vectors_failed_writes.txt";
     fs::write(&rt, path, FOUR_LINES)?;
-    let args = [String::from_str(rt.alloc(), path)?];
-    let mut enough = None;
-    for writes_left in 0..100 {
-        let mut out = Failing::new(rt.alloc(), writes_left, true);
-        let (status, text) = start_over(&rt, &args, &mut out);
-        if status == 0 {
-            assert!(rt; out.written.as_slice() == FOUR_ANSWERS.as_bytes());
-            assert!(rt; text.is_empty());
-            enough = Some(writes_left);
-            break;
-        }
-        assert!(rt; status == 2);
-        assert!(rt; text.as_slice() == b"bitm_vectors: cannot write\n".as_slice());
-    }
+    let enough = enough_for_file(&rt, path)?;
     assert!(rt; enough.is_some_and(|writes| writes >= 4));
     fs::remove_file(&rt, path)?;
     Ok(())
+}
+
+/// Whether `start` over the four lines in this file and a writer that cannot be flushed ends with status 2, and says
+/// why.
+fn tells_of_flush(rt: &(impl Files + AllocGlobal), path: &str) -> Result<bool, Fail> {
+    let args = strings(rt.alloc(), &[path])?;
+    let mut out = Failing::new(rt.alloc(), 100, false);
+    let (status, text) = start_over(rt, args.as_slice(), &mut out);
+    Ok(status == 2 && text.as_slice() == CANNOT_WRITE.as_bytes())
+}
+
+/// What `start` without arguments ends with over a writer of texts that fails.
+fn status_untold(rt: &(impl Files + AllocGlobal)) -> u8 {
+    let mut out = Vec::new(rt.alloc());
+    let mut err = Failing::new(rt.alloc(), 0, true);
+    start(rt, &[], &mut out, &mut err)
 }
 
 #[test]
 fn a_failed_flush_or_text_ends_start_with_status_2(rt: HostRuntime) -> Result<(), Fail> {
     let path = "bitm_vectors_failed_flush.txt";
     fs::write(&rt, path, FOUR_LINES)?;
-    let args = [String::from_str(rt.alloc(), path)?];
-    let mut out = Failing::new(rt.alloc(), 100, false);
-    let (status, text) = start_over(&rt, &args, &mut out);
-    assert!(rt; status == 2);
-    assert!(rt; text.as_slice() == b"bitm_vectors: cannot write\n".as_slice());
+    assert!(rt; tells_of_flush(&rt, path)?);
     fs::remove_file(&rt, path)?;
-
-    let mut out = Vec::new(rt.alloc());
-    let mut err = Failing::new(rt.alloc(), 0, true);
-    assert!(rt; start(&rt, &[], &mut out, &mut err) == 2);
+    assert!(rt; status_untold(&rt) == 2);
     Ok(())
 }

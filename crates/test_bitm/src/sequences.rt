@@ -51,38 +51,69 @@ const CASES: [Case<'static>; 5] = [
     },
 ];
 
-/// Whether a sequence of the numbers is kept, found and given back as the case says.
-fn agrees(alloc: Global, case: &Case<'_>) -> Result<bool, EfError> {
-    let sequence = EliasFano::build(alloc, case.items)?;
-    let mut agrees = (sequence.len(), sequence.low_width()) == (case.items.len(), case.width);
-    for (i, x) in case.items.iter().enumerate() {
+/// Whether a sequence has these numbers at their indices.
+fn has_items(sequence: &EliasFano, items: &[u64]) -> bool {
+    let mut agrees = sequence.len() == items.len();
+    for (i, x) in items.iter().enumerate() {
         agrees &= sequence.try_get(i) == Some(*x);
         agrees &= i < sequence.len() && sequence.get(i) == *x;
     }
-    for past in [case.items.len(), usize::MAX] {
-        agrees &= sequence.try_get(past) == None;
-    }
-    agrees &= sequence.upper_words().len() == 1;
-    for (i, place) in case.ones.iter().enumerate() {
-        agrees &= sequence.upper_words().bit_ones().nth(i) == Some(*place);
-    }
-    for (value, place) in case.asked {
-        agrees &= sequence.first_at_least(*value) == *place;
-    }
-    Ok(agrees && come_in_order(&sequence, case.items))
+    agrees
 }
 
-/// Whether the numbers come from either end, and none past them.
-fn come_in_order(sequence: &EliasFano, items: &[u64]) -> bool {
-    let (mut rising, mut falling) = (sequence.iter(), sequence.iter());
+/// Whether its low bits, and the 1 bits of its upper vector, are as the case says.
+fn is_kept(sequence: &EliasFano, case: &Case<'_>) -> bool {
+    let upper = sequence.upper_words();
+    if upper.len() != 1 {
+        return false;
+    }
+    let mut agrees = sequence.low_width() == case.width;
+    for (i, place) in case.ones.iter().enumerate() {
+        agrees &= upper.bit_ones().nth(i) == Some(*place);
+    }
+    agrees
+}
+
+/// Whether values are found as the rows say, and none past the end.
+fn finds(sequence: &EliasFano, len: usize, asked: &[(u64, Option<usize>)]) -> bool {
+    let mut agrees = (sequence.try_get(len), sequence.try_get(usize::MAX)) == (None, None);
+    for (value, place) in asked {
+        agrees &= sequence.first_at_least(*value) == *place;
+    }
+    agrees
+}
+
+/// Whether a sequence of the numbers is kept, found and given back as the case says.
+fn agrees(alloc: Global, case: &Case<'_>) -> Result<bool, EfError> {
+    let sequence = EliasFano::build(alloc, case.items)?;
+    let has_items = has_items(&sequence, case.items) && is_kept(&sequence, case);
+    let is_found = finds(&sequence, case.items.len(), case.asked);
+    Ok(has_items && is_found && come_in_order(&sequence, case.items))
+}
+
+/// Whether the numbers come from the front, and none past them.
+fn come_rising(sequence: &EliasFano, items: &[u64]) -> bool {
+    let mut rising = sequence.iter();
     let mut agrees = rising.len() == items.len();
     for x in items {
         agrees &= rising.next() == Some(*x);
     }
+    agrees && rising.next() == None
+}
+
+/// Whether they come from the back, and none past them.
+fn come_falling(sequence: &EliasFano, items: &[u64]) -> bool {
+    let mut falling = sequence.iter();
+    let mut agrees = true;
     for x in items.iter().rev() {
         agrees &= falling.next_back() == Some(*x);
     }
-    agrees && (rising.next(), falling.next_back()) == (None, None)
+    agrees && falling.next_back() == None
+}
+
+/// Whether the numbers come from either end, and none past them.
+fn come_in_order(sequence: &EliasFano, items: &[u64]) -> bool {
+    come_rising(sequence, items) && come_falling(sequence, items)
 }
 
 #[test]
@@ -100,20 +131,22 @@ fn values_between_the_numbers_have_the_nearest_below_them(rt: HostRuntime) -> Re
     Ok(())
 }
 
+/// Values, each with the last index of a number that is at most as great, and whether it is one of them.
+const NEAREST: [(u64, Option<usize>, bool); 8] = [
+    (1u64, None, false),
+    (2, Some(0), true),
+    (8, Some(3), false),
+    (13, Some(5), true),
+    (14, Some(5), false),
+    (23, Some(5), false),
+    (25, Some(6), false),
+    (u64::MAX, Some(6), false),
+];
+
 /// Stops where what is near a value in the first case is another than by hand.
 fn expect_nearest(rt: &impl Abort, sequence: &EliasFano) {
     assert!(rt; sequence.low_words() == [0b0111110u64].as_slice());
-    let asked = [
-        (1u64, None, false),
-        (2, Some(0), true),
-        (8, Some(3), false),
-        (13, Some(5), true),
-        (14, Some(5), false),
-        (23, Some(5), false),
-        (25, Some(6), false),
-        (u64::MAX, Some(6), false),
-    ];
-    for (v, place, is_kept) in asked {
+    for (v, place, is_kept) in NEAREST {
         assert!(rt; (sequence.last_at_most(v), sequence.contains(v)) == (place, is_kept));
     }
 }
@@ -137,49 +170,70 @@ fn each_is_found(sequence: &EliasFano, items: &[u64]) -> bool {
     true
 }
 
+/// Whether each of the numbers is found at its index in a sequence of them, and none past them.
+fn are_found(alloc: Global, items: &[u64]) -> Result<bool, EfError> {
+    let sequence = EliasFano::build(alloc, items)?;
+    Ok(each_is_found(&sequence, items) && sequence.try_get(usize::MAX) == None)
+}
+
 #[test]
 fn each_of_many_numbers_is_found_at_its_place(rt: HostRuntime) -> Result<(), Fail> {
     let items = multiples(rt.alloc(), 1 << 18)?;
-    let sequence = EliasFano::build(rt.alloc(), items.as_slice())?;
-    assert!(rt; each_is_found(&sequence, items.as_slice()));
-    assert!(rt; sequence.try_get(usize::MAX) == None);
+    assert!(rt; are_found(rt.alloc(), items.as_slice())?);
     Ok(())
+}
+
+/// Whether the searches for a number, all of which are that one, answer the first and the last index.
+fn finds_ends(sequence: &EliasFano, value: u64, last: Option<usize>) -> bool {
+    let found = (sequence.first_at_least(value), sequence.last_at_most(value));
+    found == (Some(0), last) && sequence.contains(value)
+}
+
+/// Whether the searches for a number that is less, and for one that is greater, find that there is none.
+fn finds_none(sequence: &EliasFano, less: u64, greater: u64, last: Option<usize>) -> bool {
+    let above = (sequence.first_at_least(0), sequence.first_at_least(greater));
+    let below = (sequence.last_at_most(less), sequence.last_at_most(greater));
+    let are_none = !sequence.contains(less) && !sequence.contains(greater);
+    above == (Some(0), None) && below == (None, last) && are_none
 }
 
 /// Stops where the searches among `count` numbers 2^40, in many rounds, answer otherwise than the first and the last
 /// index. A search that went over the numbers that share the high bits of a value would not end in time.
 fn expect_among_equals(rt: &impl Abort, sequence: &EliasFano, count: usize) {
     let value = 1 << 40;
+    let last = count.checked_sub(1);
     for _ in 0..0x2_0000u32 {
-        assert!(rt; sequence.first_at_least(value) == Some(0));
-        assert!(rt; sequence.last_at_most(value) == count.checked_sub(1));
-        assert!(rt; sequence.contains(value));
+        assert!(rt; finds_ends(sequence, value, last));
     }
-    assert!(rt;
-        (
-            sequence.first_at_least(0),
-            sequence.first_at_least(value + 1)
-        ) == (Some(0), None)
-    );
-    assert!(rt;
-        (
-            sequence.last_at_most(value - 1),
-            sequence.last_at_most(value + 1)
-        ) == (None, count.checked_sub(1))
-    );
-    assert!(rt; !sequence.contains(value - 1) && !sequence.contains(value + 1));
+    assert!(rt; finds_none(sequence, value - 1, value + 1, last));
+}
+
+/// The given number of numbers 2^40.
+fn equals(alloc: Global, count: usize) -> Result<Vec<u64>, AllocError> {
+    let mut items = Vec::new(alloc);
+    for _ in 0..count {
+        items.push(1u64 << 40)?;
+    }
+    Ok(items)
+}
+
+/// A sequence of the given number of numbers 2^40.
+fn sequence_of_equals(alloc: Global, count: usize) -> Result<EliasFano, Fail> {
+    let items = equals(alloc, count)?;
+    Ok(EliasFano::build(alloc, items.as_slice())?)
 }
 
 #[test]
 fn equal_numbers_are_searched_without_going_over_them(rt: HostRuntime) -> Result<(), Fail> {
     let count = 0x40_0000;
-    let mut items = Vec::new(rt.alloc());
-    for _ in 0..count {
-        items.push(1u64 << 40)?;
-    }
-    let sequence = EliasFano::build(rt.alloc(), items.as_slice())?;
+    let sequence = sequence_of_equals(rt.alloc(), count)?;
     expect_among_equals(&rt, &sequence, count);
     Ok(())
+}
+
+/// Whether an error prints this text.
+fn says(alloc: Global, error: EfError, text: &str) -> Result<bool, Fail> {
+    Ok(format!(in alloc; "{error}")?.as_str() == text)
 }
 
 #[test]
@@ -193,7 +247,7 @@ fn errors_print_why(rt: HostRuntime) -> Result<(), Fail> {
         (EfError::OutOfMemory, "no memory"),
     ];
     for (error, text) in texts {
-        assert!(rt; format!(in rt.alloc(); "{error}")?.as_str() == text);
+        assert!(rt; says(rt.alloc(), error, text)?);
     }
     let falling = EliasFano::build(rt.alloc(), [3u64, 2].as_slice());
     assert!(rt; falling.err() == Some(EfError::NotSorted));

@@ -12,6 +12,28 @@ use example_callers::strategies::scan::Scan;
 use std::alloc::{AllocError, Global};
 use std::process::Abort;
 
+/// Whether each one, and two first zeros of a word and its last, are selected.
+fn selects_in<I: Select + Select0>(index: &I, word: u16) -> bool {
+    let word = word as usize;
+    let mut agrees = true;
+    for (nth, place) in [(0, 0), (1, 2), (2, 3)] {
+        agrees &= index.try_select(3 * word + nth) == Some(64 * word + place);
+    }
+    for (nth, place) in [(0, 1), (1, 4), (60, 63)] {
+        agrees &= index.try_select0(61 * word + nth) == Some(64 * word + place);
+    }
+    agrees
+}
+
+/// Whether those of all words are, and none past them.
+fn selects_all<I: Select + Select0>(index: &I) -> bool {
+    let mut agrees = (index.try_select(180), index.try_select0(3660)) == (None, None);
+    for word in 0..60u16 {
+        agrees &= selects_in(index, word);
+    }
+    agrees
+}
+
 /// Whether each one, and two first zeros of each word and its last, are selected, and none past them.
 fn selects_each<S: SelectForRank101111, S0: Select0ForRank101111>(
     alloc: Global,
@@ -21,16 +43,7 @@ fn selects_each<S: SelectForRank101111, S0: Select0ForRank101111>(
     let Ok((index, total)) = built else {
         return Err(AllocError);
     };
-    let mut agrees = total == 180;
-    for word in 0..60usize {
-        for (nth, place) in [(0, 0), (1, 2), (2, 3)] {
-            agrees &= index.try_select(3 * word + nth) == Some(64 * word + place);
-        }
-        for (nth, place) in [(0, 1), (1, 4), (60, 63)] {
-            agrees &= index.try_select0(61 * word + nth) == Some(64 * word + place);
-        }
-    }
-    Ok(agrees && (index.try_select(180), index.try_select0(3660)) == (None, None))
+    Ok(total == 180 && selects_all(&index))
 }
 
 #[test]

@@ -3,8 +3,8 @@
 //! part: for 64 ones in the first record of the second entry, after 2048 ones, 64 * (2^54 + 2^43 + 2^32) + 2048.
 use crate::walk::{index_over, owned};
 use bitm::{
-    BinaryRankSearch, BitAccess, BitAccessMut, BitVec, GetSize, Rank, RankSelect101111, Select,
-    Select0, complement_entry,
+    ArrayWithRank101111, BinaryRankSearch, BitAccess, BitAccessMut, BitVec, GetSize, Rank,
+    RankSelect101111, Select, Select0, complement_entry,
 };
 use std::alloc::{AllocError, Global};
 use std::boxed::BoxedSlice;
@@ -65,48 +65,94 @@ fn an_index_keeps_the_tables_of_its_words(rt: HostRuntime) -> Result<(), AllocEr
     Ok(())
 }
 
+/// How many bytes an index over borrowed words takes.
+fn lent_bytes(alloc: Global, words: &[u64]) -> Result<usize, AllocError> {
+    let (index, _) = lent(alloc, words)?;
+    Ok(index.size_bytes_dyn())
+}
+
+/// How many bytes one over words of its own takes.
+fn owned_bytes(alloc: Global, words: &[u64]) -> Result<usize, AllocError> {
+    let (index, _) = owned(alloc, words)?;
+    Ok(index.size_bytes_dyn())
+}
+
 #[test]
 fn one_word_takes_sixteen_bytes_beside_its_own(rt: HostRuntime) -> Result<(), AllocError> {
     let words = [0b1101];
-    let (one, _) = lent(rt.alloc(), words.as_slice())?;
-    let (other, _) = owned(rt.alloc(), words.as_slice())?;
-    assert!(rt; (one.size_bytes_dyn(), other.size_bytes_dyn()) == (16, 24));
+    let one = lent_bytes(rt.alloc(), words.as_slice())?;
+    let other = owned_bytes(rt.alloc(), words.as_slice())?;
+    assert!(rt; (one, other) == (16, 24));
     Ok(())
 }
 
-/// Stops where full and empty words are counted otherwise than by hand, up to their ends.
-fn expect_counts(rt: &impl Abort, full: &Lent<'_>, empty: &Lent<'_>) {
-    for place in [0, 511, 512, 2047, 2048, 2111] {
-        assert!(rt; (full.try_rank(place), empty.try_rank0(place)) == (Some(place), Some(place)));
-        assert!(rt;
-            (full.try_select(place), empty.try_select0(place)) == (Some(place), Some(place))
-        );
-        assert!(rt; (full.try_select0(place), empty.try_select(place)) == (None, None));
+/// Positions in full and empty words.
+const PLACES: [usize; 6] = [0, 511, 512, 2047, 2048, 2111];
+
+/// Whether full words are counted as by hand, up to their end.
+fn counts_full(full: &Lent<'_>) -> bool {
+    let mut agrees = full.try_select(2112) == None;
+    for place in PLACES {
+        agrees &= (full.try_rank(place), full.try_select(place)) == (Some(place), Some(place));
+        agrees &= full.try_select0(place) == None;
     }
-    assert!(rt; (full.try_rank(2112), full.try_rank(2113)) == (Some(2112), None));
-    assert!(rt; (full.try_select(2112), empty.try_select0(2112)) == (None, None));
+    agrees && (full.try_rank(2112), full.try_rank(2113)) == (Some(2112), None)
+}
+
+/// Whether empty words are counted as by hand, up to their end.
+fn counts_empty(empty: &Lent<'_>) -> bool {
+    let mut agrees = empty.try_select0(2112) == None;
+    for place in PLACES {
+        agrees &= (empty.try_rank0(place), empty.try_select0(place)) == (Some(place), Some(place));
+        agrees &= empty.try_select(place) == None;
+    }
+    agrees
+}
+
+/// Whether an index over full words counts them.
+fn full_agrees(alloc: Global) -> Result<bool, AllocError> {
+    let (full, _) = lent(alloc, [u64::MAX; 33].as_slice())?;
+    Ok(counts_full(&full))
+}
+
+/// Whether one over empty words counts these.
+fn empty_agrees(alloc: Global) -> Result<bool, AllocError> {
+    let (empty, _) = lent(alloc, [0u64; 33].as_slice())?;
+    Ok(counts_empty(&empty))
 }
 
 #[test]
 fn full_and_empty_words_are_counted_to_the_end(rt: HostRuntime) -> Result<(), AllocError> {
-    let (full, empty) = ([u64::MAX; 33], [0u64; 33]);
-    let (full, _) = lent(rt.alloc(), full.as_slice())?;
-    let (empty, _) = lent(rt.alloc(), empty.as_slice())?;
-    expect_counts(&rt, &full, &empty);
+    assert!(rt; full_agrees(rt.alloc())? && empty_agrees(rt.alloc())?);
     Ok(())
+}
+
+/// The words of 2048 bits, of which one is set.
+fn one_set(alloc: Global) -> Result<BoxedSlice<u64, Global>, Fail> {
+    let mut content = BoxedSlice::with_zeroed_bits(alloc, 2048)?;
+    let mut bits = content.as_mut_slice();
+    bits.set_bit(100);
+    if bits.get_bits(99, 5) == 0b00010 {
+        Ok(content)
+    } else {
+        Err("the bit is not set".into())
+    }
+}
+
+/// Whether an index over one bit that is set, and the number of 1 bits, are as by hand.
+fn counts_one(index: &ArrayWithRank101111, ones: usize) -> bool {
+    let mut agrees = ones == 1;
+    for (place, count) in [(100, 0), (101, 1), (999, 1)] {
+        agrees &= index.try_rank(place) == Some(count);
+    }
+    agrees
 }
 
 #[test]
 fn one_bit_that_is_set_counts_from_the_next_place_on(rt: HostRuntime) -> Result<(), Fail> {
-    let mut content = BoxedSlice::with_zeroed_bits(rt.alloc(), 2048)?;
-    let mut bits = content.as_mut_slice();
-    bits.set_bit(100);
-    assert!(rt; bits.get_bits(99, 5) == 0b00010);
+    let content = one_set(rt.alloc())?;
     let (index, ones) = owned(rt.alloc(), content.as_slice())?;
-    assert!(rt; ones == 1);
-    for (place, count) in [(100, 0), (101, 1), (999, 1)] {
-        assert!(rt; index.try_rank(place) == Some(count));
-    }
+    assert!(rt; counts_one(&index, ones));
     Ok(())
 }
 

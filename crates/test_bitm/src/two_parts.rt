@@ -49,6 +49,11 @@ fn rank_each(indices: &[usize], ranks: &mut [usize]) -> bool
     each
 }
 
+/// The 1 bits before a position.
+fn rank(place: usize) -> Option<usize> {
+    rank_on(&mut Computed::new(WORDS), place)
+}
+
 #[test]
 fn ranks_round_the_end_of_a_part_count_both(rt: HostRuntime) {
     for (place, ones) in [
@@ -65,9 +70,13 @@ fn ranks_round_the_end_of_a_part_count_both(rt: HostRuntime) {
         (6_442_450_945, None),
         (usize::MAX, None),
     ] {
-        let mut source = Computed::new(WORDS);
-        assert!(rt; rank_on(&mut source, place) == ones);
+        assert!(rt; rank(place) == ones);
     }
+}
+
+/// The position of the 1 bit of a rank.
+fn select(rank: usize) -> Option<usize> {
+    binary_select_on::<1, Computed>(&mut Computed::new(WORDS), rank)
 }
 
 #[test]
@@ -81,9 +90,13 @@ fn the_ones_of_both_parts_are_selected(rt: HostRuntime) {
         (100_663_296, None),
         (usize::MAX, None),
     ] {
-        let mut source = Computed::new(WORDS);
-        assert!(rt; binary_select_on::<1, Computed>(&mut source, rank) == place);
+        assert!(rt; select(rank) == place);
     }
+}
+
+/// The position of the 0 bit of a rank.
+fn select0(rank: usize) -> Option<usize> {
+    binary_select_on::<0, Computed>(&mut Computed::new(WORDS), rank)
 }
 
 #[test]
@@ -98,14 +111,18 @@ fn the_zeros_of_both_parts_are_selected(rt: HostRuntime) {
         (6_341_787_648, None),
         (usize::MAX, None),
     ] {
-        let mut source = Computed::new(WORDS);
-        assert!(rt; binary_select_on::<0, Computed>(&mut source, rank) == place);
+        assert!(rt; select0(rank) == place);
     }
+}
+
+/// The bit at a position.
+fn bit(place: usize) -> Option<bool> {
+    bit_on(&mut Computed::new(WORDS), place)
 }
 
 #[test]
 fn bits_round_the_end_of_a_part_are_read(rt: HostRuntime) {
-    for (place, bit) in [
+    for (place, expected) in [
         (0, Some(true)),
         (1, Some(false)),
         (4_294_967_295, Some(false)),
@@ -115,8 +132,7 @@ fn bits_round_the_end_of_a_part_are_read(rt: HostRuntime) {
         (6_442_450_943, Some(false)),
         (6_442_450_944, None),
     ] {
-        let mut source = Computed::new(WORDS);
-        assert!(rt; bit_on(&mut source, place) == bit);
+        assert!(rt; bit(place) == expected);
     }
 }
 
