@@ -1,6 +1,6 @@
 /* Succinct bit vectors with rank and select: words, and two tables of counts beside them. And monotone integer
- * sequences (Elias-Fano), minimal perfect hashes, trees (LOUDS) and lists of numbers in any order (wavelet matrices),
- * in words with such tables.
+ * sequences (Elias-Fano), sparse bits, minimal perfect hashes, trees (LOUDS) and lists of numbers in any order (wavelet
+ * matrices), in words with such tables.
  *
  * Bit i is bit i % 64, lowest first, of words[i / 64]. You own the memory of words and tables, which may be a mapped
  * file. No call allocates, keeps a pointer or has state, so any number of threads may query at once.
@@ -14,8 +14,9 @@
  *     if (bitm_index_select(&index, true, 4, &position) != BITM_OK || position != 64) return 1;
  *
  * NAMES. The prefix says what is queried: bitm_bits_ (words without tables), bitm_index_ (words with tables),
- * bitm_sequence_, bitm_hash_, bitm_tree_, bitm_matrix_, bitm_stored_. `bool one` says which bits are meant: true the 1
- * bits, false the 0 bits. A position counts from 0; the rank of a bit is how many bits of its kind there are before it.
+ * bitm_sequence_, bitm_sparse_, bitm_hash_, bitm_tree_, bitm_matrix_, bitm_stored_. `bool one` says which bits are
+ * meant: true the 1 bits, false the 0 bits. A position counts from 0; the rank of a bit is how many bits of its kind
+ * there are before it.
  *
  * LENGTHS. words_len, upper_len, lower_len, samples_len, .. count the items of that pointer; bits_len counts bits, and
  * is at most 64 * words_len. What lies past the first bits_len bits is neither counted nor found nor changed.
@@ -1468,6 +1469,120 @@ BITM_MUST_USE uint32_t bitm_sequence_block_open(const uint64_t *block, size_t bl
  * checksum is not that of its words, or if the parts are not those of a sequence. Four passes over the words of the
  * block (evident from the code). */
 BITM_MUST_USE uint32_t bitm_sequence_block_check(const uint64_t *block, size_t block_len);
+
+/* ---- sparse bits: in one block of memory
+ *
+ * Of n bits of which only m are 1 bits the positions of these are kept, as a monotone sequence (Okanohara and Sadakane,
+ * ALENEX 2007): about 2 + log2(n / m) bits for each 1 bit, however many 0 bits there are. The queries are those of an
+ * index, and so are their answers; bitm_index_ calls are faster, and take space for each bit. A block is written and
+ * opened as that of a sequence:
+ *
+ *     const uint64_t where[4] = {3, 100, 101, 4000};
+ *     uint64_t sparse_len;
+ *     if (bitm_sparse_size(4, 4000, &sparse_len) != BITM_OK) return 1; // four 1 bits, the last of them at 4000
+ *     uint64_t *of_few = malloc(8 * sparse_len); // or a mapped file
+ *     struct bitm_sparse sparse = {0};
+ *     if (!of_few || bitm_sparse_build(where, 4, 5000, of_few, sparse_len) != BITM_OK ||
+ *         bitm_sparse_open(of_few, sparse_len, &sparse) != BITM_OK || sparse.bits_len != 5000 ||
+ *         bitm_sparse_rank(&sparse, true, 101, &value) != BITM_OK || value != 2) return 1; // bits 3 and 100
+ *
+ * Over any block that bitm_sparse_open takes, a stale or hostile one too, a query returns, a rank is at most its
+ * position, and a position that is found is less than sparse.bits_len. If bitm_sparse_build wrote the block or
+ * bitm_sparse_check passes it, and it did not change afterwards, the answers are those of counting, and no query
+ * returns BITM_WRONG. */
+struct bitm_sparse {
+    struct bitm_sequence positions; /* of the 1 bits */
+    uint64_t bits_len;              /* how many bits there are */
+    uint64_t reserved[2];           /* 0: not read */
+};
+
+/* How many words the block of that many 1 bits takes, the last of which is at position `last` (0 if there are none).
+ * BITM_BAD_SIZE as bitm_sequence_sizes. */
+BITM_MUST_USE uint32_t bitm_sparse_size(size_t ones, uint64_t last, uint64_t *out);
+
+/* Writes the block of bits_len bits, of which those at the given positions are 1 bits. BITM_BAD_SIZE if there are 2^56
+ * positions or more; else BITM_UNSORTED if a position is not greater than the one before it; else BITM_WRONG if one is
+ * not less than bits_len; else BITM_BAD_SIZE if block_len is not what bitm_sparse_size says for positions_len and the
+ * last position. positions and block may not overlap. Six passes over the positions, and three over the block (evident
+ * from the code).
+ *
+ *     const uint64_t no_rise[2] = {3, 3};
+ *     if (bitm_sparse_build(no_rise, 2, 5000, of_few, sparse_len) != BITM_UNSORTED ||
+ *         bitm_sparse_build(where, 4, 4000, of_few, sparse_len) != BITM_WRONG) return 1; // bits 0 to 3999 */
+BITM_MUST_USE uint32_t bitm_sparse_build(const uint64_t *positions, size_t positions_len, uint64_t bits_len,
+                                         uint64_t *block, size_t block_len);
+
+/* Opens a block: writes the bits that queries take, which point into the block. *sparse has to be zeros, or bits whose
+ * block is still there. BITM_WRONG exactly if the header or the directory of the block is not right, or is that of no
+ * sparse bits, or block_len is not as they say. Reads at most 80 words, however long the block is (evident from the
+ * code); what its other words hold is not looked at.
+ *
+ *     if (bitm_sparse_open(of_few, sparse_len - 1, &sparse) != BITM_WRONG || sparse.bits_len != 5000) return 1; */
+BITM_MUST_USE uint32_t bitm_sparse_open(const uint64_t *block, size_t block_len, struct bitm_sparse *sparse);
+
+/* Whether a block is as it was written and holds sparse bits: BITM_OK, or BITM_WRONG as bitm_sparse_open, if a checksum
+ * is not that of its words, if the parts are not those of a sequence, or if its numbers are not positions of 1 bits.
+ * So a block in which one word was changed is refused. Four passes over the block, and one selection for each 1 bit
+ * (evident from the code).
+ *
+ *     of_few[40] ^= 1;
+ *     if (bitm_sparse_check(of_few, sparse_len) != BITM_WRONG) return 1;
+ *     of_few[40] ^= 1;
+ *     if (bitm_sparse_check(of_few, sparse_len) != BITM_OK) return 1; */
+BITM_MUST_USE uint32_t bitm_sparse_check(const uint64_t *block, size_t block_len);
+
+/* Each of these calls returns BITM_BAD_SIZE if a length in sparse->positions is not right (struct bitm_sequence), and
+ * BITM_WRONG only where the block is not that of sparse bits.
+ *
+ * The bit at a position, as 0 or 1. BITM_NONE exactly if position is bits_len or more. Reads what
+ * bitm_sequence_contains reads of the positions.
+ *
+ *     if (bitm_sparse_get(&sparse, 100, &value) != BITM_OK || value != 1) return 1; */
+BITM_MUST_USE uint32_t bitm_sparse_get(const struct bitm_sparse *sparse, uint64_t position, uint64_t *out);
+
+/* How many 1 bits, or 0 bits, there are before a position; for position bits_len, of all. At most position. BITM_NONE
+ * exactly if position is above bits_len. Reads what bitm_sequence_first_at_least reads of the positions.
+ *
+ *     if (bitm_sparse_rank(&sparse, false, 101, &value) != BITM_OK || value != 99) return 1; */
+BITM_MUST_USE uint32_t bitm_sparse_rank(const struct bitm_sparse *sparse, bool one, uint64_t position, uint64_t *out);
+
+/* The position of the 1 bit, or 0 bit, with the given rank. BITM_NONE if there is none. Reads for a 1 bit what
+ * bitm_sequence_get reads of the positions, for a 0 bit that for each binary digit of how many 1 bits there are.
+ *
+ *     if (bitm_sparse_select(&sparse, true, 3, &position) != BITM_OK || position != 4000 ||
+ *         bitm_sparse_select(&sparse, false, 3, &position) != BITM_OK || position != 4) return 1; // after 0 to 2 */
+BITM_MUST_USE uint32_t bitm_sparse_select(const struct bitm_sparse *sparse, bool one, uint64_t rank, uint64_t *out);
+
+/* The position of the first 1 bit, or 0 bit, at or after position from; of the last one at or before it, where from may
+ * be past the end. BITM_NONE if there is none. Any position returned is on that side of from, whatever the block holds.
+ * Reads what a rank and a selection read.
+ *
+ *     if (bitm_sparse_next(&sparse, true, 102, &position) != BITM_OK || position != 4000 ||
+ *         bitm_sparse_previous(&sparse, false, 101, &position) != BITM_OK || position != 99) return 1; */
+BITM_MUST_USE uint32_t bitm_sparse_next(const struct bitm_sparse *sparse, bool one, uint64_t from, uint64_t *out);
+BITM_MUST_USE uint32_t bitm_sparse_previous(const struct bitm_sparse *sparse, bool one, uint64_t from, uint64_t *out);
+
+/* bitm_sparse_get, bitm_sparse_rank and bitm_sparse_select of each item of a list: out[i] is the answer, or
+ * BITM_NO_ANSWER for BITM_NONE and BITM_WRONG_TABLES for BITM_WRONG; counts says how many of each there are.
+ * BITM_BAD_SIZE also if out_len is not the number of queries, or if bits_len is 2^64 - 2 or more, where an answer could
+ * be a code. out and counts may overlap neither each other nor what the call reads.
+ *
+ *     const uint64_t each[3] = {3, 101, 5001};
+ *     if (bitm_sparse_get_list(&sparse, each, 3, answers, 3, &counts) != BITM_OK || answers[0] != 1 ||
+ *         answers[2] != BITM_NO_ANSWER || counts.missing != 1 ||
+ *         bitm_sparse_rank_list(&sparse, true, each, 3, answers, 3, &counts) != BITM_OK || answers[1] != 2 ||
+ *         bitm_sparse_select_list(&sparse, false, each, 3, answers, 3, &counts) != BITM_OK || answers[0] != 4 ||
+ *         answers[1] != 104) return 1;
+ *     free(of_few); */
+BITM_MUST_USE uint32_t bitm_sparse_get_list(const struct bitm_sparse *sparse, const uint64_t *positions,
+                                            size_t positions_len, uint64_t *out, size_t out_len,
+                                            struct bitm_list_counts *counts);
+BITM_MUST_USE uint32_t bitm_sparse_rank_list(const struct bitm_sparse *sparse, bool one, const uint64_t *positions,
+                                             size_t positions_len, uint64_t *out, size_t out_len,
+                                             struct bitm_list_counts *counts);
+BITM_MUST_USE uint32_t bitm_sparse_select_list(const struct bitm_sparse *sparse, bool one, const uint64_t *ranks,
+                                               size_t ranks_len, uint64_t *out, size_t out_len,
+                                               struct bitm_list_counts *counts);
 
 #ifdef __cplusplus
 }

@@ -1,6 +1,7 @@
-/* Writes to standard output blocks of drawn bits, sequences and matrices, each after what it was made of: six words (the
- * kind of the block, how many bits or numbers, the width of numbers, how many words are given, how many words the block
- * has, 0), the given words, and the block. bindings/tests/test_formats.py writes the same blocks by docs/FORMAT.md. */
+/* Writes to standard output blocks of drawn bits, sequences, sparse bits and matrices, each after what it was made of:
+ * six words (the kind of the block, how many bits, numbers or 1 bits, the width of numbers or how many bits, how many
+ * words are given, how many words the block has, 0), the given words, and the block. bindings/tests/test_formats.py
+ * writes the same blocks by docs/FORMAT.md. */
 #include "common.h"
 
 #include <string.h>
@@ -41,6 +42,17 @@ static void of_sequence(size_t len, uint64_t most)
     put_block(3, len, 0, len, words);
 }
 
+static void of_sparse(size_t ones, uint64_t most, uint64_t more)
+{
+    uint64_t words, next = draw() % most;
+    for (size_t i = 0; i < ones; i++) given[i] = next, next += 1 + draw() % most;
+    const uint64_t last = ones ? given[ones - 1] : 0, bits = last + (ones > 0) + more;
+    MUST(bitm_sparse_size(ones, last, &words) == BITM_OK && words <= sizeof block / 8);
+    memset(block, UNTOUCHED, sizeof block);
+    MUST(bitm_sparse_build(given, ones, bits, block, words) == BITM_OK);
+    put_block(4, ones, bits, ones, words);
+}
+
 static void of_matrix(size_t len, uint32_t width)
 {
     uint64_t words;
@@ -58,6 +70,7 @@ int main(int argc, char **argv)
     take_seed(argc, argv);
     for (size_t i = 0; i < sizeof of_len / sizeof *of_len; i++) of_bits(of_len[i]);
     for (size_t i = 0; i < 9; i++) of_sequence(i < 4 ? i : 100 * i, (uint64_t)1 << 6 * i);
+    for (size_t i = 0; i < 18; i++) of_sparse(i < 8 ? i / 2 : 50 * i, (uint64_t)1 << 3 * i, i % 2 * 1000);
     for (size_t i = 0; i < 6; i++)
         for (size_t k = 0; k < 4; k++) of_matrix(k < 2 ? k : k == 2 ? 6 : 1000 / (i + 1), widths[i]);
     return 0;

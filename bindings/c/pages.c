@@ -172,6 +172,48 @@ static void query_the_bytes(uint64_t *one)
     TOUCHES_ANY(bitm_bits_select_in_word(UINT64_MAX, 63, one));
 }
 
+/* Sparse bits over the positions of a sequence: a rank is a search for a value and a 1 bit a number; for a 0 bit a
+ * number is read for each binary digit of how many there are. */
+static void query_sparse_bits(const struct bitm_sequence *positions, uint64_t last, uint64_t *one)
+{
+    enum { DIGITS = 20 };
+    const struct bitm_sparse sparse = {*positions, last + 1, {0, 0}};
+    uint64_t *queries = placed(OF_QUERIES, 8 * LIST), *out = placed(OF_OUT, 8 * LIST);
+    for (unsigned turn = 0; turn < 20; turn++) {
+        const uint64_t position = draw() % last, rank = draw() % ITEMS;
+        const bool kind = turn % 2;
+        TOUCHES(6, 69, 14, bitm_sparse_get(&sparse, position, one));
+        TOUCHES(4, 46, 12, bitm_sparse_rank(&sparse, kind, position, one));
+        TOUCHES(2, 23, 2, bitm_sparse_select(&sparse, true, rank, one));
+        TOUCHES(2 * DIGITS, 23 * DIGITS, 2 * DIGITS, bitm_sparse_select(&sparse, false, position / 2, one));
+        TOUCHES(6, 69, 14, bitm_sparse_next(&sparse, true, position, one));
+        TOUCHES(6, 69, 14, bitm_sparse_previous(&sparse, true, position, one));
+        for (size_t i = 0; i < LIST; i++) queries[i] = draw() % last;
+        TOUCHES(6 * LIST, 69 * LIST, 14 * LIST,
+                bitm_sparse_get_list(&sparse, queries, LIST, out, LIST, counts_placed()));
+        TOUCHES(4 * LIST, 46 * LIST, 12 * LIST,
+                bitm_sparse_rank_list(&sparse, kind, queries, LIST, out, LIST, counts_placed()));
+        for (size_t i = 0; i < LIST; i++) queries[i] = draw() % ITEMS;
+        TOUCHES(2 * LIST, 23 * LIST, 2 * LIST,
+                bitm_sparse_select_list(&sparse, true, queries, LIST, out, LIST, counts_placed()));
+    }
+}
+
+/* The block of sparse bits, of which the header and the directory are read. */
+static void open_sparse_bits(uint64_t *one)
+{
+    uint64_t *positions = placed(OF_QUERIES, 8 * ITEMS), last = 0;
+    for (size_t i = 0; i < ITEMS; i++) positions[i] = last += 1 + (draw() >> 36);
+    TOUCHES_ANY(bitm_sparse_size(ITEMS, last, one));
+    const uint64_t words = *one;
+    uint64_t *block = placed(OF_WORDS, 8 * words);
+    TOUCHES_ANY(bitm_sparse_build(positions, ITEMS, last + 1, block, words));
+    TOUCHES_ANY(bitm_sparse_check(block, words));
+    struct bitm_sparse *sparse = placed(OF_STARTS, sizeof *sparse);
+    *sparse = (struct bitm_sparse){0};
+    TOUCHES(2, 0, 0, bitm_sparse_open(block, words, sparse));
+}
+
 /* A number takes one selection and its low bits; a search for a value two, and low bits of the few numbers that share
  * high bits. The eight words of a selection may be of two pages here. */
 static void query_a_sequence(uint64_t *one)
@@ -209,6 +251,7 @@ static void query_a_sequence(uint64_t *one)
         TOUCHES(6 * LIST, 69 * LIST, 14 * LIST,
                 bitm_sequence_contains_list(&view, queries, LIST, out, LIST, counts_placed()));
     }
+    query_sparse_bits(&view, last, one);
 }
 
 /* A number touches a word of each level, and one lower entry; a level is built in arrays of its own. */
@@ -295,6 +338,7 @@ static void query_everything(void)
     query_bits(words, out, one);
     query_the_bytes(one);
     query_a_sequence(one);
+    open_sparse_bits(one);
     query_a_matrix(one);
     query_a_file();
 }

@@ -26,7 +26,8 @@ EXPORTS = {
     "B words": "bits_set_list bits_positions index_build_samples",
     "B": "bits_count bits_and bits_or bits_xor bits_and_not index_build sequence_sizes hash_level hash_build"
         " stored_index stored_index_room stored_build stored_sequence prefix_sums tree_size matrix_size"
-        " matrix_get_list matrix_rank_list matrix_select_list index_block_size index_block_build sequence_block_size",
+        " matrix_get_list matrix_rank_list matrix_select_list index_block_size index_block_build sequence_block_size"
+        " sparse_size",
     "- words": "bits_clear_from",
     "N": "bits_copy_range bits_equal_range bits_select_in_word",
     "B words other": "bits_intersects bits_is_subset",
@@ -40,16 +41,19 @@ EXPORTS = {
     "B words samples": "index_select_list",
     "B lower": "index_count",
     "BU": "sequence_build sequence_block_build",
-    "NBW words low": "sequence_get sequence_first_at_least sequence_last_at_most",
+    "BUW": "sparse_build",
+    "NBW words low": "sequence_get sequence_first_at_least sequence_last_at_most sparse_get sparse_rank sparse_select"
+        " sparse_next sparse_previous",
     "BW words low": "sequence_contains",
     "B words low": "sequence_items sequence_get_list sequence_first_at_least_list sequence_last_at_most_list"
-        " sequence_contains_list",
+        " sequence_contains_list sparse_get_list sparse_rank_list sparse_select_list",
     "W file": "stored_read",
-    "W": "prefix_sums_check tree_check matrix_check index_block_check sequence_block_check",
+    "W": "prefix_sums_check tree_check matrix_check index_block_check sequence_block_check"
+        " sparse_check",
     "NBW bits ones": "shards_find",
     "NBW bits ones shards": "shards_rank shards_select shards_next shards_previous",
     "B bits ones shards": "shards_rank_list shards_select_list",
-    "W block": "tree_open matrix_open index_block_open sequence_block_open",
+    "W block": "tree_open matrix_open index_block_open sequence_block_open sparse_open",
     "NBW words": "matrix_get matrix_rank matrix_select matrix_count_less matrix_quantile",
     "NBW": "matrix_next_value matrix_previous_value",
 }
@@ -65,11 +69,11 @@ BESIDE = {
 SCRATCH, LEFT = ("again", "room", "scratch"), ("hashes",)
 # What no answer of these may be, whatever the tables hold, where they would say that the tables are wrong; a list's i-th answer.
 OUTSIDE = {
-    "position + 1": "index_rank shards_rank",
-    "positions[i] + 1": "index_rank_list shards_rank_list",
+    "position + 1": "index_rank shards_rank sparse_rank",
+    "positions[i] + 1": "index_rank_list shards_rank_list sparse_rank_list",
     "index->bits_len": "index_select index_select_list index_next index_previous",
     "sequence->len": "sequence_first_at_least sequence_last_at_most sequence_first_at_least_list sequence_last_at_most_list",
-    "2": "sequence_contains sequence_contains_list tree_is_leaf",
+    "2": "sequence_contains sequence_contains_list tree_is_leaf sparse_get sparse_get_list",
     "node": "tree_parent",
     "nodes[i]": "tree_parent_list",
     "tree->len": "tree_child tree_degree tree_next_sibling tree_previous_sibling tree_child_rank tree_degree_list tree_child_list",
@@ -80,11 +84,12 @@ OUTSIDE = {
     "index + 1": "matrix_rank",
     "indices[i] + 1": "matrix_rank_list",
     "matrix->len": "matrix_select matrix_select_list",
+    "sparse->bits_len": "sparse_select sparse_next sparse_previous sparse_select_list",
     "hash->keys": "hash_get hash_get_list",
     "shards->counts.bits[shards->shards_len]": "shards_select shards_next shards_previous shards_select_list",
 }
 # The programs that have to see such an answer by themselves, before any other is run.
-HOSTILE = ["hostile", "guarded", "hashes", "shards", "trees", "matrices", "matrix_ranges"]
+HOSTILE = ["hostile", "guarded", "hashes", "shards", "trees", "matrices", "matrix_ranges", "sparse"]
 PROGRAMS = list(dict.fromkeys(["statuses", "pages", *IN_C]))
 for one in ("walks", "lengths", "careless"):
     PROGRAMS.remove(one)

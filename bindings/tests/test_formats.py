@@ -35,7 +35,7 @@ def tables(words):
     return [0] * bool(words), lower
 
 
-def block(kind, length, width, sections):
+def block(kind, length, width, sections, b=0):
     """The header, the directory and the sections, each of a role and of words."""
     head = -(-(16 + 4 * len(sections)) // 8) * 8
     directory, body = [], []
@@ -43,7 +43,7 @@ def block(kind, length, width, sections):
         directory += [role, 8 * (head + len(body)), len(words), checksum(words)]
         body += words + [0] * (-len(words) % 8)
     directory += [0] * (head - 16 - len(directory))
-    header = [MARK, kind, 8 * (head + len(body)), length, width, 0, 0, 0, 0, 0, 0, len(sections), 0, 0, checksum(directory)]
+    header = [MARK, kind, 8 * (head + len(body)), length, width, 0, 0, 0, 0, b, 0, len(sections), 0, 0, checksum(directory)]
     return header + [checksum(header)] + directory + body
 
 
@@ -54,7 +54,7 @@ def of_bits(length, _width, words):
     return block(2, length, 0, [(1, own), (2, upper), (3, lower)])
 
 
-def of_sequence(length, _width, items):
+def of_sequence(length, _width, items, kind=3, b=0):
     """The width of the low bits is that of the largest item divided by how many items there are."""
     largest = items[-1] if items else 0
     width = max((largest // length).bit_length() - 1, 0) if length else 0
@@ -62,7 +62,12 @@ def of_sequence(length, _width, items):
     high = packed([i in ones for i in range(length + (largest >> width) + 1)])
     low = packed([item >> k & 1 for item in items for k in range(width)])
     upper, lower = tables(high)
-    return block(3, length, width, [(1, high), (2, upper), (3, lower), (9, low)])
+    return block(kind, length, width, [(1, high), (2, upper), (3, lower), (9, low)], b)
+
+
+def of_sparse(length, bits, positions):
+    """In place of a width there is how many bits there are."""
+    return of_sequence(length, 0, positions, 4, bits)
 
 
 def of_matrix(length, width, numbers):
@@ -78,7 +83,7 @@ def of_matrix(length, width, numbers):
     return block(6, length, width, [(1, words), (2, upper), (3, lower), (11, ones), (12, zeros)])
 
 
-WRITERS = {2: of_bits, 3: of_sequence, 6: of_matrix}
+WRITERS = {2: of_bits, 3: of_sequence, 4: of_sparse, 6: of_matrix}
 
 
 def test_blocks_are_those_of_the_format(tmp_path):
@@ -93,4 +98,4 @@ def test_blocks_are_those_of_the_format(tmp_path):
         assert words[6 + given : 6 + given + size] == made, (kind, length, width)
         kinds.append(kind)
         del words[: 6 + given + size]
-    assert {kind: kinds.count(kind) for kind in WRITERS} == {2: 9, 3: 9, 6: 24}
+    assert {kind: kinds.count(kind) for kind in WRITERS} == {2: 9, 3: 9, 4: 18, 6: 24}

@@ -1,9 +1,11 @@
--- A node that is found, a degree, a rank and an index is no code.
+-- A node that is found, a degree, a rank, an index and a position is no code.
 use Rattle.std.proofs.Common.{ℕ, ◌-◌, ◌^◌, ◌<◌, arith, mul-le-mul_right}
 use Rattle.bitm.specs.Answer.{Answer}
 use Rattle.bitm.specs.Answer.TheVariants.{Found, Absent, Wrong}
 use Rattle.louds_block.specs.Answers.{IsChildWithin, IsDegreeWithin, IsParentWithin}
+use Rattle.elias_fano.specs.Answers.{IsPlaceOf}
 use Rattle.lent_levels.specs.Answers.{IsIndexWithin, IsRankWithin}
+use Rattle.lent_tables.specs.Ranks.{IsCountWithin}
 use Rattle.matrix_block.specs.Block.{HasLengths, MatrixParts}
 use Rattle.bitm_block_c.specs.Tree.{IsFoundBelow}
 
@@ -37,3 +39,20 @@ module _ (n : ℕ) (short : n < 2 ^ 63) where
   index_code (Found p) h = omega (arith, h, short)
   index_code Absent h = tt
   index_code Wrong h = tt
+
+-- of sparse bits: there may be more than of any other structure
+pub bit_code : (answer : Answer ℕ) → IsFoundBelow 2 answer → IsFoundBelow (2 ^ 64 - 2) answer
+bit_code (Found n) h = omega (arith, h)
+bit_code Absent h = tt
+bit_code Wrong h = tt
+
+module _ (n : ℕ) (short : n < 2 ^ 64 - 2) where
+  pub count_code : (i : ℕ) → (answer : Answer ℕ) → IsCountWithin n i answer → IsFoundBelow (2 ^ 64 - 2) answer
+  count_code i (Found c) h = omega (arith, h.0, h.1, short)
+  count_code i Absent h = tt
+  count_code i Wrong h = tt
+
+  pub place_code : (answer : Answer ℕ) → IsPlaceOf n answer → IsFoundBelow (2 ^ 64 - 2) answer
+  place_code (Found p) h = omega (arith, h, short)
+  place_code Absent h = tt
+  place_code Wrong h = tt

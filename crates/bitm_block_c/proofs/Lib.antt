@@ -1,2 +1,3 @@
 mod CodeLemmas
 mod IndexLemmas
+mod SparseLemmas

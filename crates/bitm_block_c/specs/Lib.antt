@@ -1,3 +1,4 @@
 pub mod IndexBlock
 pub mod Matrix
+pub mod Sparse
 pub mod Tree

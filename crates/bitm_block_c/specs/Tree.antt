@@ -1,5 +1,5 @@
 -- A tree in a block as C passes it, and what the exported calls answer.
-use Rattle.std.specs.Prelude.{⊤, ℕ, ◌<◌, ◌≤◌, ◌==◌, Bool}
+use Rattle.std.specs.Prelude.{⊤, ℕ, ◌<◌, ◌==◌, Bool}
 use Rattle.bitm.specs.Answer.{Answer}
 use Rattle.bitm.specs.Answer.TheVariants.{Found, Absent, Wrong}
 use Rattle.bitm_abi.specs.Status.{Exported}

@@ -17,6 +17,10 @@
 // - `matrix_ranges`: queries of a range of the numbers of a matrix
 // - `queries`: parents, children, degrees and siblings
 // - `sequence_blocks`: the block of a sequence, written, opened as a sequence and checked
+// - `sparse`: sparse bits as C passes them
+// - `sparse_lists`: lists of queries of sparse bits
+// - `sparse_making`: the block of sparse bits, written, opened and checked
+// - `sparse_queries`: a bit, ranks, selections and the nearest bits
 // - `tree`: a tree as C passes it
 mod index_blocks;
 mod lists;
@@ -28,4 +32,8 @@ mod matrix_queries;
 mod matrix_ranges;
 mod queries;
 mod sequence_blocks;
+mod sparse;
+mod sparse_lists;
+mod sparse_making;
+mod sparse_queries;
 mod tree;

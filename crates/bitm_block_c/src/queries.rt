@@ -42,7 +42,7 @@ pub extern "C" fn bitm_tree_degree(tree: &Tree<'_>, node: usize, out: &mut usize
 
 /// Whether a node has no children, as 0 or 1.
 #[unsafe(no_mangle)]
-pub extern "C" fn bitm_tree_is_leaf(tree: &Tree<'_>, node: usize, out: &mut u64) -> u32
+pub extern "C" fn bitm_tree_is_leaf(tree: &Tree<'_>, node: usize, out: &mut usize) -> u32
     ensures { LeafAnswered tree.now node result out.old out.new }
 {
     match tree.view() {
@@ -53,12 +53,12 @@ pub extern "C" fn bitm_tree_is_leaf(tree: &Tree<'_>, node: usize, out: &mut u64)
 
 /// A truth as 0 or 1.
 #[inline(always)]
-fn as_number(answer: Answer<bool>) -> Answer<u64>
+pub(crate) fn as_number(answer: Answer<bool>) -> Answer<usize>
     ensures truth { IsFoundBelow 2 result }
     ensures answer { truth_of result ≡ answer }
 {
     match answer {
-        Answer::Found(is) => Answer::Found(is as u64),
+        Answer::Found(is) => Answer::Found(is as usize),
         Answer::Absent => Answer::Absent,
         Answer::Wrong => Answer::Wrong,
     }

@@ -48,7 +48,7 @@ pub extern "C" fn bitm_sequence_block_build(items: &[u64], block: &mut [u64]) ->
 
 /// The sequence over the first four sections of a block.
 #[inline(always)]
-fn sequence_at<'a>(block: &Block<'a>) -> Sequence<'a>
+pub(crate) fn sequence_at<'a>(block: &Block<'a>) -> Sequence<'a>
     requires { 4 ≤ count_in block.now }
     ensures { lent_parts result ≡ sequence_in block.now }
 {

@@ -1,0 +1,80 @@
+//! The block of sparse bits: how many words it takes, writing it, opening it and checking it.
+ghost use Rattle.std.specs.Prelude.{◌≡◌, ◌≢◌, ◌^◌, ◌<◌, ◌↔◌, ◌⊎◌, length};
+ghost use Rattle.bitm_block.specs.Layout.{end_of};
+ghost use Rattle.elias_fano_view.specs.Sizes.{IsLargest};
+ghost use Rattle.sequence_block.specs.Block.{sequence_sections};
+ghost use Rattle.sparse_bits.specs.Positions.{HasNoRise, HasPast, Rises};
+ghost use Rattle.sparse_block.specs.Block.{sparse_in, CanHold, IsBlockOf, IsSoundBlock, IsSparseBlock};
+ghost use Rattle.bitm_block_c.specs.Sparse.{sparse_parts};
+
+use crate::sequence_blocks::sequence_at;
+use crate::sparse::Sparse;
+use bitm_abi::{BAD_SIZE, OK, UNSORTED, WRONG};
+use bitm_block::Block;
+use sparse_block::{BuildError, SparseView, build, check, size};
+
+/// Writes how many words the block of `ones` 1 bits takes, the last of which is at position `last`.
+#[unsafe(no_mangle)]
+pub extern "C" fn bitm_sparse_size(ones: usize, last: u64, out: &mut usize) -> u32
+    ensures ok { (result ≡ 0) ↔ IsLargest ones last }
+    ensures size { result ≡ 0 → out.new ≡ end_of (sequence_sections ones last) }
+    ensures kept { result ≢ 0 → (result ≡ 2) × (out.new ≡ out.old) }
+{
+    match size(ones, last) {
+        Some(words) => {
+            *out = words;
+            OK
+        }
+        None => BAD_SIZE,
+    }
+}
+
+/// Writes the block of `bits_len` bits, of which those at the given positions are 1 bits.
+#[unsafe(no_mangle)]
+pub extern "C" fn bitm_sparse_build(positions: &[u64], bits_len: usize, block: &mut [u64]) -> u32
+    ensures ok { (result ≡ 0) ↔ CanHold positions.now bits_len block.old }
+    ensures wrong { (result ≡ 3) ↔ ((length positions.now < 2 ^ 56) × Rises positions.now
+        × HasPast positions.now bits_len) }
+    ensures unsorted { (result ≡ 4) ↔ ((length positions.now < 2 ^ 56) × HasNoRise positions.now) }
+    ensures status { (result ≡ 0) ⊎ (result ≡ 2) ⊎ (result ≡ 3) ⊎ (result ≡ 4) }
+    ensures block { result ≡ 0 → IsBlockOf positions.now bits_len block.new }
+    ensures kept { result ≢ 0 → block.new ≡ block.old }
+{
+    match build(positions, bits_len, block) {
+        Ok(()) => OK,
+        Err(BuildError::TooLong) => BAD_SIZE,
+        Err(BuildError::NotRising) => UNSORTED,
+        Err(BuildError::PastEnd) => WRONG,
+        Err(BuildError::WrongLength) => BAD_SIZE,
+    }
+}
+
+/// Opens a block: writes the bits that queries take. What the words and tables hold is not looked at.
+#[unsafe(no_mangle)]
+pub extern "C" fn bitm_sparse_open<'a>(block: &'a [u64], sparse: &mut Sparse<'a>) -> u32
+    ensures ok { (result ≡ 0) ↔ IsSparseBlock block.now }
+    ensures bits { result ≡ 0 → sparse_parts sparse.new ≡ sparse_in block.now }
+    ensures kept { result ≢ 0 → (result ≡ 3) × (sparse.new ≡ sparse.old) }
+{
+    match (SparseView::open(block), Block::open(block)) {
+        (Some(view), Ok(opened)) => {
+            *sparse = Sparse {
+                positions: sequence_at(&opened),
+                bits_len: view.len(),
+                reserved: [0; 2],
+            };
+            OK
+        }
+        _ => WRONG,
+    }
+}
+
+/// Whether a block is as it was written, and holds sparse bits: four passes over its words, and one selection for each
+/// 1 bit.
+#[unsafe(no_mangle)]
+pub extern "C" fn bitm_sparse_check(block: &[u64]) -> u32
+    ensures ok { (result ≡ 0) ↔ IsSoundBlock block.now }
+    ensures status { (result ≡ 0) ⊎ (result ≡ 3) }
+{
+    if check(block) { OK } else { WRONG }
+}
