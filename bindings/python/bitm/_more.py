@@ -140,6 +140,26 @@ def tree_block(self: Any) -> memoryview:
     return memoryview(_core.parts(self)[1][0])
 
 
+def sparse_over(cls: Any, block: Any) -> Any:
+    """Sparse bits in a block that exists already, in a buffer that it holds. ValueError where its header or directory is not
+    right; the rest is not looked at: call `check`.
+
+    >>> bits = SparseBits([3, 100, 101, 4000], 5000)
+    >>> SparseBits.over(bits.block).rank(101)
+    2
+    """
+    return _core.over(cls, (), (block,))
+
+
+def sparse_block(self: Any) -> memoryview:
+    """The words of the block, to be read: what `SparseBits.over` takes, and the bytes of the file.
+
+    >>> len(SparseBits([3, 100, 101, 4000], 5000).block)
+    64
+    """
+    return memoryview(_core.parts(self)[1][0])
+
+
 def matrix_over(cls: Any, block: Any) -> Any:
     """A list of numbers in a block that exists already, in a buffer that it holds. ValueError where its header or directory
     is not right; the rest is not looked at: call `check`.
@@ -302,10 +322,10 @@ def _copy(share: Callable[[Any], Any]) -> Callable[[Any], Any]:
 
 def complete() -> None:
     """Gives the types of the extension those methods that stand here."""
-    for kind in (_core.Index, _core.EliasFano, _core.PerfectHash, _core.Tree, _core.WaveletMatrix):
+    for kind in (_core.Index, _core.EliasFano, _core.SparseBits, _core.PerfectHash, _core.Tree, _core.WaveletMatrix):
         setattr(kind, "save", save)
         setattr(kind, "__copy__", _copy(getattr(kind, "__copy__")))
-    for each in (_core.BitVector, _core.Index, _core.EliasFano, _core.PerfectHash, _core.Tree, _core.WaveletMatrix):
+    for each in (_core.BitVector, _core.Index, _core.EliasFano, _core.SparseBits, _core.PerfectHash, _core.Tree, _core.WaveletMatrix):
         setattr(each, "__reduce_ex__", reduce)
     setattr(_core.BitVector, "to_numpy", vector_to_numpy)
     setattr(_core.BitVector, "reverse", vector_reverse)
@@ -319,6 +339,8 @@ def complete() -> None:
     setattr(_core.EliasFano, "over", classmethod(sequence_over))
     setattr(_core.Tree, "over", classmethod(tree_over))
     setattr(_core.Tree, "block", property(tree_block))
+    setattr(_core.SparseBits, "over", classmethod(sparse_over))
+    setattr(_core.SparseBits, "block", property(sparse_block))
     setattr(_core.WaveletMatrix, "over", classmethod(matrix_over))
     setattr(_core.WaveletMatrix, "block", property(matrix_block))
     setattr(_core.EliasFano, "intersection", intersection)

@@ -7,7 +7,7 @@ import pytest
 import bitm
 
 pytest.importorskip("numpy")
-KINDS = (bitm.BitVector, bitm.Index, bitm.EliasFano, bitm.PerfectHash, bitm.Shards, bitm.Tree, bitm.WaveletMatrix)
+KINDS = (bitm.BitVector, bitm.Index, bitm.EliasFano, bitm.SparseBits, bitm.PerfectHash, bitm.Shards, bitm.Tree, bitm.WaveletMatrix)
 WALK = type(iter(bitm.EliasFano([1])))
 
 
