@@ -8,7 +8,7 @@ MODES = ["c++17 -fno-exceptions -fno-rtti", "c++20", "c++20 -fno-exceptions -fno
 
 
 @pytest.mark.parametrize("way", WAYS)
-@pytest.mark.parametrize("program", ["check", "stored", "shards", "trees", "matrices"])
+@pytest.mark.parametrize("program", ["check", "stored", "shards", "trees", "matrices", "sparse"])
 def test_program(program, way, tmp_path):
     needs(WAYS[way].split()[0])
     bash(compiled(WAYS[way], f"bindings/cpp/{program}.cpp", tmp_path), tmp_path)

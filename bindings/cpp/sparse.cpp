@@ -1,0 +1,256 @@
+// Sparse bits in C++ beside plain lists of positions: owners, views, lists, files, threads; positions that are refused,
+// blocks that are spoilt or cut, and what is left of an owner that was moved.
+#include <bitm.hpp>
+
+#include <algorithm>
+#include <cstdio>
+#include <cstdlib>
+#include <random>
+#include <sstream>
+#include <string>
+#include <thread>
+#include <vector>
+
+using u64 = std::uint64_t;
+using Words = std::vector<u64>;
+using Sparse = bitm::sparse_bits;
+using View = bitm::sparse_bits_view;
+using bitm::maybe_position;
+
+[[noreturn]] static void broken(int line, const char *what)
+{
+    std::fprintf(stderr, "sparse.cpp:%d: not so: %s\n", line, what), std::exit(1);
+}
+#define MUST(...) ((__VA_ARGS__) ? void() : broken(__LINE__, #__VA_ARGS__))
+
+template <class Error, class Call> static bool throws(Call call)
+{
+    try {
+        call();
+    } catch (const Error &) {
+        return true;
+    }
+    return false;
+}
+
+static std::mt19937_64 draw(31);
+
+// The positions of the 1 bits of so many bits.
+struct Plain {
+    Words positions;
+    u64 size = 0;
+
+    bool bit(u64 at) const { return std::binary_search(positions.begin(), positions.end(), at); }
+    u64 rank(u64 at) const
+    {
+        return static_cast<u64>(std::lower_bound(positions.begin(), positions.end(), at) - positions.begin());
+    }
+    maybe_position select(u64 rank) const
+    {
+        return rank < positions.size() ? maybe_position(positions[rank]) : std::nullopt;
+    }
+    maybe_position select0(u64 rank) const
+    {
+        if (rank >= size - positions.size()) return std::nullopt;
+        for (const u64 it : positions) rank += it <= rank;
+        return rank;
+    }
+    // By steps of one position.
+    maybe_position next(bool one, u64 from) const
+    {
+        if (one) return select(rank(from));
+        while (from < size && bit(from)) from++;
+        return from < size ? maybe_position(from) : std::nullopt;
+    }
+    maybe_position previous(bool one, u64 from) const
+    {
+        if (size == 0) return std::nullopt;
+        from = std::min(from, size - 1);
+        if (one) return rank(from + 1) > 0 ? select(rank(from + 1) - 1) : std::nullopt;
+        while (bit(from))
+            if (from-- == 0) return std::nullopt;
+        return from;
+    }
+};
+
+static Plain drawn(u64 count, u64 most, u64 more)
+{
+    Plain plain;
+    u64 next = draw() % most;
+    for (u64 i = 0; i < count; i++, next += 1 + draw() % most) plain.positions.push_back(next);
+    plain.size = (count ? plain.positions.back() + 1 : 0) + more;
+    return plain;
+}
+
+template <class S> static void of_one(const S &s, const Plain &plain, u64 at)
+{
+    if (at < plain.size) MUST(s[at] == plain.bit(at) && s.at(at) == plain.bit(at) && s.try_at(at).value() == s[at]);
+    if (at <= plain.size) MUST(s.rank(at) == plain.rank(at) && s.rank0(at) == at - plain.rank(at));
+    if (at >= plain.size) {
+        MUST(throws<std::out_of_range>([&] { (void)s[at]; }) && throws<std::out_of_range>([&] { (void)s.at(at); }));
+        MUST(s.try_at(at).error() == bitm::failure{bitm::errc::outside, at, plain.size, nullptr});
+    }
+    if (at > plain.size) {
+        MUST(throws<std::out_of_range>([&] { (void)s.rank(at); }));
+        MUST(s.try_rank0(at).error() == bitm::failure{bitm::errc::outside, at, plain.size, nullptr});
+    }
+    MUST(s.select(at) == plain.select(at) && s.try_select(at).value() == s.select(at));
+    MUST(s.select0(at) == plain.select0(at) && s.try_select0(at).value() == s.select0(at));
+    MUST(s.next_one(at) == plain.next(true, at) && s.try_next_one(at).value() == s.next_one(at));
+    MUST(s.next_zero(at) == plain.next(false, at) && s.try_next_zero(at).value() == s.next_zero(at));
+    MUST(s.previous_one(at) == plain.previous(true, at) && s.try_previous_one(at).value() == s.previous_one(at));
+    MUST(s.previous_zero(at) == plain.previous(false, at) && s.try_previous_zero(at).value() == s.previous_zero(at));
+}
+
+template <class S> static void lists(const S &s, const Plain &plain, const Words &asked)
+{
+    Words out(asked.size()), less(asked.size() - 1);
+    const auto is = [&](std::size_t i, const maybe_position &wanted) {
+        return out[i] == wanted.value_or(bitm::no_answer);
+    };
+    const auto inside = [&](u64 at, u64 end, u64 answer) { return at < end ? maybe_position(answer) : std::nullopt; };
+    s.at(asked, out);
+    for (std::size_t i = 0; i < asked.size(); i++) MUST(is(i, inside(asked[i], plain.size, plain.bit(asked[i]))));
+    s.rank(asked, out);
+    for (std::size_t i = 0; i < asked.size(); i++)
+        MUST(is(i, asked[i] <= plain.size ? maybe_position(plain.rank(asked[i])) : std::nullopt));
+    s.rank0(asked, out);
+    for (std::size_t i = 0; i < asked.size(); i++)
+        MUST(is(i, asked[i] <= plain.size ? maybe_position(asked[i] - plain.rank(asked[i])) : std::nullopt));
+    s.select(asked, out);
+    for (std::size_t i = 0; i < asked.size(); i++) MUST(is(i, plain.select(asked[i])));
+    s.select0(asked, out);
+    for (std::size_t i = 0; i < asked.size(); i++) MUST(is(i, plain.select0(asked[i])));
+    MUST(throws<std::invalid_argument>([&] { s.at(asked, less); }));
+    MUST(throws<std::invalid_argument>([&] { s.rank(asked, less); }));
+    MUST(throws<std::invalid_argument>([&] { s.select0(out, out); }));
+    s.rank(bitm::words_in(), bitm::words_out());
+}
+
+template <class S> static void same(const S &s, const Plain &plain)
+{
+    const u64 ones = plain.positions.size();
+    MUST(s.size() == plain.size && s.empty() == (plain.size == 0) && s.check());
+    MUST(s.count() == ones && s.count0() == plain.size - ones);
+    const auto positions = s.positions();
+    MUST(std::equal(positions.begin(), positions.end(), plain.positions.begin(), plain.positions.end()));
+    Words asked{0, 1, 2, ones, ones + 1, plain.size, plain.size + 1, plain.size - ones, ~u64{}, ~u64{} - 1};
+    for (u64 i = 0; i < std::min<u64>(ones, 12); i++)
+        asked.push_back(plain.positions[draw() % ones]), asked.push_back(asked.back() + 1);
+    for (u64 i = 0; i < 12; i++) asked.push_back(draw() % (plain.size + 1));
+    for (const u64 at : asked) of_one(s, plain, at);
+    lists(s, plain, asked);
+}
+
+static void refused()
+{
+    const Words twice{3, 3}, falls{4, 3}, some{3, 9}, few(2);
+    MUST(Sparse::try_of(twice, 100).error().code == bitm::errc::unsorted && !Sparse::try_of(falls, 100));
+    MUST(Sparse::try_of(some, 9).error() == bitm::failure{bitm::errc::outside, 9, 9, "a position"});
+    MUST(throws<std::out_of_range>([&] { Sparse s(some, 9); }) &&
+         throws<std::invalid_argument>([&] { Sparse s(twice, 100); }));
+    MUST(Sparse(some, 10).size() == 10 && Sparse({}, 7).size() == 7 && Sparse({}, 0).empty());
+    MUST(!Sparse::try_of_bytes({}) && !View::try_in(few) && !View::try_in({}));
+    MUST(throws<bitm::wrong_file>([&] { (void)View::in(few); }));
+    MUST(Sparse::try_load("no/such/file").error().code == bitm::errc::no_file);
+}
+
+static void owners(const Plain &plain)
+{
+    Sparse a(plain.positions, plain.size), none;
+    MUST(a == Sparse(plain.positions, plain.size) && a != none && a != Sparse(plain.positions, plain.size + 1));
+    Sparse copy = a, moved = std::move(a);
+    same(copy, plain), same(moved, plain), same(moved.view(), plain);
+    same(a, {}), same(none, {}), same(none.view(), {}), same(View(), {}), same(Sparse(none), {});
+    a = copy, copy = Sparse(), same(copy, {}), same(a, plain);
+    swap(a, copy), same(a, {}), same(copy, plain);
+    a = std::move(copy), same(a, plain), same(copy, {});
+    MUST(a.view() == a && a.view() != none.view() && none.bytes().size() == 0);
+}
+
+static void files(const Plain &plain, const std::string &path)
+{
+    const Sparse s(plain.positions, plain.size);
+    s.save(path);
+    std::stringstream stream, cut;
+    s.save(stream) << "more";
+    cut.write(reinterpret_cast<const char *>(s.bytes().data()), static_cast<std::streamsize>(s.bytes().size() - 1));
+    same(Sparse::load(path, bitm::verify::yes), plain);
+    const Sparse mapped = Sparse::map(path, bitm::verify::yes), read = Sparse::load(stream, bitm::verify::yes);
+    same(mapped, plain), same(read, plain);
+    MUST(stream.get() == 'm' && !Sparse::try_load(cut) && mapped == s && Sparse::of_bytes(s.bytes()) == s);
+    MUST(!bitm::tree::try_load(path) && !bitm::wavelet_matrix::try_load(path));
+    Words file(s.block().begin(), s.block().end());
+    file.resize(file.size() + 7, 5); // words after the block are not its own
+    const View view = View::in(file);
+    same(view, plain), MUST(view == s && view.block().data() == file.data());
+    bitm::tree{1, 0}.save(path);
+    MUST(Sparse::try_load(path).error().code == bitm::errc::wrong_file && !Sparse::try_map(path));
+    std::remove(path.c_str());
+}
+
+// Answers of a block that may hold anything: inside, or an error.
+static void any(const View &s)
+{
+    const u64 n = s.size();
+    for (u64 i = 0; i <= n; i += 1 + n / 40) {
+        const auto bit = s.try_at(i);
+        MUST(!bit || i < n);
+        for (const auto &it : {s.try_rank(i), s.try_rank0(i)}) MUST(!it || *it <= i);
+        for (const auto &it : {s.try_select(i), s.try_select0(i)}) MUST(!it || !*it || **it < n);
+        for (const auto &it : {s.try_next_one(i), s.try_next_zero(i)}) MUST(!it || !*it || (i <= **it && **it < n));
+        for (const auto &it : {s.try_previous_one(i), s.try_previous_zero(i)}) MUST(!it || !*it || **it <= i);
+    }
+}
+
+static void spoilt()
+{
+    const Plain plain = drawn(50, 90, 4);
+    const Sparse s(plain.positions, plain.size);
+    const Words good(s.block().begin(), s.block().end());
+    const std::size_t start = static_cast<std::size_t>(s.raw().positions.words - s.block().data());
+    for (std::size_t word = 0; word < good.size(); word++)
+        for (unsigned bit = 0; bit < 64; bit += 1 + bit % 5) {
+            Words block = good;
+            block[word] ^= u64{1} << bit;
+            const auto view = View::try_in(block);
+            MUST(view.has_value() ==
+                 (word >= start)); // the header and the directory have checksums that opening compares
+            if (view) MUST(!view->check()), any(*view);
+        }
+    for (std::size_t len = 0; len < good.size(); len++) MUST(!View::try_in(bitm::words_in(good.data(), len)));
+    for (int turn = 0; turn < 300; turn++) {
+        Words block = good;
+        for (std::size_t word = start; word < block.size(); word++) block[word] = draw() & draw();
+        any(View::in(block));
+    }
+}
+
+static void threads()
+{
+    const Plain plain = drawn(2000, 9, 0);
+    const Sparse s(plain.positions, plain.size);
+    const View view = s.view();
+    std::vector<std::thread> all;
+    for (int i = 0; i < 6; i++)
+        all.emplace_back([&] {
+            for (u64 at = 0; at < 2000; at++)
+                MUST(s.select(at) == plain.select(at) && view.rank(plain.positions[at]) == at);
+        });
+    for (std::thread &it : all) it.join();
+}
+
+int main(int, char **argv)
+{
+    const std::string path = argv[0] + std::string(".sparse");
+    refused(), spoilt(), threads();
+    std::vector<Plain> all{{}, {{}, 9}, {{0}, 1}, {{3, 100, 101, 4000}, 5000}, {{5}, ~u64{} - 2}};
+    for (u64 count = 1; count < 30; count++) all.push_back(drawn(count * count, u64{1} << count, count % 3 * 70));
+    for (const Plain &plain : all) {
+        const Sparse s(plain.positions, plain.size);
+        same(s, plain), files(plain, path);
+    }
+    owners(all[3]), owners(all.back());
+    std::puts("sparse: ok");
+    return 0;
+}

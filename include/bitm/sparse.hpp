@@ -1,0 +1,301 @@
+// Sparse bits, in one block of memory: an owner, and a view of a block in memory of the caller's.
+//
+//     const bitm::sparse_bits b({3, 100, 101, 4000}, 5000);                         // the 1 bits of 5000 bits
+//     std::cout << b.rank(101) << ' ' << b.select(3).value() << ' ' << b[100] << '\n'; // 2 4000 1
+//     for (const std::uint64_t position : b.positions()) std::cout << position << ' '; // 3 100 101 4000
+//
+// The positions of the 1 bits are kept as a monotone sequence: about 2 + log2(n / m) bits for each of m 1 bits among n
+// bits. The queries are those of a rank_index. The file of sparse bits is their block, the same bytes from each
+// language.
+#ifndef BITM_SPARSE_HPP
+#define BITM_SPARSE_HPP
+
+#include <bitm/file.hpp>
+#include <bitm/sequence_view.hpp>
+
+BITM_NAMESPACE_BEGIN
+
+namespace detail {
+
+// The words of no positions: what an owner or a view that was default constructed queries.
+inline constexpr std::uint64_t no_positions[1] = {0};
+inline bitm_sparse empty_sparse() noexcept
+{
+    bitm_sparse raw{};
+    raw.positions.words = raw.positions.upper = raw.positions.lower = no_positions;
+    raw.positions.words_len = raw.positions.upper_len = raw.positions.lower_len = 1;
+    return raw;
+}
+
+// The sparse bits whose block begins these words, and how many words the block has.
+struct opened_sparse {
+    bitm_sparse raw{};
+    std::size_t len = 0;
+};
+inline result<opened_sparse> sparse_in(const std::uint64_t *file, std::size_t words) noexcept
+{
+    opened_sparse found;
+    found.len = block_len(file, words);
+    if (found.len == 0 || found.len > words || bitm_sparse_open(file, found.len, &found.raw) != BITM_OK)
+        return failure{errc::wrong_file};
+    return found;
+}
+
+template <class Self> class sparse_calls {
+public:
+    // How many bits there are, and whether there are none; all of it as C takes it, and the block.
+    std::uint64_t size() const noexcept { return raw().bits_len; }
+    bool empty() const noexcept { return size() == 0; }
+    const bitm_sparse &raw() const noexcept BITM_LIFETIMEBOUND { return self().raw_; }
+    words_in block() const noexcept BITM_LIFETIMEBOUND { return self().block_of(); }
+
+    // The bit at a position: fails past the end.
+    bool operator[](std::uint64_t position) const { return try_at(position).value(); }
+    bool at(std::uint64_t position) const { return try_at(position).value(); }
+    result<bool> try_at(std::uint64_t position) const noexcept
+    {
+        std::uint64_t out = 0;
+        const std::uint32_t status = bitm_sparse_get(&raw(), position, &out);
+        if (status != BITM_OK) return error_of(status, position, size());
+        return out != 0;
+    }
+
+    // How many 1 bits, or 0 bits, there are before a position: fails where that is past size().
+    std::uint64_t rank(std::uint64_t position) const { return try_rank(position).value(); }
+    std::uint64_t rank0(std::uint64_t position) const { return try_rank0(position).value(); }
+    result<std::uint64_t> try_rank(std::uint64_t position) const noexcept { return counted(true, position); }
+    result<std::uint64_t> try_rank0(std::uint64_t position) const noexcept { return counted(false, position); }
+
+    // The position of the 1 bit, or 0 bit, with a rank; none where there is none.
+    maybe_position select(std::uint64_t rank) const { return try_select(rank).value(); }
+    maybe_position select0(std::uint64_t rank) const { return try_select0(rank).value(); }
+    result<maybe_position> try_select(std::uint64_t rank) const noexcept
+    {
+        return ask(bitm_sparse_select, true, rank);
+    }
+    result<maybe_position> try_select0(std::uint64_t rank) const noexcept
+    {
+        return ask(bitm_sparse_select, false, rank);
+    }
+
+    // How many 1 bits, or 0 bits, there are in all.
+    std::uint64_t count() const { return rank(size()); }
+    std::uint64_t count0() const { return rank0(size()); }
+
+    // The position of the first 1 bit, or 0 bit, at or after a position; of the last one at or before it.
+    maybe_position next_one(std::uint64_t from) const { return try_next_one(from).value(); }
+    maybe_position next_zero(std::uint64_t from) const { return try_next_zero(from).value(); }
+    maybe_position previous_one(std::uint64_t from) const { return try_previous_one(from).value(); }
+    maybe_position previous_zero(std::uint64_t from) const { return try_previous_zero(from).value(); }
+    result<maybe_position> try_next_one(std::uint64_t from) const noexcept { return ask(bitm_sparse_next, true, from); }
+    result<maybe_position> try_next_zero(std::uint64_t from) const noexcept
+    {
+        return ask(bitm_sparse_next, false, from);
+    }
+    result<maybe_position> try_previous_one(std::uint64_t from) const noexcept
+    {
+        return ask(bitm_sparse_previous, true, from);
+    }
+    result<maybe_position> try_previous_zero(std::uint64_t from) const noexcept
+    {
+        return ask(bitm_sparse_previous, false, from);
+    }
+
+    // Lists, into memory of the caller's as long as the queries: out[i] answers queries[i] (a bit as 0 or 1), or is
+    // bitm::no_answer (also for a position past the end). Where the block is noticed to be wrong, the call fails once
+    // all is answered.
+    void at(words_in positions, words_out out) const
+    {
+        need_apart(positions, out);
+        bitm_list_counts counts{};
+        const std::uint32_t status =
+            bitm_sparse_get_list(&raw(), positions.data(), positions.size(), out.data(), out.size(), &counts);
+        need_list(status, counts);
+    }
+    void rank(words_in positions, words_out out) const { list(bitm_sparse_rank_list, true, positions, out); }
+    void rank0(words_in positions, words_out out) const { list(bitm_sparse_rank_list, false, positions, out); }
+    void select(words_in ranks, words_out out) const { list(bitm_sparse_select_list, true, ranks, out); }
+    void select0(words_in ranks, words_out out) const { list(bitm_sparse_select_list, false, ranks, out); }
+
+    // Whether the block is as it was written and holds sparse bits: looks at all of it.
+    bool check() const noexcept
+    {
+        const words_in all = block();
+        return all.empty() || bitm_sparse_check(all.data(), all.size()) == BITM_OK;
+    }
+
+    // The same bits: the same block.
+    template <class Other> friend bool operator==(const sparse_calls &a, const sparse_calls<Other> &b) noexcept
+    {
+        const words_in x = a.block(), y = b.block();
+        return x.size() == y.size() && (x.empty() || std::memcmp(x.data(), y.data(), 8 * x.size()) == 0);
+    }
+    template <class Other> friend bool operator!=(const sparse_calls &a, const sparse_calls<Other> &b) noexcept
+    {
+        return !(a == b);
+    }
+
+protected:
+    sparse_calls() noexcept = default;
+    ~sparse_calls() = default;
+    sparse_calls(const sparse_calls &) noexcept = default;
+    sparse_calls &operator=(const sparse_calls &) noexcept = default;
+
+private:
+    using query_call = std::uint32_t (*)(const bitm_sparse *, bool, std::uint64_t, std::uint64_t *);
+    using list_call = std::uint32_t (*)(const bitm_sparse *, bool, const std::uint64_t *, std::size_t, std::uint64_t *,
+                                        std::size_t, bitm_list_counts *);
+    const Self &self() const noexcept { return static_cast<const Self &>(*this); }
+    result<std::uint64_t> counted(bool one, std::uint64_t position) const noexcept
+    {
+        std::uint64_t out = 0;
+        const std::uint32_t status = bitm_sparse_rank(&raw(), one, position, &out);
+        if (status != BITM_OK) return error_of(status, position, size());
+        return out;
+    }
+    result<maybe_position> ask(query_call call, bool one, std::uint64_t asked) const noexcept
+    {
+        std::uint64_t out = 0;
+        const std::uint32_t status = call(&raw(), one, asked, &out);
+        return tried(status, out);
+    }
+    void list(list_call call, bool one, words_in queries, words_out out) const
+    {
+        need_apart(queries, out);
+        bitm_list_counts counts{};
+        const std::uint32_t status =
+            call(&raw(), one, queries.data(), queries.size(), out.data(), out.size(), &counts);
+        need_list(status, counts);
+    }
+};
+
+} // namespace detail
+
+// Sparse bits whose block is in memory of the caller's, who keeps it: a mapped file, say.
+class BITM_POINTER sparse_bits_view : public detail::sparse_calls<sparse_bits_view> {
+public:
+    // Of no bits; of the block that begins the words: fails where it is none of sparse bits, or not all of it.
+    sparse_bits_view() noexcept = default;
+    static result<sparse_bits_view> try_in(detail::kept<const std::uint64_t> file BITM_LIFETIMEBOUND) noexcept
+    {
+        const result<detail::opened_sparse> found = detail::sparse_in(file.data(), file.size());
+        if (!found) return found.error();
+        sparse_bits_view view;
+        view.raw_ = found->raw, view.block_ = words_in(file.data(), found->len);
+        return view;
+    }
+    static sparse_bits_view in(detail::kept<const std::uint64_t> file BITM_LIFETIMEBOUND)
+    {
+        return try_in(file).value();
+    }
+
+    // The positions of the 1 bits.
+    sequence_view positions() const { return sequence_view(raw_.positions); }
+
+private:
+    friend class sparse_bits;
+    friend class detail::sparse_calls<sparse_bits_view>;
+    words_in block_of() const noexcept { return block_; }
+
+    bitm_sparse raw_ = detail::empty_sparse();
+    words_in block_;
+};
+
+// Sparse bits that own their block, made from the positions of the 1 bits.
+class BITM_OWNER sparse_bits : public detail::sparse_calls<sparse_bits>, public detail::stored_calls<sparse_bits> {
+public:
+    // No bits; `size` bits of which those at the positions are 1 bits, words or a list: fails where a position is not
+    // greater than the one before it, or not less than `size`.
+    sparse_bits() noexcept = default;
+    sparse_bits(words_in positions, std::uint64_t size) : sparse_bits(try_of(positions, size).value()) {}
+    sparse_bits(std::initializer_list<std::uint64_t> positions, std::uint64_t size)
+        : sparse_bits(words_in(positions.begin(), positions.size()), size)
+    {
+    }
+    static result<sparse_bits> try_of(words_in positions, std::uint64_t size)
+    {
+        const std::size_t count = positions.size();
+        std::uint64_t len = 0;
+        if (bitm_sparse_size(count, count > 0 ? positions.data()[count - 1] : 0, &len) != BITM_OK)
+            return detail::bad_size("2^56 positions or more");
+        detail::block all(len);
+        const std::uint32_t status = bitm_sparse_build(positions.data(), count, size, all.data(), all.size());
+        if (status == BITM_WRONG) return failure{errc::outside, positions.data()[count - 1], size, "a position"};
+        if (status != BITM_OK) return detail::error_of(status);
+        return opened(std::move(all), verify::no);
+    }
+
+    // A copy; or all of another, which has no bits then; an exchange.
+    sparse_bits(const sparse_bits &other) : sparse_calls(), stored_calls()
+    {
+        if (other.used_)
+            *this = opened(detail::copied(other.block_.data(), 8 * other.used_).value(), verify::no).value();
+    }
+    sparse_bits(sparse_bits &&other) noexcept { swap(other); }
+    sparse_bits &operator=(const sparse_bits &other)
+    {
+        sparse_bits copy(other);
+        swap(copy);
+        return *this;
+    }
+    sparse_bits &operator=(sparse_bits &&other) noexcept
+    {
+        sparse_bits moved(std::move(other));
+        swap(moved);
+        return *this;
+    }
+    ~sparse_bits() = default;
+    void swap(sparse_bits &other) noexcept
+    {
+        block_.swap(other.block_), std::swap(used_, other.used_), std::swap(raw_, other.raw_);
+    }
+    friend void swap(sparse_bits &a, sparse_bits &b) noexcept { a.swap(b); }
+
+    // Views, which the owner has to outlive, of the bits and of the positions of the 1 bits; the block, and all of it
+    // as C takes it. Deleted for temporaries.
+    sparse_bits_view view() const &noexcept BITM_LIFETIMEBOUND
+    {
+        sparse_bits_view view;
+        view.raw_ = raw_, view.block_ = block_of();
+        return view;
+    }
+    sequence_view positions() const &BITM_LIFETIMEBOUND { return sequence_view(raw_.positions); }
+    words_in block() const &noexcept BITM_LIFETIMEBOUND { return block_of(); }
+    const bitm_sparse &raw() const &noexcept BITM_LIFETIMEBOUND { return raw_; }
+    void view() const && = delete;
+    void positions() const && = delete;
+    void block() const && = delete;
+    void raw() const && = delete;
+
+private:
+    friend class detail::sparse_calls<sparse_bits>;
+    friend class detail::stored_calls<sparse_bits>;
+    words_in block_of() const noexcept { return {block_.data(), used_}; }
+    static std::size_t needed(const std::uint64_t *file, std::size_t have) noexcept
+    {
+        return detail::block_len(file, have);
+    }
+    static result<std::size_t> size_of(const std::uint64_t *file, std::size_t words) noexcept
+    {
+        const result<detail::opened_sparse> found = detail::sparse_in(file, words);
+        if (!found) return found.error();
+        return found->len;
+    }
+    static result<sparse_bits> opened(detail::block &&all, verify how) noexcept
+    {
+        const result<detail::opened_sparse> found = detail::sparse_in(all.data(), all.size());
+        if (!found) return found.error();
+        sparse_bits made;
+        made.block_.swap(all), made.used_ = found->len, made.raw_ = found->raw;
+        if (how == verify::yes && !made.check()) return failure{errc::wrong};
+        return made;
+    }
+
+    detail::block block_;
+    std::size_t used_ = 0;
+    bitm_sparse raw_ = detail::empty_sparse();
+};
+
+BITM_NAMESPACE_END
+
+#endif
