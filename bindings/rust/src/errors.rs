@@ -49,7 +49,7 @@ impl fmt::Display for WrongTables {
 
 impl Error for WrongTables {}
 
-/// Why an index, a sequence, a hash, a tree or a list of numbers was not built.
+/// Why an index, a sequence, sparse bits, a hash, a tree or a list of numbers was not built.
 ///
 /// ```
 /// use bitm_proved::{BuildError, EliasFano};
@@ -79,6 +79,26 @@ pub enum BuildError {
     /// ```
     NotSorted {
         /// That index.
+        index: usize,
+    },
+    /// The position at an index is not greater than the one before it.
+    ///
+    /// ```
+    /// use bitm_proved::{BuildError, SparseBits};
+    /// assert_eq!(SparseBits::build(&[2, 5, 5], 9).err(), Some(BuildError::NotRising { index: 2 }));
+    /// ```
+    NotRising {
+        /// That index.
+        index: usize,
+    },
+    /// The position at an index is not less than the number of bits.
+    ///
+    /// ```
+    /// use bitm_proved::{BuildError, SparseBits};
+    /// assert_eq!(SparseBits::build(&[2, 5], 5).err(), Some(BuildError::PastEnd { index: 1 }));
+    /// ```
+    PastEnd {
+        /// The least such index.
         index: usize,
     },
     /// Hashes of keys are equal.
@@ -132,9 +152,9 @@ impl fmt::Display for BuildError {
     fn fmt(&self, f: &mut fmt::Formatter<'_>) -> fmt::Result {
         match self {
             BuildError::TooLong { len } => write!(f, "a length is too great: {len}"),
-            BuildError::NotSorted { index } => {
-                write!(f, "number {index} is less than the one before it")
-            }
+            BuildError::NotSorted { index } => write!(f, "number {index} is less than the one before it"),
+            BuildError::NotRising { index } => write!(f, "position {index} is not greater than the one before it"),
+            BuildError::PastEnd { index } => write!(f, "position {index} is past the end"),
             BuildError::EqualHashes { left } => write!(f, "{left} hashes are equal to others"),
             BuildError::TooWide { index } => write!(f, "number {index} has more bits than the width"),
             BuildError::WrongWidth { width } => write!(f, "a width is 1 to 64 bits, not {width}"),
@@ -242,8 +262,7 @@ pub enum ListError {
     ///
     /// ```
     /// use bitm_proved::{Index, ListError, Queries};
-    /// let refused = Index::build([7u64]).rank_list(&[1, 2], &mut [0]);
-    /// assert_eq!(refused, Err(ListError::Lengths { queries: 2, room: 1 }));
+    /// assert_eq!(Index::build([7u64]).rank_list(&[1, 2], &mut [0]), Err(ListError::Lengths { queries: 2, room: 1 }));
     /// ```
     Lengths {
         /// How many queries there are.
@@ -282,9 +301,7 @@ pub enum ListError {
 impl fmt::Display for ListError {
     fn fmt(&self, f: &mut fmt::Formatter<'_>) -> fmt::Result {
         match self {
-            ListError::Lengths { queries, room } => {
-                write!(f, "there is room for {room} answers to {queries} queries")
-            }
+            ListError::Lengths { queries, room } => write!(f, "there is room for {room} answers to {queries} queries"),
             ListError::Pairs { first, second } => write!(f, "the lists of pairs have {first} and {second} numbers"),
             ListError::WrongTables { wrong } => write!(f, "{WrongTables}: {wrong} answers show it"),
         }
@@ -316,8 +333,7 @@ pub enum OpenError {
     ///
     /// ```
     /// use bitm_proved::{OpenError, StoredError};
-    /// let why = OpenError::from(StoredError::OtherKind);
-    /// assert!(matches!(why, OpenError::Stored(StoredError::OtherKind)));
+    /// assert!(matches!(StoredError::OtherKind.into(), OpenError::Stored(StoredError::OtherKind)));
     /// ```
     Stored(StoredError),
 }

@@ -4,6 +4,7 @@ use crate::sys::index::Index;
 use crate::sys::mapped::Mapped;
 use crate::sys::matrix::owned::WaveletMatrix;
 use crate::sys::owned::Sequence;
+use crate::sys::sparse::owned::SparseBits;
 use crate::sys::tree::owned::Tree;
 use std::path::Path;
 
@@ -63,6 +64,20 @@ pub type TreeFile = Tree<Mapped>;
 /// # }
 /// ```
 pub type WaveletMatrixFile = WaveletMatrix<Mapped>;
+
+/// Sparse bits over a file that is mapped.
+///
+/// ```
+/// use bitm_proved::{bytes_of, SparseBits, SparseBitsFile};
+/// # fn main() -> Result<(), Box<dyn std::error::Error>> {
+/// let path = std::env::temp_dir().join(format!("bitm-sparse-{}", std::process::id()));
+/// std::fs::write(&path, bytes_of(SparseBits::build(&[3, 100], 5000)?.block()))?;
+/// assert_eq!(SparseBitsFile::open(&path)?.select(1), Some(100));
+/// # std::fs::remove_file(&path)?;
+/// # Ok(())
+/// # }
+/// ```
+pub type SparseBitsFile = SparseBits<Mapped>;
 
 impl IndexFile {
     /// The index in a file. The contents of its parts are not tested: `check` does that. The file has to stay as it is.
@@ -138,5 +153,24 @@ impl WaveletMatrixFile {
     /// ```
     pub fn open(path: impl AsRef<Path>) -> Result<Self, OpenError> {
         Ok(WaveletMatrix::from_bytes(Mapped::open(path)?)?)
+    }
+}
+
+impl SparseBitsFile {
+    /// The bits in a file. What its block holds is not tested: `check` does that. The file has to stay as it is.
+    ///
+    /// ```
+    /// use bitm_proved::{bytes_of, SparseBits, SparseBitsFile};
+    /// # fn main() -> Result<(), Box<dyn std::error::Error>> {
+    /// let path = std::env::temp_dir().join(format!("bitm-sparse-open-{}", std::process::id()));
+    /// std::fs::write(&path, bytes_of(SparseBits::build(&[3, 100], 5000)?.block()))?;
+    /// let bits = SparseBitsFile::open(&path)?;
+    /// assert!(bits.check() && bits.len() == 5000 && bits.rank(101) == Some(2));
+    /// # std::fs::remove_file(&path)?;
+    /// # Ok(())
+    /// # }
+    /// ```
+    pub fn open(path: impl AsRef<Path>) -> Result<Self, OpenError> {
+        Ok(SparseBits::from_bytes(Mapped::open(path)?)?)
     }
 }

@@ -3,6 +3,7 @@ use crate::queries::Queries;
 use crate::sys::index::Index;
 use crate::sys::matrix::owned::WaveletMatrix;
 use crate::sys::owned::{EliasFano, Sequence};
+use crate::sys::sparse::owned::SparseBits;
 use crate::sys::tree::owned::Tree;
 use alloc::vec::Vec;
 use serde::{de::Error as _, ser::Error as _, Deserialize, Deserializer, Serialize, Serializer};
@@ -62,5 +63,19 @@ impl<'de> Deserialize<'de> for WaveletMatrix {
         let numbers = WaveletMatrix::from_words(Vec::deserialize(from)?).map_err(D::Error::custom)?;
         let right = numbers.check();
         right.then_some(numbers).ok_or_else(|| D::Error::custom(crate::WrongTables))
+    }
+}
+
+impl<O> Serialize for SparseBits<O> {
+    fn serialize<S: Serializer>(&self, to: S) -> Result<S::Ok, S::Error> {
+        self.block().serialize(to)
+    }
+}
+
+impl<'de> Deserialize<'de> for SparseBits {
+    fn deserialize<D: Deserializer<'de>>(from: D) -> Result<Self, D::Error> {
+        let bits = SparseBits::from_words(Vec::deserialize(from)?).map_err(D::Error::custom)?;
+        let right = bits.check();
+        right.then_some(bits).ok_or_else(|| D::Error::custom(crate::WrongTables))
     }
 }

@@ -14,6 +14,7 @@ pub(crate) mod parts;
 pub(crate) mod reads;
 pub(crate) mod sequence;
 pub(crate) mod shards;
+pub(crate) mod sparse;
 pub(crate) mod stored;
 pub(crate) mod tables;
 pub(crate) mod tree;

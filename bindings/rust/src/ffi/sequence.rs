@@ -171,3 +171,75 @@ extern "C" {
 extern "C" {
     pub fn bitm_sequence_block_check(block: *const u64, block_len: usize) -> u32;
 }
+#[repr(C)]
+#[derive(Copy, Clone)]
+pub struct bitm_sparse {
+    pub positions: bitm_sequence,
+    pub bits_len: u64,
+    pub reserved: [u64; 2usize],
+}
+extern "C" {
+    pub fn bitm_sparse_size(ones: usize, last: u64, out: *mut u64) -> u32;
+}
+extern "C" {
+    pub fn bitm_sparse_build(
+        positions: *const u64,
+        positions_len: usize,
+        bits_len: u64,
+        block: *mut u64,
+        block_len: usize,
+    ) -> u32;
+}
+extern "C" {
+    pub fn bitm_sparse_open(block: *const u64, block_len: usize, sparse: *mut bitm_sparse) -> u32;
+}
+extern "C" {
+    pub fn bitm_sparse_check(block: *const u64, block_len: usize) -> u32;
+}
+extern "C" {
+    pub fn bitm_sparse_get(sparse: *const bitm_sparse, position: u64, out: *mut u64) -> u32;
+}
+extern "C" {
+    pub fn bitm_sparse_rank(sparse: *const bitm_sparse, one: bool, position: u64, out: *mut u64) -> u32;
+}
+extern "C" {
+    pub fn bitm_sparse_select(sparse: *const bitm_sparse, one: bool, rank: u64, out: *mut u64) -> u32;
+}
+extern "C" {
+    pub fn bitm_sparse_next(sparse: *const bitm_sparse, one: bool, from: u64, out: *mut u64) -> u32;
+}
+extern "C" {
+    pub fn bitm_sparse_previous(sparse: *const bitm_sparse, one: bool, from: u64, out: *mut u64) -> u32;
+}
+extern "C" {
+    pub fn bitm_sparse_get_list(
+        sparse: *const bitm_sparse,
+        positions: *const u64,
+        positions_len: usize,
+        out: *mut u64,
+        out_len: usize,
+        counts: *mut bitm_list_counts,
+    ) -> u32;
+}
+extern "C" {
+    pub fn bitm_sparse_rank_list(
+        sparse: *const bitm_sparse,
+        one: bool,
+        positions: *const u64,
+        positions_len: usize,
+        out: *mut u64,
+        out_len: usize,
+        counts: *mut bitm_list_counts,
+    ) -> u32;
+}
+extern "C" {
+    pub fn bitm_sparse_select_list(
+        sparse: *const bitm_sparse,
+        one: bool,
+        ranks: *const u64,
+        ranks_len: usize,
+        out: *mut u64,
+        out_len: usize,
+        counts: *mut bitm_list_counts,
+    ) -> u32;
+}

@@ -37,6 +37,11 @@ unsafe impl Send for SequenceView<'_> {}
 unsafe impl Sync for SequenceView<'_> {}
 
 impl<'a> SequenceView<'a> {
+    /// Of parts whose lengths fit together, as the call wrote them that opened a block of that lifetime.
+    pub(crate) fn of(raw: bitm_sequence) -> Self {
+        SequenceView { raw, borrows: PhantomData }
+    }
+
     /// Of `len` numbers with `width` low bits: low bits, words of the high bits, and the two tables of these words. An
     /// error where a length does not fit.
     ///

@@ -1,0 +1,393 @@
+//! Sparse bits, each in one block of memory: views of borrowed blocks.
+pub(crate) mod owned;
+
+use crate::errors::{BuildError, ListError, StoredError, WrongTables};
+use crate::ffi::index::bitm_list_counts;
+use crate::ffi::sequence::*;
+use crate::sys::memory::{as_u64, as_u64_mut, words_of, zeroed};
+use crate::sys::sequence::SequenceView;
+use crate::sys::tree::block_in;
+use crate::sys::view::list_answer;
+use crate::sys::{query, OK, UNSORTED, WRONG};
+use alloc::vec::Vec;
+use core::{fmt, ptr};
+
+type Many =
+    unsafe extern "C" fn(*const bitm_sparse, bool, *const u64, usize, *mut u64, usize, *mut bitm_list_counts) -> u32;
+
+/// Sparse bits in a borrowed block, whose header is right. Its other words may hold anything; `check` tests it.
+///
+/// ```
+/// use bitm_proved::{SparseBits, SparseBitsView};
+/// let made = SparseBits::build(&[3, 100, 101, 4000], 5000)?;
+/// let bits = SparseBitsView::from_words(made.block())?;
+/// assert_eq!((bits.get(100), bits.rank(101), bits.select(3)), (Some(true), Some(2), Some(4000)));
+/// assert_eq!((bits.select0(3), bits.next_one(102)), (Some(4), Some(4000)));
+/// assert!(bits.check() && bits.len() == 5000);
+/// # Ok::<(), Box<dyn std::error::Error>>(())
+/// ```
+#[derive(Clone, Copy)]
+pub struct SparseBitsView<'a> {
+    raw: bitm_sparse,
+    block: &'a [u64],
+}
+
+// SAFETY: the pointers lie in a shared slice, and no call has state.
+unsafe impl Send for SparseBitsView<'_> {}
+// SAFETY: as of `Send`.
+unsafe impl Sync for SparseBitsView<'_> {}
+
+const NONE: bitm_sparse = bitm_sparse {
+    positions: bitm_sequence {
+        len: 0,
+        width: 0,
+        low: ptr::null(),
+        low_len: 0,
+        words: ptr::null(),
+        words_len: 0,
+        upper: ptr::null(),
+        upper_len: 0,
+        lower: ptr::null(),
+        lower_len: 0,
+        reserved: [0; 2],
+    },
+    bits_len: 0,
+    reserved: [0; 2],
+};
+
+impl<'a> SparseBitsView<'a> {
+    /// Of the block that begins the words of a file. What its sections hold is not tested: `check` does that.
+    ///
+    /// ```
+    /// use bitm_proved::{SparseBits, SparseBitsView, StoredError};
+    /// let made = SparseBits::build(&[3, 100], 5000)?;
+    /// assert_eq!(SparseBitsView::from_words(made.block())?.select(1), Some(100));
+    /// assert_eq!(SparseBitsView::from_words(&made.block()[1..]).err(), Some(StoredError::NotWhole));
+    /// # Ok::<(), Box<dyn std::error::Error>>(())
+    /// ```
+    pub fn from_words(file: &'a [u64]) -> Result<Self, StoredError> {
+        let (block, mut raw) = (block_in(file).ok_or(StoredError::NotWhole)?, NONE);
+        // SAFETY: a slice, and a struct of zeros, which the call may write.
+        match unsafe { bitm_sparse_open(block.as_ptr(), block.len(), &mut raw) } {
+            OK => Ok(SparseBitsView { raw, block }),
+            _ => Err(StoredError::NotWhole),
+        }
+    }
+
+    /// Of the bytes of a file, which begin at a multiple of 8.
+    ///
+    /// ```
+    /// use bitm_proved::{bytes_of, SparseBits, SparseBitsView, StoredError};
+    /// let made = SparseBits::build(&[3, 100], 5000)?;
+    /// assert_eq!(SparseBitsView::from_bytes(bytes_of(made.block()))?.len(), 5000);
+    /// let moved = &bytes_of(made.block())[1..];
+    /// assert_eq!(SparseBitsView::from_bytes(moved).err(), Some(StoredError::Misaligned));
+    /// # Ok::<(), Box<dyn std::error::Error>>(())
+    /// ```
+    pub fn from_bytes(bytes: &'a [u8]) -> Result<Self, StoredError> {
+        Self::from_words(words_of(bytes).ok_or(StoredError::Misaligned)?)
+    }
+
+    /// The words of the block, which are those of a file of these bits.
+    ///
+    /// ```
+    /// use bitm_proved::{SparseBits, SparseBitsView};
+    /// let made = SparseBits::build(&[3, 100], 5000)?;
+    /// let mut file = made.block().to_vec();
+    /// file.push(7); // no word of the block
+    /// assert_eq!(SparseBitsView::from_words(&file)?.block(), made.block());
+    /// # Ok::<(), Box<dyn std::error::Error>>(())
+    /// ```
+    #[inline]
+    pub fn block(&self) -> &'a [u64] {
+        self.block
+    }
+
+    /// How many bits there are.
+    ///
+    /// ```
+    /// assert_eq!(bitm_proved::SparseBits::build(&[3, 100], 5000)?.view().len(), 5000);
+    /// # Ok::<(), bitm_proved::BuildError>(())
+    /// ```
+    #[inline]
+    pub fn len(&self) -> usize {
+        self.raw.bits_len as usize
+    }
+
+    /// Whether there are none.
+    ///
+    /// ```
+    /// use bitm_proved::SparseBits;
+    /// assert!(SparseBits::build(&[], 0)?.view().is_empty() && !SparseBits::build(&[], 1)?.view().is_empty());
+    /// # Ok::<(), bitm_proved::BuildError>(())
+    /// ```
+    #[inline]
+    pub fn is_empty(&self) -> bool {
+        self.len() == 0
+    }
+
+    /// The positions of the 1 bits.
+    ///
+    /// ```
+    /// let bits = bitm_proved::SparseBits::build(&[3, 100], 5000)?;
+    /// assert!(bits.view().positions().iter().eq([3, 100]));
+    /// # Ok::<(), bitm_proved::BuildError>(())
+    /// ```
+    pub fn positions(&self) -> SequenceView<'a> {
+        SequenceView::of(self.raw.positions)
+    }
+
+    /// Whether the block is as it was written and holds sparse bits: looks at all of it.
+    ///
+    /// ```
+    /// use bitm_proved::{SparseBits, SparseBitsView};
+    /// let mut block = SparseBits::build(&[3, 100], 5000)?.into_owner();
+    /// assert!(SparseBitsView::from_words(&block)?.check());
+    /// *block.last_mut().unwrap() ^= 1;
+    /// assert!(!SparseBitsView::from_words(&block)?.check());
+    /// # Ok::<(), Box<dyn std::error::Error>>(())
+    /// ```
+    pub fn check(&self) -> bool {
+        // SAFETY: a slice.
+        unsafe { bitm_sparse_check(self.block.as_ptr(), self.block.len()) == OK }
+    }
+
+    /// The bit at a position; `None` exactly where there is none.
+    ///
+    /// ```
+    /// let bits = bitm_proved::SparseBits::build(&[3, 100, 101, 4000], 5000)?;
+    /// assert_eq!(bits.view().checked_get(100), Ok(Some(true)));
+    /// assert_eq!(bits.view().checked_get(5000), Ok(None));
+    /// # Ok::<(), bitm_proved::BuildError>(())
+    /// ```
+    #[inline]
+    pub fn checked_get(&self, position: usize) -> Result<Option<bool>, WrongTables> {
+        // SAFETY: a view, which borrows its block, and room for the number that the call writes where it returns OK.
+        let found = unsafe { query(|out| bitm_sparse_get(&self.raw, position as u64, out)) };
+        Ok(found?.map(|it| it != 0))
+    }
+
+    /// How many 1 bits there are before a position; `None` exactly where it is past the end.
+    ///
+    /// ```
+    /// let bits = bitm_proved::SparseBits::build(&[3, 100, 101, 4000], 5000)?;
+    /// assert_eq!(bits.view().checked_rank(101), Ok(Some(2)));
+    /// assert_eq!(bits.view().checked_rank(5000), Ok(Some(4)));
+    /// assert_eq!(bits.view().checked_rank(5001), Ok(None));
+    /// # Ok::<(), bitm_proved::BuildError>(())
+    /// ```
+    #[inline]
+    pub fn checked_rank(&self, position: usize) -> Result<Option<usize>, WrongTables> {
+        // SAFETY: as of `checked_get`.
+        let found = unsafe { query(|out| bitm_sparse_rank(&self.raw, true, position as u64, out)) };
+        Ok(found?.map(|it| it as usize))
+    }
+
+    /// How many 0 bits there are before a position; `None` exactly where it is past the end.
+    ///
+    /// ```
+    /// let bits = bitm_proved::SparseBits::build(&[3, 100, 101, 4000], 5000)?;
+    /// assert_eq!(bits.view().checked_rank0(101), Ok(Some(99)));
+    /// assert_eq!(bits.view().checked_rank0(5001), Ok(None));
+    /// # Ok::<(), bitm_proved::BuildError>(())
+    /// ```
+    #[inline]
+    pub fn checked_rank0(&self, position: usize) -> Result<Option<usize>, WrongTables> {
+        // SAFETY: as of `checked_get`.
+        let found = unsafe { query(|out| bitm_sparse_rank(&self.raw, false, position as u64, out)) };
+        Ok(found?.map(|it| it as usize))
+    }
+
+    /// The position of the 1 bit with that rank; `None` where there is none.
+    ///
+    /// ```
+    /// let bits = bitm_proved::SparseBits::build(&[3, 100, 101, 4000], 5000)?;
+    /// assert_eq!(bits.view().checked_select(3), Ok(Some(4000)));
+    /// assert_eq!(bits.view().checked_select(4), Ok(None));
+    /// # Ok::<(), bitm_proved::BuildError>(())
+    /// ```
+    #[inline]
+    pub fn checked_select(&self, rank: usize) -> Result<Option<usize>, WrongTables> {
+        // SAFETY: as of `checked_get`.
+        let found = unsafe { query(|out| bitm_sparse_select(&self.raw, true, rank as u64, out)) };
+        Ok(found?.map(|it| it as usize))
+    }
+
+    /// The position of the 0 bit with that rank; `None` where there is none.
+    ///
+    /// ```
+    /// let bits = bitm_proved::SparseBits::build(&[3, 100, 101, 4000], 5000)?;
+    /// assert_eq!(bits.view().checked_select0(3), Ok(Some(4)));
+    /// assert_eq!(bits.view().checked_select0(4996), Ok(None));
+    /// # Ok::<(), bitm_proved::BuildError>(())
+    /// ```
+    #[inline]
+    pub fn checked_select0(&self, rank: usize) -> Result<Option<usize>, WrongTables> {
+        // SAFETY: as of `checked_get`.
+        let found = unsafe { query(|out| bitm_sparse_select(&self.raw, false, rank as u64, out)) };
+        Ok(found?.map(|it| it as usize))
+    }
+
+    /// The position of the first 1 bit at or after a position; `None` where there is none.
+    ///
+    /// ```
+    /// let bits = bitm_proved::SparseBits::build(&[3, 100, 101, 4000], 5000)?;
+    /// assert_eq!(bits.view().checked_next_one(102), Ok(Some(4000)));
+    /// assert_eq!(bits.view().checked_next_one(4001), Ok(None));
+    /// # Ok::<(), bitm_proved::BuildError>(())
+    /// ```
+    #[inline]
+    pub fn checked_next_one(&self, from: usize) -> Result<Option<usize>, WrongTables> {
+        // SAFETY: as of `checked_get`.
+        let found = unsafe { query(|out| bitm_sparse_next(&self.raw, true, from as u64, out)) };
+        Ok(found?.map(|it| it as usize))
+    }
+
+    /// The position of the first 0 bit at or after a position; `None` where there is none.
+    ///
+    /// ```
+    /// let bits = bitm_proved::SparseBits::build(&[3, 100, 101, 4000], 5000)?;
+    /// assert_eq!(bits.view().checked_next_zero(100), Ok(Some(102)));
+    /// assert_eq!(bits.view().checked_next_zero(5000), Ok(None));
+    /// # Ok::<(), bitm_proved::BuildError>(())
+    /// ```
+    #[inline]
+    pub fn checked_next_zero(&self, from: usize) -> Result<Option<usize>, WrongTables> {
+        // SAFETY: as of `checked_get`.
+        let found = unsafe { query(|out| bitm_sparse_next(&self.raw, false, from as u64, out)) };
+        Ok(found?.map(|it| it as usize))
+    }
+
+    /// The position of the last 1 bit at or before a position, which may be past the end; `None` where there is none.
+    ///
+    /// ```
+    /// let bits = bitm_proved::SparseBits::build(&[3, 100, 101, 4000], 5000)?;
+    /// assert_eq!(bits.view().checked_previous_one(3999), Ok(Some(101)));
+    /// assert_eq!(bits.view().checked_previous_one(2), Ok(None));
+    /// # Ok::<(), bitm_proved::BuildError>(())
+    /// ```
+    #[inline]
+    pub fn checked_previous_one(&self, from: usize) -> Result<Option<usize>, WrongTables> {
+        // SAFETY: as of `checked_get`.
+        let found = unsafe { query(|out| bitm_sparse_previous(&self.raw, true, from as u64, out)) };
+        Ok(found?.map(|it| it as usize))
+    }
+
+    /// The position of the last 0 bit at or before a position, which may be past the end; `None` where there is none.
+    ///
+    /// ```
+    /// let bits = bitm_proved::SparseBits::build(&[3, 100, 101, 4000], 5000)?;
+    /// assert_eq!(bits.view().checked_previous_zero(101), Ok(Some(99)));
+    /// assert_eq!(bits.view().checked_previous_zero(9999), Ok(Some(4999)));
+    /// # Ok::<(), bitm_proved::BuildError>(())
+    /// ```
+    #[inline]
+    pub fn checked_previous_zero(&self, from: usize) -> Result<Option<usize>, WrongTables> {
+        // SAFETY: as of `checked_get`.
+        let found = unsafe { query(|out| bitm_sparse_previous(&self.raw, false, from as u64, out)) };
+        Ok(found?.map(|it| it as usize))
+    }
+
+    /// The bits at a list of positions, as 0 and 1; how many of these are past the end, for which `NO_ANSWER` stands.
+    ///
+    /// ```
+    /// use bitm_proved::{SparseBits, NO_ANSWER};
+    /// let (bits, mut out) = (SparseBits::build(&[3, 100, 101, 4000], 5000)?, [9; 3]);
+    /// assert_eq!((bits.view().get_list(&[3, 4, 5000], &mut out), out), (Ok(1), [1, 0, NO_ANSWER]));
+    /// # Ok::<(), bitm_proved::BuildError>(())
+    /// ```
+    pub fn get_list(&self, positions: &[usize], out: &mut [usize]) -> Result<usize, ListError> {
+        let (len, room) = (positions.len(), out.len());
+        let mut counts = bitm_list_counts { missing: 0, wrong: 0 };
+        let (from, to) = (as_u64(positions).as_ptr(), as_u64_mut(out).as_mut_ptr());
+        // SAFETY: a view, a shared and a mutable slice, which do not overlap, and room for the counts.
+        let status = unsafe { bitm_sparse_get_list(&self.raw, from, len, to, room, &mut counts) };
+        list_answer(status, counts, len, room)
+    }
+
+    fn list(&self, call: Many, one: bool, queries: &[usize], out: &mut [usize]) -> Result<usize, ListError> {
+        let (len, room) = (queries.len(), out.len());
+        let mut counts = bitm_list_counts { missing: 0, wrong: 0 };
+        let (from, to) = (as_u64(queries).as_ptr(), as_u64_mut(out).as_mut_ptr());
+        // SAFETY: a view, a shared and a mutable slice, which do not overlap, and room for the counts.
+        let status = unsafe { call(&self.raw, one, from, len, to, room, &mut counts) };
+        list_answer(status, counts, len, room)
+    }
+
+    /// How many 1 bits there are before each of a list of positions; how many of these are past the end, for which
+    /// `NO_ANSWER` stands.
+    ///
+    /// ```
+    /// use bitm_proved::{SparseBits, NO_ANSWER};
+    /// let (bits, mut out) = (SparseBits::build(&[3, 100, 101, 4000], 5000)?, [9; 3]);
+    /// assert_eq!((bits.view().rank_list(&[3, 101, 5001], &mut out), out), (Ok(1), [0, 2, NO_ANSWER]));
+    /// # Ok::<(), bitm_proved::BuildError>(())
+    /// ```
+    pub fn rank_list(&self, positions: &[usize], out: &mut [usize]) -> Result<usize, ListError> {
+        self.list(bitm_sparse_rank_list, true, positions, out)
+    }
+
+    /// How many 0 bits there are before each of a list of positions, as `rank_list`.
+    ///
+    /// ```
+    /// use bitm_proved::{SparseBits, NO_ANSWER};
+    /// let (bits, mut out) = (SparseBits::build(&[3, 100, 101, 4000], 5000)?, [9; 3]);
+    /// assert_eq!((bits.view().rank0_list(&[3, 101, 5001], &mut out), out), (Ok(1), [3, 99, NO_ANSWER]));
+    /// # Ok::<(), bitm_proved::BuildError>(())
+    /// ```
+    pub fn rank0_list(&self, positions: &[usize], out: &mut [usize]) -> Result<usize, ListError> {
+        self.list(bitm_sparse_rank_list, false, positions, out)
+    }
+
+    /// The position of the 1 bit with each of a list of ranks; how many there are not, for which `NO_ANSWER` stands.
+    ///
+    /// ```
+    /// use bitm_proved::{SparseBits, NO_ANSWER};
+    /// let (bits, mut out) = (SparseBits::build(&[3, 100, 101, 4000], 5000)?, [9; 3]);
+    /// assert_eq!((bits.view().select_list(&[0, 3, 4], &mut out), out), (Ok(1), [3, 4000, NO_ANSWER]));
+    /// # Ok::<(), bitm_proved::BuildError>(())
+    /// ```
+    pub fn select_list(&self, ranks: &[usize], out: &mut [usize]) -> Result<usize, ListError> {
+        self.list(bitm_sparse_select_list, true, ranks, out)
+    }
+
+    /// The position of the 0 bit with each of a list of ranks, as `select_list`.
+    ///
+    /// ```
+    /// use bitm_proved::{SparseBits, NO_ANSWER};
+    /// let (bits, mut out) = (SparseBits::build(&[3, 100, 101, 4000], 5000)?, [9; 3]);
+    /// assert_eq!((bits.view().select0_list(&[3, 98, 4996], &mut out), out), (Ok(1), [4, 99, NO_ANSWER]));
+    /// # Ok::<(), bitm_proved::BuildError>(())
+    /// ```
+    pub fn select0_list(&self, ranks: &[usize], out: &mut [usize]) -> Result<usize, ListError> {
+        self.list(bitm_sparse_select_list, false, ranks, out)
+    }
+}
+
+impl fmt::Debug for SparseBitsView<'_> {
+    fn fmt(&self, f: &mut fmt::Formatter<'_>) -> fmt::Result {
+        write!(f, "{} bits, {} ones", self.len(), self.raw.positions.len)
+    }
+}
+
+/// The block of `len` bits, of which those at the positions are 1 bits.
+pub(crate) fn build(positions: &[u64], len: usize) -> Result<Vec<u64>, BuildError> {
+    let (ones, mut words) = (positions.len(), 0);
+    // SAFETY: numbers are passed, and room for one.
+    if unsafe { bitm_sparse_size(ones, positions.last().map_or(0, |it| *it), &mut words) } != OK {
+        return Err(BuildError::TooLong { len: ones });
+    }
+    let mut block = zeroed::<u64>(words as usize)?;
+    // SAFETY: a shared and a mutable slice, which do not overlap.
+    let status = unsafe { bitm_sparse_build(positions.as_ptr(), ones, len as u64, block.as_mut_ptr(), block.len()) };
+    match status {
+        OK => Ok(block),
+        UNSORTED => Err(BuildError::NotRising { index: not_rising(positions) }),
+        WRONG => Err(BuildError::PastEnd { index: positions.partition_point(|it| *it < len as u64) }),
+        _ => Err(BuildError::TooLong { len: ones }),
+    }
+}
+
+fn not_rising(positions: &[u64]) -> usize {
+    positions.windows(2).position(|it| it[1] <= it[0]).map_or(0, |it| it + 1)
+}
