@@ -1,4 +1,4 @@
-// src/web.js and all that it imports, in one file: made by one_file.mjs. sha256 of the sources: f34424bac302d6843d07521111a309a2954f6ab4c12153a83395a01a8b743759
+// src/web.js and all that it imports, in one file: made by one_file.mjs. sha256 of the sources: 576648c7ac0430aa149fc87871f8f263e3c82445205558d3617bdec8cb0fc0b9
 
 // src/core.js
 var VERSION = "0.3.0";
@@ -192,6 +192,20 @@ var BITM_MATRIX = {
   ones_len: 72,
   zeros: 80,
   zeros_len: 88
+};
+var BITM_SPARSE = {
+  bytes: 120,
+  positions_len: 0,
+  positions_width: 8,
+  positions_low: 16,
+  positions_low_len: 24,
+  positions_words: 32,
+  positions_words_len: 40,
+  positions_upper: 48,
+  positions_upper_len: 56,
+  positions_lower: 64,
+  positions_lower_len: 72,
+  bits_len: 96
 };
 
 // src/memory.js
@@ -1306,6 +1320,206 @@ var EliasFano = class {
   }
 };
 
+// src/in_block.js
+var BEFORE2 = 128;
+var Copied = class {
+  constructor(kind, bytes2) {
+    const from = bytesOf(bytes2, "a block");
+    if (from.length % 8 !== 0)
+      throw notOne(kind);
+    this.block = new Block(BEFORE2 + from.length);
+    bytesAt(this.block.at + BEFORE2, from.length).set(from);
+  }
+};
+var InBlock = class {
+  #kind;
+  #block;
+  /** Of a copy, or of so many words, which fill(at) writes. They are freed once the owner is garbage. */
+  constructor(kind, owner, from, fill = () => {
+  }) {
+    const block = from instanceof Copied ? from.block : new Block(BEFORE2 + 8 * from);
+    this.#kind = kind;
+    this.#block = block.heldBy(owner, (at) => {
+      fill(at + BEFORE2);
+      bytesAt(at, BEFORE2).fill(0);
+      if (calls[kind.open](at + BEFORE2, (block.bytes - BEFORE2) / 8, at) !== 0)
+        throw notOne(kind);
+    });
+  }
+  /** Where the struct stands that the calls take. TypeError after free(). */
+  get at() {
+    const at = this.#block.at;
+    if (at === 0)
+      throw freed(this.#kind.name);
+    return at;
+  }
+  /** A member of the struct. */
+  member(name) {
+    return numberAt(this.at + this.#kind.layout[name]);
+  }
+  get byteLength() {
+    return this.#block.at === 0 ? 0 : this.#block.bytes - BEFORE2;
+  }
+  check() {
+    return calls[this.#kind.check](this.at + BEFORE2, this.byteLength / 8) === 0;
+  }
+  toBytes() {
+    return bytesAt(this.at + BEFORE2, this.byteLength).slice();
+  }
+  free() {
+    this.#block.free();
+  }
+};
+function checked(it, options) {
+  if (options.check === false || it.check())
+    return it;
+  it.free();
+  throw new WrongTables("bitm: the block is not as it was written: it was damaged");
+}
+function notOne(kind) {
+  return new WrongTables(`bitm: it is not the block of ${kind.what}, or not all of it`);
+}
+
+// src/sparse_bits.js
+var KIND2 = { name: "SparseBits", what: "sparse bits", open: "bitm_sparse_open", check: "bitm_sparse_check", layout: BITM_SPARSE };
+var SparseBits = class {
+  #held;
+  #length;
+  #ones;
+  /** The positions of the 1 bits, each greater than the one before it; and how many bits there are: up to the last 1 bit,
+   *  unless it is given. */
+  constructor(positions, length) {
+    if (positions instanceof Copied)
+      this.#held = new InBlock(KIND2, this, positions);
+    else
+      this.#build(numbersOf(positions, "positions").items, length);
+    this.#length = this.#held.member("bits_len");
+    this.#ones = this.#held.member("positions_len");
+    if (typeof this.#length !== "bigint")
+      return;
+    this.free();
+    throw new RangeError("bitm: there are more than 2^53 - 1 bits");
+  }
+  #build(items, given) {
+    const n = items.length, last = n === 0 ? 0 : place(items[n - 1], "the last position");
+    const length = given === void 0 ? Math.min(n === 0 ? 0 : last + 1, Number.MAX_SAFE_INTEGER) : place(given, "length");
+    withRoom(8 * n, (list) => {
+      copyIn(items, list, "positions");
+      const words = orThrow(calls.bitm_sparse_size(n, last), "positions", n);
+      this.#held = new InBlock(KIND2, this, words, (at) => {
+        const got = calls.bitm_sparse_build(list, n, length, at, words);
+        if (got === -STATUS.WRONG)
+          throw new RangeError(`bitm: a position is past the end: there are ${length} bits`);
+        if (got === -STATUS.UNSORTED)
+          throw new RangeError("bitm: a position is not greater than the one before it");
+        must(got, "the positions");
+      });
+    });
+  }
+  /**
+   * The bits in the bytes of a block, as toBytes() gives them and the C library writes them; they are copied once. Unless
+   * `check` is false, all of them are looked at, and WrongTables is thrown where they are not as they were written; without
+   * that, answers may be wrong, but no position is past the end, and a rank is at most its position.
+   */
+  static open(bytes2, options = {}) {
+    return checked(new SparseBits(new Copied(KIND2, bytes2)), options);
+  }
+  /** How many bits there are. */
+  get length() {
+    return this.#length;
+  }
+  /** How many bytes the block has. */
+  get byteLength() {
+    return this.#held.byteLength;
+  }
+  /** The bit at a position. */
+  get(position) {
+    return orThrow(calls.bitm_sparse_get(this.#held.at, place(position, "position")), "position", position) === 1;
+  }
+  /** How many 1 bits, or 0 bits, there are before a position. */
+  rank(position) {
+    return orThrow(calls.bitm_sparse_rank(this.#held.at, 1, place(position, "position")), "position", position);
+  }
+  rank0(position) {
+    return orThrow(calls.bitm_sparse_rank(this.#held.at, 0, place(position, "position")), "position", position);
+  }
+  /** The position of the 1 bit, or 0 bit, that has `rank` of them before it; undefined where there is none. */
+  select(rank) {
+    return orNone(calls.bitm_sparse_select(this.#held.at, 1, place(rank, "rank")), "rank", rank);
+  }
+  select0(rank) {
+    return orNone(calls.bitm_sparse_select(this.#held.at, 0, place(rank, "rank")), "rank", rank);
+  }
+  /** The position of the first 1 bit, or 0 bit, at or after `from`; of the last one at or before it. */
+  next(from) {
+    return orNone(calls.bitm_sparse_next(this.#held.at, 1, place(from, "position")), "position", from);
+  }
+  next0(from) {
+    return orNone(calls.bitm_sparse_next(this.#held.at, 0, place(from, "position")), "position", from);
+  }
+  previous(from) {
+    return orNone(calls.bitm_sparse_previous(this.#held.at, 1, place(from, "position")), "position", from);
+  }
+  previous0(from) {
+    return orNone(calls.bitm_sparse_previous(this.#held.at, 0, place(from, "position")), "position", from);
+  }
+  /** How many 1 bits, or 0 bits, there are. */
+  count() {
+    return this.#ones;
+  }
+  count0() {
+    return this.#length - this.#ones;
+  }
+  /** Lists: an array of the same kind as the queries, see README.md. */
+  getList(positions) {
+    return answers([[positions, "positions"]], "flags", (n, out2, at) => {
+      const got = calls.bitm_sparse_get_list(this.#held.at, at, n, out2, n, BESIDE);
+      if (got === 0 && numberAt(BESIDE + BITM_LIST_COUNTS.missing) !== 0)
+        throw new RangeError("bitm: an item of positions is past the end");
+      return got;
+    });
+  }
+  rankList(positions) {
+    return this.#list("bitm_sparse_rank_list", 1, positions, "positions", "throw");
+  }
+  rank0List(positions) {
+    return this.#list("bitm_sparse_rank_list", 0, positions, "positions", "throw");
+  }
+  selectList(ranks) {
+    return this.#list("bitm_sparse_select_list", 1, ranks, "ranks", "fill");
+  }
+  select0List(ranks) {
+    return this.#list("bitm_sparse_select_list", 0, ranks, "ranks", "fill");
+  }
+  #list(name, one, given, what, missing) {
+    return answers([[given, what]], missing, (n, out2, at) => calls[name](this.#held.at, one, at, n, out2, n, BESIDE));
+  }
+  /** The positions of the 1 bits from `from` on, in increasing order. */
+  *ones(from = 0) {
+    for (let k = from === 0 ? 0 : this.rank(from); k < this.#ones; k++) {
+      const position = this.select(k);
+      if (position === void 0)
+        throw new WrongTables();
+      yield position;
+    }
+  }
+  /** Whether the block is as it was written and holds sparse bits, by going over all of it. */
+  check() {
+    return this.#held.check();
+  }
+  /** The bytes of the block: what open() takes, and the C library and its other bindings. */
+  toBytes() {
+    return this.#held.toBytes();
+  }
+  /** Gives the memory back at once. */
+  free() {
+    this.#held.free();
+  }
+  [dispose]() {
+    this.free();
+  }
+};
+
 // src/keys.js
 var TAG = { string: 1, bytes: 2, number: 3, bigint: 4 };
 var double = new Float64Array(1);
@@ -1508,75 +1722,15 @@ function within(it, least, most, name) {
   return it;
 }
 
-// src/in_block.js
-var BEFORE2 = 128;
-var Copied = class {
-  constructor(kind, bytes2) {
-    const from = bytesOf(bytes2, "a block");
-    if (from.length % 8 !== 0)
-      throw notOne(kind);
-    this.block = new Block(BEFORE2 + from.length);
-    bytesAt(this.block.at + BEFORE2, from.length).set(from);
-  }
-};
-var InBlock = class {
-  #kind;
-  #block;
-  /** Of a copy, or of so many words, which fill(at) writes. They are freed once the owner is garbage. */
-  constructor(kind, owner, from, fill = () => {
-  }) {
-    const block = from instanceof Copied ? from.block : new Block(BEFORE2 + 8 * from);
-    this.#kind = kind;
-    this.#block = block.heldBy(owner, (at) => {
-      fill(at + BEFORE2);
-      bytesAt(at, BEFORE2).fill(0);
-      if (calls[kind.open](at + BEFORE2, (block.bytes - BEFORE2) / 8, at) !== 0)
-        throw notOne(kind);
-    });
-  }
-  /** Where the struct stands that the calls take. TypeError after free(). */
-  get at() {
-    const at = this.#block.at;
-    if (at === 0)
-      throw freed(this.#kind.name);
-    return at;
-  }
-  /** A member of the struct. */
-  member(name) {
-    return numberAt(this.at + this.#kind.layout[name]);
-  }
-  get byteLength() {
-    return this.#block.at === 0 ? 0 : this.#block.bytes - BEFORE2;
-  }
-  check() {
-    return calls[this.#kind.check](this.at + BEFORE2, this.byteLength / 8) === 0;
-  }
-  toBytes() {
-    return bytesAt(this.at + BEFORE2, this.byteLength).slice();
-  }
-  free() {
-    this.#block.free();
-  }
-};
-function checked(it, options) {
-  if (options.check === false || it.check())
-    return it;
-  it.free();
-  throw new WrongTables("bitm: the block is not as it was written: it was damaged");
-}
-function notOne(kind) {
-  return new WrongTables(`bitm: it is not the block of ${kind.what}, or not all of it`);
-}
-
 // src/tree.js
-var KIND2 = { name: "Tree", what: "a tree", open: "bitm_tree_open", check: "bitm_tree_check", layout: BITM_TREE };
+var KIND3 = { name: "Tree", what: "a tree", open: "bitm_tree_open", check: "bitm_tree_check", layout: BITM_TREE };
 var Tree = class {
   #held;
   #length;
   /** The degree of each node, which is how many children it has: an array of numbers, in the order of the nodes. */
   constructor(degrees) {
     if (degrees instanceof Copied)
-      this.#held = new InBlock(KIND2, this, degrees);
+      this.#held = new InBlock(KIND3, this, degrees);
     else
       this.#build(numbersOf(degrees, "degrees").items);
     this.#length = this.#held.member("len");
@@ -1586,7 +1740,7 @@ var Tree = class {
     withRoom(8 * n, (list) => {
       copyIn(items, list, "degrees");
       const words = orThrow(calls.bitm_tree_size(n), "the number of nodes", n);
-      this.#held = new InBlock(KIND2, this, words, (at) => {
+      this.#held = new InBlock(KIND3, this, words, (at) => {
         if (calls.bitm_tree_build(list, n, at, words) !== 0)
           throw new RangeError("bitm: the degrees are those of no tree");
       });
@@ -1598,7 +1752,7 @@ var Tree = class {
    * that, answers may be wrong, but a parent is less than its child, and no node is past the end.
    */
   static open(bytes2, options = {}) {
-    return checked(new Tree(new Copied(KIND2, bytes2)), options);
+    return checked(new Tree(new Copied(KIND3, bytes2)), options);
   }
   /** How many nodes there are. */
   get length() {
@@ -1698,7 +1852,7 @@ function optimalSampleLog2(items, length, most = 31) {
 }
 
 // src/wavelet_matrix.js
-var KIND3 = { name: "WaveletMatrix", what: "a wavelet matrix", open: "bitm_matrix_open", check: "bitm_matrix_check", layout: BITM_MATRIX };
+var KIND4 = { name: "WaveletMatrix", what: "a wavelet matrix", open: "bitm_matrix_open", check: "bitm_matrix_check", layout: BITM_MATRIX };
 var WaveletMatrix = class {
   #held;
   #length;
@@ -1706,7 +1860,7 @@ var WaveletMatrix = class {
   /** The numbers. Each is kept in `width` bits (1 to 64), which is as many as the largest has unless it is given. */
   constructor(numbers, options = {}) {
     if (numbers instanceof Copied)
-      this.#held = new InBlock(KIND3, this, numbers);
+      this.#held = new InBlock(KIND4, this, numbers);
     else
       this.#build(numbersOf(numbers, "numbers").items, checkedWidth(options.width));
     this.#length = this.#held.member("len");
@@ -1717,7 +1871,7 @@ var WaveletMatrix = class {
     withRoom(24 * n, (list) => {
       copyIn(items, list, "numbers");
       const width = given ?? widthOf2(items), words = orThrow(calls.bitm_matrix_size(n, width), "the numbers", n);
-      this.#held = new InBlock(KIND3, this, words, (at) => {
+      this.#held = new InBlock(KIND4, this, words, (at) => {
         const got = calls.bitm_matrix_build(list, n, width, list + 8 * n, 2 * n, at, words);
         if (got === -STATUS.WRONG)
           throw new RangeError(`bitm: a number has more than ${width} bits`);
@@ -1731,7 +1885,7 @@ var WaveletMatrix = class {
    * that, answers may be wrong, but no index is past the end, and no number has more bits than the width.
    */
   static open(bytes2, options = {}) {
-    return checked(new WaveletMatrix(new Copied(KIND3, bytes2)), options);
+    return checked(new WaveletMatrix(new Copied(KIND4, bytes2)), options);
   }
   /** How many numbers there are. */
   get length() {
@@ -1879,6 +2033,7 @@ export {
   Index,
   NO_ANSWER,
   PerfectHash,
+  SparseBits,
   Tree,
   VERSION,
   WaveletMatrix,

@@ -2,6 +2,7 @@
 export { BitVector } from "./bit_vector.js";
 export { Index } from "./bit_index.js";
 export { EliasFano } from "./elias_fano.js";
+export { SparseBits } from "./sparse_bits.js";
 export { PerfectHash } from "./perfect_hash.js";
 export { Tree } from "./tree.js";
 export { WaveletMatrix } from "./wavelet_matrix.js";

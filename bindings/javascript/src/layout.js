@@ -173,3 +173,17 @@ export const BITM_MATRIX = {
     zeros: 80,
     zeros_len: 88,
 };
+export const BITM_SPARSE = {
+    bytes: 120,
+    positions_len: 0,
+    positions_width: 8,
+    positions_low: 16,
+    positions_low_len: 24,
+    positions_words: 32,
+    positions_words_len: 40,
+    positions_upper: 48,
+    positions_upper_len: 56,
+    positions_lower: 64,
+    positions_lower_len: 72,
+    bits_len: 96,
+};

@@ -154,6 +154,29 @@ function blockOf(kind, spoilt) {
 }
 const ofBlockOf = kind => () => ({ block: slot(51), block_len: blockOf(kind, r() % 3 === 0) - (r() % 7 ? 0 : 1), index: slot(52), sequence: slot(52) });
 
+/** Sparse bits of 60 positions in slot 54, of which a word after the directory may be wrong, and their struct: its words. */
+function sparse(spoilt) {
+    const positions = words(slot(55), 60), block = slot(54);
+    let next = 0n;
+    for (let i = 0; i < 60; i++) positions[i] = next += BigInt(1 + (r() % 60));
+    const bits = BigInt(BITS + 4000);
+    assert.equal(library.bitm_sparse_size(60n, next, BigInt(ANSWER)), 0);
+    const size = words(ANSWER, 1)[0];
+    assert.equal(library.bitm_sparse_build(BigInt(slot(55)), 60n, bits, BigInt(block), size), 0);
+    assert.equal(library.bitm_sparse_open(BigInt(block), size, BigInt(slot(56))), 0);
+    if (spoilt) words(block, Number(size))[32 + (r() % (Number(size) - 32))] ^= BigInt(r());
+    return Number(size);
+}
+
+/** What a query of sparse bits is asked, and what lists of queries have in common. */
+const ofSparse = () => (sparse(r() % 3 === 0), { sparse: slot(56), position: r() % (BITS + 4010), rank: r() % 100, from: r() % (BITS + 4010) });
+function ofSparseList() {
+    const given = ofSparse();
+    for (let i = 0; i < N; i++) words(slot(57), N)[i] = BigInt(r() % 100);
+    return { ...given, positions: slot(57), ranks: slot(57), out: slot(58), counts: slot(59) };
+}
+const ofSparseBlock = () => ({ block: slot(54), block_len: sparse(r() % 3 === 0) - (r() % 7 ? 0 : 1), sparse: slot(60) });
+
 const someLog2 = () => (r() % 5 ? [0, 7 + (r() % 8)][r() % 2] : r() % 40);
 // By export: arguments that have to fit together, by name.
 const FITTING = {
@@ -203,6 +226,17 @@ const FITTING = {
     bitm_matrix_get_list: ofMatrices,
     bitm_matrix_rank_list: ofMatrices,
     bitm_matrix_select_list: ofMatrices,
+    bitm_sparse_build: () => ({ positions: slot(55), positions_len: 60, bits_len: r() % 7 ? BITS + 4000 : 9, block: slot(61), block_len: sparse(false) - (r() % 7 ? 0 : 1) }),
+    bitm_sparse_open: ofSparseBlock,
+    bitm_sparse_check: ofSparseBlock,
+    bitm_sparse_get: ofSparse,
+    bitm_sparse_rank: ofSparse,
+    bitm_sparse_select: ofSparse,
+    bitm_sparse_next: ofSparse,
+    bitm_sparse_previous: ofSparse,
+    bitm_sparse_get_list: ofSparseList,
+    bitm_sparse_rank_list: ofSparseList,
+    bitm_sparse_select_list: ofSparseList,
     bitm_index_block_build: () => ({ words: slot(0), words_len: N, bits_len: BITS, block: slot(53), block_len: blockOf("index", false) - (r() % 7 ? 0 : 1) }),
     bitm_index_block_open: ofBlockOf("index"),
     bitm_index_block_check: ofBlockOf("index"),
@@ -263,13 +297,13 @@ function both(call, parts) {
 }
 
 test("each adaptor does what its export does", () => {
-    assert.equal(exported.length, 119);
+    assert.equal(exported.length, 131);
     for (const call of exported) {
         let answered = 0;
         for (let round = 0; round < 60; round++) answered += both(call, prepare(round % 4 === 3));
         assert.ok(answered >= 5, `${call.name} answered ${answered} times of 60`);
     }
-    tally.atLeast(119 * 60);
+    tally.atLeast(131 * 60);
 });
 
 test("each adaptor refuses what is no whole number of its range", () => {

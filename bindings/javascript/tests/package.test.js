@@ -43,7 +43,7 @@ test("package.json names files that are there, and nothing is left out", () => {
 test("each value that is exported has a type, and each type a value", async () => {
     const types = [...read("types/bitm.d.ts").matchAll(/^export (?:declare )?(?:class|function|const) (\w+)/gm)].map(it => it[1]);
     assert.deepEqual([...new Set(types)].sort(), Object.keys(bitm).sort());
-    for (const name of ["BitVector", "Index", "EliasFano", "PerfectHash", "Tree", "WaveletMatrix"]) {
+    for (const name of ["BitVector", "Index", "EliasFano", "SparseBits", "PerfectHash", "Tree", "WaveletMatrix"]) {
         const body = new RegExp(`^export class ${name} [^]*?^}`, "m").exec(read("types/bitm.d.ts"))[0];
         const declared = new Set([...body.matchAll(/^    (?:static |readonly )?(\w+)[(:?]/gm)].map(it => it[1]));
         const own = [...Object.getOwnPropertyNames(bitm[name].prototype), ...Object.getOwnPropertyNames(bitm[name])];
@@ -88,7 +88,7 @@ test("the lines of README.md, against the packed package", { skip: !has("npm") &
     assert.ok(got >= 20, `${got} lines of README.md were compared`);
 });
 
-const USE = `import { BitVector, Index, EliasFano, PerfectHash, WaveletMatrix, open, NO_ANSWER, WrongTables } from "bitm";
+const USE = `import { BitVector, Index, EliasFano, SparseBits, PerfectHash, WaveletMatrix, open, NO_ANSWER, WrongTables } from "bitm";
 const index: Index = new Index(BitVector.fromPositions([1, 2n, 3], 10), { sampleLog2: 9 });
 const rank: number = index.rank(4), place: number | undefined = index.select(2n);
 const doubles: Float64Array = index.rankList(Uint32Array.of(1)), wide: BigUint64Array = index.selectList(BigUint64Array.of(1n));
@@ -100,7 +100,8 @@ if (opened instanceof EliasFano) { const more: IterableIterator<number | bigint>
 const key: number | undefined = new PerfectHash(["a", 1, 1n]).get("a");
 const matrix = new WaveletMatrix([3, 1n], { width: 9 }), median: number | bigint | undefined = matrix.quantile(1, 0, 2n), often: number = matrix.rank(3);
 const before: Float64Array = matrix.rankList(Uint32Array.of(3), [1]), found: (number | undefined)[] = WaveletMatrix.open(matrix.toBytes()).selectList([3], [0]);
-void [median, often, before, found];
+const sparse = new SparseBits([3, 100n], 2n ** 40n), near: number | undefined = sparse.next0(3), bits: boolean[] = sparse.getList([3]);
+void [median, often, before, found, near, bits];
 void [rank, place, doubles, wide, list, all, least, flags, bytes, key, NO_ANSWER === 1n, WrongTables];
 `;
 const WRONG = ["index.rank('1')", "index.rank()", "const x: number = index.select(1)", "const x: number = numbers.at(0)", "new EliasFano('12')",

@@ -208,6 +208,56 @@ export class EliasFano implements Iterable<number | bigint> {
     [Symbol.dispose](): void;
 }
 
+/** Bits of which few are 1 bits, and that do not change: the positions of these alone take memory. */
+export class SparseBits {
+    /** The positions of the 1 bits, each greater than the one before it; and how many bits there are: up to the last 1 bit, unless it is given. */
+    constructor(positions: Wholes, length?: Whole);
+    /** The bits in the bytes of a block, which are copied once. */
+    static open(bytes: Bytes, options?: OpenOptions): SparseBits;
+
+    readonly length: number;
+    readonly byteLength: number;
+    get(position: Whole): boolean;
+    /** How many 1 bits, or 0 bits, there are before a position, which is at most length. */
+    rank(position: Whole): number;
+    rank0(position: Whole): number;
+    /** The position of the 1 bit, or 0 bit, that has `rank` of them before it. */
+    select(rank: Whole): number | undefined;
+    select0(rank: Whole): number | undefined;
+    next(from: Whole): number | undefined;
+    next0(from: Whole): number | undefined;
+    previous(from: Whole): number | undefined;
+    previous0(from: Whole): number | undefined;
+    count(): number;
+    count0(): number;
+
+    /** 0 or 1 for each, or booleans. RangeError if a position is past the end. */
+    getList(positions: NumberArray | BigUint64Array): Uint8Array;
+    getList(positions: Iterable<Whole>): boolean[];
+    /** RangeError if a position is above length. */
+    rankList(positions: NumberArray): Float64Array;
+    rankList(positions: BigUint64Array): BigUint64Array;
+    rankList(positions: Iterable<Whole>): number[];
+    rank0List(positions: NumberArray): Float64Array;
+    rank0List(positions: BigUint64Array): BigUint64Array;
+    rank0List(positions: Iterable<Whole>): number[];
+    /** NaN, NO_ANSWER or undefined where there is none. */
+    selectList(ranks: NumberArray): Float64Array;
+    selectList(ranks: BigUint64Array): BigUint64Array;
+    selectList(ranks: Iterable<Whole>): (number | undefined)[];
+    select0List(ranks: NumberArray): Float64Array;
+    select0List(ranks: BigUint64Array): BigUint64Array;
+    select0List(ranks: Iterable<Whole>): (number | undefined)[];
+    ones(from?: Whole): IterableIterator<number>;
+
+    /** Whether the block is as it was written and holds sparse bits, by going over all of it. */
+    check(): boolean;
+    /** The bytes of the block. */
+    toBytes(): Uint8Array;
+    free(): void;
+    [Symbol.dispose](): void;
+}
+
 export type Key = string | number | bigint | Uint8Array;
 
 export interface PerfectHashOptions {

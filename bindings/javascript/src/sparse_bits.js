@@ -1,0 +1,112 @@
+import { BESIDE, calls, numberAt } from "./core.js";
+import { Copied, InBlock, checked } from "./in_block.js";
+import { BITM_LIST_COUNTS, BITM_SPARSE, STATUS } from "./layout.js";
+import { answers, copyIn, numbersOf } from "./lists.js";
+import { dispose, withRoom } from "./memory.js";
+import { WrongTables, must, orNone, orThrow, place } from "./numbers.js";
+
+const KIND = { name: "SparseBits", what: "sparse bits", open: "bitm_sparse_open", check: "bitm_sparse_check", layout: BITM_SPARSE };
+
+/** Bits of which few are 1 bits, and that do not change: the positions of these alone take memory. */
+export class SparseBits {
+    #held;
+    #length;
+    #ones;
+
+    /** The positions of the 1 bits, each greater than the one before it; and how many bits there are: up to the last 1 bit,
+     *  unless it is given. */
+    constructor(positions, length) {
+        if (positions instanceof Copied) this.#held = new InBlock(KIND, this, positions);
+        else this.#build(numbersOf(positions, "positions").items, length);
+        this.#length = this.#held.member("bits_len");
+        this.#ones = this.#held.member("positions_len");
+        if (typeof this.#length !== "bigint") return;
+        this.free();
+        throw new RangeError("bitm: there are more than 2^53 - 1 bits");
+    }
+
+    #build(items, given) {
+        const n = items.length, last = n === 0 ? 0 : place(items[n - 1], "the last position");
+        const length = given === undefined ? Math.min(n === 0 ? 0 : last + 1, Number.MAX_SAFE_INTEGER) : place(given, "length");
+        withRoom(8 * n, list => {
+            copyIn(items, list, "positions");
+            const words = orThrow(calls.bitm_sparse_size(n, last), "positions", n);
+            this.#held = new InBlock(KIND, this, words, at => {
+                const got = calls.bitm_sparse_build(list, n, length, at, words);
+                if (got === -STATUS.WRONG) throw new RangeError(`bitm: a position is past the end: there are ${length} bits`);
+                if (got === -STATUS.UNSORTED) throw new RangeError("bitm: a position is not greater than the one before it");
+                must(got, "the positions");
+            });
+        });
+    }
+
+    /**
+     * The bits in the bytes of a block, as toBytes() gives them and the C library writes them; they are copied once. Unless
+     * `check` is false, all of them are looked at, and WrongTables is thrown where they are not as they were written; without
+     * that, answers may be wrong, but no position is past the end, and a rank is at most its position.
+     */
+    static open(bytes, options = {}) { return checked(new SparseBits(new Copied(KIND, bytes)), options); }
+
+    /** How many bits there are. */
+    get length() { return this.#length; }
+
+    /** How many bytes the block has. */
+    get byteLength() { return this.#held.byteLength; }
+
+    /** The bit at a position. */
+    get(position) { return orThrow(calls.bitm_sparse_get(this.#held.at, place(position, "position")), "position", position) === 1; }
+
+    /** How many 1 bits, or 0 bits, there are before a position. */
+    rank(position) { return orThrow(calls.bitm_sparse_rank(this.#held.at, 1, place(position, "position")), "position", position); }
+    rank0(position) { return orThrow(calls.bitm_sparse_rank(this.#held.at, 0, place(position, "position")), "position", position); }
+
+    /** The position of the 1 bit, or 0 bit, that has `rank` of them before it; undefined where there is none. */
+    select(rank) { return orNone(calls.bitm_sparse_select(this.#held.at, 1, place(rank, "rank")), "rank", rank); }
+    select0(rank) { return orNone(calls.bitm_sparse_select(this.#held.at, 0, place(rank, "rank")), "rank", rank); }
+
+    /** The position of the first 1 bit, or 0 bit, at or after `from`; of the last one at or before it. */
+    next(from) { return orNone(calls.bitm_sparse_next(this.#held.at, 1, place(from, "position")), "position", from); }
+    next0(from) { return orNone(calls.bitm_sparse_next(this.#held.at, 0, place(from, "position")), "position", from); }
+    previous(from) { return orNone(calls.bitm_sparse_previous(this.#held.at, 1, place(from, "position")), "position", from); }
+    previous0(from) { return orNone(calls.bitm_sparse_previous(this.#held.at, 0, place(from, "position")), "position", from); }
+
+    /** How many 1 bits, or 0 bits, there are. */
+    count() { return this.#ones; }
+    count0() { return this.#length - this.#ones; }
+
+    /** Lists: an array of the same kind as the queries, see README.md. */
+    getList(positions) {
+        return answers([[positions, "positions"]], "flags", (n, out, at) => {
+            const got = calls.bitm_sparse_get_list(this.#held.at, at, n, out, n, BESIDE);
+            if (got === 0 && numberAt(BESIDE + BITM_LIST_COUNTS.missing) !== 0) throw new RangeError("bitm: an item of positions is past the end");
+            return got;
+        });
+    }
+    rankList(positions) { return this.#list("bitm_sparse_rank_list", 1, positions, "positions", "throw"); }
+    rank0List(positions) { return this.#list("bitm_sparse_rank_list", 0, positions, "positions", "throw"); }
+    selectList(ranks) { return this.#list("bitm_sparse_select_list", 1, ranks, "ranks", "fill"); }
+    select0List(ranks) { return this.#list("bitm_sparse_select_list", 0, ranks, "ranks", "fill"); }
+
+    #list(name, one, given, what, missing) {
+        return answers([[given, what]], missing, (n, out, at) => calls[name](this.#held.at, one, at, n, out, n, BESIDE));
+    }
+
+    /** The positions of the 1 bits from `from` on, in increasing order. */
+    *ones(from = 0) {
+        for (let k = from === 0 ? 0 : this.rank(from); k < this.#ones; k++) {
+            const position = this.select(k);
+            if (position === undefined) throw new WrongTables();
+            yield position;
+        }
+    }
+
+    /** Whether the block is as it was written and holds sparse bits, by going over all of it. */
+    check() { return this.#held.check(); }
+
+    /** The bytes of the block: what open() takes, and the C library and its other bindings. */
+    toBytes() { return this.#held.toBytes(); }
+
+    /** Gives the memory back at once. */
+    free() { this.#held.free(); }
+    [dispose]() { this.free(); }
+}
