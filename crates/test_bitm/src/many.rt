@@ -160,7 +160,7 @@ fn calls_agree(alloc: Global, index: &Index<'_>, content: Content) -> Result<boo
     Ok(all)
 }
 
-/// The same over an index that is built over the content's words.
+/// The same over an index that is built over these words.
 fn words_agree(alloc: Global, words: &[u64], content: Content) -> Result<bool, AllocError> {
     if words.len() >= 1_000_000 {
         return Ok(false);

@@ -41,7 +41,7 @@ fn full_words_keep_one_sample_of_ones_and_none_of_zeros(rt: HostRuntime) -> Resu
     Ok(())
 }
 
-/// Whether there are 17 samples of 0 bits in 33 empty words, of which one is asked.
+/// Whether there are 17 samples of 0 bits in 33 empty words, one of which is selected.
 fn keeps_17<D: CombinedSamplingDensity>(
     index: &Lent<'_, BinaryRankSearch, CombinedSampling<D>>,
 ) -> bool {

@@ -91,7 +91,7 @@ fn agrees(alloc: Global, case: &Case<'_>) -> Result<bool, EfError> {
     Ok(has_items && is_found && come_in_order(&sequence, case.items))
 }
 
-/// Whether the numbers come from the front, and none past them.
+/// Whether the numbers come from the start, and none past them.
 fn come_rising(sequence: &EliasFano, items: &[u64]) -> bool {
     let mut rising = sequence.iter();
     let mut agrees = rising.len() == items.len();

@@ -36,7 +36,7 @@ fn counted(list: &[u64], number: u64) -> (usize, usize) {
     (less, equal)
 }
 
-/// Whether access, rank and selection of a number agree, at an index with so many equal numbers before it.
+/// Whether access, rank and selection of a number agree, at an index with the given number of equal ones before it.
 fn number_agrees(matrix: &BinaryWaveletMatrix, i: usize, number: u64, before: usize) -> bool {
     let mut agrees = matrix.try_get(i) == Some(number);
     agrees &= matrix.try_rank(number, i) == Some(before);

@@ -88,7 +88,7 @@ fn push_page(
     Ok(came)
 }
 
-/// The places of a pattern, by calls with room for `room` of them, and by one more call than there are places.
+/// Where a pattern stands, by calls with room for `room` of them, and by one more call than it takes.
 fn located(
     alloc: Global,
     collection: &TextCollection,
@@ -113,7 +113,7 @@ fn is_place(documents: &[&[u64]], pattern: &[u64], place: (usize, usize)) -> boo
     }
 }
 
-/// Whether a place is none of these.
+/// Whether a document and offset are none of these.
 fn is_new(found: &[(usize, usize)], place: (usize, usize)) -> bool {
     let mut is_new = true;
     for before in found {
