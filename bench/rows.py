@@ -8,6 +8,7 @@
                             program, and writes TO/compare.csv with the columns row, log2, percent of 1 bits, who (up is
                             the original, rt this library), value and unit
     sdsl [RUNS]             sdsl.csv: beside sdsl-lite (Debian: libsdsl-dev)
+    structures [RUNS]       structures.csv: matrices, sequences and trees beside those of sdsl-lite; 8 GB of memory
     limits [RUNS]           limits.csv: beside one random word and a rank by hand, in small pages and huge ones
     javascript [RUNS]       javascript.csv: the package beside plain JavaScript, by both modules (Node)
 
@@ -32,6 +33,11 @@ NAMES = {"select64": "select64 alone", "bit_ones": "going over the ones, a one",
 WHO = {"rt": "library", "up": "original"}
 CALLS = ("rank", "select", "select0", "select_many", "select0_many")
 CC = ("cc", "-std=c11", "-O2", "-march=x86-64-v2")
+CXX = ("c++", "-std=c++14", "-O3", "-DNDEBUG", "-march=x86-64-v2")
+OF_SDSL = ("-lsdsl", "-ldivsufsort", "-ldivsufsort64")
+ARCHIVE = TOP / "crates/bitm_c/out/libbitm_c.a"
+STRUCTURES = ("numbers8", "numbers16", "sequence", "tree")
+SIZES_OF_ITEMS = {20: 15, 24: 5, 27: 3}  # the logarithm, and the rounds of a program
 
 
 def number(value):
@@ -105,9 +111,8 @@ def original(folder, runs):
 
 def sdsl(runs):
     """Beside sdsl-lite."""
-    source = (BENCH / "sdsl.cpp", "-lsdsl", "-ldivsufsort", "-ldivsufsort64")
     made("sh", "-c", "cd crates/tool_bench && rt run")
-    made("c++", "-std=c++14", "-O3", "-DNDEBUG", "-march=x86-64-v2", "-o", ROOM / "sdsl", *source)
+    made(*CXX, "-o", ROOM / "sdsl", BENCH / "sdsl.cpp", *OF_SDSL)
     found = {}
     for _ in range(runs):
         for log2 in (20, 24, 28):
@@ -121,10 +126,29 @@ def sdsl(runs):
     draw("sdsl", "v2")
 
 
+def add(found, *command):
+    """Adds the rows that a program prints."""
+    print(" ".join(["of", command[0].name, *(str(it) for it in command[1:])]), file=sys.stderr)
+    for it in csv.reader(said(*command).splitlines()):
+        found.setdefault((it[0], it[1], int(it[2])), []).append((float(it[4]), it[5], it[6]))
+
+
+def structures(runs):
+    """Matrices, sequences and trees beside those of sdsl-lite."""
+    made("make", "archive")
+    made(*CXX, "-o", ROOM / "structures", BENCH / "structures.cpp", ARCHIVE, *OF_SDSL)
+    found = {}
+    for _ in range(runs):
+        for what in STRUCTURES:
+            for log2, rounds in SIZES_OF_ITEMS.items():
+                add(found, ROOM / "structures", what, log2, rounds)
+    write("structures", found)
+
+
 def limits(runs):
     """Beside what memory allows."""
     made("make", "archive")
-    made(*CC, "-o", ROOM / "limits", BENCH / "limits.c", TOP / "crates/bitm_c/out/libbitm_c.a")
+    made(*CC, "-o", ROOM / "limits", BENCH / "limits.c", ARCHIVE)
     found = {}
     for _ in range(runs):
         for log2 in (20, 28, 30):
@@ -149,12 +173,13 @@ def javascript(runs):
 def main(arguments):
     what, rest = arguments[0] if arguments else "", arguments[1:]
     folder = [rest.pop(0)] if what == "original" and rest else []
-    known = folder or what in ("sdsl", "limits", "javascript")
+    known = folder or what in ("sdsl", "structures", "limits", "javascript")
     if not known or len(rest) > 1 or not all(it.isdigit() for it in rest):
         print(__doc__)
         return 2
     ROOM.mkdir(exist_ok=True)
-    {"original": original, "sdsl": sdsl, "limits": limits, "javascript": javascript}[what](*folder, int(rest[0]) if rest else 3)
+    measure = {"original": original, "sdsl": sdsl, "structures": structures, "limits": limits, "javascript": javascript}
+    measure[what](*folder, int(rest[0]) if rest else 3)
     said(BENCH / "page")
     return 0
 

@@ -1,6 +1,6 @@
-// Times rank and selection of sdsl-lite over a random content of 2^LOG2 bits, a sequence of a quarter as many numbers, and
-// loading a stored index; of more than 2^30 bits the loading alone: sdsl LOG2 ROUNDS. Rows as those of `tool_bench`, by the same
-// clock, the thread's processor time.
+// Times rank and selection of sdsl-lite over a random content of 2^LOG2 bits, and loading a stored index; of more than 2^30
+// bits the loading alone: sdsl LOG2 ROUNDS. Rows as those of `tool_bench`, by the same clock, the thread's processor time.
+// Its other structures are timed by structures.cpp.
 #include <cstdint>
 #include <cstdio>
 #include <cstdlib>
@@ -44,34 +44,6 @@ void row(const char* name, int log2, int rounds, const std::vector<uint64_t>& as
 // Bits of `bytes` for each word of a content of 2^LOG2 bits.
 void space(const char* name, int log2, double bytes) {
     std::printf("%s,sdsl,%d,even,%.2f,bits,%.0f\n", name, log2, bytes * 8 / (uint64_t(1) << (log2 - 6)), bytes);
-}
-
-// Numbers by 1 to 1000 greater than the one before, one more than those of `tool_bench`, since a set has each number once.
-std::vector<uint64_t> numbers(size_t count) {
-    std::vector<uint64_t> made(count);
-    uint64_t n = 88172645463325252, last = 0;
-    for (auto& number : made) {
-        n ^= n << 13;
-        n ^= n >> 7;
-        n ^= n << 17;
-        last += n * 0x2545F4914F6CDD1D % 1000 + 1;
-        number = last;
-    }
-    return made;
-}
-
-// Rows of a set of such numbers, by their places and by value, and of all of them in order.
-void sequences(int log2, int rounds, std::mt19937_64& draw) {
-    std::vector<uint64_t> rising = numbers(uint64_t(1) << log2 >> 2);
-    sdsl::sd_vector<> set(rising.begin(), rising.end());
-    sdsl::select_support_sd<> select(&set);
-    sdsl::rank_support_sd<> rank(&set);
-    std::vector<uint64_t> places(1 << 17), values(1 << 17);
-    for (auto& at : places) at = draw() % rising.size();
-    for (auto& at : values) at = draw() % rising.back();
-    row<false>("sequence_get", log2, rounds, places, [&](uint64_t at) { return select(at + 1); });
-    row<false>("sequence_first_at_least", log2, rounds, values, [&](uint64_t at) { return rank(at); });
-    space("space_sequence", log2, sdsl::size_in_bytes(set));
 }
 
 // The row of loading a stored content with its table and asking it once.
@@ -131,6 +103,5 @@ int main(int argc, char** argv) {
     space("space_tables", log2, sdsl::size_in_bytes(rank));
     space("space_ones", log2, sdsl::size_in_bytes(select));
     space("space_zeros", log2, sdsl::size_in_bytes(select0));
-    sequences(log2, rounds, draw);
     load(log2, rounds < 5 ? rounds : 5, bits, rank);
 }

@@ -1,0 +1,488 @@
+// Times three structures of the C library beside those of sdsl-lite, over 2^LOG2 items: structures WHAT LOG2 ROUNDS.
+//
+//     numbers8, numbers16  wavelet matrices of numbers of 8 and of 16 bits, beside wm_int, and wt_int up to 2^24
+//     sequence             rising numbers, beside sd_vector
+//     tree                 trees, beside louds_tree
+//
+// The forms of a call take turns, round by round, over the same queries: each answers all of them once untimed, and
+// then again by the thread's processor time. A row is the least of the rounds, as those of `tool_bench`, whose numbers,
+// trees and queries these are, but that the numbers of a sequence rise by 1 more, since a set has each number once. The
+// last column is the sum of the answers; the program fails where the forms differ in it. A `list` has 4096 queries. All
+// memory is in small pages. The C library selects without samples here; the rows of space say what each side keeps.
+#define BITM_MUST_USE // every status is looked at before the clock starts, or is one of a sum that is compared
+#include "../include/bitm.h"
+
+#include <algorithm>
+#include <cstdint>
+#include <cstdio>
+#include <cstdlib>
+#include <cstring>
+#include <ctime>
+#include <functional>
+#include <sdsl/bit_vectors.hpp>
+#include <sdsl/louds_tree.hpp>
+#include <sdsl/suffix_trees.hpp>
+#include <sdsl/wavelet_trees.hpp>
+#include <string>
+#include <utility>
+#include <vector>
+
+using Numbers = std::vector<uint64_t>;
+using Tree = sdsl::louds_tree<>;
+
+constexpr size_t QUERIES = 1 << 17, LIST = 4096;
+
+// The nanoseconds of the processor that the thread has used.
+double used()
+{
+    timespec at;
+    clock_gettime(CLOCK_THREAD_CPUTIME_ID, &at);
+    return at.tv_sec * 1e9 + at.tv_nsec;
+}
+
+// The numbers that `tool_bench` draws.
+uint64_t draw(uint64_t &n)
+{
+    n ^= n << 13;
+    n ^= n >> 7;
+    n ^= n << 17;
+    return n * 0x2545F4914F6CDD1D;
+}
+
+[[noreturn]] void fail(const std::string &why)
+{
+    std::fprintf(stderr, "structures: %s\n", why.c_str());
+    std::exit(1);
+}
+
+void have(uint32_t status, const char *call)
+{
+    if (status != BITM_OK) fail(std::string(call) + ": " + bitm_status_text(status));
+}
+
+// Words that begin at a line of the cache.
+struct Block {
+    uint64_t *words;
+    uint64_t len;
+    explicit Block(uint64_t len) : words(static_cast<uint64_t *>(aligned_alloc(64, (len + 7) / 8 * 64))), len(len)
+    {
+        if (!words) fail("there is no memory");
+    }
+    ~Block() { std::free(words); }
+    Block(const Block &) = delete;
+    Block &operator=(const Block &) = delete;
+};
+
+// A way to answer all queries, or to build: the name of its row, who does it, and what is done, which gives the sum of
+// the answers or how much was built.
+struct Form {
+    std::string row;
+    const char *by;
+    std::function<uint64_t()> sum;
+};
+
+struct Bench {
+    const char *what;
+    int log2, rounds;
+    uint64_t count() const { return uint64_t(1) << log2; }
+    // Building takes long: three rounds of it at most, and of more than 2^20 items one.
+    int builds() const { return log2 > 20 ? 1 : std::min(rounds, 3); }
+    // It takes as long to build as wm_int, so it is left out of more than 2^24 items.
+    bool has_wt_int() const { return log2 <= 24; }
+
+    void print(const std::string &row, const char *by, double value, const char *unit, uint64_t check) const
+    {
+        std::printf("%s_%s,%s,%d,even,%.2f,%s,%llu\n", what, row.c_str(), by, log2, value, unit,
+                    (unsigned long long)check);
+        std::fflush(stdout);
+    }
+
+    // Lets the forms take turns, and prints the least time of each over the number of calls. Of queries each form first
+    // brings into the caches what the form before it has driven out.
+    void turns(uint64_t calls, bool queries, std::vector<Form> forms) const
+    {
+        if (!has_wt_int()) {
+            const auto is_wt_int = [](const Form &it) { return std::strcmp(it.by, "sdsl wt_int") == 0; };
+            forms.erase(std::remove_if(forms.begin(), forms.end(), is_wt_int), forms.end());
+        }
+        std::vector<double> least(forms.size(), 1e18);
+        std::vector<uint64_t> sums(forms.size());
+        for (int round = 0; round < (queries ? rounds : builds()); round++) {
+            for (size_t k = 0; k < forms.size(); k++) {
+                if (queries) forms[k].sum();
+                const double start = used();
+                sums[k] = forms[k].sum();
+                least[k] = std::min(least[k], used() - start);
+            }
+        }
+        for (size_t k = 0; k < forms.size(); k++) {
+            if (sums[k] != sums[0])
+                fail(forms[k].row + " by " + forms[k].by + " has other answers than by " + forms[0].by);
+            print(forms[k].row, forms[k].by, least[k] / calls, "ns", sums[k]);
+        }
+    }
+    void answer(const std::vector<Form> &forms) const { turns(QUERIES, true, forms); }
+    void build(const std::vector<Form> &forms) const { turns(count(), false, forms); }
+
+    // Bits of `bytes` for each item.
+    void space(const char *row, const char *by, double bytes) const
+    {
+        print(row, by, bytes * 8 / count(), "bits", bytes);
+    }
+};
+
+// Queries below a limit.
+Numbers queries(uint64_t limit)
+{
+    Numbers asked(QUERIES);
+    uint64_t state = 2463534242088117;
+    for (auto &it : asked) it = draw(state) % limit;
+    return asked;
+}
+
+// The sum of a call for each query.
+template <class F> uint64_t each(const Numbers &asked, F call)
+{
+    uint64_t sum = 0;
+    for (uint64_t it : asked) sum += call(it);
+    return sum;
+}
+
+// The same of two numbers each.
+template <class F> uint64_t each(const Numbers &asked, const Numbers &others, F call)
+{
+    uint64_t sum = 0;
+    for (size_t i = 0; i < QUERIES; i++) sum += call(asked[i], others[i]);
+    return sum;
+}
+
+uint64_t answers[LIST];
+
+// The sum of the answers of a call for each list, which is given where the list begins. What has no answer adds nothing
+// to it: it is 2^64 - 1 in the list, and one more in the call's answer, the number of queries that have none.
+template <class F> uint64_t lists(F call)
+{
+    uint64_t sum = 0;
+    for (size_t from = 0; from < QUERIES; from += LIST) {
+        sum += call(from);
+        for (uint64_t it : answers) sum += it;
+    }
+    return sum;
+}
+
+// Building one of sdsl-lite's.
+template <class Rival> Form built(const char *by, const sdsl::int_vector<> &numbers, Rival &rival)
+{
+    return {"build_a_number", by, [&numbers, &rival] {
+                rival = Rival();
+                sdsl::construct_im(rival, numbers);
+                return rival.size();
+            }};
+}
+
+// Rows of numbers of `width` bits.
+void matrices(const Bench &bench, int width)
+{
+    const uint64_t count = bench.count();
+    sdsl::int_vector<> numbers(count, 0, width);
+    Numbers same(count);
+    uint64_t state = 88172645463325252, words = 0;
+    for (uint64_t k = 0; k < count; k++) same[k] = numbers[k] = draw(state) & ((uint64_t(1) << width) - 1);
+
+    have(bitm_matrix_size(count, width, &words), "bitm_matrix_size");
+    Block block(words);
+    bitm_matrix matrix{};
+    sdsl::wm_int<> wm;
+    sdsl::wt_int<sdsl::bit_vector, sdsl::rank_support_v5<>> wt;
+    {
+        Block scratch(2 * count);
+        bench.build({
+            built("sdsl wm_int", numbers, wm),
+            built("sdsl wt_int", numbers, wt),
+            {"build_a_number", "C",
+             [&] {
+                 have(bitm_matrix_build(same.data(), count, width, scratch.words, scratch.len, block.words, words),
+                      "bitm_matrix_build");
+                 have(bitm_matrix_open(block.words, words, &matrix), "bitm_matrix_open");
+                 return matrix.len;
+             }},
+        });
+    }
+    bench.space("space_a_number", "sdsl wm_int", sdsl::size_in_bytes(wm));
+    if (bench.has_wt_int()) bench.space("space_a_number", "sdsl wt_int", sdsl::size_in_bytes(wt));
+    bench.space("space_a_number", "C", words * 8.0);
+
+    const Numbers places = queries(count);
+    Numbers others(QUERIES), own(QUERIES), ranks(QUERIES);
+    for (size_t i = 0; i < QUERIES; i++) {
+        others[i] = same[(places[i] + 1) % count];
+        own[i] = same[places[i]];
+        ranks[i] = wm.rank(places[i], own[i]);
+    }
+    uint64_t got = 0;
+    bitm_list_counts counts{};
+    bench.answer({
+        {"get", "sdsl wm_int", [&] { return each(places, [&](uint64_t at) { return wm[at]; }); }},
+        {"get", "sdsl wt_int", [&] { return each(places, [&](uint64_t at) { return wt[at]; }); }},
+        {"get", "C",
+         [&] { return each(places, [&](uint64_t at) { return bitm_matrix_get(&matrix, at, &got), got; }); }},
+        {"get_list", "C",
+         [&] {
+             return lists([&](size_t from) {
+                 return bitm_matrix_get_list(&matrix, &places[from], LIST, answers, LIST, &got), 0;
+             });
+         }},
+    });
+    bench.answer({
+        {"rank", "sdsl wm_int",
+         [&] { return each(others, places, [&](uint64_t it, uint64_t at) { return wm.rank(at, it); }); }},
+        {"rank", "sdsl wt_int",
+         [&] { return each(others, places, [&](uint64_t it, uint64_t at) { return wt.rank(at, it); }); }},
+        {"rank", "C",
+         [&] {
+             return each(others, places,
+                         [&](uint64_t it, uint64_t at) { return bitm_matrix_rank(&matrix, it, at, &got), got; });
+         }},
+        {"rank_list", "C",
+         [&] {
+             return lists([&](size_t from) {
+                 bitm_matrix_rank_list(&matrix, &others[from], LIST, &places[from], LIST, answers, LIST, &counts);
+                 return counts.missing;
+             });
+         }},
+    });
+    bench.answer({
+        {"select", "sdsl wm_int",
+         [&] { return each(own, ranks, [&](uint64_t it, uint64_t rank) { return wm.select(rank + 1, it); }); }},
+        {"select", "sdsl wt_int",
+         [&] { return each(own, ranks, [&](uint64_t it, uint64_t rank) { return wt.select(rank + 1, it); }); }},
+        {"select", "C",
+         [&] {
+             return each(own, ranks,
+                         [&](uint64_t it, uint64_t rank) { return bitm_matrix_select(&matrix, it, rank, &got), got; });
+         }},
+        {"select_list", "C",
+         [&] {
+             return lists([&](size_t from) {
+                 bitm_matrix_select_list(&matrix, &own[from], LIST, &ranks[from], LIST, answers, LIST, &counts);
+                 return counts.missing;
+             });
+         }},
+    });
+}
+
+// Rows of numbers that rise by 1 to 1000.
+void sequences(const Bench &bench)
+{
+    const uint64_t count = bench.count();
+    Numbers numbers(count);
+    uint64_t state = 88172645463325252, last = 0, words = 0, got = 0;
+    for (auto &it : numbers) it = last += draw(state) % 1000 + 1;
+
+    have(bitm_sequence_block_size(count, last, &words), "bitm_sequence_block_size");
+    Block block(words);
+    bitm_sequence sequence{};
+    sdsl::sd_vector<> set;
+    bench.build({
+        {"build", "sdsl",
+         [&] {
+             set = sdsl::sd_vector<>(numbers.begin(), numbers.end());
+             return set.size();
+         }},
+        {"build", "C",
+         [&] {
+             have(bitm_sequence_block_build(numbers.data(), count, block.words, words), "bitm_sequence_block_build");
+             have(bitm_sequence_block_open(block.words, words, &sequence), "bitm_sequence_block_open");
+             have(bitm_sequence_get(&sequence, count - 1, &got), "bitm_sequence_get");
+             return got + 1;
+         }},
+    });
+    bench.space("space", "sdsl", sdsl::size_in_bytes(set));
+    bench.space("space", "C", words * 8.0);
+
+    const sdsl::select_support_sd<> select(&set);
+    const sdsl::rank_support_sd<> rank(&set);
+    const Numbers places = queries(count), values = queries(last);
+    bitm_list_counts counts{};
+    bench.answer({
+        {"get", "sdsl", [&] { return each(places, [&](uint64_t at) { return select(at + 1); }); }},
+        {"get", "C",
+         [&] { return each(places, [&](uint64_t at) { return bitm_sequence_get(&sequence, at, &got), got; }); }},
+        {"get_list", "C",
+         [&] {
+             return lists([&](size_t from) {
+                 return bitm_sequence_get_list(&sequence, &places[from], LIST, answers, LIST, &got), 0;
+             });
+         }},
+    });
+    bench.answer({
+        {"first_at_least", "sdsl", [&] { return each(values, [&](uint64_t it) { return rank(it); }); }},
+        {"first_at_least", "C",
+         [&] {
+             return each(values, [&](uint64_t it) { return bitm_sequence_first_at_least(&sequence, it, &got), got; });
+         }},
+        {"first_at_least_list", "C",
+         [&] {
+             return lists([&](size_t from) {
+                 bitm_sequence_first_at_least_list(&sequence, &values[from], LIST, answers, LIST, &counts);
+                 return counts.missing;
+             });
+         }},
+    });
+}
+
+// What the constructor of sdsl-lite queries of a tree whose nodes come level by level: how many wait when one is
+// reached.
+struct Levels {
+    const Numbers *degrees;
+    uint64_t at, waiting;
+    uint64_t operator*() const { return at; }
+    uint64_t size() const { return waiting; }
+    Levels &operator++()
+    {
+        waiting = waiting - 1 + (*degrees)[at];
+        at++;
+        return *this;
+    }
+    bool operator!=(const Levels &other) const { return at != other.at; }
+};
+
+struct Sized {
+    uint64_t count;
+    uint64_t size(uint64_t) const { return count; }
+};
+
+// The degrees of a tree: each is drawn from 0 to 3, and changed where a node would be left without a parent or there
+// would be too many nodes.
+Numbers drawn_degrees(uint64_t count)
+{
+    Numbers degrees(count);
+    uint64_t state = 88172645463325252, known = 1;
+    for (uint64_t node = 0; node < count; node++) {
+        uint64_t degree = draw(state) >> 62;
+        if (known == node + 1 && degree < 1) degree = 1;
+        degrees[node] = std::min(degree, count - known);
+        known += degrees[node];
+    }
+    return degrees;
+}
+
+// Rows of a tree. A node of sdsl-lite is its number and its position among the bits. In the rows `of_node` both are
+// known before the clock starts, and both are answered; in the others, as in C, a node is its number.
+void trees(const Bench &bench)
+{
+    const uint64_t count = bench.count();
+    const Numbers degrees = drawn_degrees(count);
+    uint64_t words = 0, got = 0;
+    have(bitm_tree_size(count, &words), "bitm_tree_size");
+    Block block(words);
+    bitm_tree own{};
+    auto made = [&] { return Tree(Sized{count}, Levels{&degrees, 0, 1}, Levels{&degrees, count, 0}); };
+    bench.build({
+        {"build", "sdsl", [&] { return made().nodes(); }},
+        {"build", "C",
+         [&] {
+             have(bitm_tree_build(degrees.data(), count, block.words, words), "bitm_tree_build");
+             have(bitm_tree_open(block.words, words, &own), "bitm_tree_open");
+             return own.len;
+         }},
+    });
+    const Tree tree = made();
+    const sdsl::bit_vector::select_1_type ones(&tree.bv);
+    const sdsl::bit_vector::select_0_type zeros(&tree.bv);
+    bench.space("space", "sdsl", sdsl::size_in_bytes(tree.bv) + sdsl::size_in_bytes(ones) + sdsl::size_in_bytes(zeros));
+    bench.space("space", "C", words * 8.0);
+
+    // A node of sdsl-lite is not copied right, so only its number and its position are kept.
+    const Numbers nodes = queries(count), first(QUERIES, 0);
+    Numbers at(QUERIES);
+    for (size_t i = 0; i < QUERIES; i++) at[i] = ones(nodes[i] + 1);
+    // The positions that were answered: a call whose position nobody reads would be cut short.
+    uint64_t positions = 0;
+    bitm_list_counts counts{};
+    auto numbered = [&](uint64_t node) { return Tree::node_type(node, ones(node + 1)); };
+    bench.answer({
+        {"parent", "sdsl", [&] { return each(nodes, [&](uint64_t node) { return tree.parent(numbered(node)).nr; }); }},
+        {"parent_of_node", "sdsl",
+         [&] {
+             return each(nodes, at, [&](uint64_t node, uint64_t position) {
+                 const Tree::node_type parent = tree.parent(Tree::node_type(node, position));
+                 positions += parent.pos;
+                 return parent.nr;
+             });
+         }},
+        {"parent", "C",
+         [&] { return each(nodes, [&](uint64_t node) { return got = 0, bitm_tree_parent(&own, node, &got), got; }); }},
+        {"parent_list", "C",
+         [&] {
+             return lists([&](size_t from) {
+                 bitm_tree_parent_list(&own, &nodes[from], LIST, answers, LIST, &counts);
+                 return counts.missing;
+             });
+         }},
+    });
+    bench.answer({
+        {"child", "sdsl",
+         [&] {
+             return each(nodes, [&](uint64_t node) -> uint64_t {
+                 const Tree::node_type it = numbered(node);
+                 return tree.is_leaf(it) ? 0 : tree.child(it, 1).nr;
+             });
+         }},
+        {"child_of_node", "sdsl",
+         [&] {
+             return each(nodes, at, [&](uint64_t node, uint64_t position) -> uint64_t {
+                 const Tree::node_type it(node, position);
+                 if (tree.is_leaf(it)) return 0;
+                 const Tree::node_type child = tree.child(it, 1);
+                 positions += child.pos;
+                 return child.nr;
+             });
+         }},
+        {"child", "C",
+         [&] {
+             return each(nodes, [&](uint64_t node) { return got = 0, bitm_tree_child(&own, node, 0, &got), got; });
+         }},
+        {"child_list", "C",
+         [&] {
+             return lists([&](size_t from) {
+                 bitm_tree_child_list(&own, &nodes[from], LIST, &first[from], LIST, answers, LIST, &counts);
+                 return counts.missing;
+             });
+         }},
+    });
+    bench.answer({
+        {"degree", "sdsl", [&] { return each(nodes, [&](uint64_t node) { return tree.degree(numbered(node)); }); }},
+        {"degree_of_node", "sdsl",
+         [&] {
+             return each(nodes, at, [&](uint64_t node, uint64_t position) {
+                 return tree.degree(Tree::node_type(node, position));
+             });
+         }},
+        {"degree", "C",
+         [&] { return each(nodes, [&](uint64_t node) { return bitm_tree_degree(&own, node, &got), got; }); }},
+        {"degree_list", "C",
+         [&] {
+             return lists([&](size_t from) {
+                 bitm_tree_degree_list(&own, &nodes[from], LIST, answers, LIST, &counts);
+                 return counts.missing;
+             });
+         }},
+    });
+    if (positions == 1) fail("no tree has these positions");
+}
+
+int main(int argc, char **argv)
+{
+    const Bench bench{argc == 4 ? argv[1] : "", argc == 4 ? std::atoi(argv[2]) : 0, argc == 4 ? std::atoi(argv[3]) : 0};
+    const std::string what = bench.what;
+    const bool known = what == "numbers8" || what == "numbers16" || what == "sequence" || what == "tree";
+    if (!known || bench.log2 < 10 || bench.log2 > 30 || bench.rounds < 1) {
+        std::fprintf(stderr, "structures numbers8|numbers16|sequence|tree LOG2 ROUNDS, LOG2 from 10 to 30\n");
+        return 2;
+    }
+    if (what == "numbers8") matrices(bench, 8);
+    if (what == "numbers16") matrices(bench, 16);
+    if (what == "sequence") sequences(bench);
+    if (what == "tree") trees(bench);
+}
