@@ -10,6 +10,8 @@
     sdsl [RUNS]             sdsl.csv: beside sdsl-lite (Debian: libsdsl-dev)
     structures [RUNS]       structures.csv: matrices, sequences and trees beside those of sdsl-lite; 8 GB of memory
     limits [RUNS]           limits.csv: beside one random word and a rank by hand, in small pages and huge ones
+    mapped [RUNS]           mapped.csv: blocks in mapped files of 1.1 GB, below $TMPDIR or /tmp, which has to be on a disk;
+                            8 GB of memory
     javascript [RUNS]       javascript.csv: the package beside plain JavaScript, by both modules (Node)
 
 A value is the least of RUNS programs (3) one after the other. Plots are drawn anew where matplotlib is installed. The
@@ -38,6 +40,8 @@ OF_SDSL = ("-lsdsl", "-ldivsufsort", "-ldivsufsort64")
 ARCHIVE = TOP / "crates/bitm_c/out/libbitm_c.a"
 STRUCTURES = ("numbers8", "numbers16", "sequence", "tree")
 SIZES_OF_ITEMS = {20: 15, 24: 5, 27: 3}  # the logarithm, and the rounds of a program
+BLOCKS = ("index", "sequence", "matrix", "tree")
+BITS_OF_BLOCK = 33
 
 
 def number(value):
@@ -70,7 +74,8 @@ def write(stem, found):
         file.write("row,by,log2,kind,value,unit,check\n")
         for (name, by, log2), values in found.items():
             value, unit, check = min(values)
-            file.write(f"{name},{by},{log2},even,{number(value)},{unit},{check}\n")
+            text = f"{value:.0f}" if unit == "pages" else number(value)
+            file.write(f"{name},{by},{log2},even,{text},{unit},{check}\n")
     print(f"docs/plots/{stem}.csv: {len(found)} rows", file=sys.stderr)
 
 
@@ -145,6 +150,17 @@ def structures(runs):
     write("structures", found)
 
 
+def mapped(runs):
+    """Blocks in mapped files."""
+    made("make", "archive")
+    made(*CC, "-o", ROOM / "mapped", BENCH / "mapped.c", ARCHIVE)
+    found = {}
+    for _ in range(runs):
+        for kind in BLOCKS:
+            add(found, ROOM / "mapped", kind, BITS_OF_BLOCK, 5)
+    write("mapped", found)
+
+
 def limits(runs):
     """Beside what memory allows."""
     made("make", "archive")
@@ -173,12 +189,12 @@ def javascript(runs):
 def main(arguments):
     what, rest = arguments[0] if arguments else "", arguments[1:]
     folder = [rest.pop(0)] if what == "original" and rest else []
-    known = folder or what in ("sdsl", "structures", "limits", "javascript")
+    known = folder or what in ("sdsl", "structures", "limits", "mapped", "javascript")
     if not known or len(rest) > 1 or not all(it.isdigit() for it in rest):
         print(__doc__)
         return 2
     ROOM.mkdir(exist_ok=True)
-    measure = {"original": original, "sdsl": sdsl, "structures": structures, "limits": limits, "javascript": javascript}
+    measure = {"original": original, "sdsl": sdsl, "structures": structures, "limits": limits, "mapped": mapped, "javascript": javascript}
     measure[what](*folder, int(rest[0]) if rest else 3)
     said(BENCH / "page")
     return 0
