@@ -35,7 +35,7 @@ template <class Error, class Call> static bool throws(Call call)
 
 static std::mt19937_64 draw(31);
 
-// The positions of the 1 bits of so many bits.
+// The positions of the 1 bits of the given number of bits.
 struct Plain {
     Words positions;
     u64 size = 0;

@@ -8,7 +8,7 @@ use common::Random;
 use std::panic::{RefUnwindSafe, UnwindSafe};
 use std::sync::Arc;
 
-/// The positions of the 1 bits of so many bits.
+/// The positions of the 1 bits of the given number of bits.
 #[derive(Clone)]
 struct Plain {
     positions: Vec<u64>,
