@@ -1,6 +1,6 @@
 /* Succinct bit vectors with rank and select: words, and two tables of counts beside them. And monotone integer
- * sequences (Elias-Fano), sparse bits, minimal perfect hashes, trees (LOUDS) and lists of numbers in any order (wavelet
- * matrices), in words with such tables.
+ * sequences (Elias-Fano), sparse bits, minimal perfect hashes, trees (LOUDS), lists of numbers in any order (wavelet
+ * matrices) and indexes of texts, in words with such tables.
  *
  * Bit i is bit i % 64, lowest first, of words[i / 64]. You own the memory of words and tables, which may be a mapped
  * file. No call allocates, keeps a pointer or has state, so any number of threads may query at once.
@@ -14,16 +14,17 @@
  *     if (bitm_index_select(&index, true, 4, &position) != BITM_OK || position != 64) return 1;
  *
  * NAMES. The prefix says what is queried: bitm_bits_ (words without tables), bitm_index_ (words with tables),
- * bitm_sequence_, bitm_sparse_, bitm_hash_, bitm_tree_, bitm_matrix_, bitm_stored_. `bool one` says which bits are
- * meant: true the 1 bits, false the 0 bits. A position counts from 0; the rank of a bit is how many bits of its kind
- * there are before it.
+ * bitm_sequence_, bitm_sparse_, bitm_hash_, bitm_tree_, bitm_matrix_, bitm_text_, bitm_stored_. `bool one` says which
+ * bits are meant: true the 1 bits, false the 0 bits. A position counts from 0; the rank of a bit is how many bits of its
+ * kind there are before it.
  *
  * LENGTHS. words_len, upper_len, lower_len, samples_len, .. count the items of that pointer; bits_len counts bits, and
  * is at most 64 * words_len. What lies past the first bits_len bits is neither counted nor found nor changed.
  *
  * Promised, and proved of each call, for all arguments that keep the duties below:
  *   - it returns, and reads and writes only the memory that it is passed, WHATEVER the tables hold;
- *   - a status other than BITM_OK leaves all that the call could have written unchanged;
+ *   - a status other than BITM_OK leaves all that the call could have written unchanged, but for the list of positions
+ *     or letters of a text where it is BITM_WRONG;
  *   - over any tables, stale and hostile ones too, a rank is at most its position and a selection finds a position that
  *     is inside and holds the requested bit; BITM_WRONG says that the tables are not those of the words, but BITM_OK
  *     does not say that they are;
@@ -1584,6 +1585,85 @@ BITM_MUST_USE uint32_t bitm_sparse_rank_list(const struct bitm_sparse *sparse, b
 BITM_MUST_USE uint32_t bitm_sparse_select_list(const struct bitm_sparse *sparse, bool one, const uint64_t *ranks,
                                                size_t ranks_len, uint64_t *out, size_t out_len,
                                                struct bitm_list_counts *counts);
+
+/* ---- texts: where a pattern stands, by an index in one block of memory
+ *
+ * The index of a text (an FM-index: Ferragina and Manzini, FOCS 2000) is all that is needed: the text can be put away. A
+ * pattern is counted in two ranks for each of its letters, however long the text is. Letters are numbers of at most
+ * `width` bits; calls that end in _bytes take a text whose letters are bytes.
+ *
+ * A block is made by the program `bitm text build` (docs/PROGRAM.md), or in Rattle by text_block::write: no call here
+ * makes one, since the suffixes have to be sorted. bitm_text_size says how long it is:
+ *
+ *     uint64_t text_len;
+ *     if (bitm_text_size(11, 8, 256, 32, &text_len) != BITM_OK) return 1; // 11 bytes, a sample each 32 of them
+ *     uint64_t *of_text = calloc(text_len, 8); // or a mapped file; here it is no block yet
+ *     struct bitm_text text = {0};
+ *     if (!of_text || bitm_text_open(of_text, text_len, &text) != BITM_WRONG) return 1;
+ *     free(of_text);
+ *
+ * Over any block that bitm_text_open takes, a stale or hostile one too, a query returns within the reads that are named
+ * below, a count is at most one more than the text has letters, a position is one of the text's, or its end, and a
+ * letter has no more bits than the width. If bitm_text_check passes the block, and it did not change afterwards, the
+ * answers are those of one text, and no query returns BITM_WRONG. */
+struct bitm_text {
+    struct bitm_matrix letters; /* the letters of the text, in another order */
+    struct bitm_matrix marks;   /* which of their places are sampled */
+    const uint64_t *starts;     /* where the suffixes that begin with each letter start, in their order */
+    size_t starts_len;
+    const uint64_t *samples; /* positions, and places in that order */
+    size_t samples_len;
+    size_t first;         /* where the whole text stands in that order */
+    uint64_t step;        /* each how many letters a position is sampled */
+    uint64_t reserved[2]; /* 0: not read */
+};
+
+/* How many words the block of `len` letters of `width` bits takes, of an alphabet of that many letters, with a sample
+ * each `step` letters. BITM_BAD_SIZE if len is 2^32 - 1 or more, width is not 1 to 64, letters is 2^58 or more, or step
+ * is 0. */
+BITM_MUST_USE uint32_t bitm_text_size(size_t len, uint32_t width, size_t letters, uint32_t step, uint64_t *out);
+
+/* Opens a block: writes the index that queries take, which points into the block. *text has to be zeros, or an index
+ * whose block is still there. BITM_WRONG exactly if the header or the directory of the block is not right, or is that
+ * of no text, or block_len is not as they say. Reads at most 80 words, however long the block is (evident from the
+ * code); what its other words hold is not looked at. */
+BITM_MUST_USE uint32_t bitm_text_open(const uint64_t *block, size_t block_len, struct bitm_text *text);
+
+/* Whether a block is as it was written and holds the index of a text: BITM_OK, or BITM_WRONG as bitm_text_open, if a
+ * checksum is not that of its words, or if they are not what an index keeps of a text. So a block in which one word was
+ * changed is refused. Three passes over the block, and a walk through all letters (evident from the code). */
+BITM_MUST_USE uint32_t bitm_text_check(const uint64_t *block, size_t block_len);
+
+/* Each of these calls returns BITM_BAD_SIZE if a length in *text is not that of a text, and BITM_WRONG only where the
+ * block is not that of a text.
+ *
+ * How many letters the text has. */
+BITM_MUST_USE uint32_t bitm_text_len(const struct bitm_text *text, uint64_t *out);
+
+/* At how many positions of the text a pattern stands; one of no letters at each position, the end too. Reads for each
+ * letter of the pattern, and for each bit of the width, at most four upper entries, four lower entries and 36 words. */
+BITM_MUST_USE uint32_t bitm_text_count(const struct bitm_text *text, const uint64_t *pattern, size_t pattern_len,
+                                       uint64_t *out);
+BITM_MUST_USE uint32_t bitm_text_count_bytes(const struct bitm_text *text, const uint8_t *pattern, size_t pattern_len,
+                                             uint64_t *out);
+
+/* Writes positions at which a pattern stands, in the order of the suffixes that begin there: without the first `from` of
+ * them, as many as there is room for; and to *written how many these are. Items of out after them stay as they were.
+ * Where BITM_WRONG is returned, out may have been written to; *written is as it was. Reads what bitm_text_count reads;
+ * for each position what bitm_text_extract reads for `step` letters; and of the marks for each at most step + 2 upper
+ * entries, as many lower entries, nine times as many words, and a sample. out and written may overlap neither each other
+ * nor what the call reads. */
+BITM_MUST_USE uint32_t bitm_text_locate(const struct bitm_text *text, const uint64_t *pattern, size_t pattern_len,
+                                        size_t from, uint64_t *out, size_t out_len, uint64_t *written);
+BITM_MUST_USE uint32_t bitm_text_locate_bytes(const struct bitm_text *text, const uint8_t *pattern, size_t pattern_len,
+                                              size_t from, uint64_t *out, size_t out_len, uint64_t *written);
+
+/* Writes the out_len letters of the text from position `from` on. BITM_NONE exactly if the text has fewer, and out is as
+ * it was then. Where BITM_WRONG is returned, out may have been written to. BITM_BAD_SIZE for bytes also if the width is
+ * more than 8. Reads for each letter, and for at most `step` more, three upper entries, three lower entries and 27 words
+ * for each bit of the width, and at most a sample. */
+BITM_MUST_USE uint32_t bitm_text_extract(const struct bitm_text *text, size_t from, uint64_t *out, size_t out_len);
+BITM_MUST_USE uint32_t bitm_text_extract_bytes(const struct bitm_text *text, size_t from, uint8_t *out, size_t out_len);
 
 #ifdef __cplusplus
 }

@@ -323,6 +323,47 @@ static void query_a_matrix(uint64_t *one)
     }
 }
 
+/* The index of a text that is one letter again and again, so that the order of its suffixes is known: the shorter ones
+ * are first. The words of its letters take 32 pages, those of its marks 8, and the starts and the samples 16 and more.
+ * A count ranks at two ends, at one place of each level: a page for each, where those of the marks would be 8 more; a
+ * part is of one place, and positions also take a page or two of the marks. */
+static void query_a_text(uint64_t *one)
+{
+    enum { WIDTH = 4, STEP = 8, STARTS = 1 << 13, COUNT = 2 * WIDTH, PART = COUNT + 2, PLACES = COUNT + 5 };
+    const size_t len = WORDS / 2 - STEP, sampled = len / STEP + 1;
+    uint64_t *numbers = placed(OF_LOW, 8 * (len + 1)), *scratch = placed(OF_OUT, 16 * (len + 1));
+    struct bitm_text *text = placed(OF_STARTS, sizeof *text);
+    *text = (struct bitm_text){.first = len, .step = STEP, .starts_len = STARTS, .samples_len = sampled};
+    uint64_t of_letters, of_marks;
+    MUST(bitm_matrix_size(len, WIDTH, &of_letters) == BITM_OK && bitm_matrix_size(len + 1, 1, &of_marks) == BITM_OK);
+    uint64_t *letters = placed(OF_WORDS, 8 * (of_letters + of_marks)), *marks = letters + of_letters;
+    for (size_t i = 0; i <= len; i++) numbers[i] = 0;
+    MUST(bitm_matrix_build(numbers, len, WIDTH, scratch, 2 * len, letters, of_letters) == BITM_OK);
+    for (size_t row = 0; row <= len; row++) numbers[row] = (len - row) % STEP == 0;
+    MUST(bitm_matrix_build(numbers, len + 1, 1, scratch, 2 * (len + 1), marks, of_marks) == BITM_OK);
+    MUST(bitm_matrix_open(letters, of_letters, &text->letters) == BITM_OK);
+    MUST(bitm_matrix_open(marks, of_marks, &text->marks) == BITM_OK);
+    uint64_t *starts = placed(OF_LOWER, 8 * STARTS), *samples = placed(OF_SAMPLES, 8 * sampled);
+    for (size_t letter = 0; letter < STARTS; letter++) starts[letter] = letter ? len + 1 : 1;
+    for (size_t k = 0; k < sampled; k++) samples[k] = (len - k * STEP) | (uint64_t)(len - k * STEP) << 32;
+    text->starts = starts, text->samples = samples;
+    uint64_t *pattern = placed(OF_QUERIES, 8 * LIST), *out = placed(OF_OUT, 8 * LIST);
+    uint8_t *as_bytes = placed(OF_COUNTS, LIST), *bytes = placed(OF_OUT, LIST);
+    for (size_t i = 0; i < LIST; i++) pattern[i] = 0, as_bytes[i] = 0;
+    TOUCHES(0, 0, 0, bitm_text_len(text, one));
+    for (unsigned turn = 0; turn < 20; turn++) {
+        const size_t from = draw() % (len - 2 * LIST);
+        TOUCHES(COUNT, 1, 0, bitm_text_count(text, pattern, LIST, one));
+        MUST(*one == len - LIST + 1);
+        TOUCHES(COUNT, 1, 0, bitm_text_count_bytes(text, as_bytes, LIST, one));
+        TOUCHES(PLACES, 1, 0, bitm_text_locate(text, pattern, LIST, from, out, LIST, one));
+        MUST(*one == LIST && out[0] == len - LIST - from);
+        TOUCHES(PLACES, 1, 0, bitm_text_locate_bytes(text, as_bytes, LIST, from, out, LIST, one));
+        TOUCHES(PART, 1, 0, bitm_text_extract(text, from, out, LIST));
+        TOUCHES(PART, 1, 0, bitm_text_extract_bytes(text, from, bytes, LIST));
+    }
+}
+
 static void query_everything(void)
 {
     uint64_t *words = placed(OF_WORDS, 8 * WORDS), *upper = placed(OF_UPPER, 8), *lower = placed(OF_LOWER, 8 * LOWERS);
@@ -340,6 +381,7 @@ static void query_everything(void)
     query_a_sequence(one);
     open_sparse_bits(one);
     query_a_matrix(one);
+    query_a_text(one);
     query_a_file();
 }
 

@@ -27,7 +27,7 @@ EXPORTS = {
     "B": "bits_count bits_and bits_or bits_xor bits_and_not index_build sequence_sizes hash_level hash_build"
         " stored_index stored_index_room stored_build stored_sequence prefix_sums tree_size matrix_size"
         " matrix_get_list matrix_rank_list matrix_select_list index_block_size index_block_build sequence_block_size"
-        " sparse_size",
+        " sparse_size text_size text_len",
     "- words": "bits_clear_from",
     "N": "bits_copy_range bits_equal_range bits_select_in_word",
     "B words other": "bits_intersects bits_is_subset",
@@ -49,13 +49,16 @@ EXPORTS = {
         " sequence_contains_list sparse_get_list sparse_rank_list sparse_select_list",
     "W file": "stored_read",
     "W": "prefix_sums_check tree_check matrix_check index_block_check sequence_block_check"
-        " sparse_check",
+        " sparse_check text_check text_open",
     "NBW bits ones": "shards_find",
     "NBW bits ones shards": "shards_rank shards_select shards_next shards_previous",
     "B bits ones shards": "shards_rank_list shards_select_list",
     "W block": "tree_open matrix_open index_block_open sequence_block_open sparse_open",
     "NBW words": "matrix_get matrix_rank matrix_select matrix_count_less matrix_quantile",
     "NBW": "matrix_next_value matrix_previous_value",
+    "BW words starts": "text_count text_count_bytes",
+    "BW words starts samples": "text_locate text_locate_bytes",
+    "NBW words starts samples": "text_extract text_extract_bytes",
 }
 STATUSES = {"O": "BITM_OK", "N": "BITM_NONE", "B": "BITM_BAD_SIZE", "W": "BITM_WRONG", "U": "BITM_UNSORTED", "?": "5"}
 # The words beside the bits that a call changes, which may not change.
@@ -67,6 +70,8 @@ BESIDE = {
 }
 # Arrays of which nothing is said after a call: all of them, or what is after those that are left.
 SCRATCH, LEFT = ("again", "room", "scratch"), ("hashes",)
+# The statuses with which a list may hold anything.
+SPOILS = {"W": "text_locate text_locate_bytes text_extract text_extract_bytes"}
 # What no answer of these may be, whatever the tables hold, where they would say that the tables are wrong; a list's i-th answer.
 OUTSIDE = {
     "position + 1": "index_rank shards_rank sparse_rank",
@@ -85,11 +90,12 @@ OUTSIDE = {
     "indices[i] + 1": "matrix_rank_list",
     "matrix->len": "matrix_select matrix_select_list",
     "sparse->bits_len": "sparse_select sparse_next sparse_previous sparse_select_list",
+    "text->letters.len + 2": "text_count text_locate",
     "hash->keys": "hash_get hash_get_list",
     "shards->counts.bits[shards->shards_len]": "shards_select shards_next shards_previous shards_select_list",
 }
 # The programs that have to see such an answer by themselves, before any other is run.
-HOSTILE = ["hostile", "guarded", "hashes", "shards", "trees", "matrices", "matrix_ranges", "sparse"]
+HOSTILE = ["hostile", "guarded", "hashes", "shards", "trees", "matrices", "matrix_ranges", "sparse", "texts"]
 PROGRAMS = list(dict.fromkeys(["statuses", "pages", *IN_C]))
 for one in ("walks", "lengths", "careless"):
     PROGRAMS.remove(one)
@@ -169,7 +175,8 @@ def faults_of(call, statuses, parts):
     if call.result == "uint32_t":
         yield from of_statuses(statuses)
     for status in statuses:
-        yield from of_kept_outputs(STATUSES[status], listed, single)
+        kept = [] if status in by_name(SPOILS).get(call.name, "") else listed
+        yield from of_kept_outputs(STATUSES[status], kept, single)
     yield from of_answers(listed, single)
     for place, side in zip(BESIDE.get(call.name, ()), ("before", "behind")):
         at = f"({place}) / 64 {'-' if side == 'before' else '+'} 1"

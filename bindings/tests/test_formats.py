@@ -1,87 +1,11 @@
-"""Blocks that C writes, beside those that are written here by docs/FORMAT.md, from the same bits and numbers."""
-import itertools
+"""Blocks that C writes, beside those that are written by docs/FORMAT.md, from the same bits and numbers."""
 import struct
 import subprocess
 
+from blocks import as_bytes, of_bits, of_matrix, of_sequence, of_sparse, of_text
+from checks import TOP
 from common import compiled
 from shell import needs
-
-WORD = 2**64
-MARK = int.from_bytes(b"bitmtab\x03", "little")
-
-
-def checksum(words):
-    h = len(words)
-    for word in words:
-        h = (h ^ word) * 0x9E3779B97F4A7C15 % WORD
-        h ^= h >> 32
-    return h
-
-
-def packed(bits):
-    """Bits as words, lowest bit first."""
-    number = sum(1 << i for i, bit in enumerate(bits) if bit)
-    return [number >> 64 * i & (WORD - 1) for i in range(-(-len(bits) // 64))]
-
-
-def tables(words):
-    """The upper and the lower table of fewer than 2^26 words: an entry for each 32 words, of four counts."""
-    ones = [0, *itertools.accumulate(word.bit_count() for word in words)]
-    before = lambda at: ones[min(at, len(words))]  # noqa: E731
-    lower = []
-    for at in range(0, len(words), 32):
-        a, b, c = (before(at + 8 * k) - before(at) for k in (1, 2, 3))
-        lower.append(before(at) + (c << 32) + (b << 43) + (a << 54))
-    return [0] * bool(words), lower
-
-
-def block(kind, length, width, sections, b=0):
-    """The header, the directory and the sections, each of a role and of words."""
-    head = -(-(16 + 4 * len(sections)) // 8) * 8
-    directory, body = [], []
-    for role, words in sections:
-        directory += [role, 8 * (head + len(body)), len(words), checksum(words)]
-        body += words + [0] * (-len(words) % 8)
-    directory += [0] * (head - 16 - len(directory))
-    header = [MARK, kind, 8 * (head + len(body)), length, width, 0, 0, 0, 0, b, 0, len(sections), 0, 0, checksum(directory)]
-    return header + [checksum(header)] + directory + body
-
-
-def of_bits(length, _width, words):
-    bits = [words[i // 64] >> i % 64 & 1 for i in range(length)]
-    own = packed(bits)
-    upper, lower = tables(own)
-    return block(2, length, 0, [(1, own), (2, upper), (3, lower)])
-
-
-def of_sequence(length, _width, items, kind=3, b=0):
-    """The width of the low bits is that of the largest item divided by how many items there are."""
-    largest = items[-1] if items else 0
-    width = max((largest // length).bit_length() - 1, 0) if length else 0
-    ones = {(item >> width) + i for i, item in enumerate(items)}
-    high = packed([i in ones for i in range(length + (largest >> width) + 1)])
-    low = packed([item >> k & 1 for item in items for k in range(width)])
-    upper, lower = tables(high)
-    return block(kind, length, width, [(1, high), (2, upper), (3, lower), (9, low)], b)
-
-
-def of_sparse(length, bits, positions):
-    """In place of a width there is how many bits there are."""
-    return of_sequence(length, 0, positions, 4, bits)
-
-
-def of_matrix(length, width, numbers):
-    bits, ones, zeros, level = [], [], [], numbers
-    for depth in range(width):
-        digits = [number >> (width - 1 - depth) & 1 for number in level]
-        ones.append(sum(bits))
-        zeros.append(digits.count(0))
-        bits += digits
-        level = [n for n, d in zip(level, digits) if not d] + [n for n, d in zip(level, digits) if d]
-    words = packed(bits)
-    upper, lower = tables(words)
-    return block(6, length, width, [(1, words), (2, upper), (3, lower), (11, ones), (12, zeros)])
-
 
 WRITERS = {2: of_bits, 3: of_sequence, 4: of_sparse, 6: of_matrix}
 
@@ -99,3 +23,9 @@ def test_blocks_are_those_of_the_format(tmp_path):
         kinds.append(kind)
         del words[: 6 + given + size]
     assert {kind: kinds.count(kind) for kind in WRITERS} == {2: 9, 3: 9, 4: 18, 6: 24}
+
+
+def test_the_block_that_other_tests_read():
+    """That of a text, which `bitm text build` and tests in C++, Rust and JavaScript have from here."""
+    made = as_bytes(of_text(b"she sells sea shells on the sea shore"))
+    assert (TOP / "bindings/tests/sea_shells.block").read_bytes() == made

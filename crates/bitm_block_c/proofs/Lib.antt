@@ -1,3 +1,4 @@
 mod CodeLemmas
 mod IndexLemmas
 mod SparseLemmas
+mod TextLemmas

@@ -1,4 +1,5 @@
 pub mod IndexBlock
 pub mod Matrix
 pub mod Sparse
+pub mod Text
 pub mod Tree

@@ -21,6 +21,9 @@
 // - `sparse_lists`: lists of queries of sparse bits
 // - `sparse_making`: the block of sparse bits, written, opened and checked
 // - `sparse_queries`: a bit, ranks, selections and the nearest bits
+// - `text`: the index of a text as C passes it
+// - `text_making`: the block of the index of a text, opened and checked
+// - `text_queries`: the positions of a pattern, and parts of the text, over letters and over bytes
 // - `tree`: a tree as C passes it
 mod index_blocks;
 mod lists;
@@ -36,4 +39,7 @@ mod sparse;
 mod sparse_lists;
 mod sparse_making;
 mod sparse_queries;
+mod text;
+mod text_making;
+mod text_queries;
 mod tree;
