@@ -1593,14 +1593,15 @@ BITM_MUST_USE uint32_t bitm_sparse_select_list(const struct bitm_sparse *sparse,
  * `width` bits; calls that end in _bytes take a text whose letters are bytes.
  *
  * A block is made by the program `bitm text build` (docs/PROGRAM.md), or in Rattle by text_block::write: no call here
- * makes one, since the suffixes have to be sorted. bitm_text_size says how long it is:
+ * makes one, since the suffixes have to be sorted. This one is of banana:
  *
- *     uint64_t text_len;
- *     if (bitm_text_size(11, 8, 256, 32, &text_len) != BITM_OK) return 1; // 11 bytes, a sample each 32 of them
- *     uint64_t *of_text = calloc(text_len, 8); // or a mapped file; here it is no block yet
+ *     #include <stdio.h>
+ *     static uint64_t of_text[512]; // or a mapped file
+ *     FILE *banana = fopen("banana.block", "rb");
+ *     const size_t text_len = banana ? fread(of_text, 8, 512, banana) : 0;
  *     struct bitm_text text = {0};
- *     if (!of_text || bitm_text_open(of_text, text_len, &text) != BITM_WRONG) return 1;
- *     free(of_text);
+ *     if (bitm_text_open(of_text, text_len, &text) != BITM_OK || bitm_text_len(&text, &value) != BITM_OK || value != 6 ||
+ *         bitm_text_count_bytes(&text, (const uint8_t *)"ana", 3, &value) != BITM_OK || value != 2) return 1;
  *
  * Over any block that bitm_text_open takes, a stale or hostile one too, a query returns within the reads that are named
  * below, a count is at most one more than the text has letters, a position is one of the text's, or its end, and a
@@ -1620,18 +1621,27 @@ struct bitm_text {
 
 /* How many words the block of `len` letters of `width` bits takes, of an alphabet of that many letters, with a sample
  * each `step` letters. BITM_BAD_SIZE if len is 2^32 - 1 or more, width is not 1 to 64, letters is 2^58 or more, or step
- * is 0. */
+ * is 0.
+ *
+ *     if (bitm_text_size(6, 8, 256, 32, &value) != BITM_OK || value != text_len) return 1; // six bytes */
 BITM_MUST_USE uint32_t bitm_text_size(size_t len, uint32_t width, size_t letters, uint32_t step, uint64_t *out);
 
 /* Opens a block: writes the index that queries take, which points into the block. *text has to be zeros, or an index
  * whose block is still there. BITM_WRONG exactly if the header or the directory of the block is not right, or is that
  * of no text, or block_len is not as they say. Reads at most 80 words, however long the block is (evident from the
- * code); what its other words hold is not looked at. */
+ * code); what its other words hold is not looked at.
+ *
+ *     if (bitm_text_open(of_text, text_len - 1, &text) != BITM_WRONG || text.letters.len != 6) return 1; */
 BITM_MUST_USE uint32_t bitm_text_open(const uint64_t *block, size_t block_len, struct bitm_text *text);
 
 /* Whether a block is as it was written and holds the index of a text: BITM_OK, or BITM_WRONG as bitm_text_open, if a
  * checksum is not that of its words, or if they are not what an index keeps of a text. So a block in which one word was
- * changed is refused. Three passes over the block, and a walk through all letters (evident from the code). */
+ * changed is refused. Three passes over the block, and a walk through all letters (evident from the code).
+ *
+ *     of_text[100] ^= 1;
+ *     if (bitm_text_check(of_text, text_len) != BITM_WRONG) return 1;
+ *     of_text[100] ^= 1;
+ *     if (bitm_text_check(of_text, text_len) != BITM_OK) return 1; */
 BITM_MUST_USE uint32_t bitm_text_check(const uint64_t *block, size_t block_len);
 
 /* Each of these calls returns BITM_BAD_SIZE if a length in *text is not that of a text, and BITM_WRONG only where the
@@ -1641,7 +1651,10 @@ BITM_MUST_USE uint32_t bitm_text_check(const uint64_t *block, size_t block_len);
 BITM_MUST_USE uint32_t bitm_text_len(const struct bitm_text *text, uint64_t *out);
 
 /* At how many positions of the text a pattern stands; one of no letters at each position, the end too. Reads for each
- * letter of the pattern, and for each bit of the width, at most four upper entries, four lower entries and 36 words. */
+ * letter of the pattern, and for each bit of the width, at most four upper entries, four lower entries and 36 words.
+ *
+ *     const uint64_t ana[3] = {'a', 'n', 'a'};
+ *     if (bitm_text_count(&text, ana, 3, &value) != BITM_OK || value != 2) return 1; // from 1 and from 3 on */
 BITM_MUST_USE uint32_t bitm_text_count(const struct bitm_text *text, const uint64_t *pattern, size_t pattern_len,
                                        uint64_t *out);
 BITM_MUST_USE uint32_t bitm_text_count_bytes(const struct bitm_text *text, const uint8_t *pattern, size_t pattern_len,
@@ -1652,7 +1665,12 @@ BITM_MUST_USE uint32_t bitm_text_count_bytes(const struct bitm_text *text, const
  * Where BITM_WRONG is returned, out may have been written to; *written is as it was. Reads what bitm_text_count reads;
  * for each position what bitm_text_extract reads for `step` letters; and of the marks for each at most step + 2 upper
  * entries, as many lower entries, nine times as many words, and a sample. out and written may overlap neither each other
- * nor what the call reads. */
+ * nor what the call reads.
+ *
+ *     uint64_t places[4];
+ *     if (bitm_text_locate(&text, ana, 3, 0, places, 4, &value) != BITM_OK || value != 2 || places[0] != 3 ||
+ *         bitm_text_locate_bytes(&text, (const uint8_t *)"ana", 3, 1, places, 4, &value) != BITM_OK || value != 1 ||
+ *         places[0] != 1) return 1; */
 BITM_MUST_USE uint32_t bitm_text_locate(const struct bitm_text *text, const uint64_t *pattern, size_t pattern_len,
                                         size_t from, uint64_t *out, size_t out_len, uint64_t *written);
 BITM_MUST_USE uint32_t bitm_text_locate_bytes(const struct bitm_text *text, const uint8_t *pattern, size_t pattern_len,
@@ -1661,7 +1679,12 @@ BITM_MUST_USE uint32_t bitm_text_locate_bytes(const struct bitm_text *text, cons
 /* Writes the out_len letters of the text from position `from` on. BITM_NONE exactly if the text has fewer, and out is as
  * it was then. Where BITM_WRONG is returned, out may have been written to. BITM_BAD_SIZE for bytes also if the width is
  * more than 8. Reads for each letter, and for at most `step` more, three upper entries, three lower entries and 27 words
- * for each bit of the width, and at most a sample. */
+ * for each bit of the width, and at most a sample.
+ *
+ *     uint8_t nan[3];
+ *     if (bitm_text_extract_bytes(&text, 2, nan, 3) != BITM_OK || nan[0] != 'n' || nan[1] != 'a' ||
+ *         bitm_text_extract(&text, 4, places, 3) != BITM_NONE || bitm_text_extract(&text, 4, places, 2) != BITM_OK ||
+ *         places[0] != 'n' || places[1] != 'a') return 1; */
 BITM_MUST_USE uint32_t bitm_text_extract(const struct bitm_text *text, size_t from, uint64_t *out, size_t out_len);
 BITM_MUST_USE uint32_t bitm_text_extract_bytes(const struct bitm_text *text, size_t from, uint8_t *out, size_t out_len);
 

@@ -1,5 +1,6 @@
 """The programs in C++, also under sanitizers, by clang and in each mode; and those that must not compile."""
 import pytest
+from checks import TOP
 from common import SANITIZED, compiled, large
 from shell import bash, needs
 
@@ -8,10 +9,11 @@ MODES = ["c++17 -fno-exceptions -fno-rtti", "c++20", "c++20 -fno-exceptions -fno
 
 
 @pytest.mark.parametrize("way", WAYS)
-@pytest.mark.parametrize("program", ["check", "stored", "shards", "trees", "matrices", "sparse"])
+@pytest.mark.parametrize("program", ["check", "stored", "shards", "trees", "matrices", "sparse", "texts"])
 def test_program(program, way, tmp_path):
     needs(WAYS[way].split()[0])
-    bash(compiled(WAYS[way], f"bindings/cpp/{program}.cpp", tmp_path), tmp_path)
+    it = compiled(WAYS[way], f"bindings/cpp/{program}.cpp", tmp_path)
+    bash(f"{it} {TOP}/bindings/tests/sea_shells.block" if program == "texts" else it, tmp_path)
 
 
 @large

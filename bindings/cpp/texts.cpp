@@ -1,0 +1,186 @@
+// The index of a text in C++ beside a plain search in the text: owners, views, files, threads; blocks that are spoilt
+// or cut, and what is left of an owner that was moved. The argument is the file of a block,
+// bindings/tests/sea_shells.block.
+#include <bitm.hpp>
+
+#include <algorithm>
+#include <cstdio>
+#include <cstdlib>
+#include <random>
+#include <sstream>
+#include <string>
+#include <thread>
+#include <vector>
+
+using u64 = std::uint64_t;
+using Words = std::vector<u64>;
+using Text = bitm::text_index;
+using View = bitm::text_index_view;
+
+[[noreturn]] static void broken(int line, const char *what)
+{
+    std::fprintf(stderr, "texts.cpp:%d: not so: %s\n", line, what), std::exit(1);
+}
+#define MUST(...) ((__VA_ARGS__) ? void() : broken(__LINE__, #__VA_ARGS__))
+
+template <class Error, class Call> static bool throws(Call call)
+{
+    try {
+        call();
+    } catch (const Error &) {
+        return true;
+    }
+    return false;
+}
+
+static std::mt19937_64 draw(37);
+static const std::string verse = "she sells sea shells on the sea shore";
+
+// The positions at which a pattern stands in a text, in the order of the rest of the text from there on.
+static Words places(const std::string &text, const std::string &pattern)
+{
+    Words found;
+    for (std::size_t at = 0; at <= text.size(); at++)
+        if (text.compare(at, pattern.size(), pattern) == 0 && pattern.size() <= text.size() - at) found.push_back(at);
+    std::sort(found.begin(), found.end(), [&](u64 a, u64 b) { return text.compare(a, text.npos, text, b) < 0; });
+    return found;
+}
+
+template <class T> static void one_pattern(const T &t, const std::string &text, const std::string &pattern)
+{
+    const Words wanted = places(text, pattern);
+    Words letters;
+    for (const char it : pattern) letters.push_back(static_cast<unsigned char>(it));
+    MUST(t.count(pattern) == wanted.size() && t.try_count(pattern).value() == wanted.size());
+    MUST(t.count_letters(letters) == wanted.size() && t.try_count_letters(letters).value() == wanted.size());
+    for (const u64 from : {u64{0}, u64{1}, u64{wanted.size()}, ~u64{}}) {
+        const std::size_t left = from < wanted.size() ? wanted.size() - static_cast<std::size_t>(from) : 0;
+        for (const std::size_t room : {std::size_t{0}, std::size_t{1}, wanted.size() + 3}) {
+            Words out(room, 77), same(room, 77);
+            const std::size_t written = t.locate(pattern, out, from);
+            MUST(written == std::min(room, left) && t.locate_letters(letters, same, from) == written && same == out);
+            MUST(std::equal(out.begin(), out.begin() + static_cast<std::ptrdiff_t>(written),
+                            wanted.end() - static_cast<std::ptrdiff_t>(left)));
+            MUST(std::all_of(out.begin() + static_cast<std::ptrdiff_t>(written), out.end(),
+                             [](u64 it) { return it == 77; }));
+        }
+    }
+}
+
+template <class T> static void same(const T &t, const std::string &text)
+{
+    MUST(t.size() == text.size() && t.empty() == text.empty() && t.check() && t.text(0, text.size()) == text);
+    for (const char *pattern : {"", "s", "se", "sea sh", "she", "shop", "ll", "\xff"}) one_pattern(t, text, pattern);
+    one_pattern(t, text, text), one_pattern(t, text, text + "e");
+    for (std::size_t from = 0; from <= text.size(); from++)
+        for (std::size_t count = 0; count <= text.size() - from; count += 1 + count / 3) {
+            const std::string part = text.substr(from, count);
+            Words letters(count);
+            t.letters(from, letters);
+            MUST(t.text(from, count) == part && std::equal(letters.begin(), letters.end(), part.begin()));
+        }
+    for (std::size_t at = 0; at < text.size(); at++)
+        MUST(t[at] == static_cast<u64>(text[at]) && t.at(at) == t[at] && t.try_at(at).value() == t[at]);
+    for (const u64 at : {u64{text.size()}, ~u64{}}) {
+        MUST(throws<std::out_of_range>([&] { (void)t[at]; }) && t.try_at(at).error().code == bitm::errc::outside);
+        MUST(throws<std::out_of_range>([&] { (void)t.text(at, 1); }));
+        MUST(t.try_text(0, text.size() + 1).error().code == bitm::errc::outside && !t.try_text(0, ~std::size_t{}));
+    }
+    Words out(3);
+    MUST(throws<std::invalid_argument>([&] { (void)t.locate_letters(out, out); }));
+    MUST(throws<std::out_of_range>([&] { t.letters(text.size(), out); }));
+}
+
+static void owners(const Text &given)
+{
+    Text a = given, none;
+    MUST(a == given && a != none && a.view() == given && none.width() == 1);
+    Text copy = a, moved = std::move(a);
+    same(copy, verse), same(moved, verse), same(moved.view(), verse);
+    same(a, ""), same(none, ""), same(none.view(), ""), same(View(), ""), same(Text(none), "");
+    a = copy, copy = Text(), same(copy, ""), same(a, verse);
+    swap(a, copy), same(a, ""), same(copy, verse);
+    a = std::move(copy), same(a, verse), same(copy, "");
+    MUST(a.width() == 8 && none.bytes().size() == 0);
+}
+
+static void files(const Text &given, const std::string &path)
+{
+    given.save(path);
+    std::stringstream stream, cut;
+    given.save(stream) << "more";
+    cut.write(reinterpret_cast<const char *>(given.bytes().data()),
+              static_cast<std::streamsize>(given.bytes().size() - 1));
+    same(Text::load(path, bitm::verify::yes), verse);
+    const Text mapped = Text::map(path, bitm::verify::yes), read = Text::load(stream, bitm::verify::yes);
+    same(mapped, verse), same(read, verse);
+    MUST(stream.get() == 'm' && !Text::try_load(cut) && mapped == given && Text::of_bytes(given.bytes()) == given);
+    MUST(!bitm::tree::try_load(path) && !bitm::wavelet_matrix::try_load(path) && !bitm::sparse_bits::try_load(path));
+    Words file(given.block().begin(), given.block().end());
+    file.resize(file.size() + 7, 5); // words after the block are not its own
+    const View view = View::in(file);
+    same(view, verse), MUST(view == given && view.block().data() == file.data());
+    bitm::tree{1, 0}.save(path);
+    MUST(Text::try_load(path).error().code == bitm::errc::wrong_file && !Text::try_map(path));
+    MUST(Text::try_load("no/such/file").error().code == bitm::errc::no_file);
+    std::remove(path.c_str());
+}
+
+// Answers of a block that may hold anything: inside, or an error.
+static void any(const View &t)
+{
+    const u64 n = t.size();
+    Words out(9);
+    for (const char *pattern : {"", "s", "he", "\x01\x02"}) {
+        const auto count = t.try_count(pattern);
+        MUST(!count || *count <= n + 1);
+        try {
+            const std::size_t written = t.locate(pattern, out);
+            MUST(std::all_of(out.begin(), out.begin() + static_cast<std::ptrdiff_t>(written),
+                             [&](u64 at) { return at <= n; }));
+        } catch (const bitm::wrong_tables &) {
+        }
+    }
+    const auto part = t.try_text(n / 2, 3);
+    MUST(!part || part->size() == 3);
+}
+
+static void spoilt(const Text &given)
+{
+    const Words good(given.block().begin(), given.block().end());
+    const std::size_t start = static_cast<std::size_t>(given.raw().letters.words - given.block().data());
+    for (std::size_t word = 0; word < good.size(); word++)
+        for (unsigned bit = 0; bit < 64; bit += 7 + bit % 5) {
+            Words block = good;
+            block[word] ^= u64{1} << bit;
+            const auto view = View::try_in(block);
+            MUST(view.has_value() == (word >= start)); // opening compares the checksums of header and directory
+            if (view) MUST(!view->check()), any(*view);
+        }
+    for (std::size_t len = 0; len < good.size(); len++) MUST(!View::try_in(bitm::words_in(good.data(), len)));
+    for (int turn = 0; turn < 300; turn++) {
+        Words block = good;
+        for (std::size_t word = start; word < block.size(); word++) block[word] = draw() & draw();
+        any(View::in(block));
+    }
+    MUST(!Text::try_of_bytes({}) && !View::try_in({}) && throws<bitm::wrong_file>([] { (void)View::in({}); }));
+}
+
+static void threads(const Text &given)
+{
+    const View view = given.view();
+    std::vector<std::thread> all;
+    for (int i = 0; i < 6; i++)
+        all.emplace_back([&] {
+            for (int turn = 0; turn < 300; turn++) MUST(given.count("sea") == 2 && view.text(10, 3) == "sea");
+        });
+    for (std::thread &it : all) it.join();
+}
+
+int main(int, char **argv)
+{
+    const Text given = Text::load(argv[1], bitm::verify::yes);
+    same(given, verse), owners(given), files(given, argv[0] + std::string(".text")), spoilt(given), threads(given);
+    std::puts("texts: ok");
+    return 0;
+}
