@@ -3,10 +3,10 @@ arrays: those of that name, and those that are passed an array."""
 import array
 import hashlib
 import pickle
-from typing import Any, Callable, Optional, Tuple
+from typing import Any, Callable, List, Optional, Tuple
 
 from . import _core
-from ._files import save
+from ._files import load, save
 
 
 # ---- tables
@@ -181,6 +181,48 @@ def matrix_block(self: Any) -> memoryview:
     return memoryview(_core.parts(self)[1][0])
 
 
+def text_over(cls: Any, block: Any) -> Any:
+    """The index of a text in a block that exists already, in a buffer that it holds, as `TextIndex(block)`.
+
+    >>> TextIndex.over(block).count(b"ana")
+    2
+    """
+    return _core.over(cls, (), (block,))
+
+
+def text_open(cls: Any, path: Any) -> Any:
+    """The index of a text in a file that `bitm text build` or `save` wrote, mapped and read where it lies. ValueError as
+    `load`, and where the file is of another kind.
+
+    >>> TextIndex(block).save("book.block")
+    >>> with TextIndex.open("book.block") as index:
+    ...     index.count(b"ana")
+    2
+    """
+    found = load(path, mmap=True)
+    if not isinstance(found, _core.TextIndex):
+        raise ValueError(f"{path!r} is a stored {type(found).__name__}, not the index of a text")
+    return found if cls is _core.TextIndex else _core.over(cls, *_core.parts(found))
+
+
+def text_block(self: Any) -> memoryview:
+    """The words of the block, to be read: what `TextIndex` takes, and the bytes of the file.
+
+    >>> bytes(TextIndex(block).block) == block
+    True
+    """
+    return memoryview(_core.parts(self)[1][0])
+
+
+def text_find_all(self: Any, pattern: Any) -> List[int]:
+    """The positions at which a pattern stands, the first one first; they may overlap. Pattern as in `count`.
+
+    >>> TextIndex(block).find_all(b"ana")
+    [1, 3]
+    """
+    return sorted(self.locate(pattern))
+
+
 def matrix_to_numpy(self: Any, dtype: Any = None, copy: Optional[bool] = None) -> Any:
     """All numbers as a new array of uint64, or of dtype. ValueError for copy=False.
 
@@ -322,10 +364,11 @@ def _copy(share: Callable[[Any], Any]) -> Callable[[Any], Any]:
 
 def complete() -> None:
     """Gives the types of the extension those methods that stand here."""
-    for kind in (_core.Index, _core.EliasFano, _core.SparseBits, _core.PerfectHash, _core.Tree, _core.WaveletMatrix):
+    for kind in (_core.Index, _core.EliasFano, _core.SparseBits, _core.PerfectHash, _core.Tree, _core.WaveletMatrix, _core.TextIndex):
         setattr(kind, "save", save)
         setattr(kind, "__copy__", _copy(getattr(kind, "__copy__")))
-    for each in (_core.BitVector, _core.Index, _core.EliasFano, _core.SparseBits, _core.PerfectHash, _core.Tree, _core.WaveletMatrix):
+    for each in (_core.BitVector, _core.Index, _core.EliasFano, _core.SparseBits, _core.PerfectHash, _core.Tree, _core.WaveletMatrix,
+                 _core.TextIndex):
         setattr(each, "__reduce_ex__", reduce)
     setattr(_core.BitVector, "to_numpy", vector_to_numpy)
     setattr(_core.BitVector, "reverse", vector_reverse)
@@ -343,6 +386,10 @@ def complete() -> None:
     setattr(_core.SparseBits, "block", property(sparse_block))
     setattr(_core.WaveletMatrix, "over", classmethod(matrix_over))
     setattr(_core.WaveletMatrix, "block", property(matrix_block))
+    setattr(_core.TextIndex, "open", classmethod(text_open))
+    setattr(_core.TextIndex, "over", classmethod(text_over))
+    setattr(_core.TextIndex, "block", property(text_block))
+    setattr(_core.TextIndex, "find_all", text_find_all)
     setattr(_core.EliasFano, "intersection", intersection)
     setattr(_core.EliasFano, "union", union)
     setattr(_core.EliasFano, "parts", property(parts))

@@ -1,8 +1,8 @@
 /* Files: headers, and the value that a file holds, which is read where it lies. */
 #include "core.h"
 
-/* The first word of a block, and the second of that of sparse bits and of a matrix (docs/FORMAT.md). */
-static const uint64_t BLOCK_MARK = 0x036261746d746962, SPARSE = 4, MATRIX = 6;
+/* The first word of a block, and the second of that of sparse bits, of a matrix and of a text (docs/FORMAT.md). */
+static const uint64_t BLOCK_MARK = 0x036261746d746962, SPARSE = 4, MATRIX = 6, TEXT = 8;
 
 /* A perfect hash is stored as an index with these numbers after it: mark, keys, bits of a fingerprint, seed, number of
  * sizes, words of fingerprints; then the sizes and the fingerprints. */
@@ -12,7 +12,7 @@ static PyObject *not_whole(Memory *it)
 {
     DROP(it);
     PyErr_SetString(PyExc_ValueError,
-                    "it is not a stored index, sequence, hash, tree, matrix or sparse bits of this format, or not all of it");
+                    "it is not a stored index, sequence, hash, tree, matrix, text or sparse bits of this format, or not all of it");
     return NULL;
 }
 
@@ -50,6 +50,8 @@ PyObject *stored_load(PyObject *module, PyObject *file)
             return matrix_over(BORROWED(Matrix_Type), it);
         if (words > 1 && it->block[1] == SPARSE)
             return sparse_over(BORROWED(Sparse_Type), it);
+        if (words > 1 && it->block[1] == TEXT)
+            return text_over(BORROWED(Text_Type), it);
         return tree_over(BORROWED(Tree_Type), it);
     }
     if (bitm_stored_read(at, words, &header) != BITM_OK)

@@ -5,9 +5,10 @@ import inspect
 import pytest
 
 import bitm
+from blocks import as_bytes, of_text
 
 pytest.importorskip("numpy")
-KINDS = (bitm.BitVector, bitm.Index, bitm.EliasFano, bitm.SparseBits, bitm.PerfectHash, bitm.Shards, bitm.Tree, bitm.WaveletMatrix)
+KINDS = (bitm.BitVector, bitm.Index, bitm.EliasFano, bitm.SparseBits, bitm.PerfectHash, bitm.Shards, bitm.Tree, bitm.WaveletMatrix, bitm.TextIndex)
 WALK = type(iter(bitm.EliasFano([1])))
 
 
@@ -27,7 +28,7 @@ def items():
 def test_the_example_of(name, item, tmp_path, monkeypatch):
     monkeypatch.chdir(tmp_path)
     text = inspect.getdoc(item)
-    names = {it: getattr(bitm, it) for it in bitm.__all__}
+    names = {it: getattr(bitm, it) for it in bitm.__all__} | {"block": as_bytes(of_text(b"banana"))}
     test = doctest.DocTestParser().get_doctest(text, names, name, None, None)
     assert test.examples, f"{name} has no example"
     assert doctest.DocTestRunner().run(test).failed == 0

@@ -1,0 +1,321 @@
+/* bitm.TextIndex: where a pattern stands in a text, by the block of its index. */
+#include "core.h"
+
+/* Opens the block of the memory: -1 and ValueError where it is not that of a text. */
+static int opened(Memory *it)
+{
+    if (bitm_text_open(it->block, it->block_len, &it->text) == BITM_OK)
+        return 0;
+    PyErr_SetString(PyExc_ValueError, "it is not the block of the index of a text, or not all of it");
+    return -1;
+}
+
+PyObject *text_over(PyObject *type, Memory *it)
+{
+    if (opened(it) == 0)
+        return value_new(type, it);
+    DROP(it);
+    return NULL;
+}
+
+static int text_init(PyObject *self, PyObject *args, PyObject *keywords)
+{
+    static char *names[] = {"block", NULL};
+    PyObject *block;
+    const void *at = NULL;
+    if (!PyArg_ParseTupleAndKeywords(args, keywords, "O:TextIndex", names, &block))
+        return -1;
+    Memory *it = memory_new();
+    int failed = it == NULL || memory_items(it, block, 8, &at, &it->block_len);
+    if (!failed) {
+        it->block = at;
+        failed = opened(it);
+    }
+    if (failed)
+        DROP(it);
+    else
+        value_set(self, it);
+    return failed ? -1 : 0;
+}
+
+/* ---- patterns */
+
+/* The letters of a pattern: bytes of a buffer that is held, or numbers of its own. */
+typedef struct {
+    Py_buffer held;
+    int is_bytes;
+    uint64_t *letters;
+    size_t len;
+} Pattern;
+
+/* The letters of a list of numbers. -1 and an error. */
+static int letters_take(Pattern *it, PyObject *from)
+{
+    Integers numbers;
+    if (integers_take(&numbers, from, "a letter"))
+        return -1;
+    it->len = numbers.len;
+    it->letters = room_for(numbers.len);
+    size_t good = it->letters == NULL ? 0 : integers_load(&numbers, 0, numbers.len, it->letters);
+    int failed = it->letters == NULL || good < numbers.len;
+    if (it->letters != NULL && failed)
+        integers_below(&numbers, good, "a letter");
+    integers_drop(&numbers);
+    if (failed)
+        free(it->letters);
+    return failed ? -1 : 0;
+}
+
+/* Bytes, or a list of numbers. -1 and an error. */
+static int pattern_take(Pattern *it, PyObject *from)
+{
+    it->letters = NULL;
+    it->is_bytes = PyBytes_Check(from) || PyByteArray_Check(from);
+    if (PyUnicode_Check(from)) {
+        PyErr_SetString(PyExc_TypeError, "a pattern is bytes or a list of letters, no str: encode it as the text was");
+        return -1;
+    }
+    if (!it->is_bytes)
+        return letters_take(it, from);
+    if (PyObject_GetBuffer(from, &it->held, PyBUF_SIMPLE))
+        return -1;
+    it->len = (size_t)it->held.len;
+    return 0;
+}
+
+static void pattern_drop(Pattern *it)
+{
+    if (it->is_bytes)
+        PyBuffer_Release(&it->held);
+    free(it->letters);
+}
+
+static uint32_t count_of(const Memory *it, const Pattern *pattern, uint64_t *out)
+{
+    return pattern->is_bytes ? bitm_text_count_bytes(&it->text, pattern->held.buf, pattern->len, out)
+                             : bitm_text_count(&it->text, pattern->letters, pattern->len, out);
+}
+
+static uint32_t locate_of(const Memory *it, const Pattern *pattern, size_t from, uint64_t *out, size_t room,
+                          uint64_t *written)
+{
+    return pattern->is_bytes
+               ? bitm_text_locate_bytes(&it->text, pattern->held.buf, pattern->len, from, out, room, written)
+               : bitm_text_locate(&it->text, pattern->letters, pattern->len, from, out, room, written);
+}
+
+/* How often a pattern stands in the text: -1 and an error. */
+static int counted(PyObject *self, PyObject *query, uint64_t *out)
+{
+    Pattern pattern;
+    uint32_t status;
+    if (pattern_take(&pattern, query))
+        return -1;
+    Memory *it = memory_kept(self);
+    if (it == NULL) {
+        pattern_drop(&pattern);
+        return -1;
+    }
+    Py_BEGIN_ALLOW_THREADS
+    status = count_of(it, &pattern, out);
+    Py_END_ALLOW_THREADS
+    pattern_drop(&pattern);
+    DROP(it);
+    if (status != BITM_OK)
+        (void)wrong();
+    return status == BITM_OK ? 0 : -1;
+}
+
+static PyObject *text_count(PyObject *self, PyObject *query)
+{
+    uint64_t out;
+    return counted(self, query, &out) ? NULL : boxed(out);
+}
+
+static int text_contains(PyObject *self, PyObject *query)
+{
+    uint64_t out;
+    return counted(self, query, &out) ? -1 : out > 0;
+}
+
+/* The positions of a pattern without the first ones, at most as many as wanted. */
+static PyObject *located(const Memory *it, const Pattern *pattern, uint64_t from, uint64_t most)
+{
+    uint64_t room = 0, written = 0, *out = NULL;
+    uint32_t status = count_of(it, pattern, &room);
+    if (status == BITM_OK && (out = room_for(room = room < most ? room : most)) == NULL)
+        return NULL;
+    if (status == BITM_OK) {
+        Py_BEGIN_ALLOW_THREADS
+        status = locate_of(it, pattern, (size_t)from, out, (size_t)room, &written);
+        Py_END_ALLOW_THREADS
+    }
+    PyObject *found = status == BITM_OK ? list_of(out, (size_t)written, 0) : wrong();
+    free(out);
+    return found;
+}
+
+static PyObject *text_locate(PyObject *self, PyObject *const *args, Py_ssize_t count, PyObject *keywords)
+{
+    static const char *const names[] = {"pattern", "start", "limit"};
+    PyObject *given[3];
+    uint64_t from, most;
+    Pattern pattern;
+    if (pick("locate", names, 1, 3, args, count, keywords, given) || number_or(given[1], 0, "the start", &from) ||
+        number_or(given[2], UINT64_MAX, "the limit", &most) || pattern_take(&pattern, given[0]))
+        return NULL;
+    Memory *it = memory_kept(self);
+    PyObject *found = it == NULL ? NULL : located(it, &pattern, from, most);
+    pattern_drop(&pattern);
+    DROP(it);
+    return found;
+}
+
+/* ---- the text */
+
+static Py_ssize_t text_len(PyObject *self)
+{
+    Memory *it = memory_of(self);
+    return it == NULL ? -1 : (Py_ssize_t)it->text.letters.len; /* below 2^32 */
+}
+
+/* The letters from a position on: as bytes where each is one, else as a list. */
+static PyObject *part_of(const Memory *it, size_t from, size_t count)
+{
+    int is_bytes = it->text.letters.width <= 8;
+    uint32_t status;
+    PyObject *bytes = is_bytes ? PyBytes_FromStringAndSize(NULL, (Py_ssize_t)count) : NULL;
+    uint64_t *letters = is_bytes ? NULL : room_for(count);
+    if (bytes == NULL && letters == NULL)
+        return NULL;
+    uint8_t *room = is_bytes ? (uint8_t *)PyBytes_AsString(bytes) : NULL;
+    Py_BEGIN_ALLOW_THREADS
+    status = is_bytes ? bitm_text_extract_bytes(&it->text, from, room, count)
+                      : bitm_text_extract(&it->text, from, letters, count);
+    Py_END_ALLOW_THREADS
+    PyObject *found = status != BITM_OK ? wrong() : is_bytes ? Py_NewRef(bytes) : list_of(letters, count, 0);
+    Py_XDECREF(bytes);
+    free(letters);
+    return found;
+}
+
+static PyObject *letter_of(PyObject *self, Py_ssize_t index)
+{
+    Memory *it = memory_of(self);
+    uint64_t out = 0;
+    if (it == NULL)
+        return NULL;
+    const uint64_t len = it->text.letters.len;
+    uint32_t status = bitm_text_extract(&it->text, (size_t)from_front(index, len), &out, 1);
+    if (LIKELY(status == BITM_OK))
+        return boxed(out);
+    return status == BITM_NONE ? outside(index, len, "letters") : wrong();
+}
+
+/* The letters at count positions from one on, by steps, of which all between are taken from the text too. */
+static PyObject *slice_of(const Memory *it, Py_ssize_t start, Py_ssize_t step, Py_ssize_t count)
+{
+    const Py_ssize_t last = start + (count - 1) * step, first = last < start ? last : start;
+    if (count == 0)
+        return part_of(it, 0, 0);
+    PyObject *found = part_of(it, (size_t)first, (size_t)(last < start ? start - last : last - start) + 1);
+    if (found == NULL || step == 1)
+        return found;
+    PyObject *each = PyLong_FromSsize_t(step), *slice = each == NULL ? NULL : PySlice_New(NULL, NULL, each);
+    PyObject *made = slice == NULL ? NULL : PyObject_GetItem(found, slice);
+    Py_XDECREF(each);
+    Py_XDECREF(slice);
+    Py_DECREF(found);
+    return made;
+}
+
+static PyObject *text_subscript(PyObject *self, PyObject *key)
+{
+    Py_ssize_t index, start, stop, step;
+    if (!PySlice_Check(key))
+        return index_of(key, &index) ? NULL : letter_of(self, index);
+    if (PySlice_Unpack(key, &start, &stop, &step))
+        return NULL;
+    Memory *it = memory_kept(self);
+    if (it == NULL)
+        return NULL;
+    Py_ssize_t count = PySlice_AdjustIndices((Py_ssize_t)it->text.letters.len, &start, &stop, step);
+    PyObject *found = slice_of(it, start, step, count);
+    DROP(it);
+    return found;
+}
+
+/* ---- the rest */
+
+static PyObject *text_check(PyObject *self, PyObject *none)
+{
+    Memory *it = memory_kept(self);
+    uint32_t status;
+    (void)none;
+    if (it == NULL)
+        return NULL;
+    Py_BEGIN_ALLOW_THREADS
+    status = bitm_text_check(it->block, it->block_len);
+    Py_END_ALLOW_THREADS
+    DROP(it);
+    return PyBool_FromLong(status == BITM_OK);
+}
+
+static PyObject *text_width(PyObject *self, void *none)
+{
+    Memory *it = memory_of(self);
+    (void)none;
+    return it == NULL ? NULL : boxed(it->text.letters.width);
+}
+
+static PyObject *text_repr(PyObject *self)
+{
+    Memory *it = ((Value *)self)->memory;
+    return it == NULL ? PyUnicode_FromString("<TextIndex, closed>")
+                      : PyUnicode_FromFormat("<TextIndex of %zu letters>", it->text.letters.len);
+}
+
+#define OF(rest) EXAMPLE("TextIndex(block)" rest)
+static PyMethodDef methods[] = {
+    METHOD(
+        "count", text_count, METH_O, "($self, pattern, /)",
+        "At how many positions of the text a pattern stands: bytes, or a list of letters. Occurrences may overlap; an "
+        "empty pattern stands at each position, the end too." OF(".count(b'ana')") PRINTS("2")),
+    KEYWORDS("locate", text_locate, "($self, pattern, start=0, limit=None)",
+             "The positions at which a pattern stands, in the order of the rest of the text from there on: without the "
+             "first `start` of them, and at most `limit`. find_all() has them in the order of the text." OF(
+                 ".locate(b'ana')") PRINTS("[3, 1]")),
+    METHOD(
+        "check", text_check, METH_NOARGS, "($self, /)",
+        "Whether the block is as it was written and holds the index of a text: looks at all of it, and walks through "
+        "the text." OF(".check()") PRINTS("True")),
+    VALUE_METHODS,
+    {NULL, NULL, 0, NULL}};
+
+static PyGetSetDef attributes[] = {
+    {"width", text_width, NULL, DOC("How many bits a letter has at most: 8 of bytes." OF(".width") PRINTS("8")), NULL},
+    VALUE_CLOSED,
+    {NULL, NULL, NULL, NULL, NULL}};
+
+#define TEXT_DOC                                                                                                       \
+    "TextIndex(block)\n--\n\n"                                                                                         \
+    "The index of a text, in a block that `bitm text build` made: a buffer, which is held and not copied, or by "      \
+    "TextIndex.open() a file, which is mapped. A pattern is counted in a time that does not depend on the text's "     \
+    "length, and `index[from:to]` is a part of the text, as bytes where its letters are bytes. ValueError where "      \
+    "header or directory of the block are not right; the rest is not looked at: call check(). Here `block` is that "   \
+    "of the text banana:" EXAMPLE("index = TextIndex(block)")                                                          \
+        THEN("len(index), index.count(b'ana'), index.find_all(b'ana'), index[1:4], b'nab' in index")                   \
+            PRINTS("(6, 2, [1, 3], b'ana', False)")
+
+static PyType_Slot slots[] = {{Py_tp_doc, DOC(TEXT_DOC)},
+                              {Py_tp_init, text_init},
+                              {Py_tp_methods, methods},
+                              {Py_tp_getset, attributes},
+                              {Py_tp_repr, text_repr},
+                              {Py_tp_hash, PyObject_HashNotImplemented},
+                              {Py_sq_contains, text_contains},
+                              {Py_mp_length, text_len},
+                              {Py_mp_subscript, text_subscript},
+                              VALUE_SLOTS,
+                              {0, NULL}};
+PyType_Spec text_spec = {"bitm.TextIndex", sizeof(Value), 0, VALUE_FLAGS, slots};
