@@ -5,6 +5,7 @@ use crate::sys::mapped::Mapped;
 use crate::sys::matrix::owned::WaveletMatrix;
 use crate::sys::owned::Sequence;
 use crate::sys::sparse::owned::SparseBits;
+use crate::sys::text::owned::TextIndex;
 use crate::sys::tree::owned::Tree;
 use std::path::Path;
 
@@ -78,6 +79,20 @@ pub type WaveletMatrixFile = WaveletMatrix<Mapped>;
 /// # }
 /// ```
 pub type SparseBitsFile = SparseBits<Mapped>;
+
+/// The index of a text over a file that is mapped.
+///
+/// ```
+/// use bitm_proved::TextIndexFile;
+/// # fn main() -> Result<(), Box<dyn std::error::Error>> {
+/// let path = std::env::temp_dir().join(format!("bitm-text-{}", std::process::id()));
+/// std::fs::write(&path, include_bytes!("../tests/common/sea_shells.block"))?;
+/// assert_eq!(TextIndexFile::open(&path)?.view().count(b"sea"), Ok(2));
+/// # std::fs::remove_file(&path)?;
+/// # Ok(())
+/// # }
+/// ```
+pub type TextIndexFile = TextIndex<Mapped>;
 
 impl IndexFile {
     /// The index in a file. The contents of its parts are not tested: `check` does that. The file has to stay as it is.
@@ -172,5 +187,24 @@ impl SparseBitsFile {
     /// ```
     pub fn open(path: impl AsRef<Path>) -> Result<Self, OpenError> {
         Ok(SparseBits::from_bytes(Mapped::open(path)?)?)
+    }
+}
+
+impl TextIndexFile {
+    /// The index in a file. What its block holds is not tested: `check` does that. The file has to stay as it is.
+    ///
+    /// ```
+    /// use bitm_proved::TextIndexFile;
+    /// # fn main() -> Result<(), Box<dyn std::error::Error>> {
+    /// let path = std::env::temp_dir().join(format!("bitm-text-open-{}", std::process::id()));
+    /// std::fs::write(&path, include_bytes!("../tests/common/sea_shells.block"))?;
+    /// let text = TextIndexFile::open(&path)?;
+    /// assert!(text.view().check() && text.view().len() == 37);
+    /// # std::fs::remove_file(&path)?;
+    /// # Ok(())
+    /// # }
+    /// ```
+    pub fn open(path: impl AsRef<Path>) -> Result<Self, OpenError> {
+        Ok(TextIndex::from_bytes(Mapped::open(path)?)?)
     }
 }

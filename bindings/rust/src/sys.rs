@@ -17,6 +17,7 @@ pub(crate) mod shards;
 pub(crate) mod sparse;
 pub(crate) mod stored;
 pub(crate) mod tables;
+pub(crate) mod text;
 pub(crate) mod tree;
 pub(crate) mod view;
 pub(crate) mod writes;

@@ -112,3 +112,62 @@ extern "C" {
         out: *mut u64,
     ) -> u32;
 }
+#[repr(C)]
+#[derive(Copy, Clone)]
+pub struct bitm_text {
+    pub letters: bitm_matrix,
+    pub marks: bitm_matrix,
+    pub starts: *const u64,
+    pub starts_len: usize,
+    pub samples: *const u64,
+    pub samples_len: usize,
+    pub first: usize,
+    pub step: u64,
+    pub reserved: [u64; 2usize],
+}
+extern "C" {
+    pub fn bitm_text_size(len: usize, width: u32, letters: usize, step: u32, out: *mut u64) -> u32;
+}
+extern "C" {
+    pub fn bitm_text_open(block: *const u64, block_len: usize, text: *mut bitm_text) -> u32;
+}
+extern "C" {
+    pub fn bitm_text_check(block: *const u64, block_len: usize) -> u32;
+}
+extern "C" {
+    pub fn bitm_text_len(text: *const bitm_text, out: *mut u64) -> u32;
+}
+extern "C" {
+    pub fn bitm_text_count(text: *const bitm_text, pattern: *const u64, pattern_len: usize, out: *mut u64) -> u32;
+}
+extern "C" {
+    pub fn bitm_text_count_bytes(text: *const bitm_text, pattern: *const u8, pattern_len: usize, out: *mut u64) -> u32;
+}
+extern "C" {
+    pub fn bitm_text_locate(
+        text: *const bitm_text,
+        pattern: *const u64,
+        pattern_len: usize,
+        from: usize,
+        out: *mut u64,
+        out_len: usize,
+        written: *mut u64,
+    ) -> u32;
+}
+extern "C" {
+    pub fn bitm_text_locate_bytes(
+        text: *const bitm_text,
+        pattern: *const u8,
+        pattern_len: usize,
+        from: usize,
+        out: *mut u64,
+        out_len: usize,
+        written: *mut u64,
+    ) -> u32;
+}
+extern "C" {
+    pub fn bitm_text_extract(text: *const bitm_text, from: usize, out: *mut u64, out_len: usize) -> u32;
+}
+extern "C" {
+    pub fn bitm_text_extract_bytes(text: *const bitm_text, from: usize, out: *mut u8, out_len: usize) -> u32;
+}

@@ -1,0 +1,273 @@
+//! Indexes of texts, each in one block of memory: views of borrowed blocks.
+pub(crate) mod owned;
+
+use crate::errors::{StoredError, WrongTables};
+use crate::ffi::matrix::*;
+use crate::sys::memory::{as_u64_mut, words_of};
+use crate::sys::tree::block_in;
+use crate::sys::{query, NONE, OK};
+use core::{fmt, ptr};
+
+/// The index of a text in a borrowed block, whose header is right. Its other words may hold anything; `check` tests it.
+///
+/// `bitm text build` makes such a block. A pattern is counted in a time that does not depend on how long the text is;
+/// occurrences may overlap, and an empty pattern stands at each position, the end too. Each call is one proved call.
+///
+/// ```
+/// use bitm_proved::{words_from_bytes, TextIndexView};
+/// // of "she sells sea shells on the sea shore"
+/// let block = words_from_bytes(include_bytes!("../../tests/common/sea_shells.block"))?;
+/// let (text, mut positions, mut part) = (TextIndexView::from_words(&block)?, [0; 4], [0; 6]);
+/// assert_eq!((text.count(b"sea")?, text.count(b"shop")?), (2, 0));
+/// assert_eq!((text.locate(b"sea", 0, &mut positions)?, &positions[..2]), (2, &[10, 28][..]));
+/// assert!(text.extract(14, &mut part)? && &part == b"shells");
+/// # Ok::<(), Box<dyn std::error::Error>>(())
+/// ```
+#[derive(Clone, Copy)]
+pub struct TextIndexView<'a> {
+    raw: bitm_text,
+    block: &'a [u64],
+}
+
+// SAFETY: the pointers lie in a shared slice, and no call has state.
+unsafe impl Send for TextIndexView<'_> {}
+// SAFETY: as of `Send`.
+unsafe impl Sync for TextIndexView<'_> {}
+
+const NO_LETTERS: bitm_matrix = bitm_matrix {
+    len: 0,
+    width: 0,
+    words: ptr::null(),
+    words_len: 0,
+    upper: ptr::null(),
+    upper_len: 0,
+    lower: ptr::null(),
+    lower_len: 0,
+    ones: ptr::null(),
+    ones_len: 0,
+    zeros: ptr::null(),
+    zeros_len: 0,
+    reserved: [0; 2],
+};
+const NO_TEXT: bitm_text = bitm_text {
+    letters: NO_LETTERS,
+    marks: NO_LETTERS,
+    starts: ptr::null(),
+    starts_len: 0,
+    samples: ptr::null(),
+    samples_len: 0,
+    first: 0,
+    step: 0,
+    reserved: [0; 2],
+};
+
+/// Whether letters were written.
+fn written(status: u32) -> Result<bool, WrongTables> {
+    match status {
+        OK => Ok(true),
+        NONE => Ok(false),
+        _ => Err(WrongTables),
+    }
+}
+
+impl<'a> TextIndexView<'a> {
+    /// Of the block that begins the words of a file. What its sections hold is not tested: `check` does that.
+    ///
+    /// ```
+    /// use bitm_proved::{words_from_bytes, StoredError, TextIndexView};
+    /// let block = words_from_bytes(include_bytes!("../../tests/common/sea_shells.block"))?;
+    /// assert_eq!(TextIndexView::from_words(&block)?.len(), 37);
+    /// assert_eq!(TextIndexView::from_words(&block[1..]).err(), Some(StoredError::NotWhole));
+    /// # Ok::<(), Box<dyn std::error::Error>>(())
+    /// ```
+    pub fn from_words(file: &'a [u64]) -> Result<Self, StoredError> {
+        let (block, mut raw) = (block_in(file).ok_or(StoredError::NotWhole)?, NO_TEXT);
+        // SAFETY: a slice, and a struct of zeros, which the call may write.
+        match unsafe { bitm_text_open(block.as_ptr(), block.len(), &mut raw) } {
+            OK => Ok(TextIndexView { raw, block }),
+            _ => Err(StoredError::NotWhole),
+        }
+    }
+
+    /// Of the bytes of a file, which begin at a multiple of 8.
+    ///
+    /// ```
+    /// use bitm_proved::{bytes_of, words_from_bytes, TextIndexView};
+    /// let block = words_from_bytes(include_bytes!("../../tests/common/sea_shells.block"))?;
+    /// assert_eq!(TextIndexView::from_bytes(bytes_of(&block))?.len(), 37);
+    /// # Ok::<(), Box<dyn std::error::Error>>(())
+    /// ```
+    pub fn from_bytes(bytes: &'a [u8]) -> Result<Self, StoredError> {
+        Self::from_words(words_of(bytes).ok_or(StoredError::Misaligned)?)
+    }
+
+    /// The words of the block, which are those of a file of this index.
+    ///
+    /// ```
+    /// use bitm_proved::{words_from_bytes, TextIndexView};
+    /// let mut file = words_from_bytes(include_bytes!("../../tests/common/sea_shells.block"))?;
+    /// file.push(7); // no word of the block
+    /// assert_eq!(TextIndexView::from_words(&file)?.block().len(), 408);
+    /// # Ok::<(), Box<dyn std::error::Error>>(())
+    /// ```
+    #[inline]
+    pub fn block(&self) -> &'a [u64] {
+        self.block
+    }
+
+    /// How many letters the text has.
+    ///
+    /// ```
+    /// use bitm_proved::{words_from_bytes, TextIndexView};
+    /// let block = words_from_bytes(include_bytes!("../../tests/common/sea_shells.block"))?;
+    /// assert_eq!(TextIndexView::from_words(&block)?.len(), 37);
+    /// # Ok::<(), Box<dyn std::error::Error>>(())
+    /// ```
+    #[inline]
+    pub fn len(&self) -> usize {
+        self.raw.letters.len
+    }
+
+    /// Whether it has none.
+    ///
+    /// ```
+    /// use bitm_proved::{words_from_bytes, TextIndexView};
+    /// let block = words_from_bytes(include_bytes!("../../tests/common/sea_shells.block"))?;
+    /// assert!(!TextIndexView::from_words(&block)?.is_empty());
+    /// # Ok::<(), Box<dyn std::error::Error>>(())
+    /// ```
+    #[inline]
+    pub fn is_empty(&self) -> bool {
+        self.len() == 0
+    }
+
+    /// How many bits a letter has at most: 8 of bytes.
+    ///
+    /// ```
+    /// use bitm_proved::{words_from_bytes, TextIndexView};
+    /// let block = words_from_bytes(include_bytes!("../../tests/common/sea_shells.block"))?;
+    /// assert_eq!(TextIndexView::from_words(&block)?.width(), 8);
+    /// # Ok::<(), Box<dyn std::error::Error>>(())
+    /// ```
+    #[inline]
+    pub fn width(&self) -> u32 {
+        self.raw.letters.width as u32
+    }
+
+    /// Whether the block is as it was written and holds the index of a text: looks at all of it, and walks through it.
+    ///
+    /// ```
+    /// use bitm_proved::{words_from_bytes, TextIndexView};
+    /// let mut block = words_from_bytes(include_bytes!("../../tests/common/sea_shells.block"))?;
+    /// assert!(TextIndexView::from_words(&block)?.check());
+    /// *block.last_mut().unwrap() ^= 1;
+    /// assert!(!TextIndexView::from_words(&block)?.check());
+    /// # Ok::<(), Box<dyn std::error::Error>>(())
+    /// ```
+    pub fn check(&self) -> bool {
+        // SAFETY: a slice.
+        unsafe { bitm_text_check(self.block.as_ptr(), self.block.len()) == OK }
+    }
+
+    /// At how many positions of the text a pattern of bytes stands.
+    ///
+    /// ```
+    /// use bitm_proved::{words_from_bytes, TextIndexView};
+    /// let block = words_from_bytes(include_bytes!("../../tests/common/sea_shells.block"))?;
+    /// assert_eq!(TextIndexView::from_words(&block)?.count(b"se"), Ok(3));
+    /// # Ok::<(), Box<dyn std::error::Error>>(())
+    /// ```
+    pub fn count(&self, pattern: &[u8]) -> Result<usize, WrongTables> {
+        // SAFETY: a view, which borrows its block, a slice, and room for the number that the call writes where it
+        // returns OK.
+        let found = unsafe { query(|out| bitm_text_count_bytes(&self.raw, pattern.as_ptr(), pattern.len(), out)) };
+        found?.map(|it| it as usize).ok_or(WrongTables)
+    }
+
+    /// At how many positions of the text a pattern of letters stands.
+    ///
+    /// ```
+    /// use bitm_proved::{words_from_bytes, TextIndexView};
+    /// let block = words_from_bytes(include_bytes!("../../tests/common/sea_shells.block"))?;
+    /// assert_eq!(TextIndexView::from_words(&block)?.count_letters(&[115, 101]), Ok(3));
+    /// # Ok::<(), Box<dyn std::error::Error>>(())
+    /// ```
+    pub fn count_letters(&self, pattern: &[u64]) -> Result<usize, WrongTables> {
+        // SAFETY: as of `count`.
+        let found = unsafe { query(|out| bitm_text_count(&self.raw, pattern.as_ptr(), pattern.len(), out)) };
+        found?.map(|it| it as usize).ok_or(WrongTables)
+    }
+
+    /// Writes positions at which a pattern of bytes stands, in the order of the rest of the text from there on: without
+    /// the first `from` of them, as many as there is room for; and says how many these are. Where the tables are wrong,
+    /// positions may have been written.
+    ///
+    /// ```
+    /// use bitm_proved::{words_from_bytes, TextIndexView};
+    /// let block = words_from_bytes(include_bytes!("../../tests/common/sea_shells.block"))?;
+    /// let (text, mut out) = (TextIndexView::from_words(&block)?, [9; 4]);
+    /// assert_eq!((text.locate(b"se", 1, &mut out)?, out), (2, [28, 4, 9, 9]));
+    /// # Ok::<(), Box<dyn std::error::Error>>(())
+    /// ```
+    pub fn locate(&self, pattern: &[u8], from: usize, out: &mut [usize]) -> Result<usize, WrongTables> {
+        let (letters, len, room) = (pattern.as_ptr(), pattern.len(), out.len());
+        let to = as_u64_mut(out).as_mut_ptr();
+        // SAFETY: as of `count`, and a mutable slice, which overlaps no other.
+        let found = unsafe { query(|n| bitm_text_locate_bytes(&self.raw, letters, len, from, to, room, n)) };
+        found?.map(|it| it as usize).ok_or(WrongTables)
+    }
+
+    /// `locate` of a pattern of letters.
+    ///
+    /// ```
+    /// use bitm_proved::{words_from_bytes, TextIndexView};
+    /// let block = words_from_bytes(include_bytes!("../../tests/common/sea_shells.block"))?;
+    /// let (text, mut out) = (TextIndexView::from_words(&block)?, [9; 4]);
+    /// assert_eq!((text.locate_letters(&[115, 101], 0, &mut out)?, out), (3, [10, 28, 4, 9]));
+    /// # Ok::<(), Box<dyn std::error::Error>>(())
+    /// ```
+    pub fn locate_letters(&self, pattern: &[u64], from: usize, out: &mut [usize]) -> Result<usize, WrongTables> {
+        let (letters, len, room) = (pattern.as_ptr(), pattern.len(), out.len());
+        let to = as_u64_mut(out).as_mut_ptr();
+        // SAFETY: as of `locate`.
+        let found = unsafe { query(|n| bitm_text_locate(&self.raw, letters, len, from, to, room, n)) };
+        found?.map(|it| it as usize).ok_or(WrongTables)
+    }
+
+    /// Writes the bytes of the text from a position on, as many as there is room for; `false`, and nothing is written,
+    /// where the text has fewer. An error also where letters may have more than 8 bits (`width`). Where the tables are
+    /// wrong, letters may have been written.
+    ///
+    /// ```
+    /// use bitm_proved::{words_from_bytes, TextIndexView};
+    /// let block = words_from_bytes(include_bytes!("../../tests/common/sea_shells.block"))?;
+    /// let (text, mut out) = (TextIndexView::from_words(&block)?, [0; 5]);
+    /// assert!(text.extract(4, &mut out)? && &out == b"sells");
+    /// assert_eq!(text.extract(33, &mut out), Ok(false));
+    /// # Ok::<(), Box<dyn std::error::Error>>(())
+    /// ```
+    pub fn extract(&self, from: usize, out: &mut [u8]) -> Result<bool, WrongTables> {
+        // SAFETY: a view, which borrows its block, and a mutable slice.
+        written(unsafe { bitm_text_extract_bytes(&self.raw, from, out.as_mut_ptr(), out.len()) })
+    }
+
+    /// `extract` of letters of any width.
+    ///
+    /// ```
+    /// use bitm_proved::{words_from_bytes, TextIndexView};
+    /// let block = words_from_bytes(include_bytes!("../../tests/common/sea_shells.block"))?;
+    /// let (text, mut out) = (TextIndexView::from_words(&block)?, [0; 3]);
+    /// assert_eq!((text.extract_letters(0, &mut out)?, out), (true, [115, 104, 101]));
+    /// # Ok::<(), Box<dyn std::error::Error>>(())
+    /// ```
+    pub fn extract_letters(&self, from: usize, out: &mut [u64]) -> Result<bool, WrongTables> {
+        // SAFETY: as of `extract`.
+        written(unsafe { bitm_text_extract(&self.raw, from, out.as_mut_ptr(), out.len()) })
+    }
+}
+
+impl fmt::Debug for TextIndexView<'_> {
+    fn fmt(&self, f: &mut fmt::Formatter<'_>) -> fmt::Result {
+        write!(f, "{} letters", self.len())
+    }
+}
