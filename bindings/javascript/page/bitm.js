@@ -1,4 +1,4 @@
-// src/web.js and all that it imports, in one file: made by one_file.mjs. sha256 of the sources: 576648c7ac0430aa149fc87871f8f263e3c82445205558d3617bdec8cb0fc0b9
+// src/web.js and all that it imports, in one file: made by one_file.mjs. sha256 of the sources: 1036af0b9068ccdd581b70668096613b29f16f4285bbe001d575f4513bd84a98
 
 // src/core.js
 var VERSION = "0.3.0";
@@ -206,6 +206,39 @@ var BITM_SPARSE = {
   positions_lower: 64,
   positions_lower_len: 72,
   bits_len: 96
+};
+var BITM_TEXT = {
+  bytes: 288,
+  letters_len: 0,
+  letters_width: 8,
+  letters_words: 16,
+  letters_words_len: 24,
+  letters_upper: 32,
+  letters_upper_len: 40,
+  letters_lower: 48,
+  letters_lower_len: 56,
+  letters_ones: 64,
+  letters_ones_len: 72,
+  letters_zeros: 80,
+  letters_zeros_len: 88,
+  marks_len: 112,
+  marks_width: 120,
+  marks_words: 128,
+  marks_words_len: 136,
+  marks_upper: 144,
+  marks_upper_len: 152,
+  marks_lower: 160,
+  marks_lower_len: 168,
+  marks_ones: 176,
+  marks_ones_len: 184,
+  marks_zeros: 192,
+  marks_zeros_len: 200,
+  starts: 224,
+  starts_len: 232,
+  samples: 240,
+  samples_len: 248,
+  first: 256,
+  step: 264
 };
 
 // src/memory.js
@@ -1321,7 +1354,7 @@ var EliasFano = class {
 };
 
 // src/in_block.js
-var BEFORE2 = 128;
+var BEFORE2 = 320;
 var Copied = class {
   constructor(kind, bytes2) {
     const from = bytesOf(bytes2, "a block");
@@ -1980,6 +2013,124 @@ function checkedWidth(it) {
   throw new RangeError(`bitm: width is 1 to 64, and not ${String(it)}`);
 }
 
+// src/text_index.js
+var KIND5 = { name: "TextIndex", what: "the index of a text", open: "bitm_text_open", check: "bitm_text_check", layout: BITM_TEXT };
+var COUNT = { letters: "bitm_text_count", bytes: "bitm_text_count_bytes" };
+var LOCATE = { letters: "bitm_text_locate", bytes: "bitm_text_locate_bytes" };
+function withPattern(pattern, names, body) {
+  const bytes2 = typeof pattern === "string" ? new TextEncoder().encode(pattern) : pattern;
+  if (bytes2 instanceof Uint8Array) {
+    const from = bytesOf(bytes2, "the pattern"), n2 = from.length;
+    return withRoom(n2, (at) => {
+      bytesAt(at, n2).set(from);
+      return body(calls[names.bytes], at, n2);
+    });
+  }
+  const { items } = numbersOf(pattern, "the pattern"), n = items.length;
+  return withRoom(8 * n, (at) => {
+    copyIn(items, at, "the pattern");
+    return body(calls[names.letters], at, n);
+  });
+}
+var TextIndex = class {
+  #held;
+  #length;
+  #width;
+  constructor(block) {
+    if (!(block instanceof Copied))
+      throw new TypeError("bitm: a TextIndex is opened: TextIndex.open(bytes)");
+    this.#held = new InBlock(KIND5, this, block);
+    this.#length = this.#held.member("letters_len");
+    this.#width = this.#held.member("letters_width");
+  }
+  /**
+   * The index in the bytes of a block, which are copied once. Unless `check` is false, all of them are looked at, and
+   * WrongTables is thrown where they are not as they were written; without that, answers may be wrong, but a position is
+   * one of the text's, or its end, and a count no more than there are of these.
+   */
+  static open(bytes2, options = {}) {
+    return checked(new TextIndex(new Copied(KIND5, bytes2)), options);
+  }
+  /** How many letters the text has. */
+  get length() {
+    return this.#length;
+  }
+  /** How many bits a letter has at most: 8 of bytes. */
+  get width() {
+    return this.#width;
+  }
+  /** How many bytes the block has. */
+  get byteLength() {
+    return this.#held.byteLength;
+  }
+  /** At how many positions a pattern stands: a string (as UTF-8), bytes in a Uint8Array, or other numbers as letters. */
+  count(pattern) {
+    const text = this.#held.at;
+    return withPattern(pattern, COUNT, (call, at, n) => orThrow(call(text, at, n), "the pattern", n));
+  }
+  /** Whether it stands anywhere. */
+  has(pattern) {
+    return this.count(pattern) > 0;
+  }
+  /**
+   * The positions at which a pattern stands, in the order of the rest of the text from there on: without the first `from` of
+   * them, and at most `limit`.
+   */
+  locate(pattern, options = {}) {
+    const text = this.#held.at, from = place(options.from ?? 0, "from"), most = place(options.limit ?? Number.MAX_SAFE_INTEGER, "limit");
+    const room = Math.min(this.count(pattern), most);
+    return withPattern(pattern, LOCATE, (call, at, n) => withRoom(8 * room, (out2) => {
+      const written = orThrow(call(text, at, n, from, out2, room), "the pattern", n);
+      return copyOut(out2, written, "plain", false);
+    }));
+  }
+  /** All of them, in the order of the text. */
+  findAll(pattern) {
+    return this.locate(pattern).sort((a, b) => a - b);
+  }
+  /** The letter at a position. */
+  get(position) {
+    const at = place(position, "position");
+    return withRoom(8, (out2) => {
+      must(calls.bitm_text_extract(this.#held.at, at, out2, 1), "position");
+      return numberAt(out2);
+    });
+  }
+  /** The letters from one position on and before another: as a Uint8Array where they are bytes, else as an array. */
+  slice(from = 0, to = this.#length) {
+    const end2 = upTo(to, this.#length, "to"), start2 = upTo(from, end2, "from"), n = end2 - start2, text = this.#held.at;
+    if (this.#width > 8) {
+      return withRoom(8 * n, (out2) => {
+        must(calls.bitm_text_extract(text, start2, out2, n), "from");
+        return copyOut(out2, n, "plain", false);
+      });
+    }
+    return withRoom(n, (out2) => {
+      must(calls.bitm_text_extract_bytes(text, start2, out2, n), "from");
+      return bytesAt(out2, n).slice();
+    });
+  }
+  /** The same as a string, of bytes in UTF-8. */
+  text(from = 0, to = this.#length) {
+    return new TextDecoder().decode(Uint8Array.from(this.slice(from, to)));
+  }
+  /** Whether the block is as it was written and holds the index of a text, by going over all of it and through the text. */
+  check() {
+    return this.#held.check();
+  }
+  /** The bytes of the block: what open() takes, and the C library and its other bindings. */
+  toBytes() {
+    return this.#held.toBytes();
+  }
+  /** Gives the memory back at once. */
+  free() {
+    this.#held.free();
+  }
+  [dispose]() {
+    this.free();
+  }
+};
+
 // src/open.js
 function open(bytes2, options = {}) {
   const from = bytesOf(bytes2, "a file"), words = Math.floor(from.length / 8);
@@ -2034,6 +2185,7 @@ export {
   NO_ANSWER,
   PerfectHash,
   SparseBits,
+  TextIndex,
   Tree,
   VERSION,
   WaveletMatrix,

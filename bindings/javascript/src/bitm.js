@@ -6,6 +6,7 @@ export { SparseBits } from "./sparse_bits.js";
 export { PerfectHash } from "./perfect_hash.js";
 export { Tree } from "./tree.js";
 export { WaveletMatrix } from "./wavelet_matrix.js";
+export { TextIndex } from "./text_index.js";
 export { open } from "./open.js";
 export { NO_ANSWER } from "./lists.js";
 export { WrongTables } from "./numbers.js";

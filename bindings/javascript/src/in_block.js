@@ -6,7 +6,7 @@ import { Block, freed } from "./memory.js";
 import { WrongTables } from "./numbers.js";
 
 /** How many bytes stand before the block: room for the struct that the calls take. */
-const BEFORE = 128;
+const BEFORE = 320;
 
 /** Memory with a copy of a block that a user gave, which is not looked at yet. */
 export class Copied {

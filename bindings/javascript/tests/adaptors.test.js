@@ -177,6 +177,29 @@ function ofSparseList() {
 }
 const ofSparseBlock = () => ({ block: slot(54), block_len: sparse(r() % 3 === 0) - (r() % 7 ? 0 : 1), sparse: slot(60) });
 
+/** The block of a text in slot 62, of which a word after the directory may be wrong, and its struct in slot 63: its words. */
+const TEXT = readFileSync(new URL("../tests/sea_shells.block", beside));
+function text(spoilt) {
+    const size = TEXT.length / 8;
+    new Uint8Array(memory.buffer, slot(62), TEXT.length).set(TEXT);
+    assert.equal(library.bitm_text_open(BigInt(slot(62)), BigInt(size), BigInt(slot(63))), 0);
+    if (spoilt) words(slot(62), size)[64 + (r() % (size - 64))] ^= BigInt(r());
+    return size;
+}
+
+/** What a text is asked, by letters and by bytes. */
+function ofText() {
+    text(r() % 3 === 0);
+    words(slot(64), 3).set([115n, 101n, 97n]);
+    return { text: slot(63), pattern: slot(64), pattern_len: r() % 4, from: r() % 40, out: slot(65), out_len: r() % 9 };
+}
+function ofTextInBytes() {
+    const given = ofText();
+    new Uint8Array(memory.buffer, slot(66), 3).set([115, 101, 97]);
+    return { ...given, pattern: slot(66) };
+}
+const ofTextBlock = () => ({ block: slot(62), block_len: text(r() % 3 === 0) - (r() % 7 ? 0 : 1), text: slot(67) });
+
 const someLog2 = () => (r() % 5 ? [0, 7 + (r() % 8)][r() % 2] : r() % 40);
 // By export: arguments that have to fit together, by name.
 const FITTING = {
@@ -237,6 +260,15 @@ const FITTING = {
     bitm_sparse_get_list: ofSparseList,
     bitm_sparse_rank_list: ofSparseList,
     bitm_sparse_select_list: ofSparseList,
+    bitm_text_open: ofTextBlock,
+    bitm_text_check: ofTextBlock,
+    bitm_text_len: ofText,
+    bitm_text_count: ofText,
+    bitm_text_count_bytes: ofTextInBytes,
+    bitm_text_locate: ofText,
+    bitm_text_locate_bytes: ofTextInBytes,
+    bitm_text_extract: ofText,
+    bitm_text_extract_bytes: ofTextInBytes,
     bitm_index_block_build: () => ({ words: slot(0), words_len: N, bits_len: BITS, block: slot(53), block_len: blockOf("index", false) - (r() % 7 ? 0 : 1) }),
     bitm_index_block_open: ofBlockOf("index"),
     bitm_index_block_check: ofBlockOf("index"),
@@ -297,13 +329,13 @@ function both(call, parts) {
 }
 
 test("each adaptor does what its export does", () => {
-    assert.equal(exported.length, 131);
+    assert.equal(exported.length, 141);
     for (const call of exported) {
         let answered = 0;
         for (let round = 0; round < 60; round++) answered += both(call, prepare(round % 4 === 3));
         assert.ok(answered >= 5, `${call.name} answered ${answered} times of 60`);
     }
-    tally.atLeast(131 * 60);
+    tally.atLeast(141 * 60);
 });
 
 test("each adaptor refuses what is no whole number of its range", () => {
@@ -350,6 +382,8 @@ const LEFT_OUT = {
     bitm_shards_previous: "as bitm_prefix_sums",
     bitm_shards_rank_list: "as bitm_prefix_sums",
     bitm_shards_select_list: "as bitm_prefix_sums",
+    bitm_text_size: "no block of a text is made here",
+    bitm_text_len: "the struct of an open block has the length",
 };
 
 test("each export is reached, or listed with its reason", () => {

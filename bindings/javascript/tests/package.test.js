@@ -2,7 +2,7 @@
 import assert from "node:assert/strict";
 import { execFileSync, spawnSync } from "node:child_process";
 import { createHash } from "node:crypto";
-import { existsSync, mkdtempSync, readFileSync, readdirSync, rmSync, writeFileSync } from "node:fs";
+import { copyFileSync, existsSync, mkdtempSync, readFileSync, readdirSync, rmSync, writeFileSync } from "node:fs";
 import { tmpdir } from "node:os";
 import { join } from "node:path";
 import { fileURLToPath } from "node:url";
@@ -43,7 +43,7 @@ test("package.json names files that are there, and nothing is left out", () => {
 test("each value that is exported has a type, and each type a value", async () => {
     const types = [...read("types/bitm.d.ts").matchAll(/^export (?:declare )?(?:class|function|const) (\w+)/gm)].map(it => it[1]);
     assert.deepEqual([...new Set(types)].sort(), Object.keys(bitm).sort());
-    for (const name of ["BitVector", "Index", "EliasFano", "SparseBits", "PerfectHash", "Tree", "WaveletMatrix"]) {
+    for (const name of ["BitVector", "Index", "EliasFano", "SparseBits", "PerfectHash", "Tree", "WaveletMatrix", "TextIndex"]) {
         const body = new RegExp(`^export class ${name} [^]*?^}`, "m").exec(read("types/bitm.d.ts"))[0];
         const declared = new Set([...body.matchAll(/^    (?:static |readonly )?(\w+)[(:?]/gm)].map(it => it[1]));
         const own = [...Object.getOwnPropertyNames(bitm[name].prototype), ...Object.getOwnPropertyNames(bitm[name])];
@@ -83,12 +83,13 @@ test("the lines of README.md, against the packed package", { skip: !has("npm") &
         if (!value || /^(const|import) /.test(line) || /^(a|an)$/.test(value[1])) return line;
         return `if (shown(${call}) !== shown(${value[1].replace(/^NaN$/, "NaN")})) throw new Error(${JSON.stringify(line)} + ": " + shown(${call})); else count++;`;
     });
+    copyFileSync(join(root, "../tests/sea_shells.block"), join(folder, "sea_shells.block"));
     writeFileSync(join(folder, "readme.js"), `let count = 0; ${plain}\n${checked.join("\n")}\nconsole.log(count);`);
     const got = Number(withoutRepository(folder, ["readme.js"]));
     assert.ok(got >= 20, `${got} lines of README.md were compared`);
 });
 
-const USE = `import { BitVector, Index, EliasFano, SparseBits, PerfectHash, WaveletMatrix, open, NO_ANSWER, WrongTables } from "bitm";
+const USE = `import { BitVector, Index, EliasFano, SparseBits, PerfectHash, WaveletMatrix, TextIndex, open, NO_ANSWER, WrongTables } from "bitm";
 const index: Index = new Index(BitVector.fromPositions([1, 2n, 3], 10), { sampleLog2: 9 });
 const rank: number = index.rank(4), place: number | undefined = index.select(2n);
 const doubles: Float64Array = index.rankList(Uint32Array.of(1)), wide: BigUint64Array = index.selectList(BigUint64Array.of(1n));
@@ -101,7 +102,8 @@ const key: number | undefined = new PerfectHash(["a", 1, 1n]).get("a");
 const matrix = new WaveletMatrix([3, 1n], { width: 9 }), median: number | bigint | undefined = matrix.quantile(1, 0, 2n), often: number = matrix.rank(3);
 const before: Float64Array = matrix.rankList(Uint32Array.of(3), [1]), found: (number | undefined)[] = WaveletMatrix.open(matrix.toBytes()).selectList([3], [0]);
 const sparse = new SparseBits([3, 100n], 2n ** 40n), near: number | undefined = sparse.next0(3), bits: boolean[] = sparse.getList([3]);
-void [median, often, before, found, near, bits];
+const text: TextIndex = TextIndex.open(new Uint8Array(0)), places: number[] = text.locate("she", { from: 1, limit: 2n }), part: Uint8Array | (number | bigint)[] = text.slice(1, 2);
+void [median, often, before, found, near, bits, places, part, text.has([1n, 2])];
 void [rank, place, doubles, wide, list, all, least, flags, bytes, key, NO_ANSWER === 1n, WrongTables];
 `;
 const WRONG = ["index.rank('1')", "index.rank()", "const x: number = index.select(1)", "const x: number = numbers.at(0)", "new EliasFano('12')",

@@ -258,6 +258,48 @@ export class SparseBits {
     [Symbol.dispose](): void;
 }
 
+/** A string (as UTF-8), bytes, or letters. */
+export type Pattern = string | Uint8Array | Wholes;
+
+export interface LocateOptions {
+    /** How many of the first positions are left out. */
+    from?: Whole;
+    /** How many positions there are at most. */
+    limit?: Whole;
+}
+
+/** Where a pattern stands in a text, by the index of the text in one block, which `bitm text build` makes. */
+export class TextIndex {
+    /** Opened alone: by open(). */
+    constructor(block: never);
+    /** The index in the bytes of a block, which are copied once. */
+    static open(bytes: Bytes, options?: OpenOptions): TextIndex;
+
+    readonly length: number;
+    readonly width: number;
+    readonly byteLength: number;
+    /** At how many positions a pattern stands; occurrences may overlap. */
+    count(pattern: Pattern): number;
+    has(pattern: Pattern): boolean;
+    /** These positions, in the order of the rest of the text from there on. */
+    locate(pattern: Pattern, options?: LocateOptions): number[];
+    /** All of them, in the order of the text. */
+    findAll(pattern: Pattern): number[];
+    /** The letter at a position. RangeError past the end. */
+    get(position: Whole): number | bigint;
+    /** The letters from one position on and before another: bytes, or an array where a letter may have more bits. */
+    slice(from?: Whole, to?: Whole): Uint8Array | (number | bigint)[];
+    /** The same as a string, of bytes in UTF-8. */
+    text(from?: Whole, to?: Whole): string;
+
+    /** Whether the block is as it was written and holds the index of a text, by going over all of it and through the text. */
+    check(): boolean;
+    /** The bytes of the block. */
+    toBytes(): Uint8Array;
+    free(): void;
+    [Symbol.dispose](): void;
+}
+
 export type Key = string | number | bigint | Uint8Array;
 
 export interface PerfectHashOptions {
