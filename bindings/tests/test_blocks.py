@@ -9,6 +9,7 @@ repository."""
 import re
 
 import pytest
+from blocks import as_bytes, of_text
 from checks import TOP
 from common import ARCHIVE, PYTHON
 from shell import bash, needs
@@ -26,6 +27,8 @@ MAINS = {
 }
 MAINS["cpp"] = MAINS["c"]
 FLAGS = f"-Wall -Wextra -Werror -O1 -I{TOP}/include"
+# What `bitm text build` makes of these is there where a page names it.
+TEXTS = {"banana.block": b"banana", "sea_shells.block": b"she sells sea shells on the sea shore"}
 written = {}  # the bytes of each file that a program of a page wrote
 
 
@@ -71,6 +74,14 @@ def by_python(code, folder, site):
     return bash(f"{PYTHON} page.py", folder, **site)
 
 
+def by_node(code, folder):
+    needs("node")
+    (folder / "node_modules").mkdir()
+    (folder / "node_modules/bitm").symlink_to(TOP / "bindings/javascript")
+    (folder / "page.mjs").write_text(code)
+    return bash("node page.mjs", folder)
+
+
 def by_rt(code, folder, expected):
     needs("rt")
     wanted = " ".join(sorted({it for it in re.findall(r"^use (\w+)::", code, re.M) if (TOP / "crates" / it).is_dir()}))
@@ -85,6 +96,7 @@ RUN = {
     "cpp": lambda code, folder, *_: by_gcc("g++ -std=c++17 -x c++", code, folder),
     "rust": lambda code, folder, *_: by_cargo(code, folder),
     "python": lambda code, folder, _, request: by_python(code, folder, request.getfixturevalue("site")),
+    "javascript": lambda code, folder, *_: by_node(code, folder),
     "rattle": lambda code, folder, expected, _: by_rt(code, folder, expected),
 }
 PROGRAMS = [pytest.param(page, language, id=f"{page.relative_to(TOP)}, {language}")
@@ -100,6 +112,9 @@ def test_code(page, language, tmp_path, request):
         parts = [it for it in parts if not any(lines_of(it) in text for text in proved)]
         if not parts:
             return
+    for name, text in TEXTS.items():
+        if any(name in it for it in parts):
+            (tmp_path / name).write_bytes(as_bytes(of_text(text)))
     if language == "python" and any("import numpy" in it for it in parts):
         needs(f"{PYTHON}:numpy")
     needs({"c": "gcc", "cpp": "g++"}.get(language, "bash"))
