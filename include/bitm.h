@@ -1186,8 +1186,7 @@ BITM_MUST_USE uint32_t bitm_tree_open(const uint64_t *block, size_t block_len, s
 
 /* Whether a block is as it was written and holds a tree: BITM_OK, or BITM_WRONG as bitm_tree_open, if a checksum is not
  * that of its words, or if words and tables are not those of a tree. So a block in which one word was changed is
- * refused. Three passes over the block, and a search for the end of each node's bits (evident from the code), which
- * takes longer: docs/PERFORMANCE.md has the time.
+ * refused. Three passes over the words of the block (evident from the code).
  *
  *     block[40] ^= 1;
  *     if (bitm_tree_check(block, block_len) != BITM_WRONG) return 1;

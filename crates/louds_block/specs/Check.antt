@@ -1,9 +1,14 @@
--- What says that words hold a tree.
-use Rattle.std.specs.Prelude.{◌≡◌, ℕ, ◌*◌, ◌<◌}
+-- What says that words hold a tree: each zero before the last has more ones before it than zeros.
+use Rattle.std.specs.Prelude.{◌≡◌, ℕ, ◌+◌, ◌*◌, ◌%◌, ◌^◌, ◌<◌, Bool, false, List, count_ones}
+use Rattle.std.specs.Int.{bit_at}
+use Rattle.bitm.specs.Bits.{item}
+use Rattle.bitm.specs.Count.{ones_before}
 
--- of a tree of n nodes the 0 bit of rank v can stand at position p: the first one at 1, each before the last after at
--- least as many 1 bits as nodes are known then, and the last one at 2 n
-pub record IsZeroOfTree (n v p : ℕ) : Type 0 where
-  pub first : v ≡ 0 → p ≡ 1
-  pub known : v < n → 2 * v < p
-  pub last : v ≡ n → p ≡ 2 * n
+-- each zero before place m has more ones before it than zeros
+abbrev pub Leads : List Bool → ℕ → Type 0
+Leads b m = (p : ℕ) → p < m → item b p ≡ false → p < 2 * ones_before b p
+
+-- where so many more ones than zeros stand before the m lowest digits of v, each zero among these has more ones before
+-- it than zeros
+abbrev pub KeepsLead : ℕ → ℕ → ℕ → Type 0
+KeepsLead v m lead = (j : ℕ) → j < m → bit_at v j ≡ 0 → j < lead + 2 * count_ones (v % 2 ^ j)

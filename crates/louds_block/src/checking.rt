@@ -1,48 +1,114 @@
-//! Whether words hold a tree.
-ghost use Rattle.std.specs.Prelude.{◌≡◌, ◌+◌, ◌*◌, ◌^◌, ◌<◌, ◌↔◌, length, IsTrue};
+//! Whether words hold a tree: each 0 bit before the last has more 1 bits before it than 0 bits.
+ghost use Rattle.std.specs.Prelude.{◌≡◌, ◌+◌, ◌-◌, ◌*◌, ◌%◌, ◌^◌, ◌<◌, ◌≤◌, ◌↔◌, length, IsTrue};
+ghost use Rattle.std.specs.Prelude.{count_ones, MatchOption};
 ghost use Rattle.bitm.specs.Bits.{bits_of};
+ghost use Rattle.bitm.specs.Count.{ones_before};
 ghost use Rattle.louds.specs.Held.{degrees_of, words_of, IsHeld};
-ghost use Rattle.louds_block.specs.Check.{IsZeroOfTree};
+ghost use Rattle.louds_block.specs.Check.{KeepsLead, Leads};
 
-use bitm::words;
+/// For each byte the least lead with which each of its 0 bits has more 1 bits before it than 0 bits.
+#[rattlefmt::skip]
+const NEEDED: [u8; 256] = [
+    8, 6, 6, 4, 6, 4, 4, 2, 6, 4, 4, 2, 4, 2, 2, 0, 6, 4, 4, 2, 4, 2, 2, 0, 4, 2, 2, 0, 2, 0, 1, 0,
+    6, 4, 4, 2, 4, 2, 2, 0, 4, 2, 2, 0, 2, 0, 1, 0, 4, 2, 2, 0, 2, 0, 1, 0, 3, 1, 1, 0, 2, 0, 1, 0,
+    6, 4, 4, 2, 4, 2, 2, 0, 4, 2, 2, 0, 2, 0, 1, 0, 4, 2, 2, 0, 2, 0, 1, 0, 3, 1, 1, 0, 2, 0, 1, 0,
+    5, 3, 3, 1, 3, 1, 1, 0, 3, 1, 1, 0, 2, 0, 1, 0, 4, 2, 2, 0, 2, 0, 1, 0, 3, 1, 1, 0, 2, 0, 1, 0,
+    7, 5, 5, 3, 5, 3, 3, 1, 5, 3, 3, 1, 3, 1, 1, 0, 5, 3, 3, 1, 3, 1, 1, 0, 3, 1, 1, 0, 2, 0, 1, 0,
+    5, 3, 3, 1, 3, 1, 1, 0, 3, 1, 1, 0, 2, 0, 1, 0, 4, 2, 2, 0, 2, 0, 1, 0, 3, 1, 1, 0, 2, 0, 1, 0,
+    6, 4, 4, 2, 4, 2, 2, 0, 4, 2, 2, 0, 2, 0, 1, 0, 4, 2, 2, 0, 2, 0, 1, 0, 3, 1, 1, 0, 2, 0, 1, 0,
+    5, 3, 3, 1, 3, 1, 1, 0, 3, 1, 1, 0, 2, 0, 1, 0, 4, 2, 2, 0, 2, 0, 1, 0, 3, 1, 1, 0, 2, 0, 1, 0,
+];
 
-/// Whether the 0 bit before the 1 bits of a node, or after those of the last node, can stand at a position.
+/// `keeps_lead` of a lead below 64, byte by byte.
 #[inline(always)]
-fn is_zero_of_tree(nodes: usize, node: usize, place: usize) -> bool
-    requires few { nodes < 2 ^ 60 }
-    requires node { node < nodes + 1 }
-    ensures { IsTrue result ↔ IsZeroOfTree nodes node place }
+fn keeps_lead_by_bytes(word: u64, lead: usize) -> bool
+    requires { lead < 64 }
+    ensures { IsTrue result ↔ KeepsLead word 64 lead }
 {
-    if node == 0 && place != 1 {
-        return false;
+    let mut left = lead;
+    for k in 0..8usize {
+        let byte = ((word >> (8 * k)) % 256) as u8;
+        if NEEDED[byte as usize] as usize > left {
+            return false;
+        }
+        left = left + 2 * byte.count_ones() as usize - 8;
     }
-    if node == nodes {
-        return place == 2 * nodes;
-    }
-    place > 2 * node
+    true
 }
 
-/// Whether the words hold a tree of the given number of nodes: each 0 bit is sought after the one before it.
+/// Whether each 0 bit of a word has more 1 bits before it than 0 bits, where `lead` more 1 bits than 0 bits stand
+/// before the word. With a lead of 64 its bits need not be looked at.
+#[inline(always)]
+fn keeps_lead(word: u64, lead: usize) -> bool
+    ensures { IsTrue result ↔ KeepsLead word 64 lead }
+{
+    lead >= 64 || keeps_lead_by_bytes(word, lead)
+}
+
+/// The number of 1 bits among the lowest `len` bits of a word; `None` exactly where a 0 bit among them has no more 1
+/// bits before it than 0 bits.
+fn ones_of_part(word: u64, len: usize, lead: usize) -> Option<usize>
+    requires len { len < 64 }
+    requires lead { lead < 2 ^ 62 }
+    ensures { MatchOption result (¬ (KeepsLead word len lead))
+        (λ ones. KeepsLead word len lead × (ones ≡ count_ones (word % 2 ^ len))) }
+{
+    let mut ones = 0;
+    for j in 0..len {
+        if (word >> j) % 2 == 1 {
+            ones += 1;
+        } else if j >= lead + 2 * ones {
+            return None;
+        }
+    }
+    Some(ones)
+}
+
+/// The number of 1 bits in the first `len` words; `None` exactly where a 0 bit in these has no more 1 bits before it
+/// than 0 bits.
+fn ones_of_words(words: &[u64], len: usize) -> Option<usize>
+    requires short { length words.now < 2 ^ 57 }
+    requires within { len ≤ length words.now }
+    ensures { let b = bits_of words.now in
+        MatchOption result (¬ (Leads b (64 * len)))
+        (λ ones. Leads b (64 * len) × (ones ≡ ones_before b (64 * len))) }
+{
+    let mut ones = 0;
+    for i in 0..len {
+        let word = words[i];
+        if !keeps_lead(word, 2 * ones - 64 * i) {
+            return None;
+        }
+        ones += word.count_ones() as usize;
+    }
+    Some(ones)
+}
+
+/// Whether the words hold a tree of the given number of nodes.
 ///
 /// # Conditions
 /// There are as many words as the tree takes.
 /// # Cost
-/// One pass over the words, and one word more for each node.
+/// One pass over the words. A word is looked at byte by byte where fewer than 64 more 1 bits than 0 bits stand before
+/// it.
 pub(crate) fn holds_tree(words: &[u64], nodes: usize) -> bool
     requires few { nodes < 2 ^ 60 }
     requires tight { length words.now ≡ words_of nodes }
     ensures { IsTrue result
         ↔ IsHeld (degrees_of (bits_of words.now) nodes) nodes (bits_of words.now) }
 {
-    let mut from = 0;
-    for node in 0..nodes + 1 {
-        let Some(place) = words::find_bit_zero(words, from) else {
-            return false;
-        };
-        if !is_zero_of_tree(nodes, node, place) {
-            return false;
-        }
-        from = place + 1;
+    if nodes == 0 || words[0] / 2 % 2 != 0 {
+        return false;
     }
-    true
+    let last = words.len() - 1;
+    let Some(ones) = ones_of_words(words, last) else {
+        return false;
+    };
+    // the last 0 bit stands at 2 * nodes
+    let word = words[last];
+    let rest = 2 * nodes % 64;
+    let Some(more) = ones_of_part(word, rest, 2 * ones - 64 * last) else {
+        return false;
+    };
+    ones + more == nodes && (word >> rest) % 2 == 0
 }

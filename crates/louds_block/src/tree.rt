@@ -89,7 +89,7 @@ impl<'a> LoudsView<'a> {
     /// which one word was changed is refused, and every answer is that of the tree.
     ///
     /// # Cost
-    /// Three passes over the words, and one word more for each node (evident from the code).
+    /// Three passes over the words (evident from the code).
     ///
     /// ```
     /// LoudsView::open_checked(block.as_slice());   // Some(..) of a block that `build` wrote
@@ -205,7 +205,7 @@ impl<'a> LoudsView<'a> {
     /// Whether the block holds a tree: then the answers are those of the tree.
     ///
     /// # Cost
-    /// Two passes over the words, and one word more for each node (evident from the code).
+    /// Two passes over the words (evident from the code).
     ///
     /// ```
     /// tree.check();   // true
