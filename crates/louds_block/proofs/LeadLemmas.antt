@@ -1,7 +1,8 @@
 -- Zeros that have more ones before them than zeros: among the digits of a number, and what a byte needs.
-use Rattle.std.proofs.Common.{◌≡◌, ℕ, zero, suc, ◌+◌, ◌-◌, ◌*◌, ◌/◌, ◌%◌, ◌^◌, ◌<◌, ◌≤◌, count_ones, max, sym, ap, ◌∙◌, ⊎_elim, subst, arith, add_comm}
+use Rattle.std.proofs.Common.{◌≡◌, ℕ, zero, suc, ◌+◌, ◌-◌, ◌*◌, ◌/◌, ◌%◌, ◌^◌, ◌<◌, ◌≤◌, count_ones, max, sym, ap, ◌∙◌, ⊎_elim, subst, arith, add_comm, mod-eq_of_lt}
 use Rattle.std.proofs.lemmas.Bool.{cases_lt}
 use Rattle.std.proofs.lemmas.Nat.{field_of, mod-pow-add, ones_cat, ones_le_self, pow_pos, shr-shr}
+use Rattle.std.proofs.lemmas.Nat.Bits.{bit_at-lt}
 use Rattle.std.proofs.Math.Pow.{mod-mod-pow}
 use Rattle.std.specs.Int.{bit_at}
 use Rattle.bit_lists.proofs.lemmas.CountLemmas.{count_ones_more}
@@ -52,6 +53,50 @@ lead_is_left v (suc m) lead keeps =
 -- with a lead of that many digits no zero among them is without more ones
 pub keeps_where_far : (v m lead : ℕ) → m ≤ lead → KeepsLead v m lead
 keeps_where_far v m lead far = λ j inside zero_here. omega (arith, far, inside)
+
+-- the digit before digit m; 0 where there is none
+abbrev last_digit : ℕ → ℕ → ℕ
+last_digit v zero = 0
+last_digit v (suc m) = bit_at v m
+
+-- where y has a one at each zero of v that is not right after a one, there are no fewer ones than zeros up to a place,
+-- but for the ones of y; one more where a one is the last digit
+module _ (v y : ℕ) (first : bit_at v 0 ≡ 0 → bit_at y 0 ≡ 1) (next : (k : ℕ) → k + 1 < 64 → bit_at v (k + 1) ≡ 0 → bit_at v k ≡ 0 → bit_at y (k + 1) ≡ 1) where
+  alone : (m : ℕ) → m < 64 → bit_at v m ≡ 0 → last_digit v m ≡ 0 → bit_at y m ≡ 1
+  alone zero inside here before = first here
+  alone (suc k) inside here before =
+      let step : k + 1 ≡ suc k = omega arith in
+      ap (bit_at y) (sym step) ∙ next k (omega (arith, inside)) (ap (bit_at v) step ∙ here) before
+
+  paired : (m : ℕ) → m ≤ 64 → m + last_digit v m ≤ 2 * count_ones (v % 2 ^ m) + count_ones (y % 2 ^ m)
+  paired zero within = omega arith
+  paired (suc m) within =
+      let step : suc m ≡ m + 1 = omega arith in
+      let ones = ap (λ e. count_ones (v % 2 ^ e)) step ∙ count_ones_more v m in
+      let lone = ap (λ e. count_ones (y % 2 ^ e)) step ∙ count_ones_more y m in
+      let before = paired m (omega (arith, within)) in
+      let small = bit_at-lt v m in
+      ⊎_elim
+      (λ none.
+      ⊎_elim
+      (λ no_one. omega (arith, before, ones, lone, small, none, alone m (omega (arith, within)) (omega (arith, none)) (omega (arith, no_one))))
+      (λ one. omega (arith, before, ones, lone, small, none, one))
+      (cases_lt (last_digit v m) 1))
+      (λ one. omega (arith, before, ones, lone, small, one))
+      (cases_lt (bit_at v m) 1)
+
+  pub keeps_where_paired : (lead : ℕ) → y < 2 ^ 64 → count_ones y ≤ lead → KeepsLead v 64 lead
+  keeps_where_paired lead fits enough = λ j inside zero_here.
+      let before = paired j (omega (arith, inside)) in
+      let more = count_ones_more y j in
+      let rest : j + 1 + (63 - j) ≡ 64 = omega (arith, inside) in
+      let all = ones_above y (j + 1) (63 - j) in
+      let whole : y % 2 ^ 64 ≡ y = mod-eq_of_lt fits in
+      let few = ap (λ e. count_ones (y % 2 ^ e)) rest ∙ ap count_ones whole in
+      ⊎_elim
+      (λ no_one. omega (arith, before, more, all, few, enough, alone j inside zero_here (omega (arith, no_one))))
+      (λ one. omega (arith, before, more, all, few, enough, one))
+      (cases_lt (last_digit v j) 1)
 
 -- ---- digits above others
 

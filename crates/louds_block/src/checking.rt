@@ -1,6 +1,6 @@
 //! Whether words hold a tree: each 0 bit before the last has more 1 bits before it than 0 bits.
 ghost use Rattle.std.specs.Prelude.{◌≡◌, ◌+◌, ◌-◌, ◌*◌, ◌%◌, ◌^◌, ◌<◌, ◌≤◌, ◌↔◌, length, IsTrue};
-ghost use Rattle.std.specs.Prelude.{count_ones, MatchOption};
+ghost use Rattle.std.specs.Prelude.{count_ones, ℕ, MatchOption};
 ghost use Rattle.bitm.specs.Bits.{bits_of};
 ghost use Rattle.bitm.specs.Count.{ones_before};
 ghost use Rattle.louds.specs.Held.{degrees_of, words_of, IsHeld};
@@ -36,13 +36,22 @@ fn keeps_lead_by_bytes(word: u64, lead: usize) -> bool
     true
 }
 
+/// The number of 0 bits right before which no 1 bit of the word stands. Each other 0 bit has a 1 bit of its own before
+/// it, so where so many more 1 bits than 0 bits stand before the word, no bit needs to be looked at.
+#[inline(always)]
+fn lone_zeros(word: u64) -> usize
+    ensures { (lead : ℕ) → result ≤ lead → KeepsLead word 64 lead }
+{
+    (!(word | (word << 1))).count_ones() as usize
+}
+
 /// Whether each 0 bit of a word has more 1 bits before it than 0 bits, where `lead` more 1 bits than 0 bits stand
-/// before the word. With a lead of 64 its bits need not be looked at.
+/// before the word.
 #[inline(always)]
 fn keeps_lead(word: u64, lead: usize) -> bool
     ensures { IsTrue result ↔ KeepsLead word 64 lead }
 {
-    lead >= 64 || keeps_lead_by_bytes(word, lead)
+    lead >= 64 || lead >= lone_zeros(word) || keeps_lead_by_bytes(word, lead)
 }
 
 /// The number of 1 bits among the lowest `len` bits of a word; `None` exactly where a 0 bit among them has no more 1
@@ -89,8 +98,8 @@ fn ones_of_words(words: &[u64], len: usize) -> Option<usize>
 /// # Conditions
 /// There are as many words as the tree takes.
 /// # Cost
-/// One pass over the words. A word is looked at byte by byte where fewer than 64 more 1 bits than 0 bits stand before
-/// it.
+/// One pass over the words. A word is looked at byte by byte only where fewer than 64 more 1 bits than 0 bits stand
+/// before it, and fewer than its `lone_zeros`.
 pub(crate) fn holds_tree(words: &[u64], nodes: usize) -> bool
     requires few { nodes < 2 ^ 60 }
     requires tight { length words.now ≡ words_of nodes }
