@@ -1467,7 +1467,7 @@ BITM_MUST_USE uint32_t bitm_sequence_block_open(const uint64_t *block, size_t bl
                                                 struct bitm_sequence *sequence);
 
 /* Whether a block is as it was written and holds a sequence: BITM_OK, or BITM_WRONG as bitm_sequence_block_open, if a
- * checksum is not that of its words, or if the parts are not those of a sequence. Four passes over the words of the
+ * checksum is not that of its words, or if the parts are not those of a sequence. Three passes over the words of the
  * block (evident from the code). */
 BITM_MUST_USE uint32_t bitm_sequence_block_check(const uint64_t *block, size_t block_len);
 

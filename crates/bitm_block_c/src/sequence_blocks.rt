@@ -88,7 +88,7 @@ pub extern "C" fn bitm_sequence_block_open<'a>(block: &'a [u64], sequence: &mut 
     }
 }
 
-/// Whether a block is as it was written, and holds a sequence: four passes over its words.
+/// Whether a block is as it was written, and holds a sequence: three passes over its words.
 #[unsafe(no_mangle)]
 pub extern "C" fn bitm_sequence_block_check(block: &[u64]) -> u32
     ensures ok { (result ≡ 0) ↔ IsSoundBlock block.now }

@@ -9,9 +9,10 @@ ghost use Rattle.elias_fano.specs.Parts.{ArePartsOf, HasFragment};
 ghost use Rattle.elias_fano_view.specs.Checks.{AreNumbers};
 
 use crate::sizes::Sizes;
-use bitm::words;
+use bitm::{BitOnesIterator, words};
 use elias_fano::LowDigits;
 use elias_fano::building::join_digits;
+use std::iter::Iterator;
 
 /// Number `at`, whose 1 bit is at position `place`, if it is below 2^64.
 #[inline(always)]
@@ -22,9 +23,8 @@ fn number_of(place: usize, low: &mut LowDigits<'_>, at: usize) -> Option<u64>
         SomeIff result (number < 2 ^ 64) number }
     ensures fragments { ReadsFragments low.old low.new 1 }
 {
-    let width = low.width();
     let above = place - at;
-    if width > 0 && (above as u64) >> (64 - width) != 0 {
+    if above as u64 > u64::MAX >> low.width() {
         return None;
     }
     Some(join_digits(above, low, at))
@@ -42,10 +42,10 @@ fn last_of(words: &[u64], low: &mut LowDigits<'_>, n: usize) -> Option<u64>
         × (ones_of (bits_of words.now) ≡ n)) }
     ensures fragments { ReadsFragments low.old low.new n }
 {
-    let mut from = 0;
+    let mut ones = BitOnesIterator::new(words);
     let mut last = 0;
     for at in 0..n {
-        let place = match words::find_bit_one(words, from) {
+        let place = match ones.next() {
             Some(place) => place,
             None => return None,
         };
@@ -56,16 +56,16 @@ fn last_of(words: &[u64], low: &mut LowDigits<'_>, n: usize) -> Option<u64>
         if number < last {
             return None;
         }
-        from = place + 1;
         last = number;
     }
-    match words::find_bit_one(words, from) {
+    match ones.next() {
         Some(_) => None,
         None => Some(last),
     }
 }
 
-/// Whether these are the parts of some sequence. One pass over the words of the high bits.
+/// Whether these are the parts of some sequence. One pass over the words of the high bits, and one over those of the
+/// low bits.
 pub(crate) fn are_parts(words: &[u64], low: &[u64], width: u8, n: usize) -> bool
     requires short { IsShort words.now }
     requires some { HasFragments (unread low.now width) n }

@@ -60,7 +60,7 @@ pub fn open_as(kind: u64, block: &[u64]) -> Option<LentSequence<'_>>
 /// is that of the sequence.
 ///
 /// # Cost
-/// Four passes over the words of the block (evident from the code).
+/// Three passes over the words of the block (evident from the code).
 ///
 /// ```
 /// check(block.as_slice());   // true of a block that `build` wrote
