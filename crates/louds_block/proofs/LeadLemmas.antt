@@ -1,7 +1,7 @@
 -- Zeros that have more ones before them than zeros: among the digits of a number, and what a byte needs.
 use Rattle.std.proofs.Common.{◌≡◌, ℕ, zero, suc, ◌+◌, ◌-◌, ◌*◌, ◌/◌, ◌%◌, ◌^◌, ◌<◌, ◌≤◌, count_ones, max, sym, ap, ◌∙◌, ⊎_elim, subst, arith, add_comm, mod-eq_of_lt}
 use Rattle.std.proofs.lemmas.Bool.{cases_lt}
-use Rattle.std.proofs.lemmas.Nat.{field_of, mod-pow-add, ones_cat, ones_le_self, pow_pos, shr-shr}
+use Rattle.std.proofs.lemmas.Nat.{field_of, mod-pow-add, ones_cat, pow_pos, shr-shr}
 use Rattle.std.proofs.lemmas.Nat.Bits.{bit_at-lt}
 use Rattle.std.proofs.Math.Pow.{mod-mod-pow}
 use Rattle.std.specs.Int.{bit_at}
@@ -17,9 +17,6 @@ ones_above v k j =
     ∙ ap count_ones (mod-pow-add v j k)
     ∙ ones_cat k (v / 2 ^ k % 2 ^ j) (v % 2 ^ k) (omega (arith, pow_pos k))
     ∙ add_comm (count_ones (v / 2 ^ k % 2 ^ j)) (count_ones (v % 2 ^ k))
-
-pub ones_of_none : (v : ℕ) → count_ones (v % 2 ^ 0) ≡ 0
-ones_of_none v = let none : v % 1 ≡ 0 = omega arith in omega (arith, ap count_ones none, ones_le_self 0)
 
 -- ---- more and more digits
 
@@ -49,10 +46,6 @@ lead_is_left v (suc m) lead keeps =
     (λ none. let here = keeps m (omega arith) (omega (arith, none)) in omega (arith, more, here))
     (λ one. omega (arith, more, before, one))
     (cases_lt (bit_at v m) 1)
-
--- with a lead of that many digits no zero among them is without more ones
-pub keeps_where_far : (v m lead : ℕ) → m ≤ lead → KeepsLead v m lead
-keeps_where_far v m lead far = λ j inside zero_here. omega (arith, far, inside)
 
 -- the digit before digit m; 0 where there is none
 abbrev last_digit : ℕ → ℕ → ℕ

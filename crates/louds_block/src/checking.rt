@@ -37,7 +37,7 @@ fn keeps_lead_by_bytes(word: u64, lead: usize) -> bool
 }
 
 /// The number of 0 bits right before which no 1 bit of the word stands. Each other 0 bit has a 1 bit of its own before
-/// it, so where so many more 1 bits than 0 bits stand before the word, no bit needs to be looked at.
+/// it, so with that lead, or a greater one, no bit needs to be looked at.
 #[inline(always)]
 fn lone_zeros(word: u64) -> usize
     ensures { (lead : ℕ) → result ≤ lead → KeepsLead word 64 lead }
