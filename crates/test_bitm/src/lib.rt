@@ -1,6 +1,5 @@
-//! Tests of the index, its strategies, sources and sequences, and of the program `bitm_vectors`, a file a topic; the
-//! name of a test is the sentence that it shows. A source of a user's own (`computed`) is proved to have its words'
-//! tables.
+//! Tests of the index, its strategies and its sources, a file a topic; the name of a test is the sentence that it
+//! shows. A source of a user's own (`computed`) is proved to have its words' tables.
 //!
 //! Clauses that are proved fix nearly every answer here. They are tested all the same, for what no proof of ours
 //! says:
@@ -32,11 +31,7 @@ mod many;
 #[cfg(test)]
 mod readme;
 #[cfg(test)]
-mod runs;
-#[cfg(test)]
 mod samples;
-#[cfg(test)]
-mod sequences;
 #[cfg(test)]
 mod simple;
 #[cfg(test)]

@@ -1,7 +1,6 @@
 //! Which types keep bytes on the heap, which no clause can say of a constant, and how many, added up by hand.
 use crate::walk::{Sampled, owned_by};
 use bitm::{ArrayWithRank101111, ArrayWithRankSimple, BinaryRankSearch, GetSize, RankSelect101111};
-use elias_fano::EliasFano;
 use std::test::Fail;
 
 #[test]
@@ -10,10 +9,9 @@ fn all_but_binary_search_may_use_the_heap(rt: HostRuntime) {
         ArrayWithRank101111::USES_DYN_MEM,
         ArrayWithRankSimple::USES_DYN_MEM,
         Sampled::USES_DYN_MEM,
-        EliasFano::USES_DYN_MEM,
         BinaryRankSearch::USES_DYN_MEM,
     ];
-    assert!(rt; may == [true, true, true, true, false]);
+    assert!(rt; may == [true, true, true, false]);
 }
 
 #[test]

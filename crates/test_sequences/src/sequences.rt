@@ -2,7 +2,7 @@
 //! low bit (0, 1, 1, 1, 1, 1, 0), and its 1 bit in the upper vector stands at its half, rounded down, plus its index:
 //! 1, 1 + 1, 2 + 2, 3 + 3, 5 + 4, 6 + 5 and 12 + 6. The upper vectors of the five rows have 20, 1, 9, 3 and 3 bits, so
 //! one word each.
-use bitm::BitAccess;
+use bitm::{BitAccess, GetSize};
 use elias_fano::{EfError, EliasFano};
 use std::alloc::{AllocError, Global};
 use std::process::Abort;
@@ -252,4 +252,9 @@ fn errors_print_why(rt: HostRuntime) -> Result<(), Fail> {
     let falling = EliasFano::build(rt.alloc(), [3u64, 2].as_slice());
     assert!(rt; falling.err() == Some(EfError::NotSorted));
     Ok(())
+}
+
+#[test]
+fn a_sequence_may_use_the_heap(rt: HostRuntime) {
+    assert!(rt; EliasFano::USES_DYN_MEM);
 }

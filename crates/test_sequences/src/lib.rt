@@ -1,0 +1,12 @@
+//! Tests of sequences, and of runs of the program `bitm_vectors`: neither stands on a test of the index. The head of
+//! `test_bitm` says why what clauses fix is tested all the same.
+//!
+//! They stand in a crate of their own, since a crate with tests is proved twice.
+#![tactic(auto)]
+
+#[cfg(test)]
+mod failures;
+#[cfg(test)]
+mod runs;
+#[cfg(test)]
+mod sequences;
