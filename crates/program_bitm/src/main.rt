@@ -2,7 +2,7 @@
 //! (`docs/PROGRAM.md`).
 #![tactic(auto)]
 
-use program_blocks::CANNOT_READ;
+use program_runs::CANNOT_READ;
 use std::env::Env;
 use std::io::{BufWriter, Write};
 use std::process::ExitCode;

@@ -14,9 +14,9 @@ command_of word operand =
     else if bytes_eq word (codes "info") then Some Info
     else None
 
--- the command that these arguments are: there are two of them
-abbrev pub command_in : List (List ℕ) → Option Command
+-- the command that these arguments are, and what follows its word: there are two of them
+abbrev pub command_in : List (List ℕ) → Option (Command × List ℕ)
 command_in [] = None
 command_in (word ∷ []) = None
-command_in (word ∷ operand ∷ []) = command_of word operand
+command_in (word ∷ operand ∷ []) = option_map (λ command. (command, operand)) (command_of word operand)
 command_in (word ∷ operand ∷ other ∷ more) = None

@@ -2,6 +2,7 @@
 use Rattle.std.specs.Prelude.{◌≡◌, ◌⊎◌, ℕ, ◌+◌, List, ◌++◌, codes}
 use Rattle.std.specs.Fmt.{decimal}
 use Rattle.louds.specs.Tree.{IsTree}
+use Rattle.program_runs.specs.Failure.{cannot_write_text, no_memory_text}
 use Rattle.program_text.specs.List.{list_error_text}
 use Rattle.program_text.specs.declared.list.ListError.{ListError}
 use Rattle.program_text.specs.declared.list.ListError.TheVariants as list
@@ -17,8 +18,8 @@ failure_text (OutOfOrder line) = codes "line " ++ decimal (line + 1) ++ codes ":
 failure_text NotATree = codes "the degrees are those of no tree"
 failure_text TooLarge = codes "the numbers are too many for a block"
 failure_text WrongBlock = codes "not a block, or not as it was written"
-failure_text NoMemory = codes "memory was refused"
-failure_text CannotWrite = codes "cannot write"
+failure_text NoMemory = no_memory_text
+failure_text CannotWrite = cannot_write_text
 
 -- what the failure of a list is here
 abbrev pub failure_of : ListError → Failure

@@ -6,7 +6,7 @@ ghost use Rattle.program_blocks.specs.Sound.{IsSoundFile, IsSoundOf};
 
 use crate::bits::open_bits;
 use crate::bytes::words_of_bytes;
-use crate::failure::{CannotWrite, Failure};
+use crate::failure::Failure;
 use crate::kind::{Kind, kind_in};
 use crate::matrix::open_matrix;
 use crate::opened::is_sound;
@@ -16,6 +16,7 @@ use crate::reply::Reply;
 use crate::sequence::open_sequence;
 use crate::sparse::open_sparse;
 use crate::tree::open_tree;
+use program_runs::CannotWrite;
 use program_text::Lines;
 use std::alloc::{AllocError, Global};
 use std::io::Write;

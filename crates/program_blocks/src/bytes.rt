@@ -3,7 +3,7 @@ ghost use Rattle.std.specs.Prelude.{◌≡◌, IfOk, OnOk, option_map};
 ghost use Rattle.std.specs.Io.KnownBytes.{Appends};
 ghost use Rattle.program_blocks.specs.Bytes.{bytes_of, words_of_bytes};
 
-use crate::failure::CannotWrite;
+use program_runs::CannotWrite;
 use std::alloc::{AllocError, Global};
 use std::io::Write;
 

@@ -19,7 +19,7 @@ pub(crate) enum Command {
 
 /// The command that the arguments are, with what follows its word; `None` where they are no command.
 pub(crate) fn command_in(args: &[String]) -> Option<(Command, &str)>
-    ensures command { option_map (λ found. found.0) result ≡ command_in (map string_bytes args.now) }
+    ensures command { option_map (λ found. (found.0, found.1.now)) result ≡ command_in (map string_bytes args.now) }
     ensures two { length args.now ≢ 2 → IsNone result }
 {
     if args.len() != 2 {

@@ -4,9 +4,10 @@ ghost use Rattle.std.specs.Io.KnownBytes.{Appends};
 ghost use Rattle.program_blocks.specs.Info.{info_text, kind_line, rate_line, size_lines, IsDescribed, WroteInfo};
 
 use crate::bytes::words_of_bytes;
-use crate::failure::{CannotWrite, Failure};
+use crate::failure::Failure;
 use crate::kind::{Kind, kind_in};
 use crate::opened::is_sound;
+use program_runs::CannotWrite;
 use std::alloc::Global;
 use std::fmt;
 use std::io::Write;

@@ -1,9 +1,10 @@
 //! Why there is no answer.
 
+use program_runs::{CANNOT_WRITE, CannotWrite, NO_MEMORY, Stop};
 use program_text::ListError;
 use std::alloc::AllocError;
 use std::error::Error;
-use std::{fmt, io};
+use std::fmt;
 
 /// Why there is no answer.
 #[derive(Clone, Copy, Debug, PartialEq, Eq)]
@@ -22,16 +23,6 @@ pub enum Failure {
     NoMemory,
     /// A write failed.
     CannotWrite,
-}
-
-/// A write failed.
-#[derive(Clone, Copy)]
-pub struct CannotWrite;
-
-impl From<io::Error> for CannotWrite {
-    fn from(_error: io::Error) -> CannotWrite {
-        CannotWrite
-    }
 }
 
 impl From<CannotWrite> for Failure {
@@ -83,10 +74,16 @@ impl fmt::Display for Failure {
             Failure::NotATree => write!(f, "the degrees are those of no tree"),
             Failure::TooLarge => write!(f, "the numbers are too many for a block"),
             Failure::WrongBlock => write!(f, "not a block, or not as it was written"),
-            Failure::NoMemory => write!(f, "memory was refused"),
-            Failure::CannotWrite => write!(f, "cannot write"),
+            Failure::NoMemory => write!(f, "{NO_MEMORY}"),
+            Failure::CannotWrite => write!(f, "{CANNOT_WRITE}"),
         }
     }
 }
 
 impl Error for Failure {}
+
+impl From<Failure> for Stop<Failure> {
+    fn from(failure: Failure) -> Stop<Failure> {
+        Stop::Failed(failure)
+    }
+}

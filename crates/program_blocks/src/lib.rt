@@ -16,7 +16,6 @@
 // - `program`: the program without its process
 // - `queryable`: what answers questions
 // - `question`: the question of a line
-// - `reading`: the bytes of files and of the standard input
 // - `reply`: the answer to a line
 // - `sequence`: blocks of a monotone sequence
 // - `sparse`: blocks of bits of which few are 1
@@ -35,7 +34,6 @@ mod opened;
 mod program;
 mod queryable;
 mod question;
-mod reading;
 mod reply;
 mod sequence;
 mod sparse;
@@ -45,7 +43,6 @@ pub use answering::{check, query};
 pub use building::build;
 pub use bytes::{words_of_bytes, write_words};
 pub use describing::info;
-pub use failure::{CannotWrite, Failure};
+pub use failure::Failure;
 pub use kind::Kind;
 pub use program::start;
-pub use reading::{CANNOT_READ, CannotRead, file, input};

@@ -1,5 +1,5 @@
 //! The program without its process: its arguments, the files and the input that it reads, and the statuses and texts.
-ghost use Rattle.std.specs.Prelude.{◌≡◌, ◌≢◌, ◌≤◌, IfOk, None, length, map, nat_eq, string_bytes};
+ghost use Rattle.std.specs.Prelude.{◌≡◌, ◌≢◌, ◌≤◌, IfOk, IsErr, None, length, map, nat_eq, string_bytes};
 ghost use Rattle.program_blocks.specs.Command as command;
 ghost use Rattle.program_blocks.specs.Program.{Did, DidAsAsked, WroteCheck};
 
@@ -9,48 +9,25 @@ use crate::command::{Command, command_in};
 use crate::describing::info;
 use crate::failure::Failure;
 use crate::kind::Kind;
-use crate::reading::{CANNOT_READ, CannotRead, file, input};
+use program_runs::{Sources, Stop, end};
 use std::alloc::Global;
-use std::io::{Input, Write};
-use std::rt::Files;
+use std::io::Write;
 
 /// What is written where the arguments are not those of a command.
 const USAGE: &str = "usage: bitm build KIND | bitm query BLOCK | bitm check BLOCK | bitm info BLOCK
 KIND is bits, sequence, sparse, matrix or tree; bitm text says what it does with a text";
 
-/// Why the program ends with status 2.
-#[derive(Clone, Copy)]
-enum Stop {
-    /// The arguments are not those of a command.
-    Usage,
-    /// The file or the standard input can't be read whole.
-    CannotRead,
-    /// There is no answer.
-    Failed(Failure),
-}
-
-impl From<Failure> for Stop {
-    fn from(failure: Failure) -> Stop {
-        Stop::Failed(failure)
-    }
-}
-
-impl From<CannotRead> for Stop {
-    fn from(_error: CannotRead) -> Stop {
-        Stop::CannotRead
-    }
-}
-
 /// Does what the two arguments say, and answers the status that the program ends with.
 ///
 /// `args` are the arguments without the program's name: `build KIND` reads numbers, and `query BLOCK` questions, from
 /// the standard input; `check BLOCK` and `info BLOCK` read the file alone. The status is 0 where all went well, and 1
-/// where a line is no question or a block is wrong; then the command was done, and nothing was written to `err`.
+/// where a line is no question or a block is wrong; then the command was done on the file that is named, and nothing
+/// was written to `err`.
 ///
 /// # Errors
 /// The status is 2, and a text goes to `err`, where the arguments are no command, where something can't be read, where
 /// there is no answer (`Failure`), and where a flush of `out` failed. A failed write to `err` changes nothing.
-pub fn start<R: Files + Input + AllocGlobal, W: Write, E: Write>(
+pub fn start<R: Sources + AllocGlobal, W: Write, E: Write>(
     rt: &R,
     args: &[String],
     out: &mut W,
@@ -61,47 +38,41 @@ pub fn start<R: Files + Input + AllocGlobal, W: Write, E: Write>(
         → (result ≡ 2) × (W.contents out.new ≡ W.contents out.old) }
     ensures unknown { command.command_in (map string_bytes args.now) ≡ None
         → (result ≡ 2) × (W.contents out.new ≡ W.contents out.old) }
-    ensures did { result ≤ 1 → DidAsAsked (map string_bytes args.now)
+    ensures did { result ≤ 1 → DidAsAsked (R.known rt.now) (map string_bytes args.now)
         (W.contents out.old) (W.contents out.new) (nat_eq result 0) }
     ensures quiet { result ≤ 1 → E.contents err.new ≡ E.contents err.old }
 {
-    let Some((command, operand)) = command_in(args) else {
-        return fail(err, Stop::Usage);
-    };
-    match run(rt, command, operand, out) {
-        Ok(true) => 0,
-        Ok(false) => 1,
-        Err(stop) => fail(err, stop),
-    }
+    end(run(rt, args, out), out, err)
 }
 
-/// Does a command on its operand, flushes that, and answers whether all went well.
-fn run<R: Files + Input + AllocGlobal, W: Write>(
+/// Does what the arguments say, and answers whether all went well.
+fn run<R: Sources + AllocGlobal, W: Write>(
     rt: &R,
-    command: Command,
-    operand: &str,
+    args: &[String],
     out: &mut W,
-) -> Result<bool, Stop>
-    ensures { IfOk result (Did command (W.contents out.old) (W.contents out.new)) }
+) -> Result<bool, Stop<Failure>>
+    ensures usage { length args.now ≢ 2 → IsErr result × (out.new ≡ out.old) }
+    ensures unknown { command.command_in (map string_bytes args.now) ≡ None → IsErr result × (out.new ≡ out.old) }
+    ensures did { IfOk result (DidAsAsked (R.known rt.now) (map string_bytes args.now)
+        (W.contents out.old) (W.contents out.new)) }
 {
-    let good = perform(rt, command, operand, out)?;
-    match out.flush() {
-        Ok(()) => Ok(good),
-        Err(_) => Err(Stop::Failed(Failure::CannotWrite)),
+    match command_in(args) {
+        Some((command, operand)) => perform(rt, command, operand, out),
+        None => Err(Stop::Usage(USAGE)),
     }
 }
 
 /// Does a command on its operand, and answers whether all went well.
-fn perform<R: Files + Input + AllocGlobal, W: Write>(
+fn perform<R: Sources + AllocGlobal, W: Write>(
     rt: &R,
     command: Command,
     operand: &str,
     out: &mut W,
-) -> Result<bool, Stop>
-    ensures { IfOk result (Did command (W.contents out.old) (W.contents out.new)) }
+) -> Result<bool, Stop<Failure>>
+    ensures { IfOk result (Did (R.known rt.now) command operand.now (W.contents out.old) (W.contents out.new)) }
 {
     match command {
-        Command::Build(kind) => build_input(rt, kind, out),
+        Command::Build(kind) => build_input(rt, kind, operand, out),
         Command::Query => query_file(rt, operand, out),
         Command::Check => check_file(rt, operand, out),
         Command::Info => info_file(rt, operand, out),
@@ -109,50 +80,52 @@ fn perform<R: Files + Input + AllocGlobal, W: Write>(
 }
 
 /// Writes the block of a kind of the numbers in the standard input.
-fn build_input<R: Input + AllocGlobal, W: Write>(
+fn build_input<R: Sources + AllocGlobal, W: Write>(
     rt: &R,
     kind: Kind,
+    _operand: &str,
     out: &mut W,
-) -> Result<bool, Stop>
-    ensures { IfOk result (Did (Command.Build kind) (W.contents out.old) (W.contents out.new)) }
+) -> Result<bool, Stop<Failure>>
+    ensures { IfOk result (Did (R.known rt.now) (Command.Build kind) _operand.now
+        (W.contents out.old) (W.contents out.new)) }
 {
-    build(rt.alloc(), kind, input(rt)?.as_slice(), out)?;
+    build(rt.alloc(), kind, rt.input()?.as_slice(), out)?;
     Ok(true)
 }
 
 /// Writes what the block in a file answers to the lines of the standard input.
-fn query_file<R: Files + Input + AllocGlobal, W: Write>(
+fn query_file<R: Sources + AllocGlobal, W: Write>(
     rt: &R,
     path: &str,
     out: &mut W,
-) -> Result<bool, Stop>
-    ensures { IfOk result (Did Command.Query (W.contents out.old) (W.contents out.new)) }
+) -> Result<bool, Stop<Failure>>
+    ensures { IfOk result (Did (R.known rt.now) Command.Query path.now (W.contents out.old) (W.contents out.new)) }
 {
-    let block = file(rt, path)?;
-    let questions = input(rt)?;
+    let block = rt.file(path)?;
+    let questions = rt.input()?;
     Ok(query(rt.alloc(), block.as_slice(), questions.as_slice(), out)?)
 }
 
 /// Writes whether a file is a block that is as it was written.
-fn check_file<R: Files + AllocGlobal, W: Write>(
+fn check_file<R: Sources + AllocGlobal, W: Write>(
     rt: &R,
     path: &str,
     out: &mut W,
-) -> Result<bool, Stop>
-    ensures { IfOk result (Did Command.Check (W.contents out.old) (W.contents out.new)) }
+) -> Result<bool, Stop<Failure>>
+    ensures { IfOk result (Did (R.known rt.now) Command.Check path.now (W.contents out.old) (W.contents out.new)) }
 {
-    Ok(write_check(rt.alloc(), file(rt, path)?.as_slice(), out)?)
+    Ok(write_check(rt.alloc(), rt.file(path)?.as_slice(), out)?)
 }
 
 /// Writes what the header of the block in a file has.
-fn info_file<R: Files + AllocGlobal, W: Write>(
+fn info_file<R: Sources + AllocGlobal, W: Write>(
     rt: &R,
     path: &str,
     out: &mut W,
-) -> Result<bool, Stop>
-    ensures { IfOk result (Did Command.Info (W.contents out.old) (W.contents out.new)) }
+) -> Result<bool, Stop<Failure>>
+    ensures { IfOk result (Did (R.known rt.now) Command.Info path.now (W.contents out.old) (W.contents out.new)) }
 {
-    info(rt.alloc(), file(rt, path)?.as_slice(), out)?;
+    info(rt.alloc(), rt.file(path)?.as_slice(), out)?;
     Ok(true)
 }
 
@@ -166,16 +139,4 @@ fn write_check<W: Write>(alloc: Global, block: &[u8], out: &mut W) -> Result<boo
         Ok(()) => Ok(good),
         Err(_) => Err(Failure::CannotWrite),
     }
-}
-
-/// Says why the program ends with status 2, as far as that can be written.
-fn fail<E: Write>(err: &mut E, stop: Stop) -> u8
-    ensures { result ≡ 2 }
-{
-    let _ = match stop {
-        Stop::Usage => writeln!(err, "{USAGE}"),
-        Stop::CannotRead => writeln!(err, "{CANNOT_READ}"),
-        Stop::Failed(failure) => writeln!(err, "bitm: {failure}"),
-    };
-    2
 }

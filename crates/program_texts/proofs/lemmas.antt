@@ -1,2 +1,4 @@
 pub mod FileLemmas
+pub mod LineLemmas
+pub mod NumberingLemmas
 pub mod ProgramLemmas

@@ -1,5 +1,6 @@
 -- What a failure says of itself.
 use Rattle.std.specs.Prelude.{ℕ, List, codes}
+use Rattle.program_runs.specs.Failure.{cannot_write_text, no_memory_text}
 use Rattle.program_texts.specs.declared.failure.Failure.{Failure}
 use Rattle.program_texts.specs.declared.failure.Failure.TheVariants.{TooLong, WrongBlock, NoMemory, CannotWrite}
 
@@ -7,5 +8,5 @@ use Rattle.program_texts.specs.declared.failure.Failure.TheVariants.{TooLong, Wr
 abbrev pub failure_text : Failure → List ℕ
 failure_text TooLong = codes "the text is too long for an index"
 failure_text WrongBlock = codes "not the index of a text, or not as it was written"
-failure_text NoMemory = codes "memory was refused"
-failure_text CannotWrite = codes "cannot write"
+failure_text NoMemory = no_memory_text
+failure_text CannotWrite = cannot_write_text

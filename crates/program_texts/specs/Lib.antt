@@ -3,4 +3,5 @@ pub mod Building
 pub mod Command
 pub mod Failure
 pub mod File
+pub mod Lines
 pub mod Program

@@ -1,6 +1,6 @@
 //! Why there is no answer.
 
-use program_blocks::CannotWrite;
+use program_runs::{CANNOT_WRITE, CannotWrite, NO_MEMORY, Stop};
 use std::alloc::AllocError;
 use std::error::Error;
 use std::fmt;
@@ -50,10 +50,16 @@ impl fmt::Display for Failure {
         match self {
             Failure::TooLong => write!(f, "the text is too long for an index"),
             Failure::WrongBlock => write!(f, "not the index of a text, or not as it was written"),
-            Failure::NoMemory => write!(f, "memory was refused"),
-            Failure::CannotWrite => write!(f, "cannot write"),
+            Failure::NoMemory => write!(f, "{NO_MEMORY}"),
+            Failure::CannotWrite => write!(f, "{CANNOT_WRITE}"),
         }
     }
 }
 
 impl Error for Failure {}
+
+impl From<Failure> for Stop<Failure> {
+    fn from(failure: Failure) -> Stop<Failure> {
+        Stop::Failed(failure)
+    }
+}

@@ -2,18 +2,22 @@
 #![tactic(auto)]
 
 // What is in each file:
-// - `answering`: how often a pattern stands in the text of a file, and where
+// - `answering`: what the text of a file answers of a pattern
 // - `building`: the file of a text
 // - `command`: the command that the arguments are
 // - `failure`: why there is no answer
+// - `numbering`: the lines of a text that have a pattern
+// - `places`: at how many positions a pattern stands in a text, and at which
 // - `program`: the program without its process
 mod answering;
 mod building;
 mod command;
 mod failure;
+mod numbering;
+mod places;
 mod program;
 
-pub use answering::{count, locate};
+pub use answering::{count, lines, locate};
 pub use building::build;
 pub use failure::Failure;
 pub use program::start;

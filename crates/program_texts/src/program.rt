@@ -1,53 +1,29 @@
 //! The program without its process: its arguments, the file and the input that it reads, and the statuses and texts.
-ghost use Rattle.std.specs.Prelude.{◌≡◌, ◌⊎◌, OnOk, None, map, string_bytes};
+ghost use Rattle.std.specs.Prelude.{◌≡◌, ◌⊎◌, IfOk, IsErr, None, OnOk, map, string_bytes, true};
 ghost use Rattle.program_texts.specs.Command.{command_in};
 ghost use Rattle.program_texts.specs.Program.{Did, DidAsAsked};
 
-use crate::answering::{count, locate};
+use crate::answering::answer;
 use crate::building::build;
-use crate::command::{Command, command_in};
+use crate::command::{Asked, Command, command_in};
 use crate::failure::Failure;
-use program_blocks::{CANNOT_READ, CannotRead, file, input};
-use std::io::{Input, Write};
-use std::rt::Files;
+use program_runs::{Sources, Stop, end};
+use std::io::Write;
 
 /// What is written where the arguments are not those of a command.
-const USAGE: &str =
-    "usage: bitm text build | bitm text count PATTERN BLOCK | bitm text locate PATTERN BLOCK";
-
-/// Why the program ends with status 2.
-#[derive(Clone, Copy)]
-enum Stop {
-    /// The arguments are not those of a command.
-    Usage,
-    /// The file or the standard input can't be read whole.
-    CannotRead,
-    /// There is no answer.
-    Failed(Failure),
-}
-
-impl From<Failure> for Stop {
-    fn from(failure: Failure) -> Stop {
-        Stop::Failed(failure)
-    }
-}
-
-impl From<CannotRead> for Stop {
-    fn from(_error: CannotRead) -> Stop {
-        Stop::CannotRead
-    }
-}
+const USAGE: &str = "usage: bitm text build | bitm text count PATTERN BLOCK | \
+    bitm text locate PATTERN BLOCK | bitm text lines PATTERN BLOCK";
 
 /// Does what the arguments after `text` say, and answers the status that the program ends with: 0 where that was done,
-/// and then nothing was written to `err`.
+/// on the file that is named, and then nothing was written to `err`.
 ///
-/// `build` reads the text from the standard input, `count PATTERN BLOCK` and `locate PATTERN BLOCK` read the file
-/// alone. The pattern's bytes are those of the argument.
+/// `build` reads the text from the standard input; `count PATTERN BLOCK`, `locate PATTERN BLOCK` and
+/// `lines PATTERN BLOCK` read the file alone. The pattern's bytes are those of the argument.
 ///
 /// # Errors
 /// The status is 2, and a text goes to `err`, where the arguments are no command, where something can't be read, where
 /// there is no answer (`Failure`), and where a flush of `out` failed. A failed write to `err` changes nothing.
-pub fn start<R: Files + Input + AllocGlobal, W: Write, E: Write>(
+pub fn start<R: Sources + AllocGlobal, W: Write, E: Write>(
     rt: &R,
     args: &[String],
     out: &mut W,
@@ -56,98 +32,73 @@ pub fn start<R: Files + Input + AllocGlobal, W: Write, E: Write>(
     ensures status { (result ≡ 0) ⊎ (result ≡ 2) }
     ensures unknown { command_in (map string_bytes args.now) ≡ None
         → (result ≡ 2) × (W.contents out.new ≡ W.contents out.old) }
-    ensures did { result ≡ 0 → DidAsAsked (map string_bytes args.now)
+    ensures did { result ≡ 0 → DidAsAsked (R.known rt.now) (map string_bytes args.now)
         (W.contents out.old) (W.contents out.new) }
     ensures quiet { result ≡ 0 → E.contents err.new ≡ E.contents err.old }
 {
-    let Some((command, pattern, path)) = command_in(args) else {
-        return fail(err, Stop::Usage);
-    };
-    match run(rt, command, pattern, path, out) {
-        Ok(()) => 0,
-        Err(stop) => fail(err, stop),
-    }
+    end(run(rt, args, out), out, err)
 }
 
-/// Does a command with its pattern and its file, and flushes what it wrote.
-fn run<R: Files + Input + AllocGlobal, W: Write>(
+/// Does what the arguments say, and answers that all went well.
+fn run<R: Sources + AllocGlobal, W: Write>(
     rt: &R,
-    command: Command,
-    pattern: &str,
-    path: &str,
+    args: &[String],
     out: &mut W,
-) -> Result<(), Stop>
-    ensures { OnOk result (Did command pattern.now (W.contents out.old) (W.contents out.new)) }
+) -> Result<bool, Stop<Failure>>
+    ensures unknown { command_in (map string_bytes args.now) ≡ None → IsErr result × (out.new ≡ out.old) }
+    ensures good { IfOk result (λ good. good ≡ true) }
+    ensures did { IfOk result (λ _. DidAsAsked (R.known rt.now) (map string_bytes args.now)
+        (W.contents out.old) (W.contents out.new)) }
 {
+    let Some((command, pattern, path)) = command_in(args) else {
+        return Err(Stop::Usage(USAGE));
+    };
     perform(rt, command, pattern, path, out)?;
-    match out.flush() {
-        Ok(()) => Ok(()),
-        Err(_) => Err(Stop::Failed(Failure::CannotWrite)),
-    }
+    Ok(true)
 }
 
 /// Does a command with its pattern and its file.
-fn perform<R: Files + Input + AllocGlobal, W: Write>(
+fn perform<R: Sources + AllocGlobal, W: Write>(
     rt: &R,
     command: Command,
     pattern: &str,
     path: &str,
     out: &mut W,
-) -> Result<(), Stop>
-    ensures { OnOk result (Did command pattern.now (W.contents out.old) (W.contents out.new)) }
+) -> Result<(), Stop<Failure>>
+    ensures { OnOk result (Did (R.known rt.now) command pattern.now path.now
+        (W.contents out.old) (W.contents out.new)) }
 {
     match command {
-        Command::Build => build_input(rt, pattern, out),
-        Command::Count => count_file(rt, pattern, path, out),
-        Command::Locate => locate_file(rt, pattern, path, out),
+        Command::Build => build_input(rt, pattern, path, out),
+        Command::Ask(asked) => answer_file(rt, asked, pattern, path, out),
     }
 }
 
 /// Writes the file of the text in the standard input.
-fn build_input<R: Input + AllocGlobal, W: Write>(
+fn build_input<R: Sources + AllocGlobal, W: Write>(
     rt: &R,
     _pattern: &str,
+    _path: &str,
     out: &mut W,
-) -> Result<(), Stop>
-    ensures { OnOk result (Did Command.Build _pattern.now (W.contents out.old) (W.contents out.new)) }
+) -> Result<(), Stop<Failure>>
+    ensures { OnOk result (Did (R.known rt.now) Command.Build _pattern.now _path.now
+        (W.contents out.old) (W.contents out.new)) }
 {
-    Ok(build(rt.alloc(), input(rt)?.as_slice(), out)?)
+    let text = rt.input()?;
+    Ok(build(rt.alloc(), text.as_slice(), out)?)
 }
 
-/// Writes at how many positions of a file's text the pattern stands.
-fn count_file<R: Files + AllocGlobal, W: Write>(
+/// Writes what is to be said of the pattern in a file's text.
+fn answer_file<R: Sources + AllocGlobal, W: Write>(
     rt: &R,
+    asked: Asked,
     pattern: &str,
     path: &str,
     out: &mut W,
-) -> Result<(), Stop>
-    ensures { OnOk result (Did Command.Count pattern.now (W.contents out.old) (W.contents out.new)) }
+) -> Result<(), Stop<Failure>>
+    ensures { OnOk result (Did (R.known rt.now) (Command.Ask asked) pattern.now path.now
+        (W.contents out.old) (W.contents out.new)) }
 {
-    let file = file(rt, path)?;
-    Ok(count(rt.alloc(), file.as_slice(), pattern.as_bytes(), out)?)
-}
-
-/// Writes the positions of a file's text at which the pattern stands.
-fn locate_file<R: Files + AllocGlobal, W: Write>(
-    rt: &R,
-    pattern: &str,
-    path: &str,
-    out: &mut W,
-) -> Result<(), Stop>
-    ensures { OnOk result (Did Command.Locate pattern.now (W.contents out.old) (W.contents out.new)) }
-{
-    let file = file(rt, path)?;
-    Ok(locate(rt.alloc(), file.as_slice(), pattern.as_bytes(), out)?)
-}
-
-/// Says why the program ends with status 2, as far as that can be written.
-fn fail<E: Write>(err: &mut E, stop: Stop) -> u8
-    ensures { result ≡ 2 }
-{
-    let _ = match stop {
-        Stop::Usage => writeln!(err, "{USAGE}"),
-        Stop::CannotRead => writeln!(err, "{CANNOT_READ}"),
-        Stop::Failed(failure) => writeln!(err, "bitm: {failure}"),
-    };
-    2
+    let file = rt.file(path)?;
+    Ok(answer(rt.alloc(), asked, file.as_slice(), pattern.as_bytes(), out)?)
 }

@@ -1,32 +1,14 @@
 //! A block that is built of a text, checked, queried and described; other texts and other bytes in its place.
 use program_blocks::{Failure, Kind, build, check, info, query, start};
-use std::io::{Input, Write};
+use std::fs;
+use std::io::Input;
 use std::process::Abort;
 use std::rt::Files;
 use std::test::Fail;
-use std::{fs, io};
+use test_writers::Failing;
 
 /// Six numbers of three bits.
 const NUMBERS: &str = "3\n1\n\n4\n1\n5\n1";
-
-/// A writer whose writes fail, or whose flush does.
-#[derive(Drop)]
-struct Failing {
-    writes: bool,
-}
-
-impl Write for Failing {
-    fn write(&mut self, buf: &[u8]) -> io::Result<usize> {
-        if self.writes {
-            return Ok(buf.len());
-        }
-        Err(io::Error::from(io::ErrorKind::BrokenPipe))
-    }
-
-    fn flush(&mut self) -> io::Result<()> {
-        Err(io::Error::from(io::ErrorKind::BrokenPipe))
-    }
-}
 
 /// The block of the numbers in a text.
 fn built(rt: &(impl Abort + AllocGlobal), text: &str) -> Result<Vec<u8>, Fail> {
@@ -149,7 +131,7 @@ fn the_kind_and_the_sizes_are_said(rt: HostRuntime) -> Result<(), Fail> {
 fn a_write_that_fails_is_told(rt: HostRuntime) -> Result<(), Fail> {
     let block = built(&rt, NUMBERS)?;
     let block = block.as_slice();
-    let mut out = Failing { writes: false };
+    let mut out = Failing::new(rt.alloc(), 0, true);
     let text = NUMBERS.as_bytes();
     assert_eq!(rt;
         build(rt.alloc(), Kind::Matrix, text, &mut out),
@@ -225,7 +207,7 @@ fn start_tells_that_a_flush_failed(rt: HostRuntime) -> Result<(), Fail> {
         String::from_str(rt.alloc(), "info")?,
         String::from_str(rt.alloc(), path)?,
     ];
-    let mut out = Failing { writes: true };
+    let mut out = Failing::new(rt.alloc(), 100, false);
     let mut err = Vec::new(rt.alloc());
     assert_eq!(rt; start(&rt, &args, &mut out, &mut err), 2);
     assert!(rt; err.as_slice() == b"bitm: cannot write\n".as_slice());

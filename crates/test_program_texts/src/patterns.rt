@@ -1,10 +1,10 @@
 //! How often patterns stand in texts, and where.
-use program_texts::{Failure, build, count, locate};
+use program_texts::{Failure, build, count, lines, locate};
 use std::process::Abort;
 use std::test::Fail;
 
 /// The file of a text.
-fn built(rt: &(impl Abort + AllocGlobal), text: &[u8]) -> Result<Vec<u8>, Fail> {
+pub(crate) fn built(rt: &(impl Abort + AllocGlobal), text: &[u8]) -> Result<Vec<u8>, Fail> {
     let mut out = Vec::new(rt.alloc());
     build(rt.alloc(), text, &mut out)?;
     Ok(out)
@@ -65,11 +65,12 @@ fn positions_rise_in_a_text_of_one_letter(rt: HostRuntime) -> Result<(), Fail> {
     expect_found(&rt, file.as_slice(), (b"xx".as_slice(), "11\n", positions))
 }
 
-/// Whether both calls say that these bytes are no file of a text, and write nothing.
+/// Whether all calls say that these bytes are no file of a text, and write nothing.
 fn is_refused(rt: &impl AllocGlobal, file: &[u8]) -> bool {
     let mut out = Vec::new(rt.alloc());
     count(rt.alloc(), file, b"a".as_slice(), &mut out) == Err(Failure::WrongBlock)
         && locate(rt.alloc(), file, b"a".as_slice(), &mut out) == Err(Failure::WrongBlock)
+        && lines(rt.alloc(), file, b"a".as_slice(), &mut out) == Err(Failure::WrongBlock)
         && out.is_empty()
 }
 

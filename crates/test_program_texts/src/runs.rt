@@ -1,33 +1,15 @@
 //! Runs with arguments, and what they write.
 use program_texts::{Failure, build, count, start};
-use std::io::{Input, Write};
+use std::fs;
+use std::io::Input;
 use std::process::Abort;
 use std::rt::Files;
 use std::test::Fail;
-use std::{fs, io};
+use test_writers::Failing;
 
 /// What is written where the arguments are no command.
-const USAGE: &str =
-    "usage: bitm text build | bitm text count PATTERN BLOCK | bitm text locate PATTERN BLOCK\n";
-
-/// A writer whose writes fail, or whose flush does.
-#[derive(Drop)]
-struct Failing {
-    writes: bool,
-}
-
-impl Write for Failing {
-    fn write(&mut self, buf: &[u8]) -> io::Result<usize> {
-        if self.writes {
-            return Ok(buf.len());
-        }
-        Err(io::Error::from(io::ErrorKind::BrokenPipe))
-    }
-
-    fn flush(&mut self) -> io::Result<()> {
-        Err(io::Error::from(io::ErrorKind::BrokenPipe))
-    }
-}
+const USAGE: &str = "usage: bitm text build | bitm text count PATTERN BLOCK | \
+    bitm text locate PATTERN BLOCK | bitm text lines PATTERN BLOCK\n";
 
 /// Runs `start` with these arguments after `text`, and compares its status and what it writes.
 fn expect_start(
@@ -68,6 +50,7 @@ fn a_run_answers_by_its_file(rt: HostRuntime) -> Result<(), Fail> {
     expect_start(&rt, &["count", "an", path], 0, "2\n", "")?;
     expect_start(&rt, &["locate", "an", path], 0, "1\n3\n", "")?;
     expect_start(&rt, &["locate", "x", path], 0, "", "")?;
+    expect_start(&rt, &["lines", "an", path], 0, "1\n", "")?;
     fs::write(&rt, path, b"banana".as_slice())?;
     let wrong = "bitm: not the index of a text, or not as it was written\n";
     expect_start(&rt, &["count", "an", path], 2, "", wrong)?;
@@ -79,7 +62,7 @@ fn a_run_answers_by_its_file(rt: HostRuntime) -> Result<(), Fail> {
 fn a_write_that_fails_is_told(rt: HostRuntime) -> Result<(), Fail> {
     let mut file = Vec::new(rt.alloc());
     build(rt.alloc(), b"banana".as_slice(), &mut file)?;
-    let mut out = Failing { writes: false };
+    let mut out = Failing::new(rt.alloc(), 0, true);
     let text = b"banana".as_slice();
     assert_eq!(rt;
         build(rt.alloc(), text, &mut out),

@@ -2,9 +2,10 @@
 use Rattle.std.proofs.Common.{ℕ, List, Bool, true, Option, refl}
 use Rattle.std.proofs.KnownBytes.{Appends-kept}
 use Rattle.std.specs.Io.KnownBytes.{Keeps}
+use Rattle.program_runs.specs.Known.{IsKnownAs, Known}
 use Rattle.program_blocks.specs.Building.{WroteBlock}
 use Rattle.program_blocks.specs.Info.{WroteInfo}
-use Rattle.program_blocks.specs.Program.{Did, IsDone, WroteCheck}
+use Rattle.program_blocks.specs.Program.{Did, DidAsAsked, IsDone, WroteCheck}
 use Rattle.program_blocks.specs.Query.{Told, WroteReplies}
 use Rattle.program_blocks.specs.declared.command.Command.{Command}
 use Rattle.program_blocks.specs.declared.command.Command.TheVariants.{Build, Query, Check, Info}
@@ -12,17 +13,21 @@ use Rattle.program_blocks.specs.declared.kind.Kind.{Kind}
 use Rattle.program_blocks.specs.declared.question.Question.{Question}
 use Rattle.program_blocks.specs.declared.reply.Reply.{Reply}
 
-pub did_build : (kind : Kind) (text : List ℕ) (before after : Option (List ℕ)) → WroteBlock kind text before after → Did (Build kind) before after true
-did_build kind text before after h = record { done = (text, h, refl) }
+pub did_build : (known : Known) (kind : Kind) (operand text : List ℕ) (before after : Option (List ℕ)) → IsKnownAs known.input text
+    → WroteBlock kind text before after → Did known (Build kind) operand before after true
+did_build known kind operand text before after is h = record { done = (text, is, h, refl) }
 
-pub did_query : (bytes text : List ℕ) (before after : Option (List ℕ)) (good : Bool) → Told bytes text before after good → Did Query before after good
-did_query bytes text before after good h = record { done = (bytes, text, h) }
+pub did_query : (known : Known) (path bytes text : List ℕ) (before after : Option (List ℕ)) (good : Bool) → IsKnownAs (known.files path) bytes
+    → IsKnownAs known.input text → Told bytes text before after good → Did known Query path before after good
+did_query known path bytes text before after good is asked h = record { done = (bytes, text, is, asked, h) }
 
-pub did_check : (bytes : List ℕ) (before after : Option (List ℕ)) (good : Bool) → WroteCheck bytes before after good → Did Check before after good
-did_check bytes before after good h = record { done = (bytes, h) }
+pub did_check : (known : Known) (path bytes : List ℕ) (before after : Option (List ℕ)) (good : Bool) → IsKnownAs (known.files path) bytes
+    → WroteCheck bytes before after good → Did known Check path before after good
+did_check known path bytes before after good is h = record { done = (bytes, is, h) }
 
-pub did_info : (bytes : List ℕ) (before after : Option (List ℕ)) → WroteInfo bytes before after → Did Info before after true
-did_info bytes before after h = record { done = (bytes, h, refl) }
+pub did_info : (known : Known) (path bytes : List ℕ) (before after : Option (List ℕ)) → IsKnownAs (known.files path) bytes
+    → WroteInfo bytes before after → Did known Info path before after true
+did_info known path bytes before after is h = record { done = (bytes, is, h, refl) }
 
 -- what was done stays so by a flush
 block_kept : (kind : Kind) (text : List ℕ) (a b c : Option (List ℕ)) → Keeps b c → WroteBlock kind text a b → WroteBlock kind text a c
@@ -47,11 +52,18 @@ info_kept bytes a b c k h = record {
   written = Appends-kept a b c _ h.written k;
 }
 
-done_kept : (command : Command) (a b c : Option (List ℕ)) (good : Bool) → Keeps b c → IsDone command a b good → IsDone command a c good
-done_kept (Build kind) a b c good k h = (h.0, block_kept kind h.0 a b c k h.1, h.2)
-done_kept Query a b c good k h = (h.0, h.1, told_kept h.0 h.1 a b c good k h.2)
-done_kept Check a b c good k h = (h.0, check_kept h.0 a b c good k h.1)
-done_kept Info a b c good k h = (h.0, info_kept h.0 a b c k h.1, h.2)
+done_kept : (known : Known) (command : Command) (operand : List ℕ) (a b c : Option (List ℕ)) (good : Bool) → Keeps b c
+    → IsDone known command operand a b good → IsDone known command operand a c good
+done_kept known (Build kind) operand a b c good k h = (h.0, h.1, block_kept kind h.0 a b c k h.2, h.3)
+done_kept known Query path a b c good k h = (h.0, h.1, h.2, h.3, told_kept h.0 h.1 a b c good k h.4)
+done_kept known Check path a b c good k h = (h.0, h.1, check_kept h.0 a b c good k h.2)
+done_kept known Info path a b c good k h = (h.0, h.1, info_kept h.0 a b c k h.2, h.3)
 
-pub did_kept : (command : Command) (a b c : Option (List ℕ)) (good : Bool) → Did command a b good → Keeps b c → Did command a c good
-did_kept command a b c good h k = record { done = done_kept command a b c good k h.done }
+did_kept : (known : Known) (command : Command) (operand : List ℕ) (a b c : Option (List ℕ)) (good : Bool)
+    → Did known command operand a b good → Keeps b c → Did known command operand a c good
+did_kept known command operand a b c good h k = record { done = done_kept known command operand a b c good k h.done }
+
+pub asked_kept : (known : Known) (args : List (List ℕ)) (a b c : Option (List ℕ)) (good : Bool) → DidAsAsked known args a b good → Keeps b c
+    → DidAsAsked known args a c good
+asked_kept known args a b c good h k =
+    record { command = h.command; operand = h.operand; asked = h.asked; did = did_kept known h.command h.operand a b c good h.did k }

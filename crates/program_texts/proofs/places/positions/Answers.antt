@@ -1,5 +1,5 @@
 use Rattle.std.proofs.lemmas.List.Sorted.{IsNonDecreasingBy-from_sort}
-use Rattle.program_texts.proofs.answering.positions.Goals as goal
+use Rattle.program_texts.proofs.places.positions.Goals as goal
 
 pub returns : goal.returns
 returns c = record {
