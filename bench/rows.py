@@ -9,6 +9,7 @@
                             the original, rt this library), value and unit
     sdsl [RUNS]             sdsl.csv: beside sdsl-lite (Debian: libsdsl-dev)
     structures [RUNS]       structures.csv: matrices, sequences and trees beside those of sdsl-lite; 8 GB of memory
+    texts [RUNS]            texts.csv: indexes of texts beside those of sdsl-lite; words from a list (Debian: wamerican)
     limits [RUNS]           limits.csv: beside one random word and a rank by hand, in small pages and huge ones
     mapped [RUNS]           mapped.csv: blocks in mapped files of 1.1 GB, below $TMPDIR or /tmp, which has to be on a disk;
                             8 GB of memory
@@ -19,6 +20,7 @@ rows are those of the state that stands here, so commit first, stop all other wo
 the machine into the page."""
 import csv
 import pathlib
+import random
 import subprocess
 import sys
 
@@ -40,6 +42,9 @@ OF_SDSL = ("-lsdsl", "-ldivsufsort", "-ldivsufsort64")
 ARCHIVE = TOP / "crates/bitm_c/out/libbitm_c.a"
 STRUCTURES = ("numbers8", "numbers16", "sequence", "tree")
 SIZES_OF_ITEMS = {20: 15, 24: 5, 27: 3}  # the logarithm, and the rounds of a program
+TEXTS = ("words", "four")  # words of a list, and random ones of four letters
+WORDS = "/usr/share/dict/words"
+SIZES_OF_TEXTS = {20: 15, 24: 5, 27: 3}
 BLOCKS = ("index", "sequence", "matrix", "tree")
 BITS_OF_BLOCK = 33
 
@@ -150,6 +155,31 @@ def structures(runs):
     write("structures", found)
 
 
+def text(kind, size):
+    """A file of so many letters, of words from a list or of the letters of a genome, drawn at random."""
+    drawn, path = random.Random(kind), ROOM / f"{kind}.{size}"
+    with open(WORDS, encoding="utf-8") as file:
+        items = [f"{it} " for it in file.read().split()] if kind == "words" else list("acgt")
+    with open(path, "wb") as file:
+        while file.tell() < size:
+            file.write("".join(drawn.choices(items, k=1 << 16)).encode())
+        file.truncate(size)
+    return path
+
+
+def texts(runs):
+    """Indexes of texts beside those of sdsl-lite."""
+    made("make", "archive")
+    made("sh", "-c", "cd crates/program_bitm && rt run < /dev/null || test -x out/program_bitm")
+    made(*CXX, "-o", ROOM / "texts", BENCH / "texts.cpp", ARCHIVE, *OF_SDSL)
+    found, program = {}, TOP / "crates/program_bitm/out/program_bitm"
+    files = {(kind, log2): text(kind, 1 << log2) for kind in TEXTS for log2 in SIZES_OF_TEXTS}
+    for _ in range(runs):
+        for (kind, log2), path in files.items():
+            add(found, ROOM / "texts", kind, path, program, SIZES_OF_TEXTS[log2])
+    write("texts", found)
+
+
 def mapped(runs):
     """Blocks in mapped files."""
     made("make", "archive")
@@ -189,12 +219,13 @@ def javascript(runs):
 def main(arguments):
     what, rest = arguments[0] if arguments else "", arguments[1:]
     folder = [rest.pop(0)] if what == "original" and rest else []
-    known = folder or what in ("sdsl", "structures", "limits", "mapped", "javascript")
+    known = folder or what in ("sdsl", "structures", "texts", "limits", "mapped", "javascript")
     if not known or len(rest) > 1 or not all(it.isdigit() for it in rest):
         print(__doc__)
         return 2
     ROOM.mkdir(exist_ok=True)
-    measure = {"original": original, "sdsl": sdsl, "structures": structures, "limits": limits, "mapped": mapped, "javascript": javascript}
+    measure = {"original": original, "sdsl": sdsl, "structures": structures, "texts": texts, "limits": limits, "mapped": mapped,
+               "javascript": javascript}
     measure[what](*folder, int(rest[0]) if rest else 3)
     said(BENCH / "page")
     return 0

@@ -9,126 +9,36 @@
 // trees and queries these are, but that the numbers of a sequence rise by 1 more, since a set has each number once. The
 // last column is the sum of the answers; the program fails where the forms differ in it. A `list` has 4096 queries. All
 // memory is in small pages. The C library selects without samples here; the rows of space say what each side keeps.
-#define BITM_MUST_USE // every status is looked at before the clock starts, or is one of a sum that is compared
-#include "../include/bitm.h"
+#include "turns.hpp"
 
-#include <algorithm>
-#include <cstdint>
-#include <cstdio>
-#include <cstdlib>
 #include <cstring>
-#include <ctime>
-#include <functional>
 #include <sdsl/bit_vectors.hpp>
 #include <sdsl/louds_tree.hpp>
 #include <sdsl/suffix_trees.hpp>
 #include <sdsl/wavelet_trees.hpp>
-#include <string>
-#include <utility>
-#include <vector>
 
 using Numbers = std::vector<uint64_t>;
 using Tree = sdsl::louds_tree<>;
 
 constexpr size_t QUERIES = 1 << 17, LIST = 4096;
 
-// The nanoseconds of the processor that the thread has used.
-double used()
-{
-    timespec at;
-    clock_gettime(CLOCK_THREAD_CPUTIME_ID, &at);
-    return at.tv_sec * 1e9 + at.tv_nsec;
-}
-
-// The numbers that `tool_bench` draws.
-uint64_t draw(uint64_t &n)
-{
-    n ^= n << 13;
-    n ^= n >> 7;
-    n ^= n << 17;
-    return n * 0x2545F4914F6CDD1D;
-}
-
-[[noreturn]] void fail(const std::string &why)
-{
-    std::fprintf(stderr, "structures: %s\n", why.c_str());
-    std::exit(1);
-}
-
-void have(uint32_t status, const char *call)
-{
-    if (status != BITM_OK) fail(std::string(call) + ": " + bitm_status_text(status));
-}
-
-// Words that begin at a line of the cache.
-struct Block {
-    uint64_t *words;
-    uint64_t len;
-    explicit Block(uint64_t len) : words(static_cast<uint64_t *>(aligned_alloc(64, (len + 7) / 8 * 64))), len(len)
-    {
-        if (!words) fail("there is no memory");
-    }
-    ~Block() { std::free(words); }
-    Block(const Block &) = delete;
-    Block &operator=(const Block &) = delete;
-};
-
-// A way to answer all queries, or to build: the name of its row, who does it, and what is done, which gives the sum of
-// the answers or how much was built.
-struct Form {
-    std::string row;
-    const char *by;
-    std::function<uint64_t()> sum;
-};
-
-struct Bench {
-    const char *what;
-    int log2, rounds;
+struct Bench : Turns {
+    explicit Bench(const Turns &turns) : Turns(turns) {}
     uint64_t count() const { return uint64_t(1) << log2; }
     // Building takes long: three rounds of it at most, and of more than 2^20 items one.
     int builds() const { return log2 > 20 ? 1 : std::min(rounds, 3); }
     // It takes as long to build as wm_int, so it is left out of more than 2^24 items.
     bool has_wt_int() const { return log2 <= 24; }
 
-    void print(const std::string &row, const char *by, double value, const char *unit, uint64_t check) const
+    std::vector<Form> kept(std::vector<Form> forms) const
     {
-        std::printf("%s_%s,%s,%d,even,%.2f,%s,%llu\n", what, row.c_str(), by, log2, value, unit,
-                    (unsigned long long)check);
-        std::fflush(stdout);
+        const auto is_left_out = [&](const Form &it) { return !has_wt_int() && std::strcmp(it.by, "sdsl wt_int") == 0; };
+        forms.erase(std::remove_if(forms.begin(), forms.end(), is_left_out), forms.end());
+        return forms;
     }
-
-    // Lets the forms take turns, and prints the least time of each over the number of calls. Of queries each form first
-    // brings into the caches what the form before it has driven out.
-    void turns(uint64_t calls, bool queries, std::vector<Form> forms) const
-    {
-        if (!has_wt_int()) {
-            const auto is_wt_int = [](const Form &it) { return std::strcmp(it.by, "sdsl wt_int") == 0; };
-            forms.erase(std::remove_if(forms.begin(), forms.end(), is_wt_int), forms.end());
-        }
-        std::vector<double> least(forms.size(), 1e18);
-        std::vector<uint64_t> sums(forms.size());
-        for (int round = 0; round < (queries ? rounds : builds()); round++) {
-            for (size_t k = 0; k < forms.size(); k++) {
-                if (queries) forms[k].sum();
-                const double start = used();
-                sums[k] = forms[k].sum();
-                least[k] = std::min(least[k], used() - start);
-            }
-        }
-        for (size_t k = 0; k < forms.size(); k++) {
-            if (sums[k] != sums[0])
-                fail(forms[k].row + " by " + forms[k].by + " has other answers than by " + forms[0].by);
-            print(forms[k].row, forms[k].by, least[k] / calls, "ns", sums[k]);
-        }
-    }
-    void answer(const std::vector<Form> &forms) const { turns(QUERIES, true, forms); }
-    void build(const std::vector<Form> &forms) const { turns(count(), false, forms); }
-
-    // Bits of `bytes` for each item.
-    void space(const char *row, const char *by, double bytes) const
-    {
-        print(row, by, bytes * 8 / count(), "bits", bytes);
-    }
+    void answer(const std::vector<Form> &forms) const { take(rounds, QUERIES, true, kept(forms)); }
+    void build(const std::vector<Form> &forms) const { take(builds(), count(), false, kept(forms)); }
+    void space(const char *row, const char *by, double bytes) const { Turns::space(row, by, bytes, count()); }
 };
 
 // Queries below a limit.
@@ -474,8 +384,9 @@ void trees(const Bench &bench)
 
 int main(int argc, char **argv)
 {
-    const Bench bench{argc == 4 ? argv[1] : "", argc == 4 ? std::atoi(argv[2]) : 0, argc == 4 ? std::atoi(argv[3]) : 0};
-    const std::string what = bench.what;
+    const bool three = argc == 4;
+    const Bench bench({three ? argv[1] : "", three ? std::atoi(argv[2]) : 0, three ? std::atoi(argv[3]) : 0});
+    const std::string &what = bench.what;
     const bool known = what == "numbers8" || what == "numbers16" || what == "sequence" || what == "tree";
     if (!known || bench.log2 < 10 || bench.log2 > 30 || bench.rounds < 1) {
         std::fprintf(stderr, "structures numbers8|numbers16|sequence|tree LOG2 ROUNDS, LOG2 from 10 to 30\n");

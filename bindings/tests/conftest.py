@@ -8,7 +8,7 @@ import sys
 import pytest
 
 TOP = pathlib.Path(__file__).resolve().parents[2]
-sys.path.insert(0, str(TOP / "scripts"))
+sys.path[:0] = [str(TOP / "scripts"), str(TOP / "tests")]
 os.environ |= {"BITM_LIB": str(TOP / "crates/bitm_c/out"), "BITM_INCLUDE": str(TOP / "include")}
 
 

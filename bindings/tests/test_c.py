@@ -1,12 +1,12 @@
 """The programs in C, also under sanitizers and by clang; fuzzers over their corpora; the headers alone."""
 import pytest
 from checks import TOP
-from common import LARGE, SANITIZED, SEEDS, WARNINGS, compiled
+from common import LARGE, SANITIZED, SEEDS, WARNINGS, compiled, large
 from shell import bash, needs
 
-PROGRAMS = "check one_view sequences walks stored statuses lengths pages guarded hostile careless hashes shards trees matrices matrix_ranges blocks sparse texts".split()
+PROGRAMS = "check one_view sequences walks stored statuses lengths pages guarded hostile careless hashes shards trees matrices matrix_ranges blocks sparse texts hostile_blocks".split()
 # They touch what they may not, or map pages of their own.
-BY_GCC_ALONE = {"pages", "guarded", "hostile", "careless"}
+BY_GCC_ALONE = {"pages", "guarded", "hostile", "hostile_blocks", "careless"}
 WAYS = {"gcc": "gcc -O2 -pthread", "sanitizers": f"gcc {SANITIZED}", "clang": "clang -O2"}
 STRICT = f"{WARNINGS} -Wsign-conversion -Wshadow -Wcast-align -Wcast-qual -Iinclude -fsyntax-only"
 
@@ -17,6 +17,12 @@ def test_program(program, way, tmp_path):
     it = compiled(f"{WAYS[way]} -std=c11", f"bindings/c/{program}.c", tmp_path)
     for seed in [*range(1, SEEDS + 1), ""] if way == "gcc" else [""]:
         bash(f"{it} {seed}", tmp_path)
+
+
+@large
+def test_many_hostile_queries(tmp_path):
+    """10^8 queries of blocks whose sections hold anything."""
+    bash(f"{compiled('gcc -O2 -std=c11', 'bindings/c/hostile_blocks.c', tmp_path)} 1 100", tmp_path)
 
 
 @pytest.mark.parametrize("name", ["stored", "index", "sequences", "hashes", "cpp"])
