@@ -10,3 +10,5 @@ mod lines;
 mod patterns;
 #[cfg(test)]
 mod runs;
+#[cfg(test)]
+mod sources;
