@@ -28,4 +28,5 @@ def test_blocks_are_those_of_the_format(tmp_path):
 def test_the_block_that_other_tests_read():
     """That of a text, which `bitm text build` and tests in C++, Rust and JavaScript have from here."""
     made = as_bytes(of_text(b"she sells sea shells on the sea shore"))
-    assert (TOP / "bindings/tests/sea_shells.block").read_bytes() == made
+    for folder in ("bindings/tests", "bindings/rust/tests/common"):
+        assert (TOP / folder / "sea_shells.block").read_bytes() == made
