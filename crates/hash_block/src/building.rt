@@ -1,5 +1,5 @@
 //! The block of a hash, written into the caller's memory.
-ghost use Rattle.std.specs.Prelude.{◌≡◌, ◌≢◌, ◌^◌, ◌<◌, ◌≤◌, ◌↔◌, IfErr, IfOk, IsErr, IsErrOf, length};
+ghost use Rattle.std.specs.Prelude.{◌≡◌, ◌≢◌, ◌^◌, ◌<◌, ◌≤◌, ◌↔◌, IfErr, IfOk, IsErr, IsErrOf, IsOk, length};
 ghost use Rattle.std.specs.Int.{div_ceil};
 ghost use Rattle.bitm.specs.Bits.{bits_of};
 ghost use Rattle.bitm.specs.Count.{ones_of};
@@ -15,9 +15,25 @@ use crate::sections::{block_len, hash_head, hash_sections};
 use bitm::{RankSelect101111, Select0ForRank101111, SelectForRank101111};
 use bitm_block::{aligned, seal};
 use bitm_view::{lower_len, upper_len};
-use block_tables::{as_entries_mut, fill_tables};
+use block_tables::{as_entries, as_entries_mut, fill_tables};
 use perfect_hash::PerfectHash;
 use std::convert::AsSlice;
+
+/// Copies numbers.
+fn copy(to: &mut [usize], from: &[usize])
+    requires { length to.old ≡ length from.now }
+    ensures { to.new ≡ from.now }
+{
+    let len = from.len();
+    // A loop over single numbers would be compiled to a call of C's `memcpy`, and the archive for C calls nothing.
+    for pair in 0..len / 2 {
+        to[2 * pair] = from[2 * pair];
+        to[2 * pair + 1] = from[2 * pair + 1];
+    }
+    if len % 2 == 1 {
+        to[len - 1] = from[len - 1];
+    }
+}
 
 /// Writes the words of levels, their tables and their sizes, and returns how many 1 bits there are.
 pub(crate) fn write_levels(
@@ -37,8 +53,8 @@ pub(crate) fn write_levels(
     ensures parts { AreParts words.now sizes.now upper.new lower.new to_sizes.new }
     ensures ones { result ≡ ones_of (bits_of words.now) }
 {
-    to.copy_from_slice(words);
-    as_entries_mut(to_sizes).copy_from_slice(sizes);
+    copy(as_entries_mut(to), as_entries(words));
+    copy(as_entries_mut(to_sizes), sizes);
     fill_tables(words, upper, lower)
 }
 
@@ -101,6 +117,7 @@ fn write_block(words: &[u64], sizes: &[usize], seed: u64, block: &mut [u64])
 /// build(&[0b1101], &[2], 7, block.as_mut_slice());        // Err(BuildError::NotLevels)
 /// ```
 pub fn build(words: &[u64], sizes: &[usize], seed: u64, block: &mut [u64]) -> Result<(), BuildError>
+    ensures ok { IsOk result ↔ CanHold words.now sizes.now block.old }
     ensures too_long { IsErrOf result BuildError.TooLong ↔ (2 ^ 58 ≤ length words.now) }
     ensures not_levels { IsErrOf result BuildError.NotLevels ↔ ((length words.now < 2 ^ 58)
         × (¬ (AreSizes sizes.now (bits_of words.now)))) }

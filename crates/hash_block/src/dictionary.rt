@@ -42,6 +42,24 @@ impl<'a> Model for DictionaryView<'a> {
 }
 
 impl<'a> DictionaryView<'a> {
+    /// A dictionary over a hash and the keys in the order of their numbers; `None` exactly where there are not as many
+    /// keys as the hash announces.
+    ///
+    /// ```
+    /// DictionaryView::over(hash, &[49, 4, 9]);   // Some(..) where hash.keys() is 3
+    /// ```
+    #[inline(always)]
+    pub fn over(hash: HashView<'a>, keys: &'a [u64]) -> Option<DictionaryView<'a>>
+        ensures { SomeIff result (length keys.now ≡ hash.entry.keys)
+            (record { hash = hash.entry; keys = keys.now }) }
+    {
+        if keys.len() == hash.keys() {
+            Some(DictionaryView { hash, keys })
+        } else {
+            None
+        }
+    }
+
     /// The hash.
     ///
     /// ```
@@ -152,10 +170,9 @@ impl<'a> DictionaryView<'a> {
         ensures { IsTrue result
             ↔ (number_of_key self.now.hash (slice_index self.now.keys i) ≡ Some i) }
     {
-        let seed = self.hash.seed();
-        match self.hash.get(Added { seed }.hash(&self.keys[i])) {
-            Answer::Found(number) => number == i,
-            _ => false,
+        match self.hash.number_of(self.keys[i]) {
+            Some(number) => number == i,
+            None => false,
         }
     }
 }
@@ -178,10 +195,10 @@ pub fn open_dictionary(block: &[u64]) -> Option<DictionaryView<'_>>
         return None;
     };
     let keys = opened.section(4)?;
-    if block[32] != KEYS || keys.len() != hash.keys() {
+    if block[32] != KEYS {
         return None;
     }
-    Some(DictionaryView { hash, keys })
+    DictionaryView::over(hash, keys)
 }
 
 /// Whether the block is opened, is as it was written, and holds a dictionary: then `find` answers by its keys.

@@ -22,6 +22,7 @@
 // - `error`: why no block was written
 // - `hashing`: how the numbers of a dictionary are hashed
 // - `keyed`: the block of a dictionary, written into the caller's memory
+// - `keyed_parts`: the sections of a dictionary, written where its block has them
 // - `levels`: whether sizes are those of levels
 // - `opening`: the view of a block, and whether the block holds what it says
 // - `sections`: the sections of the block of a hash
@@ -31,6 +32,7 @@ mod dictionary;
 mod error;
 mod hashing;
 mod keyed;
+mod keyed_parts;
 mod levels;
 mod opening;
 mod sections;
@@ -41,7 +43,7 @@ pub use building::{build, build_of};
 pub use dictionary::{DictionaryView, check_dictionary, open_dictionary};
 pub use error::BuildError;
 pub use hashing::Added;
-pub use keyed::build_dictionary;
+pub use keyed::{build_dictionary, build_keyed};
 pub use opening::{check, open};
 pub use sections::{HASH, dictionary_size, size};
 pub use view::HashView;

@@ -1,18 +1,20 @@
 //! A hash in memory that may hold anything.
-ghost use Rattle.std.specs.Prelude.{◌≡◌, ◌+◌, ◌≤◌, ◌↔◌, IsTrue, length, None, SomeIff};
+ghost use Rattle.std.specs.Prelude.{◌≡◌, ◌+◌, ◌<◌, ◌≤◌, ◌↔◌, IfSome, IsTrue, length, None, SomeIff};
 ghost use Rattle.bitm.specs.Reads.{none_read, ReadsAtMost};
 ghost use Rattle.bitm.specs.Count.{ones_of};
 ghost use Rattle.bitm.specs.Tables.{bits_in, HasTables, IsIndexed};
 ghost use Rattle.perfect_hash.specs.Asking.{IfAbsent, IsBelow, IsNumbered};
 ghost use Rattle.perfect_hash.specs.Numbers.{number_by};
 ghost use Rattle.perfect_hash.specs.Placed.{FitIn};
+ghost use Rattle.hash_block.specs.Dictionary.{number_of_key};
 ghost use Rattle.hash_block.specs.Parts.{IsHash};
 
+use crate::hashing::Added;
 use crate::levels::are_levels;
 use crate::sections::LEVELS;
 use bitm::{ReadCounts, TableSource, rank_on};
 use bitm_view::{Answer, Lent};
-use perfect_hash::total_number_on;
+use perfect_hash::{KeyHash, total_number_on};
 use std::marker::Model;
 
 /// A minimal perfect hash in memory that may hold anything: the words of all levels with their tables, how many words
@@ -155,6 +157,23 @@ impl<'a> HashView<'a> {
             (number_by self.now.sizes (bits_in self.now.lists) hash ≡ None) }
     {
         self.get_counted(hash).0
+    }
+
+    /// The number of a key, which is hashed by its sum with the seed.
+    ///
+    /// # Conditions
+    /// The parts are those of a hash.
+    #[inline(always)]
+    pub(crate) fn number_of(&self, key: u64) -> Option<usize>
+        requires { IsHash self.now }
+        ensures number { result ≡ number_of_key self.now key }
+        ensures below { IfSome result (λ number. number < self.now.keys) }
+    {
+        let hash = Added { seed: self.seed }.hash(&key);
+        match self.get(hash) {
+            Answer::Found(number) => Some(number),
+            _ => None,
+        }
     }
 
     /// What `get` answers, and what was read for it, whatever the memory holds: at most one word of each level, and one

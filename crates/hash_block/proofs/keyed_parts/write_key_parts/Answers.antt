@@ -1,22 +1,21 @@
 -- Each section is written where the block has it.
 use Rattle.std.proofs.Common.{length, ap, arith}
-use Rattle.hash_block.specs.Dictionary.{hashed}
-use Rattle.perfect_hash.specs.Parts.{number_of}
+use Rattle.hash_block.specs.Numbered.{key_number}
 use Rattle.hash_block.proofs.BlockLemmas.{keys_stand}
-use Rattle.hash_block.proofs.keyed.write_key_parts.Goals as goal
+use Rattle.hash_block.proofs.keyed_parts.write_key_parts.Goals as goal
 
 pub returns-clause-stands : goal.returns-clause-stands
-returns-clause-stands g c =
+returns-clause-stands c =
     let are = c.write_levels.ensures.parts in
     let to = ap length c.write_levels.ensures.words in
     let upper = are.sized.upper_len in
     let lower = are.sized.lower_len in
     let sizes = ap length are.sizes_are in
-    let keys = c.write_keys.ensures.len in
-    keys_stand c.args.words.now c.args.sizes.now (number_of hashed c.args.hash.now) c.args.keys.now c.split_at_mut-head.result.0.now
+    let keys = c.write_keys_by.ensures.len in
+    keys_stand c.args.words.now c.args.sizes.now (key_number c.args.words.now c.args.sizes.now c.args.seed) c.args.keys.now c.split_at_mut-head.result.0.now
     c.write_levels.new.to c.split_at_mut-to.result.1.now c.write_levels.new.upper c.split_at_mut-upper.result.1.now
     c.write_levels.new.lower c.split_at_mut-lower.result.1.now c.write_levels.new.to_sizes c.split_at_mut-to_sizes.result.1.now
-    c.write_keys.new.to c.split_at_mut-to_keys.result.1.now
+    c.write_keys_by.new.to c.split_at_mut-to_keys.result.1.now
     c.split_at_mut-head.ensures.front_len c.write_levels.ensures.words (
       to,
       omega (arith, to, c.split_at_mut-to.ensures.back_len, c.split_at_mut-room.ensures.front_len, c.aligned.ensures),
@@ -38,4 +37,4 @@ returns-clause-stands g c =
         ),
       ),
     )
-    are c.write_keys.ensures.all keys
+    are c.write_keys_by.ensures.all keys
