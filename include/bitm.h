@@ -1,6 +1,6 @@
 /* Succinct bit vectors with rank and select: words, and two tables of counts beside them. And monotone integer
- * sequences (Elias-Fano), sparse bits, minimal perfect hashes, trees (LOUDS), lists of numbers in any order (wavelet
- * matrices) and indexes of texts, in words with such tables.
+ * sequences (Elias-Fano), sparse bits, minimal perfect hashes and dictionaries, trees (LOUDS), lists of numbers in any
+ * order (wavelet matrices) and indexes of texts, in words with such tables.
  *
  * Bit i is bit i % 64, lowest first, of words[i / 64]. You own the memory of words and tables, which may be a mapped
  * file. No call allocates, keeps a pointer or has state, so any number of threads may query at once.
@@ -14,9 +14,9 @@
  *     if (bitm_index_select(&index, true, 4, &position) != BITM_OK || position != 64) return 1;
  *
  * NAMES. The prefix says what is queried: bitm_bits_ (words without tables), bitm_index_ (words with tables),
- * bitm_sequence_, bitm_sparse_, bitm_hash_, bitm_tree_, bitm_matrix_, bitm_text_, bitm_stored_. `bool one` says which
- * bits are meant: true the 1 bits, false the 0 bits. A position counts from 0; the rank of a bit is how many bits of its
- * kind there are before it.
+ * bitm_sequence_, bitm_sparse_, bitm_hash_, bitm_dictionary_, bitm_tree_, bitm_matrix_, bitm_text_, bitm_stored_.
+ * `bool one` says which bits are meant: true the 1 bits, false the 0 bits. A position counts from 0; the rank of a bit
+ * is how many bits of its kind there are before it.
  *
  * LENGTHS. words_len, upper_len, lower_len, samples_len, .. count the items of that pointer; bits_len counts bits, and
  * is at most 64 * words_len. What lies past the first bits_len bits is neither counted nor found nor changed.
@@ -1584,6 +1584,146 @@ BITM_MUST_USE uint32_t bitm_sparse_rank_list(const struct bitm_sparse *sparse, b
 BITM_MUST_USE uint32_t bitm_sparse_select_list(const struct bitm_sparse *sparse, bool one, const uint64_t *ranks,
                                                size_t ranks_len, uint64_t *out, size_t out_len,
                                                struct bitm_list_counts *counts);
+
+/* ---- dictionaries: in one block of memory
+ *
+ * A dictionary of numbers is a minimal perfect hash of them, its keys, and the keys themselves, each at its number: so
+ * what is no key has no number. A key takes about 67 bits. Its hash is its sum with a seed, modulo 2^64, so no two keys
+ * have one hash. A dictionary is made of a hash, in memory of yours, and written into a block:
+ *
+ *     const uint64_t squares[3] = {4, 9, 49}, with_seed = 7; // take another seed if hashes are left
+ *     uint64_t sums[3], of_levels[64], marks[64], widths[256], height, taken, lost, tables_of[3], placed[3], len_of;
+ *     for (int i = 0; i < 3; i++) sums[i] = squares[i] + with_seed;
+ *     if (bitm_hash_build(sums, 3, 100, of_levels, 64, marks, 64, widths, 256, &height, &taken, &lost) != BITM_OK ||
+ *         lost > 0) return 1;
+ *     size_t lower_of = bitm_index_lower_len(taken);
+ *     if (bitm_index_build(of_levels, taken, tables_of, 1, tables_of + 1, lower_of, &ones) != BITM_OK) return 1;
+ *     struct bitm_dictionary made = {
+ *         .hash = {.index = {.words = of_levels, .words_len = taken, .upper = tables_of, .upper_len = 1,
+ *                            .lower = tables_of + 1, .lower_len = lower_of, .bits_len = 64 * taken},
+ *                  .sizes = widths, .sizes_len = height, .keys = 3},
+ *         .keys = placed, .keys_len = 3, .seed = with_seed};
+ *     for (int i = 0; i < 3; i++) {
+ *         if (bitm_hash_get(&made.hash, squares[i] + with_seed, &number) != BITM_OK) return 1;
+ *         placed[number] = squares[i]; // each key at its number
+ *     }
+ *     if (bitm_dictionary_size(taken, height, 3, &len_of) != BITM_OK) return 1;
+ *     uint64_t *of_squares = malloc(8 * len_of); // or a mapped file
+ *     struct bitm_dictionary dictionary = {0};
+ *     if (!of_squares || bitm_dictionary_build(&made, of_squares, len_of) != BITM_OK ||
+ *         bitm_dictionary_open(of_squares, len_of, &dictionary) != BITM_OK ||
+ *         bitm_dictionary_find(&dictionary, 49, &number) != BITM_OK || dictionary.keys[number] != 49 ||
+ *         bitm_dictionary_find(&dictionary, 50, &number) != BITM_NONE) return 1;
+ *
+ * Over any block that bitm_dictionary_open takes, a stale or hostile one too, a query returns, and the key stands at the
+ * number that is found: dictionary.keys[number]. If bitm_dictionary_build wrote the block or bitm_dictionary_check
+ * passes it, and it did not change afterwards, what is BITM_NONE is none of the keys, and no query returns BITM_WRONG.
+ * The same holds of the parts of which the block is made. */
+struct bitm_dictionary {
+    struct bitm_hash hash; /* of the sums of each key and the seed */
+    const uint64_t *keys;  /* in the order of their numbers: as many as hash.keys */
+    size_t keys_len;
+    uint64_t seed;         /* what is added to each key */
+    uint64_t reserved[2];  /* 0: not read */
+};
+
+/* Faults of a dictionary: see bitm_bits_fault.
+ *
+ *     if (bitm_dictionary_fault(&dictionary) != NULL) return 1; */
+static inline const char *bitm_dictionary_fault(const struct bitm_dictionary *dictionary)
+{
+    if (dictionary->keys_len != dictionary->hash.keys) return "keys_len is not hash.keys";
+    return bitm_hash_fault(&dictionary->hash);
+}
+
+/* How many words the block of that many keys takes, the levels of whose hash have that many words together.
+ * BITM_BAD_SIZE if there are 2^58 words or keys or more, or more than 256 levels. */
+BITM_MUST_USE uint32_t bitm_dictionary_size(size_t words, size_t levels, size_t keys, uint64_t *out);
+
+/* Writes the block of a dictionary. BITM_BAD_SIZE if bitm_dictionary_fault names a fault, there are 2^58 keys or more,
+ * or block_len is not what bitm_dictionary_size says; else BITM_WRONG if the tables are not those of the words, the
+ * sizes not those of levels with a 1 bit for each key, or a key does not stand at its number. The block may overlap none
+ * of the parts. Four passes over the words of the levels, two look-ups for each key, and one pass over the block
+ * (evident from the code).
+ *
+ *     placed[0]++; // 5, 10 or 50
+ *     if (bitm_dictionary_build(&made, of_squares, len_of) != BITM_WRONG) return 1; */
+BITM_MUST_USE uint32_t bitm_dictionary_build(const struct bitm_dictionary *dictionary, uint64_t *block,
+                                             size_t block_len);
+
+/* Opens a block: writes the dictionary that queries take, which points into the block. *dictionary has to be zeros, or a
+ * dictionary whose memory is still there. BITM_WRONG exactly if bitm_hash_block_open returns it, or no fifth section of
+ * the block has as many keys as the header says. Reads at most 80 words, however long the block is (evident from the
+ * code); what its other words hold is not looked at.
+ *
+ *     if (bitm_dictionary_open(of_squares, len_of - 1, &dictionary) != BITM_WRONG) return 1; */
+BITM_MUST_USE uint32_t bitm_dictionary_open(const uint64_t *block, size_t block_len,
+                                            struct bitm_dictionary *dictionary);
+
+/* Whether a block is as it was written and holds a dictionary: BITM_OK, or BITM_WRONG as bitm_dictionary_open, if a
+ * checksum is not that of its words, if the parts are not those of a hash, or if a key does not stand at its number. So
+ * a block in which one word was changed is refused. Two passes over the words of the block, and one look-up for each key
+ * (evident from the code).
+ *
+ *     of_squares[40] ^= 1;
+ *     if (bitm_dictionary_check(of_squares, len_of) != BITM_WRONG) return 1;
+ *     of_squares[40] ^= 1;
+ *     if (bitm_dictionary_check(of_squares, len_of) != BITM_OK) return 1; */
+BITM_MUST_USE uint32_t bitm_dictionary_check(const uint64_t *block, size_t block_len);
+
+/* The number of a key: BITM_OK with where it stands in dictionary->keys, WHATEVER tables, sizes and keys hold; BITM_NONE
+ * if it is no key; BITM_WRONG only where the parts are not those of a dictionary; BITM_BAD_SIZE exactly if
+ * bitm_dictionary_fault names a fault. Reads what bitm_hash_get reads, and at most one key (evident from the code).
+ *
+ *     if (bitm_dictionary_find(&dictionary, 4, &number) != BITM_OK || number > 2) return 1; */
+BITM_MUST_USE uint32_t bitm_dictionary_find(const struct bitm_dictionary *dictionary, uint64_t key, uint64_t *out);
+
+/* out[i] is the number of keys[i], or BITM_NO_ANSWER for BITM_NONE and BITM_WRONG_TABLES for BITM_WRONG; counts says how
+ * many of each there are. BITM_BAD_SIZE also if out_len is not keys_len. out and counts may overlap neither each other
+ * nor what the call reads.
+ *
+ *     if (bitm_dictionary_find_list(&dictionary, squares, 3, answers, 3, &counts) != BITM_OK || counts.missing > 0 ||
+ *         dictionary.keys[answers[1]] != 9) return 1;
+ *     free(of_squares); */
+BITM_MUST_USE uint32_t bitm_dictionary_find_list(const struct bitm_dictionary *dictionary, const uint64_t *keys,
+                                                 size_t keys_len, uint64_t *out, size_t out_len,
+                                                 struct bitm_list_counts *counts);
+
+/* ---- hashes in blocks, without the keys */
+
+/* How many words the block of a hash takes, whose levels have that many words together. BITM_BAD_SIZE if there are 2^58
+ * words or more, or more than 256 levels.
+ *
+ *     uint64_t hash_len, hash_seed;
+ *     if (bitm_hash_block_size(taken, height, &hash_len) != BITM_OK) return 1;
+ *     uint64_t *of_hash = malloc(8 * hash_len); // or a mapped file
+ *     struct bitm_hash hash_in_block = {0};
+ *     if (!of_hash || bitm_hash_block_build(of_levels, taken, widths, height, 7, of_hash, hash_len) != BITM_OK ||
+ *         bitm_hash_block_check(of_hash, hash_len) != BITM_OK ||
+ *         bitm_hash_block_open(of_hash, hash_len, &hash_in_block, &hash_seed) != BITM_OK || hash_seed != 7 ||
+ *         bitm_hash_get(&hash_in_block, 9 + hash_seed, &value) != BITM_OK || value > 2) return 1;
+ *     free(of_hash); */
+BITM_MUST_USE uint32_t bitm_hash_block_size(size_t words, size_t levels, uint64_t *out);
+
+/* Writes the block of the hash whose levels have these words and sizes, as bitm_hash_build writes them: it has as many
+ * keys as there are 1 bits. seed is yours, that by which you hashed the keys, say: it is kept. BITM_BAD_SIZE if
+ * bitm_hash_block_size does not take the lengths, a level has no word, the levels have not words_len words together, or
+ * block_len is not what that call says. No two of the memory may overlap. Two passes over the words and one over the
+ * block (evident from the code). */
+BITM_MUST_USE uint32_t bitm_hash_block_build(const uint64_t *words, size_t words_len, const uint64_t *sizes,
+                                             size_t sizes_len, uint64_t seed, uint64_t *block, size_t block_len);
+
+/* Opens a block, that of a dictionary too: writes the hash that bitm_hash_get takes, which points into the block, and
+ * its seed. *hash has to be zeros, or a hash whose memory is still there. BITM_WRONG exactly if the header or the
+ * directory of the block is not right, or is that of no hash, or block_len is not as they say. Reads at most 80 words,
+ * however long the block is (evident from the code); what its other words hold is not looked at. */
+BITM_MUST_USE uint32_t bitm_hash_block_open(const uint64_t *block, size_t block_len, struct bitm_hash *hash,
+                                            uint64_t *seed);
+
+/* Whether a block is as it was written and holds a hash: BITM_OK, or BITM_WRONG as bitm_hash_block_open, if a checksum
+ * is not that of its words, or if the tables are not those of the words or the sizes not those of levels. Two passes
+ * over the words of the block (evident from the code). */
+BITM_MUST_USE uint32_t bitm_hash_block_check(const uint64_t *block, size_t block_len);
 
 /* ---- texts: where a pattern stands, by an index in one block of memory
  *

@@ -364,6 +364,61 @@ static void query_a_text(uint64_t *one)
     }
 }
 
+/* The parts of a dictionary of the numbers that such steps reach, in memory of their own. */
+static struct bitm_dictionary dictionary_made(void)
+{
+    enum { MOST = ITEMS, SIZES = 256, STEP = 977 };
+    uint64_t *hashes = malloc(8 * ITEMS), *words = malloc(8 * MOST), *again = malloc(8 * MOST), *sizes = malloc(8 * SIZES),
+             *upper = malloc(8), *lower = malloc(8 * MOST / 32), *keys = malloc(8 * ITEMS), levels, len, left, number;
+    MUST(hashes && words && again && sizes && upper && lower && keys);
+    for (size_t i = 0; i < ITEMS; i++) hashes[i] = STEP * i;
+    MUST(bitm_hash_build(hashes, ITEMS, 100, words, MOST, again, MOST, sizes, SIZES, &levels, &len, &left) == BITM_OK);
+    MUST(left == 0 && bitm_index_build(words, len, upper, 1, lower, bitm_index_lower_len(len), &number) == BITM_OK);
+    const struct bitm_dictionary made = {
+        .hash = {index_over(words, len, upper, 1, lower, bitm_index_lower_len(len)), sizes, levels, ITEMS},
+        .keys = keys, .keys_len = ITEMS};
+    for (size_t i = 0; i < ITEMS; i++) {
+        MUST(bitm_hash_get(&made.hash, STEP * i, &number) == BITM_OK);
+        keys[number] = STEP * i;
+    }
+    free(hashes), free(again);
+    return made;
+}
+
+/* A dictionary in a block: a key touches a word of each level, the words of a rank, an entry of each table, the sizes and
+ * one key. */
+static void query_a_dictionary(uint64_t *one)
+{
+    enum { OTHERS = 8 };
+    static struct bitm_dictionary made;
+    if (made.keys_len == 0) made = dictionary_made();
+    const size_t height = made.hash.sizes_len;
+    uint64_t *out = placed(OF_OUT, 8 * LIST), *queries = placed(OF_QUERIES, 8 * LIST);
+    TOUCHES_ANY(bitm_dictionary_size(made.hash.index.words_len, height, ITEMS, one));
+    uint64_t words = *one, *block = placed(OF_WORDS, 8 * words);
+    TOUCHES_ANY(bitm_dictionary_build(&made, block, words));
+    TOUCHES_ANY(bitm_dictionary_check(block, words));
+    struct bitm_dictionary *dictionary = placed(OF_STARTS, sizeof *dictionary);
+    *dictionary = (struct bitm_dictionary){0};
+    TOUCHES(2, 0, 0, bitm_dictionary_open(block, words, dictionary));
+    for (unsigned turn = 0; turn < 20; turn++) {
+        const uint64_t key = made.keys[draw() % ITEMS];
+        TOUCHES(height + OTHERS, 0, 0, bitm_dictionary_find(dictionary, key, one));
+        for (size_t i = 0; i < LIST; i++) queries[i] = made.keys[draw() % 9];
+        TOUCHES(LIST * (height + OTHERS), 0, 0,
+                bitm_dictionary_find_list(dictionary, queries, LIST, out, LIST, counts_placed()));
+    }
+    TOUCHES_ANY(bitm_hash_block_size(made.hash.index.words_len, height, one));
+    words = *one, block = placed(OF_WORDS, 8 * words);
+    TOUCHES_ANY(bitm_hash_block_build(made.hash.index.words, made.hash.index.words_len, made.hash.sizes, height, 7, block,
+                                      words));
+    TOUCHES_ANY(bitm_hash_block_check(block, words));
+    struct bitm_hash *hash = placed(OF_STARTS, sizeof *hash);
+    *hash = (struct bitm_hash){0};
+    TOUCHES(2, 0, 0, bitm_hash_block_open(block, words, hash, one));
+    MUST(*one == 7);
+}
+
 static void query_everything(void)
 {
     uint64_t *words = placed(OF_WORDS, 8 * WORDS), *upper = placed(OF_UPPER, 8), *lower = placed(OF_LOWER, 8 * LOWERS);
@@ -382,6 +437,7 @@ static void query_everything(void)
     open_sparse_bits(one);
     query_a_matrix(one);
     query_a_text(one);
+    query_a_dictionary(one);
     query_a_file();
 }
 
@@ -389,7 +445,7 @@ int main(int argc, char **argv)
 {
     take_seed(argc, argv);
     page = (size_t)sysconf(_SC_PAGESIZE);
-    for (size_t i = 0; i < BLOCKS; i++) blocks[i] = guard(8 * WORDS);
+    for (size_t i = 0; i < BLOCKS; i++) blocks[i] = guard((i == OF_WORDS ? 16 : 8) * WORDS); /* of a dictionary too */
     struct sigaction action = {.sa_sigaction = open_page, .sa_flags = SA_SIGINFO};
     MUST(sigaction(SIGSEGV, &action, NULL) == 0);
     for (int end = 0; end < 2; end++) {

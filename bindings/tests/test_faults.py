@@ -23,16 +23,19 @@ EXPORTS = {
     "NB words": "bits_get bits_set bits_get_number bits_set_number bits_xor_number bits_get_fragment"
         " bits_set_fragment bits_swap_fragments bits_fill_fragments bits_count_range bits_next bits_previous"
         " bits_fill_range bits_flip_range",
-    "B words": "bits_set_list bits_positions index_build_samples",
+    "B words": "bits_set_list bits_positions index_build_samples"
+        " dictionary_find_list",
     "B": "bits_count bits_and bits_or bits_xor bits_and_not index_build sequence_sizes hash_level hash_build"
         " stored_index stored_index_room stored_build stored_sequence prefix_sums tree_size matrix_size"
         " matrix_get_list matrix_rank_list matrix_select_list index_block_size index_block_build sequence_block_size"
-        " sparse_size text_size text_len",
+        " sparse_size text_size text_len"
+        " hash_block_size hash_block_build dictionary_size",
     "- words": "bits_clear_from",
     "N": "bits_copy_range bits_equal_range bits_select_in_word",
     "B words other": "bits_intersects bits_is_subset",
     "N bytes": "bytes_get57 bytes_init57 bytes_set57 bytes_get25 bytes_init25 bytes_set25",
-    "BW": "index_check sequence_check tree_build matrix_build",
+    "BW": "index_check sequence_check tree_build matrix_build"
+        " dictionary_build",
     "BW words": "index_check_samples",
     "NBW words lower": "index_rank hash_get tree_parent tree_child tree_degree tree_is_leaf tree_next_sibling"
         " tree_previous_sibling tree_child_rank",
@@ -49,12 +52,15 @@ EXPORTS = {
         " sequence_contains_list sparse_get_list sparse_rank_list sparse_select_list",
     "W file": "stored_read",
     "W": "prefix_sums_check tree_check matrix_check index_block_check sequence_block_check"
-        " sparse_check text_check text_open",
+        " sparse_check text_check text_open"
+        " hash_block_check dictionary_check",
     "NBW bits ones": "shards_find",
     "NBW bits ones shards": "shards_rank shards_select shards_next shards_previous",
     "B bits ones shards": "shards_rank_list shards_select_list",
-    "W block": "tree_open matrix_open index_block_open sequence_block_open sparse_open",
-    "NBW words": "matrix_get matrix_rank matrix_select matrix_count_less matrix_quantile",
+    "W block": "tree_open matrix_open index_block_open sequence_block_open sparse_open"
+        " hash_block_open dictionary_open",
+    "NBW words": "matrix_get matrix_rank matrix_select matrix_count_less matrix_quantile"
+        " dictionary_find",
     "NBW": "matrix_next_value matrix_previous_value",
     "BW words starts": "text_count text_count_bytes",
     "BW words starts samples": "text_locate text_locate_bytes",
@@ -92,10 +98,11 @@ OUTSIDE = {
     "sparse->bits_len": "sparse_select sparse_next sparse_previous sparse_select_list",
     "text->letters.len + 2": "text_count text_locate",
     "hash->keys": "hash_get hash_get_list",
+    "dictionary->keys_len": "dictionary_find dictionary_find_list",
     "shards->counts.bits[shards->shards_len]": "shards_select shards_next shards_previous shards_select_list",
 }
 # The programs that have to see such an answer by themselves, before any other is run.
-HOSTILE = ["hostile", "guarded", "hashes", "shards", "trees", "matrices", "matrix_ranges", "sparse", "texts"]
+HOSTILE = ["hostile", "guarded", "hashes", "shards", "trees", "matrices", "matrix_ranges", "sparse", "texts", "dictionaries"]
 PROGRAMS = list(dict.fromkeys(["statuses", "pages", *IN_C]))
 for one in ("walks", "lengths", "careless"):
     PROGRAMS.remove(one)

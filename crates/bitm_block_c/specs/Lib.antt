@@ -1,3 +1,4 @@
+pub mod Dictionary
 pub mod IndexBlock
 pub mod Matrix
 pub mod Sparse

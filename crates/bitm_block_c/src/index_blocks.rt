@@ -45,7 +45,7 @@ pub extern "C" fn bitm_index_block_build(words: &[u64], bits_len: u64, block: &m
 
 /// No samples.
 #[inline(always)]
-fn no_samples<'a>() -> Samples<'a>
+pub(crate) fn no_samples<'a>() -> Samples<'a>
     ensures { HasNoSamples result }
 {
     Samples {

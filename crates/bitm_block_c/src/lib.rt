@@ -7,6 +7,10 @@
 #![tactic(auto)]
 
 // What is in each file:
+// - `dictionary`: a dictionary as C passes it
+// - `dictionary_making`: the block of a dictionary, written, opened and checked
+// - `dictionary_queries`: whether numbers are keys of a dictionary
+// - `hash_blocks`: the block of a perfect hash, written, opened as a hash and checked
 // - `index_blocks`: the block of bits with their index, written, opened as an index and checked
 // - `lists`: lists of queries of a tree
 // - `making`: the block of a tree, written, opened and checked
@@ -25,6 +29,10 @@
 // - `text_making`: the block of the index of a text, opened and checked
 // - `text_queries`: the positions of a pattern, and parts of the text, over letters and over bytes
 // - `tree`: a tree as C passes it
+mod dictionary;
+mod dictionary_making;
+mod dictionary_queries;
+mod hash_blocks;
 mod index_blocks;
 mod lists;
 mod making;
