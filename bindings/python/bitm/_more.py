@@ -160,6 +160,26 @@ def sparse_block(self: Any) -> memoryview:
     return memoryview(_core.parts(self)[1][0])
 
 
+def dictionary_over(cls: Any, block: Any) -> Any:
+    """A dictionary in a block that exists already, in a buffer that it holds. ValueError where its header or directory is not
+    right; the rest is not looked at: call `check`.
+
+    >>> squares = Dictionary([4, 9, 49])
+    >>> 49 in Dictionary.over(squares.block)
+    True
+    """
+    return _core.over(cls, (), (block,))
+
+
+def dictionary_block(self: Any) -> memoryview:
+    """The words of the block, to be read: what `Dictionary.over` takes, and the bytes of the file.
+
+    >>> len(Dictionary([4, 9, 49]).block)
+    80
+    """
+    return memoryview(_core.parts(self)[1][0])
+
+
 def matrix_over(cls: Any, block: Any) -> Any:
     """A list of numbers in a block that exists already, in a buffer that it holds. ValueError where its header or directory
     is not right; the rest is not looked at: call `check`.
@@ -364,11 +384,12 @@ def _copy(share: Callable[[Any], Any]) -> Callable[[Any], Any]:
 
 def complete() -> None:
     """Gives the types of the extension those methods that stand here."""
-    for kind in (_core.Index, _core.EliasFano, _core.SparseBits, _core.PerfectHash, _core.Tree, _core.WaveletMatrix, _core.TextIndex):
+    kept = (_core.Index, _core.EliasFano, _core.SparseBits, _core.PerfectHash, _core.Dictionary, _core.Tree, _core.WaveletMatrix,
+            _core.TextIndex)
+    for kind in kept:
         setattr(kind, "save", save)
         setattr(kind, "__copy__", _copy(getattr(kind, "__copy__")))
-    for each in (_core.BitVector, _core.Index, _core.EliasFano, _core.SparseBits, _core.PerfectHash, _core.Tree, _core.WaveletMatrix,
-                 _core.TextIndex):
+    for each in (_core.BitVector, *kept):
         setattr(each, "__reduce_ex__", reduce)
     setattr(_core.BitVector, "to_numpy", vector_to_numpy)
     setattr(_core.BitVector, "reverse", vector_reverse)
@@ -384,6 +405,8 @@ def complete() -> None:
     setattr(_core.Tree, "block", property(tree_block))
     setattr(_core.SparseBits, "over", classmethod(sparse_over))
     setattr(_core.SparseBits, "block", property(sparse_block))
+    setattr(_core.Dictionary, "over", classmethod(dictionary_over))
+    setattr(_core.Dictionary, "block", property(dictionary_block))
     setattr(_core.WaveletMatrix, "over", classmethod(matrix_over))
     setattr(_core.WaveletMatrix, "block", property(matrix_block))
     setattr(_core.TextIndex, "open", classmethod(text_open))

@@ -37,9 +37,9 @@
 
 extern PyObject *WrongTables;
 extern PyTypeObject *Memory_Type, *Window_Type, *Positions_Type, *Numbers_Type, *Vector_Type, *Index_Type,
-    *Sequence_Type, *Sparse_Type, *Hash_Type, *Tree_Type, *Matrix_Type, *Text_Type, *ShardSet_Type;
+    *Sequence_Type, *Sparse_Type, *Dictionary_Type, *Hash_Type, *Tree_Type, *Matrix_Type, *Text_Type, *ShardSet_Type;
 extern PyType_Spec memory_spec, window_spec, positions_spec, numbers_spec, vector_spec, index_spec, sequence_spec,
-    sparse_spec, hash_spec, tree_spec, matrix_spec, text_spec, shard_set_spec;
+    sparse_spec, dictionary_spec, hash_spec, tree_spec, matrix_spec, text_spec, shard_set_spec;
 
 /* ---- arguments.c */
 
@@ -161,11 +161,12 @@ typedef struct {
     struct bitm_index index;
     struct bitm_sequence sequence;
     struct bitm_sparse sparse;
+    struct bitm_dictionary dictionary;
     struct bitm_hash hash;
     struct bitm_tree tree;
     struct bitm_matrix matrix;
     struct bitm_text text;
-    const uint64_t *block; /* the words of the block of a tree, a matrix, a text or sparse bits */
+    const uint64_t *block; /* the words of the block of a tree, a matrix, a text, sparse bits or a dictionary */
     size_t block_len;
     const uint64_t *prints; /* the fingerprints of a hash: hash.keys numbers of print_width bits */
     size_t prints_len;
@@ -332,10 +333,11 @@ PyObject *sequence_over(PyObject *type, Memory *memory);
 PyObject *hash_over(PyObject *type, Memory *memory);
 
 /* The same over memory whose block is filled in: ValueError where it is not that of a tree, of a matrix, of sparse bits,
- * or of a text. */
+ * of a dictionary, or of a text. */
 PyObject *tree_over(PyObject *type, Memory *memory);
 PyObject *matrix_over(PyObject *type, Memory *memory);
 PyObject *sparse_over(PyObject *type, Memory *memory);
+PyObject *dictionary_over(PyObject *type, Memory *memory);
 PyObject *text_over(PyObject *type, Memory *memory);
 
 /* What equals a whole number of 64 bits: 1 and the number, 0 where it cannot be one, -1 and an error. */

@@ -20,16 +20,18 @@ typedef struct {
         (const void **)&(pointer), &(length), size                                                                     \
     }
 
-/* Whether it is a class of Index, EliasFano, SparseBits, PerfectHash, Tree, WaveletMatrix or TextIndex; TypeError else. */
+/* Whether it is a class of Index, EliasFano, SparseBits, PerfectHash, Dictionary, Tree, WaveletMatrix or TextIndex;
+ * TypeError else. */
 static int is_value(PyObject *type)
 {
     PyTypeObject *it = (PyTypeObject *)type;
     if (PyType_IsSubtype(it, Index_Type) || PyType_IsSubtype(it, Sequence_Type) || PyType_IsSubtype(it, Hash_Type) ||
         PyType_IsSubtype(it, Tree_Type) || PyType_IsSubtype(it, Matrix_Type) || PyType_IsSubtype(it, Sparse_Type) ||
-        PyType_IsSubtype(it, Text_Type))
+        PyType_IsSubtype(it, Dictionary_Type) || PyType_IsSubtype(it, Text_Type))
         return 1;
     PyErr_Format(PyExc_TypeError,
-                 "an Index, an EliasFano, SparseBits, a PerfectHash, a Tree, a WaveletMatrix or a TextIndex is needed, not %R", type);
+                 "an Index, an EliasFano, SparseBits, a PerfectHash, a Dictionary, a Tree, a WaveletMatrix or a TextIndex is needed, not %R",
+                 type);
     return 0;
 }
 
@@ -145,5 +147,7 @@ PyObject *parts_over(PyObject *module, PyObject *args)
         return sparse_over(type, it);
     if (PyType_IsSubtype((PyTypeObject *)type, Text_Type))
         return text_over(type, it);
+    if (PyType_IsSubtype((PyTypeObject *)type, Dictionary_Type))
+        return dictionary_over(type, it);
     return hash_over(type, it);
 }

@@ -1,8 +1,9 @@
 /* Files: headers, and the value that a file holds, which is read where it lies. */
 #include "core.h"
 
-/* The first word of a block, and the second of that of sparse bits, of a matrix and of a text (docs/FORMAT.md). */
-static const uint64_t BLOCK_MARK = 0x036261746d746962, SPARSE = 4, MATRIX = 6, TEXT = 8;
+/* The first word of a block, and the second of that of sparse bits, of a dictionary, of a matrix and of a text
+ * (docs/FORMAT.md). */
+static const uint64_t BLOCK_MARK = 0x036261746d746962, SPARSE = 4, DICTIONARY = 5, MATRIX = 6, TEXT = 8;
 
 /* A perfect hash is stored as an index with these numbers after it: mark, keys, bits of a fingerprint, seed, number of
  * sizes, words of fingerprints; then the sizes and the fingerprints. */
@@ -12,7 +13,7 @@ static PyObject *not_whole(Memory *it)
 {
     DROP(it);
     PyErr_SetString(PyExc_ValueError,
-                    "it is not a stored index, sequence, hash, tree, matrix, text or sparse bits of this format, or not all of it");
+                    "it is not a stored index, sequence, hash, dictionary, tree, matrix, text or sparse bits of this format, or not all of it");
     return NULL;
 }
 
@@ -52,6 +53,8 @@ PyObject *stored_load(PyObject *module, PyObject *file)
             return sparse_over(BORROWED(Sparse_Type), it);
         if (words > 1 && it->block[1] == TEXT)
             return text_over(BORROWED(Text_Type), it);
+        if (words > 1 && it->block[1] == DICTIONARY)
+            return dictionary_over(BORROWED(Dictionary_Type), it);
         return tree_over(BORROWED(Tree_Type), it);
     }
     if (bitm_stored_read(at, words, &header) != BITM_OK)

@@ -8,7 +8,8 @@ import bitm
 from blocks import as_bytes, of_text
 
 pytest.importorskip("numpy")
-KINDS = (bitm.BitVector, bitm.Index, bitm.EliasFano, bitm.SparseBits, bitm.PerfectHash, bitm.Shards, bitm.Tree, bitm.WaveletMatrix, bitm.TextIndex)
+KINDS = (bitm.BitVector, bitm.Index, bitm.EliasFano, bitm.SparseBits, bitm.PerfectHash, bitm.Dictionary, bitm.Shards, bitm.Tree,
+         bitm.WaveletMatrix, bitm.TextIndex)
 BLOCK = {"block": as_bytes(of_text(b"banana"))}  # what the examples of a TextIndex open
 WALK = type(iter(bitm.EliasFano([1])))
 
