@@ -27,6 +27,25 @@ inline std::size_t hash_tail_len(const std::uint64_t *tail, std::size_t tail_len
     return hash_head + static_cast<std::size_t>(tail[4]);
 }
 
+// What is made of the words and sizes of the levels of some hashes: fails where two of these are equal. The levels have
+// about e^(100 / percent) * percent / 100 bits for each key: more room where that is not enough.
+template <class Made, class Make> result<Made> by_levels(words_in hashes, unsigned percent, Make &&make)
+{
+    const std::size_t first = bitm_hash_level_len(hashes.size(), percent);
+    for (std::size_t room = 4 * first + hash_levels;; room = 2 * room) {
+        block own(hashes.size()), words(room), again(first), sizes(hash_levels);
+        if (hashes.size()) std::memcpy(own.data(), hashes.data(), 8 * hashes.size());
+        std::uint64_t levels = 0, used = 0, left = 0;
+        const std::uint32_t status =
+            bitm_hash_build(own.data(), own.size(), percent, words.data(), words.size(), again.data(), again.size(),
+                            sizes.data(), sizes.size(), &levels, &used, &left);
+        if (status == BITM_OK && left == 0)
+            return make(words_in(words.data(), used), words_in(sizes.data(), levels));
+        if (levels == hash_levels || room > 64 * first + 64 * hash_levels)
+            return status == BITM_OK ? failure{errc::equal_keys, left, hashes.size()} : error_of(status);
+    }
+}
+
 } // namespace detail
 
 class BITM_OWNER perfect_hash : public detail::stored_calls<perfect_hash> {
@@ -134,21 +153,9 @@ private:
     }
     static result<perfect_hash> made(words_in hashes, unsigned percent)
     {
-        // The levels have about e^(100 / percent) * percent / 100 bits for each key: more room where that is not
-        // enough.
-        const std::size_t first = bitm_hash_level_len(hashes.size(), percent);
-        for (std::size_t room = 4 * first + detail::hash_levels;; room = 2 * room) {
-            detail::block own(hashes.size()), words(room), again(first), sizes(detail::hash_levels);
-            if (hashes.size()) std::memcpy(own.data(), hashes.data(), 8 * hashes.size());
-            std::uint64_t levels = 0, used = 0, left = 0;
-            const std::uint32_t status =
-                bitm_hash_build(own.data(), own.size(), percent, words.data(), words.size(), again.data(), again.size(),
-                                sizes.data(), sizes.size(), &levels, &used, &left);
-            if (status == BITM_OK && left == 0)
-                return filed(words_in(words.data(), used), words_in(sizes.data(), levels), hashes.size());
-            if (levels == detail::hash_levels || room > 64 * first + 64 * detail::hash_levels)
-                return status == BITM_OK ? failure{errc::equal_keys, left, hashes.size()} : detail::error_of(status);
-        }
+        return detail::by_levels<perfect_hash>(hashes, percent, [&](words_in words, words_in sizes) {
+            return filed(words, sizes, hashes.size());
+        });
     }
     // The file of the words and sizes of the levels.
     static result<perfect_hash> filed(words_in words, words_in sizes, std::size_t keys)
