@@ -1,5 +1,6 @@
 //! Indexes, sequences, trees and lists of numbers over mapped files.
 use crate::errors::OpenError;
+use crate::sys::dictionary::owned::Dictionary;
 use crate::sys::index::Index;
 use crate::sys::mapped::Mapped;
 use crate::sys::matrix::owned::WaveletMatrix;
@@ -93,6 +94,20 @@ pub type SparseBitsFile = SparseBits<Mapped>;
 /// # }
 /// ```
 pub type TextIndexFile = TextIndex<Mapped>;
+
+/// A dictionary over a file that is mapped.
+///
+/// ```
+/// use bitm_proved::{bytes_of, Dictionary, DictionaryFile};
+/// # fn main() -> Result<(), Box<dyn std::error::Error>> {
+/// let path = std::env::temp_dir().join(format!("bitm-dictionary-{}", std::process::id()));
+/// std::fs::write(&path, bytes_of(Dictionary::build(&[4, 9, 49])?.block()))?;
+/// assert!(DictionaryFile::open(&path)?.contains(49));
+/// # std::fs::remove_file(&path)?;
+/// # Ok(())
+/// # }
+/// ```
+pub type DictionaryFile = Dictionary<Mapped>;
 
 impl IndexFile {
     /// The index in a file. The contents of its parts are not tested: `check` does that. The file has to stay as it is.
@@ -206,5 +221,24 @@ impl TextIndexFile {
     /// ```
     pub fn open(path: impl AsRef<Path>) -> Result<Self, OpenError> {
         Ok(TextIndex::from_bytes(Mapped::open(path)?)?)
+    }
+}
+
+impl DictionaryFile {
+    /// The dictionary in a file. What its block holds is not tested: `check` does that. The file has to stay as it is.
+    ///
+    /// ```
+    /// use bitm_proved::{bytes_of, Dictionary, DictionaryFile};
+    /// # fn main() -> Result<(), Box<dyn std::error::Error>> {
+    /// let path = std::env::temp_dir().join(format!("bitm-dictionary-open-{}", std::process::id()));
+    /// std::fs::write(&path, bytes_of(Dictionary::build(&[4, 9, 49])?.block()))?;
+    /// let squares = DictionaryFile::open(&path)?;
+    /// assert!(squares.check() && squares.len() == 3 && !squares.contains(50));
+    /// # std::fs::remove_file(&path)?;
+    /// # Ok(())
+    /// # }
+    /// ```
+    pub fn open(path: impl AsRef<Path>) -> Result<Self, OpenError> {
+        Ok(Dictionary::from_bytes(Mapped::open(path)?)?)
     }
 }

@@ -1,5 +1,6 @@
 //! Values by `serde`, with the feature of that name: as the words of a file.
 use crate::queries::Queries;
+use crate::sys::dictionary::owned::Dictionary;
 use crate::sys::index::Index;
 use crate::sys::matrix::owned::WaveletMatrix;
 use crate::sys::owned::{EliasFano, Sequence};
@@ -77,5 +78,19 @@ impl<'de> Deserialize<'de> for SparseBits {
         let bits = SparseBits::from_words(Vec::deserialize(from)?).map_err(D::Error::custom)?;
         let right = bits.check();
         right.then_some(bits).ok_or_else(|| D::Error::custom(crate::WrongTables))
+    }
+}
+
+impl<O> Serialize for Dictionary<O> {
+    fn serialize<S: Serializer>(&self, to: S) -> Result<S::Ok, S::Error> {
+        self.block().serialize(to)
+    }
+}
+
+impl<'de> Deserialize<'de> for Dictionary {
+    fn deserialize<D: Deserializer<'de>>(from: D) -> Result<Self, D::Error> {
+        let made = Dictionary::from_words(Vec::deserialize(from)?).map_err(D::Error::custom)?;
+        let right = made.check();
+        right.then_some(made).ok_or_else(|| D::Error::custom(crate::WrongTables))
     }
 }

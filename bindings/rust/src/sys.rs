@@ -1,5 +1,6 @@
 //! The only module with `unsafe` blocks: calls of the archive, memory, owners, bytes and mapped files.
 pub(crate) mod bytes;
+pub(crate) mod dictionary;
 pub(crate) mod hash;
 pub(crate) mod held;
 #[cfg(all(feature = "std", target_os = "linux"))]

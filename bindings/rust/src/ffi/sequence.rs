@@ -243,3 +243,56 @@ extern "C" {
         counts: *mut bitm_list_counts,
     ) -> u32;
 }
+extern "C" {
+    pub fn bitm_hash_block_size(words_len: usize, levels: usize, out: *mut u64) -> u32;
+}
+extern "C" {
+    pub fn bitm_hash_block_build(
+        words: *const u64,
+        words_len: usize,
+        sizes: *const u64,
+        sizes_len: usize,
+        seed: u64,
+        block: *mut u64,
+        block_len: usize,
+    ) -> u32;
+}
+extern "C" {
+    pub fn bitm_hash_block_open(block: *const u64, block_len: usize, hash: *mut bitm_hash, seed: *mut u64) -> u32;
+}
+extern "C" {
+    pub fn bitm_hash_block_check(block: *const u64, block_len: usize) -> u32;
+}
+#[repr(C)]
+pub struct bitm_dictionary {
+    pub hash: bitm_hash,
+    pub keys: *const u64,
+    pub keys_len: usize,
+    pub seed: u64,
+    pub reserved: [u64; 2usize],
+}
+extern "C" {
+    pub fn bitm_dictionary_size(words_len: usize, levels: usize, keys: usize, out: *mut u64) -> u32;
+}
+extern "C" {
+    pub fn bitm_dictionary_build(dictionary: *const bitm_dictionary, block: *mut u64, block_len: usize) -> u32;
+}
+extern "C" {
+    pub fn bitm_dictionary_open(block: *const u64, block_len: usize, dictionary: *mut bitm_dictionary) -> u32;
+}
+extern "C" {
+    pub fn bitm_dictionary_check(block: *const u64, block_len: usize) -> u32;
+}
+extern "C" {
+    pub fn bitm_dictionary_find(dictionary: *const bitm_dictionary, key: u64, out: *mut u64) -> u32;
+}
+extern "C" {
+    pub fn bitm_dictionary_find_list(
+        dictionary: *const bitm_dictionary,
+        keys: *const u64,
+        keys_len: usize,
+        out: *mut u64,
+        out_len: usize,
+        counts: *mut bitm_list_counts,
+    ) -> u32;
+}

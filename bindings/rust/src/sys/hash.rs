@@ -125,6 +125,11 @@ impl PerfectHash {
         (status == OK).then_some((levels as usize, used as usize, left as usize))
     }
 
+    /// The hash as C takes it, whose pointers are those of vectors of this value.
+    pub(crate) fn raw(&self) -> &bitm_hash {
+        &self.raw
+    }
+
     /// How many keys there are.
     ///
     /// ```
