@@ -44,7 +44,7 @@ STRUCTURES = ("numbers8", "numbers16", "sequence", "tree")
 SIZES_OF_ITEMS = {20: 15, 24: 5, 27: 3}  # the logarithm, and the rounds of a program
 TEXTS = ("words", "four")  # words of a list, and random ones of four letters
 WORDS = "/usr/share/dict/words"
-SIZES_OF_TEXTS = {20: 15, 24: 5, 27: 3}
+SIZES_OF_TEXTS = {20: 15, 24: 5}
 BLOCKS = ("index", "sequence", "matrix", "tree")
 BITS_OF_BLOCK = 33
 

@@ -5,6 +5,7 @@ import subprocess
 
 import pytest
 from common import ARCHIVE
+from programs import built
 from shell import bash, needs
 
 CC = "cc -std=c11 -O2 -march=x86-64-v2"
@@ -12,7 +13,7 @@ CXX = "c++ -std=c++14 -O2 -DNDEBUG -march=x86-64-v2"
 OF_SDSL = "-lsdsl -ldivsufsort -ldivsufsort64"
 IN_C = {"calls": ["10 1"], "stored": ["10 1"], "limits": ["12 1", "12 1 huge"],
         "mapped": [f"{kind} 16 1" for kind in ("index", "sequence", "matrix", "tree")] + ["tree 23 1"]}
-BESIDE_SDSL = {"sdsl": ["10 1"], "structures": [f"{it} 10 1" for it in ("numbers8", "numbers16", "sequence", "tree")]}
+BESIDE_SDSL = {"sdsl": ["10 1"], "structures": [f"{it} 10 1" for it in ("numbers8", "numbers16", "sequence", "tree")], "texts": []}
 
 
 def run(compiler, source, library, program, words):
@@ -35,4 +36,6 @@ def test_beside_sdsl(name, tmp_path):
     header = subprocess.run(["c++", "-E", "-include", "sdsl/bit_vectors.hpp", "-x", "c++", "/dev/null"], capture_output=True, check=False)
     if header.returncode:
         pytest.skip("no sdsl-lite")
-    run(CXX, f"bench/{name}.cpp", f"{ARCHIVE} {OF_SDSL}", tmp_path / name, BESIDE_SDSL[name])
+    (tmp_path / "text").write_bytes(b"she sells sea shells on the sea shore " * 50)
+    words = [f"text {tmp_path}/text {built('program_bitm')} 1"] if name == "texts" else BESIDE_SDSL[name]
+    run(CXX, f"bench/{name}.cpp", f"{ARCHIVE} {OF_SDSL}", tmp_path / name, words)

@@ -1,5 +1,5 @@
 """Indexes of texts from elsewhere beside one scan of each text in C: how often patterns stand in it, and where. With
-LARGE=1 a million patterns each, and a text of 2^28 letters, which takes 9 GB."""
+LARGE=1 a million patterns each, and a text of 2^26 letters, which takes 3 GB."""
 import pathlib
 import random
 import shutil
@@ -12,7 +12,7 @@ from shell import bash, needs
 
 RANDOM = random.Random(1)
 WORDS = pathlib.Path("/usr/share/dict/words")  # Debian: wamerican
-LETTERS = 1 << (28 if LARGE else 20)
+LETTERS = 1 << (26 if LARGE else 20)
 TEXTS = {
     "words": WORDS.read_bytes if WORDS.is_file() else None,
     "program": lambda: pathlib.Path(shutil.which("bash")).read_bytes(),
