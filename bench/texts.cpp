@@ -105,10 +105,18 @@ template <class Asked, class Query> uint64_t each(const Asked &asked, Query quer
     return sum;
 }
 
-template <class Letters> uint64_t sum_of(const Letters &letters, uint64_t least)
+template <class Places> uint64_t sum_of(const Places &places)
 {
     uint64_t sum = 0;
-    for (uint64_t it : letters) sum += it - least;
+    for (uint64_t it : places) sum += it;
+    return sum;
+}
+
+// The sum of letters, the least of which is `least`.
+template <class Letters> uint64_t sum_of_letters(const Letters &letters, uint64_t least)
+{
+    uint64_t sum = 0;
+    for (auto it : letters) sum += static_cast<uint8_t>(it - least);
     return sum;
 }
 
@@ -121,9 +129,9 @@ template <class Index, uint64_t least> struct Sdsl {
     }
     template <class Pattern> uint64_t locate(const Pattern &pattern) const
     {
-        return sum_of(sdsl::locate(index, pattern.begin(), pattern.end()), 0);
+        return sum_of(sdsl::locate(index, pattern.begin(), pattern.end()));
     }
-    uint64_t extract(uint64_t from) const { return sum_of(sdsl::extract(index, from, from + PART - 1), least); }
+    uint64_t extract(uint64_t from) const { return sum_of_letters(sdsl::extract(index, from, from + PART - 1), least); }
 };
 
 struct Here {
@@ -140,13 +148,13 @@ struct Here {
         uint64_t written = 0;
         std::vector<uint64_t> places(count(pattern));
         bitm_text_locate_bytes(&text, bytes(pattern), pattern.size(), 0, places.data(), places.size(), &written);
-        return sum_of(places, 0);
+        return sum_of(places);
     }
     uint64_t extract(uint64_t from) const
     {
         std::array<uint8_t, PART> part;
         bitm_text_extract_bytes(&text, from, part.data(), PART);
-        return sum_of(part, 0);
+        return sum_of_letters(part, 0);
     }
 };
 

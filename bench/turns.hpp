@@ -34,7 +34,7 @@ uint64_t draw(uint64_t &n)
 
 [[noreturn]] void fail(const std::string &why)
 {
-    std::fprintf(stderr, "structures: %s\n", why.c_str());
+    std::fprintf(stderr, "%s\n", why.c_str());
     std::exit(1);
 }
 

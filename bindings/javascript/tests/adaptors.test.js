@@ -329,13 +329,13 @@ function both(call, parts) {
 }
 
 test("each adaptor does what its export does", () => {
-    assert.equal(exported.length, 141);
+    assert.equal(exported.length, 151);
     for (const call of exported) {
         let answered = 0;
         for (let round = 0; round < 60; round++) answered += both(call, prepare(round % 4 === 3));
         assert.ok(answered >= 5, `${call.name} answered ${answered} times of 60`);
     }
-    tally.atLeast(141 * 60);
+    tally.atLeast(151 * 60);
 });
 
 test("each adaptor refuses what is no whole number of its range", () => {
