@@ -1,4 +1,4 @@
-// src/web.js and all that it imports, in one file: made by one_file.mjs. sha256 of the sources: 1036af0b9068ccdd581b70668096613b29f16f4285bbe001d575f4513bd84a98
+// src/web.js and all that it imports, in one file: made by one_file.mjs. sha256 of the sources: a7c5e6e01eb0cb61767b30301091f684cfe52a9e2af980f7039994dc9ca5d908
 
 // src/core.js
 var VERSION = "0.3.0";

@@ -200,6 +200,42 @@ function ofTextInBytes() {
 }
 const ofTextBlock = () => ({ block: slot(62), block_len: text(r() % 3 === 0) - (r() % 7 ? 0 : 1), text: slot(67) });
 
+/** A dictionary of 40 numbers: its parts with the struct in slot 76; its block in slot 78, of which a word may be wrong, with
+ * the struct in slot 79. The numbers are in slot 68, the words and the sizes of the levels in slots 70 and 72. */
+function dictionary(spoilt) {
+    const B = BigInt, at = k => B(slot(k)), keys = words(slot(68), N), hashes = words(slot(69), N), seed = 7n;
+    for (let i = 0; i < N; i++) hashes[i] = (keys[i] = B(977 * i + (r() % 977))) + seed;
+    const outs = [0n, 8n, 16n].map(it => at(73) + it);
+    assert.equal(library.bitm_hash_build(at(69), B(N), 100, at(70), 64n, at(71), 64n, at(72), 64n, ...outs), 0);
+    const [levels, len] = Array.from(words(slot(73), 2), Number), lower = library.bitm_index_lower_len(B(len));
+    assert.equal(library.bitm_index_build(at(70), B(len), at(74), 1n, at(75), lower, B(ANSWER)), 0);
+    put(slot(76), "bitm_index", { words: slot(70), words_len: len, upper: slot(74), upper_len: 1, lower: slot(75), lower_len: lower, bits_len: 64 * len });
+    words(slot(76) + structs.get("bitm_index").size, 3).set([at(72), B(levels), B(N)]);
+    put(slot(76), "bitm_dictionary", { keys: slot(77), keys_len: N, seed });
+    for (const key of keys) {
+        assert.equal(library.bitm_hash_get(at(76), key + seed, B(ANSWER)), 0);
+        words(slot(77), N)[Number(words(ANSWER, 1)[0])] = key;
+    }
+    assert.equal(library.bitm_dictionary_size(B(len), B(levels), B(N), B(ANSWER)), 0);
+    const size = words(ANSWER, 1)[0];
+    assert.equal(library.bitm_dictionary_build(at(76), at(78), size), 0);
+    assert.equal(library.bitm_dictionary_open(at(78), size, at(79)), 0);
+    if (spoilt) words(slot(78), Number(size))[40 + (r() % (Number(size) - 40))] ^= B(r());
+    return { len, levels, size: Number(size) };
+}
+const ofDictionaryBlock = () => ({ block: slot(78), block_len: dictionary(r() % 3 === 0).size - (r() % 7 ? 0 : 1), dictionary: slot(80), hash: slot(80) });
+function ofDictionary() {
+    dictionary(r() % 3 === 0);
+    for (let i = 0; i < N; i++) words(slot(81), N)[i] = r() % 3 ? words(slot(68), N)[r() % N] : BigInt(r() % 40000);
+    return { dictionary: slot(79), key: Number(words(slot(81), N)[0]), keys: slot(81), out: slot(82), counts: slot(83) };
+}
+function ofHashBlock() {
+    const { len, levels } = dictionary(false);
+    assert.equal(library.bitm_hash_block_size(BigInt(len), BigInt(levels), BigInt(ANSWER)), 0);
+    const size = Number(words(ANSWER, 1)[0]);
+    return { words: slot(70), words_len: len, sizes: slot(72), sizes_len: levels, block: slot(84), block_len: size - (r() % 7 ? 0 : 1) };
+}
+
 const someLog2 = () => (r() % 5 ? [0, 7 + (r() % 8)][r() % 2] : r() % 40);
 // By export: arguments that have to fit together, by name.
 const FITTING = {
@@ -269,6 +305,16 @@ const FITTING = {
     bitm_text_locate_bytes: ofTextInBytes,
     bitm_text_extract: ofText,
     bitm_text_extract_bytes: ofTextInBytes,
+    bitm_hash_block_size: () => ({ levels: r() % 300 }),
+    bitm_hash_block_build: ofHashBlock,
+    bitm_hash_block_open: ofDictionaryBlock,
+    bitm_hash_block_check: ofDictionaryBlock,
+    bitm_dictionary_size: () => ({ levels: r() % 300 }),
+    bitm_dictionary_build: () => ({ block_len: dictionary(false).size - (r() % 7 ? 0 : 1), dictionary: slot(76), block: slot(84) }),
+    bitm_dictionary_open: ofDictionaryBlock,
+    bitm_dictionary_check: ofDictionaryBlock,
+    bitm_dictionary_find: ofDictionary,
+    bitm_dictionary_find_list: ofDictionary,
     bitm_index_block_build: () => ({ words: slot(0), words_len: N, bits_len: BITS, block: slot(53), block_len: blockOf("index", false) - (r() % 7 ? 0 : 1) }),
     bitm_index_block_open: ofBlockOf("index"),
     bitm_index_block_check: ofBlockOf("index"),
@@ -382,6 +428,16 @@ const LEFT_OUT = {
     bitm_shards_previous: "as bitm_prefix_sums",
     bitm_shards_rank_list: "as bitm_prefix_sums",
     bitm_shards_select_list: "as bitm_prefix_sums",
+    bitm_hash_block_size: "a perfect hash has no file format here yet",
+    bitm_hash_block_build: "as bitm_hash_block_size",
+    bitm_hash_block_open: "as bitm_hash_block_size",
+    bitm_hash_block_check: "as bitm_hash_block_size",
+    bitm_dictionary_size: "there are no dictionaries here yet",
+    bitm_dictionary_build: "as bitm_dictionary_size",
+    bitm_dictionary_open: "as bitm_dictionary_size",
+    bitm_dictionary_check: "as bitm_dictionary_size",
+    bitm_dictionary_find: "as bitm_dictionary_size",
+    bitm_dictionary_find_list: "as bitm_dictionary_size",
     bitm_text_size: "no block of a text is made here",
     bitm_text_len: "the struct of an open block has the length",
 };
