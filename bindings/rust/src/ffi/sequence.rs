@@ -243,26 +243,6 @@ extern "C" {
         counts: *mut bitm_list_counts,
     ) -> u32;
 }
-extern "C" {
-    pub fn bitm_hash_block_size(words_len: usize, levels: usize, out: *mut u64) -> u32;
-}
-extern "C" {
-    pub fn bitm_hash_block_build(
-        words: *const u64,
-        words_len: usize,
-        sizes: *const u64,
-        sizes_len: usize,
-        seed: u64,
-        block: *mut u64,
-        block_len: usize,
-    ) -> u32;
-}
-extern "C" {
-    pub fn bitm_hash_block_open(block: *const u64, block_len: usize, hash: *mut bitm_hash, seed: *mut u64) -> u32;
-}
-extern "C" {
-    pub fn bitm_hash_block_check(block: *const u64, block_len: usize) -> u32;
-}
 #[repr(C)]
 pub struct bitm_dictionary {
     pub hash: bitm_hash,
@@ -272,7 +252,7 @@ pub struct bitm_dictionary {
     pub reserved: [u64; 2usize],
 }
 extern "C" {
-    pub fn bitm_dictionary_size(words_len: usize, levels: usize, keys: usize, out: *mut u64) -> u32;
+    pub fn bitm_dictionary_size(words: usize, levels: usize, keys: usize, out: *mut u64) -> u32;
 }
 extern "C" {
     pub fn bitm_dictionary_build(dictionary: *const bitm_dictionary, block: *mut u64, block_len: usize) -> u32;
@@ -295,4 +275,24 @@ extern "C" {
         out_len: usize,
         counts: *mut bitm_list_counts,
     ) -> u32;
+}
+extern "C" {
+    pub fn bitm_hash_block_size(words: usize, levels: usize, out: *mut u64) -> u32;
+}
+extern "C" {
+    pub fn bitm_hash_block_build(
+        words: *const u64,
+        words_len: usize,
+        sizes: *const u64,
+        sizes_len: usize,
+        seed: u64,
+        block: *mut u64,
+        block_len: usize,
+    ) -> u32;
+}
+extern "C" {
+    pub fn bitm_hash_block_open(block: *const u64, block_len: usize, hash: *mut bitm_hash, seed: *mut u64) -> u32;
+}
+extern "C" {
+    pub fn bitm_hash_block_check(block: *const u64, block_len: usize) -> u32;
 }
